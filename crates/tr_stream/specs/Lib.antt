@@ -1,0 +1,9 @@
+pub mod Chunks
+pub mod History
+pub mod Kept
+pub mod Sound
+pub mod StandsFor
+pub mod State
+pub mod StateSteps
+pub mod Steps
+pub mod WellFormed

@@ -1,0 +1,22 @@
+-- What a stream holds.
+use Rattle.std.specs.Prelude.{ℕ, ◌+◌, Bool, List, length, sum_by}
+use Rattle.tr_book.specs.Book.{BookState}
+use Rattle.tr_book.specs.Parts.{PartsState}
+use Rattle.tr_ring.specs.Ring.{ClosedBuffer, RingState}
+use Rattle.tr_stream.specs.declared.config.StreamConfig.{StreamConfig}
+
+-- what it was made with, its ring, the parts that the ring was consumed into, its counters, and whether it takes offers
+pub record StreamState : Type 0 where
+  pub config : StreamConfig
+  pub ring : RingState
+  pub parts : PartsState
+  pub book : BookState
+  pub active : Bool
+
+-- how many records closed sub-buffers hold
+abbrev pub records_in : List ClosedBuffer → ℕ
+records_in buffers = sum_by (λ (b : ClosedBuffer). length b.records) buffers
+
+-- how many records the ring holds
+abbrev pub in_ring : RingState → ℕ
+in_ring r = records_in r.waiting + length r.current
