@@ -7,7 +7,7 @@ use Rattle.tr_stream.specs.State.{records_in}
 use Rattle.tr_stream.specs.History.{Status, Waiting, Kept, Block, Closed, is_waiting, missed_in, records_where, blocks_where}
 use Rattle.tr_stream.specs.Chunks.{buffer_of, buffers_where}
 use Rattle.tr_stream.specs.WellFormed.{AllWait, WaitLast}
-use Rattle.tr_ring.specs.Ring.{ClosedBuffer}
+use Rattle.tr_ring.specs.ClosedBuffer.{ClosedBuffer}
 use Rattle.tr_stream.specs.Steps.{settle_first}
 
 pub missed_in-cons : (c : Closed) (cs : List Closed) → missed_in (c ∷ cs) ≡ length c.block.missed + missed_in cs

@@ -6,7 +6,7 @@ use Rattle.std.proofs.lemmas.List.{append-nil}
 use Rattle.std.proofs.lemmas.List.Sums.{sum_by-cons, sum_by_push}
 use Rattle.tr_stream.specs.History.{Status, Waiting, Dropped, Kept, Block, Closed, is_waiting, is_dropped, is_kept_in, offers_in, offers_before}
 use Rattle.tr_stream.specs.WellFormed.{NumberedFrom, AllWait, WaitLast, IsWithin, AllWithinCuts, RecordsRise, next_serial, StartsAt, Covers, CoversFrom, AllUsed, LastHeld}
-use Rattle.tr_ring.specs.Ring.{ClosedBuffer}
+use Rattle.tr_ring.specs.ClosedBuffer.{ClosedBuffer}
 use Rattle.tr_record.specs.Records.{Entry}
 use Rattle.tr_stream.specs.Chunks.{buffers_where}
 use Rattle.tr_stream.specs.Steps.{settle_first}

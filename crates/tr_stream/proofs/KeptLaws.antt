@@ -6,15 +6,16 @@ use Rattle.std.specs.Prelude.{nat_lt}
 use Rattle.tr_book.specs.declared.mode.Mode.{Mode}
 use Rattle.tr_book.specs.declared.mode.Mode.TheVariants.{Discard, Overwrite}
 use Rattle.tr_record.specs.Records.{Entry, Fits, last_moment}
-use Rattle.tr_ring.specs.Ring.{ClosedBuffer, current_buffer}
+use Rattle.tr_ring.specs.Ring.{current_buffer}
+use Rattle.tr_ring.specs.ClosedBuffer.{ClosedBuffer}
 use Rattle.tr_stream.proofs.OfferLaws.{IsAccepted, accepted, not_empty, joins, follows, misses, replaces, offers}
 use Rattle.tr_stream.proofs.Refinement.{with_joined, with_followed, with_missed, without_oldest, stands-switched}
 use Rattle.tr_stream.proofs.SoundLaws.{IsNext, sound-joined, sound-missed, sound-followed, sound-without_oldest, sound-moved, sound-switched}
 use Rattle.tr_stream.proofs.TakeLaws.{takes}
 use Rattle.tr_stream.specs.Kept.{IsKept}
-use Rattle.tr_stream.specs.Sound.{IsSound, overwrites}
+use Rattle.tr_stream.specs.Sound.{IsSound}
 use Rattle.tr_stream.specs.State.{StreamState}
-use Rattle.tr_stream.specs.StateSteps.{entered, refusal_of, state_unless, with_offer, state_after_offer, moved_oldest, state_after_take, state_switched}
+use Rattle.tr_stream.specs.StateSteps.{entered, refusal_of, state_unless, with_offer, state_after_offer, moved_oldest, state_after_take, state_switched, overwrites}
 use Rattle.tr_stream.specs.Steps.{after_offer, after_take, switched}
 use Rattle.tr_stream.specs.declared.answers.OfferFault.{OfferFault}
 use Rattle.tr_subbuf.specs.SubBuffer.{has_room}

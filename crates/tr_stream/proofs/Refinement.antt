@@ -7,7 +7,8 @@ use Rattle.std.proofs.lemmas.List.Sums.{sum_by_push}
 use Rattle.tr_book.specs.Parts.{PartState, with_packet}
 use Rattle.tr_packet.specs.Packets.{Contents}
 use Rattle.tr_record.specs.Records.{Entry}
-use Rattle.tr_ring.specs.Ring.{ClosedBuffer, joined, followed, refusing, without_first}
+use Rattle.tr_ring.specs.Ring.{joined, followed, refusing, without_first}
+use Rattle.tr_ring.specs.ClosedBuffer.{ClosedBuffer}
 use Rattle.tr_stream.proofs.ChunkLaws.{buffers_where-push, waiting-settle_first, other-settle_first, new-settle_first, records_where-push, blocks_where-push, records-settle_first, other_records-settle_first, blocks-settle_first, other_blocks-settle_first, sum-settle_first}
 use Rattle.tr_stream.proofs.FormLaws.{NumberedFrom-push, NumberedFrom-settle_first, length-settle_first, WaitLast-push, WaitLast-settle_first, AllWithinCuts-push, AllWithinCuts-settle_first, serials_more, serials_same, AllUsed-push, AllUsed-settle_first, LastHeld-settle_first, nil-push, Covers-join, Covers-miss, Covers-one, CoversFrom-push, CoversFrom-settle_first, offers_before-push}
 use Rattle.tr_stream.specs.Chunks.{chunk_of, waiting_of, consumed_of, packet_of, part_of, parts_below}

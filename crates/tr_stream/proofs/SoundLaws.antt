@@ -8,12 +8,13 @@ use Rattle.tr_packet.specs.Packets.{IsPacket}
 use Rattle.tr_record.proofs.RecordLemmas.{weight_of-records_text}
 use Rattle.tr_record.specs.Records.{Entry, Fits, last_moment}
 use Rattle.tr_record.specs.Weight.{weight_of}
-use Rattle.tr_ring.specs.Ring.{ClosedBuffer, RingState, closing}
+use Rattle.tr_ring.specs.Ring.{RingState, closing}
+use Rattle.tr_ring.specs.ClosedBuffer.{ClosedBuffer}
 use Rattle.tr_stream.proofs.ChunkLaws.{records_in-cons, records_in-append}
 use Rattle.tr_stream.proofs.OpenLaws.{open-joined, open-one, open-missed, moments_held}
 use Rattle.tr_stream.proofs.Refinement.{with_joined, with_followed, with_missed, without_oldest, with_moved}
 use Rattle.tr_stream.specs.Chunks.{packet_of}
-use Rattle.tr_stream.specs.Sound.{IsSound, IsOpen, ArePackets, overwrites}
+use Rattle.tr_stream.specs.Sound.{IsSound, IsOpen, ArePackets}
 use Rattle.tr_stream.specs.State.{StreamState, records_in, in_ring}
 use Rattle.tr_stream.specs.StateSteps.{state_switched}
 use Rattle.tr_stream.specs.declared.config.StreamConfig.{StreamConfig}

@@ -3,7 +3,7 @@ use Rattle.std.proofs.Common.{◌≡◌, ℕ, ◌+◌, ◌-◌, ◌^◌, zero, s
 use Rattle.std.proofs.lemmas.Grind.{common_steps}
 use Rattle.tr_book.specs.Parts.{bytes_of}
 use Rattle.tr_book.specs.declared.counts.Counts.{Counts}
-use Rattle.tr_ring.specs.Ring.{ClosedBuffer}
+use Rattle.tr_ring.specs.ClosedBuffer.{ClosedBuffer}
 use Rattle.tr_stream.proofs.Refinement.{stands-moved}
 use Rattle.tr_stream.specs.Chunks.{buffers_where, waiting_of, chunk_of, packet_of, parts_below}
 use Rattle.tr_stream.specs.History.{Status, Kept, Closed, History, is_waiting}

@@ -1,9 +1,9 @@
 -- The ring and the trace chunks of a history: its blocks, by what became of them, and their packets.
-use Rattle.std.specs.Prelude.{ℕ, ◌+◌, zero, suc, Bool, List, [], ◌∷◌, ◌++◌, length, map, if◌then◌else◌}
+use Rattle.std.specs.Prelude.{ℕ, ◌+◌, zero, suc, Bool, List, [], ◌∷◌, ◌++◌, length, map, nat_le, Option, Some, None, if◌then◌else◌}
 use Rattle.tr_book.specs.Parts.{PartState}
 use Rattle.tr_packet.specs.Packets.{Contents}
 use Rattle.tr_record.specs.Records.{Entry}
-use Rattle.tr_ring.specs.Ring.{ClosedBuffer}
+use Rattle.tr_ring.specs.ClosedBuffer.{ClosedBuffer}
 use Rattle.tr_stream.specs.History.{Status, Closed, History, is_waiting, is_kept, is_kept_in}
 use Rattle.tr_stream.specs.declared.config.StreamConfig.{StreamConfig}
 
@@ -50,3 +50,7 @@ part_of c k buffers = record { id = k; packets = map (packet_of c) buffers }
 abbrev pub parts_below : StreamConfig → ℕ → History → List PartState
 parts_below c zero h = []
 parts_below c (suc k) h = parts_below c k h ++ part_of c k (chunk_of k h) ∷ []
+
+-- the part of a chunk, if it was begun
+abbrev pub part_in : StreamConfig → ℕ → History → Option PartState
+part_in c k h = if nat_le k h.cuts then Some (part_of c k (chunk_of k h)) else None

@@ -1,5 +1,5 @@
 -- What is true of every stream value, by itself.
-use Rattle.std.specs.Prelude.{◌≡◌, ℕ, ◌+◌, ◌^◌, ◌≤◌, ◌<◌, min, Bool, true, false, IsTrue, List, [], ◌∷◌, length}
+use Rattle.std.specs.Prelude.{◌≡◌, ℕ, ◌+◌, ◌^◌, ◌≤◌, ◌<◌, min, IsTrue, List, [], ◌∷◌, length}
 use Rattle.std.specs.List.{AllByRecursion}
 use Rattle.tr_book.specs.declared.mode.Mode.{Mode}
 use Rattle.tr_book.specs.declared.mode.Mode.TheVariants.{Discard, Overwrite}
@@ -7,9 +7,11 @@ use Rattle.tr_packet.specs.Order.{serials_rise, in_order}
 use Rattle.tr_packet.specs.Packets.{IsPacket}
 use Rattle.tr_record.specs.Records.{Entry, Fits, last_moment}
 use Rattle.tr_record.specs.Weight.{weight_of}
-use Rattle.tr_ring.specs.Ring.{ClosedBuffer, RingState}
+use Rattle.tr_ring.specs.Ring.{RingState}
+use Rattle.tr_ring.specs.ClosedBuffer.{ClosedBuffer}
 use Rattle.tr_stream.specs.Chunks.{packet_of, begin_of}
 use Rattle.tr_stream.specs.State.{StreamState, in_ring}
+use Rattle.tr_stream.specs.StateSteps.{overwrites}
 use Rattle.tr_stream.specs.declared.config.StreamConfig.{StreamConfig}
 
 -- what a stream is made with
@@ -18,10 +20,6 @@ pub record IsConfig (c : StreamConfig) : Type 0 where
   pub number : c.number < 2 ^ 64
   pub size_high : c.geometry.size ≤ 65536
   pub count_high : c.geometry.count ≤ 64
-
-abbrev pub overwrites : Mode → Bool
-overwrites Discard = false
-overwrites Overwrite = true
 
 -- the ring is as it was made: an empty sub-buffer has room for a record, and there is another one
 pub record IsMade (c : StreamConfig) (r : RingState) : Type 0 where

@@ -2,7 +2,8 @@
 use Rattle.std.specs.Prelude.{ℕ, ◌+◌, Bool, List, length, sum_by}
 use Rattle.tr_book.specs.Book.{BookState}
 use Rattle.tr_book.specs.Parts.{PartsState}
-use Rattle.tr_ring.specs.Ring.{ClosedBuffer, RingState}
+use Rattle.tr_ring.specs.Ring.{RingState}
+use Rattle.tr_ring.specs.ClosedBuffer.{ClosedBuffer}
 use Rattle.tr_stream.specs.declared.config.StreamConfig.{StreamConfig}
 
 -- what it was made with, its ring, the parts that the ring was consumed into, its counters, and whether it takes offers

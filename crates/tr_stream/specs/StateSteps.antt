@@ -1,12 +1,15 @@
 -- What each call does to what a stream holds, and what it answers.
-use Rattle.std.specs.Prelude.{ℕ, ◌+◌, ◌-◌, ◌^◌, max, min, Bool, nat_lt, nat_le, not, List, [], ◌∷◌, length, Option, Some, None, Result, Ok, Err, if◌then◌else◌}
-use Rattle.tr_book.specs.Book.{BookState}
-use Rattle.tr_book.specs.Parts.{bytes_of, with_packet}
+use Rattle.std.specs.Prelude.{ℕ, ◌+◌, ◌-◌, ◌^◌, max, min, Bool, true, false, nat_lt, nat_le, not, List, [], ◌∷◌, length, Option, Some, None, Result, Ok, Err, if◌then◌else◌}
+use Rattle.tr_book.specs.Book.{BookState, empty_book}
+use Rattle.tr_book.specs.Parts.{bytes_of, no_parts, with_packet}
 use Rattle.tr_book.specs.declared.counts.Counts.{Counts}
 use Rattle.tr_record.specs.Records.{Entry}
-use Rattle.tr_ring.specs.Ring.{ClosedBuffer, after_push, push_answer, without_first}
+use Rattle.tr_ring.specs.Ring.{after_push, empty_ring, push_answer, without_first}
+use Rattle.tr_ring.specs.ClosedBuffer.{ClosedBuffer}
 use Rattle.tr_ring.specs.declared.pushed.Pushed.{Pushed}
 use Rattle.tr_ring.specs.declared.pushed.Pushed.TheVariants as pushed
+use Rattle.tr_book.specs.declared.mode.Mode.{Mode}
+use Rattle.tr_book.specs.declared.mode.Mode.TheVariants.{Discard, Overwrite}
 use Rattle.tr_stream.specs.Chunks.{packet_of}
 use Rattle.tr_stream.specs.State.{StreamState, in_ring}
 use Rattle.tr_stream.specs.Steps.{taken_from}
@@ -16,6 +19,7 @@ use Rattle.tr_stream.specs.declared.answers.Offered.{Offered}
 use Rattle.tr_stream.specs.declared.answers.Offered.TheVariants.{Stored, StoredOver, Discarded}
 use Rattle.tr_stream.specs.declared.answers.TakeFault.{TakeFault}
 use Rattle.tr_stream.specs.declared.answers.Taken.{Taken}
+use Rattle.tr_stream.specs.declared.config.StreamConfig.{StreamConfig}
 
 -- an offer as it is stored
 abbrev pub entered : ℕ → ℕ → List ℕ → StreamState → Entry
@@ -95,3 +99,25 @@ state_counts s = record {
   cuts = length s.parts.closed;
   current_bytes = min (bytes_of s.parts.current.packets) (2 ^ 64 - 1);
 }
+
+-- whether the oldest sub-buffer gives way
+abbrev pub overwrites : Mode → Bool
+overwrites Discard = false
+overwrites Overwrite = true
+
+-- at the start
+abbrev pub new_state : StreamConfig → StreamState
+new_state c = record {
+  config = c;
+  ring = empty_ring c.geometry.size c.geometry.count (overwrites c.mode);
+  parts = no_parts;
+  book = empty_book;
+  active = false;
+}
+
+-- the kinds of answer that may take memory
+abbrev pub TakesMemory : Result Offered OfferFault → Type 0
+TakesMemory (Ok (Stored serial seq)) = Unit {0}
+TakesMemory (Ok (StoredOver serial seq gone_seq gone_count)) = Unit {0}
+TakesMemory (Ok (Discarded serial)) = ⊥
+TakesMemory (Err fault) = ⊥

@@ -6,7 +6,7 @@ use Rattle.tr_book.specs.declared.mode.Mode.{Mode}
 use Rattle.tr_book.specs.declared.mode.Mode.TheVariants.{Discard, Overwrite}
 use Rattle.tr_record.specs.Records.{Entry}
 use Rattle.tr_record.specs.Weight.{weight_of}
-use Rattle.tr_ring.specs.Ring.{ClosedBuffer}
+use Rattle.tr_ring.specs.ClosedBuffer.{ClosedBuffer}
 use Rattle.tr_stream.specs.Chunks.{waiting_of, chunk_of, packet_of}
 use Rattle.tr_stream.specs.History.{Status, Waiting, Dropped, Kept, Closed, History, is_waiting, is_dropped, is_kept, offered_of, discarded_of, records_where, blocks_where}
 use Rattle.tr_stream.specs.State.{records_in}

@@ -1,7 +1,7 @@
 -- What is true of every history that calls lead to.
 use Rattle.std.specs.Prelude.{◌≡◌, ◌≢◌, ℕ, ◌+◌, ◌≤◌, zero, suc, nat_lt, true, false, List, [], ◌∷◌, ◌++◌, length, if◌then◌else◌}
 use Rattle.tr_record.specs.Records.{Entry}
-use Rattle.tr_ring.specs.Ring.{ClosedBuffer}
+use Rattle.tr_ring.specs.ClosedBuffer.{ClosedBuffer}
 use Rattle.tr_stream.specs.Chunks.{chunk_of, consumed_of}
 use Rattle.tr_stream.specs.History.{Status, Waiting, Dropped, Kept, Block, Closed, History, is_waiting, is_dropped, offers_in, offers_before, offered_of, times}
 

@@ -3,14 +3,14 @@
 use tr_book::{Geometry, Mode};
 use uuid::Uuid;
 
-/// What becomes of a stream's packets.
+/// What becomes of the packets of a session's streams.
 #[derive(Clone, Copy, Debug, PartialEq, Eq)]
 pub enum SessionMode {
     /// They are consumed into trace chunks.
     Local,
 }
 
-/// What a stream is made with: the trace's identifier, the stream's number in its session, the ring's geometry, and the modes.
+/// What a stream is made with.
 #[derive(Clone, Copy, Debug)]
 pub struct StreamConfig {
     /// The identifier of the trace.
