@@ -4,5 +4,6 @@ pub mod KeptLaws
 pub mod OfferLaws
 pub mod OpenLaws
 pub mod Refinement
+pub mod RuleLaws
 pub mod SoundLaws
 pub mod TakeLaws

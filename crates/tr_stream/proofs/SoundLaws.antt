@@ -5,15 +5,15 @@ use Rattle.std.proofs.lemmas.Grind.{common_steps}
 use Rattle.tr_book.specs.declared.mode.Mode.{Mode}
 use Rattle.tr_book.specs.declared.mode.Mode.TheVariants.{Discard, Overwrite}
 use Rattle.tr_packet.specs.Packets.{IsPacket}
-use Rattle.tr_record.proofs.RecordLemmas.{weight_of-records_text}
 use Rattle.tr_record.specs.Records.{Entry, Fits, last_moment}
 use Rattle.tr_record.specs.Weight.{weight_of}
 use Rattle.tr_ring.specs.Ring.{RingState, closing}
 use Rattle.tr_ring.specs.ClosedBuffer.{ClosedBuffer}
 use Rattle.tr_stream.proofs.ChunkLaws.{records_in-cons, records_in-append}
-use Rattle.tr_stream.proofs.OpenLaws.{open-joined, open-one, open-missed, moments_held}
+use Rattle.tr_stream.proofs.OpenLaws.{open-joined, open-one, open-missed}
+use Rattle.tr_packet.proofs.OrderLemmas.{MakePacket-later}
 use Rattle.tr_stream.proofs.Refinement.{with_joined, with_followed, with_missed, without_oldest, with_moved}
-use Rattle.tr_stream.specs.Chunks.{packet_of}
+use Rattle.tr_stream.specs.Chunks.{packet_of, begin_of}
 use Rattle.tr_stream.specs.Sound.{IsSound, IsOpen, ArePackets}
 use Rattle.tr_stream.specs.State.{StreamState, records_in, in_ring}
 use Rattle.tr_stream.specs.StateSteps.{state_switched}
@@ -38,10 +38,7 @@ closing-is_packet s end is used le in_time = record {
   stream = is.config.number;
   seq = omega (arith, is.numbers, is.few);
   lost = omega (arith, is.total, is.few);
-  fits = is.filling.fits;
-  serials = is.filling.rise;
-  moments = moments_held s.book.offered s.book.last end s.ring.current used le in_time is.filling;
-  small = omega (arith, is.fits, is.config.size_high, weight_of-records_text s.ring.current);
+  records = MakePacket-later (begin_of s.ring.current) s.book.last end s.ring.current (is.filling.makes used) le in_time;
 }
 
 -- what is asked of the record of an accepted offer
@@ -65,7 +62,7 @@ sound-joined s e is next room = record {
   no_loss = is.no_loss;
   no_drop = is.no_drop;
   packets = is.packets;
-  filling = open-joined s.book.offered s.book.last s.ring.current e next.fits next.serial next.moment is.filling;
+  filling = open-joined s.book.offered s.book.last s.ring.current e next.fits next.serial next.moment (omega (arith, room, is.config.size_high)) is.filling;
 }
 
 other : (let m : Mode = Discard in m) ≡ Overwrite → ⊥
@@ -85,7 +82,7 @@ sound-missed s moment is left le in_time mode = record {
   no_loss = λ e. absurd (other (sym mode ∙ e));
   no_drop = is.no_drop;
   packets = is.packets;
-  filling = open-missed s.book.offered s.book.last moment s.ring.current le is.filling;
+  filling = open-missed s.book.offered s.book.last moment s.ring.current le in_time is.filling;
 }
 
 pub sound-followed : (s : StreamState) (e : Entry) → IsSound s → IsNext s e → s.ring.current ≢ [] → length e.payload + 104 ≤ s.config.geometry.size → length s.ring.waiting + 1 < s.config.geometry.count → IsSound (with_followed e s)
@@ -102,7 +99,7 @@ sound-followed s e is next used small room = record {
   no_loss = is.no_loss;
   no_drop = is.no_drop;
   packets = are-push s.config s.ring.waiting (closing e.moment s.ring) is.packets (closing-is_packet s e.moment is used next.moment next.fits.moment);
-  filling = open-one s.book.offered e next.fits next.serial;
+  filling = open-one s.book.offered e next.fits next.serial (grind (arith, common_steps, small, is.config.size_high));
 }
 
 first-split : (bs : List ClosedBuffer) → records_in bs ≡ records_in (take 1 bs) + records_in (drop 1 bs)

@@ -1,5 +1,6 @@
--- A take from a stream is the history's take, and its counts are the history's.
+-- A new stream begins a history, a take is the history's take, and the counts are the history's.
 use Rattle.std.proofs.Common.{◌≡◌, ℕ, ◌+◌, ◌-◌, ◌^◌, zero, suc, Bool, true, false, List, [], ◌∷◌, length, map, min, Result, Err, Ok, refl, sym, ◌∙◌, ap, subst, arith}
+use Rattle.std.proofs.lemmas.Bool.Decides.{nat_tests}
 use Rattle.std.proofs.lemmas.Grind.{common_steps}
 use Rattle.tr_book.specs.Parts.{bytes_of}
 use Rattle.tr_book.specs.declared.counts.Counts.{Counts}
@@ -9,9 +10,27 @@ use Rattle.tr_stream.specs.Chunks.{buffers_where, waiting_of, chunk_of, packet_o
 use Rattle.tr_stream.specs.History.{Status, Kept, Closed, History, is_waiting}
 use Rattle.tr_stream.specs.StandsFor.{StandsFor}
 use Rattle.tr_stream.specs.State.{StreamState}
-use Rattle.tr_stream.specs.StateSteps.{take_result, moved_oldest, state_after_take, state_counts}
-use Rattle.tr_stream.specs.Steps.{settle_first, taken_from, take_answer, after_take, counts_of}
+use Rattle.tr_stream.specs.StateSteps.{take_result, moved_oldest, state_after_take, state_counts, new_state}
+use Rattle.tr_stream.specs.Steps.{settle_first, taken_from, take_answer, after_take, counts_of, start}
 use Rattle.tr_stream.specs.declared.config.StreamConfig.{StreamConfig}
+
+-- a new stream stands for a history that begins
+pub starts : (c : StreamConfig) → StandsFor (new_state c) start
+starts c = record {
+  model = record { numbers = tt; filling = refl; order = tt; kept = tt; used = tt; room = λ none. tt; covers = tt; covers_filling = record { starts = refl; rise = tt; within = omega arith }; chunks = refl; serials = λ n. grind (arith, nat_tests) };
+  closed = refl;
+  current = refl;
+  waiting = refl;
+  filling = refl;
+  number = refl;
+  discarded = refl;
+  offered = refl;
+  overwritten = refl;
+  overwritten_packets = refl;
+  consumed = refl;
+  last = refl;
+  active = refl;
+}
 
 nothing_settled : (status : Status) (lost : ℕ) (cs : List Closed) → buffers_where is_waiting lost cs ≡ [] → settle_first status cs ≡ cs
 nothing_settled status lost [] none = refl

@@ -1,6 +1,9 @@
 pub mod Chunks
+pub mod Faults
 pub mod History
 pub mod Kept
+pub mod Rules
+pub mod Runs
 pub mod Sound
 pub mod StandsFor
 pub mod State

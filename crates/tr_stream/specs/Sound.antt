@@ -1,11 +1,11 @@
 -- What is true of every stream value, by itself.
-use Rattle.std.specs.Prelude.{◌≡◌, ℕ, ◌+◌, ◌^◌, ◌≤◌, ◌<◌, min, IsTrue, List, [], ◌∷◌, length}
+use Rattle.std.specs.Prelude.{◌≡◌, ◌≢◌, ℕ, ◌+◌, ◌^◌, ◌≤◌, ◌<◌, min, List, [], ◌∷◌, length}
 use Rattle.std.specs.List.{AllByRecursion}
 use Rattle.tr_book.specs.declared.mode.Mode.{Mode}
 use Rattle.tr_book.specs.declared.mode.Mode.TheVariants.{Discard, Overwrite}
-use Rattle.tr_packet.specs.Order.{serials_rise, in_order}
-use Rattle.tr_packet.specs.Packets.{IsPacket}
-use Rattle.tr_record.specs.Records.{Entry, Fits, last_moment}
+use Rattle.tr_packet.specs.Order.{IsBelow}
+use Rattle.tr_packet.specs.Packets.{IsPacket, MakePacket}
+use Rattle.tr_record.specs.Records.{Entry, last_moment}
 use Rattle.tr_record.specs.Weight.{weight_of}
 use Rattle.tr_ring.specs.Ring.{RingState}
 use Rattle.tr_ring.specs.ClosedBuffer.{ClosedBuffer}
@@ -34,17 +34,10 @@ abbrev pub ArePackets : StreamConfig → List ClosedBuffer → Type 0
 ArePackets c [] = Unit {0}
 ArePackets c (b ∷ bs) = IsPacket (packet_of c b) × ArePackets c bs
 
--- each serial is below this one
-abbrev pub AllBelow : ℕ → List Entry → Type 0
-AllBelow serial [] = Unit {0}
-AllBelow serial (e ∷ es) = (e.serial < serial) × AllBelow serial es
-
 -- the records of a sub-buffer that the next record, of this serial and not before this moment, may join
 pub record IsOpen (serial last : ℕ) (es : List Entry) : Type 0 where
-  pub fits : AllByRecursion Fits es
-  pub rise : IsTrue (serials_rise es)
-  pub below : AllBelow serial es
-  pub order : IsTrue (in_order (begin_of es) last es)
+  pub below : AllByRecursion (IsBelow serial) es
+  pub makes : es ≢ [] → MakePacket (begin_of es) last es
 
 pub record IsSound (s : StreamState) : Type 0 where
   pub config : IsConfig s.config

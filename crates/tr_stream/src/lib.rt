@@ -4,6 +4,10 @@
 
 mod answers;
 mod config;
+mod events;
+mod payload;
 
 pub use answers::{OfferFault, Offered, TakeFault, Taken};
 pub use config::{SessionMode, StreamConfig};
+pub use events::{StreamAnswer, StreamEvent};
+pub use payload::Payload;
