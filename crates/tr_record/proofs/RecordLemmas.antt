@@ -1,10 +1,9 @@
 -- Lists of records: their texts, what they weigh, and one record more.
-use Rattle.std.proofs.Common.{◌≡◌, ℕ, ◌+◌, ◌^◌, ◌<◌, List, [], ◌∷◌, ◌++◌, length, refl, sym, ap, ◌∙◌, arith, length-append, append-nil, add_assoc}
-use Rattle.std.specs.Int.{w32, w64, to_le_bytes}
-use Rattle.std.specs.List.{AllByRecursion, flat_map, sum_by}
+use Rattle.std.proofs.Common.{◌≡◌, ℕ, ◌+◌, List, [], ◌∷◌, ◌++◌, length, refl, ap, ◌∙◌, arith, length-append, append-nil}
+use Rattle.std.specs.List.{AllByRecursion, sum_by}
 use Rattle.std.proofs.lemmas.List.Concat.{flat_map-append}
 use Rattle.std.proofs.lemmas.List.Sums.{sum_by-cons, sum_by_push}
-use Rattle.tr_record.specs.Records.{Entry, record_text, records_text, last_moment, HasText, Fits}
+use Rattle.tr_record.specs.Records.{Entry, record_text, records_text, HasText, Fits}
 use Rattle.tr_record.specs.Weight.{record_weight, weight_of}
 
 -- ---- facts of each record
