@@ -5,6 +5,8 @@ mod book;
 mod counts;
 mod geometry;
 mod mode;
+mod part;
+mod parts;
 #[cfg(test)]
 mod tests;
 
@@ -12,3 +14,5 @@ pub use book::Book;
 pub use counts::Counts;
 pub use geometry::{Geometry, GeometryFault};
 pub use mode::Mode;
+pub use part::Part;
+pub use parts::Parts;
