@@ -6,18 +6,22 @@ use Rattle.std.specs.Prelude.{nat_lt}
 use Rattle.tr_book.specs.declared.mode.Mode.{Mode}
 use Rattle.tr_book.specs.declared.mode.Mode.TheVariants.{Discard, Overwrite}
 use Rattle.tr_record.specs.Records.{Entry, Fits, last_moment}
-use Rattle.tr_ring.specs.Ring.{current_buffer}
+use Rattle.tr_ring.specs.Ring.{RingState, current_buffer, after_push, push_answer}
+use Rattle.tr_ring.specs.declared.pushed.Pushed.{Pushed}
+use Rattle.tr_book.specs.Book.{BookState}
 use Rattle.tr_ring.specs.ClosedBuffer.{ClosedBuffer}
 use Rattle.tr_stream.proofs.OfferLaws.{IsAccepted, accepted, not_empty, joins, follows, misses, replaces, offers}
+use Rattle.tr_stream.proofs.OpenLaws.{open-none}
 use Rattle.tr_stream.proofs.Refinement.{with_joined, with_followed, with_missed, without_oldest, stands-switched}
 use Rattle.tr_stream.proofs.SoundLaws.{IsNext, sound-joined, sound-missed, sound-followed, sound-without_oldest, sound-moved, sound-switched}
-use Rattle.tr_stream.proofs.TakeLaws.{takes}
+use Rattle.tr_stream.proofs.TakeLaws.{starts, takes}
 use Rattle.tr_stream.specs.Kept.{IsKept}
-use Rattle.tr_stream.specs.Sound.{IsSound}
+use Rattle.tr_stream.specs.Sound.{IsSound, IsConfig}
 use Rattle.tr_stream.specs.State.{StreamState}
-use Rattle.tr_stream.specs.StateSteps.{entered, refusal_of, state_unless, with_offer, state_after_offer, moved_oldest, state_after_take, state_switched, overwrites}
-use Rattle.tr_stream.specs.Steps.{after_offer, after_take, switched}
+use Rattle.tr_stream.specs.StateSteps.{booked, entered, refusal_of, state_unless, with_offer, state_after_offer, moved_oldest, state_after_take, state_switched, new_state, overwrites}
+use Rattle.tr_stream.specs.Steps.{after_offer, after_take, start, switched}
 use Rattle.tr_stream.specs.declared.answers.OfferFault.{OfferFault}
+use Rattle.tr_stream.specs.declared.config.StreamConfig.{StreamConfig}
 use Rattle.tr_subbuf.specs.SubBuffer.{has_room}
 
 overwrites-is : (m : Mode) → overwrites m ≡ true → m ≡ Overwrite
@@ -89,3 +93,25 @@ kept-taken s is = record { sound = sound-oldest s s.ring.waiting refl is.sound; 
 
 pub kept-switched : (s : StreamState) (active : Bool) → IsKept s → IsKept (state_switched active s)
 kept-switched s active is = record { sound = sound-switched s active is.sound; history = (switched active is.history.0, stands-switched s is.history.0 active is.history.1) }
+
+-- a new stream
+pub kept-new : (c : StreamConfig) → IsConfig c → 256 ≤ c.geometry.size → 2 ≤ c.geometry.count → IsKept (new_state c)
+kept-new c config size count = record {
+  sound = record {
+    config = config;
+    made = record { size = refl; count = refl; mode = refl; size_low = size; count_low = count };
+    few = omega arith;
+    in_time = omega arith;
+    total = refl;
+    consumed = refl;
+    numbers = omega arith;
+    dropped = omega arith;
+    room = omega arith;
+    fits = omega arith;
+    no_loss = λ e. refl;
+    no_drop = λ e. (refl, refl);
+    packets = tt;
+    filling = open-none;
+  };
+  history = (start, starts c);
+}

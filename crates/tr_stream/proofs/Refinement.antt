@@ -194,7 +194,7 @@ stands-moved s h b bs oldest is =
       closed = is.closed ∙ sym (parts_below-same s.config h.cuts h g (λ j l. other-settle_first (is_kept_in j) (Kept h.cuts) 0 h.closed (kept_in j h.cuts l) refl));
       current =
           let p : map (packet_of s.config) (chunk_of h.cuts g) ≡ map (packet_of s.config) (chunk_of h.cuts h) ++ packet_of s.config b ∷ [] =
-              ap (map (packet_of s.config)) (grown ∙ ap (λ (ws : List ClosedBuffer). chunk_of h.cuts h ++ take 1 ws) waiting) ∙ map-first s.config (chunk_of h.cuts h) bs b in
+          ap (map (packet_of s.config)) (grown ∙ ap (λ (ws : List ClosedBuffer). chunk_of h.cuts h ++ take 1 ws) waiting) ∙ map-first s.config (chunk_of h.cuts h) bs b in
           let q = is.current in
           cc;
       waiting = grind (arith, is.waiting, waiting-settle_first (Kept h.cuts) 0 h.closed refl);

@@ -2,9 +2,10 @@
 use Rattle.std.proofs.Common.{◌≡◌, ◌≢◌, ℕ, ◌+◌, ◌-◌, ◌^◌, ◌≤◌, ◌<◌, Bool, List, [], ◌∷◌, ◌++◌, length, take, drop, min, refl, sym, ap, subst, ◌∙◌, arith}
 use Rattle.std.proofs.Common.{length-drop, length-append}
 use Rattle.std.proofs.lemmas.Grind.{common_steps}
+use Rattle.std.proofs.lemmas.List.Sums.{sum_by_push}
 use Rattle.tr_book.specs.declared.mode.Mode.{Mode}
 use Rattle.tr_book.specs.declared.mode.Mode.TheVariants.{Discard, Overwrite}
-use Rattle.tr_packet.specs.Packets.{IsPacket}
+use Rattle.tr_packet.specs.Packets.{Contents, IsPacket}
 use Rattle.tr_record.specs.Records.{Entry, Fits, last_moment}
 use Rattle.tr_record.specs.Weight.{weight_of}
 use Rattle.tr_ring.specs.Ring.{RingState, closing}
@@ -55,6 +56,7 @@ sound-joined s e is next room = record {
   few = omega (arith, next.left);
   in_time = next.fits.moment;
   total = grind (arith, common_steps, is.total);
+  consumed = is.consumed;
   numbers = grind (arith, common_steps, is.numbers);
   dropped = is.dropped;
   room = is.room;
@@ -75,6 +77,7 @@ sound-missed s moment is left le in_time mode = record {
   few = omega (arith, left);
   in_time = in_time;
   total = grind (arith, is.total);
+  consumed = is.consumed;
   numbers = grind (arith, is.numbers);
   dropped = is.dropped;
   room = is.room;
@@ -92,6 +95,7 @@ sound-followed s e is next used small room = record {
   few = omega (arith, next.left);
   in_time = next.fits.moment;
   total = grind (arith, common_steps, is.total, records_in-append s.ring.waiting (closing e.moment s.ring ∷ []), records_in-cons (closing e.moment s.ring) []);
+  consumed = is.consumed;
   numbers = grind (arith, common_steps, is.numbers, used_some s.ring.current used);
   dropped = grind (arith, common_steps, is.dropped);
   room = grind (arith, common_steps, room);
@@ -113,6 +117,7 @@ sound-without_oldest s is some mode = record {
   few = is.few;
   in_time = is.in_time;
   total = grind (arith, is.total, first-split s.ring.waiting);
+  consumed = is.consumed;
   numbers = is.numbers;
   dropped = grind (arith, common_steps, is.dropped, length-drop 1 s.ring.waiting);
   room = grind (arith, common_steps, is.room, length-drop 1 s.ring.waiting);
@@ -136,6 +141,7 @@ sound-moved s b bs oldest is = record {
   few = is.few;
   in_time = is.in_time;
   total = grind (arith, is.total, one b bs s.ring.waiting oldest);
+  consumed = omega (arith, is.consumed, sum_by_push (λ (p : Contents). length p.records) s.parts.current.packets (packet_of s.config b));
   numbers = is.numbers;
   dropped = grind (arith, common_steps, is.dropped, length-drop 1 s.ring.waiting);
   room = grind (arith, common_steps, is.room, length-drop 1 s.ring.waiting);
@@ -147,4 +153,4 @@ sound-moved s b bs oldest is = record {
 }
 
 pub sound-switched : (s : StreamState) (active : Bool) → IsSound s → IsSound (state_switched active s)
-sound-switched s active is = record { config = is.config; made = is.made; few = is.few; in_time = is.in_time; total = is.total; numbers = is.numbers; dropped = is.dropped; room = is.room; fits = is.fits; no_loss = is.no_loss; no_drop = is.no_drop; packets = is.packets; filling = is.filling }
+sound-switched s active is = record { config = is.config; made = is.made; few = is.few; in_time = is.in_time; total = is.total; consumed = is.consumed; numbers = is.numbers; dropped = is.dropped; room = is.room; fits = is.fits; no_loss = is.no_loss; no_drop = is.no_drop; packets = is.packets; filling = is.filling }

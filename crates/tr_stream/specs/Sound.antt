@@ -10,7 +10,7 @@ use Rattle.tr_record.specs.Weight.{weight_of}
 use Rattle.tr_ring.specs.Ring.{RingState}
 use Rattle.tr_ring.specs.ClosedBuffer.{ClosedBuffer}
 use Rattle.tr_stream.specs.Chunks.{packet_of, begin_of}
-use Rattle.tr_stream.specs.State.{StreamState, in_ring}
+use Rattle.tr_stream.specs.State.{StreamState, in_ring, in_parts}
 use Rattle.tr_stream.specs.StateSteps.{overwrites}
 use Rattle.tr_stream.specs.declared.config.StreamConfig.{StreamConfig}
 
@@ -46,6 +46,7 @@ pub record IsSound (s : StreamState) : Type 0 where
   pub in_time : s.book.last ≤ last_moment
   -- each offer is in one place
   pub total : s.ring.refused + s.book.overwritten + in_ring s.ring + s.book.consumed ≡ s.book.offered
+  pub consumed : s.book.consumed ≡ in_parts s.parts
   -- a number is used once its sub-buffer has a record
   pub numbers : s.ring.seq + min 1 (length s.ring.current) ≤ s.book.offered
   pub dropped : s.book.overwritten_packets + length s.ring.waiting ≤ s.ring.seq

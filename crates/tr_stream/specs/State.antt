@@ -1,7 +1,7 @@
 -- What a stream holds.
 use Rattle.std.specs.Prelude.{ℕ, ◌+◌, Bool, List, length, sum_by}
 use Rattle.tr_book.specs.Book.{BookState}
-use Rattle.tr_book.specs.Parts.{PartsState}
+use Rattle.tr_book.specs.Parts.{PartState, PartsState, records_of}
 use Rattle.tr_ring.specs.Ring.{RingState}
 use Rattle.tr_ring.specs.ClosedBuffer.{ClosedBuffer}
 use Rattle.tr_stream.specs.declared.config.StreamConfig.{StreamConfig}
@@ -21,3 +21,7 @@ records_in buffers = sum_by (λ (b : ClosedBuffer). length b.records) buffers
 -- how many records the ring holds
 abbrev pub in_ring : RingState → ℕ
 in_ring r = records_in r.waiting + length r.current
+
+-- how many records the parts hold
+abbrev pub in_parts : PartsState → ℕ
+in_parts p = sum_by (λ (part : PartState). records_of part.packets) p.closed + records_of p.current.packets

@@ -5,9 +5,12 @@
 mod answers;
 mod config;
 mod events;
+mod packing;
 mod payload;
+mod stream;
 
 pub use answers::{OfferFault, Offered, TakeFault, Taken};
 pub use config::{SessionMode, StreamConfig};
 pub use events::{StreamAnswer, StreamEvent};
 pub use payload::Payload;
+pub use stream::Stream;
