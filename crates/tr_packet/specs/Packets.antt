@@ -24,13 +24,13 @@ packet_size p = weight_of p.records
 abbrev pub header_text : Head → List ℕ
 header_text h = magic ++ (h.uuid ++ (to_le_bytes w32 0 ++ to_le_bytes w64 h.stream))
 
--- the packet context, with both sizes in bits: timestamp_begin, timestamp_end, content_size, packet_size,
--- packet_seq_num, events_discarded
+-- timestamp_begin, timestamp_end, and the size in bits as content_size and packet_size
+abbrev pub times_text : Head → ℕ → List ℕ
+times_text h bits = to_le_bytes w64 h.begin ++ (to_le_bytes w64 h.end ++ (to_le_bytes w64 bits ++ to_le_bytes w64 bits))
+
+-- the packet context: those, packet_seq_num, events_discarded
 abbrev pub context_text : Head → ℕ → List ℕ
-context_text h bits =
-    to_le_bytes w64 h.begin
-    ++ (to_le_bytes w64 h.end
-    ++ (to_le_bytes w64 bits ++ (to_le_bytes w64 bits ++ (to_le_bytes w64 h.seq ++ to_le_bytes w64 h.lost))))
+context_text h bits = times_text h bits ++ (to_le_bytes w64 h.seq ++ to_le_bytes w64 h.lost)
 
 -- the bytes of a packet
 abbrev pub packet_text : Contents → List ℕ

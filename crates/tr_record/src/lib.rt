@@ -20,7 +20,7 @@ pub use reading::{read_raw, read_rec, u32_at, u64_at};
 pub use record::Rec;
 pub use streams::{ReaderSource, WriterSink};
 pub use view::RecView;
-pub use writing::{put_rec, rec_size};
+pub use writing::{put_bytes, put_rec, put_u32, put_u64, rec_size};
 
 #[cfg(test)]
 mod tests;

@@ -1,4 +1,4 @@
-//! Writing a record behind bytes, where there is room.
+//! Writing numbers and records behind bytes, where there is room.
 
 ghost use Rattle.std.specs.Prelude.{◌≡◌, ◌+◌, ◌≤◌, ◌<◌, ◌^◌, ◌++◌, length, vec_len, vec_capacity};
 ghost use Rattle.std.specs.Int.{w32, w64, to_le_bytes};
@@ -16,7 +16,8 @@ pub fn rec_size(len: usize) -> usize
     24 + len
 }
 
-fn put<A: Allocator>(out: &mut Vec<u8, A>, bytes: &[u8])
+/// Writes these bytes behind the others, into room that is reserved.
+pub fn put_bytes<A: Allocator>(out: &mut Vec<u8, A>, bytes: &[u8])
     requires { vec_len out.old + length bytes.now ≤ vec_capacity out.old }
     ensures items { out.new.items ≡ out.old.items ++ bytes.now }
     ensures len { vec_len out.new ≡ vec_len out.old + length bytes.now }
@@ -25,28 +26,31 @@ fn put<A: Allocator>(out: &mut Vec<u8, A>, bytes: &[u8])
     let _ = out.extend_from_slice(bytes);
 }
 
-fn put_u32<A: Allocator>(out: &mut Vec<u8, A>, n: u32)
+/// Writes a number in four bytes, lowest byte first, into room that is reserved.
+pub fn put_u32<A: Allocator>(out: &mut Vec<u8, A>, n: u32)
     requires { vec_len out.old + 4 ≤ vec_capacity out.old }
     ensures items { out.new.items ≡ out.old.items ++ to_le_bytes w32 n }
     ensures len { vec_len out.new ≡ vec_len out.old + 4 }
     ensures capacity { vec_capacity out.old ≤ vec_capacity out.new }
 {
-    put(out, &n.to_le_bytes());
+    put_bytes(out, &n.to_le_bytes());
 }
 
-fn put_u64<A: Allocator>(out: &mut Vec<u8, A>, n: u64)
+/// Writes a number in eight bytes, lowest byte first, into room that is reserved.
+pub fn put_u64<A: Allocator>(out: &mut Vec<u8, A>, n: u64)
     requires { vec_len out.old + 8 ≤ vec_capacity out.old }
     ensures items { out.new.items ≡ out.old.items ++ to_le_bytes w64 n }
     ensures len { vec_len out.new ≡ vec_len out.old + 8 }
     ensures capacity { vec_capacity out.old ≤ vec_capacity out.new }
 {
-    put(out, &n.to_le_bytes());
+    put_bytes(out, &n.to_le_bytes());
 }
 
 /// Writes a record's text behind the bytes, into room that is reserved. It takes no memory and can't fail.
 pub fn put_rec<A: Allocator>(out: &mut Vec<u8, A>, r: &RecView<'_>)
     requires { vec_len out.old + record_weight r.now ≤ vec_capacity out.old }
     ensures items { out.new.items ≡ out.old.items ++ record_text r.now }
+    ensures len { vec_len out.new ≡ vec_len out.old + record_weight r.now }
     ensures capacity { vec_capacity out.old ≤ vec_capacity out.new }
     ensures fits { Fits r.now }
 {
@@ -54,5 +58,5 @@ pub fn put_rec<A: Allocator>(out: &mut Vec<u8, A>, r: &RecView<'_>)
     put_u64(out, r.moment().get());
     put_u64(out, r.serial());
     put_u32(out, r.payload().len() as u32);
-    put(out, r.payload());
+    put_bytes(out, r.payload());
 }
