@@ -1,0 +1,69 @@
+//! Moments in time.
+
+ghost use Rattle.std.specs.Prelude.{◌≡◌, ◌≤◌, ◌↔◌, max, IsSome, IfSome};
+ghost use Rattle.tr_record.specs.Records.{last_moment};
+
+use std::marker::Model;
+
+/// Nanoseconds since 1970, from 0 to 9,000,000,000,000,000,000. Contracts see the number.
+#[derive(Clone, Copy, Debug, PartialEq, Eq, PartialOrd, Ord)]
+pub struct Moment {
+    nanoseconds: u64,
+}
+
+impl Model for Moment {
+    ghost use Rattle.std.specs.Prelude.{ℕ, ◌≤◌};
+    ghost use Rattle.tr_record.specs.Records.{last_moment};
+
+    ghost Value = { ℕ };
+
+    ghost view = { λ m. m.nanoseconds };
+
+    ghost invariant = { λ m. m.nanoseconds ≤ last_moment };
+
+    ghost inverse = { λ n. record { nanoseconds = n } };
+}
+
+impl Moment {
+    /// The greatest moment, in nanoseconds since 1970.
+    pub const LAST: u64 = 9_000_000_000_000_000_000;
+
+    /// The moment of so many nanoseconds since 1970. None where the number is above the limit.
+    pub fn new(nanoseconds: u64) -> Option<Moment>
+        ensures succeeds { IsSome result ↔ (nanoseconds ≤ last_moment) }
+        ensures value { IfSome result (λ m. m ≡ nanoseconds) }
+    {
+        if nanoseconds <= Moment::LAST {
+            Some(Moment { nanoseconds })
+        } else {
+            None
+        }
+    }
+
+    /// The first moment.
+    pub fn zero() -> Moment
+        ensures { result ≡ 0 }
+    {
+        Moment { nanoseconds: 0 }
+    }
+
+    /// The nanoseconds since 1970.
+    pub fn get(self) -> u64
+        ensures value { result ≡ self }
+        ensures within { result ≤ last_moment }
+    {
+        self.nanoseconds
+    }
+
+    /// The later of two moments.
+    pub fn later(self, other: Moment) -> Moment
+        ensures value { result ≡ max self other }
+        ensures within { result ≤ last_moment }
+    {
+        if self.nanoseconds < other.nanoseconds {
+            other
+        } else {
+            self
+        }
+    }
+}

@@ -1,0 +1,84 @@
+//! A record whose payload lies elsewhere.
+
+ghost use Rattle.std.specs.Prelude.{◌≡◌, ◌<◌, ◌^◌, length};
+ghost use Rattle.tr_record.specs.Records.{Fits};
+ghost use Rattle.tr_record.specs.Weight.{record_weight};
+
+use crate::moment::Moment;
+use std::marker::Model;
+
+/// A record that borrows its payload, of fewer than 2^32 bytes. Contracts see it as an `Entry`.
+#[derive(Drop, Debug)]
+pub struct RecView<'a> {
+    serial: u64,
+    moment: Moment,
+    id: u32,
+    payload: &'a [u8],
+}
+
+impl<'a> Model for RecView<'a> {
+    ghost use Rattle.tr_record.specs.Records.{Entry, Fits};
+
+    ghost Value = { Entry };
+
+    ghost view = { λ r. record { serial = r.serial; moment = r.moment; id = r.id; payload = r.payload.now } };
+
+    ghost invariant = { λ r. Fits (record { serial = r.serial; moment = r.moment; id = r.id; payload = r.payload.now }) };
+}
+
+impl<'a> RecView<'a> {
+    /// A record with this payload, of fewer than 2^32 bytes.
+    pub fn new(serial: u64, moment: Moment, id: u32, payload: &'a [u8]) -> RecView<'a>
+        requires { length payload.now < 2 ^ 32 }
+        ensures value { result ≡ record { serial = serial; moment = moment; id = id; payload = payload.entry.now } }
+        ensures fits { Fits result }
+    {
+        let _ = moment.get();
+        RecView {
+            serial,
+            moment,
+            id,
+            payload,
+        }
+    }
+
+    /// How many offers its stream accepted before this one.
+    pub fn serial(&self) -> u64
+        ensures value { result ≡ self.now.serial }
+        ensures fits { Fits self.now }
+    {
+        self.serial
+    }
+
+    /// When it was accepted.
+    pub fn moment(&self) -> Moment
+        ensures value { result ≡ self.now.moment }
+        ensures fits { Fits self.now }
+    {
+        self.moment
+    }
+
+    /// Which kind of event it tells of.
+    pub fn id(&self) -> u32
+        ensures value { result ≡ self.now.id }
+        ensures fits { Fits self.now }
+    {
+        self.id
+    }
+
+    /// Its bytes.
+    pub fn payload(&self) -> &'a [u8]
+        ensures value { result.now ≡ self.now.payload }
+        ensures fits { Fits self.now }
+    {
+        self.payload
+    }
+
+    /// The bytes of its text: 24 and its payload's.
+    pub fn size(&self) -> usize
+        ensures value { result ≡ record_weight self.now }
+        ensures fits { Fits self.now }
+    {
+        24 + self.payload.len()
+    }
+}
