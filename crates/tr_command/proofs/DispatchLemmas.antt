@@ -11,7 +11,7 @@ use Rattle.clap.specs.Words.{Row, is_simple, subcommand_of}
 use Rattle.clap.proofs.OnLiterals.{clap_on_literals}
 use Rattle.clap.proofs.WalkLemmas.{walk_stopped}
 use Rattle.tr_command.specs.CommandLine.{channel_app, consume_app, create_app, offer_app, script_app, start_app, status_app, thread_app}
-use Rattle.tr_command.specs.Dispatch.{alone, app_for, app_named, command_word}
+use Rattle.tr_command.specs.Dispatch.{alone, app_for, command_word}
 use Rattle.tr_command.specs.Asked.{Asked}
 use Rattle.tr_command.specs.Language.{asked_from, asked_of, is_free_of_faults}
 use Rattle.tr_command.specs.Reading.{asked_as}
@@ -49,52 +49,59 @@ ReadsSame a b words = (fault_of a words ≡ fault_of b words) × (subcommand_of 
 
 create-reads_same : (program : Text) (rest : List Text) → ReadsSame (alone create_app) script_app (program ∷ codes "create" ∷ rest)
 unfolding clap_on_literals
-create-reads_same program rest =
-    (fault-first (built (alone create_app)) (codes "create") rest refl refl ∙ sym (fault-first (built script_app) (codes "create") rest refl refl),
-     ap (λ (w : Walk). entered (built (alone create_app)) w.stopped) (walk-first (built (alone create_app)) (codes "create") rest refl)
-     ∙ sym (ap (λ (w : Walk). entered (built script_app) w.stopped) (walk-first (built script_app) (codes "create") rest refl)))
+create-reads_same program rest = (
+  fault-first (built (alone create_app)) (codes "create") rest refl refl ∙ sym (fault-first (built script_app) (codes "create") rest refl refl),
+  ap (λ (w : Walk). entered (built (alone create_app)) w.stopped) (walk-first (built (alone create_app)) (codes "create") rest refl)
+      ∙ sym (ap (λ (w : Walk). entered (built script_app) w.stopped) (walk-first (built script_app) (codes "create") rest refl)),
+)
 
 channel-reads_same : (program : Text) (rest : List Text) → ReadsSame (alone channel_app) script_app (program ∷ codes "channel" ∷ rest)
 unfolding clap_on_literals
-channel-reads_same program rest =
-    (fault-first (built (alone channel_app)) (codes "channel") rest refl refl ∙ sym (fault-first (built script_app) (codes "channel") rest refl refl),
-     ap (λ (w : Walk). entered (built (alone channel_app)) w.stopped) (walk-first (built (alone channel_app)) (codes "channel") rest refl)
-     ∙ sym (ap (λ (w : Walk). entered (built script_app) w.stopped) (walk-first (built script_app) (codes "channel") rest refl)))
+channel-reads_same program rest = (
+  fault-first (built (alone channel_app)) (codes "channel") rest refl refl ∙ sym (fault-first (built script_app) (codes "channel") rest refl refl),
+  ap (λ (w : Walk). entered (built (alone channel_app)) w.stopped) (walk-first (built (alone channel_app)) (codes "channel") rest refl)
+      ∙ sym (ap (λ (w : Walk). entered (built script_app) w.stopped) (walk-first (built script_app) (codes "channel") rest refl)),
+)
 
 thread-reads_same : (program : Text) (rest : List Text) → ReadsSame (alone thread_app) script_app (program ∷ codes "thread" ∷ rest)
 unfolding clap_on_literals
-thread-reads_same program rest =
-    (fault-first (built (alone thread_app)) (codes "thread") rest refl refl ∙ sym (fault-first (built script_app) (codes "thread") rest refl refl),
-     ap (λ (w : Walk). entered (built (alone thread_app)) w.stopped) (walk-first (built (alone thread_app)) (codes "thread") rest refl)
-     ∙ sym (ap (λ (w : Walk). entered (built script_app) w.stopped) (walk-first (built script_app) (codes "thread") rest refl)))
+thread-reads_same program rest = (
+  fault-first (built (alone thread_app)) (codes "thread") rest refl refl ∙ sym (fault-first (built script_app) (codes "thread") rest refl refl),
+  ap (λ (w : Walk). entered (built (alone thread_app)) w.stopped) (walk-first (built (alone thread_app)) (codes "thread") rest refl)
+      ∙ sym (ap (λ (w : Walk). entered (built script_app) w.stopped) (walk-first (built script_app) (codes "thread") rest refl)),
+)
 
 start-reads_same : (program : Text) (rest : List Text) → ReadsSame (alone start_app) script_app (program ∷ codes "start" ∷ rest)
 unfolding clap_on_literals
-start-reads_same program rest =
-    (fault-first (built (alone start_app)) (codes "start") rest refl refl ∙ sym (fault-first (built script_app) (codes "start") rest refl refl),
-     ap (λ (w : Walk). entered (built (alone start_app)) w.stopped) (walk-first (built (alone start_app)) (codes "start") rest refl)
-     ∙ sym (ap (λ (w : Walk). entered (built script_app) w.stopped) (walk-first (built script_app) (codes "start") rest refl)))
+start-reads_same program rest = (
+  fault-first (built (alone start_app)) (codes "start") rest refl refl ∙ sym (fault-first (built script_app) (codes "start") rest refl refl),
+  ap (λ (w : Walk). entered (built (alone start_app)) w.stopped) (walk-first (built (alone start_app)) (codes "start") rest refl)
+      ∙ sym (ap (λ (w : Walk). entered (built script_app) w.stopped) (walk-first (built script_app) (codes "start") rest refl)),
+)
 
 offer-reads_same : (program : Text) (rest : List Text) → ReadsSame (alone offer_app) script_app (program ∷ codes "offer" ∷ rest)
 unfolding clap_on_literals
-offer-reads_same program rest =
-    (fault-first (built (alone offer_app)) (codes "offer") rest refl refl ∙ sym (fault-first (built script_app) (codes "offer") rest refl refl),
-     ap (λ (w : Walk). entered (built (alone offer_app)) w.stopped) (walk-first (built (alone offer_app)) (codes "offer") rest refl)
-     ∙ sym (ap (λ (w : Walk). entered (built script_app) w.stopped) (walk-first (built script_app) (codes "offer") rest refl)))
+offer-reads_same program rest = (
+  fault-first (built (alone offer_app)) (codes "offer") rest refl refl ∙ sym (fault-first (built script_app) (codes "offer") rest refl refl),
+  ap (λ (w : Walk). entered (built (alone offer_app)) w.stopped) (walk-first (built (alone offer_app)) (codes "offer") rest refl)
+      ∙ sym (ap (λ (w : Walk). entered (built script_app) w.stopped) (walk-first (built script_app) (codes "offer") rest refl)),
+)
 
 consume-reads_same : (program : Text) (rest : List Text) → ReadsSame (alone consume_app) script_app (program ∷ codes "consume" ∷ rest)
 unfolding clap_on_literals
-consume-reads_same program rest =
-    (fault-first (built (alone consume_app)) (codes "consume") rest refl refl ∙ sym (fault-first (built script_app) (codes "consume") rest refl refl),
-     ap (λ (w : Walk). entered (built (alone consume_app)) w.stopped) (walk-first (built (alone consume_app)) (codes "consume") rest refl)
-     ∙ sym (ap (λ (w : Walk). entered (built script_app) w.stopped) (walk-first (built script_app) (codes "consume") rest refl)))
+consume-reads_same program rest = (
+  fault-first (built (alone consume_app)) (codes "consume") rest refl refl ∙ sym (fault-first (built script_app) (codes "consume") rest refl refl),
+  ap (λ (w : Walk). entered (built (alone consume_app)) w.stopped) (walk-first (built (alone consume_app)) (codes "consume") rest refl)
+      ∙ sym (ap (λ (w : Walk). entered (built script_app) w.stopped) (walk-first (built script_app) (codes "consume") rest refl)),
+)
 
 status-reads_same : (program : Text) (rest : List Text) → ReadsSame (alone status_app) script_app (program ∷ codes "status" ∷ rest)
 unfolding clap_on_literals
-status-reads_same program rest =
-    (fault-first (built (alone status_app)) (codes "status") rest refl refl ∙ sym (fault-first (built script_app) (codes "status") rest refl refl),
-     ap (λ (w : Walk). entered (built (alone status_app)) w.stopped) (walk-first (built (alone status_app)) (codes "status") rest refl)
-     ∙ sym (ap (λ (w : Walk). entered (built script_app) w.stopped) (walk-first (built script_app) (codes "status") rest refl)))
+status-reads_same program rest = (
+  fault-first (built (alone status_app)) (codes "status") rest refl refl ∙ sym (fault-first (built script_app) (codes "status") rest refl refl),
+  ap (λ (w : Walk). entered (built (alone status_app)) w.stopped) (walk-first (built (alone status_app)) (codes "status") rest refl)
+      ∙ sym (ap (λ (w : Walk). entered (built script_app) w.stopped) (walk-first (built script_app) (codes "status") rest refl)),
+)
 
 abbrev asks : Kinds → Option (Text × List Row) → Option Asked
 asks kinds entered_by = cond (is_free_of_faults kinds) (option_and_then (λ p. asked_as p.0 p.1) entered_by) None

@@ -1,5 +1,5 @@
 -- What std reads as a number, where the text has nothing but digits.
-use Rattle.std.proofs.Common.{◌≡◌, ◌∙◌, ◌<◌, ◌≤◌, ◌^◌, ◌&&◌, ℕ, Bool, true, false, refl, sym, ap, rules, arith, List, [], ◌∷◌, Option, Some, None, length, nat_lt, nat_le, true≢false, lt-ltb, le-ltb, ltb-true, cond}
+use Rattle.std.proofs.Common.{◌≡◌, ◌<◌, ◌≤◌, ◌^◌, ◌&&◌, ℕ, Bool, true, false, refl, sym, arith, List, [], ◌∷◌, Some, None, length, nat_lt, nat_le, true≢false, ltb-true, cond}
 use Rattle.std.specs.List.{list_all}
 use Rattle.std.specs.Char.{digit_value}
 use Rattle.std.specs.Str.Parse.{AllDigits, IsNumeral, digits_value, without_leading_plus}
@@ -35,3 +35,11 @@ number_of-none most text fits digits none = rw digits (go (nat_lt 0 (length text
     go false b e f = rw e refl
     go true false e f = rw (e, f) refl
     go true true e f = absurd (none ((ltb-true _ _ e, all_digits text digits), grind (arith, common_steps)))
+
+-- what is read is at most `most`
+pub number_of-at_most : (most : ℕ) (text : List ℕ) (n : ℕ) → number_of most text ≡ Some n → n ≤ most
+number_of-at_most most text n is = go (nat_lt 0 (length text) && list_all is_digit text) (nat_le (digits_value 10 text) most) refl is
+  where
+    go : (a b : Bool) → nat_le (digits_value 10 text) most ≡ b
+        → cond (nat_lt 0 (length text) && (list_all is_digit text && nat_le (digits_value 10 text) most)) (Some (digits_value 10 text)) None ≡ Some n → n ≤ most
+    go a b e f = grind (arith, common_steps)

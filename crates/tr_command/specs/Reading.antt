@@ -5,6 +5,7 @@ use Rattle.std.specs.Str.{bytes_eq}
 use Rattle.clap.specs.Words.{Row, Text, first_of}
 use Rattle.tr_book.specs.declared.mode.Mode.{Mode}
 use Rattle.tr_book.specs.declared.mode.Mode.TheVariants.{Discard}
+use Rattle.tr_record.specs.Records.{last_moment}
 use Rattle.tr_command.specs.Asked.{Asked, Create, Channel, Thread, Start, Offer, Consume, Status}
 use Rattle.tr_command.specs.Number.{number_of}
 
@@ -20,9 +21,6 @@ most_u32 = 4294967295
 
 abbrev pub most_u64 : ℕ
 most_u64 = 18446744073709551615
-
-abbrev pub most_moment : ℕ
-most_moment = 9000000000000000000
 
 abbrev pub most_fill : ℕ
 most_fill = 65536
@@ -72,14 +70,14 @@ thread_of rows =
 abbrev pub start_of : List Row → Option Asked
 start_of rows =
     and_then (session_of rows) (λ session.
-    and_last (number_at (codes "moment") most_moment rows) (λ moment.
+    and_last (number_at (codes "moment") last_moment rows) (λ moment.
     Start session moment))
 
 abbrev pub offer_of : List Row → Option Asked
 offer_of rows =
     and_then (session_of rows) (λ session.
     and_then (number_at (codes "stream") most_u64 rows) (λ stream.
-    and_then (number_at (codes "moment") most_moment rows) (λ moment.
+    and_then (number_at (codes "moment") last_moment rows) (λ moment.
     and_then (number_at (codes "id") most_u32 rows) (λ id.
     and_last (number_or_0 (codes "fill") most_fill rows) (λ fill.
     Offer session stream moment id (text_or_empty (codes "text") rows) fill)))))

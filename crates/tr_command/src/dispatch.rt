@@ -8,7 +8,10 @@ ghost use Rattle.clap.specs.Words.{app_of};
 ghost use Rattle.clap.specs.declared.builder.command.Command.TheViews.{out-Command as fields_of};
 ghost use Rattle.tr_command.specs.Dispatch.{alone, app_for, command_word};
 
-use crate::command_lines::{channel_command, consume_command, create_command, offer_command, script_command, start_command, status_command, thread_command};
+use crate::command_lines::{
+    channel_command, consume_command, create_command, offer_command, script_command, start_command,
+    status_command, thread_command,
+};
 use clap::Command;
 use std::alloc::{AllocError, Global};
 

@@ -9,6 +9,8 @@ mod numbers;
 mod parsing;
 mod readings;
 mod requests;
+#[cfg(test)]
+mod tests;
 mod values;
 
 pub use numbers::number;

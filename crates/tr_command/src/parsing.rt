@@ -1,7 +1,8 @@
 //! From the words of a line to what they ask for.
 
-ghost use Rattle.std.specs.Prelude.{◌≡◌, IfOk, map, option_map};
-ghost use Rattle.tr_command.specs.Asked.{asked_by};
+ghost use Rattle.std.specs.Prelude.{◌≡◌, ◌≤◌, IfOk, IfSome, map, option_map};
+ghost use Rattle.tr_record.specs.Records.{last_moment};
+ghost use Rattle.tr_command.specs.Asked.{asked_by, moment_in};
 ghost use Rattle.tr_command.specs.Language.{asked_of};
 
 use crate::Request;
@@ -16,7 +17,8 @@ use std::alloc::{AllocError, Global};
 ///
 /// Only where memory is refused.
 pub fn parse<'a>(alloc: Global, words: &'a [&'a str]) -> Result<Option<Request<'a>>, AllocError>
-    ensures { IfOk result (λ r. option_map asked_by r ≡ asked_of (map (λ w. w.now) words.entry.now)) }
+    ensures asked { IfOk result (λ r. option_map asked_by r ≡ asked_of (map (λ w. w.now) words.entry.now)) }
+    ensures moment { IfOk result (λ r. IfSome r (λ request. moment_in (asked_by request) ≤ last_moment)) }
 {
     let command = command_for(alloc, command_word(words))?;
     match command.try_get_matches_from(words) {

@@ -6,10 +6,11 @@ ghost use Rattle.tr_command.specs.Asked.{asked_by};
 ghost use Rattle.tr_command.specs.Reading.{asked_as, channel_of, consume_of, create_of, offer_of, start_of, status_of, thread_of};
 
 use crate::Request;
-use crate::values::{mode_at, number_at, number_u32_at, number_u32_or_zero, text_at, text_or_empty};
+use crate::values::{
+    mode_at, moment_at, number_at, number_u32_at, number_u32_or_zero, text_at, text_or_empty,
+};
 use clap::ArgMatches;
 
-const MOST_MOMENT: u64 = 9_000_000_000_000_000_000;
 const MOST_FILL: u32 = 65_536;
 
 fn create_request<'a>(matches: &ArgMatches<'a>) -> Option<Request<'a>>
@@ -49,7 +50,7 @@ fn start_request<'a>(matches: &ArgMatches<'a>) -> Option<Request<'a>>
     ensures { option_map asked_by result ≡ start_of (rows_of (found_of matches.now)) }
 {
     let session = text_at(matches, "session")?;
-    let moment = number_at(matches, "moment", MOST_MOMENT)?;
+    let moment = moment_at(matches, "moment")?;
     Some(Request::Start { session, moment })
 }
 
@@ -58,7 +59,7 @@ fn offer_request<'a>(matches: &ArgMatches<'a>) -> Option<Request<'a>>
 {
     let session = text_at(matches, "session")?;
     let stream = number_at(matches, "stream", u64::MAX)?;
-    let moment = number_at(matches, "moment", MOST_MOMENT)?;
+    let moment = moment_at(matches, "moment")?;
     let id = number_u32_at(matches, "id", u32::MAX)?;
     let fill = number_u32_or_zero(matches, "fill", MOST_FILL)?;
     let text = text_or_empty(matches, "text");

@@ -2,11 +2,13 @@
 
 ghost use Rattle.std.specs.Prelude.{◌≡◌, option_map};
 ghost use Rattle.clap.specs.Words.{first_of, found_of, rows_of};
+ghost use Rattle.tr_record.specs.Records.{last_moment};
 ghost use Rattle.tr_command.specs.Reading.{mode_at, mode_named, number_at, number_or_0, text_or_empty};
 
 use crate::numbers::{number, number_u32};
 use clap::ArgMatches;
 use tr_book::Mode;
+use tr_record::Moment;
 
 /// The text of an argument.
 pub fn text_at<'a>(matches: &ArgMatches<'a>, id: &str) -> Option<&'a str>
@@ -34,6 +36,13 @@ pub fn number_u32_at(matches: &ArgMatches<'_>, id: &str, most: u32) -> Option<u3
     ensures { result ≡ number_at id.now most (rows_of (found_of matches.now)) }
 {
     number_u32(text_at(matches, id)?, most)
+}
+
+/// The moment of an argument, in nanoseconds.
+pub fn moment_at(matches: &ArgMatches<'_>, id: &str) -> Option<u64>
+    ensures { result ≡ number_at id.now last_moment (rows_of (found_of matches.now)) }
+{
+    number_at(matches, id, Moment::LAST)
 }
 
 /// The number of an option, 0 where it is left out.
