@@ -1,6 +1,18 @@
-//! What a stream keeps beside its ring: counters, and the packets of its parts.
+//! What a stream keeps beside its ring: the ring's geometry and mode, counters, and the packets of its parts.
 #![tactic(auto)]
 
+mod book;
+mod counts;
+mod geometry;
 mod mode;
+mod part;
+mod parts;
+#[cfg(test)]
+mod tests;
 
+pub use book::Book;
+pub use counts::Counts;
+pub use geometry::{Geometry, GeometryFault};
 pub use mode::Mode;
+pub use part::Part;
+pub use parts::Parts;

@@ -1,3 +1,5 @@
 pub mod Bytes
+pub mod Raw
+pub mod Reading
 pub mod Records
 pub mod Weight

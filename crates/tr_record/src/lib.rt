@@ -5,13 +5,22 @@
 mod bytes;
 mod memory;
 mod moment;
+mod raw;
+mod reading;
 mod record;
 mod streams;
 mod view;
+mod writing;
 
 pub use bytes::{ByteSink, ByteSource, Failed, put_all};
 pub use memory::{MemorySink, MemorySource};
 pub use moment::Moment;
+pub use raw::RawRec;
+pub use reading::{read_raw, read_rec, u32_at, u64_at};
 pub use record::Rec;
 pub use streams::{ReaderSource, WriterSink};
 pub use view::RecView;
+pub use writing::{put_bytes, put_rec, put_u32, put_u64, rec_size};
+
+#[cfg(test)]
+mod tests;

@@ -1,6 +1,7 @@
 //! A reader of std as a source, and a writer as a sink. Contracts know nothing of their bytes.
 
-ghost use Rattle.std.specs.Prelude.{None};
+ghost use Rattle.std.specs.Prelude.{◌≡◌, None, OnOk, OnErr};
+ghost use Rattle.tr_record.specs.Bytes.{once_more};
 
 use crate::bytes::{ByteSink, ByteSource, Failed};
 use std::io::{Read, Write};
@@ -53,6 +54,20 @@ impl<W: Write + Drop> WriterSink<W> {
         WriterSink {
             writer,
             failures: 0,
+        }
+    }
+
+    /// Hands on what the writer may hold back.
+    pub fn flush(&mut self) -> Result<(), Failed>
+        ensures ok { OnOk result (⟦<WriterSink<W> as ByteSink>⟧.failures self.new ≡ ⟦<WriterSink<W> as ByteSink>⟧.failures self.old) }
+        ensures failed { OnErr result (⟦<WriterSink<W> as ByteSink>⟧.failures self.new ≡ once_more (⟦<WriterSink<W> as ByteSink>⟧.failures self.old)) }
+    {
+        match self.writer.flush() {
+            Ok(()) => Ok(()),
+            Err(_) => {
+                self.failures = self.failures.wrapping_add(1);
+                Err(Failed)
+            }
         }
     }
 }

@@ -1,0 +1,2 @@
+pub mod ClosedBuffer
+pub mod Ring

@@ -1,0 +1,48 @@
+-- The packets that were consumed, in parts.
+use Rattle.std.specs.Prelude.{◌≡◌, ℕ, ◌+◌, ◌*◌, ◌≤◌, List, [], ◌∷◌, ◌++◌, length, sum_by, slice_get, Option, Some, ◌==◌, if◌then◌else◌}
+use Rattle.tr_packet.specs.Packets.{Contents, packet_size}
+
+-- the packets of one stream in one trace chunk
+pub record PartState : Type 0 where
+  pub id : ℕ
+  pub packets : List Contents
+
+-- the closed parts in order, and the current one
+pub record PartsState : Type 0 where
+  pub closed : List PartState
+  pub current : PartState
+
+abbrev pub bytes_of : List Contents → ℕ
+bytes_of packets = sum_by packet_size packets
+
+-- how many records packets have
+abbrev pub records_of : List Contents → ℕ
+records_of packets = sum_by (λ (p : Contents). length p.records) packets
+
+abbrev pub empty_part : ℕ → PartState
+empty_part id = record { id = id; packets = [] }
+
+abbrev pub no_parts : PartsState
+no_parts = record { closed = []; current = empty_part 0 }
+
+-- the packet is the last of the current part
+abbrev pub with_packet : Contents → PartsState → PartsState
+with_packet p s = record s { current = record s.current { packets = s.current.packets ++ p ∷ [] } }
+
+-- the current part joins the closed ones, and the next one begins
+abbrev pub closed_part : PartsState → PartsState
+closed_part s = record { closed = s.closed ++ s.current ∷ []; current = empty_part (s.current.id + 1) }
+
+-- a closed part by its place, or the current one behind them
+abbrev pub part_at : ℕ → PartsState → Option PartState
+part_at k s = if k == length s.closed then Some s.current else slice_get s.closed k
+
+-- what is counted beside a part's packets
+pub record AreTallied (packets : List Contents) (bytes records : ℕ) : Type 0 where
+  pub bytes_are : bytes ≡ bytes_of packets
+  pub records_are : records ≡ records_of packets
+  pub small : bytes ≤ 65536 * records
+
+-- the current part's number is how many are closed
+abbrev pub IsNumbered : PartsState → Type 0
+IsNumbered s = s.current.id ≡ length s.closed

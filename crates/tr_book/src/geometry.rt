@@ -1,0 +1,103 @@
+//! Sizes and counts of sub-buffers.
+
+use std::marker::Model;
+use thiserror::Error;
+
+/// The powers of two from 256 to 65,536.
+const SIZES: [u64; 9] = [256, 512, 1024, 2048, 4096, 8192, 16384, 32768, 65536];
+
+/// The powers of two from 2 to 64.
+const COUNTS: [u64; 6] = [2, 4, 8, 16, 32, 64];
+
+/// How large the sub-buffers of a ring are, and how many it has. Contracts see a `GeometryState`.
+#[derive(Clone, Copy, Debug, PartialEq, Eq)]
+pub struct Geometry {
+    size: usize,
+    count: usize,
+}
+
+impl Model for Geometry {
+    ghost use Rattle.std.specs.Prelude.{IsTrue};
+    ghost use Rattle.tr_book.specs.Geometry.{GeometryState, is_size, is_count};
+
+    ghost Value = { GeometryState };
+
+    ghost view = { λ g. record { size = g.size; count = g.count } };
+
+    ghost invariant = { λ g. IsTrue (is_size g.size) × IsTrue (is_count g.count) };
+
+    ghost inverse = { λ s. record { size = s.size; count = s.count } };
+}
+
+/// Why there is no such geometry.
+#[derive(Clone, Copy, Debug, PartialEq, Eq, Error)]
+pub enum GeometryFault {
+    /// The size isn't a power of two from 256 to 65,536.
+    #[error("G1 BadSize")]
+    BadSize,
+    /// The count isn't a power of two from 2 to 64.
+    #[error("G2 BadCount")]
+    BadCount,
+}
+
+impl Geometry {
+    ghost use Rattle.std.specs.Prelude.{◌≡◌, ◌≤◌};
+    ghost use Rattle.tr_book.specs.Geometry.{geometry_of};
+
+    /// Rings of `count` sub-buffers of `size` bytes each. The size is judged first.
+    pub fn new(size: u64, count: u64) -> Result<Geometry, GeometryFault>
+        ensures { result ≡ geometry_of size count }
+    {
+        if !SIZES.contains(&size) {
+            return Err(GeometryFault::BadSize);
+        }
+        if !COUNTS.contains(&count) {
+            return Err(GeometryFault::BadCount);
+        }
+        Ok(Geometry {
+            size: size as usize,
+            count: count as usize,
+        })
+    }
+
+    /// The bytes of a sub-buffer: a power of two from 256 to 65,536.
+    pub fn size(self) -> usize
+        ensures value { result ≡ self.size }
+        ensures within { (256 ≤ result) × (result ≤ 65536) }
+    {
+        self.size
+    }
+
+    /// How many sub-buffers a ring has: a power of two from 2 to 64.
+    pub fn count(self) -> usize
+        ensures value { result ≡ self.count }
+        ensures within { (2 ≤ result) × (result ≤ 64) }
+    {
+        self.count
+    }
+}
+
+impl GeometryFault {
+    ghost use Rattle.std.specs.Prelude.{◌≡◌};
+    ghost use Rattle.tr_book.specs.Geometry.{fault_code, fault_name};
+
+    /// The code that an answer gives: `G1` or `G2`.
+    pub fn code(self) -> &'static str
+        ensures { result.now ≡ fault_code self }
+    {
+        match self {
+            GeometryFault::BadSize => "G1",
+            GeometryFault::BadCount => "G2",
+        }
+    }
+
+    /// The name that an answer gives: `BadSize` or `BadCount`.
+    pub fn name(self) -> &'static str
+        ensures { result.now ≡ fault_name self }
+    {
+        match self {
+            GeometryFault::BadSize => "BadSize",
+            GeometryFault::BadCount => "BadCount",
+        }
+    }
+}

@@ -1,0 +1,93 @@
+//! A part: what a stream's ring gave to one trace chunk.
+
+ghost use Rattle.std.specs.Prelude.{◌≡◌, ◌+◌, ◌<◌, ◌^◌, ◌∷◌, [], ◌++◌, OnOk, OnErr, IfErr, length};
+ghost use Rattle.tr_packet.specs.Packets.{packet_size};
+ghost use Rattle.tr_book.specs.Parts.{bytes_of, records_of, empty_part};
+
+use std::alloc::{AllocFailed, Allocator, Global};
+use std::marker::Model;
+use tr_packet::Packet;
+
+/// The packets of one trace chunk, in order, with their sums. Contracts see a `PartState`.
+#[derive(Drop)]
+pub struct Part<A: Allocator = Global> {
+    id: u64,
+    packets: Vec<Packet<A>, A>,
+    bytes: u128,
+    records: u64,
+}
+
+impl<A: Allocator> Model for Part<A> {
+    ghost use Rattle.tr_book.specs.Parts.{PartState, AreTallied};
+
+    ghost Value = { PartState };
+
+    ghost view = { λ p. record { id = p.id; packets = p.packets.items } };
+
+    ghost invariant = { λ p. AreTallied p.packets.items p.bytes p.records };
+}
+
+impl<A: Allocator> Part<A> {
+    /// A part without packets. It takes no memory.
+    pub(crate) fn new(alloc: A, id: u64) -> Part<A>
+        ensures { result ≡ empty_part id }
+    {
+        Part {
+            id,
+            packets: Vec::new(alloc),
+            bytes: 0,
+            records: 0,
+        }
+    }
+
+    /// The number of its trace chunk.
+    pub fn id(&self) -> u64
+        ensures { result ≡ self.now.id }
+    {
+        self.id
+    }
+
+    /// Its packets, in order.
+    pub fn packets(&self) -> &[Packet<A>]
+        ensures { result.now ≡ self.now.packets }
+    {
+        self.packets.as_slice()
+    }
+
+    /// The bytes of all its packets.
+    pub fn bytes(&self) -> u128
+        ensures { result ≡ bytes_of self.now.packets }
+    {
+        self.bytes
+    }
+
+    /// How many records its packets have.
+    pub fn records(&self) -> u64
+        ensures { result ≡ records_of self.now.packets }
+    {
+        self.records
+    }
+
+    /// Adds a packet at the end. Where memory runs out, the part is as it was and the packet comes back.
+    pub(crate) fn push(&mut self, packet: Packet<A>) -> Result<(), AllocFailed<Packet<A>>>
+        requires { records_of self.old.packets + length packet.records < 2 ^ 64 }
+        ensures ok { OnOk result (self.new ≡ record self.old { packets = self.old.packets ++ packet ∷ [] }) }
+        ensures err { OnErr result (self.new ≡ self.old) }
+        ensures returned { IfErr result (λ f. f.value ≡ packet) }
+    {
+        let bytes = size_of_packet(&packet);
+        let count = packet.records().len();
+        self.packets.push(packet)?;
+        self.bytes += bytes as u128;
+        self.records += count as u64;
+        Ok(())
+    }
+}
+
+/// The bytes of a packet.
+fn size_of_packet<A: Allocator>(packet: &Packet<A>) -> usize
+    ensures { result ≡ packet_size packet.now }
+{
+    let records: usize = packet.records().iter().map(|r| r.size()).sum();
+    80 + records
+}

@@ -1,0 +1,92 @@
+//! The parts of a stream.
+
+ghost use Rattle.std.specs.Prelude.{◌≡◌, ◌+◌, ◌<◌, ◌^◌, OnOk, OnErr, IfErr, length, option_copied};
+ghost use Rattle.tr_book.specs.Parts.{records_of, no_parts, with_packet, closed_part, part_at};
+
+use crate::part::Part;
+use std::alloc::{AllocError, AllocFailed, Allocator, Global};
+use std::marker::Model;
+use std::mem;
+use tr_packet::Packet;
+
+/// The closed parts of a stream in order, and the current one. Contracts see a `PartsState`.
+#[derive(Drop)]
+pub struct Parts<A: Allocator = Global> {
+    alloc: A,
+    closed: Vec<Part<A>, A>,
+    current: Part<A>,
+}
+
+impl<A: Allocator> Model for Parts<A> {
+    ghost use Rattle.std.specs.Prelude.{◌≡◌, length};
+    ghost use Rattle.tr_book.specs.Parts.{PartsState, IsNumbered};
+
+    ghost Value = { PartsState };
+
+    ghost view = { λ s. record { closed = s.closed.items; current = s.current } };
+
+    ghost invariant = { λ s. s.current.id ≡ length s.closed.items };
+}
+
+impl<A: Allocator> Parts<A> {
+    /// The part number `k`: a closed one, or the current one behind them.
+    pub fn part(&self, k: u64) -> Option<&Part<A>>
+        ensures { option_copied result ≡ part_at k self.now }
+    {
+        if k == self.cuts() {
+            return Some(&self.current);
+        }
+        self.closed.get(k as usize)
+    }
+
+    /// The part to which packets are added.
+    pub fn current(&self) -> &Part<A>
+        ensures value { result.now ≡ self.now.current }
+        ensures id { self.now.current.id ≡ length self.now.closed }
+    {
+        &self.current
+    }
+
+    /// How many parts are closed.
+    pub fn cuts(&self) -> u64
+        ensures value { result ≡ length self.now.closed }
+        ensures id { self.now.current.id ≡ length self.now.closed }
+    {
+        self.closed.len() as u64
+    }
+
+    /// Adds a packet at the end of the current part. Where memory runs out, all is as it was and the packet comes back.
+    pub fn push(&mut self, packet: Packet<A>) -> Result<(), AllocFailed<Packet<A>>>
+        requires { records_of self.old.current.packets + length packet.records < 2 ^ 64 }
+        ensures ok { OnOk result (self.new ≡ with_packet packet self.old) }
+        ensures err { OnErr result (self.new ≡ self.old) }
+        ensures returned { IfErr result (λ f. f.value ≡ packet) }
+    {
+        self.current.push(packet)
+    }
+}
+
+impl<A: Allocator + Copy> Parts<A> {
+    /// No closed part, and an empty current one with the number 0. It takes no memory.
+    pub fn new(alloc: A) -> Parts<A>
+        ensures { result ≡ no_parts }
+    {
+        Parts {
+            alloc,
+            closed: Vec::new(alloc),
+            current: Part::new(alloc, 0),
+        }
+    }
+
+    /// Closes the current part and begins the next one. Where memory runs out, nothing changes.
+    pub fn close(&mut self) -> Result<(), AllocError>
+        ensures ok { OnOk result (self.new ≡ closed_part self.old) }
+        ensures err { OnErr result (self.new ≡ self.old) }
+    {
+        self.closed.reserve(1)?;
+        let next = Part::new(self.alloc, self.current.id() + 1);
+        self.closed
+            .push_reserved(mem::replace(&mut self.current, next));
+        Ok(())
+    }
+}

@@ -1,0 +1,77 @@
+use super::*;
+use std::alloc::Global;
+use std::process::Abort;
+use std::test::Fail;
+use tr_packet::{Head, Packet};
+use tr_record::{Moment, Rec};
+use uuid::Uuid;
+
+/// A packet of two records with payloads of `len` bytes.
+fn packet(rt: &impl Abort, alloc: Global, seq: u64, len: usize) -> Result<Packet, Fail> {
+    let moment = Moment::new(1000 + seq % 1000).ok_or("a moment")?;
+    let payload = [0x61; 64];
+    assert!(rt; len <= 64 && seq < 1000);
+    let first = Rec::copy_of(alloc, 2 * seq, moment, 7, &payload[..len])?;
+    let second = Rec::copy_of(alloc, 2 * seq + 1, moment, 7, &payload[..len])?;
+    let head = Head {
+        uuid: Uuid::nil(),
+        stream: 0,
+        begin: moment,
+        end: moment,
+        seq,
+        lost: 0,
+    };
+    Ok(Packet::checked(head, vec![in alloc; first, second]?).ok_or("a packet")?)
+}
+
+// 80 bytes and 24 for each record beside the payloads: 228 where they have 50 bytes, 256 where they have 64
+#[test]
+fn parts_sum_up_their_packets(rt: HostRuntime) -> Result<(), Fail> {
+    let mut parts = Parts::new(rt.alloc());
+    assert_eq!(rt; parts.cuts(), 0);
+    assert!(rt; parts.current().records() == 0 && parts.current().bytes() == 0);
+    parts.push(packet(&rt, rt.alloc(), 0, 50)?)?;
+    assert!(rt; parts.current().records() == 2);
+    parts.push(packet(&rt, rt.alloc(), 1, 64)?)?;
+    let current = parts.part(0).ok_or("a part")?;
+    assert_eq!(rt; (current.id(), current.records()), (0, 4));
+    assert_eq!(rt; current.bytes(), 484);
+    parts.close()?;
+    assert_eq!(rt; parts.cuts(), 1);
+    assert!(rt; parts.current().records() == 0);
+    parts.push(packet(&rt, rt.alloc(), 2, 50)?)?;
+    let first = parts.part(0).ok_or("a part")?;
+    assert_eq!(rt; first.bytes(), 484);
+    assert_eq!(rt; first.packets().len(), 2);
+    assert_eq!(rt; first.packets()[1].head().seq, 1);
+    let second = parts.part(1).ok_or("a part")?;
+    assert_eq!(rt; (second.id(), second.records()), (1, 2));
+    assert_eq!(rt; second.bytes(), 228);
+    assert!(rt; parts.part(2).is_none());
+    Ok(())
+}
+
+#[test]
+fn geometries_outside_the_limits_are_refused(rt: HostRuntime) {
+    for (size, count) in [(255, 2), (131_072, 2), (255, 3), (0, 2), (128, 2), (768, 2)] {
+        assert_eq!(rt; Geometry::new(size, count), Err(GeometryFault::BadSize));
+    }
+    for (size, count) in [(256, 3), (256, 128), (256, 0), (256, 1), (65_536, 65)] {
+        assert_eq!(rt; Geometry::new(size, count), Err(GeometryFault::BadCount));
+    }
+    assert_eq!(rt; GeometryFault::BadSize.code(), "G1");
+    assert_eq!(rt; GeometryFault::BadSize.name(), "BadSize");
+    assert_eq!(rt; GeometryFault::BadCount.code(), "G2");
+    assert_eq!(rt; GeometryFault::BadCount.name(), "BadCount");
+}
+
+#[test]
+fn geometries_within_the_limits_are_taken(rt: HostRuntime) {
+    for (size, count) in [(256, 2), (65_536, 64), (4096, 8)] {
+        let Ok(geometry) = Geometry::new(size, count) else {
+            panic!(rt; "{size} by {count}")
+        };
+        assert_eq!(rt; geometry.size() as u64, size);
+        assert_eq!(rt; geometry.count() as u64, count);
+    }
+}

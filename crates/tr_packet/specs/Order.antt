@@ -1,0 +1,34 @@
+-- The order of a packet's records.
+use Rattle.std.specs.Prelude.{ℕ, ◌<◌, Bool, true, false, ◌&&◌, nat_eq, nat_le, nat_lt, List, [], ◌∷◌, Option, Some, None}
+use Rattle.tr_record.specs.Records.{Entry, last_moment}
+
+-- a serial may come after the one before it, if any
+abbrev pub follows : Option ℕ → ℕ → Bool
+follows None serial = true
+follows (Some before) serial = nat_lt before serial
+
+-- the serials rise strictly, the first one from above the one before it
+abbrev pub rise_after : Option ℕ → List Entry → Bool
+rise_after before [] = true
+rise_after before (e ∷ es) = follows before e.serial && rise_after (Some e.serial) es
+
+abbrev pub serials_rise : List Entry → Bool
+serials_rise es = rise_after None es
+
+-- the moments don't fall, from the first bound to the last one
+abbrev pub in_order : ℕ → ℕ → List Entry → Bool
+in_order from to [] = nat_le from to
+in_order from to (e ∷ es) = nat_le from e.moment && in_order e.moment to es
+
+-- there is a first record, and this is its moment
+abbrev pub starts_at : ℕ → List Entry → Bool
+starts_at begin [] = false
+starts_at begin (e ∷ es) = nat_eq e.moment begin
+
+-- begin is the first record's moment, the moments don't fall up to end, and end is no moment above the limit
+abbrev pub moments_hold : ℕ → ℕ → List Entry → Bool
+moments_hold begin end es = starts_at begin es && (in_order begin end es && nat_le end last_moment)
+
+-- the serial is below n
+abbrev pub IsBelow : ℕ → Entry → Type 0
+IsBelow n e = e.serial < n

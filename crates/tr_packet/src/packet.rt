@@ -1,0 +1,67 @@
+//! A packet with its records.
+
+ghost use Rattle.std.specs.Prelude.{◌≡◌, ◌↔◌, IsSome, IfSome};
+ghost use Rattle.tr_packet.specs.Packets.{IsPacket, MakePacket};
+
+use crate::head::Head;
+use crate::order::make_packet;
+use std::alloc::{Allocator, Global};
+use std::marker::Model;
+use tr_record::Rec;
+
+/// A packet: a head, and at least one record. The serials rise strictly, the moments don't fall from `begin`, the
+/// first record's, to `end`, and the text has at most 65,536 bytes. Contracts see it as `Contents`.
+#[derive(Drop)]
+pub struct Packet<A: Allocator = Global> {
+    head: Head,
+    records: Vec<Rec<A>, A>,
+}
+
+impl<A: Allocator> Model for Packet<A> {
+    ghost use Rattle.tr_packet.specs.Packets.{Contents, IsPacket};
+
+    ghost Value = { Contents };
+
+    ghost view = { λ p. record { head = p.head; records = p.records.items } };
+
+    ghost invariant = { λ p. IsPacket (record { head = p.head; records = p.records.items }) };
+}
+
+impl<A: Allocator> Packet<A> {
+    /// A packet of these records, which make one. It takes no memory.
+    pub fn new(head: Head, records: Vec<Rec<A>, A>) -> Packet<A>
+        requires { MakePacket head.begin head.end records.items }
+        ensures value { result ≡ record { head = head; records = records.items } }
+        ensures packet { IsPacket result }
+    {
+        let _ = head.uuid.into_bytes();
+        Packet { head, records }
+    }
+
+    /// A packet of these records, where they make one. It takes no memory.
+    pub fn checked(head: Head, records: Vec<Rec<A>, A>) -> Option<Packet<A>>
+        ensures exact { IsSome result ↔ MakePacket head.begin head.end records.items }
+        ensures value { IfSome result (λ p. p ≡ record { head = head; records = records.items }) }
+    {
+        if !make_packet(head.begin, head.end, &records) {
+            return None;
+        }
+        Some(Packet::new(head, records))
+    }
+
+    /// What it says beside its records.
+    pub fn head(&self) -> Head
+        ensures value { result ≡ self.now.head }
+        ensures packet { IsPacket self.now }
+    {
+        self.head
+    }
+
+    /// Its records, in order.
+    pub fn records(&self) -> &[Rec<A>]
+        ensures value { result.now ≡ self.now.records }
+        ensures packet { IsPacket self.now }
+    {
+        self.records.as_slice()
+    }
+}

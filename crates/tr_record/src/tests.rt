@@ -1,0 +1,158 @@
+//! Worked examples of the record format, and the happy path of what takes memory.
+
+use super::*;
+use std::alloc::Global;
+use std::io::{self, Read, Write};
+use std::test::Fail;
+
+/// The text of a record of id 7, moment 1 and serial 0 with the payload `A`.
+const ONE: [u8; 25] = [
+    7, 0, 0, 0, 1, 0, 0, 0, 0, 0, 0, 0, 0, 0, 0, 0, 0, 0, 0, 0, 1, 0, 0, 0, 0x41,
+];
+
+fn written(alloc: Global, payload: &[u8]) -> Result<Vec<u8>, Fail> {
+    let moment = Moment::new(1).ok_or("a moment")?;
+    if payload.len() > 1_000 {
+        return Err(Fail::from("a short payload"));
+    }
+    let r = RecView::new(0, moment, 7, payload);
+    let mut out = Vec::with_capacity(alloc, rec_size(payload.len()))?;
+    put_rec(&mut out, &r);
+    Ok(out)
+}
+
+#[test]
+fn a_record_of_one_byte(rt: HostRuntime) -> Result<(), Fail> {
+    let out = written(rt.alloc(), b"A")?;
+    assert_eq!(rt; out.as_slice(), ONE.as_slice());
+    let (r, size) = read_rec(&out).ok_or("a record")?;
+    assert_eq!(rt; size, 25);
+    assert_eq!(rt; r.size(), 25);
+    assert_eq!(rt; (r.serial(), r.moment().get(), r.id()), (0, 1, 7));
+    assert_eq!(rt; r.payload(), b"A".as_slice());
+    Ok(())
+}
+
+#[test]
+fn a_record_of_no_byte(rt: HostRuntime) -> Result<(), Fail> {
+    let out = written(rt.alloc(), b"")?;
+    assert_eq!(rt; out.len(), 24);
+    let (r, size) = read_rec(&out).ok_or("a record")?;
+    assert_eq!(rt; size, 24);
+    assert!(rt; r.payload().is_empty());
+    Ok(())
+}
+
+#[test]
+fn what_is_no_record(rt: HostRuntime) -> Result<(), Fail> {
+    assert!(rt; read_rec(&ONE[..23]).is_none(), "fewer than 24 bytes");
+    assert!(rt; read_rec(&ONE[..24]).is_none(), "a cut payload");
+    let mut late = ONE;
+    late[4..12].copy_from_slice(&9_000_000_000_000_000_001u64.to_le_bytes());
+    assert!(rt; read_rec(&late).is_none(), "a moment above the limit");
+    let (raw, rest) = read_raw(&late).ok_or("the fields")?;
+    assert_eq!(rt; raw.moment, 9_000_000_000_000_000_001);
+    assert!(rt; rest.is_empty());
+    late[4..12].copy_from_slice(&9_000_000_000_000_000_000u64.to_le_bytes());
+    assert!(rt; read_rec(&late).is_some(), "the last moment");
+    Ok(())
+}
+
+#[test]
+fn a_record_keeps_its_payload(rt: HostRuntime) -> Result<(), Fail> {
+    let moment = Moment::new(5).ok_or("a moment")?;
+    let r = Rec::copy_of(rt.alloc(), 3, moment, 9, b"abc")?;
+    assert_eq!(rt;
+        (r.serial(), r.moment().get(), r.id(), r.size()),
+        (3, 5, 9, 27)
+    );
+    assert_eq!(rt; r.view().payload(), b"abc".as_slice());
+    assert_eq!(rt; r.payload(), b"abc".as_slice());
+    assert_eq!(rt; r.into_payload().as_slice(), b"abc".as_slice());
+    Ok(())
+}
+
+#[test]
+fn moments_have_a_limit(rt: HostRuntime) -> Result<(), Fail> {
+    let last = Moment::new(9_000_000_000_000_000_000).ok_or("the last moment")?;
+    assert!(rt; Moment::new(9_000_000_000_000_000_001).is_none());
+    assert_eq!(rt; Moment::zero().later(last), last);
+    assert_eq!(rt; last.later(Moment::zero()), last);
+    assert!(rt; Moment::zero() < last);
+    Ok(())
+}
+
+/// Copies all that a source gives to a sink, at most three bytes at a time.
+fn copied<S: ByteSource, K: ByteSink>(source: &mut S, sink: &mut K) -> Result<(), Failed> {
+    let mut buffer = [0; 3];
+    for _ in 0..1_000 {
+        let count = source.get(&mut buffer)?;
+        if count == 0 {
+            return Ok(());
+        }
+        put_all(sink, &buffer[..count])?;
+    }
+    Err(Failed)
+}
+
+#[test]
+fn bytes_go_through_memory_in_pieces_of_any_size(rt: HostRuntime) -> Result<(), Fail> {
+    for (from, to) in [(0, 0), (1, 1), (1, 7), (7, 1), (100, 100)] {
+        let mut source = MemorySource::new(b"some bytes", from);
+        let mut sink = MemorySink::new(rt.alloc(), to);
+        assert_eq!(rt; copied(&mut source, &mut sink), Ok(()));
+        assert_eq!(rt; sink.into_bytes().as_slice(), b"some bytes".as_slice());
+    }
+    Ok(())
+}
+
+/// Gives two bytes and then fails, and takes two bytes and then fails.
+#[derive(Drop)]
+struct Broken(u8);
+
+impl Read for Broken {
+    fn read(&mut self, buf: &mut [u8]) -> io::Result<usize> {
+        if self.0 == 0 || buf.is_empty() {
+            return Err(io::Error::from(io::ErrorKind::TimedOut));
+        }
+        self.0 -= 1;
+        buf[0] = b'x';
+        Ok(1)
+    }
+}
+
+impl Write for Broken {
+    fn write(&mut self, buf: &[u8]) -> io::Result<usize> {
+        if self.0 == 0 || buf.is_empty() {
+            return Err(io::Error::from(io::ErrorKind::TimedOut));
+        }
+        self.0 -= 1;
+        Ok(1)
+    }
+
+    fn flush(&mut self) -> io::Result<()> {
+        Ok(())
+    }
+}
+
+#[test]
+fn std_streams_go_through(rt: HostRuntime) -> Result<(), Fail> {
+    let mut source = ReaderSource::new(b"some bytes".as_slice());
+    let mut bytes = Vec::new(rt.alloc());
+    let mut sink = WriterSink::new(&mut bytes);
+    assert_eq!(rt; copied(&mut source, &mut sink), Ok(()));
+    assert_eq!(rt; sink.flush(), Ok(()));
+    drop(sink);
+    assert_eq!(rt; bytes.as_slice(), b"some bytes".as_slice());
+
+    let mut memory = MemorySink::new(rt.alloc(), 100);
+    assert_eq!(rt;
+        copied(&mut ReaderSource::new(Broken(2)), &mut memory),
+        Err(Failed)
+    );
+    assert_eq!(rt; memory.into_bytes().as_slice(), b"xx".as_slice());
+    let mut broken = WriterSink::new(Broken(2));
+    assert_eq!(rt; put_all(&mut broken, b"ab"), Ok(()));
+    assert_eq!(rt; put_all(&mut broken, b"c"), Err(Failed));
+    Ok(())
+}

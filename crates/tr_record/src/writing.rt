@@ -1,0 +1,62 @@
+//! Writing numbers and records behind bytes, where there is room.
+
+ghost use Rattle.std.specs.Prelude.{◌≡◌, ◌+◌, ◌≤◌, ◌<◌, ◌^◌, ◌++◌, length, vec_len, vec_capacity};
+ghost use Rattle.std.specs.Int.{w32, w64, to_le_bytes};
+ghost use Rattle.tr_record.specs.Records.{record_text, Fits};
+ghost use Rattle.tr_record.specs.Weight.{record_weight};
+
+use crate::view::RecView;
+use std::alloc::Allocator;
+
+/// The bytes of the text of a record with a payload of this length.
+pub fn rec_size(len: usize) -> usize
+    requires { 24 + len < 2 ^ 64 }
+    ensures { result ≡ 24 + len }
+{
+    24 + len
+}
+
+/// Writes these bytes behind the others, into room that is reserved.
+pub fn put_bytes<A: Allocator>(out: &mut Vec<u8, A>, bytes: &[u8])
+    requires { vec_len out.old + length bytes.now ≤ vec_capacity out.old }
+    ensures items { out.new.items ≡ out.old.items ++ bytes.now }
+    ensures len { vec_len out.new ≡ vec_len out.old + length bytes.now }
+    ensures capacity { vec_capacity out.old ≤ vec_capacity out.new }
+{
+    let _ = out.extend_from_slice(bytes);
+}
+
+/// Writes a number in four bytes, lowest byte first, into room that is reserved.
+pub fn put_u32<A: Allocator>(out: &mut Vec<u8, A>, n: u32)
+    requires { vec_len out.old + 4 ≤ vec_capacity out.old }
+    ensures items { out.new.items ≡ out.old.items ++ to_le_bytes w32 n }
+    ensures len { vec_len out.new ≡ vec_len out.old + 4 }
+    ensures capacity { vec_capacity out.old ≤ vec_capacity out.new }
+{
+    put_bytes(out, &n.to_le_bytes());
+}
+
+/// Writes a number in eight bytes, lowest byte first, into room that is reserved.
+pub fn put_u64<A: Allocator>(out: &mut Vec<u8, A>, n: u64)
+    requires { vec_len out.old + 8 ≤ vec_capacity out.old }
+    ensures items { out.new.items ≡ out.old.items ++ to_le_bytes w64 n }
+    ensures len { vec_len out.new ≡ vec_len out.old + 8 }
+    ensures capacity { vec_capacity out.old ≤ vec_capacity out.new }
+{
+    put_bytes(out, &n.to_le_bytes());
+}
+
+/// Writes a record's text behind the bytes, into room that is reserved. It takes no memory and can't fail.
+pub fn put_rec<A: Allocator>(out: &mut Vec<u8, A>, r: &RecView<'_>)
+    requires { vec_len out.old + record_weight r.now ≤ vec_capacity out.old }
+    ensures items { out.new.items ≡ out.old.items ++ record_text r.now }
+    ensures len { vec_len out.new ≡ vec_len out.old + record_weight r.now }
+    ensures capacity { vec_capacity out.old ≤ vec_capacity out.new }
+    ensures fits { Fits r.now }
+{
+    put_u32(out, r.id());
+    put_u64(out, r.moment().get());
+    put_u64(out, r.serial());
+    put_u32(out, r.payload().len() as u32);
+    put_bytes(out, r.payload());
+}
