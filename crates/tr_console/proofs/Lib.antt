@@ -1,0 +1,2 @@
+pub mod SessionAgreement
+pub mod WorldAgreement
