@@ -1,0 +1,5 @@
+pub mod Answers
+pub mod Faults
+pub mod Names
+pub mod Texts
+pub mod World
