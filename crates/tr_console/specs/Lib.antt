@@ -1,6 +1,7 @@
 pub mod Answers
 pub mod Faults
 pub mod Names
+pub mod Replies
 pub mod Script
 pub mod Texts
 pub mod World
