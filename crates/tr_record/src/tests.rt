@@ -177,3 +177,23 @@ fn std_streams_go_through(rt: HostRuntime) -> Result<(), Fail> {
     assert_eq!(rt; put_all(&mut broken, b"c"), Err(Failed));
     Ok(())
 }
+
+#[test]
+fn records_end_to_end(rt: HostRuntime) -> Result<(), Fail> {
+    let mut bytes = ONE.to_vec(rt.alloc())?;
+    bytes.extend_from_slice(&ONE)?;
+    bytes.extend_from_slice(&written(rt.alloc(), b"")?)?;
+    let records = Records::checked(&bytes).ok_or("whole records")?;
+    let mut sizes = Vec::new(rt.alloc());
+    for r in records {
+        sizes.push(r.size())?;
+    }
+    assert_eq!(rt; sizes.as_slice(), [25, 25, 24].as_slice());
+    assert!(rt; Records::checked(b"").ok_or("no record")?.next().is_none());
+    assert!(rt;
+        Records::checked(&bytes[..bytes.len() - 1]).is_none(),
+        "a cut record"
+    );
+    assert!(rt; Records::checked(&bytes[1..]).is_none(), "bytes in front");
+    Ok(())
+}
