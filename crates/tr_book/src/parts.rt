@@ -1,7 +1,7 @@
 //! The parts of a stream.
 
 ghost use Rattle.std.specs.Prelude.{◌≡◌, ◌+◌, ◌<◌, ◌^◌, OnOk, OnErr, IfErr, length, option_copied};
-ghost use Rattle.tr_book.specs.Parts.{records_of, no_parts, with_packet, closed_part, part_at};
+ghost use Rattle.tr_book.specs.Parts.{IsNumbered, records_of, no_parts, with_packet, closed_part, part_at};
 
 use crate::part::Part;
 use std::alloc::{AllocError, AllocFailed, Allocator, Global};
@@ -18,14 +18,13 @@ pub struct Parts<A: Allocator = Global> {
 }
 
 impl<A: Allocator> Model for Parts<A> {
-    ghost use Rattle.std.specs.Prelude.{◌≡◌, length};
     ghost use Rattle.tr_book.specs.Parts.{PartsState, IsNumbered};
 
     ghost Value = { PartsState };
 
     ghost view = { λ s. record { closed = s.closed.items; current = s.current } };
 
-    ghost invariant = { λ s. s.current.id ≡ length s.closed.items };
+    ghost invariant = { λ s. IsNumbered (record { closed = s.closed.items; current = s.current }) };
 }
 
 impl<A: Allocator> Parts<A> {
@@ -42,7 +41,7 @@ impl<A: Allocator> Parts<A> {
     /// The part to which packets are added.
     pub fn current(&self) -> &Part<A>
         ensures value { result.now ≡ self.now.current }
-        ensures id { self.now.current.id ≡ length self.now.closed }
+        ensures numbered { IsNumbered self.now }
     {
         &self.current
     }
@@ -50,7 +49,7 @@ impl<A: Allocator> Parts<A> {
     /// How many parts are closed.
     pub fn cuts(&self) -> u64
         ensures value { result ≡ length self.now.closed }
-        ensures id { self.now.current.id ≡ length self.now.closed }
+        ensures numbered { IsNumbered self.now }
     {
         self.closed.len() as u64
     }

@@ -1,6 +1,7 @@
 //! `Ring`, closed sub-buffers and the current one.
 
 ghost use Rattle.std.specs.Prelude.{◌≡◌, ◌≢◌, ◌+◌, ◌≤◌, ◌<◌, ◌^◌, [], ◌∷◌, ◌++◌, IsTrue, IfOk, OnOk, OnErr, length, option_copied, slice_get};
+ghost use Rattle.tr_record.specs.Weight.{weight_of};
 ghost use Rattle.circular_buffer.specs.Buffer.{buffer};
 ghost use Rattle.tr_subbuf.specs.SubBuffer.{empty_buffer, with_record};
 ghost use Rattle.tr_ring.specs.Ring.{IsRing, empty_ring, current_buffer, after_push, push_answer, without_first, closed_at};
@@ -96,15 +97,7 @@ impl<A: Allocator + Copy> Ring<A> {
         }
         if !self.waiting.is_full() {
             let next = self.begun(&entry)?;
-            close(
-                &mut self.current,
-                &mut self.waiting,
-                next,
-                self.seq,
-                moment,
-                self.refused,
-            );
-            self.seq += 1;
+            self.follow(next, moment);
             return Ok(Pushed::Stored { seq: self.seq });
         }
         if !self.overwrite {
@@ -115,15 +108,7 @@ impl<A: Allocator + Copy> Ring<A> {
         let Some(gone) = self.waiting.pop_front() else {
             unreachable!()
         };
-        close(
-            &mut self.current,
-            &mut self.waiting,
-            next,
-            self.seq,
-            moment,
-            self.refused,
-        );
-        self.seq += 1;
+        self.follow(next, moment);
         Ok(Pushed::StoredOver {
             seq: self.seq,
             gone_seq: gone.seq(),
@@ -149,6 +134,18 @@ impl<A: Allocator + Copy> Ring<A> {
         ensures { self.new ≡ closed_at end self.old }
     {
         let next = SubBuf::new(self.alloc, self.current.size());
+        self.follow(next, end);
+    }
+
+    /// Closes the current sub-buffer, and puts the next one in its place.
+    fn follow(&mut self, next: SubBuf<A>, end: Moment)
+        requires room { length self.old.waiting + 1 < self.old.count }
+        requires some { 1 ≤ length self.old.current }
+        requires numbers { self.old.seq + 1 < 2 ^ 64 }
+        requires size { next.size ≡ self.old.size }
+        requires within { weight_of next.records ≤ next.size }
+        ensures { self.new ≡ record (closed_at end self.old) { current = next.records } }
+    {
         close(
             &mut self.current,
             &mut self.waiting,
