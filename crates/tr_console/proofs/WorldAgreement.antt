@@ -9,10 +9,10 @@ use Rattle.std.specs.Str.{bytes_eq}
 use Rattle.tr_book.specs.declared.mode.Mode.{Mode}
 use Rattle.tr_command.specs.Asked.{Asked, Create, Channel, Thread, Start, Offer, Consume, Status}
 use Rattle.tr_console.proofs.SessionAgreement.{SessionsAgree, ResultsAgree, AllAgree, same-length, agree-channel, agree-thread, agree-started, same-offer, agree-offer, same-take, agree-take}
-use Rattle.tr_console.specs.Answers.{most_sessions, created, create_answer, at_session, settled, channel_answer, thread_answer, start_answer, payload_of, offer_answer, consume_answer, status_answer, answer_to}
+use Rattle.tr_console.specs.Answers.{most_sessions, created, create_answer, at_session, settled, channel_answer, thread_answer, start_answer, payload_of, as_line, offer_answer, consume_answer, status_answer, answer_to}
 use Rattle.tr_console.specs.declared.faults.LineFault.TheVariants.{BadName}
 use Rattle.tr_console.specs.Names.{is_name}
-use Rattle.tr_console.specs.Texts.{Text, offered_text, taken_text, status_line, status_rows, status_text, status_row}
+use Rattle.tr_console.specs.Texts.{Text, offered_line, taken_line, status_line, status_rows, status_text, status_row}
 use Rattle.tr_console.specs.World.{World, Step, said, refused, session_named, with_session}
 use Rattle.tr_session.specs.Session.{SessionOf, new_session}
 use Rattle.tr_session.specs.Steps.{channel_added, thread_added, started, offer_step, after_offer_step, take_step, after_take_step}
@@ -143,8 +143,8 @@ offer-agree v w name stream moment id text fill is = at-agree v w name _ _ is (�
     let same = same-offer a b stream moment id payload agree in
     record {
       world = set-agree name v w (after_offer_step by_state stream moment id payload a) (after_offer_step by_history stream moment id payload b) is (agree-offer a b stream moment id payload agree);
-      text = ap (λ r. offered_text r ++ 10 ∷ []) same;
-      is_refused = ap is_err same;
+      text = ap (λ r. offered_line (as_line r) ++ 10 ∷ []) same;
+      is_refused = ap (λ r. is_err (as_line r)) same;
     })
 
 consume-agree : (v : World StreamState) (w : World Traced) (name : Text) (stream : ℕ) → WorldsAgree v w → StepsAgree (consume_answer by_state v name stream) (consume_answer by_history w name stream)
@@ -152,8 +152,8 @@ consume-agree v w name stream is = at-agree v w name _ _ is (λ a b agree.
     let same = same-take a b stream agree in
     record {
       world = set-agree name v w (after_take_step by_state stream a) (after_take_step by_history stream b) is (agree-take a b stream agree);
-      text = ap (λ r. taken_text r ++ 10 ∷ []) same;
-      is_refused = ap is_err same;
+      text = ap (λ r. taken_line (as_line r) ++ 10 ∷ []) same;
+      is_refused = ap (λ r. is_err (as_line r)) same;
     })
 
 same-rows : (i : ℕ) (ss : List StreamState) (ts : List Traced) → AllAgree ss ts → status_rows by_state i ss ≡ status_rows by_history i ts

@@ -2,7 +2,7 @@
 use Rattle.std.specs.Prelude.{◌≡◌, ℕ, List, Bool}
 use Rattle.std.specs.String.{string_bytes}
 use Rattle.tr_console.specs.World.{World, Step}
-use Rattle.tr_console.specs.declared.console.Reply.{Reply}
+use Rattle.tr_console.specs.declared.replies.Reply.{Reply}
 
 -- the reply says what the step does, and the world is as the step leaves it
 abbrev pub Does : {S A : Type 0} → Step S → World S → Reply A → Type 0

@@ -4,9 +4,7 @@ use Rattle.std.specs.Fmt.{decimal}
 use Rattle.tr_book.specs.declared.counts.Counts.{Counts}
 use Rattle.tr_console.specs.Faults.{line_fault_code, line_fault_name}
 use Rattle.tr_console.specs.declared.faults.LineFault.{LineFault}
-use Rattle.tr_console.specs.declared.faults.LineFault.TheVariants as line
 use Rattle.tr_session.specs.Session.{SessionOf}
-use Rattle.tr_session.specs.declared.faults.StepFault.{StepFault}
 use Rattle.tr_session.specs.declared.state.State.{State}
 use Rattle.tr_session.specs.declared.state.State.TheVariants.{New, Active}
 use Rattle.tr_stream.specs.Rules.{StreamRules}
@@ -20,16 +18,18 @@ Text = List ℕ
 abbrev pub refusal_text : LineFault → Text
 refusal_text fault = codes "refused " ++ (line_fault_code fault ++ (32 ∷ line_fault_name fault))
 
-abbrev pub offered_text : Result Offered StepFault → Text
-offered_text (Ok (Stored serial seq)) = codes "stored " ++ (decimal serial ++ (codes " in " ++ decimal seq))
-offered_text (Ok (StoredOver serial seq gone_seq gone_count)) =
+-- what an offer answers; a refusal comes from the console, the session or the stream
+abbrev pub offered_line : Result Offered LineFault → Text
+offered_line (Ok (Stored serial seq)) = codes "stored " ++ (decimal serial ++ (codes " in " ++ decimal seq))
+offered_line (Ok (StoredOver serial seq gone_seq gone_count)) =
     codes "stored " ++ (decimal serial ++ (codes " in " ++ (decimal seq ++ (codes " over " ++ (decimal gone_seq ++ (32 ∷ decimal gone_count))))))
-offered_text (Ok (Discarded serial)) = codes "discarded " ++ decimal serial
-offered_text (Err fault) = refusal_text (line.Step fault)
+offered_line (Ok (Discarded serial)) = codes "discarded " ++ decimal serial
+offered_line (Err fault) = refusal_text fault
 
-abbrev pub taken_text : Result Taken StepFault → Text
-taken_text (Ok taken) = codes "taken " ++ (decimal taken.seq ++ (codes " records " ++ (decimal taken.count ++ (codes " chunk " ++ decimal taken.chunk))))
-taken_text (Err fault) = refusal_text (line.Step fault)
+-- what a take answers
+abbrev pub taken_line : Result Taken LineFault → Text
+taken_line (Ok taken) = codes "taken " ++ (decimal taken.seq ++ (codes " records " ++ (decimal taken.count ++ (codes " chunk " ++ decimal taken.chunk))))
+taken_line (Err fault) = refusal_text fault
 
 -- a number, right in so many places; a longer one takes the places that it needs
 abbrev pub right : ℕ → ℕ → Text

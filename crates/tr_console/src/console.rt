@@ -1,29 +1,236 @@
 //! The sessions of a script, and the answer to each line.
 
-ghost use Rattle.std.specs.Prelude.{◌≡◌, ◌∷◌, ◌++◌, [], true, false, None, IfOk, codes, option_map};
+ghost use Rattle.std.specs.Prelude.{◌≡◌, ◌≤◌, ◌∷◌, ◌++◌, [], IfOk, codes, option_map};
 ghost use Rattle.std.specs.String.{string_bytes};
+ghost use Rattle.tr_command.specs.Asked.{asked_by, moment_in};
+ghost use Rattle.tr_console.specs.Answers.{answer_to, create_answer, channel_answer, thread_answer, start_answer, offer_answer, consume_answer, status_answer, payload_of};
 ghost use Rattle.tr_console.specs.Replies.{Does};
 ghost use Rattle.tr_console.specs.Script.{text_step};
-ghost use Rattle.tr_console.specs.Texts.{refusal_text};
+ghost use Rattle.tr_record.specs.Records.{last_moment};
 ghost use Rattle.tr_stream.specs.Rules.{by_state};
 
 use crate::faults::LineFault;
+use crate::names::is_valid_name;
+use crate::replies::{Reply, bad_line, offered_reply, refusal, skipped, taken_reply};
+use crate::sessions::{
+    ChannelShape, OfferTo, Sessions, add_channel_at, add_thread_at, offer_at, start_at, take_at,
+};
+use crate::status::status_of;
 use indexmap::IndexMap;
 use std::alloc::{AllocError, Allocator, Global};
-use std::hash::BuildHasherDefault;
 use std::marker::Model;
-use tr_session::Session;
+use tr_command::{Request, parse};
+use tr_lines::{is_skipped_line, push_words};
+use tr_record::Moment;
+use tr_session::{Session, SessionFault};
+use uuid::Uuid;
 
-/// The answer to a line: its text, with its line feeds, and whether it says that the line was refused.
-#[derive(Drop)]
-pub struct Reply<A: Allocator = Global> {
-    text: String<A>,
-    is_refused: bool,
-}
+/// How many sessions a console has at most.
+const MOST_SESSIONS: usize = 16;
 
 /// The sessions of a script by name, in order of creation. Contracts see a `World`.
 #[derive(Drop)]
 pub struct Console<A: Allocator = Global> {
     alloc: A,
-    sessions: IndexMap<String<A>, Session<A>, BuildHasherDefault<FoldHasher>, A>,
+    sessions: Sessions<A>,
+}
+
+impl<A: Allocator> Model for Console<A> {
+    ghost use Rattle.tr_console.specs.World.{World};
+    ghost use Rattle.tr_session.specs.Names.{by_name};
+    ghost use Rattle.tr_stream.specs.State.{StreamState};
+
+    ghost Value = { World StreamState };
+
+    ghost view = { λ c. by_name c.sessions.entries };
+}
+
+/// The payload of an offer: a text, and so many bytes `a` behind it.
+fn payload<A: Allocator + Copy>(alloc: A, text: &str, fill: u32) -> Result<Vec<u8, A>, AllocError>
+    ensures { IfOk result (λ v. v.items ≡ payload_of text.now fill) }
+{
+    let mut bytes = Vec::from_slice(alloc, text.as_bytes())?;
+    for _ in 0..fill {
+        bytes.push(b'a')?;
+    }
+    Ok(bytes)
+}
+
+impl<A: Allocator + Copy> Console<A> {
+    /// A console without sessions. It takes no memory.
+    pub fn new(alloc: A) -> Console<A>
+        ensures { result ≡ [] }
+    {
+        Console {
+            alloc,
+            sessions: IndexMap::new(alloc),
+        }
+    }
+
+    /// Answers a line; `None` is a bad one. The words of the line are read with memory of `clap`.
+    pub fn answer(&mut self, clap: Global, line: Option<&str>) -> Result<Reply<A>, AllocError>
+        ensures { IfOk result (Does (text_step by_state self.old (option_map (λ t. t.now) line.entry)) self.new) }
+    {
+        let Some(text) = line else {
+            return bad_line(self.alloc);
+        };
+        let mut words = Vec::new(self.alloc);
+        words.push("tracerd")?;
+        push_words(&mut words, text)?;
+        if is_skipped_line(&words[1..]) {
+            return Ok(skipped(self.alloc));
+        }
+        match parse(clap, words.as_slice())? {
+            Some(request) => self.answer_request(request),
+            None => bad_line(self.alloc),
+        }
+    }
+
+    /// Answers a command.
+    fn answer_request(&mut self, request: Request<'_>) -> Result<Reply<A>, AllocError>
+        requires { moment_in (asked_by request.entry) ≤ last_moment }
+        ensures { IfOk result (Does (answer_to by_state self.old (asked_by request.entry)) self.new) }
+    {
+        match request {
+            Request::Create { session, uuid } => self.create(session, uuid),
+            Request::Channel {
+                session,
+                channel,
+                size,
+                count,
+                mode,
+            } => {
+                let shape = ChannelShape {
+                    size: u64::from(size),
+                    count: u64::from(count),
+                    mode,
+                };
+                self.add_channel(session, channel, shape)
+            }
+            Request::Thread { session, channel } => self.add_thread(session, channel),
+            Request::Start { session, moment } => self.start(session, moment),
+            Request::Offer {
+                session,
+                stream,
+                moment,
+                id,
+                text,
+                fill,
+            } => self.offer(session, stream, moment, id, text, fill),
+            Request::Consume { session, stream } => self.consume(session, stream),
+            Request::Status { session } => self.status(session),
+        }
+    }
+
+    /// `create`
+    fn create(&mut self, session: &str, uuid: &str) -> Result<Reply<A>, AllocError>
+        ensures { IfOk result (Does (create_answer self.old session.now uuid.now) self.new) }
+    {
+        if !is_valid_name(session) {
+            return refusal(self.alloc, LineFault::BadName);
+        }
+        let Ok(uuid) = Uuid::parse_str(uuid) else {
+            return refusal(self.alloc, LineFault::BadUuid);
+        };
+        if self.sessions.contains_key(session) {
+            return refusal(self.alloc, LineFault::Session(SessionFault::NameTaken));
+        }
+        if self.sessions.len() >= MOST_SESSIONS {
+            return refusal(self.alloc, LineFault::Session(SessionFault::TooMany));
+        }
+        let text = format!(in self.alloc; "created {session}\n")?;
+        let name = String::from_str(self.alloc, session)?;
+        self.sessions.insert(name, Session::new(self.alloc, uuid))?;
+        Ok(Reply::done(text))
+    }
+
+    /// `channel`
+    fn add_channel(
+        &mut self,
+        session: &str,
+        channel: &str,
+        shape: ChannelShape,
+    ) -> Result<Reply<A>, AllocError>
+        ensures { IfOk result (Does (channel_answer self.old session.now channel.now shape.size shape.count shape.mode) self.new) }
+    {
+        match add_channel_at(&mut self.sessions, session, channel, shape) {
+            Ok(()) => {
+                let text = format!(in self.alloc; "channel {channel}\n")?;
+                Ok(Reply::done(text))
+            }
+            Err(fault) => refusal(self.alloc, fault),
+        }
+    }
+
+    /// `thread`
+    fn add_thread(&mut self, session: &str, channel: &str) -> Result<Reply<A>, AllocError>
+        ensures { IfOk result (Does (thread_answer by_state self.old session.now channel.now) self.new) }
+    {
+        match add_thread_at(&mut self.sessions, session, channel) {
+            Ok(stream) => {
+                let text = format!(in self.alloc; "stream {stream}\n")?;
+                Ok(Reply::done(text))
+            }
+            Err(fault) => refusal(self.alloc, fault),
+        }
+    }
+
+    /// `start`
+    fn start(&mut self, session: &str, moment: u64) -> Result<Reply<A>, AllocError>
+        requires { moment ≤ last_moment }
+        ensures { IfOk result (Does (start_answer by_state self.old session.now moment) self.new) }
+    {
+        let Some(moment) = Moment::new(moment) else {
+            unreachable!()
+        };
+        match start_at(&mut self.sessions, session, moment) {
+            Ok(()) => {
+                let text = String::from_str(self.alloc, "started\n")?;
+                Ok(Reply::done(text))
+            }
+            Err(fault) => refusal(self.alloc, fault),
+        }
+    }
+
+    /// `offer`
+    fn offer(
+        &mut self,
+        session: &str,
+        stream: u64,
+        moment: u64,
+        id: u32,
+        text: &str,
+        fill: u32,
+    ) -> Result<Reply<A>, AllocError>
+        requires { moment ≤ last_moment }
+        ensures { IfOk result (Does (offer_answer by_state self.old session.now stream moment id text.now fill) self.new) }
+    {
+        let Some(moment) = Moment::new(moment) else {
+            unreachable!()
+        };
+        let payload = payload(self.alloc, text, fill)?;
+        let offer = OfferTo { stream, moment, id };
+        let answer = offer_at(&mut self.sessions, session, offer, payload.as_slice());
+        offered_reply(self.alloc, answer)
+    }
+
+    /// `consume`
+    fn consume(&mut self, session: &str, stream: u64) -> Result<Reply<A>, AllocError>
+        ensures { IfOk result (Does (consume_answer by_state self.old session.now stream) self.new) }
+    {
+        let answer = take_at(&mut self.sessions, session, stream);
+        taken_reply(self.alloc, answer)
+    }
+
+    /// `status`
+    fn status(&self, session: &str) -> Result<Reply<A>, AllocError>
+        ensures { IfOk result (Does (status_answer by_state self.now session.now) self.now) }
+    {
+        let Some(found) = self.sessions.get(session) else {
+            return refusal(self.alloc, LineFault::NoSession);
+        };
+        let mut text = status_of(self.alloc, session, found)?;
+        text.push_str("\n")?;
+        Ok(Reply::done(text))
+    }
 }

@@ -1,10 +1,11 @@
 //! Why a line is refused.
 
 ghost use Rattle.std.specs.Prelude.{◌≡◌};
-ghost use Rattle.tr_console.specs.Faults.{line_fault_code, line_fault_name};
+ghost use Rattle.tr_console.specs.Faults.{line_fault_code, line_fault_name, wants_memory};
 
 use thiserror::Error;
 use tr_session::{SessionFault, StepFault};
+use tr_stream::{OfferFault, TakeFault};
 
 /// Why a line is refused: by the console, by a session, or by a stream. Nothing changed.
 #[derive(Clone, Copy, Debug, PartialEq, Eq, Error)]
@@ -51,5 +52,40 @@ impl LineFault {
             LineFault::Session(fault) => fault.name(),
             LineFault::Step(fault) => fault.name(),
         }
+    }
+
+    /// Whether memory was refused, which ends the run.
+    pub fn is_want_of_memory(&self) -> bool
+        ensures { result ≡ wants_memory self.now }
+    {
+        match self {
+            LineFault::Session(SessionFault::NoMemory) => true,
+            LineFault::Step(StepFault::Session(SessionFault::NoMemory)) => true,
+            LineFault::Step(StepFault::Offer(OfferFault::NoMemory)) => true,
+            LineFault::Step(StepFault::Take(TakeFault::NoMemory)) => true,
+            _ => false,
+        }
+    }
+}
+
+impl From<SessionFault> for LineFault {
+    ghost use Rattle.std.specs.Prelude.{◌≡◌};
+    ghost use Rattle.tr_console.specs.declared.faults.LineFault.TheVariants.{Session};
+
+    ghost from_gives = { λ fault e. e ≡ Session fault };
+
+    fn from(fault: SessionFault) -> LineFault {
+        LineFault::Session(fault)
+    }
+}
+
+impl From<StepFault> for LineFault {
+    ghost use Rattle.std.specs.Prelude.{◌≡◌};
+    ghost use Rattle.tr_console.specs.declared.faults.LineFault.TheVariants.{Step};
+
+    ghost from_gives = { λ fault e. e ≡ Step fault };
+
+    fn from(fault: StepFault) -> LineFault {
+        LineFault::Step(fault)
     }
 }

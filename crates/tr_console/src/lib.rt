@@ -2,6 +2,13 @@
 //! A whole run is proved equal to a function from the script's bytes to the answer's bytes.
 #![tactic(auto)]
 
+mod console;
 mod faults;
+mod names;
+mod replies;
+mod sessions;
+mod status;
 
+pub use console::Console;
 pub use faults::LineFault;
+pub use replies::Reply;

@@ -1,0 +1,126 @@
+//! The answers to lines, as texts.
+
+ghost use Rattle.std.specs.Prelude.{◌≡◌, ◌∷◌, ◌++◌, [], true, false, Ok, Err, IfOk, OnOk, codes, is_err};
+ghost use Rattle.std.specs.String.{string_bytes};
+ghost use Rattle.tr_console.specs.Faults.{wants_memory};
+ghost use Rattle.tr_console.specs.Texts.{offered_line, refusal_text, taken_line};
+
+use crate::faults::LineFault;
+use std::alloc::{AllocError, Allocator, Global};
+use tr_stream::{Offered, Taken};
+
+/// The answer to a line: its text, with its line feeds, and whether it says that the line was refused.
+#[derive(Drop)]
+pub struct Reply<A: Allocator = Global> {
+    text: String<A>,
+    is_refused: bool,
+}
+
+impl<A: Allocator> Reply<A> {
+    /// The text, with its line feeds. It is empty for a line that gets no answer.
+    pub fn text(&self) -> &str
+        ensures { result.now ≡ string_bytes self.now.text }
+    {
+        self.text.as_str()
+    }
+
+    /// Whether the line was refused, or was a bad one.
+    pub fn is_refused(&self) -> bool
+        ensures { result ≡ self.now.is_refused }
+    {
+        self.is_refused
+    }
+
+    /// An answer that is no refusal.
+    pub fn done(text: String<A>) -> Reply<A>
+        ensures text { string_bytes result.text ≡ string_bytes text }
+        ensures done { result.is_refused ≡ false }
+    {
+        Reply {
+            text,
+            is_refused: false,
+        }
+    }
+}
+
+/// The answer to a line that was refused. Where memory was refused there is none.
+pub fn refusal<A: Allocator + Copy>(alloc: A, fault: LineFault) -> Result<Reply<A>, AllocError>
+    ensures text { IfOk result (λ r. string_bytes r.text ≡ refusal_text fault ++ 10 ∷ []) }
+    ensures refused { IfOk result (λ r. r.is_refused ≡ true) }
+    ensures memory { OnOk result (wants_memory fault ≡ false) }
+{
+    if fault.is_want_of_memory() {
+        return Err(AllocError);
+    }
+    let code = fault.code();
+    let name = fault.name();
+    let text = format!(in alloc; "refused {code} {name}\n")?;
+    Ok(Reply {
+        text,
+        is_refused: true,
+    })
+}
+
+/// The answer to a line that is no command.
+pub fn bad_line<A: Allocator + Copy>(alloc: A) -> Result<Reply<A>, AllocError>
+    ensures text { IfOk result (λ r. string_bytes r.text ≡ codes "bad line" ++ 10 ∷ []) }
+    ensures refused { IfOk result (λ r. r.is_refused ≡ true) }
+{
+    let text = String::from_str(alloc, "bad line\n")?;
+    Ok(Reply {
+        text,
+        is_refused: true,
+    })
+}
+
+/// The answer to a line that gets none.
+pub fn skipped<A: Allocator + Copy>(alloc: A) -> Reply<A>
+    ensures text { string_bytes result.text ≡ [] }
+    ensures done { result.is_refused ≡ false }
+{
+    Reply {
+        text: String::new(alloc),
+        is_refused: false,
+    }
+}
+
+/// The answer to an offer. Where memory was refused there is none.
+pub fn offered_reply<A: Allocator + Copy>(
+    alloc: A,
+    answer: Result<Offered, LineFault>,
+) -> Result<Reply<A>, AllocError>
+    ensures text { IfOk result (λ r. string_bytes r.text ≡ offered_line answer ++ 10 ∷ []) }
+    ensures refused { IfOk result (λ r. r.is_refused ≡ is_err answer) }
+    ensures memory { OnOk result ((fault : _) → answer ≡ Err fault → wants_memory fault ≡ false) }
+{
+    let text = match answer {
+        Ok(Offered::Stored { serial, seq }) => format!(in alloc; "stored {serial} in {seq}\n")?,
+        Ok(Offered::StoredOver {
+            serial,
+            seq,
+            gone_seq,
+            gone_count,
+        }) => format!(in alloc; "stored {serial} in {seq} over {gone_seq} {gone_count}\n")?,
+        Ok(Offered::Discarded { serial }) => format!(in alloc; "discarded {serial}\n")?,
+        Err(fault) => return refusal(alloc, fault),
+    };
+    Ok(Reply::done(text))
+}
+
+/// The answer to a take. Where memory was refused there is none.
+pub fn taken_reply<A: Allocator + Copy>(
+    alloc: A,
+    answer: Result<Taken, LineFault>,
+) -> Result<Reply<A>, AllocError>
+    ensures text { IfOk result (λ r. string_bytes r.text ≡ taken_line answer ++ 10 ∷ []) }
+    ensures refused { IfOk result (λ r. r.is_refused ≡ is_err answer) }
+    ensures memory { OnOk result ((fault : _) → answer ≡ Err fault → wants_memory fault ≡ false) }
+{
+    match answer {
+        Ok(Taken { seq, count, chunk }) => {
+            let text = format!(in alloc; "taken {seq} records {count} chunk {chunk}\n")?;
+            Ok(Reply::done(text))
+        }
+        Err(fault) => refusal(alloc, fault),
+    }
+}

@@ -1,0 +1,88 @@
+//! The answer to `status`.
+
+ghost use Rattle.std.specs.Prelude.{◌≡◌, ◌∷◌, ◌++◌, [], OnOk, IfOk};
+ghost use Rattle.std.specs.String.{string_bytes};
+ghost use Rattle.tr_console.specs.Texts.{right, state_text, status_head, status_line, status_row, status_rows, status_text};
+ghost use Rattle.tr_stream.specs.Rules.{by_state};
+
+use std::alloc::{AllocError, Allocator};
+use std::fmt::Write;
+use tr_book::Counts;
+use tr_session::{Session, State};
+
+/// The heads of the columns.
+const HEAD: &str = "stream     offered   discarded overwritten     in-ring   in-chunks";
+
+fn state_word(state: State) -> &'static str
+    ensures { result.now ≡ state_text state }
+{
+    match state {
+        State::New => "new",
+        State::Active => "active",
+    }
+}
+
+/// What is said of the session as a whole.
+fn session_line<A: Allocator + Copy>(
+    alloc: A,
+    name: &str,
+    session: &Session<A>,
+) -> Result<String<A>, AllocError>
+    ensures { IfOk result (λ s. string_bytes s ≡ status_line name.now session.now) }
+{
+    let state = state_word(session.state());
+    let channels = session.channels();
+    let streams = session.streams();
+    format!(in alloc; "session {name} local {state} channels {channels} streams {streams} archives 0")
+}
+
+/// Adds a stream's first columns.
+fn push_first<A: Allocator>(
+    text: &mut String<A>,
+    i: u64,
+    counts: &Counts,
+) -> Result<(), AllocError>
+    ensures { OnOk result (string_bytes text.new ≡ string_bytes text.old ++ (10 ∷ (right 6 i ++ (32 ∷ (right 11 counts.now.offered ++ (32 ∷ right 11 counts.now.discarded)))))) }
+{
+    let offered = counts.offered;
+    let discarded = counts.discarded;
+    write!(text, "\n{i:>6} {offered:>11} {discarded:>11}").map_err(|_| AllocError)
+}
+
+/// Adds a stream's last columns.
+fn push_last<A: Allocator>(text: &mut String<A>, counts: &Counts) -> Result<(), AllocError>
+    ensures { OnOk result (string_bytes text.new ≡ string_bytes text.old ++ (32 ∷ (right 11 counts.now.overwritten ++ (32 ∷ (right 11 counts.now.in_ring ++ (32 ∷ right 11 counts.now.consumed)))))) }
+{
+    let overwritten = counts.overwritten;
+    let in_ring = counts.in_ring;
+    let consumed = counts.consumed;
+    write!(text, " {overwritten:>11} {in_ring:>11} {consumed:>11}").map_err(|_| AllocError)
+}
+
+/// Adds a stream's line.
+fn push_row<A: Allocator>(text: &mut String<A>, i: u64, counts: &Counts) -> Result<(), AllocError>
+    ensures { OnOk result (string_bytes text.new ≡ string_bytes text.old ++ (10 ∷ status_row i counts.now)) }
+{
+    push_first(text, i, counts)?;
+    push_last(text, counts)
+}
+
+/// What `status` says of a session, without the line feed behind it.
+pub fn status_of<A: Allocator + Copy>(
+    alloc: A,
+    name: &str,
+    session: &Session<A>,
+) -> Result<String<A>, AllocError>
+    ensures { IfOk result (λ s. string_bytes s ≡ status_text by_state name.now session.now) }
+{
+    let mut text = session_line(alloc, name, session)?;
+    text.push_str("\n")?;
+    text.push_str(HEAD)?;
+    'rows: for i in 0..session.streams() as u64 {
+        let Some(stream) = session.stream(i) else {
+            unreachable!()
+        };
+        push_row(&mut text, i, &stream.counts())?;
+    }
+    Ok(text)
+}
