@@ -7,5 +7,6 @@ pub mod OpenLaws
 pub mod PartLaws
 pub mod Refinement
 pub mod RuleLaws
+pub mod RunLaws
 pub mod SoundLaws
 pub mod TakeLaws

@@ -7,10 +7,14 @@ mod config;
 mod events;
 mod packing;
 mod payload;
+mod run;
 mod stream;
+#[cfg(test)]
+mod tests;
 
 pub use answers::{OfferFault, Offered, TakeFault, Taken};
 pub use config::{SessionMode, StreamConfig};
 pub use events::{StreamAnswer, StreamEvent};
 pub use payload::Payload;
+pub use run::run_stream;
 pub use stream::Stream;

@@ -100,6 +100,7 @@ impl<A: Allocator + Copy> Stream<A> {
             (result ≡ offer_answer self.old.config payload.now h)
             × StandsFor self.new (after_offer self.old.config moment id payload.now h) }
         ensures no_memory { result ≡ Err OfferFault.NoMemory → self.new ≡ self.old }
+        ensures config { self.new.config ≡ self.old.config }
         ensures memory { result ≡ Err OfferFault.NoMemory → TakesMemory (offer_result moment id payload.now self.old) }
     {
         if let Some(fault) = self.refusal(payload.len()) {
@@ -146,6 +147,7 @@ impl<A: Allocator + Copy> Stream<A> {
         ensures step { (h : History) → StandsFor self.old h → result ≢ Err TakeFault.NoMemory →
             (result ≡ take_answer h) × StandsFor self.new (after_take h) }
         ensures no_memory { result ≡ Err TakeFault.NoMemory → self.new ≡ self.old }
+        ensures config { self.new.config ≡ self.old.config }
     {
         if self.ring.waiting() == 0 {
             return Err(TakeFault::Nothing);
