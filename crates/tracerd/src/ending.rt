@@ -1,0 +1,65 @@
+//! How a run of the program ends.
+
+ghost use Rattle.std.specs.Prelude.{◌≡◌};
+ghost use Rattle.tracerd.specs.Endings.{ending_of, status_of};
+
+use tr_console::{ScriptDone, ScriptFault};
+
+/// How a run of the program ends.
+#[derive(Clone, Copy, Debug, PartialEq, Eq)]
+pub enum Ending {
+    /// All was done.
+    Done,
+    /// The script came to its end, and some of its lines were refused.
+    Refused,
+    /// The command line was bad.
+    BadCommandLine,
+    /// The input couldn't be read or was too long, or the output couldn't be written.
+    ReadOrWrite,
+    /// Memory was refused.
+    NoMemory,
+}
+
+impl Ending {
+    /// The exit status.
+    pub fn status(self) -> u8
+        ensures { result ≡ status_of self }
+    {
+        match self {
+            Ending::Done => 0,
+            Ending::Refused => 1,
+            Ending::BadCommandLine => 2,
+            Ending::ReadOrWrite => 3,
+            Ending::NoMemory => 4,
+        }
+    }
+
+    /// The line that standard error gets, if any.
+    pub fn message(self) -> Option<&'static str> {
+        match self {
+            Ending::Done | Ending::Refused => None,
+            Ending::BadCommandLine => Some("tracerd: bad command line\n"),
+            Ending::ReadOrWrite => Some("tracerd: read or write fault\n"),
+            Ending::NoMemory => Some("tracerd: no memory\n"),
+        }
+    }
+
+    /// How a script that ran to its end ends the program.
+    pub fn of_done(done: &ScriptDone) -> Ending {
+        if done.refused == 0 {
+            Ending::Done
+        } else {
+            Ending::Refused
+        }
+    }
+
+    /// How a script that ended early ends the program.
+    pub fn of_fault(fault: ScriptFault) -> Ending
+        ensures { result ≡ ending_of fault }
+    {
+        match fault {
+            ScriptFault::Read | ScriptFault::TooLong | ScriptFault::Write => Ending::ReadOrWrite,
+            ScriptFault::NoMemory => Ending::NoMemory,
+        }
+    }
+}

@@ -1,0 +1,59 @@
+//! Runs of the program over memory.
+
+use crate::running::run;
+use std::alloc::Global;
+use std::test::Fail;
+use tr_record::{MemorySink, MemorySource};
+
+/// The status, and whether these bytes went out and these to standard error.
+fn ends_with(
+    alloc: Global,
+    words: &[&str],
+    script: &[u8],
+    answer: &[u8],
+    fault: &[u8],
+) -> (u8, bool) {
+    let mut input = MemorySource::new(script, 4096);
+    let mut out = MemorySink::new(alloc, 4096);
+    let mut err = MemorySink::new(alloc, 4096);
+    let status = run(alloc, words, &mut input, &mut out, &mut err);
+    let out = out.into_bytes();
+    let err = err.into_bytes();
+    (status, out.as_slice() == answer && err.as_slice() == fault)
+}
+
+#[test]
+fn a_script_is_answered(rt: HostRuntime) -> Result<(), Fail> {
+    let script = b"create s 00000000-0000-0000-0000-000000000001\nchannel s c 256 2 discard\nthread s c\nstart s 0";
+    let answer = b"created s\nchannel c\nstream 0\nstarted\n";
+    assert_eq!(rt; ends_with(rt.alloc(), &["script"], script, answer, b""), (0, true));
+    Ok(())
+}
+
+#[test]
+fn nothing_gets_no_answer(rt: HostRuntime) -> Result<(), Fail> {
+    assert_eq!(rt; ends_with(rt.alloc(), &["script"], b"", b"", b""), (0, true));
+    assert_eq!(rt; ends_with(rt.alloc(), &["script"], b"# x\n\n", b"", b""), (0, true));
+    Ok(())
+}
+
+#[test]
+fn a_refused_line_shows_in_the_status(rt: HostRuntime) -> Result<(), Fail> {
+    let answer = b"refused K1 NoSession\n";
+    assert_eq!(rt; ends_with(rt.alloc(), &["script"], b"offer nobody 0 1 1\n", answer, b""), (1, true));
+    assert_eq!(rt; ends_with(rt.alloc(), &["script"], b"nonsense\n", b"bad line\n", b""), (1, true));
+    Ok(())
+}
+
+#[test]
+fn a_bad_command_line_is_told(rt: HostRuntime) -> Result<(), Fail> {
+    let fault = b"tracerd: bad command line\n";
+    let script = b"offer nobody 0 1 1\n";
+    assert_eq!(rt; ends_with(rt.alloc(), &[], script, b"", fault), (2, true));
+    assert_eq!(rt; ends_with(rt.alloc(), &["scripts"], script, b"", fault), (2, true));
+    assert_eq!(rt; ends_with(rt.alloc(), &["script", "x"], script, b"", fault), (2, true));
+    assert_eq!(rt; ends_with(rt.alloc(), &["--help"], script, b"", fault), (2, true));
+    assert_eq!(rt; ends_with(rt.alloc(), &["help", "script"], script, b"", fault), (2, true));
+    assert_eq!(rt; ends_with(rt.alloc(), &["script", "--out", "d"], script, b"", fault), (2, true));
+    Ok(())
+}
