@@ -1,8 +1,9 @@
 -- What the calls of a console's sessions come to.
-use Rattle.std.specs.Prelude.{ℕ, List, Bool, false, Option, Result, Ok, Err, if◌then◌else◌}
+use Rattle.std.specs.Prelude.{◌≡◌, ℕ, List, Bool, false, Option, Result, Ok, Err, if◌then◌else◌}
 use Rattle.std.specs.Option.{option_map_or}
 use Rattle.tr_book.specs.declared.mode.Mode.{Mode}
 use Rattle.tr_console.specs.Answers.{as_line}
+use Rattle.tr_console.specs.Faults.{wants_memory}
 use Rattle.tr_console.specs.Names.{is_name}
 use Rattle.tr_console.specs.Texts.{Text}
 use Rattle.tr_console.specs.World.{World, session_named, with_session}
@@ -33,3 +34,8 @@ stepped name step w = option_map_or (λ s. as_line (step s)) (session_named name
 -- the sessions after a step of the one of this name
 abbrev pub world_stepped : {S : Type 0} → Text → (SessionOf S → SessionOf S) → World S → World S
 world_stepped name after w = option_map_or (λ s. with_session name w (after s)) (session_named name w) w
+
+-- it isn't memory that was refused
+abbrev pub HasMemory : {R : Type 0} → Result R LineFault → Type 0
+HasMemory (Ok r) = Unit {0}
+HasMemory (Err why) = wants_memory why ≡ false

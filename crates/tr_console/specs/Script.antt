@@ -1,6 +1,7 @@
 -- The answer to a whole script.
 use Rattle.std.specs.Prelude.{ℕ, ◌+◌, List, [], ◌∷◌, ◌++◌, Option, codes, if◌then◌else◌}
 use Rattle.std.specs.Option.{option_map_or}
+use Rattle.tr_command.specs.Asked.{Asked}
 use Rattle.tr_command.specs.Language.{asked_of}
 use Rattle.tr_console.specs.Answers.{answer_to}
 use Rattle.tr_console.specs.Texts.{Text}
@@ -9,11 +10,15 @@ use Rattle.tr_lines.specs.Lines.{lines_of, text_of_line}
 use Rattle.tr_lines.specs.Words.{words_of, is_skipped}
 use Rattle.tr_stream.specs.Rules.{StreamRules, by_history}
 
+-- the answer to what the words of a line ask for; none is a bad line
+abbrev pub asked_step : {S : Type 0} → StreamRules S → World S → Option Asked → Step S
+asked_step rules w asked = option_map_or (answer_to rules w) asked (bad_line w)
+
 -- the answer to the words of a line
 abbrev pub words_step : {S : Type 0} → StreamRules S → World S → List Text → Step S
 words_step rules w words =
     if is_skipped words then skipped w
-    else option_map_or (answer_to rules w) (asked_of (codes "tracerd" ∷ words)) (bad_line w)
+    else asked_step rules w (asked_of (codes "tracerd" ∷ words))
 
 -- the answer to a line's text; none is a bad line
 abbrev pub text_step : {S : Type 0} → StreamRules S → World S → Option Text → Step S

@@ -1,11 +1,12 @@
 //! The sessions of a script, and the answer to each line.
 
-ghost use Rattle.std.specs.Prelude.{◌≡◌, ◌≤◌, ◌∷◌, ◌++◌, [], IfOk, codes, option_map};
+ghost use Rattle.std.specs.Prelude.{◌≡◌, ◌≤◌, ◌∷◌, ◌++◌, [], IfOk, codes, map, option_map};
+ghost use Rattle.tr_command.specs.Language.{asked_of};
 ghost use Rattle.std.specs.String.{string_bytes};
 ghost use Rattle.tr_command.specs.Asked.{asked_by, moment_in};
 ghost use Rattle.tr_console.specs.Answers.{answer_to, create_answer, channel_answer, thread_answer, start_answer, offer_answer, consume_answer, status_answer, payload_of};
 ghost use Rattle.tr_console.specs.Replies.{Does};
-ghost use Rattle.tr_console.specs.Script.{text_step};
+ghost use Rattle.tr_console.specs.Script.{asked_step, text_step};
 ghost use Rattle.tr_record.specs.Records.{last_moment};
 ghost use Rattle.tr_stream.specs.Rules.{by_state};
 
@@ -50,7 +51,8 @@ fn payload<A: Allocator + Copy>(alloc: A, text: &str, fill: u32) -> Result<Vec<u
     ensures { IfOk result (λ v. v.items ≡ payload_of text.now fill) }
 {
     let mut bytes = Vec::from_slice(alloc, text.as_bytes())?;
-    for _ in 0..fill {
+    'fill: for filled in 0..fill {
+        let _ = filled;
         bytes.push(b'a')?;
     }
     Ok(bytes)
@@ -80,7 +82,18 @@ impl<A: Allocator + Copy> Console<A> {
         if is_skipped_line(&words[1..]) {
             return Ok(skipped(self.alloc));
         }
-        match parse(clap, words.as_slice())? {
+        self.answer_words(clap, words.as_slice())
+    }
+
+    /// Answers the words of a command, with the program's name before them.
+    fn answer_words<'a>(
+        &mut self,
+        clap: Global,
+        words: &'a [&'a str],
+    ) -> Result<Reply<A>, AllocError>
+        ensures { IfOk result (Does (asked_step by_state self.old (asked_of (map (λ w. w.now) words.entry.now))) self.new) }
+    {
+        match parse(clap, words)? {
             Some(request) => self.answer_request(request),
             None => bad_line(self.alloc),
         }
@@ -88,7 +101,7 @@ impl<A: Allocator + Copy> Console<A> {
 
     /// Answers a command.
     fn answer_request(&mut self, request: Request<'_>) -> Result<Reply<A>, AllocError>
-        requires { moment_in (asked_by request.entry) ≤ last_moment }
+        requires { moment_in (asked_by request) ≤ last_moment }
         ensures { IfOk result (Does (answer_to by_state self.old (asked_by request.entry)) self.new) }
     {
         match request {
@@ -153,13 +166,11 @@ impl<A: Allocator + Copy> Console<A> {
     ) -> Result<Reply<A>, AllocError>
         ensures { IfOk result (Does (channel_answer self.old session.now channel.now shape.size shape.count shape.mode) self.new) }
     {
-        match add_channel_at(&mut self.sessions, session, channel, shape) {
-            Ok(()) => {
-                let text = format!(in self.alloc; "channel {channel}\n")?;
-                Ok(Reply::done(text))
-            }
-            Err(fault) => refusal(self.alloc, fault),
+        if let Err(fault) = add_channel_at(&mut self.sessions, session, channel, shape) {
+            return refusal(self.alloc, fault);
         }
+        let text = format!(in self.alloc; "channel {channel}\n")?;
+        Ok(Reply::done(text))
     }
 
     /// `thread`

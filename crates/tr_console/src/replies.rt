@@ -2,6 +2,7 @@
 
 ghost use Rattle.std.specs.Prelude.{◌≡◌, ◌∷◌, ◌++◌, [], true, false, Ok, Err, IfOk, OnOk, codes, is_err};
 ghost use Rattle.std.specs.String.{string_bytes};
+ghost use Rattle.tr_console.specs.Calls.{HasMemory};
 ghost use Rattle.tr_console.specs.Faults.{wants_memory};
 ghost use Rattle.tr_console.specs.Texts.{offered_line, refusal_text, taken_line};
 
@@ -91,16 +92,18 @@ pub fn offered_reply<A: Allocator + Copy>(
 ) -> Result<Reply<A>, AllocError>
     ensures text { IfOk result (λ r. string_bytes r.text ≡ offered_line answer ++ 10 ∷ []) }
     ensures refused { IfOk result (λ r. r.is_refused ≡ is_err answer) }
-    ensures memory { OnOk result ((fault : _) → answer ≡ Err fault → wants_memory fault ≡ false) }
+    ensures memory { OnOk result (HasMemory answer) }
 {
     let text = match answer {
         Ok(Offered::Stored { serial, seq }) => format!(in alloc; "stored {serial} in {seq}\n")?,
-        Ok(Offered::StoredOver {
-            serial,
-            seq,
-            gone_seq,
-            gone_count,
-        }) => format!(in alloc; "stored {serial} in {seq} over {gone_seq} {gone_count}\n")?,
+        Ok(
+            Offered::StoredOver {
+                serial,
+                seq,
+                gone_seq,
+                gone_count,
+            },
+        ) => format!(in alloc; "stored {serial} in {seq} over {gone_seq} {gone_count}\n")?,
         Ok(Offered::Discarded { serial }) => format!(in alloc; "discarded {serial}\n")?,
         Err(fault) => return refusal(alloc, fault),
     };
@@ -114,7 +117,7 @@ pub fn taken_reply<A: Allocator + Copy>(
 ) -> Result<Reply<A>, AllocError>
     ensures text { IfOk result (λ r. string_bytes r.text ≡ taken_line answer ++ 10 ∷ []) }
     ensures refused { IfOk result (λ r. r.is_refused ≡ is_err answer) }
-    ensures memory { OnOk result ((fault : _) → answer ≡ Err fault → wants_memory fault ≡ false) }
+    ensures memory { OnOk result (HasMemory answer) }
 {
     match answer {
         Ok(Taken { seq, count, chunk }) => {

@@ -1,7 +1,8 @@
 //! Calls of the session of a name.
 
-ghost use Rattle.std.specs.Prelude.{◌≡◌, false, Ok, Err, OnOk, OnErr, IfErr, length, option_map};
-ghost use Rattle.tr_console.specs.Calls.{called, channel_called, stepped, world_stepped};
+ghost use Rattle.std.specs.Prelude.{◌≡◌, false, Ok, Err, Some, OnOk, OnErr, IfOk, IfErr, length, option_map};
+ghost use Rattle.tr_console.specs.World.{session_named};
+ghost use Rattle.tr_console.specs.Calls.{HasMemory, called, channel_called, stepped, world_stepped};
 ghost use Rattle.tr_console.specs.Faults.{wants_memory};
 ghost use Rattle.tr_session.specs.Names.{by_name};
 ghost use Rattle.tr_session.specs.Steps.{thread_added, started, offer_step, after_offer_step, take_step, after_take_step};
@@ -54,7 +55,10 @@ pub fn add_channel_at<A: Allocator + Copy>(
     if !is_valid_name(channel) {
         return Err(LineFault::BadName);
     }
-    Ok(found.add_channel(channel, shape.size, shape.count, shape.mode)?)
+    match found.add_channel(channel, shape.size, shape.count, shape.mode) {
+        Ok(()) => Ok(()),
+        Err(fault) => Err(LineFault::Session(fault)),
+    }
 }
 
 /// Adds a thread to a channel of a session, and answers with the number of its stream.
@@ -63,6 +67,7 @@ pub fn add_thread_at<A: Allocator + Copy>(
     session: &str,
     channel: &str,
 ) -> Result<u64, LineFault>
+    ensures number { IfOk result (λ n. option_map (λ s. length s.streams) (session_named session.now (by_name sessions.old.entries)) ≡ Some n) }
     ensures ok { OnOk result (called session.now (thread_added by_state channel.now) (by_name sessions.old.entries) ≡ Ok (by_name sessions.new.entries)) }
     ensures refused { IfErr result (λ fault. wants_memory fault ≡ false → called session.now (thread_added by_state channel.now) (by_name sessions.old.entries) ≡ Err fault) }
     ensures unchanged { OnErr result (by_name sessions.new.entries ≡ by_name sessions.old.entries) }
@@ -70,7 +75,10 @@ pub fn add_thread_at<A: Allocator + Copy>(
     let Some(found) = sessions.get_mut(session) else {
         return Err(LineFault::NoSession);
     };
-    Ok(found.add_thread(channel)?)
+    match found.add_thread(channel) {
+        Ok(stream) => Ok(stream),
+        Err(fault) => Err(LineFault::Session(fault)),
+    }
 }
 
 /// Starts a session.
@@ -86,7 +94,10 @@ pub fn start_at<A: Allocator>(
     let Some(found) = sessions.get_mut(session) else {
         return Err(LineFault::NoSession);
     };
-    Ok(found.start(moment)?)
+    match found.start(moment) {
+        Ok(()) => Ok(()),
+        Err(fault) => Err(LineFault::Session(fault)),
+    }
 }
 
 /// Offers a record to a stream of a session.
@@ -96,14 +107,17 @@ pub fn offer_at<A: Allocator + Copy>(
     offer: OfferTo,
     payload: &[u8],
 ) -> Result<Offered, LineFault>
-    ensures answer { ((fault : _) → result ≡ Err fault → wants_memory fault ≡ false) →
+    ensures { HasMemory result →
         (result ≡ stepped session.now (offer_step by_state offer.stream offer.moment offer.id payload.now) (by_name sessions.old.entries))
         × (by_name sessions.new.entries ≡ world_stepped session.now (after_offer_step by_state offer.stream offer.moment offer.id payload.now) (by_name sessions.old.entries)) }
 {
     let Some(found) = sessions.get_mut(session) else {
         return Err(LineFault::NoSession);
     };
-    Ok(found.offer(offer.stream, offer.moment, offer.id, payload)?)
+    match found.offer(offer.stream, offer.moment, offer.id, payload) {
+        Ok(offered) => Ok(offered),
+        Err(fault) => Err(LineFault::Step(fault)),
+    }
 }
 
 /// Takes the oldest packet of a stream of a session.
@@ -112,12 +126,15 @@ pub fn take_at<A: Allocator + Copy>(
     session: &str,
     stream: u64,
 ) -> Result<Taken, LineFault>
-    ensures answer { ((fault : _) → result ≡ Err fault → wants_memory fault ≡ false) →
+    ensures { HasMemory result →
         (result ≡ stepped session.now (take_step by_state stream) (by_name sessions.old.entries))
         × (by_name sessions.new.entries ≡ world_stepped session.now (after_take_step by_state stream) (by_name sessions.old.entries)) }
 {
     let Some(found) = sessions.get_mut(session) else {
         return Err(LineFault::NoSession);
     };
-    Ok(found.take(stream)?)
+    match found.take(stream) {
+        Ok(taken) => Ok(taken),
+        Err(fault) => Err(LineFault::Step(fault)),
+    }
 }

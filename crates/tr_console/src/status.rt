@@ -1,6 +1,7 @@
 //! The answer to `status`.
 
-ghost use Rattle.std.specs.Prelude.{◌≡◌, ◌∷◌, ◌++◌, [], OnOk, IfOk};
+ghost use Rattle.std.specs.Prelude.{◌≡◌, ◌∷◌, ◌++◌, [], OnOk, IfOk, codes};
+ghost use Rattle.std.specs.Fmt.{decimal};
 ghost use Rattle.std.specs.String.{string_bytes};
 ghost use Rattle.tr_console.specs.Texts.{right, state_text, status_head, status_line, status_row, status_rows, status_text};
 ghost use Rattle.tr_stream.specs.Rules.{by_state};
@@ -22,6 +23,33 @@ fn state_word(state: State) -> &'static str
     }
 }
 
+/// What is said of the session by name and state.
+fn session_head<A: Allocator + Copy>(
+    alloc: A,
+    name: &str,
+    state: State,
+) -> Result<String<A>, AllocError>
+    ensures { IfOk result (λ s. string_bytes s ≡ codes "session " ++ (name.now ++ (codes " local " ++ state_text state))) }
+{
+    let state = state_word(state);
+    let text = format!(in alloc; "session {name} local {state}")?;
+    Ok(text)
+}
+
+/// Adds how many channels and streams there are.
+fn push_sizes<A: Allocator>(
+    text: &mut String<A>,
+    channels: usize,
+    streams: usize,
+) -> Result<(), AllocError>
+    ensures { OnOk result (string_bytes text.new ≡ string_bytes text.old ++ (codes " channels " ++ (decimal channels ++ (codes " streams " ++ (decimal streams ++ codes " archives 0"))))) }
+{
+    match write!(text, " channels {channels} streams {streams} archives 0") {
+        Ok(()) => Ok(()),
+        Err(_) => Err(AllocError),
+    }
+}
+
 /// What is said of the session as a whole.
 fn session_line<A: Allocator + Copy>(
     alloc: A,
@@ -30,23 +58,21 @@ fn session_line<A: Allocator + Copy>(
 ) -> Result<String<A>, AllocError>
     ensures { IfOk result (λ s. string_bytes s ≡ status_line name.now session.now) }
 {
-    let state = state_word(session.state());
-    let channels = session.channels();
-    let streams = session.streams();
-    format!(in alloc; "session {name} local {state} channels {channels} streams {streams} archives 0")
+    let mut text = session_head(alloc, name, session.state())?;
+    push_sizes(&mut text, session.channels(), session.streams())?;
+    Ok(text)
 }
 
 /// Adds a stream's first columns.
-fn push_first<A: Allocator>(
-    text: &mut String<A>,
-    i: u64,
-    counts: &Counts,
-) -> Result<(), AllocError>
+fn push_first<A: Allocator>(text: &mut String<A>, i: u64, counts: &Counts) -> Result<(), AllocError>
     ensures { OnOk result (string_bytes text.new ≡ string_bytes text.old ++ (10 ∷ (right 6 i ++ (32 ∷ (right 11 counts.now.offered ++ (32 ∷ right 11 counts.now.discarded)))))) }
 {
     let offered = counts.offered;
     let discarded = counts.discarded;
-    write!(text, "\n{i:>6} {offered:>11} {discarded:>11}").map_err(|_| AllocError)
+    match write!(text, "\n{i:>6} {offered:>11} {discarded:>11}") {
+        Ok(()) => Ok(()),
+        Err(_) => Err(AllocError),
+    }
 }
 
 /// Adds a stream's last columns.
@@ -56,7 +82,10 @@ fn push_last<A: Allocator>(text: &mut String<A>, counts: &Counts) -> Result<(), 
     let overwritten = counts.overwritten;
     let in_ring = counts.in_ring;
     let consumed = counts.consumed;
-    write!(text, " {overwritten:>11} {in_ring:>11} {consumed:>11}").map_err(|_| AllocError)
+    match write!(text, " {overwritten:>11} {in_ring:>11} {consumed:>11}") {
+        Ok(()) => Ok(()),
+        Err(_) => Err(AllocError),
+    }
 }
 
 /// Adds a stream's line.

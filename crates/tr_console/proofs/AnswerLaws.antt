@@ -1,0 +1,60 @@
+-- What the console's answers are, case by case.
+use Rattle.std.proofs.Common.{◌≡◌, ◌∙◌, ℕ, ◌+◌, zero, suc, Bool, true, false, List, [], ◌∷◌, ◌++◌, length, Option, Some, None, is_some, Result, Ok, Err, IfOk, OnOk, codes, refl, sym, ap, subst, append_assoc, arith}
+use Rattle.std.proofs.lemmas.Grind.{common_steps}
+use Rattle.std.specs.Prelude.{nat_le, replicate}
+use Rattle.std.specs.String.{string_bytes}
+use Rattle.std.specs.declared.alloc.AllocError.{AllocError}
+use Rattle.tr_console.specs.Answers.{at_session, create_answer, created, most_sessions, payload_of}
+use Rattle.tr_console.specs.Faults.{wants_memory}
+use Rattle.tr_console.specs.Names.{is_name}
+use Rattle.tr_console.specs.Replies.{Does}
+use Rattle.tr_command.specs.Language.{asked_of}
+use Rattle.tr_console.specs.Script.{asked_step, text_step}
+use Rattle.tr_console.specs.Texts.{Text, refusal_text}
+use Rattle.tr_lines.specs.Words.{words_of, is_skipped}
+use Rattle.tr_stream.specs.Rules.{StreamRules}
+use Rattle.tr_console.specs.World.{World, Step, said, refused, session_named}
+use Rattle.tr_console.specs.declared.faults.LineFault.{LineFault}
+use Rattle.tr_console.specs.declared.faults.LineFault.TheVariants as fault
+use Rattle.tr_console.specs.declared.replies.Reply.{Reply}
+use Rattle.tr_session.specs.Session.{SessionOf, new_session}
+use Rattle.tr_session.specs.declared.faults.SessionFault.TheVariants.{TooMany, NameTaken}
+use Rattle.uuid.specs.Text.{parsed}
+
+module _ {S A : Type 0} where
+  -- a refusal is what the step says
+  pub refuses : (r : Result (Reply A) AllocError) (w after : World S) (why : LineFault) (step : Step S) → (wants_memory why ≡ false → step ≡ refused w why) → after ≡ w
+      → IfOk r (λ x. string_bytes x.text ≡ refusal_text why ++ 10 ∷ []) → IfOk r (λ x. x.is_refused ≡ true) → OnOk r (wants_memory why ≡ false) → IfOk r (Does step after)
+  refuses (Ok x) w after why step is same text flag kept = rw (is kept) (text, flag, same)
+  refuses (Err e) w after why step is same text flag kept = tt
+
+module _ {S : Type 0} where
+  pub at-none : (w : World S) (name : Text) (f : SessionOf S → Step S) → session_named name w ≡ None → at_session w name f ≡ refused w fault.NoSession
+  at-none w name f none = rw none refl
+
+  pub at-some : (w : World S) (name : Text) (f : SessionOf S → Step S) (s : SessionOf S) → session_named name w ≡ Some s → at_session w name f ≡ f s
+  at-some w name f s found = rw found refl
+
+  pub create-bad_uuid : (w : World S) (name uuid : Text) → is_name name ≡ true → parsed uuid ≡ None → create_answer w name uuid ≡ refused w fault.BadUuid
+  create-bad_uuid w name uuid named none = rw (named, none) refl
+
+  pub create-taken : (w : World S) (name uuid : Text) (u : List ℕ) → is_name name ≡ true → parsed uuid ≡ Some u → is_some (session_named name w) ≡ true → create_answer w name uuid ≡ refused w (fault.Session NameTaken)
+  create-taken w name uuid u named good taken = rw (named, good, taken) refl
+
+  pub create-full : (w : World S) (name uuid : Text) (u : List ℕ) → is_name name ≡ true → parsed uuid ≡ Some u → is_some (session_named name w) ≡ false → nat_le most_sessions (length w) ≡ true → create_answer w name uuid ≡ refused w (fault.Session TooMany)
+  create-full w name uuid u named good free full = rw (named, good, free, full) refl
+
+  pub create-new : (w : World S) (name uuid : Text) (u : List ℕ) → is_name name ≡ true → parsed uuid ≡ Some u → is_some (session_named name w) ≡ false → nat_le most_sessions (length w) ≡ false → create_answer w name uuid ≡ said (w ++ (name, new_session u) ∷ []) (codes "created " ++ name)
+  create-new w name uuid u named good free few = rw (named, good, free, few) refl
+
+pub none_from : {X : Type 0} → (o : Option X) → (((x : X) × (o ≡ Some x)) → ⊥) → o ≡ None
+none_from None h = refl
+none_from (Some x) h = absurd (h (x, refl))
+
+replicate-push : (n b : ℕ) → replicate (n + 1) b ≡ replicate n b ++ b ∷ []
+replicate-push zero b = refl
+replicate-push (suc n) b = grind (arith, common_steps, replicate-push n b)
+
+-- one more byte of a payload
+pub payload-more : (text bytes more : List ℕ) (n : ℕ) → bytes ≡ payload_of text n → more ≡ bytes ++ 97 ∷ [] → more ≡ payload_of text (n + 1)
+payload-more text bytes more n so pushed = pushed ∙ ap (λ bs. bs ++ 97 ∷ []) so ∙ append_assoc text (replicate n 97) (97 ∷ []) ∙ ap (λ bs. text ++ bs) (sym (replicate-push n 97))

@@ -1,0 +1,34 @@
+use Rattle.std.proofs.Common.{◌≡◌, ◌∙◌, Ok, Err, ap, sym, refl, None, Some, true, false}
+use Rattle.std.specs.Map.{lookup}
+use Rattle.tr_console.proofs.CallLaws.{is_named, named-is, set-is, stepped-none, stepped-some, kept-by_offer}
+use Rattle.tr_console.proofs.sessions.offer_at.Goals as goal
+use Rattle.tr_session.specs.Names.{by_name}
+use Rattle.tr_session.specs.Steps.{offer_step, after_offer_step}
+use Rattle.tr_stream.specs.Rules.{by_state}
+
+pub returns-in_default : goal.returns-in_default
+returns-in_default g c = λ _.
+    let es = c.args.sessions.now.entries in
+    let name = c.args.session.now in
+    let none : lookup (is_named name) es ≡ None = sym c.in_default.ensures.value in
+    stepped-none name (offer_step by_state c.args.offer.stream c.args.offer.moment c.args.offer.id c.args.payload.now) (after_offer_step by_state c.args.offer.stream c.args.offer.moment c.args.offer.id c.args.payload.now) (by_name es) _ (named-is name es None none) (ap (λ m. by_name m.entries) c.get_mut.follows.holds-at-none)
+
+pub returns-in-Ok : goal.returns-in-Ok
+returns-in-Ok g c = λ kept.
+    let es = c.args.sessions.now.entries in
+    let name = c.args.session.now in
+    let s = c.in-Some.found.now in
+    let found : lookup (is_named name) es ≡ Some s = sym c.in-Some.ensures.value in
+    let t = c.offer.new.self in
+    let told = c.in-Ok.ensures.value (λ e. cc) in
+    stepped-some name (offer_step by_state c.args.offer.stream c.args.offer.moment c.args.offer.id c.args.payload.now) (after_offer_step by_state c.args.offer.stream c.args.offer.moment c.args.offer.id c.args.payload.now) (by_name es) (by_name (c.get_mut.follows.lender t).entries) s t (Ok c.in-Ok.offered) (named-is name es (Some s) found) told.0 told.1 (set-is name es (c.get_mut.follows.lender t).entries t (c.get_mut.follows.holds t).0)
+
+pub returns-in-Err : goal.returns-in-Err
+returns-in-Err g c = λ kept.
+    let es = c.args.sessions.now.entries in
+    let name = c.args.session.now in
+    let s = c.in-Some.found.now in
+    let found : lookup (is_named name) es ≡ Some s = sym c.in-Some.ensures.value in
+    let t = c.offer.new.self in
+    let told = c.in-Err.ensures.value (kept-by_offer c.in-Err.fault kept) in
+    stepped-some name (offer_step by_state c.args.offer.stream c.args.offer.moment c.args.offer.id c.args.payload.now) (after_offer_step by_state c.args.offer.stream c.args.offer.moment c.args.offer.id c.args.payload.now) (by_name es) (by_name (c.get_mut.follows.lender t).entries) s t (Err c.in-Err.fault) (named-is name es (Some s) found) told.0 told.1 (set-is name es (c.get_mut.follows.lender t).entries t (c.get_mut.follows.holds t).0)
