@@ -1,8 +1,8 @@
 //! A session, and its rules.
 
-ghost use Rattle.std.specs.Prelude.{◌≡◌, ◌≢◌, [], ◌∷◌, ◌++◌, false, Ok, Err, IsOk, IfOk, OnOk, IfErr, OnErr, is_some, length, option_copied, slice_get};
+ghost use Rattle.std.specs.Prelude.{◌≡◌, ◌≢◌, ◌≤◌, ◌<◌, [], ◌∷◌, ◌++◌, false, Ok, Err, IsOk, IsSome, IfOk, OnOk, IfErr, OnErr, is_some, length, option_copied, slice_get};
 ghost use Rattle.tr_session.specs.Session.{new_session};
-ghost use Rattle.tr_session.specs.Steps.{channel_of, with_channel, channel_added, next_config, thread_added, started, offer_step, after_offer_step, take_step, after_take_step};
+ghost use Rattle.tr_session.specs.Steps.{most_channels, most_streams, channel_of, with_channel, channel_added, next_config, thread_added, started, StepTakesMemory, offer_step, after_offer_step, take_step, after_take_step};
 ghost use Rattle.tr_stream.specs.Rules.{by_state};
 ghost use Rattle.tr_stream.specs.StateSteps.{new_state};
 
@@ -44,6 +44,10 @@ impl<A: Allocator> Model for Session<A> {
     ghost Value = { SessionOf StreamState };
 
     ghost view = { λ s. record { uuid = s.uuid; state = s.state; last = s.last; channels = by_name s.channels.entries; streams = s.streams.items } };
+
+    ghost use Rattle.tr_session.specs.Steps.{IsWithinLimits};
+
+    ghost invariant = { λ s. IsWithinLimits (record { uuid = s.uuid; state = s.state; last = s.last; channels = by_name s.channels.entries; streams = s.streams.items }) };
 }
 
 impl<A: Allocator + Copy> Session<A> {
@@ -81,7 +85,8 @@ impl<A: Allocator + Copy> Session<A> {
 
     /// Puts a channel of a new name behind the others.
     fn keep_channel(&mut self, name: &str, channel: Channel) -> Result<(), AllocError>
-        requires { is_some (channel_of name.now self.old) ≡ false }
+        requires free { is_some (channel_of name.now self.old) ≡ false }
+        requires room { length self.old.channels < most_channels }
         ensures ok { OnOk result (self.new ≡ with_channel name.now channel self.old) }
         ensures err { OnErr result (self.new ≡ self.old) }
     {
@@ -107,6 +112,7 @@ impl<A: Allocator + Copy> Session<A> {
 
     /// Puts a new stream behind the others.
     fn keep_stream(&mut self, config: StreamConfig) -> Result<(), AllocError>
+        requires { length self.old.streams < most_streams }
         ensures ok { OnOk result (self.new ≡ record self.old { streams = self.old.streams ++ new_state config ∷ [] }) }
         ensures err { OnErr result (self.new ≡ self.old) }
     {
@@ -134,6 +140,7 @@ impl<A: Allocator + Copy> Session<A> {
             (result ≡ offer_step by_state i moment id payload.now self.old)
             × (self.new ≡ after_offer_step by_state i moment id payload.now self.old) }
         ensures no_memory { result ≡ Err (StepFault.Offer OfferFault.NoMemory) → self.new ≡ self.old }
+        ensures memory { result ≡ Err (StepFault.Offer OfferFault.NoMemory) → StepTakesMemory (offer_step by_state i moment id payload.now self.old) }
     {
         offer_at(&mut self.streams, i, moment, id, payload)
     }
@@ -144,6 +151,7 @@ impl<A: Allocator + Copy> Session<A> {
         ensures value { result ≢ Err (StepFault.Take TakeFault.NoMemory) →
             (result ≡ take_step by_state i self.old) × (self.new ≡ after_take_step by_state i self.old) }
         ensures no_memory { result ≡ Err (StepFault.Take TakeFault.NoMemory) → self.new ≡ self.old }
+        ensures memory { result ≡ Err (StepFault.Take TakeFault.NoMemory) → IsSome (slice_get self.old.streams i) }
     {
         take_at(&mut self.streams, i)
     }
@@ -160,6 +168,7 @@ impl<A: Allocator> Session<A> {
     ) -> Result<Channel, SessionFault>
         ensures ok { IfOk result (λ channel. channel_added name.now size count mode self.now ≡ Ok (with_channel name.now channel self.now)) }
         ensures free { OnOk result (is_some (channel_of name.now self.now) ≡ false) }
+        ensures room { OnOk result (length self.now.channels < most_channels) }
         ensures err { IfErr result (λ fault. channel_added name.now size count mode self.now ≡ Err fault) }
     {
         if self.state != State::New {
@@ -180,6 +189,7 @@ impl<A: Allocator> Session<A> {
     /// What the next stream of a channel is made with, or why there is none.
     fn config_for(&self, channel: &str) -> Result<StreamConfig, SessionFault>
         ensures number { IfOk result (λ config. config.number ≡ length self.now.streams) }
+        ensures room { OnOk result (length self.now.streams < most_streams) }
         ensures ok { IfOk result (λ config. thread_added by_state channel.now self.now ≡ Ok (record self.now { streams = self.now.streams ++ new_state config ∷ [] })) }
         ensures err { IfErr result (λ fault. thread_added by_state channel.now self.now ≡ Err fault) }
     {
@@ -239,7 +249,8 @@ impl<A: Allocator> Session<A> {
 
     /// How many channels there are.
     pub fn channels(&self) -> usize
-        ensures { result ≡ length self.now.channels }
+        ensures value { result ≡ length self.now.channels }
+        ensures within { result ≤ most_channels }
     {
         self.channels.len()
     }
@@ -253,7 +264,8 @@ impl<A: Allocator> Session<A> {
 
     /// How many streams there are.
     pub fn streams(&self) -> usize
-        ensures { result ≡ length self.now.streams }
+        ensures value { result ≡ length self.now.streams }
+        ensures within { result ≤ most_streams }
     {
         self.streams.len()
     }

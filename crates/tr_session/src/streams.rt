@@ -1,9 +1,9 @@
 //! Steps of streams that stand in order of number.
 
-ghost use Rattle.std.specs.Prelude.{◌≡◌, ◌≢◌, ◌<◌, true, Err, length, map, slice_get};
+ghost use Rattle.std.specs.Prelude.{◌≡◌, ◌≢◌, ◌<◌, true, Err, IsSome, length, map, slice_get};
 ghost use Rattle.std.specs.Option.{option_map_or};
-ghost use Rattle.tr_session.specs.Steps.{changed_at, offer_as_step, take_as_step};
-ghost use Rattle.tr_stream.specs.StateSteps.{offer_result, state_after_offer, TakesMemory, take_result, state_after_take, state_switched};
+ghost use Rattle.tr_session.specs.Steps.{changed_at, offer_as_step, take_as_step, StepTakesMemory};
+ghost use Rattle.tr_stream.specs.StateSteps.{offer_result, state_after_offer, take_result, state_after_take, state_switched};
 
 use crate::faults::{SessionFault, StepFault};
 use std::alloc::Allocator;
@@ -38,6 +38,7 @@ fn offer_to<A: Allocator + Copy>(
         (result ≡ offer_as_step (offer_result moment id payload.now stream.old))
         × (stream.new ≡ state_after_offer moment id payload.now stream.old) }
     ensures no_memory { result ≡ Err (StepFault.Offer OfferFault.NoMemory) → stream.new ≡ stream.old }
+    ensures memory { result ≡ Err (StepFault.Offer OfferFault.NoMemory) → StepTakesMemory (offer_as_step (offer_result moment id payload.now stream.old)) }
 {
     Ok(stream.offer(moment, id, payload)?)
 }
@@ -54,6 +55,9 @@ pub fn offer_at<A: Allocator + Copy>(
         (result ≡ option_map_or (λ s. offer_as_step (offer_result moment id payload.now s)) (slice_get streams.old.items i) (Err (StepFault.Session SessionFault.NoStream)))
         × (streams.new.items ≡ changed_at i (state_after_offer moment id payload.now) streams.old.items) }
     ensures no_memory { result ≡ Err (StepFault.Offer OfferFault.NoMemory) → streams.new.items ≡ streams.old.items }
+    ensures memory { result ≡ Err (StepFault.Offer OfferFault.NoMemory) →
+        StepTakesMemory (option_map_or (λ s. offer_as_step (offer_result moment id payload.now s)) (slice_get streams.old.items i) (Err (StepFault.Session SessionFault.NoStream))) }
+    ensures count { length streams.new.items ≡ length streams.old.items }
 {
     let Some(stream) = streams.get_mut(i as usize) else {
         return Err(StepFault::Session(SessionFault::NoStream));
@@ -79,6 +83,8 @@ pub fn take_at<A: Allocator + Copy>(
         (result ≡ option_map_or (λ s. take_as_step (take_result s)) (slice_get streams.old.items i) (Err (StepFault.Session SessionFault.NoStream)))
         × (streams.new.items ≡ changed_at i state_after_take streams.old.items) }
     ensures no_memory { result ≡ Err (StepFault.Take TakeFault.NoMemory) → streams.new.items ≡ streams.old.items }
+    ensures memory { result ≡ Err (StepFault.Take TakeFault.NoMemory) → IsSome (slice_get streams.old.items i) }
+    ensures count { length streams.new.items ≡ length streams.old.items }
 {
     let Some(stream) = streams.get_mut(i as usize) else {
         return Err(StepFault::Session(SessionFault::NoStream));
