@@ -1,8 +1,9 @@
 -- The words of a line, one part after the other.
-use Rattle.std.proofs.Common.{Bor, map, ◌≡◌, ◌∙◌, ◌<◌, ◌+◌, ℕ, Bool, cond, true, false, refl, sym, ap, List, [], ◌∷◌, ◌++◌, length, take, get_or, not, filter, add-one, append_assoc, append-nil}
+use Rattle.std.proofs.Common.{Result, Ok, Err, OnErr, Bor, map, ◌≡◌, ◌∙◌, ◌<◌, ◌+◌, ℕ, Bool, cond, true, false, refl, sym, ap, List, [], ◌∷◌, ◌++◌, length, take, get_or, not, filter, add-one, append_assoc, append-nil}
 use Rattle.std.specs.Prelude.{◌==◌}
-use Rattle.std.proofs.Math.Seq.{take-length, take-suc}
-use Rattle.std.proofs.lemmas.List.{map-append}
+use Rattle.std.proofs.Math.Seq.{take-append_seam, take-length, take-suc}
+use Rattle.std.proofs.Math.ListN.{drop}
+use Rattle.std.proofs.lemmas.List.{map-append, take-append-drop}
 use Rattle.std.proofs.lemmas.List.Elements.{filter-append}
 
 abbrev pub is_word : List ℕ → Bool
@@ -40,3 +41,15 @@ module _ (old now new : List (Bor (List ℕ))) (parts : List (List ℕ)) (count 
 -- all parts came
 pub words_in-all : (parts : List (List ℕ)) (count : ℕ) → count ≡ length parts → words_in parts count ≡ filter is_word parts
 words_in-all parts count all = ap (λ n. filter is_word (take n parts)) all ∙ ap (filter is_word) (take-length parts)
+
+-- those among the first parts are first ones of all
+pub words_in-first : (parts : List (List ℕ)) (count : ℕ) → words_in parts count ≡ take (length (words_in parts count)) (filter is_word parts)
+words_in-first parts count =
+    let all : filter is_word parts ≡ words_in parts count ++ filter is_word (drop count parts) =
+    ap (filter is_word) (sym (take-append-drop count parts)) ∙ filter-append is_word (take count parts) (drop count parts) in
+    sym (ap (take (length (words_in parts count))) all ∙ take-append_seam (words_in parts count) (filter is_word (drop count parts)))
+
+-- what holds anyway holds at an error
+pub OnErr-always : {T E P : Type 0} (r : Result T E) → P → OnErr r P
+OnErr-always (Ok x) p = tt
+OnErr-always (Err x) p = p

@@ -1,16 +1,21 @@
 //! The words of a line.
 
-ghost use Rattle.std.specs.Prelude.{◌≡◌, ◌++◌, OnOk, map};
+ghost use Rattle.std.specs.Prelude.{◌≡◌, ◌++◌, ℕ, OnErr, OnOk, map, take};
 ghost use Rattle.tr_lines.specs.Words.{is_skipped, words_of};
 
 use std::alloc::{AllocError, Allocator};
 
-/// Adds the words of a text to a list, parted by spaces. After an error some first ones of them are added.
+/// Adds the words of a text to a list, parted by spaces.
+///
+/// # Errors
+///
+/// Where memory is refused. Some first ones of the words are added then.
 pub fn push_words<'a, A: Allocator>(
     words: &mut Vec<&'a str, A>,
     text: &'a str,
 ) -> Result<(), AllocError>
-    ensures { OnOk result (map (λ w. w.now) words.new.items ≡ map (λ w. w.now) words.old.items ++ words_of text.entry.now) }
+    ensures ok { OnOk result (map (λ w. w.now) words.new.items ≡ map (λ w. w.now) words.old.items ++ words_of text.entry.now) }
+    ensures err { OnErr result ((count : ℕ) × (map (λ w. w.now) words.new.items ≡ map (λ w. w.now) words.old.items ++ take count (words_of text.entry.now))) }
 {
     'parts: for part in text.split(' ') {
         if !part.is_empty() {
