@@ -1,11 +1,18 @@
 -- How a run of a script ends: what its source gave, and what went out.
-use Rattle.std.specs.Prelude.{◌≡◌, ◌≤◌, ◌⊎◌, ℕ, List, [], ◌∷◌, ◌++◌, Option, length, take}
-use Rattle.tr_console.specs.Script.{answers, refused_in, script_text}
+use Rattle.std.specs.Prelude.{◌≡◌, ◌≤◌, ◌⊎◌, ℕ, List, [], ◌∷◌, ◌++◌, Option, length, option_map, take}
+use Rattle.std.specs.Borrow.{Bor}
+use Rattle.tr_console.specs.Script.{answers, refused_in, script_text, text_step}
 use Rattle.tr_console.specs.Texts.{Text}
+use Rattle.tr_console.specs.World.{Step, World}
 use Rattle.tr_lines.specs.Lines.{lines_of, whole_lines_of}
 use Rattle.tr_lines.specs.Reading.{longest_script}
 use Rattle.tr_record.specs.Bytes.{and_then_bytes}
-use Rattle.tr_stream.specs.Rules.{by_history}
+use Rattle.tr_stream.specs.Rules.{by_history, by_state}
+use Rattle.tr_stream.specs.State.{StreamState}
+
+-- what a console that holds these sessions does at a line's text
+abbrev pub step_of_line : World StreamState → Option (Bor (List ℕ)) → Step StreamState
+step_of_line w line = text_step by_state w (option_map (λ t. t.now) line)
 
 -- the answer to lines, the first ones of a script
 abbrev pub answers_to : List (List ℕ) → Text

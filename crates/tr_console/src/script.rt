@@ -1,17 +1,19 @@
 //! A run of a whole script: its lines are read, and each is answered at once.
 
-ghost use Rattle.std.specs.Prelude.{◌≡◌, ◌≤◌, ◌<◌, ℕ, Err, IfOk, OnOk, length, option_map, take};
-ghost use Rattle.tr_console.specs.Runs.{AnsweredSome, BrokeOff, Ran, WentTooFar, WroteSome};
-ghost use Rattle.tr_console.specs.Script.{script_text, text_step};
+ghost use Rattle.std.specs.Prelude.{◌≡◌, ◌≤◌, ◌<◌, ℕ, Err, IfOk, OnOk, length, take};
+ghost use Rattle.tr_console.specs.Runs.{AnsweredSome, BrokeOff, Ran, WentTooFar, WroteSome, step_of_line};
+ghost use Rattle.tr_console.specs.Script.{script_text};
 ghost use Rattle.tr_lines.specs.Reading.{longest_script};
 ghost use Rattle.tr_record.specs.Bytes.{and_then_bytes, once_more};
-ghost use Rattle.tr_stream.specs.Rules.{by_state};
 
 use crate::console::Console;
 use crate::script_fault::ScriptFault;
 use std::alloc::{Allocator, Global};
 use tr_lines::{Found, LineReader};
 use tr_record::{ByteSink, ByteSource, MemorySink, MemorySource, put_all};
+
+#[cfg(test)]
+mod tests;
 
 /// How many bytes are moved at once where a script or its answer is in memory.
 const PIECE: usize = 65_536;
@@ -31,12 +33,12 @@ fn answer_line<A: Allocator + Copy, K: ByteSink>(
     line: Option<&str>,
     sink: &mut K,
 ) -> Result<bool, ScriptFault>
-    ensures text { OnOk result (K.taken sink.new ≡ and_then_bytes (K.taken sink.old) (text_step by_state console.old (option_map (λ t. t.now) line.entry)).text) }
-    ensures world { OnOk result (console.new ≡ (text_step by_state console.old (option_map (λ t. t.now) line.entry)).world) }
-    ensures refused { IfOk result (λ is_refused. is_refused ≡ (text_step by_state console.old (option_map (λ t. t.now) line.entry)).is_refused) }
+    ensures text { OnOk result (K.taken sink.new ≡ and_then_bytes (K.taken sink.old) (step_of_line console.old line.entry).text) }
+    ensures world { OnOk result (console.new ≡ (step_of_line console.old line.entry).world) }
+    ensures refused { IfOk result (λ is_refused. is_refused ≡ (step_of_line console.old line.entry).is_refused) }
 
-    ensures write { result ≡ Err ScriptFault.Write → (k : ℕ) × (k ≤ length (text_step by_state console.old (option_map (λ t. t.now) line.entry)).text)
-        × (K.taken sink.new ≡ and_then_bytes (K.taken sink.old) (take k (text_step by_state console.old (option_map (λ t. t.now) line.entry)).text)) }
+    ensures write { result ≡ Err ScriptFault.Write → (k : ℕ) × (k ≤ length (step_of_line console.old line.entry).text)
+        × (K.taken sink.new ≡ and_then_bytes (K.taken sink.old) (take k (step_of_line console.old line.entry).text)) }
     ensures memory { result ≡ Err ScriptFault.NoMemory → K.taken sink.new ≡ K.taken sink.old }
     ensures read { result ≡ Err ScriptFault.Read → ⊥ }
     ensures too_long { result ≡ Err ScriptFault.TooLong → ⊥ }
@@ -101,6 +103,7 @@ pub fn run_text<A: Allocator + Copy>(
     script: &[u8],
 ) -> Result<Vec<u8, A>, ScriptFault>
     ensures text { IfOk result (λ text. text.items ≡ script_text script.now) }
+    ensures fits { OnOk result (length script.now ≤ longest_script) }
     ensures too_long { result ≡ Err ScriptFault.TooLong → longest_script < length script.now }
     ensures read { result ≡ Err ScriptFault.Read → ⊥ }
     ensures write { result ≡ Err ScriptFault.Write → ⊥ }
