@@ -1,0 +1,86 @@
+use Rattle.std.proofs.Common.{◌≡◌, ◌∙◌, ◌≤◌, ◌+◌, refl, ap, sym, arith, Ok, Err, List, [], ℕ, option_map, length}
+use Rattle.std.specs.Borrow.{Bor}
+use Rattle.tr_console.proofs.FaultLemmas.{byte-one, made, ok_is_no_err, reading_fault-NoMemory, reading_fault-Read, reading_fault-TooLong}
+use Rattle.tr_console.proofs.LineSteps.{one_if}
+use Rattle.tr_console.proofs.RunLemmas.{Comes-found, Comes-memory, Comes-wrote, Going-breaks, Going-first, Going-last, Going-line, Going-memory, Going-too_far}
+use Rattle.tr_console.proofs.script.run_script.Goals as goal
+use Rattle.tr_console.specs.Script.{text_step}
+use Rattle.tr_console.specs.declared.script_fault.ScriptFault.TheVariants as fault
+use Rattle.tr_lines.specs.Reading.{Reading, longest_script}
+use Rattle.tr_record.proofs.ByteLemmas.{and_then_bytes-none}
+use Rattle.tr_stream.specs.Rules.{by_state}
+
+pub returns-in_err-reader-clause-memory : goal.returns-in_err-reader-clause-memory
+returns-in_err-reader-clause-memory g c _ = record {
+  script = [];
+  count = 0;
+  read = sym (and_then_bytes-none _);
+  wrote = sym (and_then_bytes-none _);
+}
+
+pub lines-init : goal.lines-init
+lines-init g c =
+    let began = c.in_ok-reader.ensures in
+    record {
+      going = Going-first _ _ c.in_ok-reader.reader _ (ap (λ r. r.held) began) (ap (λ r. r.total) began) c.new-console.ensures;
+      content = refl;
+      source_works = refl;
+      sink_works = refl;
+    }
+
+pub returns-in_err-found-clause-read : goal.returns-in_err-found-clause-read
+returns-in_err-found-clause-read g c e =
+    let is = reading_fault-Read c.in_err-found.field-0.0 (made c.from_residual-in_err-found.result _ fault.Read c.from_residual-in_err-found.ensures.1 e) in
+    let broke = c.read_line.ensures.read (c.in_err-found.was ∙ ap Err is) in
+    Going-breaks _ _ _ _ c.lines.reader _ _ c.lines.invariant.going _ _ broke.0
+
+pub returns-in_err-found-clause-too_long : goal.returns-in_err-found-clause-too_long
+returns-in_err-found-clause-too_long g c e =
+    let is = reading_fault-TooLong c.in_err-found.field-0.0 (made c.from_residual-in_err-found.result _ fault.TooLong c.from_residual-in_err-found.ensures.1 e) in
+    Going-too_far _ _ _ _ c.lines.reader _ _ c.lines.invariant.going _ _ (c.read_line.ensures.too_long (c.in_err-found.was ∙ ap Err is))
+
+pub returns-in_err-found-clause-memory : goal.returns-in_err-found-clause-memory
+returns-in_err-found-clause-memory g c e =
+    let is = reading_fault-NoMemory c.in_err-found.field-0.0 (made c.from_residual-in_err-found.result _ fault.NoMemory c.from_residual-in_err-found.ensures.1 e) in
+    Going-memory _ _ _ _ c.lines.reader _ _ c.lines.invariant.going _ _ (c.read_line.ensures.memory (c.in_err-found.was ∙ ap Err is))
+
+pub returns-in_err-is_refused-clause-write : goal.returns-in_err-is_refused-clause-write
+returns-in_err-is_refused-clause-write g c e =
+    let is = made c.from_residual-in_err-is_refused.result _ fault.Write c.from_residual-in_err-is_refused.ensures.1 e in
+    let some = c.answer_line.ensures.write (c.in_err-is_refused.was ∙ ap Err is) in
+    let same = c.read_line.ensures.content ∙ c.lines.invariant.content in
+    let comes = Comes-found _ _ _ _ c.lines.reader _ _ c.lines.invariant.going (g.S.ByteSource.content c.args.source.now) c.in_ok-found.found _ c.read_line.new.self
+    (λ w. c.read_line.ensures.whole (c.in_ok-found.was ∙ ap Ok w)) (λ l. let last = c.read_line.ensures.last (c.in_ok-found.was ∙ ap Ok l) in (last.0, last.1 ∙ same)) in
+    Comes-wrote _ _ _ _ c.lines.reader _ _ c.lines.invariant.going _ _ _ c.read_line.new.self _ some.0 c.text.ensures some.1 some.2 comes
+
+pub returns-in_err-is_refused-clause-memory : goal.returns-in_err-is_refused-clause-memory
+returns-in_err-is_refused-clause-memory g c e =
+    let is = made c.from_residual-in_err-is_refused.result _ fault.NoMemory c.from_residual-in_err-is_refused.ensures.1 e in
+    let kept = c.answer_line.ensures.memory (c.in_err-is_refused.was ∙ ap Err is) in
+    let same = c.read_line.ensures.content ∙ c.lines.invariant.content in
+    let comes = Comes-found _ _ _ _ c.lines.reader _ _ c.lines.invariant.going (g.S.ByteSource.content c.args.source.now) c.in_ok-found.found _ c.read_line.new.self
+    (λ w. c.read_line.ensures.whole (c.in_ok-found.was ∙ ap Ok w)) (λ l. let last = c.read_line.ensures.last (c.in_ok-found.was ∙ ap Ok l) in (last.0, last.1 ∙ same)) in
+    Comes-memory _ _ _ _ c.lines.reader _ _ c.lines.invariant.going _ _ _ c.read_line.new.self kept comes
+
+pub lines-preserved : goal.lines-preserved
+lines-preserved g c =
+    let found = c.in_ok-found.was ∙ ap Ok c.in-Whole.is in
+    let answered = c.in_ok-is_refused.ensures in
+    let count : c.lines.refused + c.from-refused.result ≡ c.lines.refused + one_if (text_step by_state c.lines.console (option_map (λ (t : Bor (List ℕ)). t.now) c.text.result)).is_refused =
+    ap (λ n. c.lines.refused + n) (c.from-refused.ensures ∙ byte-one c.in_ok-is_refused.is_refused ∙ ap one_if answered.refused) in
+    record {
+      going = Going-line _ _ _ _ c.lines.reader _ _ c.lines.invariant.going _ _ c.read_line.new.self _ _ _ c.text.ensures answered.text answered.world count
+          (c.read_line.ensures.whole found) (c.read_line.ensures.shrinks found);
+      content = c.read_line.ensures.content ∙ c.lines.invariant.content;
+      source_works = c.in_ok-found.ensures.no_failure (λ e. ok_is_no_err _ _ e) ∙ c.lines.invariant.source_works;
+      sink_works = answered.no_failure (λ e. ok_is_no_err _ _ e) ∙ c.lines.invariant.sink_works;
+    }
+
+pub returns-in-Last-clause-done : goal.returns-in-Last-clause-done
+returns-in-Last-clause-done g c =
+    let last = c.read_line.ensures.last (c.in_ok-found.was ∙ ap Ok c.in-Last.is) in
+    let answered = c.in_ok-is_refused.ensures in
+    let count : c.lines.refused + c.from-refused.result ≡ c.lines.refused + one_if (text_step by_state c.lines.console (option_map (λ (t : Bor (List ℕ)). t.now) c.text.result)).is_refused =
+    ap (λ n. c.lines.refused + n) (c.from-refused.ensures ∙ byte-one c.in_ok-is_refused.is_refused ∙ ap one_if answered.refused) in
+    let most : c.read_line.new.self.total ≤ longest_script = omega (arith, c.reader.invariant.3, ap (λ (r : Reading). r.total) c.reader.view_is) in
+    Going-last _ _ _ _ c.lines.reader _ _ c.lines.invariant.going _ _ c.read_line.new.self _ _ _ c.text.ensures answered.text answered.world count last.0.on last.0.nothing_held most

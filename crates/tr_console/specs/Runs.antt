@@ -1,0 +1,63 @@
+-- How a run of a script ends: what its source gave, and what went out.
+use Rattle.std.specs.Prelude.{◌≡◌, ◌≤◌, ◌⊎◌, ℕ, List, [], ◌∷◌, ◌++◌, Option, length, option_map, take}
+use Rattle.std.specs.Borrow.{Bor}
+use Rattle.tr_console.specs.Script.{answers, refused_in, script_text, text_step}
+use Rattle.tr_console.specs.Texts.{Text}
+use Rattle.tr_console.specs.World.{Step, World}
+use Rattle.tr_lines.specs.Lines.{lines_of, whole_lines_of}
+use Rattle.tr_lines.specs.Reading.{longest_script}
+use Rattle.tr_record.specs.Bytes.{and_then_bytes}
+use Rattle.tr_stream.specs.Rules.{by_history, by_state}
+use Rattle.tr_stream.specs.State.{StreamState}
+
+-- what a console that holds these sessions does at a line's text
+abbrev pub step_of_line : World StreamState → Option (Bor (List ℕ)) → Step StreamState
+step_of_line w line = text_step by_state w (option_map (λ t. t.now) line)
+
+-- the answer to lines, the first ones of a script
+abbrev pub answers_to : List (List ℕ) → Text
+answers_to lines = answers by_history [] lines
+
+-- how many lines of a script are refused
+abbrev pub refused_lines : List ℕ → ℕ
+refused_lines script = refused_in by_history [] (lines_of script)
+
+-- what the source had given and the sink taken before the run, and after it
+module _ (given given_now taken taken_now : Option (List ℕ)) where
+  -- the whole script was read, its whole answer written, and so many of its lines refused
+  pub record Ran (refused : ℕ) : Type 0 where
+    pub script : List ℕ
+    pub fits : length script ≤ longest_script
+    pub read : given_now ≡ and_then_bytes given script
+    pub wrote : taken_now ≡ and_then_bytes taken (script_text script)
+    pub refusals : refused ≡ refused_lines script
+
+  -- this was read before the source failed, and its whole lines answered
+  pub record BrokeOff : Type 0 where
+    pub script : List ℕ
+    pub read : given_now ≡ and_then_bytes given script
+    pub wrote : taken_now ≡ and_then_bytes taken (answers_to (whole_lines_of script))
+
+  -- a script of the greatest length was read, and one byte more; its whole lines are answered
+  pub record WentTooFar : Type 0 where
+    pub script : List ℕ
+    pub byte : ℕ
+    pub full : length script ≡ longest_script
+    pub read : given_now ≡ and_then_bytes given (script ++ byte ∷ [])
+    pub wrote : taken_now ≡ and_then_bytes taken (answers_to (whole_lines_of script))
+
+  -- this was read, and a front part of its answer written, which ends within the answer to its whole lines, unless
+  -- the source has nothing else
+  pub record WroteSome (content : Option (List ℕ)) : Type 0 where
+    pub script : List ℕ
+    pub count : ℕ
+    pub read : given_now ≡ and_then_bytes given script
+    pub wrote : taken_now ≡ and_then_bytes taken (take count (script_text script))
+    pub within : (count ≤ length (answers_to (whole_lines_of script))) ⊎ (given_now ≡ content)
+
+  -- this was read, and so many of its whole lines answered
+  pub record AnsweredSome : Type 0 where
+    pub script : List ℕ
+    pub count : ℕ
+    pub read : given_now ≡ and_then_bytes given script
+    pub wrote : taken_now ≡ and_then_bytes taken (answers_to (take count (whole_lines_of script)))

@@ -1,0 +1,86 @@
+//! Why a run of a script ends early.
+
+ghost use Rattle.std.specs.Prelude.{◌≡◌};
+ghost use Rattle.tr_console.specs.ScriptFaults.{script_fault_code, script_fault_name};
+
+use std::alloc::AllocError;
+use thiserror::Error;
+use tr_lines::ReadFault;
+use tr_record::Failed;
+
+/// Why a run of a script ended early. No line was run after it.
+#[derive(Clone, Copy, Debug, PartialEq, Eq, Error)]
+pub enum ScriptFault {
+    /// The source failed. All whole lines before are answered, and the one that broke off is not.
+    #[error("Q1 Read")]
+    Read,
+    /// The script has more than 16,777,216 bytes. All whole lines within these are answered.
+    #[error("Q2 TooLong")]
+    TooLong,
+    /// The sink failed. A front part of the answer went out.
+    #[error("Q3 Write")]
+    Write,
+    /// Memory was refused. The lines before are answered whole, and the one that met it is not.
+    #[error("Q4 NoMemory")]
+    NoMemory,
+}
+
+impl ScriptFault {
+    /// The code that documents call it by.
+    pub fn code(&self) -> &'static str
+        ensures { result.now ≡ script_fault_code self.now }
+    {
+        match self {
+            ScriptFault::Read => "Q1",
+            ScriptFault::TooLong => "Q2",
+            ScriptFault::Write => "Q3",
+            ScriptFault::NoMemory => "Q4",
+        }
+    }
+
+    /// Its name.
+    pub fn name(&self) -> &'static str
+        ensures { result.now ≡ script_fault_name self.now }
+    {
+        match self {
+            ScriptFault::Read => "Read",
+            ScriptFault::TooLong => "TooLong",
+            ScriptFault::Write => "Write",
+            ScriptFault::NoMemory => "NoMemory",
+        }
+    }
+}
+
+impl From<ReadFault> for ScriptFault {
+    ghost use Rattle.tr_console.specs.ScriptFaults.{reading_fault};
+
+    ghost from_gives = { λ read fault. fault ≡ reading_fault read };
+
+    fn from(fault: ReadFault) -> ScriptFault {
+        match fault {
+            ReadFault::Read => ScriptFault::Read,
+            ReadFault::TooLong => ScriptFault::TooLong,
+            ReadFault::NoMemory => ScriptFault::NoMemory,
+        }
+    }
+}
+
+impl From<Failed> for ScriptFault {
+    ghost use Rattle.tr_console.specs.declared.script_fault.ScriptFault.TheVariants.{Write};
+
+    ghost from_gives = { λ _ fault. fault ≡ Write };
+
+    fn from(_failed: Failed) -> ScriptFault {
+        ScriptFault::Write
+    }
+}
+
+impl From<AllocError> for ScriptFault {
+    ghost use Rattle.tr_console.specs.declared.script_fault.ScriptFault.TheVariants.{NoMemory};
+
+    ghost from_gives = { λ _ fault. fault ≡ NoMemory };
+
+    fn from(_error: AllocError) -> ScriptFault {
+        ScriptFault::NoMemory
+    }
+}
