@@ -40,3 +40,16 @@ byte-one false = refl
 pub byte-le : (b : Bool) → bool_byte b ≤ 1
 byte-le true = omega arith
 byte-le false = omega arith
+
+-- a reader never fails to write
+pub reading_fault-Write : (f : ReadFault) → reading_fault f ≡ script.Write → ⊥
+reading_fault-Write line.Read e = cc
+reading_fault-Write line.TooLong e = cc
+reading_fault-Write line.NoMemory e = cc
+
+pub made_err : {T : Type 0} → (r : Result T ScriptFault) (f : ScriptFault) → IsErrAnd r (λ y. y ≡ f) → r ≡ Err f
+made_err (Ok x) f h = absurd h
+made_err (Err y) f h = cc
+
+pub same_err : {T E : Type 0} → (r : Result T E) (f g : E) → r ≡ Err f → r ≡ Err g → f ≡ g
+same_err r f g a b = cc

@@ -1,6 +1,9 @@
 pub mod AnswerLaws
 pub mod CallLaws
 pub mod ColumnLaws
+pub mod FaultLemmas
+pub mod LineSteps
+pub mod RunLemmas
 pub mod ScriptAgreement
 pub mod SessionAgreement
 pub mod StatusLaws

@@ -114,8 +114,18 @@ module _ (given now taken wrote_now : Option (List ℕ)) (reader : Reading) (wor
         let lines = lines_of-joined g.seen r.raw g.are_lines ∙ ap (λ ls. g.seen ++ ls) (lines_of-last r.raw r.no_feed) in
         record {
           script = joined g.seen ++ r.raw;
-          fits = omega (arith, most, r.total, g.total, length-append (joined g.seen) reader.held, ap length r.bytes, length-append r.raw reader'.held, ap length none,
-              length-append reader.held r.more, length-append (joined g.seen) r.raw);
+          fits = omega (
+            arith,
+            most,
+            r.total,
+            g.total,
+            length-append (joined g.seen) reader.held,
+            ap length r.bytes,
+            length-append r.raw reader'.held,
+            ap length none,
+            length-append reader.held r.more,
+            length-append (joined g.seen) r.raw,
+          );
           read = more_read after r.more _ r.came (r.bytes ∙ ap (λ bs. r.raw ++ bs) none ∙ append-nil r.raw);
           wrote = wrote_more r.raw r.text ∙ ap (and_then_bytes taken) (answers-append by_history [] g.seen (r.raw ∷ [])
               ∙ ap (λ t. answers_to g.seen ++ t) (answers-last by_history (world_after by_history [] g.seen) r.raw)
@@ -147,8 +157,18 @@ module _ (given now taken wrote_now : Option (List ℕ)) (reader : Reading) (wor
       record {
         script = joined g.seen ++ on.raw;
         byte = r.byte;
-        full = omega (arith, r.full, on.total, g.total, length-append (joined g.seen) reader.held, ap length on.bytes, length-append on.raw reader'.held, ap length r.all.nothing_held,
-            length-append reader.held on.more, length-append (joined g.seen) on.raw);
+        full = omega (
+          arith,
+          r.full,
+          on.total,
+          g.total,
+          length-append (joined g.seen) reader.held,
+          ap length on.bytes,
+          length-append on.raw reader'.held,
+          ap length r.all.nothing_held,
+          length-append reader.held on.more,
+          length-append (joined g.seen) on.raw,
+        );
         read = r.came ∙ ap (λ k. and_then_bytes k (r.byte ∷ [])) came ∙ and_then_bytes-append given (joined g.seen ++ on.raw) (r.byte ∷ []);
         wrote = g.wrote ∙ ap (λ ls. and_then_bytes taken (answers_to ls)) (sym (whole_so_far on.raw on.no_feed));
       }

@@ -3,6 +3,8 @@ pub mod Calls
 pub mod Faults
 pub mod Names
 pub mod Replies
+pub mod Runs
 pub mod Script
+pub mod ScriptFaults
 pub mod Texts
 pub mod World

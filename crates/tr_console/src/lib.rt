@@ -6,9 +6,13 @@ mod console;
 mod faults;
 mod names;
 mod replies;
+mod script;
+mod script_fault;
 mod sessions;
 mod status;
 
 pub use console::Console;
 pub use faults::LineFault;
 pub use replies::Reply;
+pub use script::{ScriptDone, run_script, run_text};
+pub use script_fault::ScriptFault;

@@ -199,7 +199,10 @@ fn writes_a_front_part_before_the_sink_fails(rt: HostRuntime) -> Result<(), Fail
         };
         let fault = run_script(alloc, alloc, &mut source, &mut sink).map(|done| done.refused);
         assert_eq!(rt; fault, Err(ScriptFault::Write), "room for {room} bytes");
-        assert!(rt; Some(sink.taken.as_slice()) == text.as_slice().get(..room), "room for {room} bytes");
+        assert!(rt;
+            Some(sink.taken.as_slice()) == text.as_slice().get(..room),
+            "room for {room} bytes"
+        );
         assert_eq!(rt; sink.failures, 1, "room for {room} bytes");
     }
     Ok(())

@@ -1,12 +1,14 @@
 use Rattle.std.proofs.Common.{◌≡◌, ◌∙◌, ◌≤◌, ◌+◌, refl, ap, sym, arith, Ok, Err, List, [], ℕ, option_map, length}
 use Rattle.std.specs.Borrow.{Bor}
-use Rattle.tr_console.proofs.FaultLemmas.{byte-one, made, ok_is_no_err, reading_fault-NoMemory, reading_fault-Read, reading_fault-TooLong}
+use Rattle.tr_console.proofs.FaultLemmas.{byte-one, made, made_err, same_err, ok_is_no_err, reading_fault-Write, reading_fault-NoMemory, reading_fault-Read, reading_fault-TooLong}
 use Rattle.tr_console.proofs.LineSteps.{one_if}
 use Rattle.tr_console.proofs.RunLemmas.{Comes-found, Comes-memory, Comes-wrote, Going-breaks, Going-first, Going-last, Going-line, Going-memory, Going-too_far}
 use Rattle.tr_console.proofs.script.run_script.Goals as goal
 use Rattle.tr_console.specs.Script.{text_step}
 use Rattle.tr_console.specs.declared.script_fault.ScriptFault.TheVariants as fault
+use Rattle.tr_console.specs.ScriptFaults.{reading_fault}
 use Rattle.tr_lines.specs.Reading.{Reading, longest_script}
+use Rattle.tr_lines.specs.declared.reader.ReadFault.TheVariants as read
 use Rattle.tr_record.proofs.ByteLemmas.{and_then_bytes-none}
 use Rattle.tr_stream.specs.Rules.{by_state}
 
@@ -27,6 +29,21 @@ lines-init g c =
       source_works = refl;
       sink_works = refl;
     }
+
+pub returns-in_err-found-clause-write : goal.returns-in_err-found-clause-write
+returns-in_err-found-clause-write g c e = absurd (reading_fault-Write c.in_err-found.field-0.0 (made c.from_residual-in_err-found.result _ fault.Write c.from_residual-in_err-found.ensures.1 e))
+
+pub returns-in_err-found-clause-source_works : goal.returns-in_err-found-clause-source_works
+returns-in_err-found-clause-source_works g c no_read =
+    c.read_line.ensures.no_failure
+    (λ r. no_read (made_err c.from_residual-in_err-found.result _ c.from_residual-in_err-found.ensures.1 ∙ ap (λ f. Err (reading_fault f)) (same_err c.read_line.result c.in_err-found.field-0.0 read.Read c.in_err-found.was r)))
+    ∙ c.lines.invariant.source_works
+
+pub returns-in_err-is_refused-clause-sink_works : goal.returns-in_err-is_refused-clause-sink_works
+returns-in_err-is_refused-clause-sink_works g c no_write =
+    c.answer_line.ensures.no_failure
+    (λ r. no_write (made_err c.from_residual-in_err-is_refused.result _ c.from_residual-in_err-is_refused.ensures.1 ∙ ap Err (same_err c.answer_line.result c.in_err-is_refused.field-0.0 fault.Write c.in_err-is_refused.was r)))
+    ∙ c.lines.invariant.sink_works
 
 pub returns-in_err-found-clause-read : goal.returns-in_err-found-clause-read
 returns-in_err-found-clause-read g c e =
