@@ -1,0 +1,4 @@
+pub mod NumberLemmas
+pub mod CommandLemmas
+pub mod DispatchLemmas
+pub mod MomentLemmas

@@ -1,2 +1,18 @@
-//! To be written.
+//! The command language of a script: from the words of a line to what they ask for.
+//! What clap's definition of a simple command says of the words decides every corner; [`parse`] is proved against it.
 #![tactic(auto)]
+
+mod arguments;
+mod command_lines;
+mod dispatch;
+mod numbers;
+mod parsing;
+mod readings;
+mod requests;
+#[cfg(test)]
+mod tests;
+mod values;
+
+pub use numbers::number;
+pub use parsing::parse;
+pub use requests::Request;

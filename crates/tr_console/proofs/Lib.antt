@@ -1,0 +1,3 @@
+pub mod ScriptAgreement
+pub mod SessionAgreement
+pub mod WorldAgreement

@@ -2,7 +2,7 @@
 
 ghost use Rattle.std.specs.Prelude.{◌≡◌, ◌+◌, ◌*◌, ◌≤◌, ◌++◌, IfOk, length, sum_by, vec_len, vec_capacity};
 ghost use Rattle.tr_record.specs.Records.{records_text};
-ghost use Rattle.tr_record.specs.Weight.{record_weight, weight_of};
+ghost use Rattle.tr_record.specs.Weight.{record_weight};
 ghost use Rattle.tr_packet.specs.Packets.{header_text, times_text, context_text, packet_text, packet_size};
 
 use crate::head::Head;
@@ -12,18 +12,6 @@ use tr_record::{Rec, put_bytes, put_rec, put_u32, put_u64};
 
 /// The number 0xC1FC1FC1, lowest byte first.
 const MAGIC: [u8; 4] = [0xC1, 0x1F, 0xFC, 0xC1];
-
-/// How many bytes a packet of these records has.
-fn size_of<A: Allocator>(records: &[Rec<A>]) -> usize
-    requires { weight_of records.now ≤ 65536 }
-    ensures { result ≡ weight_of records.now }
-{
-    let mut size = 80;
-    for r in records {
-        size += r.size();
-    }
-    size
-}
 
 fn put_header<A: Allocator>(out: &mut Vec<u8, A>, head: &Head)
     requires uuid { length head.now.uuid ≡ 16 }
@@ -81,7 +69,7 @@ pub fn encode_packet<A: Allocator, B: Allocator>(
     ensures size { IfOk result (λ v. vec_len v ≡ packet_size packet.now) }
 {
     let head = packet.head();
-    let size = size_of(packet.records());
+    let size = packet.size();
     let mut out = Vec::with_capacity(alloc, size)?;
     put_header(&mut out, &head);
     put_context(&mut out, &head, 8 * size as u64);

@@ -13,6 +13,18 @@ use tr_record::{Moment, Rec};
 /// The most bytes that a packet has.
 const MOST_BYTES: usize = 65_536;
 
+/// How many bytes a packet of these records has.
+pub(crate) fn size_of<A: Allocator>(records: &[Rec<A>]) -> usize
+    requires { weight_of records.now ≤ 65536 }
+    ensures { result ≡ weight_of records.now }
+{
+    let mut size = 80;
+    for r in records {
+        size += r.size();
+    }
+    size
+}
+
 /// Whether a packet of these records has at most 65,536 bytes.
 fn are_small<A: Allocator>(records: &[Rec<A>]) -> bool
     ensures small { IsTrue result ↔ (weight_of records.now ≤ 65536) }

@@ -1,17 +1,17 @@
 //! A packet with its records.
 
 ghost use Rattle.std.specs.Prelude.{◌≡◌, ◌↔◌, IsSome, IfSome};
-ghost use Rattle.tr_packet.specs.Packets.{IsPacket, MakePacket};
+ghost use Rattle.tr_packet.specs.Packets.{IsPacket, MakePacket, packet_size};
 
 use crate::head::Head;
-use crate::order::make_packet;
+use crate::order::{make_packet, size_of};
 use std::alloc::{Allocator, Global};
 use std::marker::Model;
 use tr_record::Rec;
 
 /// A packet: a head, and at least one record. The serials rise strictly, the moments don't fall from `begin`, the
 /// first record's, to `end`, and the text has at most 65,536 bytes. Contracts see it as `Contents`.
-#[derive(Drop)]
+#[derive(Drop, Debug)]
 pub struct Packet<A: Allocator = Global> {
     head: Head,
     records: Vec<Rec<A>, A>,
@@ -34,6 +34,7 @@ impl<A: Allocator> Packet<A> {
         ensures value { result ≡ record { head = head; records = records.items } }
         ensures packet { IsPacket result }
     {
+        // A uuid has 16 bytes.
         let _ = head.uuid.into_bytes();
         Packet { head, records }
     }
@@ -63,5 +64,13 @@ impl<A: Allocator> Packet<A> {
         ensures packet { IsPacket self.now }
     {
         self.records.as_slice()
+    }
+
+    /// How many bytes its text has, at most 65,536.
+    pub fn size(&self) -> usize
+        ensures value { result ≡ packet_size self.now }
+        ensures packet { IsPacket self.now }
+    {
+        size_of(&self.records)
     }
 }

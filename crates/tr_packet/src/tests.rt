@@ -49,7 +49,8 @@ fn a_packet_of_one_record(rt: HostRuntime) -> Result<(), Fail> {
     let packet = Packet::checked(head()?, records(alloc, &[(0, 1, 1)])?).ok_or("a packet")?;
     let bytes = encode_packet(alloc, &packet)?;
     assert_eq!(rt; bytes.as_slice(), ONE.as_slice());
-    assert!(rt; packet.head() == head()?);
+    assert_eq!(rt; packet.head(), head()?);
+    assert_eq!(rt; packet.size(), 105);
     assert_eq!(rt; packet.records().len(), 1);
     Ok(())
 }

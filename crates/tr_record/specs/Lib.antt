@@ -3,3 +3,4 @@ pub mod Raw
 pub mod Reading
 pub mod Records
 pub mod Weight
+pub mod Whole

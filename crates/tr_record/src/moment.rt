@@ -60,7 +60,7 @@ impl Moment {
         ensures value { result ≡ max self other }
         ensures within { result ≤ last_moment }
     {
-        if self.nanoseconds < other.nanoseconds {
+        if self.get() < other.get() {
             other
         } else {
             self

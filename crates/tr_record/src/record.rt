@@ -10,7 +10,7 @@ use std::alloc::{AllocError, Allocator, Global};
 use std::marker::Model;
 
 /// An accepted offer: its serial, moment, id and payload, of fewer than 2^32 bytes. Contracts see it as an `Entry`.
-#[derive(Drop)]
+#[derive(Drop, Debug)]
 pub struct Rec<A: Allocator = Global> {
     serial: u64,
     moment: Moment,
@@ -35,6 +35,7 @@ impl<A: Allocator> Rec<A> {
         ensures value { result ≡ record { serial = serial; moment = moment; id = id; payload = payload.items } }
         ensures fits { Fits result }
     {
+        // The moment is within its limit.
         let _ = moment.get();
         Rec {
             serial,

@@ -106,7 +106,22 @@ fn bytes_go_through_memory_in_pieces_of_any_size(rt: HostRuntime) -> Result<(), 
     Ok(())
 }
 
-/// Gives two bytes and then fails, and takes two bytes and then fails.
+#[test]
+fn a_piece_has_the_size_that_was_asked(rt: HostRuntime) -> Result<(), Fail> {
+    for (piece, want) in [(0, 1), (1, 1), (3, 3), (9, 4)] {
+        let mut source = MemorySource::new(b"four", piece);
+        let mut sink = MemorySink::new(rt.alloc(), piece);
+        assert_eq!(rt;
+            source.get(&mut [0; 5]),
+            Ok(want),
+            "from a source of {piece}"
+        );
+        assert_eq!(rt; sink.put(b"four"), Ok(want), "to a sink of {piece}");
+    }
+    Ok(())
+}
+
+/// Gives so many bytes and then fails, and takes so many and then fails.
 #[derive(Drop)]
 struct Broken(u8);
 
@@ -131,6 +146,9 @@ impl Write for Broken {
     }
 
     fn flush(&mut self) -> io::Result<()> {
+        if self.0 == 0 {
+            return Err(io::Error::from(io::ErrorKind::TimedOut));
+        }
         Ok(())
     }
 }
@@ -152,7 +170,30 @@ fn std_streams_go_through(rt: HostRuntime) -> Result<(), Fail> {
     );
     assert_eq!(rt; memory.into_bytes().as_slice(), b"xx".as_slice());
     let mut broken = WriterSink::new(Broken(2));
-    assert_eq!(rt; put_all(&mut broken, b"ab"), Ok(()));
+    assert_eq!(rt; put_all(&mut broken, b"a"), Ok(()));
+    assert_eq!(rt; broken.flush(), Ok(()));
+    assert_eq!(rt; put_all(&mut broken, b"b"), Ok(()));
+    assert_eq!(rt; broken.flush(), Err(Failed));
     assert_eq!(rt; put_all(&mut broken, b"c"), Err(Failed));
+    Ok(())
+}
+
+#[test]
+fn records_end_to_end(rt: HostRuntime) -> Result<(), Fail> {
+    let mut bytes = ONE.to_vec(rt.alloc())?;
+    bytes.extend_from_slice(&ONE)?;
+    bytes.extend_from_slice(&written(rt.alloc(), b"")?)?;
+    let records = Records::checked(&bytes).ok_or("whole records")?;
+    let mut sizes = Vec::new(rt.alloc());
+    for r in records {
+        sizes.push(r.size())?;
+    }
+    assert_eq!(rt; sizes.as_slice(), [25, 25, 24].as_slice());
+    assert!(rt; Records::checked(b"").ok_or("no record")?.next().is_none());
+    assert!(rt;
+        Records::checked(&bytes[..bytes.len() - 1]).is_none(),
+        "a cut record"
+    );
+    assert!(rt; Records::checked(&bytes[1..]).is_none(), "bytes in front");
     Ok(())
 }

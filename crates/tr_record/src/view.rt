@@ -33,6 +33,7 @@ impl<'a> RecView<'a> {
         ensures value { result ≡ record { serial = serial; moment = moment; id = id; payload = payload.entry.now } }
         ensures fits { Fits result }
     {
+        // The moment is within its limit.
         let _ = moment.get();
         RecView {
             serial,

@@ -37,13 +37,13 @@ pub fn put_u32<A: Allocator>(out: &mut Vec<u8, A>, n: u32)
 }
 
 /// Writes a number in eight bytes, lowest byte first, into room that is reserved.
-pub fn put_u64<A: Allocator>(out: &mut Vec<u8, A>, n: u64)
+pub fn put_u64<A: Allocator>(out: &mut Vec<u8, A>, number: u64)
     requires { vec_len out.old + 8 ≤ vec_capacity out.old }
-    ensures items { out.new.items ≡ out.old.items ++ to_le_bytes w64 n }
+    ensures items { out.new.items ≡ out.old.items ++ to_le_bytes w64 number }
     ensures len { vec_len out.new ≡ vec_len out.old + 8 }
     ensures capacity { vec_capacity out.old ≤ vec_capacity out.new }
 {
-    put_bytes(out, &n.to_le_bytes());
+    put_bytes(out, &number.to_le_bytes());
 }
 
 /// Writes a record's text behind the bytes, into room that is reserved. It takes no memory and can't fail.

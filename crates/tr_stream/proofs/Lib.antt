@@ -1,0 +1,11 @@
+pub mod CallLaws
+pub mod ChunkLaws
+pub mod FormLaws
+pub mod KeptLaws
+pub mod OfferLaws
+pub mod OpenLaws
+pub mod PartLaws
+pub mod Refinement
+pub mod RuleLaws
+pub mod SoundLaws
+pub mod TakeLaws

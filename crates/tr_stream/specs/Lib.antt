@@ -1,0 +1,12 @@
+pub mod Chunks
+pub mod Faults
+pub mod History
+pub mod Kept
+pub mod Rules
+pub mod Runs
+pub mod Sound
+pub mod StandsFor
+pub mod State
+pub mod StateSteps
+pub mod Steps
+pub mod WellFormed

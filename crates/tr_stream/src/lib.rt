@@ -1,2 +1,16 @@
-//! To be written.
+//! One stream of records: a ring of sub-buffers, and the parts that it is consumed into.
+//! Each call is proved to be a step of the stream's history.
 #![tactic(auto)]
+
+mod answers;
+mod config;
+mod events;
+mod packing;
+mod payload;
+mod stream;
+
+pub use answers::{OfferFault, Offered, TakeFault, Taken};
+pub use config::{SessionMode, StreamConfig};
+pub use events::{StreamAnswer, StreamEvent};
+pub use payload::Payload;
+pub use stream::Stream;

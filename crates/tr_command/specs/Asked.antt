@@ -1,0 +1,35 @@
+-- What a line asks for.
+use Rattle.std.specs.Prelude.{ℕ}
+use Rattle.clap.specs.Words.{Text}
+use Rattle.tr_book.specs.declared.mode.Mode.{Mode}
+use Rattle.tr_command.specs.declared.requests.Request.{Request}
+use Rattle.tr_command.specs.declared.requests.Request.TheVariants as request
+
+-- a request with its texts in place of references to them
+pub data Asked : Type 0 where
+  Create : (session uuid : Text) → Asked
+  Channel : (session channel : Text) (size count : ℕ) (mode : Mode) → Asked
+  Thread : (session channel : Text) → Asked
+  Start : (session : Text) (moment : ℕ) → Asked
+  Offer : (session : Text) (stream moment id : ℕ) (text : Text) (fill : ℕ) → Asked
+  Consume : (session : Text) (stream : ℕ) → Asked
+  Status : (session : Text) → Asked
+
+abbrev pub asked_by : Request → Asked
+asked_by (request.Create session uuid) = Create session.now uuid.now
+asked_by (request.Channel session channel size count mode) = Channel session.now channel.now size count mode
+asked_by (request.Thread session channel) = Thread session.now channel.now
+asked_by (request.Start session moment) = Start session.now moment
+asked_by (request.Offer session stream moment id text fill) = Offer session.now stream moment id text.now fill
+asked_by (request.Consume session stream) = Consume session.now stream
+asked_by (request.Status session) = Status session.now
+
+-- the moment of a request, 0 where it has none
+abbrev pub moment_in : Asked → ℕ
+moment_in (Create session uuid) = 0
+moment_in (Channel session channel size count mode) = 0
+moment_in (Thread session channel) = 0
+moment_in (Start session moment) = moment
+moment_in (Offer session stream moment id text fill) = moment
+moment_in (Consume session stream) = 0
+moment_in (Status session) = 0

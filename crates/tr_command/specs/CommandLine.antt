@@ -1,0 +1,61 @@
+-- The commands of a script, as clap sees them.
+use Rattle.std.specs.Prelude.{Some, true, codes}
+use Rattle.clap.specs.Words.{App, Rule, Text, new_app, new_rule, with_rule, with_subcommand}
+
+-- a text that has its place
+abbrev pub place : Text → Rule
+place id = record (new_rule id) { required = true }
+
+-- `--id TEXT`
+abbrev pub option : Text → Rule
+option id = record (new_rule id) { long = Some id }
+
+-- `create SESSION UUID`
+abbrev pub create_app : App
+create_app = with_rule (with_rule (new_app (codes "create")) (place (codes "session"))) (place (codes "uuid"))
+
+-- `channel SESSION CHANNEL ..`
+abbrev pub channel_head : App
+channel_head = with_rule (with_rule (new_app (codes "channel")) (place (codes "session"))) (place (codes "channel"))
+
+-- `channel SESSION CHANNEL SIZE COUNT MODE`
+abbrev pub channel_app : App
+channel_app = with_rule (with_rule (with_rule channel_head
+    (place (codes "size"))) (place (codes "count"))) (place (codes "mode"))
+
+-- `thread SESSION CHANNEL`
+abbrev pub thread_app : App
+thread_app = with_rule (with_rule (new_app (codes "thread")) (place (codes "session"))) (place (codes "channel"))
+
+-- `start SESSION MOMENT`
+abbrev pub start_app : App
+start_app = with_rule (with_rule (new_app (codes "start")) (place (codes "session"))) (place (codes "moment"))
+
+-- `offer SESSION STREAM ..`
+abbrev pub offer_head : App
+offer_head = with_rule (with_rule (new_app (codes "offer")) (place (codes "session"))) (place (codes "stream"))
+
+-- `offer SESSION STREAM MOMENT ID [--text TEXT] [--fill LEN]`
+abbrev pub offer_app : App
+offer_app = with_rule (with_rule (with_rule (with_rule offer_head
+    (place (codes "moment"))) (place (codes "id"))) (option (codes "text"))) (option (codes "fill"))
+
+-- `consume SESSION STREAM`
+abbrev pub consume_app : App
+consume_app = with_rule (with_rule (new_app (codes "consume")) (place (codes "session"))) (place (codes "stream"))
+
+-- `status SESSION`
+abbrev pub status_app : App
+status_app = with_rule (new_app (codes "status")) (place (codes "session"))
+
+-- the commands that lay a session out
+abbrev pub layout_app : App
+layout_app = with_subcommand (with_subcommand (with_subcommand (new_app (codes "tracerd")) create_app.top) channel_app.top) thread_app.top
+
+-- and those that run it
+abbrev pub running_app : App
+running_app = with_subcommand (with_subcommand (with_subcommand layout_app start_app.top) offer_app.top) consume_app.top
+
+-- the whole command line of a script's line
+abbrev pub script_app : App
+script_app = with_subcommand running_app status_app.top

@@ -1,0 +1,30 @@
+-- The command line that is built for a line: that of the command which its first word names.
+use Rattle.std.specs.Prelude.{List, [], ◌∷◌, Option, Some, None, codes, if◌then◌else◌}
+use Rattle.std.specs.Option.{option_map_or}
+use Rattle.std.specs.Str.{bytes_eq}
+use Rattle.clap.specs.Words.{App, Text, new_app, with_subcommand}
+use Rattle.tr_command.specs.CommandLine.{channel_app, consume_app, create_app, offer_app, script_app, start_app, status_app, thread_app}
+
+-- the word behind the program's name
+abbrev pub command_word : List Text → Option Text
+command_word [] = None
+command_word (program ∷ []) = None
+command_word (program ∷ word ∷ words) = Some word
+
+-- a command line with one command
+abbrev pub alone : App → App
+alone command = with_subcommand (new_app (codes "tracerd")) command.top
+
+abbrev pub app_named : Text → App
+app_named name =
+    if bytes_eq name (codes "create") then alone create_app else
+    (if bytes_eq name (codes "channel") then alone channel_app else
+    (if bytes_eq name (codes "thread") then alone thread_app else
+    (if bytes_eq name (codes "start") then alone start_app else
+    (if bytes_eq name (codes "offer") then alone offer_app else
+    (if bytes_eq name (codes "consume") then alone consume_app else
+    (if bytes_eq name (codes "status") then alone status_app else
+    script_app))))))
+
+abbrev pub app_for : Option Text → App
+app_for word = option_map_or app_named word script_app

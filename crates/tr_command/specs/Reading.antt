@@ -1,0 +1,104 @@
+-- What the values of a command's arguments ask for. None is a bad line.
+use Rattle.std.specs.Prelude.{ℕ, List, [], Option, Some, None, option_map, option_and_then, unwrap_or, codes, if◌then◌else◌}
+use Rattle.std.specs.Option.{option_map_or}
+use Rattle.std.specs.Str.{bytes_eq}
+use Rattle.clap.specs.Words.{Row, Text, first_of}
+use Rattle.tr_book.specs.declared.mode.Mode.{Mode}
+use Rattle.tr_book.specs.declared.mode.Mode.TheVariants.{Discard}
+use Rattle.tr_record.specs.Records.{last_moment}
+use Rattle.tr_command.specs.Asked.{Asked, Create, Channel, Thread, Start, Offer, Consume, Status}
+use Rattle.tr_command.specs.Number.{number_of}
+
+-- `option_and_then` and `option_map`, in the order of reading
+abbrev pub and_then : {A B : Type 0} → Option A → (A → Option B) → Option B
+and_then value next = option_and_then next value
+
+abbrev pub and_last : {A B : Type 0} → Option A → (A → B) → Option B
+and_last value made = option_map made value
+
+abbrev pub most_u32 : ℕ
+most_u32 = 4294967295
+
+abbrev pub most_u64 : ℕ
+most_u64 = 18446744073709551615
+
+abbrev pub most_fill : ℕ
+most_fill = 65536
+
+abbrev pub session_of : List Row → Option Text
+session_of rows = first_of (codes "session") rows
+
+-- the number of an argument
+abbrev pub number_at : Text → ℕ → List Row → Option ℕ
+number_at id most rows = and_then (first_of id rows) (number_of most)
+
+-- the number of an option, 0 where it is left out
+abbrev pub number_or_0 : Text → ℕ → List Row → Option ℕ
+number_or_0 id most rows = option_map_or (number_of most) (first_of id rows) (Some 0)
+
+-- the text of an option, the empty one where it is left out
+abbrev pub text_or_empty : Text → List Row → Text
+text_or_empty id rows = unwrap_or (first_of id rows) []
+
+abbrev pub mode_named : Text → Option Mode
+mode_named text = if bytes_eq text (codes "discard") then Some Discard else None
+
+abbrev pub mode_at : Text → List Row → Option Mode
+mode_at id rows = and_then (first_of id rows) mode_named
+
+abbrev pub create_of : List Row → Option Asked
+create_of rows =
+    and_then (session_of rows) (λ session.
+    and_last (first_of (codes "uuid") rows) (λ uuid.
+    Create session uuid))
+
+abbrev pub channel_of : List Row → Option Asked
+channel_of rows =
+    and_then (session_of rows) (λ session.
+    and_then (first_of (codes "channel") rows) (λ channel.
+    and_then (number_at (codes "size") most_u32 rows) (λ size.
+    and_then (number_at (codes "count") most_u32 rows) (λ count.
+    and_last (mode_at (codes "mode") rows) (λ mode.
+    Channel session channel size count mode)))))
+
+abbrev pub thread_of : List Row → Option Asked
+thread_of rows =
+    and_then (session_of rows) (λ session.
+    and_last (first_of (codes "channel") rows) (λ channel.
+    Thread session channel))
+
+abbrev pub start_of : List Row → Option Asked
+start_of rows =
+    and_then (session_of rows) (λ session.
+    and_last (number_at (codes "moment") last_moment rows) (λ moment.
+    Start session moment))
+
+abbrev pub offer_of : List Row → Option Asked
+offer_of rows =
+    and_then (session_of rows) (λ session.
+    and_then (number_at (codes "stream") most_u64 rows) (λ stream.
+    and_then (number_at (codes "moment") last_moment rows) (λ moment.
+    and_then (number_at (codes "id") most_u32 rows) (λ id.
+    and_last (number_or_0 (codes "fill") most_fill rows) (λ fill.
+    Offer session stream moment id (text_or_empty (codes "text") rows) fill)))))
+
+abbrev pub consume_of : List Row → Option Asked
+consume_of rows =
+    and_then (session_of rows) (λ session.
+    and_last (number_at (codes "stream") most_u64 rows) (λ stream.
+    Consume session stream))
+
+abbrev pub status_of : List Row → Option Asked
+status_of rows = and_last (session_of rows) (λ session. Status session)
+
+-- what the command of this name asks for
+abbrev pub asked_as : Text → List Row → Option Asked
+asked_as name rows =
+    if bytes_eq name (codes "create") then create_of rows else
+    (if bytes_eq name (codes "channel") then channel_of rows else
+    (if bytes_eq name (codes "thread") then thread_of rows else
+    (if bytes_eq name (codes "start") then start_of rows else
+    (if bytes_eq name (codes "offer") then offer_of rows else
+    (if bytes_eq name (codes "consume") then consume_of rows else
+    (if bytes_eq name (codes "status") then status_of rows else
+    None))))))

@@ -1,0 +1,105 @@
+//! What the values of each command's arguments ask for. `None` is a bad line.
+
+ghost use Rattle.std.specs.Prelude.{◌≡◌, option_map};
+ghost use Rattle.clap.specs.Words.{found_of, rows_of};
+ghost use Rattle.tr_command.specs.Asked.{asked_by};
+ghost use Rattle.tr_command.specs.Reading.{asked_as, channel_of, consume_of, create_of, offer_of, start_of, status_of, thread_of};
+
+use crate::Request;
+use crate::values::{
+    mode_at, moment_at, number_at, number_u32_at, number_u32_or_zero, text_at, text_or_empty,
+};
+use clap::ArgMatches;
+
+const MOST_FILL: u32 = 65_536;
+
+fn create_request<'a>(matches: &ArgMatches<'a>) -> Option<Request<'a>>
+    ensures { option_map asked_by result ≡ create_of (rows_of (found_of matches.now)) }
+{
+    let session = text_at(matches, "session")?;
+    let uuid = text_at(matches, "uuid")?;
+    Some(Request::Create { session, uuid })
+}
+
+fn channel_request<'a>(matches: &ArgMatches<'a>) -> Option<Request<'a>>
+    ensures { option_map asked_by result ≡ channel_of (rows_of (found_of matches.now)) }
+{
+    let session = text_at(matches, "session")?;
+    let channel = text_at(matches, "channel")?;
+    let size = number_u32_at(matches, "size", u32::MAX)?;
+    let count = number_u32_at(matches, "count", u32::MAX)?;
+    let mode = mode_at(matches, "mode")?;
+    Some(Request::Channel {
+        session,
+        channel,
+        size,
+        count,
+        mode,
+    })
+}
+
+fn thread_request<'a>(matches: &ArgMatches<'a>) -> Option<Request<'a>>
+    ensures { option_map asked_by result ≡ thread_of (rows_of (found_of matches.now)) }
+{
+    let session = text_at(matches, "session")?;
+    let channel = text_at(matches, "channel")?;
+    Some(Request::Thread { session, channel })
+}
+
+fn start_request<'a>(matches: &ArgMatches<'a>) -> Option<Request<'a>>
+    ensures { option_map asked_by result ≡ start_of (rows_of (found_of matches.now)) }
+{
+    let session = text_at(matches, "session")?;
+    let moment = moment_at(matches, "moment")?;
+    Some(Request::Start { session, moment })
+}
+
+fn offer_request<'a>(matches: &ArgMatches<'a>) -> Option<Request<'a>>
+    ensures { option_map asked_by result ≡ offer_of (rows_of (found_of matches.now)) }
+{
+    let session = text_at(matches, "session")?;
+    let stream = number_at(matches, "stream", u64::MAX)?;
+    let moment = moment_at(matches, "moment")?;
+    let id = number_u32_at(matches, "id", u32::MAX)?;
+    let fill = number_u32_or_zero(matches, "fill", MOST_FILL)?;
+    let text = text_or_empty(matches, "text");
+    Some(Request::Offer {
+        session,
+        stream,
+        moment,
+        id,
+        text,
+        fill,
+    })
+}
+
+fn consume_request<'a>(matches: &ArgMatches<'a>) -> Option<Request<'a>>
+    ensures { option_map asked_by result ≡ consume_of (rows_of (found_of matches.now)) }
+{
+    let session = text_at(matches, "session")?;
+    let stream = number_at(matches, "stream", u64::MAX)?;
+    Some(Request::Consume { session, stream })
+}
+
+fn status_request<'a>(matches: &ArgMatches<'a>) -> Option<Request<'a>>
+    ensures { option_map asked_by result ≡ status_of (rows_of (found_of matches.now)) }
+{
+    let session = text_at(matches, "session")?;
+    Some(Request::Status { session })
+}
+
+/// What the command of this name asks for, where these are the values of its arguments.
+pub fn request_of<'a>(name: &str, matches: &ArgMatches<'a>) -> Option<Request<'a>>
+    ensures { option_map asked_by result ≡ asked_as name.now (rows_of (found_of matches.now)) }
+{
+    match name {
+        "create" => create_request(matches),
+        "channel" => channel_request(matches),
+        "thread" => thread_request(matches),
+        "start" => start_request(matches),
+        "offer" => offer_request(matches),
+        "consume" => consume_request(matches),
+        "status" => status_request(matches),
+        _ => None,
+    }
+}

@@ -1,0 +1,56 @@
+//! What a line asks for.
+
+use tr_book::Mode;
+
+/// What the words of a line ask for, with its texts as the words have them.
+///
+/// A moment is in nanoseconds since 1970 and at most `Moment::LAST`, as [`parse`](crate::parse) ensures: it is a
+/// plain number here, since the check covers no value that holds both a reference and a type with an invariant.
+///
+/// To add a command: a variant here and in `specs/Asked.antt`, its command line in `command_lines` and
+/// `specs/CommandLine.antt`, its reading in `readings` and `specs/Reading.antt`, its arm in `dispatch`
+/// and `specs/Dispatch.antt`, and its lemma in `proofs/DispatchLemmas.antt`.
+#[derive(Clone, Copy, Debug, PartialEq, Eq)]
+pub enum Request<'a> {
+    /// `create SESSION UUID`
+    Create {
+        session: &'a str,
+        uuid: &'a str,
+    },
+    /// `channel SESSION CHANNEL SIZE COUNT MODE`, the size in bytes
+    Channel {
+        session: &'a str,
+        channel: &'a str,
+        size: u32,
+        count: u32,
+        mode: Mode,
+    },
+    /// `thread SESSION CHANNEL`
+    Thread {
+        session: &'a str,
+        channel: &'a str,
+    },
+    /// `start SESSION MOMENT`
+    Start {
+        session: &'a str,
+        moment: u64,
+    },
+    /// `offer SESSION STREAM MOMENT ID [--text TEXT] [--fill LEN]`
+    Offer {
+        session: &'a str,
+        stream: u64,
+        moment: u64,
+        id: u32,
+        text: &'a str,
+        fill: u32,
+    },
+    /// `consume SESSION STREAM`
+    Consume {
+        session: &'a str,
+        stream: u64,
+    },
+    /// `status SESSION`
+    Status {
+        session: &'a str,
+    },
+}

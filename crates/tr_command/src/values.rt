@@ -1,0 +1,73 @@
+//! The values of a command's arguments.
+
+ghost use Rattle.std.specs.Prelude.{◌≡◌, option_map};
+ghost use Rattle.clap.specs.Words.{first_of, found_of, rows_of};
+ghost use Rattle.tr_record.specs.Records.{last_moment};
+ghost use Rattle.tr_command.specs.Reading.{mode_at, mode_named, number_at, number_or_0, text_or_empty};
+
+use crate::numbers::{number, number_u32};
+use clap::ArgMatches;
+use tr_book::Mode;
+use tr_record::Moment;
+
+/// The text of an argument.
+pub fn text_at<'a>(matches: &ArgMatches<'a>, id: &str) -> Option<&'a str>
+    ensures { option_map (λ t. t.now) result ≡ first_of id.now (rows_of (found_of matches.now)) }
+{
+    matches.get_str(id)
+}
+
+/// The text of an option, the empty one where it is left out.
+pub fn text_or_empty<'a>(matches: &ArgMatches<'a>, id: &str) -> &'a str
+    ensures { result.now ≡ text_or_empty id.now (rows_of (found_of matches.now)) }
+{
+    text_at(matches, id).unwrap_or("")
+}
+
+/// The number of an argument, where it is one of at most `most`.
+pub fn number_at(matches: &ArgMatches<'_>, id: &str, most: u64) -> Option<u64>
+    ensures { result ≡ number_at id.now most (rows_of (found_of matches.now)) }
+{
+    number(text_at(matches, id)?, most)
+}
+
+/// The same, of a number that fits 32 bits.
+pub fn number_u32_at(matches: &ArgMatches<'_>, id: &str, most: u32) -> Option<u32>
+    ensures { result ≡ number_at id.now most (rows_of (found_of matches.now)) }
+{
+    number_u32(text_at(matches, id)?, most)
+}
+
+/// The moment of an argument, in nanoseconds.
+pub fn moment_at(matches: &ArgMatches<'_>, id: &str) -> Option<u64>
+    ensures { result ≡ number_at id.now last_moment (rows_of (found_of matches.now)) }
+{
+    number_at(matches, id, Moment::LAST)
+}
+
+/// The number of an option, 0 where it is left out.
+pub fn number_u32_or_zero(matches: &ArgMatches<'_>, id: &str, most: u32) -> Option<u32>
+    ensures { result ≡ number_or_0 id.now most (rows_of (found_of matches.now)) }
+{
+    match text_at(matches, id) {
+        Some(text) => number_u32(text, most),
+        None => Some(0),
+    }
+}
+
+/// The mode of this name.
+fn mode_named(text: &str) -> Option<Mode>
+    ensures { result ≡ mode_named text.now }
+{
+    match text {
+        "discard" => Some(Mode::Discard),
+        _ => None,
+    }
+}
+
+/// The mode that an argument names.
+pub fn mode_at(matches: &ArgMatches<'_>, id: &str) -> Option<Mode>
+    ensures { result ≡ mode_at id.now (rows_of (found_of matches.now)) }
+{
+    mode_named(text_at(matches, id)?)
+}

@@ -1,0 +1,19 @@
+-- Why a line is refused, as its answer prints it.
+use Rattle.std.specs.Prelude.{ℕ, List, codes}
+use Rattle.tr_console.specs.declared.faults.LineFault.{LineFault}
+use Rattle.tr_console.specs.declared.faults.LineFault.TheVariants.{NoSession, BadUuid, BadName, Session, Step}
+use Rattle.tr_session.specs.Faults.{session_fault_code, session_fault_name, step_fault_code, step_fault_name}
+
+abbrev pub line_fault_code : LineFault → List ℕ
+line_fault_code NoSession = codes "K1"
+line_fault_code BadUuid = codes "K2"
+line_fault_code BadName = codes "K3"
+line_fault_code (Session fault) = session_fault_code fault
+line_fault_code (Step fault) = step_fault_code fault
+
+abbrev pub line_fault_name : LineFault → List ℕ
+line_fault_name NoSession = codes "NoSession"
+line_fault_name BadUuid = codes "BadUuid"
+line_fault_name BadName = codes "BadName"
+line_fault_name (Session fault) = session_fault_name fault
+line_fault_name (Step fault) = step_fault_name fault

@@ -1,0 +1,55 @@
+//! Why a line is refused.
+
+ghost use Rattle.std.specs.Prelude.{◌≡◌};
+ghost use Rattle.tr_console.specs.Faults.{line_fault_code, line_fault_name};
+
+use thiserror::Error;
+use tr_session::{SessionFault, StepFault};
+
+/// Why a line is refused: by the console, by a session, or by a stream. Nothing changed.
+#[derive(Clone, Copy, Debug, PartialEq, Eq, Error)]
+pub enum LineFault {
+    /// There is no session of this name.
+    #[error("K1 NoSession")]
+    NoSession,
+    /// The text is no UUID.
+    #[error("K2 BadUuid")]
+    BadUuid,
+    /// What is to be created can't have this name.
+    #[error("K3 BadName")]
+    BadName,
+    /// By the session, or by the console in a session's words.
+    #[error("{0}")]
+    Session(SessionFault),
+    /// By the session or the stream of a step.
+    #[error("{0}")]
+    Step(StepFault),
+}
+
+impl LineFault {
+    /// The code that answers and documents call it by.
+    pub fn code(&self) -> &'static str
+        ensures { result.now ≡ line_fault_code self.now }
+    {
+        match self {
+            LineFault::NoSession => "K1",
+            LineFault::BadUuid => "K2",
+            LineFault::BadName => "K3",
+            LineFault::Session(fault) => fault.code(),
+            LineFault::Step(fault) => fault.code(),
+        }
+    }
+
+    /// Its name, as answers print it.
+    pub fn name(&self) -> &'static str
+        ensures { result.now ≡ line_fault_name self.now }
+    {
+        match self {
+            LineFault::NoSession => "NoSession",
+            LineFault::BadUuid => "BadUuid",
+            LineFault::BadName => "BadName",
+            LineFault::Session(fault) => fault.name(),
+            LineFault::Step(fault) => fault.name(),
+        }
+    }
+}

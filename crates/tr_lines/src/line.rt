@@ -1,0 +1,85 @@
+//! A line as it comes in parts.
+
+ghost use Rattle.std.specs.Prelude.{◌≡◌, Some, [], OnOk, OnErr, option_map};
+ghost use Rattle.std.specs.List.{list_all};
+ghost use Rattle.tr_lines.specs.Lines.{is_printable, keep_more};
+
+use std::alloc::{AllocError, Allocator, Global};
+use std::marker::Model;
+
+/// The length of the longest line that has a text, in bytes.
+const LONGEST: usize = 4096;
+
+fn has_only_printable(part: &[u8]) -> bool
+    ensures { result ≡ list_all is_printable part.now }
+{
+    part.iter().all(|b| *b >= 0x20 && *b <= 0x7e)
+}
+
+/// The text of a line, as far as it came. Of a bad line nothing more is kept. Contracts see the text, none of a
+/// bad line.
+#[derive(Drop)]
+pub struct Line<A: Allocator = Global> {
+    text: Vec<u8, A>,
+    is_bad: bool,
+}
+
+impl<A: Allocator> Model for Line<A> {
+    ghost use Rattle.std.specs.Prelude.{◌≡◌, ◌≤◌, ℕ, List, Option, None, Some, true, vec_len, if◌then◌else◌};
+    ghost use Rattle.std.specs.List.{list_all};
+    ghost use Rattle.tr_lines.specs.Lines.{is_printable, longest_line};
+
+    ghost Value = { Option (List ℕ) };
+
+    ghost view = { λ l. if l.is_bad then None else Some l.text.items };
+
+    ghost invariant = { λ l. (list_all is_printable l.text.items ≡ true) × (vec_len l.text ≤ longest_line) };
+}
+
+impl<A: Allocator> Line<A> {
+    /// An empty line.
+    pub fn new(alloc: A) -> Self
+        ensures { result ≡ Some [] }
+    {
+        Line {
+            text: Vec::new(alloc),
+            is_bad: false,
+        }
+    }
+
+    /// Begins a line anew.
+    pub fn clear(&mut self)
+        ensures { self.new ≡ Some [] }
+    {
+        self.text.clear();
+        self.is_bad = false;
+    }
+
+    /// Adds a part.
+    pub fn keep(&mut self, part: &[u8]) -> Result<(), AllocError>
+        ensures ok { OnOk result (self.new ≡ keep_more self.old part.now) }
+        ensures err { OnErr result (self.new ≡ self.old) }
+    {
+        if self.is_bad {
+            return Ok(());
+        }
+        if part.len() > LONGEST - self.text.len() || !has_only_printable(part) {
+            self.is_bad = true;
+            return Ok(());
+        }
+        self.text.extend_from_slice(part)
+    }
+
+    /// The text, where it is a good line.
+    pub fn text(&self) -> Option<&str>
+        ensures { option_map (λ t. t.now) result ≡ self.now }
+    {
+        if self.is_bad {
+            return None;
+        }
+        match std::str::from_utf8(self.text.as_slice()) {
+            Ok(text) => Some(text),
+            Err(_) => unreachable!(),
+        }
+    }
+}

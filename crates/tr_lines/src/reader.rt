@@ -1,0 +1,206 @@
+//! The reader of a script's lines.
+
+ghost use Rattle.std.specs.Prelude.{◌≡◌, ◌+◌, ◌<◌, ◌≤◌, ◌∷◌, [], ℕ, Some, true, false, Ok, Err, IfOk, OnOk, OnErr, length, take, option_map, position};
+ghost use Rattle.tr_record.specs.Bytes.{and_then_bytes, once_more};
+ghost use Rattle.tr_lines.specs.Lines.{is_feed};
+ghost use Rattle.tr_lines.specs.Reading.{GoesTooFar, ReadsAll, ReadsLine, ReadsOn, TakesPart, budget, longest_script, reading};
+ghost use Rattle.tr_lines.specs.declared.reader.ReadFault.TheVariants.{Read, NoMemory};
+
+use crate::line::Line;
+use std::alloc::{AllocError, Allocator, Global};
+use std::marker::Model;
+use tr_record::{ByteSource, Failed};
+
+/// The length of the longest script, in bytes.
+const LONGEST: usize = 16_777_216;
+
+/// How many bytes are asked of the source at once.
+const PIECE: usize = 65_536;
+
+/// Why no line was read.
+#[derive(Clone, Copy, Debug, PartialEq, Eq)]
+pub enum ReadFault {
+    /// The source failed.
+    Read,
+    /// The script has more than 16,777,216 bytes.
+    TooLong,
+    /// Memory was refused.
+    NoMemory,
+}
+
+impl From<Failed> for ReadFault {
+    ghost from_gives = { λ _ e. e ≡ Read };
+
+    fn from(_failed: Failed) -> ReadFault {
+        ReadFault::Read
+    }
+}
+
+impl From<AllocError> for ReadFault {
+    ghost from_gives = { λ _ e. e ≡ NoMemory };
+
+    fn from(_error: AllocError) -> ReadFault {
+        ReadFault::NoMemory
+    }
+}
+
+/// What was read.
+#[derive(Clone, Copy, Debug, PartialEq, Eq)]
+pub enum Found {
+    /// A line with its line feed.
+    Whole,
+    /// What stands behind the last line feed, nothing in most scripts.
+    Last,
+}
+
+/// The place of the first line feed.
+fn feed_at(bytes: &[u8]) -> Option<usize>
+    ensures { result ≡ position is_feed bytes.now }
+{
+    bytes.iter().position(|b| *b == b'\n')
+}
+
+/// Gets bytes to the front of the buffer, at most `room`.
+fn fill<S: ByteSource>(piece: &mut [u8], room: usize, source: &mut S) -> Result<usize, Failed>
+    requires some { 0 < room }
+    requires fits { room ≤ length piece.old }
+    ensures count { IfOk result (λ n. n ≤ room) }
+    ensures given { IfOk result (λ n. S.given source.new ≡ and_then_bytes (S.given source.old) (take n piece.new)) }
+    ensures content { S.content source.new ≡ S.content source.old }
+    ensures end { result ≡ Ok 0 → S.given source.new ≡ S.content source.new }
+    ensures ok { OnOk result (S.failures source.new ≡ S.failures source.old) }
+    ensures err { OnErr result (S.given source.new ≡ S.given source.old) }
+    ensures failed { OnErr result (S.failures source.new ≡ once_more (S.failures source.old)) }
+{
+    source.get(&mut piece[..room])
+}
+
+/// Reads the lines of a script from a source. It holds one piece of the script and one line, so its memory is the
+/// same for every script. Contracts see how far it is.
+#[derive(Drop)]
+pub struct LineReader<A: Allocator = Global> {
+    piece: Vec<u8, A>,
+    start: usize,
+    end: usize,
+    total: usize,
+    line: Line<A>,
+}
+
+impl<A: Allocator> Model for LineReader<A> {
+    ghost use Rattle.std.specs.Prelude.{◌-◌, ◌<◌, ◌≤◌, drop, take, vec_len};
+    ghost use Rattle.tr_lines.specs.Reading.{Reading, longest_script, reading};
+
+    ghost Value = { Reading };
+
+    ghost view = { λ r. reading (take (r.end - r.start) (drop r.start r.piece.items)) r.total r.line };
+
+    ghost invariant = { λ r. (r.start ≤ r.end) × (r.end ≤ vec_len r.piece) × (0 < vec_len r.piece) × (r.total ≤ longest_script) };
+}
+
+impl<A: Allocator> LineReader<A> {
+    /// The text of the line that was read last. None is a bad line: it has more than 4,096 bytes without its line
+    /// feed, or a byte outside 0x20 to 0x7E.
+    pub fn text(&self) -> Option<&str>
+        ensures { option_map (λ t. t.now) result ≡ self.now.line }
+    {
+        self.line.text()
+    }
+
+    /// Begins a line.
+    fn begin(&mut self)
+        ensures { self.new ≡ reading self.old.held self.old.total (Some []) }
+    {
+        self.line.clear();
+    }
+
+    /// Moves what is held up to a line feed into the line, and answers whether there was one. Without one it moves
+    /// all.
+    fn take_part(&mut self) -> Result<bool, AllocError>
+        ensures ok { IfOk result (TakesPart self.old self.new) }
+        ensures within { self.new.total ≤ longest_script }
+        ensures err { OnErr result (self.new ≡ self.old) }
+    {
+        let held = &self.piece[self.start..self.end];
+        match feed_at(held) {
+            Some(place) => {
+                self.line.keep(&held[..place])?;
+                self.start += place + 1;
+                Ok(true)
+            }
+            None => {
+                self.line.keep(held)?;
+                self.start = self.end;
+                Ok(false)
+            }
+        }
+    }
+
+    /// Gets the next piece, where nothing is held, and answers whether there was one.
+    fn refill<S: ByteSource>(&mut self, source: &mut S) -> Result<bool, ReadFault>
+        requires { self.old.held ≡ [] }
+        ensures given { OnOk result (S.given source.new ≡ and_then_bytes (S.given source.old) self.new.held) }
+        ensures total { OnOk result (self.new ≡ reading self.new.held (self.old.total + length self.new.held) self.old.line) }
+        ensures some { result ≡ Ok true → 0 < length self.new.held }
+        ensures within { self.new.total ≤ longest_script }
+        ensures content { S.content source.new ≡ S.content source.old }
+        ensures end { result ≡ Ok false → (self.new.held ≡ []) × (S.given source.new ≡ S.content source.new) }
+        ensures err { OnErr result (self.new ≡ self.old) }
+        ensures no_failure { (result ≡ Err ReadFault.Read → ⊥) → S.failures source.new ≡ S.failures source.old }
+        ensures read { result ≡ Err ReadFault.Read → (S.given source.new ≡ S.given source.old) × (S.failures source.new ≡ once_more (S.failures source.old)) }
+        ensures too_long { result ≡ Err ReadFault.TooLong → (self.old.total ≡ longest_script) × ((byte : ℕ) × (S.given source.new ≡ and_then_bytes (S.given source.old) (byte ∷ []))) }
+        ensures memory { result ≡ Err ReadFault.NoMemory → ⊥ }
+    {
+        let room = self.piece.len().min(LONGEST - self.total).max(1);
+        let count = fill(&mut self.piece, room, source)?;
+        if count > LONGEST - self.total {
+            return Err(ReadFault::TooLong);
+        }
+        self.start = 0;
+        self.end = count;
+        self.total += count;
+        Ok(count > 0)
+    }
+
+    /// Reads the next line, or what stands behind the last line feed.
+    ///
+    /// # Errors
+    ///
+    /// `Read` where the source failed, `TooLong` where a byte came behind the longest script, `NoMemory` where memory
+    /// was refused. What had come of the line is then lost to the next call, and nothing else.
+    pub fn read_line<S: ByteSource>(&mut self, source: &mut S) -> Result<Found, ReadFault>
+        ensures whole { result ≡ Ok Found.Whole → ReadsLine (S.given source.old) (S.given source.new) self.old self.new }
+        ensures shrinks { result ≡ Ok Found.Whole → budget self.new < budget self.old }
+        ensures last { result ≡ Ok Found.Last → ReadsAll (S.given source.old) (S.given source.new) self.old self.new × (S.given source.new ≡ S.content source.new) }
+        ensures content { S.content source.new ≡ S.content source.old }
+
+        ensures read { result ≡ Err ReadFault.Read → ReadsAll (S.given source.old) (S.given source.new) self.old self.new × (S.failures source.new ≡ once_more (S.failures source.old)) }
+        ensures too_long { result ≡ Err ReadFault.TooLong → GoesTooFar (S.given source.old) (S.given source.new) self.old self.new }
+        ensures memory { result ≡ Err ReadFault.NoMemory → ReadsOn (S.given source.old) (S.given source.new) self.old self.new }
+        ensures no_failure { (result ≡ Err ReadFault.Read → ⊥) → S.failures source.new ≡ S.failures source.old }
+    {
+        self.begin();
+        'pieces: loop {
+            if self.take_part()? {
+                return Ok(Found::Whole);
+            }
+            if !self.refill(source)? {
+                return Ok(Found::Last);
+            }
+        }
+    }
+}
+
+impl<A: Allocator + Copy> LineReader<A> {
+    /// A reader that has read nothing.
+    pub fn new(alloc: A) -> Result<Self, AllocError>
+        ensures { IfOk result (λ r. r ≡ reading [] 0 (Some [])) }
+    {
+        Ok(LineReader {
+            piece: vec![in alloc; 0; PIECE]?,
+            start: 0,
+            end: 0,
+            total: 0,
+            line: Line::new(alloc),
+        })
+    }
+}

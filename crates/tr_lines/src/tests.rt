@@ -1,0 +1,153 @@
+//! Scripts of which the rules say the lines, cut in several ways.
+
+use crate::{Found, LineReader, ReadFault, is_skipped_line, push_words};
+use std::alloc::{AllocError, Global};
+use std::test::Fail;
+use tr_record::{ByteSource, Failed, MemorySource};
+
+/// Whether the reader finds this next.
+fn finds<S: ByteSource>(
+    reader: &mut LineReader,
+    source: &mut S,
+    found: Found,
+    text: Option<&str>,
+) -> bool {
+    reader.read_line(source) == Ok(found) && reader.text() == text
+}
+
+/// Whether the lines of the script are these, in pieces of this size.
+fn has_lines(
+    alloc: Global,
+    script: &[u8],
+    piece: usize,
+    lines: &[(Found, Option<&str>)],
+) -> Result<bool, AllocError> {
+    let mut source = MemorySource::new(script, piece);
+    let mut reader = LineReader::new(alloc)?;
+    for line in lines {
+        if !finds(&mut reader, &mut source, line.0, line.1) {
+            return Ok(false);
+        }
+    }
+    Ok(true)
+}
+
+#[test]
+fn reads_lines_in_any_pieces(rt: HostRuntime) -> Result<(), Fail> {
+    let alloc = rt.alloc();
+    for piece in [1, 2, 3, 65_536] {
+        let empty = [(Found::Last, Some("")), (Found::Last, Some(""))];
+        assert!(rt; has_lines(alloc, b"", piece, &empty)?, "{piece}");
+        let feed = [(Found::Whole, Some("")), (Found::Last, Some(""))];
+        assert!(rt; has_lines(alloc, b"\n", piece, &feed)?, "{piece}");
+        let both = [(Found::Whole, Some("a b")), (Found::Last, Some("c"))];
+        assert!(rt; has_lines(alloc, b"a b\nc", piece, &both)?, "{piece}");
+        let bad = [
+            (Found::Whole, None),
+            (Found::Whole, None),
+            (Found::Whole, Some(" ~")),
+            (Found::Whole, None),
+            (Found::Whole, None),
+            (Found::Last, None),
+        ];
+        let script = b"a\r\n# \t\n ~\n\x7f\n\x1f\n\xc3\xa9";
+        assert!(rt; has_lines(alloc, script, piece, &bad)?, "{piece}");
+    }
+    Ok(())
+}
+
+#[test]
+fn takes_lines_of_4096_bytes(rt: HostRuntime) -> Result<(), Fail> {
+    let alloc = rt.alloc();
+    let mut script = vec![in alloc; b'a'; 4096]?;
+    script.push(b'\n')?;
+    for _ in 0..4097 {
+        script.push(b'b')?;
+    }
+    script.extend_from_slice(b"\nc")?;
+    for piece in [1, 4096, 65_536] {
+        let mut source = MemorySource::new(script.as_slice(), piece);
+        let mut reader = LineReader::new(alloc)?;
+        assert_eq!(rt; reader.read_line(&mut source), Ok(Found::Whole));
+        assert_eq!(rt; reader.text().map(|text| text.len()), Some(4096));
+        assert!(rt; finds(&mut reader, &mut source, Found::Whole, None));
+        assert!(rt; finds(&mut reader, &mut source, Found::Last, Some("c")));
+    }
+    Ok(())
+}
+
+#[test]
+fn takes_scripts_of_16777216_bytes(rt: HostRuntime) -> Result<(), Fail> {
+    let alloc = rt.alloc();
+    let mut script = vec![in alloc; b'#'; 16_777_216]?;
+    let mut source = MemorySource::new(script.as_slice(), 65_536);
+    let mut reader = LineReader::new(alloc)?;
+    assert!(rt; finds(&mut reader, &mut source, Found::Last, None));
+    script.push(b'\n')?;
+    let mut source = MemorySource::new(script.as_slice(), 65_535);
+    let mut reader = LineReader::new(alloc)?;
+    assert_eq!(rt; reader.read_line(&mut source), Err(ReadFault::TooLong));
+    Ok(())
+}
+
+/// Gives `a`, a line feed and `c`, and fails when it is asked for the fourth time.
+#[derive(Drop)]
+struct Failing {
+    asked: u64,
+    failures: u64,
+}
+
+impl ByteSource for Failing {
+    ghost use Rattle.std.specs.Prelude.{None};
+
+    ghost given = { λ _. None };
+
+    ghost content = { λ _. None };
+
+    ghost failures = { λ s. s.failures };
+
+    fn get(&mut self, b: &mut [u8]) -> Result<usize, Failed> {
+        self.asked = self.asked.wrapping_add(1);
+        let byte = match self.asked {
+            1 => b'a',
+            2 => b'\n',
+            3 => b'c',
+            _ => {
+                self.failures = self.failures.wrapping_add(1);
+                return Err(Failed);
+            }
+        };
+        b[0] = byte;
+        Ok(1)
+    }
+}
+
+#[test]
+fn breaks_off_where_the_source_fails(rt: HostRuntime) -> Result<(), Fail> {
+    let mut source = Failing {
+        asked: 0,
+        failures: 0,
+    };
+    let mut reader = LineReader::new(rt.alloc())?;
+    assert!(rt; finds(&mut reader, &mut source, Found::Whole, Some("a")));
+    assert_eq!(rt; reader.read_line(&mut source), Err(ReadFault::Read));
+    assert_eq!(rt; reader.read_line(&mut source), Err(ReadFault::Read));
+    assert_eq!(rt; source.failures, 2);
+    Ok(())
+}
+
+#[test]
+fn splits_words(rt: HostRuntime) -> Result<(), Fail> {
+    let mut words = Vec::new(rt.alloc());
+    push_words(&mut words, "")?;
+    push_words(&mut words, "   ")?;
+    assert!(rt; is_skipped_line(words.as_slice()));
+    push_words(&mut words, "  create  s # ")?;
+    push_words(&mut words, "x")?;
+    assert!(rt; !is_skipped_line(words.as_slice()));
+    assert_eq!(rt; words.as_slice(), ["create", "s", "#", "x"].as_slice());
+    assert!(rt; is_skipped_line(&["#", "s"]));
+    assert!(rt; is_skipped_line(&["#create"]));
+    assert!(rt; !is_skipped_line(&["s#"]));
+    Ok(())
+}

@@ -1,0 +1,81 @@
+//! The records in bytes that are whole records, one at a time.
+
+ghost use Rattle.std.specs.Prelude.{◌≡◌, ◌↔◌, IsTrue, IsSome, IfSome};
+ghost use Rattle.std.specs.Iterator.{YieldsFirst, item_count};
+ghost use Rattle.tr_record.specs.Whole.{AreWhole, entries_of};
+
+use crate::reading::read_rec;
+use crate::view::RecView;
+use std::marker::Model;
+
+/// The records whose texts stand end to end in bytes, read as they are asked for. Contracts see the list of those that
+/// are left.
+#[derive(Drop, Debug)]
+pub struct Records<'a> {
+    rest: &'a [u8],
+}
+
+impl<'a> Model for Records<'a> {
+    ghost use Rattle.std.specs.Prelude.{List};
+    ghost use Rattle.tr_record.specs.Records.{Entry};
+    ghost use Rattle.tr_record.specs.Whole.{AreWhole, entries_of};
+
+    ghost Value = { List Entry };
+
+    ghost view = { λ r. entries_of r.rest.now };
+
+    ghost invariant = { λ r. AreWhole r.rest.now };
+}
+
+impl<'a> Records<'a> {
+    /// The records in bytes that are whole records.
+    pub fn new(bytes: &'a [u8]) -> Records<'a>
+        requires { AreWhole bytes.now }
+        ensures { result ≡ entries_of bytes.entry.now }
+    {
+        Records { rest: bytes }
+    }
+
+    /// The records in bytes, where these are whole records, each with a moment within the limit.
+    pub fn checked(bytes: &'a [u8]) -> Option<Records<'a>>
+        ensures exact { IsSome result ↔ AreWhole bytes.entry.now }
+        ensures value { IfSome result (λ r. r ≡ entries_of bytes.entry.now) }
+    {
+        if !are_whole(bytes) {
+            return None;
+        }
+        Some(Records::new(bytes))
+    }
+}
+
+/// Whether the bytes are whole records, each with a moment within the limit.
+fn are_whole(bytes: &[u8]) -> bool
+    ensures { IsTrue result ↔ AreWhole bytes.now }
+{
+    let mut rest = bytes;
+    while !rest.is_empty() {
+        let Some((_, size)) = read_rec(rest) else {
+            return false;
+        };
+        let (_, after) = rest.split_at(size);
+        rest = after;
+    }
+    true
+}
+
+impl<'a> Iterator for Records<'a> {
+    type Item = RecView<'a>;
+
+    ghost next_gives = { YieldsFirst (λ left. left) };
+
+    ghost remaining = { item_count (λ left. left) };
+
+    fn next(&mut self) -> Option<RecView<'a>> {
+        let Some((r, size)) = read_rec(self.rest) else {
+            return None;
+        };
+        let (_, rest) = self.rest.split_at(size);
+        self.rest = rest;
+        Some(r)
+    }
+}

@@ -1,0 +1,120 @@
+//! Why calls of a session are refused.
+
+ghost use Rattle.std.specs.Prelude.{◌≡◌};
+ghost use Rattle.tr_session.specs.Faults.{session_fault_code, session_fault_name, step_fault_code, step_fault_name};
+
+use std::alloc::AllocError;
+use thiserror::Error;
+use tr_stream::{OfferFault, TakeFault};
+
+/// Why a call was refused. The session is as it was.
+#[derive(Clone, Copy, Debug, PartialEq, Eq, Error)]
+pub enum SessionFault {
+    /// The session is active already.
+    #[error("S6 AlreadyActive")]
+    AlreadyActive,
+    /// There is no stream of this number.
+    #[error("S8 NoStream")]
+    NoStream,
+    /// The session was started, so nothing can be added.
+    #[error("S10 AlreadyStarted")]
+    AlreadyStarted,
+    /// No ring has such sub-buffers.
+    #[error("S11 BadGeometry")]
+    BadGeometry,
+    /// There are as many as there may be.
+    #[error("S12 TooMany")]
+    TooMany,
+    /// The name is taken.
+    #[error("S15 NameTaken")]
+    NameTaken,
+    /// Memory was refused.
+    #[error("S16 NoMemory")]
+    NoMemory,
+    /// There is no channel of this name.
+    #[error("S17 NoChannel")]
+    NoChannel,
+}
+
+/// Why a step of a stream was refused: by the session, or by the stream. Nothing changed.
+#[derive(Clone, Copy, Debug, PartialEq, Eq, Error)]
+pub enum StepFault {
+    /// By the session.
+    #[error("{0}")]
+    Session(SessionFault),
+    /// An offer, by the stream.
+    #[error("{0}")]
+    Offer(OfferFault),
+    /// A take, by the stream.
+    #[error("{0}")]
+    Take(TakeFault),
+}
+
+impl SessionFault {
+    /// The code that answers and documents call it by.
+    pub fn code(&self) -> &'static str
+        ensures { result.now ≡ session_fault_code self.now }
+    {
+        match self {
+            SessionFault::AlreadyActive => "S6",
+            SessionFault::NoStream => "S8",
+            SessionFault::AlreadyStarted => "S10",
+            SessionFault::BadGeometry => "S11",
+            SessionFault::TooMany => "S12",
+            SessionFault::NameTaken => "S15",
+            SessionFault::NoMemory => "S16",
+            SessionFault::NoChannel => "S17",
+        }
+    }
+
+    /// Its name, as answers print it.
+    pub fn name(&self) -> &'static str
+        ensures { result.now ≡ session_fault_name self.now }
+    {
+        match self {
+            SessionFault::AlreadyActive => "AlreadyActive",
+            SessionFault::NoStream => "NoStream",
+            SessionFault::AlreadyStarted => "AlreadyStarted",
+            SessionFault::BadGeometry => "BadGeometry",
+            SessionFault::TooMany => "TooMany",
+            SessionFault::NameTaken => "NameTaken",
+            SessionFault::NoMemory => "NoMemory",
+            SessionFault::NoChannel => "NoChannel",
+        }
+    }
+}
+
+impl StepFault {
+    /// The code that answers and documents call it by.
+    pub fn code(&self) -> &'static str
+        ensures { result.now ≡ step_fault_code self.now }
+    {
+        match self {
+            StepFault::Session(fault) => fault.code(),
+            StepFault::Offer(fault) => fault.code(),
+            StepFault::Take(fault) => fault.code(),
+        }
+    }
+
+    /// Its name, as answers print it.
+    pub fn name(&self) -> &'static str
+        ensures { result.now ≡ step_fault_name self.now }
+    {
+        match self {
+            StepFault::Session(fault) => fault.name(),
+            StepFault::Offer(fault) => fault.name(),
+            StepFault::Take(fault) => fault.name(),
+        }
+    }
+}
+
+impl From<AllocError> for SessionFault {
+    ghost use Rattle.std.specs.Prelude.{◌≡◌};
+    ghost use Rattle.tr_session.specs.declared.faults.SessionFault.TheVariants.{NoMemory};
+
+    ghost from_gives = { λ _ fault. fault ≡ NoMemory };
+
+    fn from(_error: AllocError) -> SessionFault {
+        SessionFault::NoMemory
+    }
+}

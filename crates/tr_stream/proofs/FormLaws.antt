@@ -1,0 +1,109 @@
+-- What steps keep of a well-formed model.
+use Rattle.std.proofs.Common.{◌≡◌, ◌≢◌, ℕ, ◌+◌, ◌≤◌, ◌<◌, true, false, cond, eqb, ltb, List, [], ◌∷◌, ◌++◌, length, refl, sym, ap, subst, ◌∙◌, append_assoc, arith}
+use Rattle.std.proofs.lemmas.Bool.Decides.{nat_tests}
+use Rattle.std.proofs.lemmas.Grind.{common_steps}
+use Rattle.std.proofs.lemmas.List.{append-nil}
+use Rattle.std.proofs.lemmas.List.Sums.{sum_by-cons, sum_by_push}
+use Rattle.tr_stream.specs.History.{Status, Waiting, Dropped, Kept, Block, Closed, is_waiting, is_dropped, is_kept_in, offers_in, offers_before}
+use Rattle.tr_stream.specs.WellFormed.{NumberedFrom, AllWait, WaitLast, IsWithin, AllWithinCuts, RecordsRise, next_serial, StartsAt, Covers, CoversFrom, AllUsed, LastHeld}
+use Rattle.tr_ring.specs.ClosedBuffer.{ClosedBuffer}
+use Rattle.tr_record.specs.Records.{Entry}
+use Rattle.tr_stream.specs.Chunks.{buffers_where}
+use Rattle.tr_stream.specs.Steps.{settle_first}
+
+pub NumberedFrom-push : (n : ℕ) (cs : List Closed) (c : Closed) → NumberedFrom n cs → c.block.number ≡ n + length cs → NumberedFrom n (cs ++ c ∷ [])
+NumberedFrom-push n [] c old new = (grind arith, tt)
+NumberedFrom-push n (d ∷ cs) c old new = (old.0, NumberedFrom-push (n + 1) cs c old.1 (grind (arith, common_steps)))
+
+pub NumberedFrom-settle_first : (n : ℕ) (status : Status) (cs : List Closed) → NumberedFrom n cs → NumberedFrom n (settle_first status cs)
+NumberedFrom-settle_first n status [] old = tt
+NumberedFrom-settle_first n status (c ∷ cs) old = grind (arith, common_steps, NumberedFrom-settle_first (n + 1) status cs old.1)
+
+pub length-settle_first : (status : Status) (cs : List Closed) → length (settle_first status cs) ≡ length cs
+length-settle_first status [] = refl
+length-settle_first status (c ∷ cs) = grind (arith, common_steps, length-settle_first status cs)
+
+pub AllWait-push : (cs : List Closed) (c : Closed) → AllWait cs → is_waiting c.status ≡ true → AllWait (cs ++ c ∷ [])
+AllWait-push [] c old new = (new, tt)
+AllWait-push (d ∷ cs) c old new = (old.0, AllWait-push cs c old.1 new)
+
+pub WaitLast-push : (cs : List Closed) (c : Closed) → WaitLast cs → is_waiting c.status ≡ true → WaitLast (cs ++ c ∷ [])
+WaitLast-push [] c old new = (λ _. tt, tt)
+WaitLast-push (d ∷ cs) c old new = (λ w. AllWait-push cs c (old.0 w) new, WaitLast-push cs c old.1 new)
+
+pub WaitLast-settle_first : (status : Status) (cs : List Closed) → is_waiting status ≡ false → WaitLast cs → WaitLast (settle_first status cs)
+WaitLast-settle_first status [] settled old = tt
+WaitLast-settle_first status (c ∷ cs) settled old = grind (arith, common_steps, WaitLast-settle_first status cs settled old.1)
+
+pub AllWithinCuts-push : (cuts : ℕ) (cs : List Closed) (c : Closed) → AllWithinCuts cuts cs → IsWithin cuts c.status → AllWithinCuts cuts (cs ++ c ∷ [])
+AllWithinCuts-push cuts [] c old new = (new, tt)
+AllWithinCuts-push cuts (d ∷ cs) c old new = (old.0, AllWithinCuts-push cuts cs c old.1 new)
+
+pub AllWithinCuts-settle_first : (cuts : ℕ) (status : Status) (cs : List Closed) → IsWithin cuts status → AllWithinCuts cuts cs → AllWithinCuts cuts (settle_first status cs)
+AllWithinCuts-settle_first cuts status [] new old = tt
+AllWithinCuts-settle_first cuts status (c ∷ cs) new old = grind (arith, common_steps, AllWithinCuts-settle_first cuts status cs new old.1)
+
+-- one more serial
+pub serials_more : (n serial offered offered' before after : ℕ) → serial ≡ offered → offered' ≡ offered + 1 → before ≡ cond (ltb n offered) 1 0 → after ≡ before + cond (eqb serial n) 1 0 → after ≡ cond (ltb n offered') 1 0
+serials_more n serial offered offered' before after next more old new = grind (arith, nat_tests)
+
+pub serials_same : (n offered offered' before after : ℕ) → offered' ≡ offered → before ≡ cond (ltb n offered) 1 0 → after ≡ before → after ≡ cond (ltb n offered') 1 0
+serials_same n offered offered' before after same old new = new ∙ old ∙ ap (λ (k : ℕ). cond (ltb n k) 1 0) (sym same)
+
+RecordsRise-push : (low : ℕ) (rs : List Entry) (r : Entry) → RecordsRise low rs → next_serial low rs ≤ r.serial → RecordsRise low (rs ++ r ∷ [])
+RecordsRise-push low [] r rise above = (above, tt)
+RecordsRise-push low (q ∷ rs) r rise above = (rise.0, RecordsRise-push (q.serial + 1) rs r rise.1 above)
+
+next_serial-push : (low : ℕ) (rs : List Entry) (r : Entry) → next_serial low (rs ++ r ∷ []) ≡ r.serial + 1
+next_serial-push low [] r = refl
+next_serial-push low (q ∷ rs) r = next_serial-push (q.serial + 1) rs r
+
+starts-join : (low : ℕ) (rs : List Entry) (missed : List ℕ) (r : Entry) → r.serial ≡ low + (length rs + length missed) → StartsAt low rs missed → StartsAt low (rs ++ r ∷ []) missed
+starts-join low [] missed r next old = let e : length missed ≡ 0 = ap length old in omega (arith, e)
+starts-join low (q ∷ rs) missed r next old = old
+
+starts-miss : (low : ℕ) (rs : List Entry) (missed more : List ℕ) → rs ≢ [] → StartsAt low rs missed → StartsAt low rs more
+starts-miss low [] missed more used old = absurd (used refl)
+starts-miss low (q ∷ rs) missed more used old = old
+
+pub Covers-join : (low : ℕ) (b : Block) (r : Entry) → r.serial ≡ low + offers_in b → Covers low b → Covers low (record b { records = b.records ++ r ∷ [] })
+Covers-join low b r next old = record {
+  starts = starts-join low b.records b.missed r next old.starts;
+  rise = RecordsRise-push low b.records r old.rise (omega (arith, old.within));
+  within = grind (arith, common_steps, next, next_serial-push low b.records r);
+}
+
+pub Covers-miss : (low : ℕ) (b : Block) (serial : ℕ) → b.records ≢ [] → Covers low b → Covers low (record b { missed = b.missed ++ serial ∷ [] })
+Covers-miss low b serial used old = record { starts = starts-miss low b.records b.missed (b.missed ++ serial ∷ []) used old.starts; rise = old.rise; within = grind (arith, common_steps, old.within) }
+
+pub Covers-one : (low number : ℕ) (r : Entry) → r.serial ≡ low → Covers low (record { number = number; records = r ∷ []; missed = [] })
+Covers-one low number r next = record { starts = next; rise = (omega arith, tt); within = grind (arith, next) }
+
+pub offers_before-push : (cs : List Closed) (c : Closed) → offers_before (cs ++ c ∷ []) ≡ offers_before cs + offers_in c.block
+offers_before-push cs c = sum_by_push (λ (c : Closed). offers_in c.block) cs c
+
+pub CoversFrom-push : (low : ℕ) (cs : List Closed) (c : Closed) → CoversFrom low cs → Covers (low + offers_before cs) c.block → CoversFrom low (cs ++ c ∷ [])
+CoversFrom-push low [] c old new = (subst (λ (n : ℕ). Covers n c.block) (omega arith) new, tt)
+CoversFrom-push low (d ∷ cs) c old new =
+    (old.0, CoversFrom-push (low + offers_in d.block) cs c old.1 (subst (λ (n : ℕ). Covers n c.block) (omega (arith, sum_by-cons (λ (c : Closed). offers_in c.block) d cs)) new))
+
+pub CoversFrom-settle_first : (low : ℕ) (status : Status) (cs : List Closed) → CoversFrom low cs → CoversFrom low (settle_first status cs)
+CoversFrom-settle_first low status [] old = tt
+CoversFrom-settle_first low status (c ∷ cs) old = grind (arith, common_steps, CoversFrom-settle_first (low + offers_in c.block) status cs old.1)
+
+pub AllUsed-push : (cs : List Closed) (c : Closed) → AllUsed cs → c.block.records ≢ [] → AllUsed (cs ++ c ∷ [])
+AllUsed-push [] c old new = (new, tt)
+AllUsed-push (d ∷ cs) c old new = (old.0, AllUsed-push cs c old.1 new)
+
+pub AllUsed-settle_first : (status : Status) (cs : List Closed) → AllUsed cs → AllUsed (settle_first status cs)
+AllUsed-settle_first status [] old = tt
+AllUsed-settle_first status (c ∷ cs) old = grind (arith, common_steps, AllUsed-settle_first status cs old.1)
+
+pub LastHeld-settle_first : (k : ℕ) (cs : List Closed) → LastHeld cs → LastHeld (settle_first (Kept k) cs)
+LastHeld-settle_first k [] old = tt
+LastHeld-settle_first k (c ∷ []) old = grind (arith, common_steps, old)
+LastHeld-settle_first k (c ∷ d ∷ ds) old = grind (arith, common_steps, LastHeld-settle_first k (d ∷ ds) old)
+
+pub nil-push : {X : Type 0} (xs : List X) (x : X) → xs ++ x ∷ [] ≢ []
+nil-push [] x e = cc
+nil-push (y ∷ xs) x e = cc

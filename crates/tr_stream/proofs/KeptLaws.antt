@@ -1,0 +1,117 @@
+-- Each call leaves a stream sound, with a history that led to it.
+use Rattle.std.proofs.Common.{◌≡◌, ◌≢◌, ℕ, ◌+◌, ◌-◌, ◌^◌, ◌≤◌, ◌<◌, zero, suc, Bool, true, false, List, [], ◌∷◌, length, max, take, Option, Some, None, refl, sym, ◌∙◌, ap, subst, arith}
+use Rattle.std.proofs.lemmas.Bool.Decides.{nat_tests}
+use Rattle.std.proofs.lemmas.Grind.{common_steps}
+use Rattle.std.specs.Prelude.{nat_lt}
+use Rattle.tr_book.specs.declared.mode.Mode.{Mode}
+use Rattle.tr_book.specs.declared.mode.Mode.TheVariants.{Discard, Overwrite}
+use Rattle.tr_record.specs.Records.{Entry, Fits, last_moment}
+use Rattle.tr_ring.specs.Ring.{RingState, current_buffer, after_push, push_answer}
+use Rattle.tr_ring.specs.declared.pushed.Pushed.{Pushed}
+use Rattle.tr_book.specs.Book.{BookState}
+use Rattle.tr_ring.specs.ClosedBuffer.{ClosedBuffer}
+use Rattle.tr_stream.proofs.OfferLaws.{IsAccepted, accepted, not_empty, joins, follows, misses, replaces, offers}
+use Rattle.tr_stream.proofs.OpenLaws.{open-none}
+use Rattle.tr_stream.proofs.Refinement.{with_joined, with_followed, with_missed, without_oldest, stands-switched}
+use Rattle.tr_stream.proofs.SoundLaws.{IsNext, sound-joined, sound-missed, sound-followed, sound-without_oldest, sound-moved, sound-switched}
+use Rattle.tr_stream.proofs.TakeLaws.{starts, takes}
+use Rattle.tr_stream.specs.Kept.{IsKept}
+use Rattle.tr_stream.specs.Sound.{IsSound, IsConfig}
+use Rattle.tr_stream.specs.State.{StreamState}
+use Rattle.tr_stream.specs.StateSteps.{booked, entered, refusal_of, state_unless, with_offer, state_after_offer, moved_oldest, state_after_take, state_switched, new_state, overwrites}
+use Rattle.tr_stream.specs.Steps.{after_offer, after_take, start, switched}
+use Rattle.tr_stream.specs.declared.answers.OfferFault.{OfferFault}
+use Rattle.tr_stream.specs.declared.config.StreamConfig.{StreamConfig}
+use Rattle.tr_subbuf.specs.SubBuffer.{has_room}
+
+overwrites-is : (m : Mode) → overwrites m ≡ true → m ≡ Overwrite
+overwrites-is Discard e = cc
+overwrites-is Overwrite e = refl
+
+overwrites-not : (m : Mode) → overwrites m ≡ false → m ≡ Discard
+overwrites-not Discard e = refl
+overwrites-not Overwrite e = cc
+
+-- what an offer brings
+pub record IsOffer (moment id : ℕ) (payload : List ℕ) : Type 0 where
+  pub moment_in : moment ≤ last_moment
+  pub id_in : id < 2 ^ 32
+
+entered-is_next : (s : StreamState) (moment id : ℕ) (payload : List ℕ) → IsOffer moment id payload → IsSound s → IsAccepted s (length payload) → IsNext s (entered moment id payload s)
+entered-is_next s moment id payload offer is ok = record {
+  left = ok.left;
+  fits = record { serial = omega (arith, ok.left); moment = omega (arith, offer.moment_in, is.in_time); id = offer.id_in; payload = omega (arith, ok.small, is.config.size_high) };
+  serial = refl;
+  moment = omega arith;
+}
+
+-- an accepted offer, by the cases of the push
+sound-offered : (s : StreamState) (moment id : ℕ) (payload : List ℕ) (room free over : Bool) (waiting : List ClosedBuffer) → IsOffer moment id payload → IsSound s → IsAccepted s (length payload) → has_room (current_buffer s.ring) (length payload) ≡ room → nat_lt (length s.ring.waiting + 1) s.ring.count ≡ free → s.ring.overwrite ≡ over → s.ring.waiting ≡ waiting → IsSound (with_offer (entered moment id payload s) s)
+sound-offered s moment id payload true free over waiting offer is ok room_is free_is over_is waiting_is =
+    let e = entered moment id payload s in
+    subst (λ (t : StreamState). IsSound t) (sym (joins e s room_is))
+    (sound-joined s e is (entered-is_next s moment id payload offer is ok) (grind (arith, nat_tests, room_is, is.made.size)))
+sound-offered s moment id payload false true over waiting offer is ok room_is free_is over_is waiting_is =
+    let e = entered moment id payload s in
+    subst (λ (t : StreamState). IsSound t) (sym (follows e s room_is free_is))
+    (sound-followed s e is (entered-is_next s moment id payload offer is ok) (not_empty s (length payload) is.made ok.small room_is) (omega (arith, ok.small, is.made.size_low)) (grind (arith, nat_tests, free_is, is.made.count)))
+sound-offered s moment id payload false false false waiting offer is ok room_is free_is over_is waiting_is =
+    let e = entered moment id payload s in
+    let next = entered-is_next s moment id payload offer is ok in
+    subst (λ (t : StreamState). IsSound t) (sym (misses e s room_is free_is over_is))
+    (sound-missed s e.moment is ok.left next.moment next.fits.moment (overwrites-not s.config.mode (sym is.made.mode ∙ over_is)))
+sound-offered s moment id payload false false true [] offer is ok room_is free_is over_is waiting_is =
+    let none : length s.ring.waiting ≡ 0 = ap length waiting_is in
+    absurd (grind (arith, nat_tests, none, free_is, is.made.count, is.made.count_low))
+sound-offered s moment id payload false false true (b ∷ bs) offer is ok room_is free_is over_is waiting_is =
+    let e = entered moment id payload s in
+    let next = entered-is_next s moment id payload offer is ok in
+    let some : 0 < length s.ring.waiting = rw waiting_is (grind (arith, common_steps)) in
+    let without = sound-without_oldest s is some (overwrites-is s.config.mode (sym is.made.mode ∙ over_is)) in
+    let less : length (without_oldest s).ring.waiting + 1 ≡ length s.ring.waiting = rw waiting_is (grind (arith, common_steps)) in
+    subst (λ (t : StreamState). IsSound t) (sym (replaces e s room_is free_is over_is b bs waiting_is))
+    (sound-followed (without_oldest s) e without (record { left = next.left; fits = next.fits; serial = next.serial; moment = next.moment })
+    (not_empty s (length payload) is.made ok.small room_is) (omega (arith, ok.small, is.made.size_low)) (omega (arith, less, is.room)))
+
+sound-unless : (s : StreamState) (moment id : ℕ) (payload : List ℕ) (refusal : Option OfferFault) → refusal_of (length payload) s ≡ refusal → IsOffer moment id payload → IsSound s → IsSound (state_unless refusal (entered moment id payload s) s)
+sound-unless s moment id payload (Some fault) told offer is = is
+sound-unless s moment id payload None told offer is =
+    sound-offered s moment id payload (has_room (current_buffer s.ring) (length payload)) (nat_lt (length s.ring.waiting + 1) s.ring.count) s.ring.overwrite s.ring.waiting offer is (accepted s (length payload) told) refl refl refl refl
+
+pub kept-offered : (s : StreamState) (moment id : ℕ) (payload : List ℕ) → IsOffer moment id payload → IsKept s → IsKept (state_after_offer moment id payload s)
+kept-offered s moment id payload offer is = record {
+  sound = sound-unless s moment id payload (refusal_of (length payload) s) refl offer is.sound;
+  history = (after_offer s.config moment id payload is.history.0, (offers s is.history.0 moment id payload is.sound.made is.history.1).1);
+}
+
+sound-oldest : (s : StreamState) (waiting : List ClosedBuffer) → s.ring.waiting ≡ waiting → IsSound s → IsSound (moved_oldest waiting s)
+sound-oldest s [] waiting_is is = is
+sound-oldest s (b ∷ bs) waiting_is is = sound-moved s b bs waiting_is is
+
+pub kept-taken : (s : StreamState) → IsKept s → IsKept (state_after_take s)
+kept-taken s is = record { sound = sound-oldest s s.ring.waiting refl is.sound; history = (after_take is.history.0, (takes s is.history.0 is.history.1).1) }
+
+pub kept-switched : (s : StreamState) (active : Bool) → IsKept s → IsKept (state_switched active s)
+kept-switched s active is = record { sound = sound-switched s active is.sound; history = (switched active is.history.0, stands-switched s is.history.0 active is.history.1) }
+
+-- a new stream
+pub kept-new : (c : StreamConfig) → IsConfig c → 256 ≤ c.geometry.size → 2 ≤ c.geometry.count → IsKept (new_state c)
+kept-new c config size count = record {
+  sound = record {
+    config = config;
+    made = record { size = refl; count = refl; mode = refl; size_low = size; count_low = count };
+    few = omega arith;
+    in_time = omega arith;
+    total = refl;
+    consumed = refl;
+    numbers = omega arith;
+    dropped = omega arith;
+    room = omega arith;
+    fits = omega arith;
+    no_loss = λ e. refl;
+    no_drop = λ e. (refl, refl);
+    packets = tt;
+    filling = open-none;
+  };
+  history = (start, starts c);
+}

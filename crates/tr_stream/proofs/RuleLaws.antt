@@ -1,0 +1,87 @@
+-- A stream that stands for a history goes on doing so, and answers as the history does.
+use Rattle.std.proofs.Common.{◌≡◌, ℕ, ◌+◌, ◌≤◌, zero, suc, Bool, true, false, cond, List, [], ◌∷◌, length, Option, Some, None, refl, sym, ◌∙◌, ap, subst, arith}
+use Rattle.std.proofs.lemmas.Bool.Decides.{nat_tests}
+use Rattle.std.specs.Prelude.{nat_lt}
+use Rattle.tr_record.specs.Records.{Entry}
+use Rattle.tr_ring.specs.ClosedBuffer.{ClosedBuffer}
+use Rattle.tr_ring.specs.Ring.{RingState, current_buffer, after_push, joined, followed, refusing, without_first}
+use Rattle.tr_stream.proofs.OfferLaws.{offers}
+use Rattle.tr_stream.proofs.Refinement.{stands-switched}
+use Rattle.tr_stream.proofs.TakeLaws.{starts, takes, counts-are}
+use Rattle.tr_stream.specs.Rules.{StreamRules, Traced, Agrees, by_state, by_history}
+use Rattle.tr_stream.specs.Sound.{IsMade}
+use Rattle.tr_stream.specs.StandsFor.{StandsFor}
+use Rattle.tr_stream.specs.State.{StreamState}
+use Rattle.tr_stream.specs.StateSteps.{entered, refusal_of, state_unless, state_after_offer, state_after_take, moved_oldest, overwrites}
+use Rattle.tr_stream.specs.Steps.{after_offer}
+use Rattle.tr_stream.specs.declared.answers.OfferFault.{OfferFault}
+use Rattle.tr_stream.specs.declared.config.StreamConfig.{StreamConfig}
+use Rattle.tr_subbuf.specs.SubBuffer.{has_room}
+
+-- a push leaves the ring as it was made
+chosen : {X : Type 0} (f : RingState → X) (x : X) (room free over : Bool) (a b c d : RingState) → f a ≡ x → f b ≡ x → f c ≡ x → f d ≡ x → f (cond room a (cond free b (cond over c d))) ≡ x
+chosen f x true free over a b c d p q r s = p
+chosen f x false true over a b c d p q r s = q
+chosen f x false false true a b c d p q r s = r
+chosen f x false false false a b c d p q r s = s
+
+made-pushed : (c : StreamConfig) (e : Entry) (r : RingState) → IsMade c r → IsMade c (after_push e r)
+made-pushed c e r is =
+    let room = has_room (current_buffer r) (length e.payload) in
+    let free = nat_lt (length r.waiting + 1) r.count in
+    record {
+      size = chosen (λ (q : RingState). q.size) c.geometry.size room free r.overwrite (joined e r) (followed e r) (followed e (without_first r)) (refusing r) is.size is.size is.size is.size;
+      count = chosen (λ (q : RingState). q.count) c.geometry.count room free r.overwrite (joined e r) (followed e r) (followed e (without_first r)) (refusing r) is.count is.count is.count is.count;
+      mode = chosen (λ (q : RingState). q.overwrite) (overwrites c.mode) room free r.overwrite (joined e r) (followed e r) (followed e (without_first r)) (refusing r) is.mode is.mode is.mode is.mode;
+      size_low = is.size_low;
+      count_low = is.count_low;
+    }
+
+made-unless : (s : StreamState) (e : Entry) (refusal : Option OfferFault) → IsMade s.config s.ring → IsMade (state_unless refusal e s).config (state_unless refusal e s).ring
+made-unless s e (Some fault) is = is
+made-unless s e None is = made-pushed s.config e s.ring is
+
+config-unless : (s : StreamState) (e : Entry) (refusal : Option OfferFault) → (state_unless refusal e s).config ≡ s.config
+config-unless s e (Some fault) = refl
+config-unless s e None = refl
+
+-- a new stream, and a history that begins
+pub agree-made : (c : StreamConfig) → 256 ≤ c.geometry.size → 2 ≤ c.geometry.count → Agrees (by_state.made c) (by_history.made c)
+agree-made c size count = record { config = refl; made = record { size = refl; count = refl; mode = refl; size_low = size; count_low = count }; stands = starts c }
+
+-- an offer
+pub same-offered : (s : StreamState) (t : Traced) (moment id : ℕ) (payload : List ℕ) → Agrees s t → by_state.offered moment id payload s ≡ by_history.offered moment id payload t
+same-offered s t moment id payload is = rw (← is.config) ((offers s t.history moment id payload is.made is.stands).0)
+
+pub agree-offered : (s : StreamState) (t : Traced) (moment id : ℕ) (payload : List ℕ) → Agrees s t → Agrees (by_state.after_offered moment id payload s) (by_history.after_offered moment id payload t)
+agree-offered s t moment id payload is =
+    let e = entered moment id payload s in
+    let refusal = refusal_of (length payload) s in
+    record {
+      config = config-unless s e refusal ∙ is.config;
+      made = made-unless s e refusal is.made;
+      stands = subst (λ (c : StreamConfig). StandsFor (state_after_offer moment id payload s) (after_offer c moment id payload t.history)) is.config (offers s t.history moment id payload is.made is.stands).1;
+    }
+
+-- a take
+pub same-taken : (s : StreamState) (t : Traced) → Agrees s t → by_state.taken s ≡ by_history.taken t
+same-taken s t is = (takes s t.history is.stands).0
+
+made-oldest : (s : StreamState) (waiting : List ClosedBuffer) → IsMade s.config s.ring → IsMade (moved_oldest waiting s).config (moved_oldest waiting s).ring
+made-oldest s [] is = is
+made-oldest s (b ∷ bs) is = record { size = is.size; count = is.count; mode = is.mode; size_low = is.size_low; count_low = is.count_low }
+
+config-oldest : (s : StreamState) (waiting : List ClosedBuffer) → (moved_oldest waiting s).config ≡ s.config
+config-oldest s [] = refl
+config-oldest s (b ∷ bs) = refl
+
+pub agree-taken : (s : StreamState) (t : Traced) → Agrees s t → Agrees (by_state.after_taken s) (by_history.after_taken t)
+agree-taken s t is = record { config = config-oldest s s.ring.waiting ∙ is.config; made = made-oldest s s.ring.waiting is.made; stands = (takes s t.history is.stands).1 }
+
+-- a start or a stop
+pub agree-turned : (s : StreamState) (t : Traced) (active : Bool) → Agrees s t → Agrees (by_state.turned active s) (by_history.turned active t)
+agree-turned s t active is = record { config = is.config; made = is.made; stands = stands-switched s t.history active is.stands }
+
+-- the counts
+pub same-counted : (s : StreamState) (t : Traced) → Agrees s t → by_state.counted s ≡ by_history.counted t
+same-counted s t is = rw (← is.config) (counts-are s t.history is.stands)

@@ -1,0 +1,156 @@
+-- Each inner step of a stream leaves it sound.
+use Rattle.std.proofs.Common.{◌≡◌, ◌≢◌, ℕ, ◌+◌, ◌-◌, ◌^◌, ◌≤◌, ◌<◌, Bool, List, [], ◌∷◌, ◌++◌, length, take, drop, min, refl, sym, ap, subst, ◌∙◌, arith}
+use Rattle.std.proofs.Common.{length-drop, length-append}
+use Rattle.std.proofs.lemmas.Grind.{common_steps}
+use Rattle.std.proofs.lemmas.List.Sums.{sum_by_push}
+use Rattle.tr_book.specs.declared.mode.Mode.{Mode}
+use Rattle.tr_book.specs.declared.mode.Mode.TheVariants.{Discard, Overwrite}
+use Rattle.tr_packet.specs.Packets.{Contents, IsPacket}
+use Rattle.tr_record.specs.Records.{Entry, Fits, last_moment}
+use Rattle.tr_record.specs.Weight.{weight_of}
+use Rattle.tr_ring.specs.Ring.{RingState, closing}
+use Rattle.tr_ring.specs.ClosedBuffer.{ClosedBuffer}
+use Rattle.tr_stream.proofs.ChunkLaws.{records_in-cons, records_in-append}
+use Rattle.tr_stream.proofs.OpenLaws.{open-joined, open-one, open-missed}
+use Rattle.tr_packet.proofs.OrderLemmas.{MakePacket-later}
+use Rattle.tr_stream.proofs.Refinement.{with_joined, with_followed, with_missed, without_oldest, with_moved}
+use Rattle.tr_stream.specs.Chunks.{packet_of, begin_of}
+use Rattle.tr_stream.specs.Sound.{IsSound, IsOpen, ArePackets}
+use Rattle.tr_stream.specs.State.{StreamState, records_in, in_ring}
+use Rattle.tr_stream.specs.StateSteps.{state_switched}
+use Rattle.tr_stream.specs.declared.config.StreamConfig.{StreamConfig}
+
+are-push : (c : StreamConfig) (bs : List ClosedBuffer) (b : ClosedBuffer) → ArePackets c bs → IsPacket (packet_of c b) → ArePackets c (bs ++ b ∷ [])
+are-push c [] b old new = (new, tt)
+are-push c (x ∷ bs) b old new = (old.0, are-push c bs b old.1 new)
+
+are-drop : (c : StreamConfig) (bs : List ClosedBuffer) → ArePackets c bs → ArePackets c (drop 1 bs)
+are-drop c [] old = tt
+are-drop c (b ∷ bs) old = old.1
+
+used_some : {X : Type 0} (xs : List X) → xs ≢ [] → 0 < length xs
+used_some [] used = absurd (used refl)
+used_some (x ∷ xs) used = grind (arith, common_steps)
+
+-- the current sub-buffer, closed at a moment that isn't before the last one
+pub closing-is_packet : (s : StreamState) (end : ℕ) → IsSound s → s.ring.current ≢ [] → s.book.last ≤ end → end ≤ last_moment → IsPacket (packet_of s.config (closing end s.ring))
+closing-is_packet s end is used le in_time = record {
+  uuid = is.config.uuid;
+  stream = is.config.number;
+  seq = omega (arith, is.numbers, is.few);
+  lost = omega (arith, is.total, is.few);
+  records = MakePacket-later (begin_of s.ring.current) s.book.last end s.ring.current (is.filling.makes used) le in_time;
+}
+
+-- what is asked of the record of an accepted offer
+pub record IsNext (s : StreamState) (e : Entry) : Type 0 where
+  pub left : s.book.offered < 2 ^ 62
+  pub fits : Fits e
+  pub serial : e.serial ≡ s.book.offered
+  pub moment : s.book.last ≤ e.moment
+
+pub sound-joined : (s : StreamState) (e : Entry) → IsSound s → IsNext s e → weight_of s.ring.current + (24 + length e.payload) ≤ s.config.geometry.size → IsSound (with_joined e s)
+sound-joined s e is next room = record {
+  config = is.config;
+  made = record { size = is.made.size; count = is.made.count; mode = is.made.mode; size_low = is.made.size_low; count_low = is.made.count_low };
+  few = omega (arith, next.left);
+  in_time = next.fits.moment;
+  total = grind (arith, common_steps, is.total);
+  consumed = is.consumed;
+  numbers = grind (arith, common_steps, is.numbers);
+  dropped = is.dropped;
+  room = is.room;
+  fits = grind (arith, common_steps, room);
+  no_loss = is.no_loss;
+  no_drop = is.no_drop;
+  packets = is.packets;
+  filling = open-joined s.book.offered s.book.last s.ring.current e next.fits next.serial next.moment (omega (arith, room, is.config.size_high)) is.filling;
+}
+
+other : (let m : Mode = Discard in m) ≡ Overwrite → ⊥
+other e = cc
+
+pub sound-missed : (s : StreamState) (moment : ℕ) → IsSound s → s.book.offered < 2 ^ 62 → s.book.last ≤ moment → moment ≤ last_moment → s.config.mode ≡ Discard → IsSound (with_missed moment s)
+sound-missed s moment is left le in_time mode = record {
+  config = is.config;
+  made = record { size = is.made.size; count = is.made.count; mode = is.made.mode; size_low = is.made.size_low; count_low = is.made.count_low };
+  few = omega (arith, left);
+  in_time = in_time;
+  total = grind (arith, is.total);
+  consumed = is.consumed;
+  numbers = grind (arith, is.numbers);
+  dropped = is.dropped;
+  room = is.room;
+  fits = is.fits;
+  no_loss = λ e. absurd (other (sym mode ∙ e));
+  no_drop = is.no_drop;
+  packets = is.packets;
+  filling = open-missed s.book.offered s.book.last moment s.ring.current le in_time is.filling;
+}
+
+pub sound-followed : (s : StreamState) (e : Entry) → IsSound s → IsNext s e → s.ring.current ≢ [] → length e.payload + 104 ≤ s.config.geometry.size → length s.ring.waiting + 1 < s.config.geometry.count → IsSound (with_followed e s)
+sound-followed s e is next used small room = record {
+  config = is.config;
+  made = record { size = is.made.size; count = is.made.count; mode = is.made.mode; size_low = is.made.size_low; count_low = is.made.count_low };
+  few = omega (arith, next.left);
+  in_time = next.fits.moment;
+  total = grind (arith, common_steps, is.total, records_in-append s.ring.waiting (closing e.moment s.ring ∷ []), records_in-cons (closing e.moment s.ring) []);
+  consumed = is.consumed;
+  numbers = grind (arith, common_steps, is.numbers, used_some s.ring.current used);
+  dropped = grind (arith, common_steps, is.dropped);
+  room = grind (arith, common_steps, room);
+  fits = grind (arith, common_steps, small);
+  no_loss = is.no_loss;
+  no_drop = is.no_drop;
+  packets = are-push s.config s.ring.waiting (closing e.moment s.ring) is.packets (closing-is_packet s e.moment is used next.moment next.fits.moment);
+  filling = open-one s.book.offered e next.fits next.serial (grind (arith, common_steps, small, is.config.size_high));
+}
+
+first-split : (bs : List ClosedBuffer) → records_in bs ≡ records_in (take 1 bs) + records_in (drop 1 bs)
+first-split [] = refl
+first-split (b ∷ bs) = grind (arith, common_steps, records_in-cons b bs, records_in-cons b [])
+
+pub sound-without_oldest : (s : StreamState) → IsSound s → 0 < length s.ring.waiting → s.config.mode ≡ Overwrite → IsSound (without_oldest s)
+sound-without_oldest s is some mode = record {
+  config = is.config;
+  made = record { size = is.made.size; count = is.made.count; mode = is.made.mode; size_low = is.made.size_low; count_low = is.made.count_low };
+  few = is.few;
+  in_time = is.in_time;
+  total = grind (arith, is.total, first-split s.ring.waiting);
+  consumed = is.consumed;
+  numbers = is.numbers;
+  dropped = grind (arith, common_steps, is.dropped, length-drop 1 s.ring.waiting);
+  room = grind (arith, common_steps, is.room, length-drop 1 s.ring.waiting);
+  fits = is.fits;
+  no_loss = is.no_loss;
+  no_drop = λ e. absurd (other (sym e ∙ mode));
+  packets = are-drop s.config s.ring.waiting is.packets;
+  filling = is.filling;
+}
+
+one : (b : ClosedBuffer) (bs ws : List ClosedBuffer) → ws ≡ b ∷ bs → records_in ws ≡ length b.records + records_in (drop 1 ws)
+one b bs [] e = cc
+one b bs (c ∷ ws) e =
+    let f : c ≡ b = cc in
+    rw (← f) (records_in-cons c ws)
+
+pub sound-moved : (s : StreamState) (b : ClosedBuffer) (bs : List ClosedBuffer) → s.ring.waiting ≡ b ∷ bs → IsSound s → IsSound (with_moved b s)
+sound-moved s b bs oldest is = record {
+  config = is.config;
+  made = record { size = is.made.size; count = is.made.count; mode = is.made.mode; size_low = is.made.size_low; count_low = is.made.count_low };
+  few = is.few;
+  in_time = is.in_time;
+  total = grind (arith, is.total, one b bs s.ring.waiting oldest);
+  consumed = omega (arith, is.consumed, sum_by_push (λ (p : Contents). length p.records) s.parts.current.packets (packet_of s.config b));
+  numbers = is.numbers;
+  dropped = grind (arith, common_steps, is.dropped, length-drop 1 s.ring.waiting);
+  room = grind (arith, common_steps, is.room, length-drop 1 s.ring.waiting);
+  fits = is.fits;
+  no_loss = is.no_loss;
+  no_drop = is.no_drop;
+  packets = are-drop s.config s.ring.waiting is.packets;
+  filling = is.filling;
+}
+
+pub sound-switched : (s : StreamState) (active : Bool) → IsSound s → IsSound (state_switched active s)
+sound-switched s active is = record { config = is.config; made = is.made; few = is.few; in_time = is.in_time; total = is.total; consumed = is.consumed; numbers = is.numbers; dropped = is.dropped; room = is.room; fits = is.fits; no_loss = is.no_loss; no_drop = is.no_drop; packets = is.packets; filling = is.filling }

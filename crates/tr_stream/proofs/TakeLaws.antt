@@ -1,0 +1,60 @@
+-- A new stream begins a history, a take is the history's take, and the counts are the history's.
+use Rattle.std.proofs.Common.{◌≡◌, ℕ, ◌+◌, ◌-◌, ◌^◌, zero, suc, Bool, true, false, List, [], ◌∷◌, length, map, min, Result, Err, Ok, refl, sym, ◌∙◌, ap, subst, arith}
+use Rattle.std.proofs.lemmas.Bool.Decides.{nat_tests}
+use Rattle.std.proofs.lemmas.Grind.{common_steps}
+use Rattle.tr_book.specs.Parts.{bytes_of}
+use Rattle.tr_book.specs.declared.counts.Counts.{Counts}
+use Rattle.tr_ring.specs.ClosedBuffer.{ClosedBuffer}
+use Rattle.tr_stream.proofs.Refinement.{stands-moved}
+use Rattle.tr_stream.specs.Chunks.{buffers_where, waiting_of, chunk_of, packet_of, parts_below}
+use Rattle.tr_stream.specs.History.{Status, Kept, Closed, History, is_waiting}
+use Rattle.tr_stream.specs.StandsFor.{StandsFor}
+use Rattle.tr_stream.specs.State.{StreamState}
+use Rattle.tr_stream.specs.StateSteps.{take_result, moved_oldest, state_after_take, state_counts, new_state}
+use Rattle.tr_stream.specs.Steps.{settle_first, taken_from, take_answer, after_take, counts_of, start}
+use Rattle.tr_stream.specs.declared.config.StreamConfig.{StreamConfig}
+
+-- a new stream stands for a history that begins
+pub starts : (c : StreamConfig) → StandsFor (new_state c) start
+starts c = record {
+  model = record { numbers = tt; filling = refl; order = tt; kept = tt; used = tt; room = λ none. tt; covers = tt; covers_filling = record { starts = refl; rise = tt; within = omega arith }; chunks = refl; serials = λ n. grind (arith, nat_tests) };
+  closed = refl;
+  current = refl;
+  waiting = refl;
+  filling = refl;
+  number = refl;
+  discarded = refl;
+  offered = refl;
+  overwritten = refl;
+  overwritten_packets = refl;
+  consumed = refl;
+  last = refl;
+  active = refl;
+}
+
+nothing_settled : (status : Status) (lost : ℕ) (cs : List Closed) → buffers_where is_waiting lost cs ≡ [] → settle_first status cs ≡ cs
+nothing_settled status lost [] none = refl
+nothing_settled status lost (c ∷ cs) none = grind (arith, common_steps, nothing_settled status (lost + length c.block.missed) cs)
+
+taken : (s : StreamState) (h : History) (waiting : List ClosedBuffer) → s.ring.waiting ≡ waiting → StandsFor s h → StandsFor (moved_oldest waiting s) (after_take h)
+taken s h [] waiting_is is =
+    let same : settle_first (Kept h.cuts) h.closed ≡ h.closed = nothing_settled (Kept h.cuts) 0 h.closed (sym is.waiting ∙ waiting_is) in
+    subst (λ (cs : List Closed). StandsFor s (record h { closed = cs })) (sym same) is
+taken s h (b ∷ bs) waiting_is is = stands-moved s h b bs waiting_is is
+
+-- a take from a stream is the history's take
+pub takes : (s : StreamState) (h : History) → StandsFor s h → (take_result s ≡ take_answer h) × StandsFor (state_after_take s) (after_take h)
+takes s h is = (let a = is.current in let b = is.waiting in cc, taken s h s.ring.waiting refl is)
+
+pub length-parts_below : (c : StreamConfig) (k : ℕ) (h : History) → length (parts_below c k h) ≡ k
+length-parts_below c zero h = refl
+length-parts_below c (suc k) h = grind (arith, common_steps, length-parts_below c k h)
+
+-- the counts of a stream are the history's
+pub counts-are : (s : StreamState) (h : History) → StandsFor s h → state_counts s ≡ counts_of s.config h
+counts-are s h is =
+    let a = is.offered in let b = is.discarded in let c = is.overwritten in let d = is.overwritten_packets in
+    let e = is.consumed in let f = is.waiting in let g = is.filling in
+    let k : length s.parts.closed ≡ h.cuts = ap length is.closed ∙ length-parts_below s.config h.cuts h in
+    let m = is.current in
+    cc

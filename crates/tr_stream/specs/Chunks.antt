@@ -1,0 +1,56 @@
+-- The ring and the trace chunks of a history: its blocks, by what became of them, and their packets.
+use Rattle.std.specs.Prelude.{ℕ, ◌+◌, zero, suc, Bool, List, [], ◌∷◌, ◌++◌, length, map, nat_le, Option, Some, None, if◌then◌else◌}
+use Rattle.tr_book.specs.Parts.{PartState}
+use Rattle.tr_packet.specs.Packets.{Contents}
+use Rattle.tr_record.specs.Records.{Entry}
+use Rattle.tr_ring.specs.ClosedBuffer.{ClosedBuffer}
+use Rattle.tr_stream.specs.History.{Status, Closed, History, is_waiting, is_kept, is_kept_in}
+use Rattle.tr_stream.specs.declared.config.StreamConfig.{StreamConfig}
+
+-- the sub-buffer of a closed block, before which that many records were discarded
+abbrev pub buffer_of : ℕ → Closed → ClosedBuffer
+buffer_of lost c = record { seq = c.block.number; end = c.end; lost = lost + length c.block.missed; records = c.block.records }
+
+-- the sub-buffers of the blocks of this status, in order
+abbrev pub buffers_where : (Status → Bool) → ℕ → List Closed → List ClosedBuffer
+buffers_where wanted lost [] = []
+buffers_where wanted lost (c ∷ cs) =
+    let rest = buffers_where wanted (lost + length c.block.missed) cs in
+    if wanted c.status then buffer_of lost c ∷ rest else rest
+
+-- the closed sub-buffers that wait
+abbrev pub waiting_of : History → List ClosedBuffer
+waiting_of h = buffers_where is_waiting 0 h.closed
+
+-- what was consumed into a chunk
+abbrev pub chunk_of : ℕ → History → List ClosedBuffer
+chunk_of k h = buffers_where (is_kept_in k) 0 h.closed
+
+-- what was consumed into any chunk
+abbrev pub consumed_of : History → List ClosedBuffer
+consumed_of h = buffers_where is_kept 0 h.closed
+
+-- the moment of the first record
+abbrev pub begin_of : List Entry → ℕ
+begin_of [] = 0
+begin_of (e ∷ es) = e.moment
+
+-- the packet that a closed sub-buffer becomes
+abbrev pub packet_of : StreamConfig → ClosedBuffer → Contents
+packet_of c b = record {
+  head = record { uuid = c.uuid; stream = c.number; begin = begin_of b.records; end = b.end; seq = b.seq; lost = b.lost };
+  records = b.records;
+}
+
+-- a part: the packets of a chunk
+abbrev pub part_of : StreamConfig → ℕ → List ClosedBuffer → PartState
+part_of c k buffers = record { id = k; packets = map (packet_of c) buffers }
+
+-- the parts of the chunks below a number, in order
+abbrev pub parts_below : StreamConfig → ℕ → History → List PartState
+parts_below c zero h = []
+parts_below c (suc k) h = parts_below c k h ++ part_of c k (chunk_of k h) ∷ []
+
+-- the part of a chunk, if it was begun
+abbrev pub part_in : StreamConfig → ℕ → History → Option PartState
+part_in c k h = if nat_le k h.cuts then Some (part_of c k (chunk_of k h)) else None

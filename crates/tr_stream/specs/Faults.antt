@@ -1,0 +1,26 @@
+-- Why calls are refused, as answers print it.
+use Rattle.std.specs.Prelude.{ℕ, List, codes}
+use Rattle.tr_stream.specs.declared.answers.OfferFault.{OfferFault}
+use Rattle.tr_stream.specs.declared.answers.OfferFault.TheVariants as offer
+use Rattle.tr_stream.specs.declared.answers.TakeFault.{TakeFault}
+use Rattle.tr_stream.specs.declared.answers.TakeFault.TheVariants as take
+
+abbrev pub offer_fault_code : OfferFault → List ℕ
+offer_fault_code offer.Inactive = codes "O1"
+offer_fault_code offer.TooBig = codes "O2"
+offer_fault_code offer.Spent = codes "O3"
+offer_fault_code offer.NoMemory = codes "O4"
+
+abbrev pub offer_fault_name : OfferFault → List ℕ
+offer_fault_name offer.Inactive = codes "Inactive"
+offer_fault_name offer.TooBig = codes "TooBig"
+offer_fault_name offer.Spent = codes "Spent"
+offer_fault_name offer.NoMemory = codes "NoMemory"
+
+abbrev pub take_fault_code : TakeFault → List ℕ
+take_fault_code take.Nothing = codes "T1"
+take_fault_code take.NoMemory = codes "T3"
+
+abbrev pub take_fault_name : TakeFault → List ℕ
+take_fault_name take.Nothing = codes "Nothing"
+take_fault_name take.NoMemory = codes "NoMemory"

@@ -1,0 +1,85 @@
+-- The history of a stream: every block that it ever filled, and what became of each. No block is ever removed.
+use Rattle.std.specs.Prelude.{ℕ, ◌+◌, Bool, true, false, ◌==◌, List, length, sum_by, count_by, if◌then◌else◌}
+use Rattle.tr_record.specs.Records.{Entry}
+
+-- what became of a closed block
+pub data Status : Type 0 where
+  Waiting : Status
+  Dropped : Status
+  Kept : (chunk : ℕ) → Status
+
+-- the records stored in one sub-buffer, and the serials discarded while it was the current one
+pub record Block : Type 0 where
+  pub number : ℕ
+  pub records : List Entry
+  pub missed : List ℕ
+
+-- a block that was closed at a moment
+pub record Closed : Type 0 where
+  pub block : Block
+  pub end : ℕ
+  pub status : Status
+
+-- the closed blocks in order, and then the one that is filling; the cuts; the last moment that was stored
+pub record History : Type 0 where
+  pub closed : List Closed
+  pub filling : Block
+  pub cuts : ℕ
+  pub last : ℕ
+  pub active : Bool
+
+abbrev pub is_waiting : Status → Bool
+is_waiting Waiting = true
+is_waiting Dropped = false
+is_waiting (Kept k) = false
+
+abbrev pub is_dropped : Status → Bool
+is_dropped Waiting = false
+is_dropped Dropped = true
+is_dropped (Kept k) = false
+
+abbrev pub is_kept : Status → Bool
+is_kept Waiting = false
+is_kept Dropped = false
+is_kept (Kept k) = true
+
+abbrev pub is_kept_in : ℕ → Status → Bool
+is_kept_in k Waiting = false
+is_kept_in k Dropped = false
+is_kept_in k (Kept j) = j == k
+
+-- how many offers a block accounts for
+abbrev pub offers_in : Block → ℕ
+offers_in b = length b.records + length b.missed
+
+-- how many offers closed blocks account for
+abbrev pub offers_before : List Closed → ℕ
+offers_before cs = sum_by (λ (c : Closed). offers_in c.block) cs
+
+-- how many offers were accepted
+abbrev pub offered_of : History → ℕ
+offered_of h = offers_before h.closed + offers_in h.filling
+
+-- how many serials closed blocks miss
+abbrev pub missed_in : List Closed → ℕ
+missed_in cs = sum_by (λ (c : Closed). length c.block.missed) cs
+
+-- how many serials are missed in all
+abbrev pub discarded_of : History → ℕ
+discarded_of h = missed_in h.closed + length h.filling.missed
+
+-- how many records the blocks of this status hold
+abbrev pub records_where : (Status → Bool) → List Closed → ℕ
+records_where wanted cs = sum_by (λ (c : Closed). if wanted c.status then length c.block.records else 0) cs
+
+-- how many blocks have this status
+abbrev pub blocks_where : (Status → Bool) → List Closed → ℕ
+blocks_where wanted cs = count_by (λ (c : Closed). wanted c.status) cs
+
+-- how often a block has or misses a serial
+abbrev pub times_in : ℕ → Block → ℕ
+times_in n b = count_by (λ (r : Entry). r.serial == n) b.records + count_by (λ (m : ℕ). m == n) b.missed
+
+-- how often all blocks do
+abbrev pub times : ℕ → History → ℕ
+times n h = sum_by (λ (c : Closed). times_in n c.block) h.closed + times_in n h.filling

@@ -1,0 +1,10 @@
+-- What every stream value keeps.
+use Rattle.tr_stream.specs.History.{History}
+use Rattle.tr_stream.specs.Sound.{IsSound}
+use Rattle.tr_stream.specs.StandsFor.{StandsFor}
+use Rattle.tr_stream.specs.State.{StreamState}
+
+-- it is sound, and some history led to it
+pub record IsKept (s : StreamState) : Type 0 where
+  pub sound : IsSound s
+  pub history : (h : History) × StandsFor s h

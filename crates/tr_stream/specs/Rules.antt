@@ -1,0 +1,58 @@
+-- What the layers above ask of a stream, whatever stands for it: what it holds, or its history.
+use Rattle.std.specs.Prelude.{◌≡◌, ℕ, Bool, List, Result}
+use Rattle.tr_book.specs.declared.counts.Counts.{Counts}
+use Rattle.tr_stream.specs.History.{History}
+use Rattle.tr_stream.specs.Sound.{IsMade}
+use Rattle.tr_stream.specs.StandsFor.{StandsFor}
+use Rattle.tr_stream.specs.State.{StreamState}
+use Rattle.tr_stream.specs.StateSteps.{new_state, offer_result, state_after_offer, take_result, state_after_take, state_switched, state_counts}
+use Rattle.tr_stream.specs.Steps.{start, offer_answer, after_offer, take_answer, after_take, switched, counts_of}
+use Rattle.tr_stream.specs.declared.answers.OfferFault.{OfferFault}
+use Rattle.tr_stream.specs.declared.answers.Offered.{Offered}
+use Rattle.tr_stream.specs.declared.answers.TakeFault.{TakeFault}
+use Rattle.tr_stream.specs.declared.answers.Taken.{Taken}
+use Rattle.tr_stream.specs.declared.config.StreamConfig.{StreamConfig}
+
+pub record StreamRules (S : Type 0) : Type 0 where
+  pub made : StreamConfig → S
+  pub offered : ℕ → ℕ → List ℕ → S → Result Offered OfferFault
+  pub after_offered : ℕ → ℕ → List ℕ → S → S
+  pub taken : S → Result Taken TakeFault
+  pub after_taken : S → S
+  pub turned : Bool → S → S
+  pub counted : S → Counts
+
+-- a history, and what its stream was made with
+pub record Traced : Type 0 where
+  pub config : StreamConfig
+  pub history : History
+
+-- by what a stream holds
+abbrev pub by_state : StreamRules StreamState
+by_state = record {
+  made = new_state;
+  offered = offer_result;
+  after_offered = state_after_offer;
+  taken = take_result;
+  after_taken = state_after_take;
+  turned = state_switched;
+  counted = state_counts;
+}
+
+-- by its history
+abbrev pub by_history : StreamRules Traced
+by_history = record {
+  made = λ c. record { config = c; history = start };
+  offered = λ moment id payload t. offer_answer t.config payload t.history;
+  after_offered = λ moment id payload t. record t { history = after_offer t.config moment id payload t.history };
+  taken = λ t. take_answer t.history;
+  after_taken = λ t. record t { history = after_take t.history };
+  turned = λ active t. record t { history = switched active t.history };
+  counted = λ t. counts_of t.config t.history;
+}
+
+-- the stream was made as the history says, and stands for it
+pub record Agrees (s : StreamState) (t : Traced) : Type 0 where
+  pub config : s.config ≡ t.config
+  pub made : IsMade s.config s.ring
+  pub stands : StandsFor s t.history

@@ -1,0 +1,27 @@
+-- What a stream holds.
+use Rattle.std.specs.Prelude.{ℕ, ◌+◌, Bool, List, length, sum_by}
+use Rattle.tr_book.specs.Book.{BookState}
+use Rattle.tr_book.specs.Parts.{PartState, PartsState, records_of}
+use Rattle.tr_ring.specs.Ring.{RingState}
+use Rattle.tr_ring.specs.ClosedBuffer.{ClosedBuffer}
+use Rattle.tr_stream.specs.declared.config.StreamConfig.{StreamConfig}
+
+-- what it was made with, its ring, the parts that the ring was consumed into, its counters, and whether it takes offers
+pub record StreamState : Type 0 where
+  pub config : StreamConfig
+  pub ring : RingState
+  pub parts : PartsState
+  pub book : BookState
+  pub active : Bool
+
+-- how many records closed sub-buffers hold
+abbrev pub records_in : List ClosedBuffer → ℕ
+records_in buffers = sum_by (λ (b : ClosedBuffer). length b.records) buffers
+
+-- how many records the ring holds
+abbrev pub in_ring : RingState → ℕ
+in_ring r = records_in r.waiting + length r.current
+
+-- how many records the parts hold
+abbrev pub in_parts : PartsState → ℕ
+in_parts p = sum_by (λ (part : PartState). records_of part.packets) p.closed + records_of p.current.packets

@@ -1,0 +1,115 @@
+-- What each call does to the history, and what it answers.
+use Rattle.std.specs.Prelude.{ℕ, ◌+◌, ◌-◌, ◌^◌, max, min, Bool, false, nat_lt, nat_le, not, List, [], ◌∷◌, ◌++◌, length, map, Result, Ok, Err, if◌then◌else◌}
+use Rattle.tr_book.specs.Parts.{bytes_of}
+use Rattle.tr_book.specs.declared.counts.Counts.{Counts}
+use Rattle.tr_book.specs.declared.mode.Mode.{Mode}
+use Rattle.tr_book.specs.declared.mode.Mode.TheVariants.{Discard, Overwrite}
+use Rattle.tr_record.specs.Records.{Entry}
+use Rattle.tr_record.specs.Weight.{weight_of}
+use Rattle.tr_ring.specs.ClosedBuffer.{ClosedBuffer}
+use Rattle.tr_stream.specs.Chunks.{waiting_of, chunk_of, packet_of}
+use Rattle.tr_stream.specs.History.{Status, Waiting, Dropped, Kept, Closed, History, is_waiting, is_dropped, is_kept, offered_of, discarded_of, records_where, blocks_where}
+use Rattle.tr_stream.specs.State.{records_in}
+use Rattle.tr_stream.specs.declared.answers.OfferFault.{OfferFault}
+use Rattle.tr_stream.specs.declared.answers.OfferFault.TheVariants.{Inactive, TooBig, Spent}
+use Rattle.tr_stream.specs.declared.answers.Offered.{Offered}
+use Rattle.tr_stream.specs.declared.answers.Offered.TheVariants.{Stored, StoredOver, Discarded}
+use Rattle.tr_stream.specs.declared.answers.TakeFault.{TakeFault}
+use Rattle.tr_stream.specs.declared.answers.TakeFault.TheVariants.{Nothing}
+use Rattle.tr_stream.specs.declared.answers.Taken.{Taken}
+use Rattle.tr_stream.specs.declared.config.StreamConfig.{StreamConfig}
+
+-- at the start: one empty block is filling
+abbrev pub start : History
+start = record { closed = []; filling = record { number = 0; records = []; missed = [] }; cuts = 0; last = 0; active = false }
+
+-- an offer as it is stored
+abbrev pub entry_of : History → ℕ → ℕ → List ℕ → Entry
+entry_of h moment id payload = record { serial = offered_of h; moment = max moment h.last; id = id; payload = payload }
+
+-- what an offer comes to
+pub data Course : Type 0 where
+  Refuse : (fault : OfferFault) → Course
+  Join : Course
+  Follow : Course
+  Miss : Course
+  Replace : Course
+
+-- where there is no room
+abbrev pub course_when_full : Mode → Course
+course_when_full Discard = Miss
+course_when_full Overwrite = Replace
+
+-- the first of these that applies
+abbrev pub course_of : StreamConfig → History → ℕ → Course
+course_of c h len =
+    if not h.active then Refuse Inactive
+    else (if nat_lt (c.geometry.size - 104) len then Refuse TooBig
+    else (if nat_le (2 ^ 62) (offered_of h) then Refuse Spent
+    else (if nat_le (weight_of h.filling.records + (24 + len)) c.geometry.size then Join
+    else (if nat_lt (length (waiting_of h) + 1) c.geometry.count then Follow
+    else course_when_full c.mode))))
+
+-- the filling block is closed and waits, and a block with this record alone follows
+abbrev pub followed_by : Entry → History → History
+followed_by e h = record h {
+  closed = h.closed ++ record { block = h.filling; end = e.moment; status = Waiting } ∷ [];
+  filling = record { number = h.filling.number + 1; records = e ∷ []; missed = [] };
+  last = e.moment;
+}
+
+-- the first block that waits gets this status
+abbrev pub settle_first : Status → List Closed → List Closed
+settle_first status [] = []
+settle_first status (c ∷ cs) = if is_waiting c.status then record c { status = status } ∷ cs else c ∷ settle_first status cs
+
+abbrev pub after_course : Course → Entry → History → History
+after_course (Refuse fault) e h = h
+after_course Join e h = record h { filling = record h.filling { records = h.filling.records ++ e ∷ [] }; last = e.moment }
+after_course Follow e h = followed_by e h
+after_course Miss e h = record h { filling = record h.filling { missed = h.filling.missed ++ e.serial ∷ [] }; last = e.moment }
+after_course Replace e h = followed_by e (record h { closed = settle_first Dropped h.closed })
+
+-- the number and count of the first block that waits go with the answer
+abbrev pub over_oldest : ℕ → ℕ → List ClosedBuffer → Offered
+over_oldest serial seq [] = Stored serial seq
+over_oldest serial seq (b ∷ bs) = StoredOver serial seq b.seq (length b.records)
+
+abbrev pub course_answer : Course → History → Result Offered OfferFault
+course_answer (Refuse fault) h = Err fault
+course_answer Join h = Ok (Stored (offered_of h) h.filling.number)
+course_answer Follow h = Ok (Stored (offered_of h) (h.filling.number + 1))
+course_answer Miss h = Ok (Discarded (offered_of h))
+course_answer Replace h = Ok (over_oldest (offered_of h) (h.filling.number + 1) (waiting_of h))
+
+abbrev pub after_offer : StreamConfig → ℕ → ℕ → List ℕ → History → History
+after_offer c moment id payload h = after_course (course_of c h (length payload)) (entry_of h moment id payload) h
+
+abbrev pub offer_answer : StreamConfig → List ℕ → History → Result Offered OfferFault
+offer_answer c payload h = course_answer (course_of c h (length payload)) h
+
+-- the oldest of these, for the chunk
+abbrev pub taken_from : ℕ → List ClosedBuffer → Result Taken TakeFault
+taken_from k [] = Err Nothing
+taken_from k (b ∷ bs) = Ok (record { seq = b.seq; count = length b.records; chunk = k })
+
+abbrev pub take_answer : History → Result Taken TakeFault
+take_answer h = taken_from h.cuts (waiting_of h)
+
+abbrev pub after_take : History → History
+after_take h = record h { closed = settle_first (Kept h.cuts) h.closed }
+
+abbrev pub switched : Bool → History → History
+switched active h = record h { active = active }
+
+abbrev pub counts_of : StreamConfig → History → Counts
+counts_of c h = record {
+  offered = offered_of h;
+  discarded = discarded_of h;
+  overwritten = records_where is_dropped h.closed;
+  overwritten_packets = blocks_where is_dropped h.closed;
+  in_ring = records_in (waiting_of h) + length h.filling.records;
+  consumed = records_where is_kept h.closed;
+  cuts = h.cuts;
+  current_bytes = min (bytes_of (map (packet_of c) (chunk_of h.cuts h))) (2 ^ 64 - 1);
+}

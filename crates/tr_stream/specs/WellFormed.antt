@@ -1,0 +1,88 @@
+-- What is true of every history that calls lead to.
+use Rattle.std.specs.Prelude.{◌≡◌, ◌≢◌, ℕ, ◌+◌, ◌≤◌, zero, suc, nat_lt, true, false, List, [], ◌∷◌, ◌++◌, length, if◌then◌else◌}
+use Rattle.tr_record.specs.Records.{Entry}
+use Rattle.tr_ring.specs.ClosedBuffer.{ClosedBuffer}
+use Rattle.tr_stream.specs.Chunks.{chunk_of, consumed_of}
+use Rattle.tr_stream.specs.History.{Status, Waiting, Dropped, Kept, Block, Closed, History, is_waiting, is_dropped, offers_in, offers_before, offered_of, times}
+
+-- blocks are numbered by their place
+abbrev pub NumberedFrom : ℕ → List Closed → Type 0
+NumberedFrom n [] = Unit {0}
+NumberedFrom n (c ∷ cs) = (c.block.number ≡ n) × NumberedFrom (n + 1) cs
+
+-- behind a block that waits, all wait
+abbrev pub AllWait : List Closed → Type 0
+AllWait [] = Unit {0}
+AllWait (c ∷ cs) = (is_waiting c.status ≡ true) × AllWait cs
+
+abbrev pub WaitLast : List Closed → Type 0
+WaitLast [] = Unit {0}
+WaitLast (c ∷ cs) = (is_waiting c.status ≡ true → AllWait cs) × WaitLast cs
+
+-- a block is kept in a chunk that was begun
+abbrev pub IsWithin : ℕ → Status → Type 0
+IsWithin cuts Waiting = Unit {0}
+IsWithin cuts Dropped = Unit {0}
+IsWithin cuts (Kept k) = k ≤ cuts
+
+abbrev pub AllWithinCuts : ℕ → List Closed → Type 0
+AllWithinCuts cuts [] = Unit {0}
+AllWithinCuts cuts (c ∷ cs) = IsWithin cuts c.status × AllWithinCuts cuts cs
+
+-- serials at or above this one, each above the one before
+abbrev pub RecordsRise : ℕ → List Entry → Type 0
+RecordsRise low [] = Unit {0}
+RecordsRise low (e ∷ es) = (low ≤ e.serial) × RecordsRise (e.serial + 1) es
+
+-- one past the last serial
+abbrev pub next_serial : ℕ → List Entry → ℕ
+next_serial low [] = low
+next_serial low (e ∷ es) = next_serial (e.serial + 1) es
+
+-- the first record has this serial; without a record, none is missed
+abbrev pub StartsAt : ℕ → List Entry → List ℕ → Type 0
+StartsAt low [] missed = missed ≡ []
+StartsAt low (e ∷ es) missed = e.serial ≡ low
+
+-- a block has serials from this one on, as many as it accounts for
+pub record Covers (low : ℕ) (b : Block) : Type 0 where
+  pub starts : StartsAt low b.records b.missed
+  pub rise : RecordsRise low b.records
+  pub within : next_serial low b.records ≤ low + offers_in b
+
+-- each block goes on where the one before ends
+abbrev pub CoversFrom : ℕ → List Closed → Type 0
+CoversFrom low [] = Unit {0}
+CoversFrom low (c ∷ cs) = Covers low c.block × CoversFrom (low + offers_in c.block) cs
+
+-- each closed block has a record
+abbrev pub AllUsed : List Closed → Type 0
+AllUsed [] = Unit {0}
+AllUsed (c ∷ cs) = (c.block.records ≢ []) × AllUsed cs
+
+-- the last closed block, if there is one, wasn't dropped
+abbrev pub LastHeld : List Closed → Type 0
+LastHeld [] = Unit {0}
+LastHeld (c ∷ []) = is_dropped c.status ≡ false
+LastHeld (c ∷ d ∷ ds) = LastHeld (d ∷ ds)
+
+-- the sub-buffers of the chunks below a number, in order
+abbrev pub chunks_below : ℕ → History → List ClosedBuffer
+chunks_below zero h = []
+chunks_below (suc k) h = chunks_below k h ++ chunk_of k h
+
+pub record IsWellFormed (h : History) : Type 0 where
+  pub numbers : NumberedFrom 0 h.closed
+  pub filling : h.filling.number ≡ length h.closed
+  pub order : WaitLast h.closed
+  pub kept : AllWithinCuts h.cuts h.closed
+  pub used : AllUsed h.closed
+  -- what was dropped made room for a record
+  pub room : h.filling.records ≡ [] → LastHeld h.closed
+  -- a block's serials lie between those of its neighbours
+  pub covers : CoversFrom 0 h.closed
+  pub covers_filling : Covers (offers_before h.closed) h.filling
+  -- the chunks in order have the kept blocks in order
+  pub chunks : chunks_below h.cuts h ++ chunk_of h.cuts h ≡ consumed_of h
+  -- each serial below the next is in one place
+  pub serials : (n : ℕ) → times n h ≡ (if nat_lt n (offered_of h) then 1 else 0)

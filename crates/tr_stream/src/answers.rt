@@ -1,0 +1,144 @@
+//! What a stream's calls answer.
+
+ghost use Rattle.std.specs.Prelude.{◌≡◌};
+ghost use Rattle.tr_stream.specs.Faults.{offer_fault_code, offer_fault_name, take_fault_code, take_fault_name};
+
+use std::alloc::AllocError;
+use thiserror::Error;
+
+/// What became of an accepted offer.
+#[derive(Clone, Copy, Debug, PartialEq, Eq)]
+pub enum Offered {
+    /// It is in the sub-buffer of this number.
+    Stored {
+        /// How many offers were accepted before it.
+        serial: u64,
+        /// The number of its sub-buffer.
+        seq: u64,
+    },
+    /// It is in the sub-buffer of this number, and the oldest one that waited is gone with all its records.
+    StoredOver {
+        /// How many offers were accepted before it.
+        serial: u64,
+        /// The number of its sub-buffer.
+        seq: u64,
+        /// The number of the sub-buffer that is gone.
+        gone_seq: u64,
+        /// How many records that one had.
+        gone_count: u64,
+    },
+    /// It is lost: the ring had no room.
+    Discarded {
+        /// How many offers were accepted before it.
+        serial: u64,
+    },
+}
+
+/// Why an offer was refused. The stream is as it was.
+#[derive(Clone, Copy, Debug, PartialEq, Eq, Error)]
+pub enum OfferFault {
+    /// The stream takes no offers now.
+    #[error("O1 Inactive")]
+    Inactive,
+    /// The payload fits no sub-buffer of this stream.
+    #[error("O2 TooBig")]
+    TooBig,
+    /// The stream has accepted 2^62 offers.
+    #[error("O3 Spent")]
+    Spent,
+    /// Memory was refused.
+    #[error("O4 NoMemory")]
+    NoMemory,
+}
+
+impl OfferFault {
+    /// The code that answers and documents call it by.
+    pub fn code(&self) -> &'static str
+        ensures { result.now ≡ offer_fault_code self.now }
+    {
+        match self {
+            OfferFault::Inactive => "O1",
+            OfferFault::TooBig => "O2",
+            OfferFault::Spent => "O3",
+            OfferFault::NoMemory => "O4",
+        }
+    }
+
+    /// Its name, as answers print it.
+    pub fn name(&self) -> &'static str
+        ensures { result.now ≡ offer_fault_name self.now }
+    {
+        match self {
+            OfferFault::Inactive => "Inactive",
+            OfferFault::TooBig => "TooBig",
+            OfferFault::Spent => "Spent",
+            OfferFault::NoMemory => "NoMemory",
+        }
+    }
+}
+
+impl From<AllocError> for OfferFault {
+    ghost use Rattle.std.specs.Prelude.{◌≡◌};
+    ghost use Rattle.tr_stream.specs.declared.answers.OfferFault.TheVariants.{NoMemory};
+
+    ghost from_gives = { λ _ fault. fault ≡ NoMemory };
+
+    fn from(_error: AllocError) -> OfferFault {
+        OfferFault::NoMemory
+    }
+}
+
+/// The packet that a take moved.
+#[derive(Clone, Copy, Debug, PartialEq, Eq)]
+pub struct Taken {
+    /// Its number.
+    pub seq: u64,
+    /// How many records it has.
+    pub count: u64,
+    /// The trace chunk that it is in.
+    pub chunk: u64,
+}
+
+/// Why a take was refused. The stream is as it was.
+#[derive(Clone, Copy, Debug, PartialEq, Eq, Error)]
+pub enum TakeFault {
+    /// No sub-buffer waits.
+    #[error("T1 Nothing")]
+    Nothing,
+    /// Memory was refused.
+    #[error("T3 NoMemory")]
+    NoMemory,
+}
+
+impl TakeFault {
+    /// The code that answers and documents call it by.
+    pub fn code(&self) -> &'static str
+        ensures { result.now ≡ take_fault_code self.now }
+    {
+        match self {
+            TakeFault::Nothing => "T1",
+            TakeFault::NoMemory => "T3",
+        }
+    }
+
+    /// Its name, as answers print it.
+    pub fn name(&self) -> &'static str
+        ensures { result.now ≡ take_fault_name self.now }
+    {
+        match self {
+            TakeFault::Nothing => "Nothing",
+            TakeFault::NoMemory => "NoMemory",
+        }
+    }
+}
+
+impl From<AllocError> for TakeFault {
+    ghost use Rattle.std.specs.Prelude.{◌≡◌};
+    ghost use Rattle.tr_stream.specs.declared.answers.TakeFault.TheVariants.{NoMemory};
+
+    ghost from_gives = { λ _ fault. fault ≡ NoMemory };
+
+    fn from(_error: AllocError) -> TakeFault {
+        TakeFault::NoMemory
+    }
+}

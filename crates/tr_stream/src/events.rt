@@ -1,0 +1,32 @@
+//! A stream's calls as values.
+
+use crate::answers::{OfferFault, Offered, TakeFault, Taken};
+use crate::payload::Payload;
+use std::alloc::{Allocator, Global};
+use tr_record::Moment;
+
+/// A call of a stream.
+#[derive(Drop)]
+pub enum StreamEvent<A: Allocator = Global> {
+    /// An offer at a moment, of an id and a payload.
+    Offer(Moment, u32, Payload<A>),
+    /// A take.
+    Take,
+    /// The stream takes offers from now on.
+    Start,
+    /// The stream takes no offers from now on.
+    Stop,
+}
+
+/// What a call answered.
+#[derive(Clone, Copy, Debug, PartialEq, Eq)]
+pub enum StreamAnswer {
+    /// To an offer.
+    Offer(Result<Offered, OfferFault>),
+    /// To a take.
+    Take(Result<Taken, TakeFault>),
+    /// To a start, which is never refused.
+    Start,
+    /// To a stop, which is never refused.
+    Stop,
+}

@@ -1,0 +1,242 @@
+//! One stream: a ring of sub-buffers, and the parts that it is consumed into.
+
+ghost use Rattle.std.specs.Prelude.{◌≡◌, ◌≢◌, ◌+◌, ◌-◌, ◌^◌, ◌≤◌, ◌<◌, max, Some, Ok, Err, IfOk, OnOk, OnErr, length, option_copied};
+ghost use Rattle.tr_record.specs.Records.{last_moment};
+ghost use Rattle.tr_stream.specs.Chunks.{part_in};
+ghost use Rattle.tr_stream.specs.History.{History};
+ghost use Rattle.tr_stream.specs.Sound.{IsSound};
+ghost use Rattle.tr_stream.specs.StandsFor.{StandsFor};
+ghost use Rattle.tr_stream.specs.StateSteps.{new_state, overwrites, refusal_of, entered, with_offer, offered_as, offer_result, state_after_offer, TakesMemory, take_result, state_after_take, state_switched, state_counts};
+ghost use Rattle.tr_stream.specs.Steps.{start, offer_answer, after_offer, take_answer, after_take, switched, counts_of};
+ghost use Rattle.tr_book.specs.Parts.{part_at};
+ghost use Rattle.tr_ring.specs.Ring.{push_answer};
+
+use crate::answers::{OfferFault, Offered, TakeFault, Taken};
+use crate::config::{SessionMode, StreamConfig};
+use crate::packing::packet_from;
+use std::alloc::{AllocError, Allocator, Global};
+use std::marker::Model;
+use tr_book::{Book, Counts, Geometry, Mode, Part, Parts};
+use tr_record::Moment;
+use tr_ring::{Pushed, Ring};
+use uuid::Uuid;
+
+/// How many offers a stream accepts.
+const MOST_OFFERS: u64 = 1 << 62;
+
+/// The bytes of a packet with one record without a payload.
+const LEAST_PACKET: usize = 104;
+
+/// Whether the oldest sub-buffer gives way.
+fn gives_way(mode: Mode) -> bool
+    ensures { result ≡ overwrites mode }
+{
+    match mode {
+        Mode::Discard => false,
+        Mode::Overwrite => true,
+    }
+}
+
+/// One stream of records. Contracts see a `StreamState`.
+#[derive(Drop)]
+pub struct Stream<A: Allocator = Global> {
+    alloc: A,
+    config: StreamConfig,
+    ring: Ring<A>,
+    parts: Parts<A>,
+    book: Book,
+    active: bool,
+}
+
+impl<A: Allocator> Model for Stream<A> {
+    ghost use Rattle.tr_stream.specs.State.{StreamState};
+
+    ghost Value = { StreamState };
+
+    ghost use Rattle.tr_stream.specs.Kept.{IsKept};
+
+    ghost view = { λ a. record { config = a.config; ring = a.ring; parts = a.parts; book = a.book; active = a.active } };
+
+    ghost invariant = { λ a. IsKept (record { config = a.config; ring = a.ring; parts = a.parts; book = a.book; active = a.active }) };
+}
+
+impl<A: Allocator + Copy> Stream<A> {
+    /// A stream without records that takes no offers yet.
+    pub fn new(
+        alloc: A,
+        uuid: Uuid,
+        number: u64,
+        geometry: Geometry,
+        mode: Mode,
+        session: SessionMode,
+    ) -> Result<Stream<A>, AllocError>
+        ensures value { IfOk result (λ s. s ≡ new_state (record { uuid = uuid; number = number; geometry = geometry; mode = mode; session = session })) }
+        ensures starts { IfOk result (λ s. StandsFor s start) }
+    {
+        let _ = uuid.into_bytes();
+        let ring = Ring::new(alloc, geometry.size(), geometry.count(), gives_way(mode))?;
+        Ok(Stream {
+            alloc,
+            config: StreamConfig {
+                uuid,
+                number,
+                geometry,
+                mode,
+                session,
+            },
+            ring,
+            parts: Parts::new(alloc),
+            book: Book::new(),
+            active: false,
+        })
+    }
+
+    /// Offers a record: stores it, or discards it where a ring in discard mode has no room. An offer that is refused,
+    /// also for want of memory, changes nothing; one that is discarded takes no memory.
+    pub fn offer(&mut self, moment: Moment, id: u32, payload: &[u8]) -> Result<Offered, OfferFault>
+        ensures value { result ≢ Err OfferFault.NoMemory →
+            (result ≡ offer_result moment id payload.now self.old) × (self.new ≡ state_after_offer moment id payload.now self.old) }
+        ensures step { (h : History) → StandsFor self.old h → result ≢ Err OfferFault.NoMemory →
+            (result ≡ offer_answer self.old.config payload.now h)
+            × StandsFor self.new (after_offer self.old.config moment id payload.now h) }
+        ensures no_memory { result ≡ Err OfferFault.NoMemory → self.new ≡ self.old }
+        ensures memory { result ≡ Err OfferFault.NoMemory → TakesMemory (offer_result moment id payload.now self.old) }
+    {
+        if let Some(fault) = self.refusal(payload.len()) {
+            return Err(fault);
+        }
+        Ok(self.accept(moment, id, payload)?)
+    }
+
+    /// Stores a record, or discards it.
+    fn accept(&mut self, moment: Moment, id: u32, payload: &[u8]) -> Result<Offered, AllocError>
+        requires { refusal_of (length payload.now) self.old ≡ None }
+        ensures answer { IfOk result (λ o. o ≡ offered_as self.old.book.offered (push_answer (entered moment id payload.now self.old) self.old.ring)) }
+        ensures ok { OnOk result (self.new ≡ with_offer (entered moment id payload.now self.old) self.old) }
+        ensures err { OnErr result (self.new ≡ self.old) }
+        ensures memory { OnErr result (TakesMemory (Ok (offered_as self.old.book.offered (push_answer (entered moment id payload.now self.old) self.old.ring)))) }
+    {
+        let moment = moment.later(self.book.last());
+        let serial = self.book.offered();
+        let pushed = self.ring.push(moment, id, serial, payload)?;
+        self.book.note_offer(moment);
+        match pushed {
+            Pushed::Stored { seq } => Ok(Offered::Stored { serial, seq }),
+            Pushed::StoredOver {
+                seq,
+                gone_seq,
+                gone_count,
+            } => {
+                self.book.note_overwritten(gone_count);
+                Ok(Offered::StoredOver {
+                    serial,
+                    seq,
+                    gone_seq,
+                    gone_count,
+                })
+            }
+            Pushed::Refused => Ok(Offered::Discarded { serial }),
+        }
+    }
+
+    /// Moves the oldest sub-buffer that waits, as a packet, to the end of the current part. A take that is refused, also
+    /// for want of memory, changes nothing.
+    pub fn take(&mut self) -> Result<Taken, TakeFault>
+        ensures value { result ≢ Err TakeFault.NoMemory → (result ≡ take_result self.old) × (self.new ≡ state_after_take self.old) }
+        ensures step { (h : History) → StandsFor self.old h → result ≢ Err TakeFault.NoMemory →
+            (result ≡ take_answer h) × StandsFor self.new (after_take h) }
+        ensures no_memory { result ≡ Err TakeFault.NoMemory → self.new ≡ self.old }
+    {
+        if self.ring.waiting() == 0 {
+            return Err(TakeFault::Nothing);
+        }
+        Ok(self.move_oldest()?)
+    }
+
+    /// Moves the oldest sub-buffer that waits. All memory is taken before anything moves.
+    fn move_oldest(&mut self) -> Result<Taken, AllocError>
+        requires { 0 < length self.old.ring.waiting }
+        ensures answer { IfOk result (λ t. take_result self.old ≡ Ok t) }
+        ensures ok { OnOk result (self.new ≡ state_after_take self.old) }
+        ensures err { OnErr result (self.new ≡ self.old) }
+    {
+        let Some(oldest) = self.ring.front() else {
+            unreachable!()
+        };
+        let taken = Taken {
+            seq: oldest.seq(),
+            count: oldest.count() as u64,
+            chunk: self.parts.current().id(),
+        };
+        let packet = packet_from(self.alloc, self.config, oldest)?;
+        self.parts.push(packet)?;
+        self.ring.drop_front();
+        self.book.note_consumed(taken.count);
+        Ok(taken)
+    }
+}
+
+impl<A: Allocator> Stream<A> {
+    /// Why an offer of so many bytes is refused.
+    fn refusal(&self, len: usize) -> Option<OfferFault>
+        ensures value { result ≡ refusal_of len self.now }
+        ensures sound { IsSound self.now }
+    {
+        if !self.active {
+            return Some(OfferFault::Inactive);
+        }
+        if len > self.config.geometry.size() - LEAST_PACKET {
+            return Some(OfferFault::TooBig);
+        }
+        if self.book.offered() >= MOST_OFFERS {
+            return Some(OfferFault::Spent);
+        }
+        None
+    }
+
+    /// Lets the stream take offers, or lets it refuse them.
+    pub fn set_active(&mut self, active: bool)
+        ensures value { self.new ≡ state_switched active self.old }
+        ensures step { (h : History) → StandsFor self.old h → StandsFor self.new (switched active h) }
+    {
+        self.active = active;
+    }
+
+    /// How many records were offered, and where they are.
+    pub fn counts(&self) -> Counts
+        ensures value { result ≡ state_counts self.now }
+        ensures step { (h : History) → StandsFor self.now h → result ≡ counts_of self.now.config h }
+        ensures total { result.discarded + result.overwritten + result.in_ring + result.consumed ≡ result.offered }
+    {
+        let offered = self.book.offered();
+        let discarded = self.ring.refused();
+        let overwritten = self.book.overwritten();
+        let consumed = self.book.consumed();
+        Counts {
+            offered,
+            discarded,
+            overwritten,
+            overwritten_packets: self.book.overwritten_packets(),
+            in_ring: offered - discarded - overwritten - consumed,
+            consumed,
+            cuts: self.parts.cuts(),
+            current_bytes: u64::try_from(self.parts.current().bytes()).unwrap_or(u64::MAX),
+        }
+    }
+
+    /// The part of trace chunk `k`: a closed one, or the current one behind them. None: there was no such cut yet.
+    pub fn part(&self, k: u64) -> Option<&Part<A>>
+        ensures value { option_copied result ≡ part_at k self.now.parts }
+        ensures step { (h : History) → StandsFor self.now h → option_copied result ≡ part_in self.now.config k h }
+    {
+        self.parts.part(k)
+    }
+
+    /// What the stream was made with.
+    pub fn config(&self) -> StreamConfig
+        ensures value { result ≡ self.now.config }
+        ensures sound { IsSound self.now }
+    {
+        self.config
+    }
+}
