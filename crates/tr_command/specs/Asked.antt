@@ -26,10 +26,6 @@ asked_by (request.Status session) = Status session.now
 
 -- the moment of a request, 0 where it has none
 abbrev pub moment_in : Asked → ℕ
-moment_in (Create session uuid) = 0
-moment_in (Channel session channel size count mode) = 0
-moment_in (Thread session channel) = 0
 moment_in (Start session moment) = moment
 moment_in (Offer session stream moment id text fill) = moment
-moment_in (Consume session stream) = 0
-moment_in (Status session) = 0
+moment_in _ = 0

@@ -9,7 +9,7 @@ use tr_book::Mode;
 ///
 /// To add a command: a variant here and in `specs/Asked.antt`, its command line in `command_lines` and
 /// `specs/CommandLine.antt`, its reading in `readings` and `specs/Reading.antt`, its arm in `dispatch`
-/// and `specs/Dispatch.antt`, and its lemma in `proofs/DispatchLemmas.antt`.
+/// and `specs/Dispatch.antt`, and its lemmas in `proofs/DispatchLemmas.antt` and `proofs/MomentLemmas.antt`.
 #[derive(Clone, Copy, Debug, PartialEq, Eq)]
 pub enum Request<'a> {
     /// `create SESSION UUID`

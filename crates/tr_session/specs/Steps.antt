@@ -1,5 +1,5 @@
 -- What a session's calls do, and what they answer: the first refusal that applies, or the session after the step.
-use Rattle.std.specs.Prelude.{ℕ, max, Bool, true, false, nat_le, List, [], ◌∷◌, ◌++◌, zero, suc, length, map, is_some, Option, Some, None, Result, Ok, Err, slice_get, if◌then◌else◌}
+use Rattle.std.specs.Prelude.{ℕ, ◌≤◌, max, Bool, true, false, nat_le, List, [], ◌∷◌, ◌++◌, zero, suc, length, map, is_some, Option, Some, None, Result, Ok, Err, slice_get, if◌then◌else◌}
 use Rattle.std.specs.Map.{lookup}
 use Rattle.std.specs.Option.{option_map_or}
 use Rattle.std.specs.Str.{bytes_eq}
@@ -17,6 +17,7 @@ use Rattle.tr_session.specs.declared.state.State.TheVariants.{New, Active}
 use Rattle.tr_stream.specs.Rules.{StreamRules}
 use Rattle.tr_stream.specs.declared.answers.OfferFault.{OfferFault}
 use Rattle.tr_stream.specs.declared.answers.Offered.{Offered}
+use Rattle.tr_stream.specs.declared.answers.Offered.TheVariants.{Stored, StoredOver, Discarded}
 use Rattle.tr_stream.specs.declared.answers.TakeFault.{TakeFault}
 use Rattle.tr_stream.specs.declared.answers.Taken.{Taken}
 use Rattle.tr_stream.specs.declared.config.SessionMode.TheVariants.{Local}
@@ -37,6 +38,10 @@ most_channels = 8
 
 abbrev pub most_streams : ℕ
 most_streams = 256
+
+-- as many as there may be
+abbrev pub IsWithinLimits : {S : Type 0} → SessionOf S → Type 0
+IsWithinLimits s = (length s.channels ≤ most_channels) × (length s.streams ≤ most_streams)
 
 abbrev pub channel_of : {S : Type 0} → List ℕ → SessionOf S → Option Channel
 channel_of name s = lookup (bytes_eq name) s.channels
@@ -95,6 +100,13 @@ offer_as_step (Err fault) = Err (Offer fault)
 abbrev pub take_as_step : Result Taken TakeFault → Result Taken StepFault
 take_as_step (Ok taken) = Ok taken
 take_as_step (Err fault) = Err (Take fault)
+
+-- the kinds of answer that may take memory
+abbrev pub StepTakesMemory : Result Offered StepFault → Type 0
+StepTakesMemory (Ok (Stored serial seq)) = Unit {0}
+StepTakesMemory (Ok (StoredOver serial seq gone_seq gone_count)) = Unit {0}
+StepTakesMemory (Ok (Discarded serial)) = ⊥
+StepTakesMemory (Err fault) = ⊥
 
 -- an offer to stream i
 abbrev pub offer_step : {S : Type 0} → StreamRules S → ℕ → ℕ → ℕ → List ℕ → SessionOf S → Result Offered StepFault

@@ -118,3 +118,36 @@ impl From<AllocError> for SessionFault {
         SessionFault::NoMemory
     }
 }
+
+impl From<SessionFault> for StepFault {
+    ghost use Rattle.std.specs.Prelude.{◌≡◌};
+    ghost use Rattle.tr_session.specs.declared.faults.StepFault.TheVariants.{Session};
+
+    ghost from_gives = { λ reason fault. fault ≡ Session reason };
+
+    fn from(reason: SessionFault) -> StepFault {
+        StepFault::Session(reason)
+    }
+}
+
+impl From<OfferFault> for StepFault {
+    ghost use Rattle.std.specs.Prelude.{◌≡◌};
+    ghost use Rattle.tr_session.specs.declared.faults.StepFault.TheVariants.{Offer};
+
+    ghost from_gives = { λ reason fault. fault ≡ Offer reason };
+
+    fn from(reason: OfferFault) -> StepFault {
+        StepFault::Offer(reason)
+    }
+}
+
+impl From<TakeFault> for StepFault {
+    ghost use Rattle.std.specs.Prelude.{◌≡◌};
+    ghost use Rattle.tr_session.specs.declared.faults.StepFault.TheVariants.{Take};
+
+    ghost from_gives = { λ reason fault. fault ≡ Take reason };
+
+    fn from(reason: TakeFault) -> StepFault {
+        StepFault::Take(reason)
+    }
+}

@@ -4,8 +4,13 @@
 
 mod channel;
 mod faults;
+mod session;
 mod state;
+mod streams;
+#[cfg(test)]
+mod tests;
 
 pub use channel::Channel;
 pub use faults::{SessionFault, StepFault};
+pub use session::Session;
 pub use state::State;

@@ -1,0 +1,93 @@
+//! Steps of streams that stand in order of number.
+
+ghost use Rattle.std.specs.Prelude.{◌≡◌, ◌≢◌, ◌<◌, true, Err, IsSome, length, map, slice_get};
+ghost use Rattle.std.specs.Option.{option_map_or};
+ghost use Rattle.tr_session.specs.Steps.{changed_at, offer_as_step, take_as_step, StepTakesMemory};
+ghost use Rattle.tr_stream.specs.StateSteps.{offer_result, state_after_offer, take_result, state_after_take, state_switched};
+
+use crate::faults::{SessionFault, StepFault};
+use std::alloc::Allocator;
+use tr_record::Moment;
+use tr_stream::{OfferFault, Offered, Stream, TakeFault, Taken};
+
+/// Lets the stream of this number take offers.
+fn turn_on_at<A: Allocator>(streams: &mut Vec<Stream<A>, A>, i: usize)
+    requires { i < length streams.old.items }
+    ensures { streams.new.items ≡ changed_at i (state_switched true) streams.old.items }
+{
+    streams[i].set_active(true);
+}
+
+/// Lets each stream take offers.
+pub fn turn_on<A: Allocator>(streams: &mut Vec<Stream<A>, A>)
+    ensures { streams.new.items ≡ map (state_switched true) streams.old.items }
+{
+    'each: for i in 0..streams.len() {
+        turn_on_at(streams, i);
+    }
+}
+
+/// Offers a record to a stream.
+fn offer_to<A: Allocator + Copy>(
+    stream: &mut Stream<A>,
+    moment: Moment,
+    id: u32,
+    payload: &[u8],
+) -> Result<Offered, StepFault>
+    ensures value { result ≢ Err (StepFault.Offer OfferFault.NoMemory) →
+        (result ≡ offer_as_step (offer_result moment id payload.now stream.old))
+        × (stream.new ≡ state_after_offer moment id payload.now stream.old) }
+    ensures no_memory { result ≡ Err (StepFault.Offer OfferFault.NoMemory) → stream.new ≡ stream.old }
+    ensures memory { result ≡ Err (StepFault.Offer OfferFault.NoMemory) → StepTakesMemory (offer_as_step (offer_result moment id payload.now stream.old)) }
+{
+    Ok(stream.offer(moment, id, payload)?)
+}
+
+/// Offers a record to the stream of this number.
+pub fn offer_at<A: Allocator + Copy>(
+    streams: &mut Vec<Stream<A>, A>,
+    i: u64,
+    moment: Moment,
+    id: u32,
+    payload: &[u8],
+) -> Result<Offered, StepFault>
+    ensures value { result ≢ Err (StepFault.Offer OfferFault.NoMemory) →
+        (result ≡ option_map_or (λ s. offer_as_step (offer_result moment id payload.now s)) (slice_get streams.old.items i) (Err (StepFault.Session SessionFault.NoStream)))
+        × (streams.new.items ≡ changed_at i (state_after_offer moment id payload.now) streams.old.items) }
+    ensures no_memory { result ≡ Err (StepFault.Offer OfferFault.NoMemory) → streams.new.items ≡ streams.old.items }
+    ensures memory { result ≡ Err (StepFault.Offer OfferFault.NoMemory) →
+        StepTakesMemory (option_map_or (λ s. offer_as_step (offer_result moment id payload.now s)) (slice_get streams.old.items i) (Err (StepFault.Session SessionFault.NoStream))) }
+    ensures count { length streams.new.items ≡ length streams.old.items }
+{
+    let Some(stream) = streams.get_mut(i as usize) else {
+        return Err(StepFault::Session(SessionFault::NoStream));
+    };
+    offer_to(stream, moment, id, payload)
+}
+
+/// Takes the oldest packet of a stream.
+fn take_from<A: Allocator + Copy>(stream: &mut Stream<A>) -> Result<Taken, StepFault>
+    ensures value { result ≢ Err (StepFault.Take TakeFault.NoMemory) →
+        (result ≡ take_as_step (take_result stream.old)) × (stream.new ≡ state_after_take stream.old) }
+    ensures no_memory { result ≡ Err (StepFault.Take TakeFault.NoMemory) → stream.new ≡ stream.old }
+{
+    Ok(stream.take()?)
+}
+
+/// Takes the oldest packet of the stream of this number.
+pub fn take_at<A: Allocator + Copy>(
+    streams: &mut Vec<Stream<A>, A>,
+    i: u64,
+) -> Result<Taken, StepFault>
+    ensures value { result ≢ Err (StepFault.Take TakeFault.NoMemory) →
+        (result ≡ option_map_or (λ s. take_as_step (take_result s)) (slice_get streams.old.items i) (Err (StepFault.Session SessionFault.NoStream)))
+        × (streams.new.items ≡ changed_at i state_after_take streams.old.items) }
+    ensures no_memory { result ≡ Err (StepFault.Take TakeFault.NoMemory) → streams.new.items ≡ streams.old.items }
+    ensures memory { result ≡ Err (StepFault.Take TakeFault.NoMemory) → IsSome (slice_get streams.old.items i) }
+    ensures count { length streams.new.items ≡ length streams.old.items }
+{
+    let Some(stream) = streams.get_mut(i as usize) else {
+        return Err(StepFault::Session(SessionFault::NoStream));
+    };
+    take_from(stream)
+}

@@ -1,0 +1,190 @@
+use super::*;
+use std::process::Abort;
+use std::test::Fail;
+use tr_book::Mode;
+use tr_record::Moment;
+use tr_stream::{OfferFault, Offered, TakeFault, Taken};
+use uuid::Uuid;
+
+const PAYLOAD: [u8; 153] = [0x61; 153];
+
+fn moment(nanoseconds: u64) -> Result<Moment, Fail> {
+    Ok(Moment::new(nanoseconds).ok_or("a moment")?)
+}
+
+/// Offers a payload of `len` bytes with the id 7.
+fn offer(
+    rt: &impl Abort,
+    session: &mut Session,
+    i: u64,
+    at: u64,
+    len: usize,
+) -> Result<Result<Offered, StepFault>, Fail> {
+    assert!(rt; len <= 153);
+    Ok(session.offer(i, moment(at)?, 7, &PAYLOAD[..len]))
+}
+
+// of the 176 bytes beside a packet's 80, two records of 74 leave room for one of 28 and for no third of 74
+#[test]
+fn one_stream_from_the_start_to_a_packet(rt: HostRuntime) -> Result<(), Fail> {
+    let mut session = Session::new(rt.alloc(), Uuid::nil());
+    session.add_channel("c", 256, 2, Mode::Discard)?;
+    assert_eq!(rt; session.add_thread("c")?, 0);
+    assert_eq!(rt; session.state(), State::New);
+    session.start(moment(0)?)?;
+    assert_eq!(rt; session.state(), State::Active);
+    let wanted = [
+        (1, 50, Offered::Stored { serial: 0, seq: 0 }),
+        (2, 50, Offered::Stored { serial: 1, seq: 0 }),
+        (3, 50, Offered::Stored { serial: 2, seq: 1 }),
+        (4, 50, Offered::Stored { serial: 3, seq: 1 }),
+        (5, 50, Offered::Discarded { serial: 4 }),
+        (6, 4, Offered::Stored { serial: 5, seq: 1 }),
+    ];
+    for (at, len, want) in wanted {
+        assert_eq!(rt; offer(&rt, &mut session, 0, at, len)?, Ok(want), "at {at}");
+    }
+    let taken = Taken {
+        seq: 0,
+        count: 2,
+        chunk: 0,
+    };
+    assert_eq!(rt; session.take(0), Ok(taken));
+    assert_eq!(rt; session.take(0), Err(StepFault::Take(TakeFault::Nothing)));
+    let counts = session.stream(0).ok_or("a stream")?.counts();
+    assert_eq!(rt; (counts.offered, counts.discarded), (6, 1));
+    assert_eq!(rt;
+        (counts.overwritten, counts.in_ring, counts.consumed),
+        (0, 3, 2)
+    );
+    Ok(())
+}
+
+// two records of 88 bytes fill a sub-buffer
+#[test]
+fn streams_stand_apart(rt: HostRuntime) -> Result<(), Fail> {
+    let mut session = Session::new(rt.alloc(), Uuid::nil());
+    session.add_channel("small", 256, 2, Mode::Overwrite)?;
+    session.add_channel("large", 512, 4, Mode::Discard)?;
+    assert_eq!(rt; session.channels(), 2);
+    assert_eq!(rt; session.add_thread("large")?, 0);
+    assert_eq!(rt; session.add_thread("small")?, 1);
+    assert_eq!(rt; session.add_thread("large")?, 2);
+    assert_eq!(rt; session.streams(), 3);
+    session.start(moment(100)?)?;
+    assert_eq!(rt; session.last().get(), 100);
+    let over = Offered::StoredOver {
+        serial: 4,
+        seq: 2,
+        gone_seq: 0,
+        gone_count: 2,
+    };
+    let wanted = [
+        Offered::Stored { serial: 0, seq: 0 },
+        Offered::Stored { serial: 1, seq: 0 },
+        Offered::Stored { serial: 2, seq: 1 },
+        Offered::Stored { serial: 3, seq: 1 },
+        over,
+    ];
+    for want in wanted {
+        assert_eq!(rt; offer(&rt, &mut session, 1, 200, 64)?, Ok(want));
+    }
+    let first = Offered::Stored { serial: 0, seq: 0 };
+    assert_eq!(rt; offer(&rt, &mut session, 2, 200, 64)?, Ok(first));
+    let numbers = [(0, 0), (1, 5), (2, 1)];
+    for (i, offered) in numbers {
+        let stream = session.stream(i).ok_or("a stream")?;
+        assert_eq!(rt; stream.counts().offered, offered);
+        assert_eq!(rt; stream.config().number, i);
+    }
+    let config = session.stream(1).ok_or("a stream")?.config();
+    assert_eq!(rt; (config.geometry.size(), config.geometry.count()), (256, 2));
+    assert!(rt; config.mode == Mode::Overwrite && config.uuid == session.uuid());
+    assert!(rt; session.stream(3).is_none());
+    Ok(())
+}
+
+#[test]
+fn channels_are_refused_in_order(rt: HostRuntime) -> Result<(), Fail> {
+    let mut session = Session::new(rt.alloc(), Uuid::nil());
+    for (size, count) in [(255, 2), (256, 3), (131_072, 2), (256, 128)] {
+        let refused = session.add_channel("c", size, count, Mode::Discard);
+        assert_eq!(rt;
+            refused,
+            Err(SessionFault::BadGeometry),
+            "{size} by {count}"
+        );
+    }
+    for name in ["a", "b", "c", "d", "e", "f", "g"] {
+        session.add_channel(name, 256, 2, Mode::Discard)?;
+    }
+    let taken = session.add_channel("a", 255, 2, Mode::Discard);
+    assert_eq!(rt; taken, Err(SessionFault::NameTaken));
+    session.add_channel("h", 65_536, 64, Mode::Overwrite)?;
+    assert_eq!(rt; session.channels(), 8);
+    let taken = session.add_channel("h", 256, 2, Mode::Discard);
+    assert_eq!(rt; taken, Err(SessionFault::NameTaken));
+    let refused = session.add_channel("i", 255, 2, Mode::Discard);
+    assert_eq!(rt; refused, Err(SessionFault::TooMany));
+    let last = session.channel("h").ok_or("a channel")?;
+    assert_eq!(rt; (last.geometry.size(), last.geometry.count()), (65_536, 64));
+    assert!(rt; last.mode == Mode::Overwrite && session.channel("i").is_none());
+    session.start(moment(0)?)?;
+    let refused = session.add_channel("a", 255, 2, Mode::Discard);
+    assert_eq!(rt; refused, Err(SessionFault::AlreadyStarted));
+    assert_eq!(rt; session.add_thread("x"), Err(SessionFault::AlreadyStarted));
+    assert_eq!(rt; session.start(moment(1)?), Err(SessionFault::AlreadyActive));
+    Ok(())
+}
+
+#[test]
+fn streams_are_refused_in_order(rt: HostRuntime) -> Result<(), Fail> {
+    let mut session = Session::new(rt.alloc(), Uuid::nil());
+    assert_eq!(rt; session.add_thread("c"), Err(SessionFault::NoChannel));
+    session.add_channel("c", 256, 2, Mode::Discard)?;
+    for number in 0..256 {
+        assert_eq!(rt; session.add_thread("c")?, number);
+    }
+    assert_eq!(rt; session.add_thread("x"), Err(SessionFault::NoChannel));
+    assert_eq!(rt; session.add_thread("c"), Err(SessionFault::TooMany));
+    assert_eq!(rt; session.streams(), 256);
+    let inactive = StepFault::Offer(OfferFault::Inactive);
+    assert_eq!(rt; offer(&rt, &mut session, 255, 1, 4)?, Err(inactive));
+    session.start(moment(0)?)?;
+    let first = Offered::Stored { serial: 0, seq: 0 };
+    assert_eq!(rt; offer(&rt, &mut session, 255, 1, 152)?, Ok(first));
+    let large = StepFault::Offer(OfferFault::TooBig);
+    assert_eq!(rt; offer(&rt, &mut session, 255, 1, 153)?, Err(large));
+    let none = StepFault::Session(SessionFault::NoStream);
+    assert_eq!(rt; offer(&rt, &mut session, 256, 1, 4)?, Err(none));
+    assert_eq!(rt; session.take(256), Err(none));
+    assert_eq!(rt; session.take(u64::MAX), Err(none));
+    Ok(())
+}
+
+#[test]
+fn faults_are_printed_by_code_and_name(rt: HostRuntime) -> Result<(), Fail> {
+    let wanted = [
+        (SessionFault::AlreadyActive, "S6 AlreadyActive"),
+        (SessionFault::NoStream, "S8 NoStream"),
+        (SessionFault::AlreadyStarted, "S10 AlreadyStarted"),
+        (SessionFault::BadGeometry, "S11 BadGeometry"),
+        (SessionFault::TooMany, "S12 TooMany"),
+        (SessionFault::NameTaken, "S15 NameTaken"),
+        (SessionFault::NoMemory, "S16 NoMemory"),
+        (SessionFault::NoChannel, "S17 NoChannel"),
+    ];
+    for (fault, want) in wanted {
+        assert_eq!(rt; format!(in rt.alloc(); "{fault}")?.as_str(), want);
+        let step = StepFault::from(fault);
+        assert_eq!(rt; format!(in rt.alloc(); "{step}")?.as_str(), want);
+        let words = format!(in rt.alloc(); "{} {}", step.code(), step.name())?;
+        assert_eq!(rt; words.as_str(), want);
+    }
+    let large = StepFault::from(OfferFault::TooBig);
+    assert_eq!(rt; format!(in rt.alloc(); "{large}")?.as_str(), "O2 TooBig");
+    assert_eq!(rt; (large.code(), large.name()), ("O2", "TooBig"));
+    let nothing = StepFault::from(TakeFault::Nothing);
+    assert_eq!(rt; (nothing.code(), nothing.name()), ("T1", "Nothing"));
+    Ok(())
+}
