@@ -1,7 +1,6 @@
 //! A part: what a stream's ring gave to one trace chunk.
 
 ghost use Rattle.std.specs.Prelude.{◌≡◌, ◌+◌, ◌<◌, ◌^◌, ◌∷◌, [], ◌++◌, OnOk, OnErr, IfErr, length};
-ghost use Rattle.tr_packet.specs.Packets.{packet_size};
 ghost use Rattle.tr_book.specs.Parts.{bytes_of, records_of, empty_part};
 
 use std::alloc::{AllocFailed, Allocator, Global};
@@ -75,19 +74,11 @@ impl<A: Allocator> Part<A> {
         ensures err { OnErr result (self.new ≡ self.old) }
         ensures returned { IfErr result (λ f. f.value ≡ packet) }
     {
-        let bytes = size_of_packet(&packet);
+        let bytes = packet.size();
         let count = packet.records().len();
         self.packets.push(packet)?;
         self.bytes += bytes as u128;
         self.records += count as u64;
         Ok(())
     }
-}
-
-/// The bytes of a packet.
-fn size_of_packet<A: Allocator>(packet: &Packet<A>) -> usize
-    ensures { result ≡ packet_size packet.now }
-{
-    let records: usize = packet.records().iter().map(|r| r.size()).sum();
-    80 + records
 }
