@@ -1,7 +1,7 @@
 -- How runs of the program end.
 use Rattle.std.specs.Prelude.{ℕ}
-use Rattle.tr_console.specs.declared.script.ScriptFault.{ScriptFault}
-use Rattle.tr_console.specs.declared.script.ScriptFault.TheVariants as fault
+use Rattle.tr_console.specs.declared.script_fault.ScriptFault.{ScriptFault}
+use Rattle.tr_console.specs.declared.script_fault.ScriptFault.TheVariants as fault
 use Rattle.tracerd.specs.declared.ending.Ending.{Ending}
 use Rattle.tracerd.specs.declared.ending.Ending.TheVariants.{Done, Refused, BadCommandLine, ReadOrWrite, NoMemory}
 

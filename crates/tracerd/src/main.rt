@@ -9,9 +9,8 @@ mod tests;
 
 use running::run;
 use std::alloc::Global;
-use std::env;
-use std::io;
 use std::process::ExitCode;
+use std::{env, io};
 use tr_record::{ReaderSource, WriterSink};
 
 fn main(rt: HostRuntime) -> io::Result<ExitCode> {
@@ -26,7 +25,7 @@ fn main(rt: HostRuntime) -> io::Result<ExitCode> {
     }
     let mut input = ReaderSource::new(rt.reader());
     let mut out = WriterSink::new(io::writer(&rt));
-    let mut err = WriterSink::new(io::error_writer(&rt));
+    let mut err = WriterSink::new(rt.stderr());
     let status = run(alloc, words.as_slice(), &mut input, &mut out, &mut err);
     Ok(ExitCode::from(status))
 }

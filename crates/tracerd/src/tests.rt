@@ -24,24 +24,46 @@ fn ends_with(
 
 #[test]
 fn a_script_is_answered(rt: HostRuntime) -> Result<(), Fail> {
-    let script = b"create s 00000000-0000-0000-0000-000000000001\nchannel s c 256 2 discard\nthread s c\nstart s 0";
+    let script =
+        b"create s 00000000-0000-0000-0000-000000000001\nchannel s c 256 2 discard\nthread s c\nstart s 0";
     let answer = b"created s\nchannel c\nstream 0\nstarted\n";
-    assert_eq!(rt; ends_with(rt.alloc(), &["script"], script, answer, b""), (0, true));
+    assert_eq!(rt;
+        ends_with(rt.alloc(), &["script"], script, answer, b""),
+        (0, true)
+    );
     Ok(())
 }
 
 #[test]
 fn nothing_gets_no_answer(rt: HostRuntime) -> Result<(), Fail> {
-    assert_eq!(rt; ends_with(rt.alloc(), &["script"], b"", b"", b""), (0, true));
-    assert_eq!(rt; ends_with(rt.alloc(), &["script"], b"# x\n\n", b"", b""), (0, true));
+    assert_eq!(rt;
+        ends_with(rt.alloc(), &["script"], b"", b"", b""),
+        (0, true)
+    );
+    assert_eq!(rt;
+        ends_with(rt.alloc(), &["script"], b"# x\n\n", b"", b""),
+        (0, true)
+    );
     Ok(())
 }
 
 #[test]
 fn a_refused_line_shows_in_the_status(rt: HostRuntime) -> Result<(), Fail> {
     let answer = b"refused K1 NoSession\n";
-    assert_eq!(rt; ends_with(rt.alloc(), &["script"], b"offer nobody 0 1 1\n", answer, b""), (1, true));
-    assert_eq!(rt; ends_with(rt.alloc(), &["script"], b"nonsense\n", b"bad line\n", b""), (1, true));
+    assert_eq!(rt;
+        ends_with(
+            rt.alloc(),
+            &["script"],
+            b"offer nobody 0 1 1\n",
+            answer,
+            b""
+        ),
+        (1, true)
+    );
+    assert_eq!(rt;
+        ends_with(rt.alloc(), &["script"], b"nonsense\n", b"bad line\n", b""),
+        (1, true)
+    );
     Ok(())
 }
 
@@ -50,10 +72,25 @@ fn a_bad_command_line_is_told(rt: HostRuntime) -> Result<(), Fail> {
     let fault = b"tracerd: bad command line\n";
     let script = b"offer nobody 0 1 1\n";
     assert_eq!(rt; ends_with(rt.alloc(), &[], script, b"", fault), (2, true));
-    assert_eq!(rt; ends_with(rt.alloc(), &["scripts"], script, b"", fault), (2, true));
-    assert_eq!(rt; ends_with(rt.alloc(), &["script", "x"], script, b"", fault), (2, true));
-    assert_eq!(rt; ends_with(rt.alloc(), &["--help"], script, b"", fault), (2, true));
-    assert_eq!(rt; ends_with(rt.alloc(), &["help", "script"], script, b"", fault), (2, true));
-    assert_eq!(rt; ends_with(rt.alloc(), &["script", "--out", "d"], script, b"", fault), (2, true));
+    assert_eq!(rt;
+        ends_with(rt.alloc(), &["scripts"], script, b"", fault),
+        (2, true)
+    );
+    assert_eq!(rt;
+        ends_with(rt.alloc(), &["script", "x"], script, b"", fault),
+        (2, true)
+    );
+    assert_eq!(rt;
+        ends_with(rt.alloc(), &["--help"], script, b"", fault),
+        (2, true)
+    );
+    assert_eq!(rt;
+        ends_with(rt.alloc(), &["help", "script"], script, b"", fault),
+        (2, true)
+    );
+    assert_eq!(rt;
+        ends_with(rt.alloc(), &["script", "--out", "d"], script, b"", fault),
+        (2, true)
+    );
     Ok(())
 }
