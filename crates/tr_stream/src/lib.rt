@@ -9,8 +9,6 @@ mod packing;
 mod payload;
 mod run;
 mod stream;
-#[cfg(test)]
-mod tests;
 
 pub use answers::{OfferFault, Offered, TakeFault, Taken};
 pub use config::{SessionMode, StreamConfig};
