@@ -1,6 +1,8 @@
 -- The packets that were consumed, in parts.
-use Rattle.std.specs.Prelude.{◌≡◌, ℕ, ◌+◌, ◌*◌, ◌≤◌, List, [], ◌∷◌, ◌++◌, length, sum_by, slice_get, Option, Some, ◌==◌, if◌then◌else◌}
+use Rattle.std.specs.Prelude.{◌≡◌, ℕ, ◌+◌, ◌*◌, ◌≤◌, List, [], ◌∷◌, ◌++◌, length, sum_by, slice_get, Option, Some, find, ◌==◌, if◌then◌else◌}
+use Rattle.std.specs.Option.{option_map}
 use Rattle.tr_packet.specs.Packets.{Contents, packet_size}
+use Rattle.tr_record.specs.Records.{has_serial}
 
 -- the packets of one stream in one trace chunk
 pub record PartState : Type 0 where
@@ -36,6 +38,10 @@ closed_part s = record { closed = s.closed ++ s.current ∷ []; current = empty_
 -- a closed part by its place, or the current one behind them
 abbrev pub part_at : ℕ → PartsState → Option PartState
 part_at k s = if k == length s.closed then Some s.current else slice_get s.closed k
+
+-- the number of the packet that has the record of a serial
+abbrev pub seq_among : ℕ → List Contents → Option ℕ
+seq_among n packets = option_map (λ (p : Contents). p.head.seq) (find (λ (p : Contents). has_serial n p.records) packets)
 
 -- what is counted beside a part's packets
 pub record AreTallied (packets : List Contents) (bytes records : ℕ) : Type 0 where

@@ -1,7 +1,8 @@
 //! A part: what a stream's ring gave to one trace chunk.
 
 ghost use Rattle.std.specs.Prelude.{◌≡◌, ◌+◌, ◌<◌, ◌^◌, ◌∷◌, [], ◌++◌, OnOk, OnErr, IfErr, length};
-ghost use Rattle.tr_book.specs.Parts.{bytes_of, records_of, empty_part};
+ghost use Rattle.tr_book.specs.Parts.{bytes_of, records_of, empty_part, seq_among};
+ghost use Rattle.tr_record.specs.Records.{has_serial};
 
 use std::alloc::{AllocFailed, Allocator, Global};
 use std::marker::Model;
@@ -24,6 +25,13 @@ impl<A: Allocator> Model for Part<A> {
     ghost view = { λ p. record { id = p.id; packets = p.packets.items } };
 
     ghost invariant = { λ p. AreTallied p.packets.items p.bytes p.records };
+}
+
+/// Whether a packet has the record of this serial.
+fn has_record<A: Allocator>(packet: &Packet<A>, serial: u64) -> bool
+    ensures { result ≡ has_serial serial packet.now.records }
+{
+    packet.records().iter().any(|r| r.serial() == serial)
 }
 
 impl<A: Allocator> Part<A> {
@@ -65,6 +73,16 @@ impl<A: Allocator> Part<A> {
         ensures { result ≡ records_of self.now.packets }
     {
         self.records
+    }
+
+    /// The number of its packet that has the record of this serial.
+    pub fn seq_of(&self, serial: u64) -> Option<u64>
+        ensures { result ≡ seq_among serial self.now.packets }
+    {
+        self.packets
+            .iter()
+            .find(|p| has_record(p, serial))
+            .map(|p| p.head().seq)
     }
 
     /// Adds a packet at the end. Where memory runs out, the part is as it was and the packet comes back.

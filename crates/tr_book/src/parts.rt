@@ -46,6 +46,13 @@ impl<A: Allocator> Parts<A> {
         &self.current
     }
 
+    /// The closed parts, in order.
+    pub fn closed(&self) -> &[Part<A>]
+        ensures { result.now ≡ self.now.closed }
+    {
+        self.closed.as_slice()
+    }
+
     /// How many parts are closed.
     pub fn cuts(&self) -> u64
         ensures value { result ≡ length self.now.closed }

@@ -1,7 +1,7 @@
 -- Records and their texts.
-use Rattle.std.specs.Prelude.{◌≡◌, ℕ, ◌+◌, ◌^◌, ◌<◌, ◌≤◌, List, ◌++◌, length, take}
+use Rattle.std.specs.Prelude.{◌≡◌, ℕ, ◌+◌, ◌^◌, ◌<◌, ◌≤◌, Bool, ◌==◌, List, ◌++◌, length, take}
 use Rattle.std.specs.Int.{w32, w64, to_le_bytes}
-use Rattle.std.specs.List.{flat_map}
+use Rattle.std.specs.List.{flat_map, list_any}
 
 -- a record, wherever it lies in memory
 pub record Entry : Type 0 where
@@ -23,6 +23,10 @@ record_text e =
 -- the texts of records, end to end
 abbrev pub records_text : List Entry → List ℕ
 records_text = flat_map record_text
+
+-- one of the records has this serial
+abbrev pub has_serial : ℕ → List Entry → Bool
+has_serial n es = list_any (λ (e : Entry). e.serial == n) es
 
 -- what has a text: each number fits its field
 pub record HasText (e : Entry) : Type 0 where

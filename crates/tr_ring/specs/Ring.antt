@@ -1,7 +1,8 @@
 -- A ring as the list of its closed sub-buffers, and the current one.
-use Rattle.std.specs.Prelude.{ℕ, ◌+◌, ◌≤◌, Bool, nat_lt, List, [], ◌∷◌, ◌++◌, length, drop, if◌then◌else◌}
+use Rattle.std.specs.Prelude.{ℕ, ◌+◌, ◌≤◌, Bool, nat_lt, List, [], ◌∷◌, ◌++◌, length, drop, Option, Some, None, find, if◌then◌else◌}
 use Rattle.std.specs.List.{AllByRecursion}
-use Rattle.tr_record.specs.Records.{Entry}
+use Rattle.std.specs.Option.{option_map, option_or}
+use Rattle.tr_record.specs.Records.{Entry, has_serial}
 use Rattle.tr_record.specs.Weight.{weight_of}
 use Rattle.tr_subbuf.specs.SubBuffer.{SubBuffer, has_room}
 use Rattle.tr_ring.specs.declared.pushed.Pushed.{Pushed}
@@ -69,6 +70,14 @@ push_answer e r =
     else (if nat_lt (length r.waiting + 1) r.count then Stored (r.seq + 1)
     else (if r.overwrite then over_first (r.seq + 1) r.waiting
     else Refused))
+
+-- the number of the closed sub-buffer that has the record of a serial
+abbrev pub seq_waiting : ℕ → List ClosedBuffer → Option ℕ
+seq_waiting n waiting = option_map (λ (b : ClosedBuffer). b.seq) (find (λ (b : ClosedBuffer). has_serial n b.records) waiting)
+
+-- the number of the sub-buffer that has the record of a serial
+abbrev pub seq_of : ℕ → RingState → Option ℕ
+seq_of n r = option_or (seq_waiting n r.waiting) (if has_serial n r.current then Some r.seq else None)
 
 -- a closed sub-buffer has a record, and its packet is no larger than this size
 pub record IsClosedWithin (size : ℕ) (b : ClosedBuffer) : Type 0 where

@@ -1,6 +1,7 @@
 //! A sub-buffer that takes no more records.
 
 ghost use Rattle.std.specs.Prelude.{◌≡◌, length, slice_get};
+ghost use Rattle.tr_record.specs.Records.{has_serial};
 
 use std::alloc::{Allocator, Global};
 use std::marker::Model;
@@ -69,5 +70,12 @@ impl<A: Allocator> ClosedSubBuf<A> {
         ensures { result ≡ slice_get self.now.records i }
     {
         self.buffer.at(i)
+    }
+
+    /// Whether one of its records has this serial.
+    pub fn has(&self, serial: u64) -> bool
+        ensures { result ≡ has_serial serial self.now.records }
+    {
+        self.buffer.has(serial)
     }
 }

@@ -4,7 +4,7 @@ ghost use Rattle.std.specs.Prelude.{◌≡◌, ◌≢◌, ◌+◌, ◌≤◌, �
 ghost use Rattle.tr_record.specs.Weight.{weight_of};
 ghost use Rattle.circular_buffer.specs.Buffer.{buffer};
 ghost use Rattle.tr_subbuf.specs.SubBuffer.{empty_buffer, with_record};
-ghost use Rattle.tr_ring.specs.Ring.{IsRing, empty_ring, current_buffer, after_push, push_answer, without_first, closed_at};
+ghost use Rattle.tr_ring.specs.Ring.{IsRing, empty_ring, current_buffer, after_push, push_answer, without_first, closed_at, seq_waiting, seq_of};
 
 use crate::closed::ClosedSubBuf;
 use crate::pushed::Pushed;
@@ -52,6 +52,19 @@ fn close<A: Allocator>(
 {
     let buffer = mem::replace(current, next);
     let _ = waiting.push_back(ClosedSubBuf::new(buffer, seq, end, lost));
+}
+
+/// The number of the closed sub-buffer that has the record of this serial.
+fn seq_waiting<A: Allocator>(
+    waiting: &HeapCircularBuffer<ClosedSubBuf<A>, A>,
+    serial: u64,
+) -> Option<u64>
+    ensures { result ≡ seq_waiting serial waiting.now.items }
+{
+    waiting
+        .iter()
+        .find(|b| b.has(serial))
+        .map(|b| b.seq())
 }
 
 impl<A: Allocator + Copy> Ring<A> {
@@ -194,6 +207,19 @@ impl<A: Allocator> Ring<A> {
         ensures sound { IsRing self.now }
     {
         self.waiting.len()
+    }
+
+    /// The number of the sub-buffer that has the record of this serial.
+    pub fn seq_of(&self, serial: u64) -> Option<u64>
+        ensures { result ≡ seq_of serial self.now }
+    {
+        if let Some(seq) = seq_waiting(&self.waiting, serial) {
+            return Some(seq);
+        }
+        if self.current.has(serial) {
+            return Some(self.seq);
+        }
+        None
     }
 
     /// The number of the current sub-buffer.

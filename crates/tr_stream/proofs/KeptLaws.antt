@@ -108,8 +108,7 @@ kept-new c config size count = record {
     dropped = omega arith;
     room = omega arith;
     fits = omega arith;
-    no_loss = λ e. refl;
-    no_drop = λ e. (refl, refl);
+    losses = record { discarding = λ e. (refl, refl); overwriting = λ e. refl };
     packets = tt;
     filling = open-none;
   };

@@ -1,5 +1,6 @@
 pub mod CallLaws
 pub mod ChunkLaws
+pub mod FateLaws
 pub mod FormLaws
 pub mod KeptLaws
 pub mod OfferLaws

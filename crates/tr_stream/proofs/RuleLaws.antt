@@ -2,21 +2,33 @@
 use Rattle.std.proofs.Common.{◌≡◌, ℕ, ◌+◌, ◌≤◌, zero, suc, Bool, true, false, cond, List, [], ◌∷◌, length, Option, Some, None, refl, sym, ◌∙◌, ap, subst, arith}
 use Rattle.std.proofs.lemmas.Bool.Decides.{nat_tests}
 use Rattle.std.specs.Prelude.{nat_lt}
+use Rattle.tr_book.specs.declared.mode.Mode.{Mode}
+use Rattle.tr_book.specs.declared.mode.Mode.TheVariants.{Discard, Overwrite}
 use Rattle.tr_record.specs.Records.{Entry}
 use Rattle.tr_ring.specs.ClosedBuffer.{ClosedBuffer}
 use Rattle.tr_ring.specs.Ring.{RingState, current_buffer, after_push, joined, followed, refusing, without_first}
-use Rattle.tr_stream.proofs.OfferLaws.{offers}
+use Rattle.tr_stream.proofs.FateLaws.{fates}
+use Rattle.tr_stream.proofs.OfferLaws.{offers, joins, follows, misses, replaces}
 use Rattle.tr_stream.proofs.Refinement.{stands-switched}
+use Rattle.tr_stream.proofs.SoundLaws.{losses-missed, losses-without_oldest}
 use Rattle.tr_stream.proofs.TakeLaws.{starts, takes, counts-are}
 use Rattle.tr_stream.specs.Rules.{StreamRules, Traced, Agrees, by_state, by_history}
-use Rattle.tr_stream.specs.Sound.{IsMade}
+use Rattle.tr_stream.specs.Sound.{IsMade, LosesByMode}
 use Rattle.tr_stream.specs.StandsFor.{StandsFor}
 use Rattle.tr_stream.specs.State.{StreamState}
-use Rattle.tr_stream.specs.StateSteps.{entered, refusal_of, state_unless, state_after_offer, state_after_take, moved_oldest, overwrites}
+use Rattle.tr_stream.specs.StateSteps.{entered, refusal_of, state_unless, state_after_offer, state_after_take, moved_oldest, overwrites, with_offer}
 use Rattle.tr_stream.specs.Steps.{after_offer}
 use Rattle.tr_stream.specs.declared.answers.OfferFault.{OfferFault}
 use Rattle.tr_stream.specs.declared.config.StreamConfig.{StreamConfig}
 use Rattle.tr_subbuf.specs.SubBuffer.{has_room}
+
+discards : (m : Mode) → overwrites m ≡ false → m ≡ Discard
+discards Discard e = refl
+discards Overwrite e = cc
+
+drops : (m : Mode) → overwrites m ≡ true → m ≡ Overwrite
+drops Discard e = cc
+drops Overwrite e = refl
 
 -- a push leaves the ring as it was made
 chosen : {X : Type 0} (f : RingState → X) (x : X) (room free over : Bool) (a b c d : RingState) → f a ≡ x → f b ≡ x → f c ≡ x → f d ≡ x → f (cond room a (cond free b (cond over c d))) ≡ x
@@ -45,9 +57,25 @@ config-unless : (s : StreamState) (e : Entry) (refusal : Option OfferFault) → 
 config-unless s e (Some fault) = refl
 config-unless s e None = refl
 
+-- an offer loses records as the mode says
+losses-pushed : (s : StreamState) (e : Entry) (room free over : Bool) (waiting : List ClosedBuffer) → has_room (current_buffer s.ring) (length e.payload) ≡ room → nat_lt (length s.ring.waiting + 1) s.ring.count ≡ free → s.ring.overwrite ≡ over → s.ring.waiting ≡ waiting → IsMade s.config s.ring → LosesByMode s → LosesByMode (with_offer e s)
+losses-pushed s e true free over waiting r f o w made is = subst (λ (t : StreamState). LosesByMode t) (sym (joins e s r)) (record { discarding = is.discarding; overwriting = is.overwriting })
+losses-pushed s e false true over waiting r f o w made is = subst (λ (t : StreamState). LosesByMode t) (sym (follows e s r f)) (record { discarding = is.discarding; overwriting = is.overwriting })
+losses-pushed s e false false false waiting r f o w made is = subst (λ (t : StreamState). LosesByMode t) (sym (misses e s r f o)) (losses-missed s e.moment (discards s.config.mode (sym made.mode ∙ o)) is)
+losses-pushed s e false false true [] r f o w made is =
+    let none : length s.ring.waiting ≡ 0 = ap length w in
+    absurd (grind (arith, nat_tests, none, f, made.count, made.count_low))
+losses-pushed s e false false true (b ∷ bs) r f o w made is =
+    let t = losses-without_oldest s (drops s.config.mode (sym made.mode ∙ o)) is in
+    subst (λ (t : StreamState). LosesByMode t) (sym (replaces e s r f o b bs w)) (record { discarding = t.discarding; overwriting = t.overwriting })
+
+losses-unless : (s : StreamState) (e : Entry) (refusal : Option OfferFault) → IsMade s.config s.ring → LosesByMode s → LosesByMode (state_unless refusal e s)
+losses-unless s e (Some fault) made is = is
+losses-unless s e None made is = losses-pushed s e (has_room (current_buffer s.ring) (length e.payload)) (nat_lt (length s.ring.waiting + 1) s.ring.count) s.ring.overwrite s.ring.waiting refl refl refl refl made is
+
 -- a new stream, and a history that begins
 pub agree-made : (c : StreamConfig) → 256 ≤ c.geometry.size → 2 ≤ c.geometry.count → Agrees (by_state.made c) (by_history.made c)
-agree-made c size count = record { config = refl; made = record { size = refl; count = refl; mode = refl; size_low = size; count_low = count }; stands = starts c }
+agree-made c size count = record { config = refl; made = record { size = refl; count = refl; mode = refl; size_low = size; count_low = count }; losses = record { discarding = λ e. (refl, refl); overwriting = λ e. refl }; stands = starts c }
 
 -- an offer
 pub same-offered : (s : StreamState) (t : Traced) (moment id : ℕ) (payload : List ℕ) → Agrees s t → by_state.offered moment id payload s ≡ by_history.offered moment id payload t
@@ -60,6 +88,7 @@ agree-offered s t moment id payload is =
     record {
       config = config-unless s e refusal ∙ is.config;
       made = made-unless s e refusal is.made;
+      losses = losses-unless s e refusal is.made is.losses;
       stands = subst (λ (c : StreamConfig). StandsFor (state_after_offer moment id payload s) (after_offer c moment id payload t.history)) is.config (offers s t.history moment id payload is.made is.stands).1;
     }
 
@@ -71,17 +100,25 @@ made-oldest : (s : StreamState) (waiting : List ClosedBuffer) → IsMade s.confi
 made-oldest s [] is = is
 made-oldest s (b ∷ bs) is = record { size = is.size; count = is.count; mode = is.mode; size_low = is.size_low; count_low = is.count_low }
 
+losses-oldest : (s : StreamState) (waiting : List ClosedBuffer) → LosesByMode s → LosesByMode (moved_oldest waiting s)
+losses-oldest s [] is = is
+losses-oldest s (b ∷ bs) is = record { discarding = is.discarding; overwriting = is.overwriting }
+
 config-oldest : (s : StreamState) (waiting : List ClosedBuffer) → (moved_oldest waiting s).config ≡ s.config
 config-oldest s [] = refl
 config-oldest s (b ∷ bs) = refl
 
 pub agree-taken : (s : StreamState) (t : Traced) → Agrees s t → Agrees (by_state.after_taken s) (by_history.after_taken t)
-agree-taken s t is = record { config = config-oldest s s.ring.waiting ∙ is.config; made = made-oldest s s.ring.waiting is.made; stands = (takes s t.history is.stands).1 }
+agree-taken s t is = record { config = config-oldest s s.ring.waiting ∙ is.config; made = made-oldest s s.ring.waiting is.made; losses = losses-oldest s s.ring.waiting is.losses; stands = (takes s t.history is.stands).1 }
 
 -- a start or a stop
 pub agree-turned : (s : StreamState) (t : Traced) (active : Bool) → Agrees s t → Agrees (by_state.turned active s) (by_history.turned active t)
-agree-turned s t active is = record { config = is.config; made = is.made; stands = stands-switched s t.history active is.stands }
+agree-turned s t active is = record { config = is.config; made = is.made; losses = record { discarding = is.losses.discarding; overwriting = is.losses.overwriting }; stands = stands-switched s t.history active is.stands }
 
 -- the counts
 pub same-counted : (s : StreamState) (t : Traced) → Agrees s t → by_state.counted s ≡ by_history.counted t
 same-counted s t is = rw (← is.config) (counts-are s t.history is.stands)
+
+-- a fate
+pub same-fated : (s : StreamState) (t : Traced) (n : ℕ) → Agrees s t → by_state.fated n s ≡ by_history.fated n t
+same-fated s t n is = fates s t.history n is.stands is.losses

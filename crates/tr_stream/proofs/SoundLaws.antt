@@ -15,7 +15,7 @@ use Rattle.tr_stream.proofs.OpenLaws.{open-joined, open-one, open-missed}
 use Rattle.tr_packet.proofs.OrderLemmas.{MakePacket-later}
 use Rattle.tr_stream.proofs.Refinement.{with_joined, with_followed, with_missed, without_oldest, with_moved}
 use Rattle.tr_stream.specs.Chunks.{packet_of, begin_of}
-use Rattle.tr_stream.specs.Sound.{IsSound, IsOpen, ArePackets}
+use Rattle.tr_stream.specs.Sound.{IsSound, IsOpen, ArePackets, LosesByMode}
 use Rattle.tr_stream.specs.State.{StreamState, records_in, in_ring}
 use Rattle.tr_stream.specs.StateSteps.{state_switched}
 use Rattle.tr_stream.specs.declared.config.StreamConfig.{StreamConfig}
@@ -61,14 +61,19 @@ sound-joined s e is next room = record {
   dropped = is.dropped;
   room = is.room;
   fits = grind (arith, common_steps, room);
-  no_loss = is.no_loss;
-  no_drop = is.no_drop;
+  losses = record { discarding = is.losses.discarding; overwriting = is.losses.overwriting };
   packets = is.packets;
   filling = open-joined s.book.offered s.book.last s.ring.current e next.fits next.serial next.moment (omega (arith, room, is.config.size_high)) is.filling;
 }
 
 other : (let m : Mode = Discard in m) ≡ Overwrite → ⊥
 other e = cc
+
+pub losses-missed : (s : StreamState) (moment : ℕ) → s.config.mode ≡ Discard → LosesByMode s → LosesByMode (with_missed moment s)
+losses-missed s moment mode is = record { discarding = is.discarding; overwriting = λ e. absurd (other (sym mode ∙ e)) }
+
+pub losses-without_oldest : (s : StreamState) → s.config.mode ≡ Overwrite → LosesByMode s → LosesByMode (without_oldest s)
+losses-without_oldest s mode is = record { discarding = λ e. absurd (other (sym e ∙ mode)); overwriting = is.overwriting }
 
 pub sound-missed : (s : StreamState) (moment : ℕ) → IsSound s → s.book.offered < 2 ^ 62 → s.book.last ≤ moment → moment ≤ last_moment → s.config.mode ≡ Discard → IsSound (with_missed moment s)
 sound-missed s moment is left le in_time mode = record {
@@ -82,8 +87,7 @@ sound-missed s moment is left le in_time mode = record {
   dropped = is.dropped;
   room = is.room;
   fits = is.fits;
-  no_loss = λ e. absurd (other (sym mode ∙ e));
-  no_drop = is.no_drop;
+  losses = losses-missed s moment mode is.losses;
   packets = is.packets;
   filling = open-missed s.book.offered s.book.last moment s.ring.current le in_time is.filling;
 }
@@ -100,8 +104,7 @@ sound-followed s e is next used small room = record {
   dropped = grind (arith, common_steps, is.dropped);
   room = grind (arith, common_steps, room);
   fits = grind (arith, common_steps, small);
-  no_loss = is.no_loss;
-  no_drop = is.no_drop;
+  losses = record { discarding = is.losses.discarding; overwriting = is.losses.overwriting };
   packets = are-push s.config s.ring.waiting (closing e.moment s.ring) is.packets (closing-is_packet s e.moment is used next.moment next.fits.moment);
   filling = open-one s.book.offered e next.fits next.serial (grind (arith, common_steps, small, is.config.size_high));
 }
@@ -122,8 +125,7 @@ sound-without_oldest s is some mode = record {
   dropped = grind (arith, common_steps, is.dropped, length-drop 1 s.ring.waiting);
   room = grind (arith, common_steps, is.room, length-drop 1 s.ring.waiting);
   fits = is.fits;
-  no_loss = is.no_loss;
-  no_drop = λ e. absurd (other (sym e ∙ mode));
+  losses = losses-without_oldest s mode is.losses;
   packets = are-drop s.config s.ring.waiting is.packets;
   filling = is.filling;
 }
@@ -146,11 +148,10 @@ sound-moved s b bs oldest is = record {
   dropped = grind (arith, common_steps, is.dropped, length-drop 1 s.ring.waiting);
   room = grind (arith, common_steps, is.room, length-drop 1 s.ring.waiting);
   fits = is.fits;
-  no_loss = is.no_loss;
-  no_drop = is.no_drop;
+  losses = record { discarding = is.losses.discarding; overwriting = is.losses.overwriting };
   packets = are-drop s.config s.ring.waiting is.packets;
   filling = is.filling;
 }
 
 pub sound-switched : (s : StreamState) (active : Bool) → IsSound s → IsSound (state_switched active s)
-sound-switched s active is = record { config = is.config; made = is.made; few = is.few; in_time = is.in_time; total = is.total; consumed = is.consumed; numbers = is.numbers; dropped = is.dropped; room = is.room; fits = is.fits; no_loss = is.no_loss; no_drop = is.no_drop; packets = is.packets; filling = is.filling }
+sound-switched s active is = record { config = is.config; made = is.made; few = is.few; in_time = is.in_time; total = is.total; consumed = is.consumed; numbers = is.numbers; dropped = is.dropped; room = is.room; fits = is.fits; losses = record { discarding = is.losses.discarding; overwriting = is.losses.overwriting }; packets = is.packets; filling = is.filling }

@@ -1,4 +1,5 @@
 pub mod Chunks
+pub mod Fates
 pub mod Faults
 pub mod History
 pub mod Kept

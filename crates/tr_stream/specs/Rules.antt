@@ -1,8 +1,9 @@
 -- What the layers above ask of a stream, whatever stands for it: what it holds, or its history.
-use Rattle.std.specs.Prelude.{◌≡◌, ℕ, Bool, List, Result}
+use Rattle.std.specs.Prelude.{◌≡◌, ℕ, Bool, List, Option, Result}
 use Rattle.tr_book.specs.declared.counts.Counts.{Counts}
+use Rattle.tr_stream.specs.Fates.{fate_of, state_fate}
 use Rattle.tr_stream.specs.History.{History}
-use Rattle.tr_stream.specs.Sound.{IsMade}
+use Rattle.tr_stream.specs.Sound.{IsMade, LosesByMode}
 use Rattle.tr_stream.specs.StandsFor.{StandsFor}
 use Rattle.tr_stream.specs.State.{StreamState}
 use Rattle.tr_stream.specs.StateSteps.{new_state, offer_result, state_after_offer, take_result, state_after_take, state_switched, state_counts}
@@ -12,6 +13,7 @@ use Rattle.tr_stream.specs.declared.answers.Offered.{Offered}
 use Rattle.tr_stream.specs.declared.answers.TakeFault.{TakeFault}
 use Rattle.tr_stream.specs.declared.answers.Taken.{Taken}
 use Rattle.tr_stream.specs.declared.config.StreamConfig.{StreamConfig}
+use Rattle.tr_stream.specs.declared.fate.Fate.{Fate}
 
 pub record StreamRules (S : Type 0) : Type 0 where
   pub made : StreamConfig → S
@@ -21,6 +23,7 @@ pub record StreamRules (S : Type 0) : Type 0 where
   pub after_taken : S → S
   pub turned : Bool → S → S
   pub counted : S → Counts
+  pub fated : ℕ → S → Option Fate
 
 -- a history, and what its stream was made with
 pub record Traced : Type 0 where
@@ -37,6 +40,7 @@ by_state = record {
   after_taken = state_after_take;
   turned = state_switched;
   counted = state_counts;
+  fated = state_fate;
 }
 
 -- by its history
@@ -49,10 +53,12 @@ by_history = record {
   after_taken = λ t. record t { history = after_take t.history };
   turned = λ active t. record t { history = switched active t.history };
   counted = λ t. counts_of t.config t.history;
+  fated = λ n t. fate_of n t.history;
 }
 
--- the stream was made as the history says, and stands for it
+-- the stream was made as the history says, loses records as its mode says, and stands for it
 pub record Agrees (s : StreamState) (t : Traced) : Type 0 where
   pub config : s.config ≡ t.config
   pub made : IsMade s.config s.ring
+  pub losses : LosesByMode s
   pub stands : StandsFor s t.history

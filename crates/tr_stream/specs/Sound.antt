@@ -39,6 +39,11 @@ pub record IsOpen (serial last : ℕ) (es : List Entry) : Type 0 where
   pub below : AllByRecursion (IsBelow serial) es
   pub makes : es ≢ [] → MakePacket (begin_of es) last es
 
+-- what each mode never does
+pub record LosesByMode (s : StreamState) : Type 0 where
+  pub discarding : s.config.mode ≡ Discard → (s.book.overwritten ≡ 0) × (s.book.overwritten_packets ≡ 0)
+  pub overwriting : s.config.mode ≡ Overwrite → s.ring.refused ≡ 0
+
 pub record IsSound (s : StreamState) : Type 0 where
   pub config : IsConfig s.config
   pub made : IsMade s.config s.ring
@@ -52,9 +57,7 @@ pub record IsSound (s : StreamState) : Type 0 where
   pub dropped : s.book.overwritten_packets + length s.ring.waiting ≤ s.ring.seq
   pub room : length s.ring.waiting + 1 ≤ s.config.geometry.count
   pub fits : weight_of s.ring.current ≤ s.config.geometry.size
-  -- what each mode never does
-  pub no_loss : s.config.mode ≡ Overwrite → s.ring.refused ≡ 0
-  pub no_drop : s.config.mode ≡ Discard → (s.book.overwritten ≡ 0) × (s.book.overwritten_packets ≡ 0)
+  pub losses : LosesByMode s
   -- what waits can be sent, and what is filling can be closed
   pub packets : ArePackets s.config s.ring.waiting
   pub filling : IsOpen s.book.offered s.book.last s.ring.current

@@ -5,6 +5,7 @@
 mod answers;
 mod config;
 mod events;
+mod fate;
 mod packing;
 mod payload;
 mod run;
@@ -13,6 +14,10 @@ mod stream;
 pub use answers::{OfferFault, Offered, TakeFault, Taken};
 pub use config::{SessionMode, StreamConfig};
 pub use events::{StreamAnswer, StreamEvent};
+pub use fate::Fate;
 pub use payload::Payload;
 pub use run::run_stream;
 pub use stream::Stream;
+
+#[cfg(test)]
+mod tests;

@@ -3,6 +3,7 @@
 ghost use Rattle.std.specs.Prelude.{◌≡◌, ◌≢◌, ◌+◌, ◌-◌, ◌^◌, ◌≤◌, ◌<◌, max, Some, Ok, Err, IfOk, OnOk, OnErr, length, option_copied};
 ghost use Rattle.tr_record.specs.Records.{last_moment};
 ghost use Rattle.tr_stream.specs.Chunks.{part_in};
+ghost use Rattle.tr_stream.specs.Fates.{fate_of, state_fate, held_fate};
 ghost use Rattle.tr_stream.specs.History.{History};
 ghost use Rattle.tr_stream.specs.Sound.{IsSound};
 ghost use Rattle.tr_stream.specs.StandsFor.{StandsFor};
@@ -13,6 +14,7 @@ ghost use Rattle.tr_ring.specs.Ring.{push_answer};
 
 use crate::answers::{OfferFault, Offered, TakeFault, Taken};
 use crate::config::{SessionMode, StreamConfig};
+use crate::fate::{fate_in_parts, loss, Fate};
 use crate::packing::packet_from;
 use std::alloc::{AllocError, Allocator, Global};
 use std::marker::Model;
@@ -232,6 +234,37 @@ impl<A: Allocator> Stream<A> {
         ensures step { (h : History) → StandsFor self.now h → option_copied result ≡ part_in self.now.config k h }
     {
         self.parts.part(k)
+    }
+
+    /// What became of the accepted offer of this serial, none where there was no such offer yet.
+    pub fn fate_of(&self, serial: u64) -> Option<Fate>
+        ensures value { result ≡ state_fate serial self.now }
+        ensures step { (h : History) → StandsFor self.now h → result ≡ fate_of serial h }
+    {
+        if serial >= self.book.offered() {
+            return None;
+        }
+        match self.held_fate(serial) {
+            Some(fate) => Some(fate),
+            None => Some(loss(self.config.mode)),
+        }
+    }
+
+    /// Where the record of this serial is held.
+    fn held_fate(&self, serial: u64) -> Option<Fate>
+        ensures { result ≡ held_fate serial self.now }
+    {
+        if let Some(fate) = fate_in_parts(self.parts.closed(), serial) {
+            return Some(fate);
+        }
+        if let Some(seq) = self.parts.current().seq_of(serial) {
+            let chunk = self.parts.current().id();
+            return Some(Fate::InChunk { chunk, seq });
+        }
+        match self.ring.seq_of(serial) {
+            Some(seq) => Some(Fate::InRing { seq }),
+            None => None,
+        }
     }
 
     /// What the stream was made with.

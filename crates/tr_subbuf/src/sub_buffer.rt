@@ -1,6 +1,7 @@
 //! `SubBuf`, records within a size.
 
 ghost use Rattle.std.specs.Prelude.{◌≡◌, ◌==◌, IsTrue, OnOk, OnErr, length, slice_get};
+ghost use Rattle.tr_record.specs.Records.{has_serial};
 ghost use Rattle.tr_record.specs.Weight.{weight_of};
 ghost use Rattle.tr_subbuf.specs.SubBuffer.{empty_buffer, has_room, with_record};
 
@@ -78,6 +79,13 @@ impl<A: Allocator> SubBuf<A> {
         ensures { result ≡ slice_get self.now.records i }
     {
         self.records.get(i).map(|r| r.view())
+    }
+
+    /// Whether one of its records has this serial.
+    pub fn has(&self, serial: u64) -> bool
+        ensures { result ≡ has_serial serial self.now.records }
+    {
+        self.records.iter().any(|r| r.serial() == serial)
     }
 
     /// Gives up all records. It takes no memory.

@@ -1,0 +1,67 @@
+-- What became of the offer of a serial.
+use Rattle.std.specs.Prelude.{ℕ, Bool, ◌==◌, ◌||◌, nat_lt, List, [], ◌∷◌, ◌++◌, Option, Some, None, find, if◌then◌else◌}
+use Rattle.std.specs.List.{list_any}
+use Rattle.std.specs.Option.{option_map, option_or, unwrap_or}
+use Rattle.tr_book.specs.Parts.{PartState, PartsState, seq_among}
+use Rattle.tr_book.specs.declared.mode.Mode.{Mode}
+use Rattle.tr_book.specs.declared.mode.Mode.TheVariants as mode
+use Rattle.tr_record.specs.Records.{has_serial}
+use Rattle.tr_ring.specs.Ring.{RingState, seq_of}
+use Rattle.tr_stream.specs.History.{Status, Waiting, Dropped, Kept, Block, Closed, History, offered_of}
+use Rattle.tr_stream.specs.State.{StreamState}
+use Rattle.tr_stream.specs.declared.fate.Fate.{Fate}
+use Rattle.tr_stream.specs.declared.fate.Fate.TheVariants.{Discarded, Overwritten, InRing, InChunk}
+
+-- the block misses it
+abbrev pub misses : ℕ → Block → Bool
+misses n b = list_any (λ (m : ℕ). m == n) b.missed
+
+abbrev pub is_missed : ℕ → History → Bool
+is_missed n h = list_any (λ (c : Closed). misses n c.block) h.closed || misses n h.filling
+
+-- the closed block that has its record
+abbrev pub holder : ℕ → List Closed → Option Closed
+holder n cs = find (λ (c : Closed). has_serial n c.block.records) cs
+
+-- the fate of the records of a block of this status and number
+abbrev pub status_fate : Status → ℕ → Fate
+status_fate Waiting number = InRing number
+status_fate Dropped number = Overwritten
+status_fate (Kept k) number = InChunk k number
+
+-- by the block that has its record: a closed one, or else the one that is filling
+abbrev pub holder_fate : Option Closed → Block → Fate
+holder_fate None filling = InRing filling.number
+holder_fate (Some c) filling = status_fate c.status c.block.number
+
+-- by the history: none where no offer of this serial was accepted
+abbrev pub fate_of : ℕ → History → Option Fate
+fate_of n h =
+    if nat_lt n (offered_of h)
+    then Some (if is_missed n h then Discarded else holder_fate (holder n h.closed) h.filling)
+    else None
+
+-- the parts in order, the current one last
+abbrev pub all_parts : PartsState → List PartState
+all_parts p = p.closed ++ p.current ∷ []
+
+-- by the first of these parts that has its record
+abbrev pub fate_in_parts : ℕ → List PartState → Option Fate
+fate_in_parts n [] = None
+fate_in_parts n (p ∷ ps) = option_or (option_map (InChunk p.id) (seq_among n p.packets)) (fate_in_parts n ps)
+
+abbrev pub fate_in_ring : ℕ → RingState → Option Fate
+fate_in_ring n r = option_map InRing (seq_of n r)
+
+-- where its record is held
+abbrev pub held_fate : ℕ → StreamState → Option Fate
+held_fate n s = option_or (fate_in_parts n (all_parts s.parts)) (fate_in_ring n s.ring)
+
+-- what becomes of a record that is held no more
+abbrev pub loss_of : Mode → Fate
+loss_of mode.Discard = Discarded
+loss_of mode.Overwrite = Overwritten
+
+-- by what a stream holds
+abbrev pub state_fate : ℕ → StreamState → Option Fate
+state_fate n s = if nat_lt n s.book.offered then Some (unwrap_or (held_fate n s) (loss_of s.config.mode)) else None

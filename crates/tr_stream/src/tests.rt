@@ -1,0 +1,223 @@
+//! Worked examples: a stream of sub-buffers of 256 bytes, two to a ring.
+
+use crate::answers::{OfferFault, Offered, TakeFault, Taken};
+use crate::config::{SessionMode, StreamConfig};
+use crate::events::{StreamAnswer, StreamEvent};
+use crate::payload::Payload;
+use crate::run::run_stream;
+use crate::stream::Stream;
+use std::alloc::{AllocError, Global};
+use std::test::Fail;
+use tr_book::{Counts, Geometry, Mode};
+use tr_record::Moment;
+use uuid::Uuid;
+
+fn small(mode: Mode) -> StreamConfig {
+    let Ok(geometry) = Geometry::new(256, 2) else {
+        unreachable!()
+    };
+    StreamConfig {
+        uuid: Uuid::from_u128(1),
+        number: 0,
+        geometry,
+        mode,
+        session: SessionMode::Local,
+    }
+}
+
+fn small_stream(alloc: Global, mode: Mode) -> Result<Stream, AllocError> {
+    let config = small(mode);
+    Stream::new(
+        alloc,
+        config.uuid,
+        config.number,
+        config.geometry,
+        config.mode,
+        config.session,
+    )
+}
+
+fn at(nanoseconds: u64) -> Moment {
+    Moment::new(nanoseconds).unwrap_or(Moment::zero())
+}
+
+fn stored(serial: u64, seq: u64) -> Result<Offered, OfferFault> {
+    Ok(Offered::Stored { serial, seq })
+}
+
+#[test]
+fn a_record_fills_a_sub_buffer(rt: HostRuntime) -> Result<(), Fail> {
+    let mut stream = small_stream(rt.alloc(), Mode::Discard)?;
+    assert_eq!(rt;
+        stream.offer(at(1), 7, &[0; 152]),
+        Err(OfferFault::Inactive)
+    );
+    stream.set_active(true);
+    assert_eq!(rt; stream.offer(at(1), 7, &[0; 152]), stored(0, 0));
+    assert_eq!(rt; stream.offer(at(2), 7, &[0; 153]), Err(OfferFault::TooBig));
+    assert_eq!(rt; stream.offer(at(3), 7, &[]), stored(1, 1));
+    stream.set_active(false);
+    assert_eq!(rt; stream.offer(at(4), 7, &[]), Err(OfferFault::Inactive));
+    Ok(())
+}
+
+#[test]
+fn a_longer_record_is_discarded_and_a_shorter_one_is_stored(rt: HostRuntime) -> Result<(), Fail> {
+    let mut stream = small_stream(rt.alloc(), Mode::Discard)?;
+    stream.set_active(true);
+    let long = [97; 50];
+    assert_eq!(rt; stream.offer(at(1), 7, &long), stored(0, 0));
+    assert_eq!(rt; stream.offer(at(2), 7, &long), stored(1, 0));
+    assert_eq!(rt; stream.offer(at(3), 7, &long), stored(2, 1));
+    assert_eq!(rt; stream.offer(at(4), 7, &long), stored(3, 1));
+    assert_eq!(rt;
+        stream.offer(at(5), 7, &long),
+        Ok(Offered::Discarded { serial: 4 })
+    );
+    assert_eq!(rt; stream.offer(at(6), 7, &[97; 4]), stored(5, 1));
+    assert_eq!(rt;
+        stream.take(),
+        Ok(Taken {
+            seq: 0,
+            count: 2,
+            chunk: 0
+        })
+    );
+    assert_eq!(rt; stream.take(), Err(TakeFault::Nothing));
+    assert_eq!(rt;
+        stream.counts(),
+        Counts {
+            offered: 6,
+            discarded: 1,
+            overwritten: 0,
+            overwritten_packets: 0,
+            in_ring: 3,
+            consumed: 2,
+            cuts: 0,
+            current_bytes: 228,
+        }
+    );
+    Ok(())
+}
+
+#[test]
+fn a_take_makes_a_packet_of_the_current_part(rt: HostRuntime) -> Result<(), Fail> {
+    let mut stream = small_stream(rt.alloc(), Mode::Discard)?;
+    stream.set_active(true);
+    assert_eq!(rt; stream.offer(at(3), 7, &[97; 100]), stored(0, 0));
+    assert_eq!(rt; stream.offer(at(2), 8, &[97; 100]), stored(1, 1));
+    assert_eq!(rt;
+        stream.take(),
+        Ok(Taken {
+            seq: 0,
+            count: 1,
+            chunk: 0
+        })
+    );
+    assert!(rt; stream.part(1).is_none());
+    let Some(part) = stream.part(0) else {
+        assert!(rt; false);
+        return Ok(());
+    };
+    assert_eq!(rt; part.id(), 0);
+    assert_eq!(rt; part.bytes(), 204);
+    assert_eq!(rt; part.records(), 1);
+    let [packet] = part.packets() else {
+        assert!(rt; false);
+        return Ok(());
+    };
+    let head = packet.head();
+    assert_eq!(rt; head.uuid, Uuid::from_u128(1));
+    assert_eq!(rt; head.stream, 0);
+    assert_eq!(rt; head.begin.get(), 3);
+    // The second record's own moment was before the first one's.
+    assert_eq!(rt; head.end.get(), 3);
+    assert_eq!(rt; head.seq, 0);
+    assert_eq!(rt; head.lost, 0);
+    let [only] = packet.records() else {
+        assert!(rt; false);
+        return Ok(());
+    };
+    assert_eq!(rt; only.serial(), 0);
+    assert_eq!(rt; only.id(), 7);
+    assert_eq!(rt; only.payload(), [97; 100].as_slice());
+    Ok(())
+}
+
+#[test]
+fn the_oldest_sub_buffer_gives_way(rt: HostRuntime) -> Result<(), Fail> {
+    let mut stream = small_stream(rt.alloc(), Mode::Overwrite)?;
+    stream.set_active(true);
+    let half = [97; 64];
+    assert_eq!(rt; stream.offer(at(1), 7, &half), stored(0, 0));
+    assert_eq!(rt; stream.offer(at(2), 7, &half), stored(1, 0));
+    assert_eq!(rt; stream.offer(at(3), 7, &half), stored(2, 1));
+    assert_eq!(rt; stream.offer(at(4), 7, &half), stored(3, 1));
+    assert_eq!(rt;
+        stream.offer(at(5), 7, &half),
+        Ok(Offered::StoredOver {
+            serial: 4,
+            seq: 2,
+            gone_seq: 0,
+            gone_count: 2
+        })
+    );
+    assert_eq!(rt; stream.offer(at(6), 7, &half), stored(5, 2));
+    assert_eq!(rt;
+        stream.take(),
+        Ok(Taken {
+            seq: 1,
+            count: 2,
+            chunk: 0
+        })
+    );
+    assert_eq!(rt; stream.counts().overwritten, 2);
+    assert_eq!(rt; stream.counts().overwritten_packets, 1);
+    Ok(())
+}
+
+#[test]
+fn a_run_answers_each_call(rt: HostRuntime) -> Result<(), Fail> {
+    let alloc = rt.alloc();
+    let mut events = Vec::new(alloc);
+    events.push(StreamEvent::Start)?;
+    for moment in 1..6 {
+        events.push(StreamEvent::Offer(at(moment), 7, Payload::copy_of(alloc, &[97; 50])?))?;
+    }
+    events.push(StreamEvent::Offer(at(6), 7, Payload::copy_of(alloc, &[97; 4])?))?;
+    events.push(StreamEvent::Take)?;
+    events.push(StreamEvent::Take)?;
+    events.push(StreamEvent::Stop)?;
+    let (stream, answers) = run_stream(alloc, small(Mode::Discard), events.as_slice())?;
+    let told = [
+        StreamAnswer::Start,
+        StreamAnswer::Offer(stored(0, 0)),
+        StreamAnswer::Offer(stored(1, 0)),
+        StreamAnswer::Offer(stored(2, 1)),
+        StreamAnswer::Offer(stored(3, 1)),
+        StreamAnswer::Offer(Ok(Offered::Discarded { serial: 4 })),
+        StreamAnswer::Offer(stored(5, 1)),
+        StreamAnswer::Take(Ok(Taken {
+            seq: 0,
+            count: 2,
+            chunk: 0,
+        })),
+        StreamAnswer::Take(Err(TakeFault::Nothing)),
+        StreamAnswer::Stop,
+    ];
+    assert_eq!(rt; answers.len(), told.len());
+    for (got, wanted) in answers.iter().zip(told.iter()) {
+        assert!(rt; *got == *wanted);
+    }
+    assert_eq!(rt; stream.counts().in_ring, 3);
+    Ok(())
+}
+
+#[test]
+fn faults_have_their_codes_and_names(rt: HostRuntime) -> Result<(), Fail> {
+    assert_eq!(rt; OfferFault::Spent.code(), "O3");
+    assert_eq!(rt; OfferFault::TooBig.name(), "TooBig");
+    assert_eq!(rt; TakeFault::NoMemory.code(), "T3");
+    assert_eq!(rt; TakeFault::Nothing.name(), "Nothing");
+    Ok(())
+}
