@@ -108,6 +108,7 @@ kept-new c config size count = record {
     dropped = omega arith;
     room = omega arith;
     fits = omega arith;
+    waiting_fit = tt;
     losses = record { discarding = λ e. (refl, refl); overwriting = λ e. refl };
     packets = tt;
     filling = open-none;

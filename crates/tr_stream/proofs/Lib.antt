@@ -1,8 +1,10 @@
 pub mod CallLaws
 pub mod ChunkLaws
+pub mod Consistency
 pub mod FateLaws
 pub mod FormLaws
 pub mod KeptLaws
+pub mod ModelLaws
 pub mod OfferLaws
 pub mod OpenLaws
 pub mod PartLaws

@@ -8,7 +8,8 @@ use Rattle.tr_book.specs.declared.mode.Mode.TheVariants.{Discard, Overwrite}
 use Rattle.tr_packet.specs.Packets.{Contents, IsPacket}
 use Rattle.tr_record.specs.Records.{Entry, Fits, last_moment}
 use Rattle.tr_record.specs.Weight.{weight_of}
-use Rattle.tr_ring.specs.Ring.{RingState, closing}
+use Rattle.std.specs.List.{AllByRecursion}
+use Rattle.tr_ring.specs.Ring.{RingState, IsClosedWithin, closing}
 use Rattle.tr_ring.specs.ClosedBuffer.{ClosedBuffer}
 use Rattle.tr_stream.proofs.ChunkLaws.{records_in-cons, records_in-append}
 use Rattle.tr_stream.proofs.OpenLaws.{open-joined, open-one, open-missed}
@@ -27,6 +28,14 @@ are-push c (x ∷ bs) b old new = (old.0, are-push c bs b old.1 new)
 are-drop : (c : StreamConfig) (bs : List ClosedBuffer) → ArePackets c bs → ArePackets c (drop 1 bs)
 are-drop c [] old = tt
 are-drop c (b ∷ bs) old = old.1
+
+fit-push : (size : ℕ) (bs : List ClosedBuffer) (b : ClosedBuffer) → AllByRecursion (IsClosedWithin size) bs → IsClosedWithin size b → AllByRecursion (IsClosedWithin size) (bs ++ b ∷ [])
+fit-push size [] b old new = (new, tt)
+fit-push size (x ∷ bs) b old new = (old.0, fit-push size bs b old.1 new)
+
+fit-drop : (size : ℕ) (bs : List ClosedBuffer) → AllByRecursion (IsClosedWithin size) bs → AllByRecursion (IsClosedWithin size) (drop 1 bs)
+fit-drop size [] old = tt
+fit-drop size (b ∷ bs) old = old.1
 
 used_some : {X : Type 0} (xs : List X) → xs ≢ [] → 0 < length xs
 used_some [] used = absurd (used refl)
@@ -61,6 +70,7 @@ sound-joined s e is next room = record {
   dropped = is.dropped;
   room = is.room;
   fits = grind (arith, common_steps, room);
+  waiting_fit = is.waiting_fit;
   losses = record { discarding = is.losses.discarding; overwriting = is.losses.overwriting };
   packets = is.packets;
   filling = open-joined s.book.offered s.book.last s.ring.current e next.fits next.serial next.moment (omega (arith, room, is.config.size_high)) is.filling;
@@ -87,6 +97,7 @@ sound-missed s moment is left le in_time mode = record {
   dropped = is.dropped;
   room = is.room;
   fits = is.fits;
+  waiting_fit = is.waiting_fit;
   losses = losses-missed s moment mode is.losses;
   packets = is.packets;
   filling = open-missed s.book.offered s.book.last moment s.ring.current le in_time is.filling;
@@ -104,6 +115,7 @@ sound-followed s e is next used small room = record {
   dropped = grind (arith, common_steps, is.dropped);
   room = grind (arith, common_steps, room);
   fits = grind (arith, common_steps, small);
+  waiting_fit = fit-push s.config.geometry.size s.ring.waiting (closing e.moment s.ring) is.waiting_fit (record { some = used_some s.ring.current used; within = is.fits });
   losses = record { discarding = is.losses.discarding; overwriting = is.losses.overwriting };
   packets = are-push s.config s.ring.waiting (closing e.moment s.ring) is.packets (closing-is_packet s e.moment is used next.moment next.fits.moment);
   filling = open-one s.book.offered e next.fits next.serial (grind (arith, common_steps, small, is.config.size_high));
@@ -125,6 +137,7 @@ sound-without_oldest s is some mode = record {
   dropped = grind (arith, common_steps, is.dropped, length-drop 1 s.ring.waiting);
   room = grind (arith, common_steps, is.room, length-drop 1 s.ring.waiting);
   fits = is.fits;
+  waiting_fit = fit-drop s.config.geometry.size s.ring.waiting is.waiting_fit;
   losses = losses-without_oldest s mode is.losses;
   packets = are-drop s.config s.ring.waiting is.packets;
   filling = is.filling;
@@ -148,10 +161,11 @@ sound-moved s b bs oldest is = record {
   dropped = grind (arith, common_steps, is.dropped, length-drop 1 s.ring.waiting);
   room = grind (arith, common_steps, is.room, length-drop 1 s.ring.waiting);
   fits = is.fits;
+  waiting_fit = fit-drop s.config.geometry.size s.ring.waiting is.waiting_fit;
   losses = record { discarding = is.losses.discarding; overwriting = is.losses.overwriting };
   packets = are-drop s.config s.ring.waiting is.packets;
   filling = is.filling;
 }
 
 pub sound-switched : (s : StreamState) (active : Bool) → IsSound s → IsSound (state_switched active s)
-sound-switched s active is = record { config = is.config; made = is.made; few = is.few; in_time = is.in_time; total = is.total; consumed = is.consumed; numbers = is.numbers; dropped = is.dropped; room = is.room; fits = is.fits; losses = record { discarding = is.losses.discarding; overwriting = is.losses.overwriting }; packets = is.packets; filling = is.filling }
+sound-switched s active is = record { config = is.config; made = is.made; few = is.few; in_time = is.in_time; total = is.total; consumed = is.consumed; numbers = is.numbers; dropped = is.dropped; room = is.room; fits = is.fits; waiting_fit = is.waiting_fit; losses = record { discarding = is.losses.discarding; overwriting = is.losses.overwriting }; packets = is.packets; filling = is.filling }

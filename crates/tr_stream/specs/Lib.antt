@@ -1,4 +1,5 @@
 pub mod Chunks
+pub mod Consistent
 pub mod Fates
 pub mod Faults
 pub mod History

@@ -7,7 +7,7 @@ use Rattle.tr_packet.specs.Order.{IsBelow}
 use Rattle.tr_packet.specs.Packets.{IsPacket, MakePacket}
 use Rattle.tr_record.specs.Records.{Entry, last_moment}
 use Rattle.tr_record.specs.Weight.{weight_of}
-use Rattle.tr_ring.specs.Ring.{RingState}
+use Rattle.tr_ring.specs.Ring.{RingState, IsClosedWithin}
 use Rattle.tr_ring.specs.ClosedBuffer.{ClosedBuffer}
 use Rattle.tr_stream.specs.Chunks.{packet_of, begin_of}
 use Rattle.tr_stream.specs.State.{StreamState, in_ring, in_parts}
@@ -20,6 +20,11 @@ pub record IsConfig (c : StreamConfig) : Type 0 where
   pub number : c.number < 2 ^ 64
   pub size_high : c.geometry.size ≤ 65536
   pub count_high : c.geometry.count ≤ 64
+
+-- rings are made with sizes and counts of at least these
+pub record IsUsable (c : StreamConfig) : Type 0 where
+  pub size : 256 ≤ c.geometry.size
+  pub count : 2 ≤ c.geometry.count
 
 -- the ring is as it was made: an empty sub-buffer has room for a record, and there is another one
 pub record IsMade (c : StreamConfig) (r : RingState) : Type 0 where
@@ -57,6 +62,7 @@ pub record IsSound (s : StreamState) : Type 0 where
   pub dropped : s.book.overwritten_packets + length s.ring.waiting ≤ s.ring.seq
   pub room : length s.ring.waiting + 1 ≤ s.config.geometry.count
   pub fits : weight_of s.ring.current ≤ s.config.geometry.size
+  pub waiting_fit : AllByRecursion (IsClosedWithin s.config.geometry.size) s.ring.waiting
   pub losses : LosesByMode s
   -- what waits can be sent, and what is filling can be closed
   pub packets : ArePackets s.config s.ring.waiting

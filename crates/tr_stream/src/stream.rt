@@ -3,6 +3,7 @@
 ghost use Rattle.std.specs.Prelude.{◌≡◌, ◌≢◌, ◌+◌, ◌-◌, ◌^◌, ◌≤◌, ◌<◌, max, Some, Ok, Err, IfOk, OnOk, OnErr, length, option_copied};
 ghost use Rattle.tr_record.specs.Records.{last_moment};
 ghost use Rattle.tr_stream.specs.Chunks.{part_in};
+ghost use Rattle.tr_stream.specs.Consistent.{IsConsistent};
 ghost use Rattle.tr_stream.specs.Fates.{fate_of, state_fate, held_fate};
 ghost use Rattle.tr_stream.specs.History.{History};
 ghost use Rattle.tr_stream.specs.Sound.{IsSound};
@@ -211,6 +212,7 @@ impl<A: Allocator> Stream<A> {
         ensures value { result ≡ state_counts self.now }
         ensures step { (h : History) → StandsFor self.now h → result ≡ counts_of self.now.config h }
         ensures total { result.discarded + result.overwritten + result.in_ring + result.consumed ≡ result.offered }
+        ensures consistent { IsConsistent self.now }
     {
         let offered = self.book.offered();
         let discarded = self.ring.refused();

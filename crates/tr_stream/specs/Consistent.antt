@@ -1,0 +1,94 @@
+-- What a stream value shows by itself: each offer is in one place, and what is absent is what was lost.
+use Rattle.std.specs.Prelude.{◌≡◌, ℕ, ◌+◌, ◌-◌, ◌≤◌, ◌↔◌, List, [], ◌∷◌, ◌++◌, length, map}
+use Rattle.std.specs.List.{flat_map}
+use Rattle.tr_book.specs.Parts.{PartState}
+use Rattle.tr_book.specs.declared.mode.Mode.TheVariants.{Discard, Overwrite}
+use Rattle.tr_packet.specs.Packets.{Contents}
+use Rattle.tr_record.specs.Records.{Entry}
+use Rattle.tr_ring.specs.ClosedBuffer.{ClosedBuffer}
+use Rattle.tr_ring.specs.Ring.{RingState}
+use Rattle.tr_stream.specs.Fates.{all_parts}
+use Rattle.tr_stream.specs.State.{StreamState}
+use Rattle.tr_stream.specs.WellFormed.{RecordsRise, next_serial}
+
+-- the current sub-buffer as it would be closed now, left out where it has no record
+abbrev pub closing_if_any : (seq end lost : ℕ) → List Entry → List ClosedBuffer
+closing_if_any seq end lost [] = []
+closing_if_any seq end lost (e ∷ es) = record { seq = seq; end = end; lost = lost; records = e ∷ es } ∷ []
+
+-- the first number that no sub-buffer with a record has had
+abbrev pub seq_after : ℕ → List Entry → ℕ
+seq_after seq [] = seq
+seq_after seq (e ∷ es) = seq + 1
+
+-- the ring, its current sub-buffer as if it were closed at this moment
+abbrev pub ring_buffers : ℕ → RingState → List ClosedBuffer
+ring_buffers end r = r.waiting ++ closing_if_any r.seq end r.refused r.current
+
+-- the sub-buffer that a packet was
+abbrev pub buffer_in : Contents → ClosedBuffer
+buffer_in p = record { seq = p.head.seq; end = p.head.end; lost = p.head.lost; records = p.records }
+
+abbrev pub buffers_in : List PartState → List ClosedBuffer
+buffers_in parts = flat_map (λ (p : PartState). map buffer_in p.packets) parts
+
+-- all that is held: the packets of the parts in order, and then the ring
+abbrev pub held_buffers : StreamState → List ClosedBuffer
+held_buffers s = buffers_in (all_parts s.parts) ++ ring_buffers s.book.last s.ring
+
+-- numbers and serials rise from these, and stay below those
+abbrev pub Rising : ℕ → ℕ → List ClosedBuffer → ℕ → ℕ → Type 0
+Rising seq serial [] next_seq next = (seq ≤ next_seq) × (serial ≤ next)
+Rising seq serial (b ∷ bs) next_seq next =
+    (seq ≤ b.seq) × RecordsRise serial b.records × Rising (b.seq + 1) (next_serial serial b.records) bs next_seq next
+
+-- numbers follow each other
+abbrev pub CountUp : ℕ → List ClosedBuffer → Type 0
+CountUp n [] = Unit {0}
+CountUp n (b ∷ bs) = (b.seq ≡ n) × CountUp (n + 1) bs
+
+-- parts are numbered by their place
+abbrev pub PartsFrom : ℕ → List PartState → Type 0
+PartsFrom k [] = Unit {0}
+PartsFrom k (p ∷ ps) = (p.id ≡ k) × PartsFrom (k + 1) ps
+
+-- the first serial, or else this one
+abbrev pub first_in : List Entry → ℕ → ℕ
+first_in [] next = next
+first_in (e ∷ es) next = e.serial
+
+abbrev pub first_serial : List ClosedBuffer → ℕ → ℕ
+first_serial [] next = next
+first_serial (b ∷ bs) next = first_in b.records next
+
+-- what is lost up to a sub-buffer is what is absent below the next one; `seen` serials are there before it
+abbrev pub LostAgrees : ℕ → List ClosedBuffer → ℕ → Type 0
+LostAgrees seen [] next = Unit {0}
+LostAgrees seen (b ∷ bs) next =
+    (b.lost + (seen + length b.records) ≡ first_serial bs next) × LostAgrees (seen + length b.records) bs next
+
+-- serials follow each other
+abbrev pub SerialsFollow : ℕ → List Entry → Type 0
+SerialsFollow n [] = Unit {0}
+SerialsFollow n (e ∷ es) = (e.serial ≡ n) × SerialsFollow (n + 1) es
+
+-- nothing is lost within a sub-buffer, serials are absent before it exactly where numbers are, and none behind the last
+abbrev pub GapsAgree : ℕ → ℕ → List ClosedBuffer → ℕ → Type 0
+GapsAgree seq serial [] next = serial ≡ next
+GapsAgree seq serial (b ∷ bs) next =
+    (b.lost ≡ 0) × SerialsFollow (first_in b.records next) b.records
+    × ((b.seq ≡ seq) ↔ (first_in b.records next ≡ serial))
+    × GapsAgree (b.seq + 1) (next_serial serial b.records) bs next
+
+pub record IsConsistent (s : StreamState) : Type 0 where
+  -- numbers and serials rise strictly, below the next of each
+  pub rising : Rising 0 0 (held_buffers s) (seq_after s.ring.seq s.ring.current) s.book.offered
+  pub parts : PartsFrom 0 (all_parts s.parts)
+  -- the numbers of the ring follow each other up to the current one
+  pub ring : CountUp (s.ring.seq - length s.ring.waiting) s.ring.waiting
+  -- as many numbers are absent as sub-buffers were overwritten
+  pub absent : length (held_buffers s) + s.book.overwritten_packets ≡ seq_after s.ring.seq s.ring.current
+  -- in discard mode no number is absent, and each `lost` tells how many serials are
+  pub discards : s.config.mode ≡ Discard → CountUp 0 (held_buffers s) × LostAgrees 0 (held_buffers s) s.book.offered
+  -- in overwrite mode serials are absent only between sub-buffers, exactly where numbers are
+  pub overwrites : s.config.mode ≡ Overwrite → GapsAgree 0 0 (held_buffers s) s.book.offered
