@@ -31,6 +31,10 @@ no_parts = record { closed = []; current = empty_part 0 }
 abbrev pub with_packet : Contents → PartsState → PartsState
 with_packet p s = record s { current = record s.current { packets = s.current.packets ++ p ∷ [] } }
 
+-- the packets are the last of the current part, in order
+abbrev pub with_packets : List Contents → PartsState → PartsState
+with_packets ps s = record s { current = record s.current { packets = s.current.packets ++ ps } }
+
 -- the current part joins the closed ones, and the next one begins
 abbrev pub closed_part : PartsState → PartsState
 closed_part s = record { closed = s.closed ++ s.current ∷ []; current = empty_part (s.current.id + 1) }

@@ -1,10 +1,10 @@
 //! A part: what a stream's ring gave to one trace chunk.
 
 ghost use Rattle.std.specs.Prelude.{◌≡◌, ◌+◌, ◌<◌, ◌^◌, ◌∷◌, [], ◌++◌, OnOk, OnErr, IfErr, length};
-ghost use Rattle.tr_book.specs.Parts.{bytes_of, records_of, empty_part, seq_among};
+ghost use Rattle.tr_book.specs.Parts.{AreTallied, bytes_of, records_of, empty_part, seq_among};
 ghost use Rattle.tr_record.specs.Records.{has_serial};
 
-use std::alloc::{AllocFailed, Allocator, Global};
+use std::alloc::{AllocError, AllocFailed, Allocator, Global};
 use std::marker::Model;
 use tr_packet::Packet;
 
@@ -99,4 +99,31 @@ impl<A: Allocator> Part<A> {
         self.records += count as u64;
         Ok(())
     }
+
+    /// Adds packets at the end, in order. Where memory runs out, the part is as it was.
+    pub(crate) fn append(&mut self, mut packets: Vec<Packet<A>, A>) -> Result<(), AllocError>
+        requires { records_of self.old.packets + records_of packets.items < 2 ^ 64 }
+        ensures ok { OnOk result (self.new ≡ record self.old { packets = self.old.packets ++ packets.items }) }
+        ensures err { OnErr result (self.new ≡ self.old) }
+    {
+        let (bytes, records) = tally(packets.as_slice());
+        self.packets.append(&mut packets)?;
+        self.bytes += bytes;
+        self.records += records;
+        Ok(())
+    }
+}
+
+/// The bytes of packets, and how many records they have.
+fn tally<A: Allocator>(packets: &[Packet<A>]) -> (u128, u64)
+    requires { records_of packets.now < 2 ^ 64 }
+    ensures { AreTallied packets.now result.0 result.1 }
+{
+    let mut bytes = 0;
+    let mut records = 0;
+    'packets: for packet in packets {
+        bytes += packet.size() as u128;
+        records += packet.records().len() as u64;
+    }
+    (bytes, records)
 }

@@ -1,7 +1,7 @@
 //! The parts of a stream.
 
 ghost use Rattle.std.specs.Prelude.{◌≡◌, ◌+◌, ◌<◌, ◌^◌, OnOk, OnErr, IfErr, length, option_copied};
-ghost use Rattle.tr_book.specs.Parts.{IsNumbered, records_of, no_parts, with_packet, closed_part, part_at};
+ghost use Rattle.tr_book.specs.Parts.{IsNumbered, records_of, no_parts, with_packet, with_packets, closed_part, part_at};
 
 use crate::part::Part;
 use std::alloc::{AllocError, AllocFailed, Allocator, Global};
@@ -84,13 +84,16 @@ impl<A: Allocator + Copy> Parts<A> {
         }
     }
 
-    /// Closes the current part and begins the next one. Where memory runs out, nothing changes.
-    pub fn close(&mut self) -> Result<(), AllocError>
-        ensures ok { OnOk result (self.new ≡ closed_part self.old) }
+    /// Adds packets at the end of the current part, in order, closes it and begins the next one. Where memory runs out,
+    /// nothing changes.
+    pub fn cut(&mut self, packets: Vec<Packet<A>, A>) -> Result<(), AllocError>
+        requires { records_of self.old.current.packets + records_of packets.items < 2 ^ 64 }
+        ensures ok { OnOk result (self.new ≡ closed_part (with_packets packets.items self.old)) }
         ensures err { OnErr result (self.new ≡ self.old) }
     {
         self.closed.reserve(1)?;
         let next = Part::new(self.alloc, self.current.id() + 1);
+        self.current.append(packets)?;
         self.closed
             .push_reserved(mem::replace(&mut self.current, next));
         Ok(())

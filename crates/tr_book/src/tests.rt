@@ -36,18 +36,32 @@ fn parts_sum_up_their_packets(rt: HostRuntime) -> Result<(), Fail> {
     let current = parts.part(0).ok_or("a part")?;
     assert_eq!(rt; (current.id(), current.records()), (0, 4));
     assert_eq!(rt; current.bytes(), 484);
-    parts.close()?;
+    Ok(())
+}
+
+#[test]
+fn a_cut_closes_the_part_behind_its_packets(rt: HostRuntime) -> Result<(), Fail> {
+    let mut parts = Parts::new(rt.alloc());
+    parts.push(packet(&rt, rt.alloc(), 0, 50)?)?;
+    parts.cut(vec![in rt.alloc(); packet(&rt, rt.alloc(), 1, 64)?]?)?;
     assert_eq!(rt; parts.cuts(), 1);
     assert!(rt; parts.current().records() == 0);
     parts.push(packet(&rt, rt.alloc(), 2, 50)?)?;
-    let first = parts.part(0).ok_or("a part")?;
+    let [first] = parts.closed() else {
+        panic!(rt; "one closed part")
+    };
+    assert_eq!(rt; (first.id(), first.records()), (0, 4));
     assert_eq!(rt; first.bytes(), 484);
     assert_eq!(rt; first.packets().len(), 2);
     assert_eq!(rt; first.packets()[1].head().seq, 1);
+    assert_eq!(rt; first.seq_of(1), Some(0));
+    assert_eq!(rt; first.seq_of(8), None);
     let second = parts.part(1).ok_or("a part")?;
     assert_eq!(rt; (second.id(), second.records()), (1, 2));
     assert_eq!(rt; second.bytes(), 228);
-    assert!(rt; parts.part(2).is_none());
+    parts.cut(Vec::new(rt.alloc()))?;
+    assert_eq!(rt; parts.part(2).map(|p| p.records()), Some(0));
+    assert!(rt; parts.part(3).is_none());
     Ok(())
 }
 

@@ -51,6 +51,15 @@ without_first r = record r { waiting = drop 1 r.waiting }
 abbrev pub closed_at : ℕ → RingState → RingState
 closed_at end r = record r { waiting = r.waiting ++ closing end r ∷ []; current = []; seq = r.seq + 1 }
 
+-- the first number that no sub-buffer with a record has had
+abbrev pub seq_after : ℕ → List Entry → ℕ
+seq_after seq [] = seq
+seq_after seq (e ∷ es) = seq + 1
+
+-- all records are given up
+abbrev pub emptied : RingState → RingState
+emptied r = record r { waiting = []; current = []; seq = seq_after r.seq r.current }
+
 -- the four cases of an offer: it joins, it follows, it drives out the oldest, or it is refused
 abbrev pub after_push : Entry → RingState → RingState
 after_push e r =

@@ -65,6 +65,13 @@ impl<A: Allocator> ClosedSubBuf<A> {
         self.buffer.count()
     }
 
+    /// Its records.
+    pub fn records(&self) -> &SubBuf<A>
+        ensures { result.now.records ≡ self.now.records }
+    {
+        &self.buffer
+    }
+
     /// The record number `i`, from 0 on.
     pub fn at(&self, i: usize) -> Option<RecView<'_>>
         ensures { result ≡ slice_get self.now.records i }

@@ -4,7 +4,7 @@ ghost use Rattle.std.specs.Prelude.{◌≡◌, ◌≢◌, ◌+◌, ◌≤◌, �
 ghost use Rattle.tr_record.specs.Weight.{weight_of};
 ghost use Rattle.circular_buffer.specs.Buffer.{buffer};
 ghost use Rattle.tr_subbuf.specs.SubBuffer.{empty_buffer, with_record};
-ghost use Rattle.tr_ring.specs.Ring.{IsRing, empty_ring, current_buffer, after_push, push_answer, without_first, closed_at, seq_waiting, seq_of};
+ghost use Rattle.tr_ring.specs.Ring.{IsRing, empty_ring, current_buffer, after_push, push_answer, without_first, closed_at, emptied, seq_waiting, seq_of};
 
 use crate::closed::ClosedSubBuf;
 use crate::pushed::Pushed;
@@ -192,6 +192,17 @@ impl<A: Allocator> Ring<A> {
         ensures { self.new ≡ without_first self.old }
     {
         let _ = self.waiting.pop_front();
+    }
+
+    /// Gives up all records. The next sub-buffer gets the first number that none with a record has had. It takes no
+    /// memory.
+    pub fn empty(&mut self)
+        requires { self.old.seq + 1 < 2 ^ 64 }
+        ensures { self.new ≡ emptied self.old }
+    {
+        self.seq += u64::from(!self.current.is_empty());
+        self.current.reset();
+        self.waiting.clear();
     }
 
     /// The current sub-buffer.

@@ -1,30 +1,34 @@
 -- What the bodies of a stream's calls owe, from what the ring, the parts and the book did.
-use Rattle.std.proofs.Common.{◌≡◌, ◌≢◌, ℕ, ◌+◌, ◌-◌, ◌^◌, ◌≤◌, ◌<◌, zero, suc, Bool, true, false, List, [], ◌∷◌, ◌++◌, length, max, take, Option, Some, None, Result, Ok, Err, refl, sym, ◌∙◌, ap, subst, arith}
+use Rattle.std.proofs.Common.{◌≡◌, ◌≢◌, ℕ, ◌+◌, ◌-◌, ◌^◌, ◌≤◌, ◌<◌, zero, suc, Bool, true, false, List, [], ◌∷◌, ◌++◌, length, map, max, take, Option, Some, None, Result, Ok, Err, refl, sym, ◌∙◌, ap, subst, arith}
 use Rattle.std.proofs.lemmas.Grind.{common_steps}
-use Rattle.std.proofs.lemmas.List.{take_more}
+use Rattle.std.proofs.lemmas.List.{append-nil, map-append, length-map, take_more}
 use Rattle.std.proofs.lemmas.Option.{slice_get_within, get_or_from_slice_get}
 use Rattle.std.specs.Prelude.{slice_get}
 use Rattle.tr_book.specs.Book as noted
 use Rattle.tr_book.specs.Book.{BookState}
-use Rattle.tr_book.specs.Parts.{PartsState, no_parts, with_packet}
-use Rattle.tr_packet.specs.Packets.{IsPacket}
-use Rattle.tr_record.specs.Records.{Entry}
+use Rattle.tr_book.specs.Parts.{PartsState, records_of, no_parts, with_packet, with_packets, closed_part}
+use Rattle.tr_packet.specs.Packets.{Contents, IsPacket}
+use Rattle.tr_record.specs.Records.{Entry, last_moment}
 use Rattle.tr_ring.specs.ClosedBuffer.{ClosedBuffer}
-use Rattle.tr_ring.specs.Ring.{RingState, after_push, empty_ring, push_answer, without_first}
+use Rattle.tr_ring.specs.Ring.{RingState, after_push, closing, emptied, empty_ring, push_answer, without_first}
 use Rattle.tr_ring.specs.declared.pushed.Pushed.{Pushed}
 use Rattle.tr_ring.specs.declared.pushed.Pushed.TheVariants as pushed
-use Rattle.tr_stream.proofs.KeptLaws.{IsOffer, kept-offered, kept-taken}
+use Rattle.tr_stream.proofs.CutLaws.{cuts, records_in-ring}
+use Rattle.tr_stream.proofs.KeptLaws.{IsOffer, kept-offered, kept-taken, kept-cut}
 use Rattle.tr_stream.proofs.OfferLaws.{offers}
 use Rattle.tr_stream.proofs.Refinement.{with_moved}
+use Rattle.tr_stream.proofs.SoundLaws.{records_of-packets}
 use Rattle.tr_stream.proofs.TakeLaws.{takes}
-use Rattle.tr_stream.specs.Chunks.{packet_of}
+use Rattle.tr_stream.specs.Chunks.{packet_of, closing_if_any, ring_buffers}
 use Rattle.tr_stream.specs.History.{History}
 use Rattle.tr_stream.specs.Kept.{IsKept}
 use Rattle.tr_stream.specs.Sound.{IsMade, ArePackets}
 use Rattle.tr_stream.specs.StandsFor.{StandsFor}
-use Rattle.tr_stream.specs.State.{StreamState}
-use Rattle.tr_stream.specs.StateSteps.{new_state, overwrites, booked, entered, refusal_of, offer_unless, state_unless, with_offer, offered_as, offer_result, state_after_offer, TakesMemory, moved_oldest, take_result, state_after_take}
-use Rattle.tr_stream.specs.Steps.{offer_answer, after_offer, take_answer, after_take, taken_from}
+use Rattle.tr_stream.specs.State.{StreamState, in_ring}
+use Rattle.tr_stream.specs.StateSteps.{new_state, overwrites, booked, entered, refusal_of, offer_unless, state_unless, with_offer, offered_as, offer_result, state_after_offer, TakesMemory, moved_oldest, take_result, state_after_take, state_cut_at, cut_done}
+use Rattle.tr_stream.specs.Steps.{offer_answer, after_offer, take_answer, after_take, cut_answer, after_cut, taken_from}
+use Rattle.tr_stream.specs.declared.answers.CutDone.{CutDone}
+use Rattle.tr_stream.specs.declared.answers.CutFault.{CutFault}
 use Rattle.tr_stream.specs.declared.answers.OfferFault.{OfferFault}
 use Rattle.tr_stream.specs.declared.answers.Offered.{Offered}
 use Rattle.tr_stream.specs.declared.answers.TakeFault.{TakeFault}
@@ -111,3 +115,71 @@ copied-more records copies more i e f got same so pushed =
 -- what a new stream is made of
 pub new-is : (c : StreamConfig) (ring : RingState) (parts : PartsState) (book : BookState) (size count : ℕ) (over : Bool) → ring ≡ empty_ring size count over → parts ≡ no_parts → book ≡ noted.empty_book → size ≡ c.geometry.size → count ≡ c.geometry.count → over ≡ overwrites c.mode → (let t : StreamState = record { config = c; ring = ring; parts = parts; book = book; active = false } in t) ≡ new_state c
 new-is c ring parts book size count over a b d e f g = cc
+
+-- what waits can be sent
+pub waiting-at : (c : StreamConfig) (waiting : List ClosedBuffer) (i : ℕ) (b : ClosedBuffer) → slice_get waiting i ≡ Some b → ArePackets c waiting → IsPacket (packet_of c b)
+waiting-at c [] i b at are = cc
+waiting-at c (x ∷ xs) zero b at are = let e : x ≡ b = cc in subst (λ (y : ClosedBuffer). IsPacket (packet_of c y)) e are.0
+waiting-at c (x ∷ xs) (suc i) b at are = waiting-at c xs i b at are.1
+
+-- there is one at each place
+pub is-there : (waiting : List ClosedBuffer) (i : ℕ) → i < length waiting → slice_get waiting i ≡ None → ⊥
+is-there [] i within none = absurd (omega (arith, within))
+is-there (b ∷ bs) zero within none = cc
+is-there (b ∷ bs) (suc i) within none = is-there bs i (grind (arith, common_steps, within)) none
+
+-- one packet more
+pub packed-more : (c : StreamConfig) (waiting : List ClosedBuffer) (packets more : List Contents) (i : ℕ) (b : ClosedBuffer) (p : Contents) → slice_get waiting i ≡ Some b → p ≡ packet_of c b → packets ≡ map (packet_of c) (take i waiting) → more ≡ packets ++ p ∷ [] → more ≡ map (packet_of c) (take (i + 1) waiting)
+packed-more c waiting packets more i b p got same so pushed =
+    let next : take (i + 1) waiting ≡ take i waiting ++ b ∷ [] =
+    take_more waiting i b (slice_get_within waiting i b got) ∙ ap (λ (x : ClosedBuffer). take i waiting ++ x ∷ []) (get_or_from_slice_get waiting i b b got) in
+    let joined : map (packet_of c) (take i waiting ++ b ∷ []) ≡ map (packet_of c) (take i waiting) ++ packet_of c b ∷ [] = map-append (packet_of c) (take i waiting) (b ∷ []) in
+    cc
+
+-- the ring's packets, the current sub-buffer's among them if it has a record
+pub packed-waiting : (c : StreamConfig) (ring : RingState) (end : ℕ) (packets : List Contents) → packets ≡ map (packet_of c) ring.waiting → length ring.current ≡ 0 → packets ≡ map (packet_of c) (ring_buffers end ring)
+packed-waiting c ring end packets are none =
+    let nothing : closing_if_any ring.seq end ring.refused ring.current ≡ [] = none_closing ring.current none in
+    are ∙ ap (map (packet_of c)) (sym (append-nil ring.waiting)) ∙ ap (λ (bs : List ClosedBuffer). map (packet_of c) (ring.waiting ++ bs)) (sym nothing)
+  where
+    none_closing : (es : List Entry) → length es ≡ 0 → closing_if_any ring.seq end ring.refused es ≡ []
+    none_closing [] e = refl
+    none_closing (x ∷ es) e = absurd (grind (arith, common_steps, e))
+
+pub packed-all : (c : StreamConfig) (ring : RingState) (end : ℕ) (packets more : List Contents) (p : Contents) → packets ≡ map (packet_of c) ring.waiting → length ring.current ≢ 0 → p ≡ packet_of c (closing end ring) → more ≡ packets ++ p ∷ [] → more ≡ map (packet_of c) (ring_buffers end ring)
+packed-all c ring end packets more p are some last pushed =
+    let it : closing_if_any ring.seq end ring.refused ring.current ≡ closing end ring ∷ [] = one_closing ring.current some in
+    let joined : map (packet_of c) (ring.waiting ++ closing end ring ∷ []) ≡ map (packet_of c) ring.waiting ++ packet_of c (closing end ring) ∷ [] = map-append (packet_of c) ring.waiting (closing end ring ∷ []) in
+    cc
+  where
+    one_closing : (es : List Entry) → length es ≢ 0 → closing_if_any ring.seq end ring.refused es ≡ record { seq = ring.seq; end = end; lost = ring.refused; records = es } ∷ []
+    one_closing [] some = absurd (some refl)
+    one_closing (e ∷ es) some = refl
+
+-- the packets of a ring have its records, which fit a counter beside those of the part
+pub cut-fits : (s : StreamState) (end : ℕ) (packets : List Contents) → IsKept s → packets ≡ map (packet_of s.config) (ring_buffers end s.ring) → records_of s.parts.current.packets + records_of packets < 2 ^ 64
+cut-fits s end packets is are =
+    let sound = is.sound in
+    let count : records_of packets ≡ in_ring s.ring = ap records_of are ∙ records_of-packets s.config (ring_buffers end s.ring) ∙ records_in-ring s end in
+    omega (arith, count, sound.total, sound.consumed, sound.few)
+
+-- what a cut tells
+pub cut-told : (s : StreamState) (end k len count : ℕ) (packets : List Contents) → packets ≡ map (packet_of s.config) (ring_buffers end s.ring) → k ≡ s.parts.current.id → len ≡ length packets → count ≡ in_ring s.ring → (let d : CutDone = record { chunk = k; packets = len; records = count } in d) ≡ cut_done end s
+cut-told s end k len count packets are chunk_is len_is count_is =
+    let e : length packets ≡ length (ring_buffers end s.ring) = ap length are ∙ length-map (ring_buffers end s.ring) (packet_of s.config) in
+    let f = records_in-ring s end in
+    cc
+
+-- what is left of a cut once the parts have the packets
+pub cut-is : (s : StreamState) (end count : ℕ) (packets : List Contents) (ring : RingState) (parts : PartsState) (noted_ book : BookState) → packets ≡ map (packet_of s.config) (ring_buffers end s.ring) → ring ≡ emptied s.ring → parts ≡ closed_part (with_packets packets s.parts) → count ≡ in_ring s.ring → noted_ ≡ noted.with_consumed count s.book → book ≡ noted.at_moment end noted_ → (let t : StreamState = record { config = s.config; ring = ring; parts = parts; book = book; active = s.active } in t) ≡ state_cut_at end s
+cut-is s end count packets ring parts noted_ book packets_are ring_is parts_is count_is first then = cc
+
+pub kept-cut_now : (s : StreamState) (end count : ℕ) (packets : List Contents) (ring : RingState) (parts : PartsState) (noted_ book : BookState) → IsKept s → end ≤ last_moment → packets ≡ map (packet_of s.config) (ring_buffers end s.ring) → ring ≡ emptied s.ring → parts ≡ closed_part (with_packets packets s.parts) → count ≡ in_ring s.ring → noted_ ≡ noted.with_consumed count s.book → book ≡ noted.at_moment end noted_ → IsKept (record { config = s.config; ring = ring; parts = parts; book = book; active = s.active })
+kept-cut_now s end count packets ring parts noted_ book is in_time packets_are ring_is parts_is count_is first then =
+    subst (λ (t : StreamState). IsKept t) (sym (cut-is s end count packets ring parts noted_ book packets_are ring_is parts_is count_is first then)) (kept-cut s end in_time is)
+
+-- a cut is the history's cut
+pub step-cut : (s new : StreamState) (h : History) (moment end : ℕ) (done : CutDone) → StandsFor s h → end ≡ max moment s.book.last → done ≡ cut_done end s → new ≡ state_cut_at end s → ((let r : Result CutDone CutFault = Ok done in r) ≡ cut_answer moment h) × StandsFor new (after_cut moment h)
+step-cut s new h moment end done is at told moved =
+    let step = cuts s h moment is in
+    (ap (λ (d : CutDone). (let r : Result CutDone CutFault = Ok d in r)) (told ∙ ap (λ (m : ℕ). cut_done m s) at) ∙ step.0, subst (λ (t : StreamState). StandsFor t (after_cut moment h)) (sym (moved ∙ ap (λ (m : ℕ). state_cut_at m s) at)) step.1)

@@ -8,7 +8,7 @@ use Rattle.tr_stream.specs.History.{Status, Waiting, Kept, Block, Closed, is_wai
 use Rattle.tr_stream.specs.Chunks.{buffer_of, buffers_where}
 use Rattle.tr_stream.specs.WellFormed.{AllWait, WaitLast}
 use Rattle.tr_ring.specs.ClosedBuffer.{ClosedBuffer}
-use Rattle.tr_stream.specs.Steps.{settle_first}
+use Rattle.tr_stream.specs.Steps.{settle_first, keep_waiting}
 
 pub missed_in-cons : (c : Closed) (cs : List Closed) → missed_in (c ∷ cs) ≡ length c.block.missed + missed_in cs
 missed_in-cons c cs = sum_by-cons (λ (c : Closed). length c.block.missed) c cs
@@ -78,3 +78,40 @@ pub sum-settle_first : (f : Block → ℕ) (status : Status) (cs : List Closed) 
 sum-settle_first f status [] = refl
 sum-settle_first f status (c ∷ cs) =
     grind (arith, common_steps, sum-settle_first f status cs, sum_by-cons (λ (c : Closed). f c.block) c cs, sum_by-cons (λ (c : Closed). f c.block) c (settle_first status cs), sum_by-cons (λ (c : Closed). f c.block) (record c { status = status }) cs)
+
+-- where all that waits is kept, none waits
+pub waiting-keep_waiting : (k lost : ℕ) (cs : List Closed) → buffers_where is_waiting lost (keep_waiting k cs) ≡ []
+waiting-keep_waiting k lost [] = refl
+waiting-keep_waiting k lost (c ∷ cs) = grind (arith, common_steps, waiting-keep_waiting k (lost + length c.block.missed) cs)
+
+pub other-keep_waiting : (wanted : Status → Bool) (k lost : ℕ) (cs : List Closed) → wanted (Kept k) ≡ false → wanted Waiting ≡ false → buffers_where wanted lost (keep_waiting k cs) ≡ buffers_where wanted lost cs
+other-keep_waiting wanted k lost [] new old = refl
+other-keep_waiting wanted k lost (c ∷ cs) new old = grind (arith, common_steps, other-keep_waiting wanted k (lost + length c.block.missed) cs new old)
+
+-- where all wait, all are wanted now
+all-keep_waiting : (wanted : Status → Bool) (k lost : ℕ) (cs : List Closed) → wanted (Kept k) ≡ true → AllWait cs → buffers_where wanted lost (keep_waiting k cs) ≡ buffers_where is_waiting lost cs
+all-keep_waiting wanted k lost [] new wait = refl
+all-keep_waiting wanted k lost (c ∷ cs) new wait = grind (arith, common_steps, all-keep_waiting wanted k (lost + length c.block.missed) cs new wait.1)
+
+-- those that waited come last
+pub new-keep_waiting : (wanted : Status → Bool) (k lost : ℕ) (cs : List Closed) → wanted (Kept k) ≡ true → wanted Waiting ≡ false → WaitLast cs → buffers_where wanted lost (keep_waiting k cs) ≡ buffers_where wanted lost cs ++ buffers_where is_waiting lost cs
+new-keep_waiting wanted k lost [] new old order = refl
+new-keep_waiting wanted k lost (c ∷ cs) new old order = grind (arith, common_steps, new-keep_waiting wanted k (lost + length c.block.missed) cs new old order.1, all-keep_waiting wanted k (lost + length c.block.missed) cs new, none_wait wanted (lost + length c.block.missed) cs old)
+
+pub records-keep_waiting : (wanted : Status → Bool) (k lost : ℕ) (cs : List Closed) → wanted (Kept k) ≡ true → wanted Waiting ≡ false → records_where wanted (keep_waiting k cs) ≡ records_where wanted cs + records_in (buffers_where is_waiting lost cs)
+records-keep_waiting wanted k lost [] new old = refl
+records-keep_waiting wanted k lost (c ∷ cs) new old =
+    grind (arith, common_steps, records-keep_waiting wanted k (lost + length c.block.missed) cs new old, records_where-cons wanted c cs, records_where-cons wanted c (keep_waiting k cs), records_where-cons wanted (record c { status = Kept k }) (keep_waiting k cs), records_in-cons (buffer_of lost c) (buffers_where is_waiting (lost + length c.block.missed) cs))
+
+pub other_records-keep_waiting : (wanted : Status → Bool) (k : ℕ) (cs : List Closed) → wanted (Kept k) ≡ false → wanted Waiting ≡ false → records_where wanted (keep_waiting k cs) ≡ records_where wanted cs
+other_records-keep_waiting wanted k [] new old = refl
+other_records-keep_waiting wanted k (c ∷ cs) new old = grind (arith, common_steps, other_records-keep_waiting wanted k cs new old, records_where-cons wanted c cs, records_where-cons wanted c (keep_waiting k cs), records_where-cons wanted (record c { status = Kept k }) (keep_waiting k cs))
+
+pub other_blocks-keep_waiting : (wanted : Status → Bool) (k : ℕ) (cs : List Closed) → wanted (Kept k) ≡ false → wanted Waiting ≡ false → blocks_where wanted (keep_waiting k cs) ≡ blocks_where wanted cs
+other_blocks-keep_waiting wanted k [] new old = refl
+other_blocks-keep_waiting wanted k (c ∷ cs) new old = grind (arith, common_steps, other_blocks-keep_waiting wanted k cs new old, blocks_where-cons wanted c cs, blocks_where-cons wanted c (keep_waiting k cs), blocks_where-cons wanted (record c { status = Kept k }) (keep_waiting k cs))
+
+pub sum-keep_waiting : (f : Block → ℕ) (k : ℕ) (cs : List Closed) → sum_by (λ (c : Closed). f c.block) (keep_waiting k cs) ≡ sum_by (λ (c : Closed). f c.block) cs
+sum-keep_waiting f k [] = refl
+sum-keep_waiting f k (c ∷ cs) =
+    grind (arith, common_steps, sum-keep_waiting f k cs, sum_by-cons (λ (c : Closed). f c.block) c cs, sum_by-cons (λ (c : Closed). f c.block) c (keep_waiting k cs), sum_by-cons (λ (c : Closed). f c.block) (record c { status = Kept k }) (keep_waiting k cs))

@@ -10,16 +10,17 @@ use Rattle.tr_ring.specs.Ring.{RingState, current_buffer, after_push, push_answe
 use Rattle.tr_ring.specs.declared.pushed.Pushed.{Pushed}
 use Rattle.tr_book.specs.Book.{BookState}
 use Rattle.tr_ring.specs.ClosedBuffer.{ClosedBuffer}
+use Rattle.tr_stream.proofs.CutLaws.{stands-cut}
 use Rattle.tr_stream.proofs.OfferLaws.{IsAccepted, accepted, not_empty, joins, follows, misses, replaces, offers}
 use Rattle.tr_stream.proofs.OpenLaws.{open-none}
 use Rattle.tr_stream.proofs.Refinement.{with_joined, with_followed, with_missed, without_oldest, stands-switched}
-use Rattle.tr_stream.proofs.SoundLaws.{IsNext, sound-joined, sound-missed, sound-followed, sound-without_oldest, sound-moved, sound-switched}
+use Rattle.tr_stream.proofs.SoundLaws.{sound-cut, IsNext, sound-joined, sound-missed, sound-followed, sound-without_oldest, sound-moved, sound-switched}
 use Rattle.tr_stream.proofs.TakeLaws.{starts, takes}
 use Rattle.tr_stream.specs.Kept.{IsKept}
 use Rattle.tr_stream.specs.Sound.{IsSound, IsConfig}
 use Rattle.tr_stream.specs.State.{StreamState}
-use Rattle.tr_stream.specs.StateSteps.{booked, entered, refusal_of, state_unless, with_offer, state_after_offer, moved_oldest, state_after_take, state_switched, new_state, overwrites}
-use Rattle.tr_stream.specs.Steps.{after_offer, after_take, start, switched}
+use Rattle.tr_stream.specs.StateSteps.{state_cut_at, booked, entered, refusal_of, state_unless, with_offer, state_after_offer, moved_oldest, state_after_take, state_switched, new_state, overwrites}
+use Rattle.tr_stream.specs.Steps.{cut_at, after_offer, after_take, start, switched}
 use Rattle.tr_stream.specs.declared.answers.OfferFault.{OfferFault}
 use Rattle.tr_stream.specs.declared.config.StreamConfig.{StreamConfig}
 use Rattle.tr_subbuf.specs.SubBuffer.{has_room}
@@ -91,6 +92,9 @@ sound-oldest s (b ∷ bs) waiting_is is = sound-moved s b bs waiting_is is
 pub kept-taken : (s : StreamState) → IsKept s → IsKept (state_after_take s)
 kept-taken s is = record { sound = sound-oldest s s.ring.waiting refl is.sound; history = (after_take is.history.0, (takes s is.history.0 is.history.1).1) }
 
+pub kept-cut : (s : StreamState) (end : ℕ) → end ≤ last_moment → IsKept s → IsKept (state_cut_at end s)
+kept-cut s end in_time is = record { sound = sound-cut s end is.sound in_time; history = (cut_at end is.history.0, stands-cut s is.history.0 end is.history.1) }
+
 pub kept-switched : (s : StreamState) (active : Bool) → IsKept s → IsKept (state_switched active s)
 kept-switched s active is = record { sound = sound-switched s active is.sound; history = (switched active is.history.0, stands-switched s is.history.0 active is.history.1) }
 
@@ -111,7 +115,7 @@ kept-new c config size count = record {
     waiting_fit = tt;
     losses = record { discarding = λ e. (refl, refl); overwriting = λ e. refl };
     packets = tt;
-    filling = open-none;
+    filling = open-none 0 0;
   };
   history = (start, starts c);
 }

@@ -1,6 +1,8 @@
 pub mod CallLaws
 pub mod ChunkLaws
 pub mod Consistency
+pub mod CutForms
+pub mod CutLaws
 pub mod FateLaws
 pub mod FormLaws
 pub mod KeptLaws

@@ -36,5 +36,5 @@ open-missed serial last moment es le in_time old = record {
   makes = λ used. MakePacket-later (begin_of es) last moment es (old.makes used) le in_time;
 }
 
-pub open-none : IsOpen 0 0 []
-open-none = record { below = tt; makes = λ used. absurd (used refl) }
+pub open-none : (serial last : ℕ) → IsOpen serial last []
+open-none serial last = record { below = tt; makes = λ used. absurd (used refl) }

@@ -41,14 +41,14 @@ without_oldest s = record s {
   };
 }
 
-chunks_below-same : (k : ℕ) (h g : History) → ((j : ℕ) → j < k → chunk_of j g ≡ chunk_of j h) → chunks_below k g ≡ chunks_below k h
+pub chunks_below-same : (k : ℕ) (h g : History) → ((j : ℕ) → j < k → chunk_of j g ≡ chunk_of j h) → chunks_below k g ≡ chunks_below k h
 chunks_below-same zero h g same = refl
 chunks_below-same (suc k) h g same =
     let e = chunks_below-same k h g (λ j l. same j (omega arith)) in
     let f : chunk_of k g ≡ chunk_of k h = same k (omega arith) in
     cc
 
-parts_below-same : (c : StreamConfig) (k : ℕ) (h g : History) → ((j : ℕ) → j < k → chunk_of j g ≡ chunk_of j h) → parts_below c k g ≡ parts_below c k h
+pub parts_below-same : (c : StreamConfig) (k : ℕ) (h g : History) → ((j : ℕ) → j < k → chunk_of j g ≡ chunk_of j h) → parts_below c k g ≡ parts_below c k h
 parts_below-same c zero h g same = refl
 parts_below-same c (suc k) h g same =
     let e = parts_below-same c k h g (λ j l. same j (omega arith)) in
@@ -62,7 +62,7 @@ times-missed : (n : ℕ) (h : History) (e : Entry) → times n (after_course Mis
 times-missed n h e = omega (arith, sum_by_push (λ (m : ℕ). cond (eqb m n) 1 0) h.filling.missed e.serial)
 
 -- the chunks in order stay the kept blocks
-chunks_same : (h g : History) → ((j : ℕ) → chunk_of j g ≡ chunk_of j h) → consumed_of g ≡ consumed_of h → chunks_below h.cuts h ++ chunk_of h.cuts h ≡ consumed_of h → chunks_below h.cuts g ++ chunk_of h.cuts g ≡ consumed_of g
+pub chunks_same : (h g : History) → ((j : ℕ) → chunk_of j g ≡ chunk_of j h) → consumed_of g ≡ consumed_of h → chunks_below h.cuts h ++ chunk_of h.cuts h ≡ consumed_of h → chunks_below h.cuts g ++ chunk_of h.cuts g ≡ consumed_of g
 chunks_same h g same consumed old =
     let a = chunks_below-same h.cuts h g (λ j l. same j) in
     let b = same h.cuts in
@@ -159,10 +159,10 @@ settled_well status h room stops within chunks is = record {
   serials = λ n. serials_same n (offered_of h) (offered_of (settled status h)) (times n h) (times n (settled status h)) (omega (arith, sum-settle_first offers_in status h.closed)) (is.serials n) (omega (arith, sum-settle_first (times_in n) status h.closed));
 }
 
-kept_in : (j k : ℕ) → j < k → is_kept_in j (Kept k) ≡ false
+pub kept_in : (j k : ℕ) → j < k → is_kept_in j (Kept k) ≡ false
 kept_in j k below = grind (arith, nat_tests)
 
-kept_in-same : (k : ℕ) → is_kept_in k (Kept k) ≡ true
+pub kept_in-same : (k : ℕ) → is_kept_in k (Kept k) ≡ true
 kept_in-same k = grind (arith, nat_tests)
 
 map-first : (c : StreamConfig) (before bs : List ClosedBuffer) (b : ClosedBuffer) → map (packet_of c) (before ++ take 1 (b ∷ bs)) ≡ map (packet_of c) before ++ packet_of c b ∷ []

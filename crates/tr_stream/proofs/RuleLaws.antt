@@ -7,6 +7,7 @@ use Rattle.tr_book.specs.declared.mode.Mode.TheVariants.{Discard, Overwrite}
 use Rattle.tr_record.specs.Records.{Entry}
 use Rattle.tr_ring.specs.ClosedBuffer.{ClosedBuffer}
 use Rattle.tr_ring.specs.Ring.{RingState, current_buffer, after_push, joined, followed, refusing, without_first}
+use Rattle.tr_stream.proofs.CutLaws.{cuts}
 use Rattle.tr_stream.proofs.FateLaws.{fates}
 use Rattle.tr_stream.proofs.OfferLaws.{offers, joins, follows, misses, replaces}
 use Rattle.tr_stream.proofs.Refinement.{stands-switched}
@@ -110,6 +111,18 @@ config-oldest s (b ∷ bs) = refl
 
 pub agree-taken : (s : StreamState) (t : Traced) → Agrees s t → Agrees (by_state.after_taken s) (by_history.after_taken t)
 agree-taken s t is = record { config = config-oldest s s.ring.waiting ∙ is.config; made = made-oldest s s.ring.waiting is.made; losses = losses-oldest s s.ring.waiting is.losses; stands = (takes s t.history is.stands).1 }
+
+-- a cut
+pub same-cut : (s : StreamState) (t : Traced) (moment : ℕ) → Agrees s t → by_state.cut moment s ≡ by_history.cut moment t
+same-cut s t moment is = (cuts s t.history moment is.stands).0
+
+pub agree-cut : (s : StreamState) (t : Traced) (moment : ℕ) → Agrees s t → Agrees (by_state.after_cut moment s) (by_history.after_cut moment t)
+agree-cut s t moment is = record {
+  config = is.config;
+  made = record { size = is.made.size; count = is.made.count; mode = is.made.mode; size_low = is.made.size_low; count_low = is.made.count_low };
+  losses = record { discarding = is.losses.discarding; overwriting = is.losses.overwriting };
+  stands = (cuts s t.history moment is.stands).1;
+}
 
 -- a start or a stop
 pub agree-turned : (s : StreamState) (t : Traced) (active : Bool) → Agrees s t → Agrees (by_state.turned active s) (by_history.turned active t)

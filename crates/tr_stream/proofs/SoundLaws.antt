@@ -1,24 +1,26 @@
 -- Each inner step of a stream leaves it sound.
-use Rattle.std.proofs.Common.{◌≡◌, ◌≢◌, ℕ, ◌+◌, ◌-◌, ◌^◌, ◌≤◌, ◌<◌, Bool, List, [], ◌∷◌, ◌++◌, length, take, drop, min, refl, sym, ap, subst, ◌∙◌, arith}
+use Rattle.std.proofs.Common.{◌≡◌, ◌≢◌, ℕ, ◌+◌, ◌-◌, ◌^◌, ◌≤◌, ◌<◌, Bool, List, [], ◌∷◌, ◌++◌, length, map, take, drop, min, refl, sym, ap, subst, ◌∙◌, arith}
 use Rattle.std.proofs.Common.{length-drop, length-append}
 use Rattle.std.proofs.lemmas.Grind.{common_steps}
-use Rattle.std.proofs.lemmas.List.Sums.{sum_by_push}
+use Rattle.std.proofs.lemmas.List.Sums.{sum_by_push, sum_by-cons, sum_by-append}
 use Rattle.tr_book.specs.declared.mode.Mode.{Mode}
 use Rattle.tr_book.specs.declared.mode.Mode.TheVariants.{Discard, Overwrite}
+use Rattle.tr_book.specs.Parts.{PartState, records_of}
 use Rattle.tr_packet.specs.Packets.{Contents, IsPacket}
 use Rattle.tr_record.specs.Records.{Entry, Fits, last_moment}
 use Rattle.tr_record.specs.Weight.{weight_of}
 use Rattle.std.specs.List.{AllByRecursion}
-use Rattle.tr_ring.specs.Ring.{RingState, IsClosedWithin, closing}
+use Rattle.tr_ring.specs.Ring.{RingState, IsClosedWithin, closing, seq_after}
 use Rattle.tr_ring.specs.ClosedBuffer.{ClosedBuffer}
 use Rattle.tr_stream.proofs.ChunkLaws.{records_in-cons, records_in-append}
-use Rattle.tr_stream.proofs.OpenLaws.{open-joined, open-one, open-missed}
+use Rattle.tr_stream.proofs.CutLaws.{records_in-ring}
+use Rattle.tr_stream.proofs.OpenLaws.{open-joined, open-one, open-missed, open-none}
 use Rattle.tr_packet.proofs.OrderLemmas.{MakePacket-later}
 use Rattle.tr_stream.proofs.Refinement.{with_joined, with_followed, with_missed, without_oldest, with_moved}
-use Rattle.tr_stream.specs.Chunks.{packet_of, begin_of}
+use Rattle.tr_stream.specs.Chunks.{packet_of, begin_of, ring_buffers}
 use Rattle.tr_stream.specs.Sound.{IsSound, IsOpen, ArePackets, LosesByMode}
 use Rattle.tr_stream.specs.State.{StreamState, records_in, in_ring}
-use Rattle.tr_stream.specs.StateSteps.{state_switched}
+use Rattle.tr_stream.specs.StateSteps.{state_switched, state_cut_at}
 use Rattle.tr_stream.specs.declared.config.StreamConfig.{StreamConfig}
 
 are-push : (c : StreamConfig) (bs : List ClosedBuffer) (b : ClosedBuffer) → ArePackets c bs → IsPacket (packet_of c b) → ArePackets c (bs ++ b ∷ [])
@@ -169,3 +171,38 @@ sound-moved s b bs oldest is = record {
 
 pub sound-switched : (s : StreamState) (active : Bool) → IsSound s → IsSound (state_switched active s)
 sound-switched s active is = record { config = is.config; made = is.made; few = is.few; in_time = is.in_time; total = is.total; consumed = is.consumed; numbers = is.numbers; dropped = is.dropped; room = is.room; fits = is.fits; waiting_fit = is.waiting_fit; losses = record { discarding = is.losses.discarding; overwriting = is.losses.overwriting }; packets = is.packets; filling = is.filling }
+
+seq-after : (seq offered : ℕ) (es : List Entry) → seq + min 1 (length es) ≤ offered → seq_after seq es + min 1 0 ≤ offered
+seq-after seq offered [] le = omega arith
+seq-after seq offered (e ∷ es) le = grind (arith, common_steps, le)
+
+seq-grows : (k seq : ℕ) (es : List Entry) → k ≤ seq → k ≤ seq_after seq es
+seq-grows k seq [] le = le
+seq-grows k seq (e ∷ es) le = omega arith
+
+pub records_of-packets : (c : StreamConfig) (bs : List ClosedBuffer) → records_of (map (packet_of c) bs) ≡ records_in bs
+records_of-packets c [] = refl
+records_of-packets c (b ∷ bs) = grind (arith, common_steps, records_of-packets c bs, records_in-cons b bs, sum_by-cons (λ (p : Contents). length p.records) (packet_of c b) (map (packet_of c) bs))
+
+pub sound-cut : (s : StreamState) (end : ℕ) → IsSound s → end ≤ last_moment → IsSound (state_cut_at end s)
+sound-cut s end is in_time = record {
+  config = is.config;
+  made = record { size = is.made.size; count = is.made.count; mode = is.made.mode; size_low = is.made.size_low; count_low = is.made.count_low };
+  few = is.few;
+  in_time = in_time;
+  total = omega (arith, is.total);
+  consumed =
+      let ps = map (packet_of s.config) (ring_buffers end s.ring) in
+      let part = sum_by-append (λ (p : Contents). length p.records) s.parts.current.packets ps in
+      let count = records_of-packets s.config (ring_buffers end s.ring) ∙ records_in-ring s end in
+      let closed = sum_by_push (λ (part : PartState). records_of part.packets) s.parts.closed (record s.parts.current { packets = s.parts.current.packets ++ ps }) in
+      omega (arith, is.consumed, part, count, closed);
+  numbers = seq-after s.ring.seq s.book.offered s.ring.current is.numbers;
+  dropped = grind (arith, common_steps, seq-grows s.book.overwritten_packets s.ring.seq s.ring.current (omega (arith, is.dropped)));
+  room = omega (arith, is.made.count_low);
+  fits = omega (arith, is.made.size_low);
+  waiting_fit = tt;
+  losses = record { discarding = is.losses.discarding; overwriting = is.losses.overwriting };
+  packets = tt;
+  filling = open-none s.book.offered end;
+}

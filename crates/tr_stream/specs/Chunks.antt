@@ -4,7 +4,8 @@ use Rattle.tr_book.specs.Parts.{PartState}
 use Rattle.tr_packet.specs.Packets.{Contents}
 use Rattle.tr_record.specs.Records.{Entry}
 use Rattle.tr_ring.specs.ClosedBuffer.{ClosedBuffer}
-use Rattle.tr_stream.specs.History.{Status, Closed, History, is_waiting, is_kept, is_kept_in}
+use Rattle.tr_ring.specs.Ring.{RingState}
+use Rattle.tr_stream.specs.History.{Status, Closed, History, is_waiting, is_kept, is_kept_in, discarded_of}
 use Rattle.tr_stream.specs.declared.config.StreamConfig.{StreamConfig}
 
 -- the sub-buffer of a closed block, before which that many records were discarded
@@ -21,6 +22,19 @@ buffers_where wanted lost (c ∷ cs) =
 -- the closed sub-buffers that wait
 abbrev pub waiting_of : History → List ClosedBuffer
 waiting_of h = buffers_where is_waiting 0 h.closed
+
+-- a current sub-buffer as it is when it is closed now, left out where it has no record
+abbrev pub closing_if_any : (seq end lost : ℕ) → List Entry → List ClosedBuffer
+closing_if_any seq end lost [] = []
+closing_if_any seq end lost (e ∷ es) = record { seq = seq; end = end; lost = lost; records = e ∷ es } ∷ []
+
+-- the ring, the filling block as if it were closed at this moment
+abbrev pub ring_of : ℕ → History → List ClosedBuffer
+ring_of end h = waiting_of h ++ closing_if_any h.filling.number end (discarded_of h) h.filling.records
+
+-- the same of a ring
+abbrev pub ring_buffers : ℕ → RingState → List ClosedBuffer
+ring_buffers end r = r.waiting ++ closing_if_any r.seq end r.refused r.current
 
 -- what was consumed into a chunk
 abbrev pub chunk_of : ℕ → History → List ClosedBuffer

@@ -6,24 +6,11 @@ use Rattle.tr_book.specs.declared.mode.Mode.TheVariants.{Discard, Overwrite}
 use Rattle.tr_packet.specs.Packets.{Contents}
 use Rattle.tr_record.specs.Records.{Entry}
 use Rattle.tr_ring.specs.ClosedBuffer.{ClosedBuffer}
-use Rattle.tr_ring.specs.Ring.{RingState}
+use Rattle.tr_ring.specs.Ring.{seq_after}
+use Rattle.tr_stream.specs.Chunks.{ring_buffers}
 use Rattle.tr_stream.specs.Fates.{all_parts}
 use Rattle.tr_stream.specs.State.{StreamState}
 use Rattle.tr_stream.specs.WellFormed.{RecordsRise, next_serial}
-
--- the current sub-buffer as it would be closed now, left out where it has no record
-abbrev pub closing_if_any : (seq end lost : ℕ) → List Entry → List ClosedBuffer
-closing_if_any seq end lost [] = []
-closing_if_any seq end lost (e ∷ es) = record { seq = seq; end = end; lost = lost; records = e ∷ es } ∷ []
-
--- the first number that no sub-buffer with a record has had
-abbrev pub seq_after : ℕ → List Entry → ℕ
-seq_after seq [] = seq
-seq_after seq (e ∷ es) = seq + 1
-
--- the ring, its current sub-buffer as if it were closed at this moment
-abbrev pub ring_buffers : ℕ → RingState → List ClosedBuffer
-ring_buffers end r = r.waiting ++ closing_if_any r.seq end r.refused r.current
 
 -- the sub-buffer that a packet was
 abbrev pub buffer_in : Contents → ClosedBuffer

@@ -1,5 +1,7 @@
 -- Why calls are refused, as answers print it.
 use Rattle.std.specs.Prelude.{ℕ, List, codes}
+use Rattle.tr_stream.specs.declared.answers.CutFault.{CutFault}
+use Rattle.tr_stream.specs.declared.answers.CutFault.TheVariants as cut
 use Rattle.tr_stream.specs.declared.answers.OfferFault.{OfferFault}
 use Rattle.tr_stream.specs.declared.answers.OfferFault.TheVariants as offer
 use Rattle.tr_stream.specs.declared.answers.TakeFault.{TakeFault}
@@ -24,3 +26,9 @@ take_fault_code take.NoMemory = codes "T3"
 abbrev pub take_fault_name : TakeFault → List ℕ
 take_fault_name take.Nothing = codes "Nothing"
 take_fault_name take.NoMemory = codes "NoMemory"
+
+abbrev pub cut_fault_code : CutFault → List ℕ
+cut_fault_code cut.NoMemory = codes "C2"
+
+abbrev pub cut_fault_name : CutFault → List ℕ
+cut_fault_name cut.NoMemory = codes "NoMemory"

@@ -6,8 +6,10 @@ use Rattle.tr_stream.specs.History.{History}
 use Rattle.tr_stream.specs.Sound.{IsMade, LosesByMode}
 use Rattle.tr_stream.specs.StandsFor.{StandsFor}
 use Rattle.tr_stream.specs.State.{StreamState}
-use Rattle.tr_stream.specs.StateSteps.{new_state, offer_result, state_after_offer, take_result, state_after_take, state_switched, state_counts}
-use Rattle.tr_stream.specs.Steps.{start, offer_answer, after_offer, take_answer, after_take, switched, counts_of}
+use Rattle.tr_stream.specs.StateSteps.{new_state, offer_result, state_after_offer, take_result, state_after_take, cut_result, state_after_cut, state_switched, state_counts}
+use Rattle.tr_stream.specs.Steps.{start, offer_answer, after_offer, take_answer, after_take, cut_answer, after_cut, switched, counts_of}
+use Rattle.tr_stream.specs.declared.answers.CutDone.{CutDone}
+use Rattle.tr_stream.specs.declared.answers.CutFault.{CutFault}
 use Rattle.tr_stream.specs.declared.answers.OfferFault.{OfferFault}
 use Rattle.tr_stream.specs.declared.answers.Offered.{Offered}
 use Rattle.tr_stream.specs.declared.answers.TakeFault.{TakeFault}
@@ -21,6 +23,8 @@ pub record StreamRules (S : Type 0) : Type 0 where
   pub after_offered : ℕ → ℕ → List ℕ → S → S
   pub taken : S → Result Taken TakeFault
   pub after_taken : S → S
+  pub cut : ℕ → S → Result CutDone CutFault
+  pub after_cut : ℕ → S → S
   pub turned : Bool → S → S
   pub counted : S → Counts
   pub fated : ℕ → S → Option Fate
@@ -38,6 +42,8 @@ by_state = record {
   after_offered = state_after_offer;
   taken = take_result;
   after_taken = state_after_take;
+  cut = cut_result;
+  after_cut = state_after_cut;
   turned = state_switched;
   counted = state_counts;
   fated = state_fate;
@@ -51,6 +57,8 @@ by_history = record {
   after_offered = λ moment id payload t. record t { history = after_offer t.config moment id payload t.history };
   taken = λ t. take_answer t.history;
   after_taken = λ t. record t { history = after_take t.history };
+  cut = λ moment t. cut_answer moment t.history;
+  after_cut = λ moment t. record t { history = after_cut moment t.history };
   turned = λ active t. record t { history = switched active t.history };
   counted = λ t. counts_of t.config t.history;
   fated = λ n t. fate_of n t.history;

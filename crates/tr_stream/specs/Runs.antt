@@ -1,17 +1,18 @@
 -- A list of calls, one after another.
 use Rattle.std.specs.Prelude.{true, false, List, [], ◌∷◌}
 use Rattle.tr_stream.specs.History.{History}
-use Rattle.tr_stream.specs.Steps.{after_offer, offer_answer, after_take, take_answer, switched}
+use Rattle.tr_stream.specs.Steps.{after_offer, offer_answer, after_take, take_answer, after_cut, cut_answer, switched}
 use Rattle.tr_stream.specs.declared.config.StreamConfig.{StreamConfig}
 use Rattle.tr_stream.specs.declared.events.StreamAnswer.{StreamAnswer}
 use Rattle.tr_stream.specs.declared.events.StreamAnswer.TheVariants as answer
 use Rattle.tr_stream.specs.declared.events.StreamEvent.{StreamEvent}
-use Rattle.tr_stream.specs.declared.events.StreamEvent.TheVariants.{Offer, Take, Start, Stop}
+use Rattle.tr_stream.specs.declared.events.StreamEvent.TheVariants.{Offer, Take, Cut, Start, Stop}
 
 -- the history after a call
 abbrev pub after_event : {A : Type 0} → StreamConfig → StreamEvent A → History → History
 after_event c (Offer moment id payload) h = after_offer c moment id payload h
 after_event c Take h = after_take h
+after_event c (Cut moment) h = after_cut moment h
 after_event c Start h = switched true h
 after_event c Stop h = switched false h
 
@@ -19,6 +20,7 @@ after_event c Stop h = switched false h
 abbrev pub answer_to : {A : Type 0} → StreamConfig → StreamEvent A → History → StreamAnswer
 answer_to c (Offer moment id payload) h = answer.Offer (offer_answer c payload h)
 answer_to c Take h = answer.Take (take_answer h)
+answer_to c (Cut moment) h = answer.Cut (cut_answer moment h)
 answer_to c Start h = answer.Start
 answer_to c Stop h = answer.Stop
 

@@ -1,18 +1,20 @@
 -- What each call does to what a stream holds, and what it answers.
-use Rattle.std.specs.Prelude.{ℕ, ◌+◌, ◌-◌, ◌^◌, max, min, Bool, true, false, nat_lt, nat_le, not, List, [], ◌∷◌, length, Option, Some, None, Result, Ok, Err, if◌then◌else◌}
-use Rattle.tr_book.specs.Book.{BookState, empty_book}
-use Rattle.tr_book.specs.Parts.{bytes_of, no_parts, with_packet}
+use Rattle.std.specs.Prelude.{ℕ, ◌+◌, ◌-◌, ◌^◌, max, min, Bool, true, false, nat_lt, nat_le, not, List, [], ◌∷◌, length, map, Option, Some, None, Result, Ok, Err, if◌then◌else◌}
+use Rattle.tr_book.specs.Book.{BookState, empty_book, with_consumed, at_moment}
+use Rattle.tr_book.specs.Parts.{bytes_of, no_parts, with_packet, with_packets, closed_part}
 use Rattle.tr_book.specs.declared.counts.Counts.{Counts}
 use Rattle.tr_record.specs.Records.{Entry}
-use Rattle.tr_ring.specs.Ring.{after_push, empty_ring, push_answer, without_first}
+use Rattle.tr_ring.specs.Ring.{after_push, emptied, empty_ring, push_answer, without_first}
 use Rattle.tr_ring.specs.ClosedBuffer.{ClosedBuffer}
 use Rattle.tr_ring.specs.declared.pushed.Pushed.{Pushed}
 use Rattle.tr_ring.specs.declared.pushed.Pushed.TheVariants as pushed
 use Rattle.tr_book.specs.declared.mode.Mode.{Mode}
 use Rattle.tr_book.specs.declared.mode.Mode.TheVariants.{Discard, Overwrite}
-use Rattle.tr_stream.specs.Chunks.{packet_of}
+use Rattle.tr_stream.specs.Chunks.{packet_of, ring_buffers}
 use Rattle.tr_stream.specs.State.{StreamState, in_ring}
-use Rattle.tr_stream.specs.Steps.{taken_from}
+use Rattle.tr_stream.specs.Steps.{taken_from, done_with}
+use Rattle.tr_stream.specs.declared.answers.CutDone.{CutDone}
+use Rattle.tr_stream.specs.declared.answers.CutFault.{CutFault}
 use Rattle.tr_stream.specs.declared.answers.OfferFault.{OfferFault}
 use Rattle.tr_stream.specs.declared.answers.OfferFault.TheVariants.{Inactive, TooBig, Spent}
 use Rattle.tr_stream.specs.declared.answers.Offered.{Offered}
@@ -84,6 +86,24 @@ take_result s = taken_from s.parts.current.id s.ring.waiting
 
 abbrev pub state_after_take : StreamState → StreamState
 state_after_take s = moved_oldest s.ring.waiting s
+
+-- all that the ring holds is in the current part, which is closed
+abbrev pub state_cut_at : ℕ → StreamState → StreamState
+state_cut_at end s = record s {
+  ring = emptied s.ring;
+  parts = closed_part (with_packets (map (packet_of s.config) (ring_buffers end s.ring)) s.parts);
+  book = at_moment end (with_consumed (in_ring s.ring) s.book);
+}
+
+-- a cut
+abbrev pub cut_done : ℕ → StreamState → CutDone
+cut_done end s = done_with s.parts.current.id (ring_buffers end s.ring)
+
+abbrev pub cut_result : ℕ → StreamState → Result CutDone CutFault
+cut_result moment s = Ok (cut_done (max moment s.book.last) s)
+
+abbrev pub state_after_cut : ℕ → StreamState → StreamState
+state_after_cut moment s = state_cut_at (max moment s.book.last) s
 
 abbrev pub state_switched : Bool → StreamState → StreamState
 state_switched active s = record s { active = active }

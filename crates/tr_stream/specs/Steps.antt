@@ -7,9 +7,11 @@ use Rattle.tr_book.specs.declared.mode.Mode.TheVariants.{Discard, Overwrite}
 use Rattle.tr_record.specs.Records.{Entry}
 use Rattle.tr_record.specs.Weight.{weight_of}
 use Rattle.tr_ring.specs.ClosedBuffer.{ClosedBuffer}
-use Rattle.tr_stream.specs.Chunks.{waiting_of, chunk_of, packet_of}
+use Rattle.tr_stream.specs.Chunks.{waiting_of, ring_of, chunk_of, packet_of}
 use Rattle.tr_stream.specs.History.{Status, Waiting, Dropped, Kept, Closed, History, is_waiting, is_dropped, is_kept, offered_of, discarded_of, records_where, blocks_where}
 use Rattle.tr_stream.specs.State.{records_in}
+use Rattle.tr_stream.specs.declared.answers.CutDone.{CutDone}
+use Rattle.tr_stream.specs.declared.answers.CutFault.{CutFault}
 use Rattle.tr_stream.specs.declared.answers.OfferFault.{OfferFault}
 use Rattle.tr_stream.specs.declared.answers.OfferFault.TheVariants.{Inactive, TooBig, Spent}
 use Rattle.tr_stream.specs.declared.answers.Offered.{Offered}
@@ -98,6 +100,37 @@ take_answer h = taken_from h.cuts (waiting_of h)
 
 abbrev pub after_take : History → History
 after_take h = record h { closed = settle_first (Kept h.cuts) h.closed }
+
+-- the filling block, if it has a record, is closed and waits, and an empty one follows
+abbrev pub flushed_with : List Entry → ℕ → History → History
+flushed_with [] end h = record h { last = end }
+flushed_with (e ∷ es) end h = record h {
+  closed = h.closed ++ record { block = h.filling; end = end; status = Waiting } ∷ [];
+  filling = record { number = h.filling.number + 1; records = []; missed = [] };
+  last = end;
+}
+
+-- each block that waits is kept in this chunk
+abbrev pub keep_waiting : ℕ → List Closed → List Closed
+keep_waiting k [] = []
+keep_waiting k (c ∷ cs) = (if is_waiting c.status then record c { status = Kept k } else c) ∷ keep_waiting k cs
+
+-- all is kept in the chunk, and the next one begins
+abbrev pub all_kept : History → History
+all_kept h = record h { closed = keep_waiting h.cuts h.closed; cuts = h.cuts + 1 }
+
+abbrev pub cut_at : ℕ → History → History
+cut_at end h = all_kept (flushed_with h.filling.records end h)
+
+abbrev pub after_cut : ℕ → History → History
+after_cut moment h = cut_at (max moment h.last) h
+
+-- how many blocks and records that keeps
+abbrev pub done_with : ℕ → List ClosedBuffer → CutDone
+done_with k buffers = record { chunk = k; packets = length buffers; records = records_in buffers }
+
+abbrev pub cut_answer : ℕ → History → Result CutDone CutFault
+cut_answer moment h = Ok (done_with h.cuts (ring_of (max moment h.last) h))
 
 abbrev pub switched : Bool → History → History
 switched active h = record h { active = active }

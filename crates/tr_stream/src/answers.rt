@@ -1,7 +1,7 @@
 //! What a stream's calls answer.
 
 ghost use Rattle.std.specs.Prelude.{◌≡◌};
-ghost use Rattle.tr_stream.specs.Faults.{offer_fault_code, offer_fault_name, take_fault_code, take_fault_name};
+ghost use Rattle.tr_stream.specs.Faults.{cut_fault_code, cut_fault_name, offer_fault_code, offer_fault_name, take_fault_code, take_fault_name};
 
 use std::alloc::AllocError;
 use thiserror::Error;
@@ -140,5 +140,55 @@ impl From<AllocError> for TakeFault {
 
     fn from(_error: AllocError) -> TakeFault {
         TakeFault::NoMemory
+    }
+}
+
+/// The trace chunk that a cut closed, and what the cut added to it.
+#[derive(Clone, Copy, Debug, PartialEq, Eq)]
+pub struct CutDone {
+    /// Its number.
+    pub chunk: u64,
+    /// How many packets the cut added.
+    pub packets: u64,
+    /// How many records these have.
+    pub records: u64,
+}
+
+/// Why a cut was refused. The stream is as it was.
+#[derive(Clone, Copy, Debug, PartialEq, Eq, Error)]
+pub enum CutFault {
+    /// Memory was refused.
+    #[error("C2 NoMemory")]
+    NoMemory,
+}
+
+impl CutFault {
+    /// The code that answers and documents call it by.
+    pub fn code(&self) -> &'static str
+        ensures { result.now ≡ cut_fault_code self.now }
+    {
+        match self {
+            CutFault::NoMemory => "C2",
+        }
+    }
+
+    /// Its name, as answers print it.
+    pub fn name(&self) -> &'static str
+        ensures { result.now ≡ cut_fault_name self.now }
+    {
+        match self {
+            CutFault::NoMemory => "NoMemory",
+        }
+    }
+}
+
+impl From<AllocError> for CutFault {
+    ghost use Rattle.std.specs.Prelude.{◌≡◌};
+    ghost use Rattle.tr_stream.specs.declared.answers.CutFault.TheVariants.{NoMemory};
+
+    ghost from_gives = { λ _ fault. fault ≡ NoMemory };
+
+    fn from(_error: AllocError) -> CutFault {
+        CutFault::NoMemory
     }
 }

@@ -1,6 +1,6 @@
 //! A stream's calls as values.
 
-use crate::answers::{OfferFault, Offered, TakeFault, Taken};
+use crate::answers::{CutDone, CutFault, OfferFault, Offered, TakeFault, Taken};
 use crate::payload::Payload;
 use std::alloc::{Allocator, Global};
 use tr_record::Moment;
@@ -12,6 +12,8 @@ pub enum StreamEvent<A: Allocator = Global> {
     Offer(Moment, u32, Payload<A>),
     /// A take.
     Take,
+    /// A cut at a moment.
+    Cut(Moment),
     /// The stream takes offers from now on.
     Start,
     /// The stream takes no offers from now on.
@@ -25,6 +27,8 @@ pub enum StreamAnswer {
     Offer(Result<Offered, OfferFault>),
     /// To a take.
     Take(Result<Taken, TakeFault>),
+    /// To a cut.
+    Cut(Result<CutDone, CutFault>),
     /// To a start, which is never refused.
     Start,
     /// To a stop, which is never refused.

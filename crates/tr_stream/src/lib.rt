@@ -12,7 +12,7 @@ mod payload;
 mod run;
 mod stream;
 
-pub use answers::{OfferFault, Offered, TakeFault, Taken};
+pub use answers::{CutDone, CutFault, OfferFault, Offered, TakeFault, Taken};
 pub use config::{SessionMode, StreamConfig};
 pub use events::{StreamAnswer, StreamEvent};
 pub use fate::Fate;

@@ -1,19 +1,22 @@
-//! The packet that a closed sub-buffer becomes.
+//! The packets that sub-buffers become.
 
-ghost use Rattle.std.specs.Prelude.{◌≡◌, IfOk};
+ghost use Rattle.std.specs.Prelude.{◌≡◌, ◌≢◌, [], map, IfOk};
 ghost use Rattle.tr_packet.specs.Packets.{IsPacket};
-ghost use Rattle.tr_stream.specs.Chunks.{begin_of, packet_of};
+ghost use Rattle.tr_ring.specs.Ring.{closing};
+ghost use Rattle.tr_stream.specs.Chunks.{begin_of, packet_of, ring_buffers};
+ghost use Rattle.tr_stream.specs.Sound.{ArePackets};
 
 use crate::config::StreamConfig;
 use std::alloc::{AllocError, Allocator};
 use tr_packet::{Head, Packet};
 use tr_record::{Moment, Rec};
-use tr_ring::ClosedSubBuf;
+use tr_ring::{ClosedSubBuf, Ring};
+use tr_subbuf::SubBuf;
 
 /// Copies of its records, in order.
 fn copy_records<A: Allocator + Copy>(
     alloc: A,
-    buffer: &ClosedSubBuf<A>,
+    buffer: &SubBuf<A>,
 ) -> Result<Vec<Rec<A>, A>, AllocError>
     ensures { IfOk result (λ v. v.items ≡ buffer.now.records) }
 {
@@ -28,7 +31,7 @@ fn copy_records<A: Allocator + Copy>(
 }
 
 /// The moment of its first record.
-fn begin<A: Allocator>(buffer: &ClosedSubBuf<A>) -> Moment
+fn begin<A: Allocator>(buffer: &SubBuf<A>) -> Moment
     ensures { result ≡ begin_of buffer.now.records }
 {
     match buffer.at(0) {
@@ -46,14 +49,75 @@ pub fn packet_from<A: Allocator + Copy>(
     requires { IsPacket (packet_of config buffer.now) }
     ensures { IfOk result (λ p. p ≡ packet_of config buffer.now) }
 {
-    let records = copy_records(alloc, buffer)?;
+    let records = copy_records(alloc, buffer.records())?;
     let head = Head {
         uuid: config.uuid,
         stream: config.number,
-        begin: begin(buffer),
+        begin: begin(buffer.records()),
         end: buffer.end(),
         seq: buffer.seq(),
         lost: buffer.lost(),
     };
     Ok(Packet::new(head, records))
+}
+
+/// The packet that the current sub-buffer would be, if it were closed at this moment.
+fn packet_of_current<A: Allocator + Copy>(
+    alloc: A,
+    config: StreamConfig,
+    ring: &Ring<A>,
+    end: Moment,
+) -> Result<Packet<A>, AllocError>
+    requires { IsPacket (packet_of config (closing end ring.now)) }
+    ensures { IfOk result (λ p. p ≡ packet_of config (closing end ring.now)) }
+{
+    let records = copy_records(alloc, ring.current())?;
+    let head = Head {
+        uuid: config.uuid,
+        stream: config.number,
+        begin: begin(ring.current()),
+        end,
+        seq: ring.seq(),
+        lost: ring.refused(),
+    };
+    Ok(Packet::new(head, records))
+}
+
+/// The packets of the sub-buffers that wait, the oldest first, in a list with room for all that the ring can hold.
+fn waiting_packets<A: Allocator + Copy>(
+    alloc: A,
+    config: StreamConfig,
+    ring: &Ring<A>,
+) -> Result<Vec<Packet<A>, A>, AllocError>
+    requires { ArePackets config ring.now.waiting }
+    ensures { IfOk result (λ v. v.items ≡ map (packet_of config) ring.now.waiting) }
+{
+    let mut packets = Vec::with_capacity(alloc, ring.count())?;
+    for i in 0..ring.waiting() {
+        let Some(buffer) = ring.closed(i) else {
+            unreachable!()
+        };
+        packets.push(packet_from(alloc, config, buffer)?)?;
+    }
+    Ok(packets)
+}
+
+/// The packets of a ring, the oldest first: of those that wait, and of the current sub-buffer, as if it were closed at
+/// this moment, where it has a record.
+pub fn ring_packets<A: Allocator + Copy>(
+    alloc: A,
+    config: StreamConfig,
+    ring: &Ring<A>,
+    end: Moment,
+) -> Result<Vec<Packet<A>, A>, AllocError>
+    requires waiting { ArePackets config ring.now.waiting }
+    requires current { ring.now.current ≢ [] → IsPacket (packet_of config (closing end ring.now)) }
+    ensures { IfOk result (λ v. v.items ≡ map (packet_of config) (ring_buffers end ring.now)) }
+{
+    let mut packets = waiting_packets(alloc, config, ring)?;
+    if ring.current().is_empty() {
+        return Ok(packets);
+    }
+    packets.push(packet_of_current(alloc, config, ring, end)?)?;
+    Ok(packets)
 }

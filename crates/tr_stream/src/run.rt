@@ -6,7 +6,7 @@ ghost use Rattle.tr_stream.specs.Runs.{after_event, answer_to, after_events, ans
 ghost use Rattle.tr_stream.specs.StandsFor.{StandsFor};
 ghost use Rattle.tr_stream.specs.Steps.{start};
 
-use crate::answers::{OfferFault, TakeFault};
+use crate::answers::{CutFault, OfferFault, TakeFault};
 use crate::config::StreamConfig;
 use crate::events::{StreamAnswer, StreamEvent};
 use crate::stream::Stream;
@@ -37,6 +37,13 @@ fn step<A: Allocator + Copy>(
                 return Err(AllocError);
             }
             Ok(StreamAnswer::Take(answer))
+        }
+        StreamEvent::Cut(moment) => {
+            let answer = stream.cut(*moment);
+            if answer == Err(CutFault::NoMemory) {
+                return Err(AllocError);
+            }
+            Ok(StreamAnswer::Cut(answer))
         }
         StreamEvent::Start => {
             stream.set_active(true);

@@ -8,15 +8,16 @@ ghost use Rattle.tr_stream.specs.Fates.{fate_of, state_fate, held_fate};
 ghost use Rattle.tr_stream.specs.History.{History};
 ghost use Rattle.tr_stream.specs.Sound.{IsSound};
 ghost use Rattle.tr_stream.specs.StandsFor.{StandsFor};
-ghost use Rattle.tr_stream.specs.StateSteps.{new_state, overwrites, refusal_of, entered, with_offer, offered_as, offer_result, state_after_offer, TakesMemory, take_result, state_after_take, state_switched, state_counts};
-ghost use Rattle.tr_stream.specs.Steps.{start, offer_answer, after_offer, take_answer, after_take, switched, counts_of};
+ghost use Rattle.tr_stream.specs.State.{in_ring};
+ghost use Rattle.tr_stream.specs.StateSteps.{new_state, overwrites, refusal_of, entered, with_offer, offered_as, offer_result, state_after_offer, TakesMemory, take_result, state_after_take, cut_done, cut_result, state_cut_at, state_after_cut, state_switched, state_counts};
+ghost use Rattle.tr_stream.specs.Steps.{start, offer_answer, after_offer, take_answer, after_take, cut_answer, after_cut, switched, counts_of};
 ghost use Rattle.tr_book.specs.Parts.{part_at};
 ghost use Rattle.tr_ring.specs.Ring.{push_answer};
 
-use crate::answers::{OfferFault, Offered, TakeFault, Taken};
+use crate::answers::{CutDone, CutFault, OfferFault, Offered, TakeFault, Taken};
 use crate::config::{SessionMode, StreamConfig};
 use crate::fate::{fate_in_parts, loss, Fate};
-use crate::packing::packet_from;
+use crate::packing::{packet_from, ring_packets};
 use std::alloc::{AllocError, Allocator, Global};
 use std::marker::Model;
 use tr_book::{Book, Counts, Geometry, Mode, Part, Parts};
@@ -179,9 +180,49 @@ impl<A: Allocator + Copy> Stream<A> {
         self.book.note_consumed(taken.count);
         Ok(taken)
     }
+
+    /// Closes the current sub-buffer if it has a record, moves all that waits, as packets, to the current part, closes that
+    /// part and begins the next one. A cut that is refused for want of memory changes nothing.
+    pub fn cut(&mut self, moment: Moment) -> Result<CutDone, CutFault>
+        ensures value { result ≢ Err CutFault.NoMemory → (result ≡ cut_result moment self.old) × (self.new ≡ state_after_cut moment self.old) }
+        ensures step { (h : History) → StandsFor self.old h → result ≢ Err CutFault.NoMemory →
+            (result ≡ cut_answer moment h) × StandsFor self.new (after_cut moment h) }
+        ensures no_memory { result ≡ Err CutFault.NoMemory → self.new ≡ self.old }
+        ensures config { self.new.config ≡ self.old.config }
+    {
+        let end = self.book.stored_moment(moment);
+        Ok(self.cut_at(end)?)
+    }
+
+    /// Moves all that the ring holds. All memory is taken before anything moves.
+    fn cut_at(&mut self, end: Moment) -> Result<CutDone, AllocError>
+        requires { self.old.book.last ≤ end }
+        ensures answer { IfOk result (λ d. d ≡ cut_done end self.old) }
+        ensures ok { OnOk result (self.new ≡ state_cut_at end self.old) }
+        ensures err { OnErr result (self.new ≡ self.old) }
+    {
+        let packets = ring_packets(self.alloc, self.config, &self.ring, end)?;
+        let done = CutDone {
+            chunk: self.parts.current().id(),
+            packets: packets.len() as u64,
+            records: self.in_ring(),
+        };
+        self.parts.cut(packets)?;
+        self.ring.empty();
+        self.book.note_consumed(done.records);
+        self.book.note_moment(end);
+        Ok(done)
+    }
 }
 
 impl<A: Allocator> Stream<A> {
+    /// How many records the ring holds.
+    fn in_ring(&self) -> u64
+        ensures { result ≡ in_ring self.now.ring }
+    {
+        self.book.offered() - self.ring.refused() - self.book.overwritten() - self.book.consumed()
+    }
+
     /// Why an offer of so many bytes is refused.
     fn refusal(&self, len: usize) -> Option<OfferFault>
         ensures value { result ≡ refusal_of len self.now }
@@ -214,17 +255,13 @@ impl<A: Allocator> Stream<A> {
         ensures total { result.discarded + result.overwritten + result.in_ring + result.consumed ≡ result.offered }
         ensures consistent { IsConsistent self.now }
     {
-        let offered = self.book.offered();
-        let discarded = self.ring.refused();
-        let overwritten = self.book.overwritten();
-        let consumed = self.book.consumed();
         Counts {
-            offered,
-            discarded,
-            overwritten,
+            offered: self.book.offered(),
+            discarded: self.ring.refused(),
+            overwritten: self.book.overwritten(),
             overwritten_packets: self.book.overwritten_packets(),
-            in_ring: offered - discarded - overwritten - consumed,
-            consumed,
+            in_ring: self.in_ring(),
+            consumed: self.book.consumed(),
             cuts: self.parts.cuts(),
             current_bytes: u64::try_from(self.parts.current().bytes()).unwrap_or(u64::MAX),
         }

@@ -1,14 +1,16 @@
 //! Worked examples: a stream of sub-buffers of 256 bytes, two to a ring.
 
-use crate::answers::{OfferFault, Offered, TakeFault, Taken};
+use crate::answers::{CutDone, CutFault, OfferFault, Offered, TakeFault, Taken};
 use crate::config::{SessionMode, StreamConfig};
 use crate::events::{StreamAnswer, StreamEvent};
+use crate::fate::Fate;
 use crate::payload::Payload;
 use crate::run::run_stream;
 use crate::stream::Stream;
 use std::alloc::{AllocError, Global};
 use std::test::Fail;
 use tr_book::{Counts, Geometry, Mode};
+use tr_packet::Packet;
 use tr_record::Moment;
 use uuid::Uuid;
 
@@ -84,6 +86,9 @@ fn a_longer_record_is_discarded_and_a_shorter_one_is_stored(rt: HostRuntime) -> 
         })
     );
     assert_eq!(rt; stream.take(), Err(TakeFault::Nothing));
+    assert_eq!(rt; stream.fate_of(0), Some(Fate::InChunk { chunk: 0, seq: 0 }));
+    assert_eq!(rt; stream.fate_of(4), Some(Fate::Discarded));
+    assert_eq!(rt; stream.fate_of(5), Some(Fate::InRing { seq: 1 }));
     assert_eq!(rt;
         stream.counts(),
         Counts {
@@ -163,6 +168,10 @@ fn the_oldest_sub_buffer_gives_way(rt: HostRuntime) -> Result<(), Fail> {
         })
     );
     assert_eq!(rt; stream.offer(at(6), 7, &half), stored(5, 2));
+    assert_eq!(rt; stream.fate_of(1), Some(Fate::Overwritten));
+    assert_eq!(rt; stream.fate_of(2), Some(Fate::InRing { seq: 1 }));
+    assert_eq!(rt; stream.fate_of(5), Some(Fate::InRing { seq: 2 }));
+    assert_eq!(rt; stream.fate_of(6), None);
     assert_eq!(rt;
         stream.take(),
         Ok(Taken {
@@ -171,8 +180,88 @@ fn the_oldest_sub_buffer_gives_way(rt: HostRuntime) -> Result<(), Fail> {
             chunk: 0
         })
     );
+    assert_eq!(rt; stream.fate_of(2), Some(Fate::InChunk { chunk: 0, seq: 1 }));
     assert_eq!(rt; stream.counts().overwritten, 2);
     assert_eq!(rt; stream.counts().overwritten_packets, 1);
+    Ok(())
+}
+
+/// Whether a packet has this number, tells so many records lost, and has records of these serials.
+fn is_packet(packet: &Packet, seq: u64, lost: u64, serials: &[u64]) -> bool {
+    let records = packet.records();
+    packet.head().seq == seq
+        && packet.head().lost == lost
+        && records.len() == serials.len()
+        && records
+            .iter()
+            .zip(serials.iter())
+            .all(|(r, serial)| r.serial() == *serial)
+}
+
+#[test]
+fn a_cut_closes_a_part_with_all_that_the_ring_has(rt: HostRuntime) -> Result<(), Fail> {
+    let mut stream = small_stream(rt.alloc(), Mode::Discard)?;
+    stream.set_active(true);
+    for moment in 1..6 {
+        let _ = stream.offer(at(moment), 7, &[97; 50]);
+    }
+    assert_eq!(rt; stream.offer(at(6), 7, &[97; 4]), stored(5, 1));
+    assert!(rt; stream.take().is_ok());
+    let done = CutDone { chunk: 0, packets: 1, records: 3 };
+    assert_eq!(rt; stream.cut(at(10)), Ok(done));
+    let closed = stream.part(0).ok_or("a part")?;
+    let [first, second] = closed.packets() else {
+        panic!(rt; "two packets")
+    };
+    assert!(rt; is_packet(first, 0, 0, &[0, 1]));
+    assert!(rt; is_packet(second, 1, 1, &[2, 3, 5]));
+    assert_eq!(rt; second.head().end, at(10));
+    assert_eq!(rt; closed.bytes(), 484);
+    assert_eq!(rt; stream.fate_of(4), Some(Fate::Discarded));
+    assert_eq!(rt; stream.fate_of(5), Some(Fate::InChunk { chunk: 0, seq: 1 }));
+    assert_eq!(rt; stream.fate_of(6), None);
+    let empty = CutDone { chunk: 1, packets: 0, records: 0 };
+    assert_eq!(rt; stream.cut(at(11)), Ok(empty));
+    // An empty sub-buffer used no number, and the cut's moment is the last one.
+    assert_eq!(rt; stream.offer(at(0), 7, &[]), stored(6, 2));
+    let last = CutDone { chunk: 2, packets: 1, records: 1 };
+    assert_eq!(rt; stream.cut(at(0)), Ok(last));
+    let third = stream.part(2).ok_or("a part")?;
+    assert_eq!(rt; third.packets()[0].head().begin, at(11));
+    assert_eq!(rt; third.packets()[0].head().end, at(11));
+    assert_eq!(rt; stream.counts().cuts, 3);
+    assert_eq!(rt; stream.counts().current_bytes, 0);
+    Ok(())
+}
+
+#[test]
+fn numbers_of_overwritten_packets_are_absent(rt: HostRuntime) -> Result<(), Fail> {
+    let mut stream = small_stream(rt.alloc(), Mode::Overwrite)?;
+    stream.set_active(true);
+    let half = [97; 64];
+    for moment in 1..7 {
+        let _ = stream.offer(at(moment), 7, &half);
+    }
+    assert!(rt; stream.take().is_ok());
+    assert_eq!(rt; stream.offer(at(7), 7, &half), stored(6, 3));
+    assert_eq!(rt; stream.offer(at(8), 7, &half), stored(7, 3));
+    assert_eq!(rt;
+        stream.offer(at(9), 7, &half),
+        Ok(Offered::StoredOver { serial: 8, seq: 4, gone_seq: 2, gone_count: 2 })
+    );
+    assert_eq!(rt; stream.offer(at(10), 7, &half), stored(9, 4));
+    let done = CutDone { chunk: 0, packets: 2, records: 4 };
+    assert_eq!(rt; stream.cut(at(20)), Ok(done));
+    let closed = stream.part(0).ok_or("a part")?;
+    let [first, second, third] = closed.packets() else {
+        panic!(rt; "three packets")
+    };
+    assert!(rt; is_packet(first, 1, 0, &[2, 3]));
+    assert!(rt; is_packet(second, 3, 0, &[6, 7]));
+    assert!(rt; is_packet(third, 4, 0, &[8, 9]));
+    assert_eq!(rt; closed.bytes(), 768);
+    assert_eq!(rt; stream.counts().overwritten_packets, 2);
+    assert_eq!(rt; stream.counts().overwritten, 4);
     Ok(())
 }
 
@@ -187,6 +276,7 @@ fn a_run_answers_each_call(rt: HostRuntime) -> Result<(), Fail> {
     events.push(StreamEvent::Offer(at(6), 7, Payload::copy_of(alloc, &[97; 4])?))?;
     events.push(StreamEvent::Take)?;
     events.push(StreamEvent::Take)?;
+    events.push(StreamEvent::Cut(at(10)))?;
     events.push(StreamEvent::Stop)?;
     let (stream, answers) = run_stream(alloc, small(Mode::Discard), events.as_slice())?;
     let told = [
@@ -203,13 +293,19 @@ fn a_run_answers_each_call(rt: HostRuntime) -> Result<(), Fail> {
             chunk: 0,
         })),
         StreamAnswer::Take(Err(TakeFault::Nothing)),
+        StreamAnswer::Cut(Ok(CutDone {
+            chunk: 0,
+            packets: 1,
+            records: 3,
+        })),
         StreamAnswer::Stop,
     ];
     assert_eq!(rt; answers.len(), told.len());
     for (got, wanted) in answers.iter().zip(told.iter()) {
         assert!(rt; *got == *wanted);
     }
-    assert_eq!(rt; stream.counts().in_ring, 3);
+    assert_eq!(rt; stream.counts().in_ring, 0);
+    assert_eq!(rt; stream.counts().consumed, 5);
     Ok(())
 }
 
@@ -219,5 +315,7 @@ fn faults_have_their_codes_and_names(rt: HostRuntime) -> Result<(), Fail> {
     assert_eq!(rt; OfferFault::TooBig.name(), "TooBig");
     assert_eq!(rt; TakeFault::NoMemory.code(), "T3");
     assert_eq!(rt; TakeFault::Nothing.name(), "Nothing");
+    assert_eq!(rt; CutFault::NoMemory.code(), "C2");
+    assert_eq!(rt; CutFault::NoMemory.name(), "NoMemory");
     Ok(())
 }
