@@ -1,8 +1,7 @@
 -- What the code does to the map of sessions, said of the world that the map shows.
-use Rattle.std.proofs.Common.{◌≡◌, ◌≢◌, ◌∙◌, ℕ, Bool, cond, true, false, List, [], ◌∷◌, ◌++◌, length, Option, Some, None, is_some, is_err, Result, Ok, Err, codes, refl, sym, ap, subst}
+use Rattle.std.proofs.Common.{◌≡◌, ◌≢◌, ◌∙◌, ℕ, Bool, cond, true, false, List, [], ◌∷◌, ◌++◌, length, Option, Some, None, is_err, Result, Ok, Err, codes, refl, sym, ap, subst}
 use Rattle.std.specs.Fmt.{decimal}
 use Rattle.std.specs.Map.{lookup, set_value}
-use Rattle.std.specs.Option.{option_map_or}
 use Rattle.std.specs.Prelude.{String, option_map}
 use Rattle.std.specs.Str.{bytes_eq}
 use Rattle.std.specs.String.{string_bytes}
@@ -12,7 +11,7 @@ use Rattle.tr_console.specs.Calls.{called, channel_called, stepped, world_steppe
 use Rattle.tr_console.specs.Faults.{session_wants_memory, step_wants_memory, wants_memory}
 use Rattle.tr_console.specs.Names.{is_name}
 use Rattle.tr_console.specs.Texts.{Text, fate_line, offered_line, taken_line}
-use Rattle.tr_console.specs.World.{World, Step, said, refused, session_named, with_session}
+use Rattle.tr_console.specs.World.{World, said, refused, session_named, with_session}
 use Rattle.tr_console.specs.declared.faults.LineFault.{LineFault}
 use Rattle.tr_console.specs.declared.faults.LineFault.TheVariants as fault
 use Rattle.tr_session.proofs.NameLaws.{lookup-by_name, set_value-by_name}

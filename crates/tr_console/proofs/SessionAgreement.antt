@@ -1,5 +1,5 @@
 -- A session by what its streams hold, and by their histories: both take the same steps.
-use Rattle.std.proofs.Common.{◌≡◌, ℕ, ◌+◌, ◌≤◌, zero, suc, Bool, true, false, cond, List, [], ◌∷◌, ◌++◌, length, map, max, is_some, Option, Some, None, Result, Ok, Err, refl, sym, ◌∙◌, ap, subst, arith}
+use Rattle.std.proofs.Common.{◌≡◌, ℕ, ◌≤◌, zero, suc, Bool, true, false, List, [], ◌∷◌, ◌++◌, length, map, max, is_some, Option, Some, None, Result, Ok, Err, refl, sym, ◌∙◌, ap, subst, arith}
 use Rattle.std.proofs.lemmas.Bool.Decides.{nat_tests}
 use Rattle.std.proofs.lemmas.Grind.{common_steps}
 use Rattle.std.specs.Map.{lookup}
@@ -11,7 +11,7 @@ use Rattle.tr_book.specs.declared.geometry.GeometryFault.{GeometryFault}
 use Rattle.tr_book.specs.declared.geometry.GeometryFault.TheVariants as geometry
 use Rattle.tr_book.specs.declared.mode.Mode.{Mode}
 use Rattle.tr_session.specs.Session.{SessionOf}
-use Rattle.tr_session.specs.Steps.{is_new, is_active, most_channels, most_streams, channel_of, with_channel, channel_made, channel_added, next_config, stream_made, thread_added, started, changed_at, offer_as_step, take_as_step, offer_step, after_offer_step, take_step, after_take_step, fate_asked}
+use Rattle.tr_session.specs.Steps.{is_new, is_active, most_channels, most_streams, channel_of, channel_made, channel_added, next_config, stream_made, thread_added, started, changed_at, offer_as_step, take_as_step, offer_step, after_offer_step, take_step, after_take_step, fate_asked}
 use Rattle.tr_session.specs.declared.channel.Channel.{Channel}
 use Rattle.tr_session.specs.declared.faults.SessionFault.{SessionFault}
 use Rattle.tr_stream.proofs.RuleLaws.{agree-made, agree-offered, agree-taken, agree-turned, same-fated, same-offered, same-taken}

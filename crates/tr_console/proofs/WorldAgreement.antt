@@ -1,9 +1,7 @@
 -- A console by what its streams hold, and by their histories: both answer alike.
-use Rattle.std.proofs.Common.{◌≡◌, ℕ, ◌+◌, zero, suc, Bool, true, false, cond, List, [], ◌∷◌, ◌++◌, length, is_some, is_err, Option, Some, None, Result, Ok, Err, codes, refl, sym, ◌∙◌, ap, subst, arith}
+use Rattle.std.proofs.Common.{◌≡◌, ℕ, ◌+◌, Bool, true, false, cond, List, [], ◌∷◌, ◌++◌, length, is_some, is_err, Option, Some, None, Result, Ok, Err, codes, refl, sym, ◌∙◌, ap, subst, arith}
 use Rattle.std.proofs.lemmas.Grind.{common_steps}
-use Rattle.std.specs.Map.{lookup, set_value}
 use Rattle.std.specs.Fmt.{decimal}
-use Rattle.std.specs.Option.{option_map_or}
 use Rattle.std.specs.Prelude.{nat_le}
 use Rattle.std.specs.Str.{bytes_eq}
 use Rattle.tr_book.specs.declared.mode.Mode.{Mode}
@@ -13,12 +11,12 @@ use Rattle.tr_console.specs.Answers.{most_sessions, created, create_answer, at_s
 use Rattle.tr_console.specs.declared.faults.LineFault.TheVariants.{BadName}
 use Rattle.tr_console.specs.Names.{is_name}
 use Rattle.tr_console.specs.Texts.{Text, offered_line, taken_line, fate_line, status_line, status_rows, status_text, status_row}
-use Rattle.tr_console.specs.World.{World, Step, said, refused, session_named, with_session}
+use Rattle.tr_console.specs.World.{World, Step, refused, session_named, with_session}
 use Rattle.tr_session.specs.Session.{SessionOf, new_session}
-use Rattle.tr_session.specs.Steps.{channel_added, thread_added, started, offer_step, after_offer_step, take_step, after_take_step}
+use Rattle.tr_session.specs.Steps.{channel_added, thread_added, started, after_offer_step, after_take_step}
 use Rattle.tr_session.specs.declared.faults.SessionFault.{SessionFault}
 use Rattle.tr_stream.proofs.RuleLaws.{same-counted}
-use Rattle.tr_stream.specs.Rules.{Traced, Agrees, by_state, by_history}
+use Rattle.tr_stream.specs.Rules.{Traced, by_state, by_history}
 use Rattle.tr_stream.specs.State.{StreamState}
 use Rattle.uuid.specs.Text.{parsed}
 

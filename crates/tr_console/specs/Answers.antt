@@ -1,5 +1,5 @@
 -- The answer to each command: the first refusal that applies, or what it does.
-use Rattle.std.specs.Prelude.{ℕ, List, [], ◌∷◌, ◌++◌, Bool, true, false, nat_le, length, replicate, is_some, is_err, codes, Option, Result, Ok, Err, if◌then◌else◌}
+use Rattle.std.specs.Prelude.{ℕ, List, [], ◌∷◌, ◌++◌, nat_le, length, replicate, is_some, is_err, codes, Result, Ok, Err, if◌then◌else◌}
 use Rattle.std.specs.Fmt.{decimal}
 use Rattle.std.specs.Option.{option_map_or}
 use Rattle.tr_book.specs.declared.mode.Mode.{Mode}
