@@ -10,7 +10,7 @@ use Rattle.clap.specs.Kinds.{Kinds, or_else}
 use Rattle.clap.specs.Words.{Row, is_simple, subcommand_of}
 use Rattle.clap.proofs.OnLiterals.{clap_on_literals}
 use Rattle.clap.proofs.WalkLemmas.{walk_stopped}
-use Rattle.tr_command.specs.CommandLine.{channel_app, consume_app, create_app, offer_app, script_app, start_app, status_app, thread_app}
+use Rattle.tr_command.specs.CommandLine.{channel_app, consume_app, create_app, fate_app, offer_app, script_app, start_app, status_app, thread_app}
 use Rattle.tr_command.specs.Dispatch.{alone, app_for, command_word}
 use Rattle.tr_command.specs.Asked.{Asked}
 use Rattle.tr_command.specs.Language.{asked_from, asked_of, is_free_of_faults}
@@ -95,6 +95,14 @@ consume-reads_same program rest = (
       ∙ sym (ap (λ (w : Walk). entered (built script_app) w.stopped) (walk-first (built script_app) (codes "consume") rest refl)),
 )
 
+fate-reads_same : (program : Text) (rest : List Text) → ReadsSame (alone fate_app) script_app (program ∷ codes "fate" ∷ rest)
+unfolding clap_on_literals
+fate-reads_same program rest = (
+  fault-first (built (alone fate_app)) (codes "fate") rest refl refl ∙ sym (fault-first (built script_app) (codes "fate") rest refl refl),
+  ap (λ (w : Walk). entered (built (alone fate_app)) w.stopped) (walk-first (built (alone fate_app)) (codes "fate") rest refl)
+      ∙ sym (ap (λ (w : Walk). entered (built script_app) w.stopped) (walk-first (built script_app) (codes "fate") rest refl)),
+)
+
 status-reads_same : (program : Text) (rest : List Text) → ReadsSame (alone status_app) script_app (program ∷ codes "status" ∷ rest)
 unfolding clap_on_literals
 status-reads_same program rest = (
@@ -132,8 +140,9 @@ asked_from-app_for (program ∷ word ∷ rest) =
     (choice-same (codes "start") (alone start_app) _ program word rest (start-reads_same program rest)
     (choice-same (codes "offer") (alone offer_app) _ program word rest (offer-reads_same program rest)
     (choice-same (codes "consume") (alone consume_app) _ program word rest (consume-reads_same program rest)
+    (choice-same (codes "fate") (alone fate_app) _ program word rest (fate-reads_same program rest)
     (choice-same (codes "status") (alone status_app) _ program word rest (status-reads_same program rest)
-    refl))))))
+    refl)))))))
 
 -- clap's definition speaks of these command lines
 abbrev pub IsSimple : App → Type 0
@@ -157,5 +166,6 @@ app_for-simple (Some word) =
     (choice-simple (bytes_eq word (codes "start")) (alone start_app) _ (refl, refl)
     (choice-simple (bytes_eq word (codes "offer")) (alone offer_app) _ (refl, refl)
     (choice-simple (bytes_eq word (codes "consume")) (alone consume_app) _ (refl, refl)
+    (choice-simple (bytes_eq word (codes "fate")) (alone fate_app) _ (refl, refl)
     (choice-simple (bytes_eq word (codes "status")) (alone status_app) _ (refl, refl)
-    script-simple))))))
+    script-simple)))))))

@@ -5,7 +5,7 @@ use Rattle.clap.specs.Words.{Row, Text, first_of}
 use Rattle.tr_record.specs.Records.{last_moment}
 use Rattle.tr_command.specs.Asked.{Asked, asked_by, moment_in}
 use Rattle.tr_command.specs.Number.{number_of}
-use Rattle.tr_command.specs.Reading.{and_last, and_then, asked_as, channel_of, consume_of, create_of, most_fill, most_u32, most_u64, mode_at, number_at, number_or_0, offer_of, session_of, start_of, status_of, thread_of}
+use Rattle.tr_command.specs.Reading.{and_last, and_then, asked_as, channel_of, consume_of, create_of, fate_of, most_fill, most_u32, most_u64, mode_at, number_at, number_or_0, offer_of, session_of, start_of, status_of, thread_of}
 use Rattle.tr_command.specs.declared.requests.Request.{Request}
 use Rattle.tr_command.proofs.NumberLemmas.{number_of-at_most}
 
@@ -51,6 +51,10 @@ offer_of-moment rows = then-moment (session_of rows) _ (λ session _. then-momen
 consume_of-moment : (rows : List Row) → HasMoment (consume_of rows)
 consume_of-moment rows = then-moment (session_of rows) _ (λ session _. last-moment (number_at (codes "stream") most_u64 rows) _ (λ stream _. omega arith))
 
+fate_of-moment : (rows : List Row) → HasMoment (fate_of rows)
+fate_of-moment rows = then-moment (session_of rows) _ (λ session _. then-moment (number_at (codes "stream") most_u64 rows) _ (λ stream _.
+    last-moment (number_at (codes "serial") most_u64 rows) _ (λ serial _. omega arith)))
+
 status_of-moment : (rows : List Row) → HasMoment (status_of rows)
 status_of-moment rows = last-moment (session_of rows) _ (λ session _. omega arith)
 
@@ -66,7 +70,8 @@ asked_as-moment name rows =
     (choice-moment (bytes_eq name (codes "start")) _ _ (start_of-moment rows)
     (choice-moment (bytes_eq name (codes "offer")) _ _ (offer_of-moment rows)
     (choice-moment (bytes_eq name (codes "consume")) _ _ (consume_of-moment rows)
-    (choice-moment (bytes_eq name (codes "status")) _ _ (status_of-moment rows) tt))))))
+    (choice-moment (bytes_eq name (codes "fate")) _ _ (fate_of-moment rows)
+    (choice-moment (bytes_eq name (codes "status")) _ _ (status_of-moment rows) tt)))))))
 
 -- so is that of a request
 pub request-moment : (r : Option Request) (name : Text) (rows : List Row) → option_map asked_by r ≡ asked_as name rows

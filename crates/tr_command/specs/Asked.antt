@@ -13,6 +13,7 @@ pub data Asked : Type 0 where
   Start : (session : Text) (moment : ℕ) → Asked
   Offer : (session : Text) (stream moment id : ℕ) (text : Text) (fill : ℕ) → Asked
   Consume : (session : Text) (stream : ℕ) → Asked
+  Fate : (session : Text) (stream serial : ℕ) → Asked
   Status : (session : Text) → Asked
 
 abbrev pub asked_by : Request → Asked
@@ -22,6 +23,7 @@ asked_by (request.Thread session channel) = Thread session.now channel.now
 asked_by (request.Start session moment) = Start session.now moment
 asked_by (request.Offer session stream moment id text fill) = Offer session.now stream moment id text.now fill
 asked_by (request.Consume session stream) = Consume session.now stream
+asked_by (request.Fate session stream serial) = Fate session.now stream serial
 asked_by (request.Status session) = Status session.now
 
 -- the moment of a request, 0 where it has none

@@ -44,6 +44,10 @@ offer_app = with_rule (with_rule (with_rule (with_rule offer_head
 abbrev pub consume_app : App
 consume_app = with_rule (with_rule (new_app (codes "consume")) (place (codes "session"))) (place (codes "stream"))
 
+-- `fate SESSION STREAM SERIAL`
+abbrev pub fate_app : App
+fate_app = with_rule (with_rule (with_rule (new_app (codes "fate")) (place (codes "session"))) (place (codes "stream"))) (place (codes "serial"))
+
 -- `status SESSION`
 abbrev pub status_app : App
 status_app = with_rule (new_app (codes "status")) (place (codes "session"))
@@ -56,6 +60,6 @@ layout_app = with_subcommand (with_subcommand (with_subcommand (new_app (codes "
 abbrev pub running_app : App
 running_app = with_subcommand (with_subcommand (with_subcommand layout_app start_app.top) offer_app.top) consume_app.top
 
--- the whole command line of a script's line
+-- the whole command line of a script's line, with those that ask
 abbrev pub script_app : App
-script_app = with_subcommand running_app status_app.top
+script_app = with_subcommand (with_subcommand running_app fate_app.top) status_app.top

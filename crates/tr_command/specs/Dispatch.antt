@@ -3,7 +3,7 @@ use Rattle.std.specs.Prelude.{List, [], ◌∷◌, Option, Some, None, codes, if
 use Rattle.std.specs.Option.{option_map_or}
 use Rattle.std.specs.Str.{bytes_eq}
 use Rattle.clap.specs.Words.{App, Text, new_app, with_subcommand}
-use Rattle.tr_command.specs.CommandLine.{channel_app, consume_app, create_app, offer_app, script_app, start_app, status_app, thread_app}
+use Rattle.tr_command.specs.CommandLine.{channel_app, consume_app, create_app, fate_app, offer_app, script_app, start_app, status_app, thread_app}
 
 -- the word behind the program's name
 abbrev pub command_word : List Text → Option Text
@@ -23,8 +23,9 @@ app_named name =
     (if bytes_eq name (codes "start") then alone start_app else
     (if bytes_eq name (codes "offer") then alone offer_app else
     (if bytes_eq name (codes "consume") then alone consume_app else
+    (if bytes_eq name (codes "fate") then alone fate_app else
     (if bytes_eq name (codes "status") then alone status_app else
-    script_app))))))
+    script_app)))))))
 
 abbrev pub app_for : Option Text → App
 app_for word = option_map_or app_named word script_app

@@ -4,9 +4,9 @@ use Rattle.std.specs.Option.{option_map_or}
 use Rattle.std.specs.Str.{bytes_eq}
 use Rattle.clap.specs.Words.{Row, Text, first_of}
 use Rattle.tr_book.specs.declared.mode.Mode.{Mode}
-use Rattle.tr_book.specs.declared.mode.Mode.TheVariants.{Discard}
+use Rattle.tr_book.specs.declared.mode.Mode.TheVariants.{Discard, Overwrite}
 use Rattle.tr_record.specs.Records.{last_moment}
-use Rattle.tr_command.specs.Asked.{Asked, Create, Channel, Thread, Start, Offer, Consume, Status}
+use Rattle.tr_command.specs.Asked.{Asked, Create, Channel, Thread, Start, Offer, Consume, Fate, Status}
 use Rattle.tr_command.specs.Number.{number_of}
 
 -- `option_and_then` and `option_map`, in the order of reading
@@ -41,7 +41,9 @@ abbrev pub text_or_empty : Text → List Row → Text
 text_or_empty id rows = unwrap_or (first_of id rows) []
 
 abbrev pub mode_named : Text → Option Mode
-mode_named text = if bytes_eq text (codes "discard") then Some Discard else None
+mode_named text =
+    if bytes_eq text (codes "discard") then Some Discard else
+    (if bytes_eq text (codes "overwrite") then Some Overwrite else None)
 
 abbrev pub mode_at : Text → List Row → Option Mode
 mode_at id rows = and_then (first_of id rows) mode_named
@@ -88,6 +90,13 @@ consume_of rows =
     and_last (number_at (codes "stream") most_u64 rows) (λ stream.
     Consume session stream))
 
+abbrev pub fate_of : List Row → Option Asked
+fate_of rows =
+    and_then (session_of rows) (λ session.
+    and_then (number_at (codes "stream") most_u64 rows) (λ stream.
+    and_last (number_at (codes "serial") most_u64 rows) (λ serial.
+    Fate session stream serial)))
+
 abbrev pub status_of : List Row → Option Asked
 status_of rows = and_last (session_of rows) (λ session. Status session)
 
@@ -100,5 +109,6 @@ asked_as name rows =
     (if bytes_eq name (codes "start") then start_of rows else
     (if bytes_eq name (codes "offer") then offer_of rows else
     (if bytes_eq name (codes "consume") then consume_of rows else
+    (if bytes_eq name (codes "fate") then fate_of rows else
     (if bytes_eq name (codes "status") then status_of rows else
-    None))))))
+    None)))))))

@@ -3,7 +3,7 @@
 ghost use Rattle.std.specs.Prelude.{◌≡◌, IfOk, false};
 ghost use Rattle.clap.specs.Words.{app_of};
 ghost use Rattle.clap.specs.declared.builder.command.Command.TheViews.{out-Command as fields_of};
-ghost use Rattle.tr_command.specs.CommandLine.{channel_app, channel_head, consume_app, create_app, layout_app, offer_app, offer_head, running_app, script_app, start_app, status_app, thread_app};
+ghost use Rattle.tr_command.specs.CommandLine.{channel_app, channel_head, consume_app, create_app, fate_app, layout_app, offer_app, offer_head, running_app, script_app, start_app, status_app, thread_app};
 
 use crate::arguments::{option, place};
 use clap::Command;
@@ -84,6 +84,16 @@ pub fn consume_command<'a>(alloc: Global) -> Result<Command<'a>, AllocError>
         .arg(place(alloc, "stream"))
 }
 
+pub fn fate_command<'a>(alloc: Global) -> Result<Command<'a>, AllocError>
+    ensures shape { IfOk result (λ c. app_of c ≡ fate_app) }
+    ensures local { IfOk result (λ c. (fields_of c).has_globals ≡ false) }
+{
+    Command::new(alloc, "fate")
+        .arg(place(alloc, "session"))?
+        .arg(place(alloc, "stream"))?
+        .arg(place(alloc, "serial"))
+}
+
 pub fn status_command<'a>(alloc: Global) -> Result<Command<'a>, AllocError>
     ensures shape { IfOk result (λ c. app_of c ≡ status_app) }
     ensures local { IfOk result (λ c. (fields_of c).has_globals ≡ false) }
@@ -111,9 +121,11 @@ fn running_command<'a>(alloc: Global) -> Result<Command<'a>, AllocError>
         .subcommand(consume_command(alloc)?)
 }
 
-/// The whole command line of a script's line.
+/// The whole command line of a script's line, with those that ask.
 pub fn script_command<'a>(alloc: Global) -> Result<Command<'a>, AllocError>
     ensures { IfOk result (λ c. app_of c ≡ script_app) }
 {
-    running_command(alloc)?.subcommand(status_command(alloc)?)
+    running_command(alloc)?
+        .subcommand(fate_command(alloc)?)?
+        .subcommand(status_command(alloc)?)
 }

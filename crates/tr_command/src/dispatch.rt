@@ -9,8 +9,8 @@ ghost use Rattle.clap.specs.declared.builder.command.Command.TheViews.{out-Comma
 ghost use Rattle.tr_command.specs.Dispatch.{alone, app_for, command_word};
 
 use crate::command_lines::{
-    channel_command, consume_command, create_command, offer_command, script_command, start_command,
-    status_command, thread_command,
+    channel_command, consume_command, create_command, fate_command, offer_command, script_command,
+    start_command, status_command, thread_command,
 };
 use clap::Command;
 use std::alloc::{AllocError, Global};
@@ -44,6 +44,7 @@ pub fn command_for<'a>(alloc: Global, word: Option<&str>) -> Result<Command<'a>,
         Some("start") => alone(alloc, start_command(alloc)?),
         Some("offer") => alone(alloc, offer_command(alloc)?),
         Some("consume") => alone(alloc, consume_command(alloc)?),
+        Some("fate") => alone(alloc, fate_command(alloc)?),
         Some("status") => alone(alloc, status_command(alloc)?),
         _ => script_command(alloc),
     }

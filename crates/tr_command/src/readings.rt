@@ -3,7 +3,7 @@
 ghost use Rattle.std.specs.Prelude.{◌≡◌, option_map};
 ghost use Rattle.clap.specs.Words.{found_of, rows_of};
 ghost use Rattle.tr_command.specs.Asked.{asked_by};
-ghost use Rattle.tr_command.specs.Reading.{asked_as, channel_of, consume_of, create_of, offer_of, start_of, status_of, thread_of};
+ghost use Rattle.tr_command.specs.Reading.{asked_as, channel_of, consume_of, create_of, fate_of, offer_of, start_of, status_of, thread_of};
 
 use crate::Request;
 use crate::values::{
@@ -81,6 +81,19 @@ fn consume_request<'a>(matches: &ArgMatches<'a>) -> Option<Request<'a>>
     Some(Request::Consume { session, stream })
 }
 
+fn fate_request<'a>(matches: &ArgMatches<'a>) -> Option<Request<'a>>
+    ensures { option_map asked_by result ≡ fate_of (rows_of (found_of matches.now)) }
+{
+    let session = text_at(matches, "session")?;
+    let stream = number_at(matches, "stream", u64::MAX)?;
+    let serial = number_at(matches, "serial", u64::MAX)?;
+    Some(Request::Fate {
+        session,
+        stream,
+        serial,
+    })
+}
+
 fn status_request<'a>(matches: &ArgMatches<'a>) -> Option<Request<'a>>
     ensures { option_map asked_by result ≡ status_of (rows_of (found_of matches.now)) }
 {
@@ -99,6 +112,7 @@ pub fn request_of<'a>(name: &str, matches: &ArgMatches<'a>) -> Option<Request<'a
         "start" => start_request(matches),
         "offer" => offer_request(matches),
         "consume" => consume_request(matches),
+        "fate" => fate_request(matches),
         "status" => status_request(matches),
         _ => None,
     }

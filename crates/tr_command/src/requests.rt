@@ -49,6 +49,12 @@ pub enum Request<'a> {
         session: &'a str,
         stream: u64,
     },
+    /// `fate SESSION STREAM SERIAL`
+    Fate {
+        session: &'a str,
+        stream: u64,
+        serial: u64,
+    },
     /// `status SESSION`
     Status {
         session: &'a str,

@@ -108,6 +108,49 @@ fn reads_options_anywhere(rt: HostRuntime) -> Result<(), Fail> {
 }
 
 #[test]
+fn reads_fates(rt: HostRuntime) -> Result<(), Fail> {
+    let alloc = rt.alloc();
+    let most = 18_446_744_073_709_551_615;
+    for (line, session, stream, serial) in [
+        ("fate s 0 5", "s", 0, 5),
+        ("fate s 18446744073709551615 5", "s", most, 5),
+        ("fate s 1 18446744073709551615", "s", 1, most),
+        ("fate s 007 003", "s", 7, 3),
+        ("fate fate 2 1", "fate", 2, 1),
+        ("fate -- -x 2 1", "-x", 2, 1),
+        ("fate 1x 2 1", "1x", 2, 1),
+    ] {
+        let request = Request::Fate {
+            session,
+            stream,
+            serial,
+        };
+        assert!(rt; asks(alloc, line, Some(&request))?, "{line}");
+    }
+    Ok(())
+}
+
+#[test]
+fn reads_modes(rt: HostRuntime) -> Result<(), Fail> {
+    let alloc = rt.alloc();
+    for (line, mode) in [
+        ("channel s c 256 2 discard", Mode::Discard),
+        ("channel s c 256 2 overwrite", Mode::Overwrite),
+        ("channel -- s c 256 2 overwrite", Mode::Overwrite),
+    ] {
+        let request = Request::Channel {
+            session: "s",
+            channel: "c",
+            size: 256,
+            count: 2,
+            mode,
+        };
+        assert!(rt; asks(alloc, line, Some(&request))?, "{line}");
+    }
+    Ok(())
+}
+
+#[test]
 fn takes_what_looks_odd(rt: HostRuntime) -> Result<(), Fail> {
     let alloc = rt.alloc();
     let consume = Request::Consume {
@@ -149,6 +192,19 @@ fn refuses_what_clap_refuses(rt: HostRuntime) -> Result<(), Fail> {
         "status -- s t",
         "consume s",
         "consume s -1",
+        "fate",
+        "fate s",
+        "fate s 0",
+        "fate s 0 1 2",
+        "fate s 0 -1",
+        "fate s -1 0",
+        "fate -x 0 1",
+        "fate -h",
+        "fate s 0 1 --help",
+        "fate s 0 --serial 1",
+        "fat s 0 1",
+        "Fate s 0 1",
+        "fates s 0 1",
         "create s",
         "create -x 00000000-0000-0000-0000-000000000001",
         "create s 00000000-0000-0000-0000-000000000001 --snapshot",
@@ -197,7 +253,16 @@ fn refuses_numbers_and_modes(rt: HostRuntime) -> Result<(), Fail> {
         "consume s ",
         "channel s c 4294967296 2 discard",
         "channel s c 256 4294967296 discard",
-        "channel s c 256 2 overwrite",
+        "fate s 18446744073709551616 0",
+        "fate s 0 18446744073709551616",
+        "fate s 0 +1",
+        "fate s 0 x",
+        "fate s x 0",
+        "fate s 0 ",
+        "channel s c 256 2 overwrite2",
+        "channel s c 256 2 Overwrite",
+        "channel s c 256 2 over",
+        "channel s c 256 2 discard,overwrite",
         "channel s c 256 2 Discard",
         "channel s c 256 2 disc",
         "channel s c 256 discard 2",

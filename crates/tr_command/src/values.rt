@@ -61,6 +61,7 @@ fn mode_named(text: &str) -> Option<Mode>
 {
     match text {
         "discard" => Some(Mode::Discard),
+        "overwrite" => Some(Mode::Overwrite),
         _ => None,
     }
 }

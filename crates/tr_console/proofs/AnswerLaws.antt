@@ -1,18 +1,14 @@
 -- What the console's answers are, case by case.
-use Rattle.std.proofs.Common.{◌≡◌, ◌∙◌, ℕ, ◌+◌, zero, suc, Bool, true, false, List, [], ◌∷◌, ◌++◌, length, Option, Some, None, is_some, Result, Ok, Err, IfOk, OnOk, codes, refl, sym, ap, subst, append_assoc, arith}
+use Rattle.std.proofs.Common.{◌≡◌, ◌∙◌, ℕ, ◌+◌, zero, suc, true, false, List, [], ◌∷◌, ◌++◌, length, Option, Some, None, is_some, Result, Ok, Err, IfOk, OnOk, codes, refl, sym, ap, append_assoc, arith}
 use Rattle.std.proofs.lemmas.Grind.{common_steps}
 use Rattle.std.specs.Prelude.{nat_le, replicate}
 use Rattle.std.specs.String.{string_bytes}
 use Rattle.std.specs.declared.alloc.AllocError.{AllocError}
-use Rattle.tr_console.specs.Answers.{at_session, create_answer, created, most_sessions, payload_of}
+use Rattle.tr_console.specs.Answers.{at_session, create_answer, most_sessions, payload_of}
 use Rattle.tr_console.specs.Faults.{wants_memory}
 use Rattle.tr_console.specs.Names.{is_name}
 use Rattle.tr_console.specs.Replies.{Does}
-use Rattle.tr_command.specs.Language.{asked_of}
-use Rattle.tr_console.specs.Script.{asked_step, text_step}
 use Rattle.tr_console.specs.Texts.{Text, refusal_text}
-use Rattle.tr_lines.specs.Words.{words_of, is_skipped}
-use Rattle.tr_stream.specs.Rules.{StreamRules}
 use Rattle.tr_console.specs.World.{World, Step, said, refused, session_named}
 use Rattle.tr_console.specs.declared.faults.LineFault.{LineFault}
 use Rattle.tr_console.specs.declared.faults.LineFault.TheVariants as fault

@@ -1,24 +1,23 @@
 -- What the code does to the map of sessions, said of the world that the map shows.
-use Rattle.std.proofs.Common.{◌≡◌, ◌≢◌, ◌∙◌, ℕ, Bool, cond, true, false, List, [], ◌∷◌, ◌++◌, length, Option, Some, None, is_some, is_err, Result, Ok, Err, codes, refl, sym, ap, subst}
+use Rattle.std.proofs.Common.{◌≡◌, ◌≢◌, ◌∙◌, ℕ, Bool, cond, true, false, List, [], ◌∷◌, ◌++◌, length, Option, Some, None, is_err, Result, Ok, Err, codes, refl, sym, ap, subst}
 use Rattle.std.specs.Fmt.{decimal}
 use Rattle.std.specs.Map.{lookup, set_value}
-use Rattle.std.specs.Option.{option_map_or}
 use Rattle.std.specs.Prelude.{String, option_map}
 use Rattle.std.specs.Str.{bytes_eq}
 use Rattle.std.specs.String.{string_bytes}
 use Rattle.tr_book.specs.declared.mode.Mode.{Mode}
-use Rattle.tr_console.specs.Answers.{as_line, at_session, settled, channel_answer, thread_answer, offer_answer, consume_answer, payload_of}
+use Rattle.tr_console.specs.Answers.{as_line, at_session, settled, channel_answer, thread_answer, offer_answer, consume_answer, fate_answer, payload_of}
 use Rattle.tr_console.specs.Calls.{called, channel_called, stepped, world_stepped, world_with}
 use Rattle.tr_console.specs.Faults.{session_wants_memory, step_wants_memory, wants_memory}
 use Rattle.tr_console.specs.Names.{is_name}
-use Rattle.tr_console.specs.Texts.{Text, offered_line, taken_line}
-use Rattle.tr_console.specs.World.{World, Step, said, refused, session_named, with_session}
+use Rattle.tr_console.specs.Texts.{Text, fate_line, offered_line, taken_line}
+use Rattle.tr_console.specs.World.{World, said, refused, session_named, with_session}
 use Rattle.tr_console.specs.declared.faults.LineFault.{LineFault}
 use Rattle.tr_console.specs.declared.faults.LineFault.TheVariants as fault
 use Rattle.tr_session.proofs.NameLaws.{lookup-by_name, set_value-by_name}
 use Rattle.tr_session.specs.Names.{by_name}
 use Rattle.tr_session.specs.Session.{SessionOf}
-use Rattle.tr_session.specs.Steps.{channel_added, thread_added, offer_step, after_offer_step, take_step, after_take_step}
+use Rattle.tr_session.specs.Steps.{channel_added, thread_added, offer_step, after_offer_step, take_step, after_take_step, fate_asked}
 use Rattle.tr_session.specs.declared.faults.SessionFault.{SessionFault}
 use Rattle.tr_session.specs.declared.faults.SessionFault.TheVariants as session
 use Rattle.tr_session.specs.declared.faults.StepFault.{StepFault}
@@ -85,6 +84,13 @@ module _ {S : Type 0} where
 
   pub stepped-some : {R : Type 0} (name : Text) (step : SessionOf S → Result R StepFault) (after : SessionOf S → SessionOf S) (w new : World S) (s t : SessionOf S) (r : Result R StepFault) → session_named name w ≡ Some s → r ≡ step s → t ≡ after s → new ≡ with_session name w t → (as_line r ≡ stepped name step w) × (new ≡ world_stepped name after w)
   stepped-some name step after w new s t r found told moved is = rw found (ap as_line told, is ∙ ap (with_session name w) moved)
+
+  -- a question leaves the world as it is
+  pub asked-none : {R : Type 0} (name : Text) (question : SessionOf S → Result R StepFault) (w : World S) → session_named name w ≡ None → (let r : Result R LineFault = Err fault.NoSession in r) ≡ stepped name question w
+  asked-none name question w none = rw none refl
+
+  pub asked-some : {R : Type 0} (name : Text) (question : SessionOf S → Result R StepFault) (w : World S) (s : SessionOf S) (r : Result R StepFault) → session_named name w ≡ Some s → r ≡ question s → as_line r ≡ stepped name question w
+  asked-some name question w s r found told = rw found (ap as_line told)
 
   -- ---- the answers
 
@@ -172,6 +178,14 @@ module _ {S : Type 0} where
   consumed-is rules w name stream = go (session_named name w) refl
     where
       go : (o : Option (SessionOf S)) → session_named name w ≡ o → (let r = stepped name (take_step rules stream) w in consume_answer rules w name stream ≡ record { world = world_stepped name (after_take_step rules stream) w; text = taken_line r ++ 10 ∷ []; is_refused = is_err r })
+      go None e = rw e refl
+      go (Some s) e = rw e refl
+
+  -- a question's answer leaves the world as it is
+  pub fated-is : (rules : StreamRules S) (w : World S) (name : Text) (stream serial : ℕ) → (let r = stepped name (fate_asked rules stream serial) w in fate_answer rules w name stream serial ≡ record { world = w; text = fate_line r ++ 10 ∷ []; is_refused = is_err r })
+  fated-is rules w name stream serial = go (session_named name w) refl
+    where
+      go : (o : Option (SessionOf S)) → session_named name w ≡ o → (let r = stepped name (fate_asked rules stream serial) w in fate_answer rules w name stream serial ≡ record { world = w; text = fate_line r ++ 10 ∷ []; is_refused = is_err r })
       go None e = rw e refl
       go (Some s) e = rw e refl
 

@@ -1,5 +1,5 @@
 -- Which fault of a run came from where.
-use Rattle.std.proofs.Common.{◌≡◌, ◌≤◌, ℕ, Bool, true, false, refl, arith, Result, Ok, Err}
+use Rattle.std.proofs.Common.{◌≡◌, ◌≤◌, Bool, true, false, refl, arith, Result, Ok, Err}
 use Rattle.std.specs.Result.{IsErrAnd}
 use Rattle.tr_console.proofs.LineSteps.{one_if}
 use Rattle.tr_console.specs.ScriptFaults.{reading_fault}

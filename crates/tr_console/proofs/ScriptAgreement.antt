@@ -1,12 +1,12 @@
 -- A script, by what streams hold and by their histories: both give the same answer.
-use Rattle.std.proofs.Common.{◌≡◌, ℕ, ◌+◌, Bool, true, false, cond, List, [], ◌∷◌, ◌++◌, Option, Some, None, codes, refl, sym, ◌∙◌, ap, subst}
+use Rattle.std.proofs.Common.{◌≡◌, ℕ, Bool, true, false, cond, List, [], ◌∷◌, Option, Some, None, codes, refl}
 use Rattle.tr_command.specs.Asked.{Asked}
 use Rattle.tr_command.specs.Language.{asked_of}
 use Rattle.tr_console.proofs.WorldAgreement.{WorldsAgree, StepsAgree, answers-agree}
 use Rattle.tr_console.specs.Answers.{answer_to}
 use Rattle.tr_console.specs.Script.{words_step, text_step, line_step, answers, world_after, refused_in}
 use Rattle.tr_console.specs.Texts.{Text}
-use Rattle.tr_console.specs.World.{World, Step, bad_line, skipped}
+use Rattle.tr_console.specs.World.{World, bad_line, skipped}
 use Rattle.std.specs.Option.{option_map_or}
 use Rattle.tr_lines.specs.Lines.{text_of_line}
 use Rattle.tr_lines.specs.Words.{words_of, is_skipped}

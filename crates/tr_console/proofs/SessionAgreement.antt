@@ -1,5 +1,5 @@
 -- A session by what its streams hold, and by their histories: both take the same steps.
-use Rattle.std.proofs.Common.{◌≡◌, ℕ, ◌+◌, ◌≤◌, zero, suc, Bool, true, false, cond, List, [], ◌∷◌, ◌++◌, length, map, max, is_some, Option, Some, None, Result, Ok, Err, refl, sym, ◌∙◌, ap, subst, arith}
+use Rattle.std.proofs.Common.{◌≡◌, ℕ, ◌≤◌, zero, suc, Bool, true, false, List, [], ◌∷◌, ◌++◌, length, map, max, is_some, Option, Some, None, Result, Ok, Err, refl, sym, ◌∙◌, ap, subst, arith}
 use Rattle.std.proofs.lemmas.Bool.Decides.{nat_tests}
 use Rattle.std.proofs.lemmas.Grind.{common_steps}
 use Rattle.std.specs.Map.{lookup}
@@ -11,13 +11,14 @@ use Rattle.tr_book.specs.declared.geometry.GeometryFault.{GeometryFault}
 use Rattle.tr_book.specs.declared.geometry.GeometryFault.TheVariants as geometry
 use Rattle.tr_book.specs.declared.mode.Mode.{Mode}
 use Rattle.tr_session.specs.Session.{SessionOf}
-use Rattle.tr_session.specs.Steps.{is_new, is_active, most_channels, most_streams, channel_of, with_channel, channel_made, channel_added, next_config, stream_made, thread_added, started, changed_at, offer_as_step, take_as_step, offer_step, after_offer_step, take_step, after_take_step}
+use Rattle.tr_session.specs.Steps.{is_new, is_active, most_channels, most_streams, channel_of, channel_made, channel_added, next_config, stream_made, thread_added, started, changed_at, offer_as_step, take_as_step, offer_step, after_offer_step, take_step, after_take_step, fate_asked}
 use Rattle.tr_session.specs.declared.channel.Channel.{Channel}
 use Rattle.tr_session.specs.declared.faults.SessionFault.{SessionFault}
-use Rattle.tr_stream.proofs.RuleLaws.{agree-made, agree-offered, agree-taken, agree-turned, same-offered, same-taken}
+use Rattle.tr_stream.proofs.RuleLaws.{agree-made, agree-offered, agree-taken, agree-turned, same-fated, same-offered, same-taken}
 use Rattle.tr_stream.specs.Rules.{Traced, Agrees, by_state, by_history}
 use Rattle.tr_stream.specs.State.{StreamState}
 use Rattle.tr_stream.specs.declared.config.StreamConfig.{StreamConfig}
+use Rattle.tr_stream.specs.declared.fate.Fate.{Fate}
 
 -- each stream agrees with the history of its number
 abbrev pub AllAgree : List StreamState → List Traced → Type 0
@@ -95,6 +96,9 @@ same-take a b i is = same-at i (λ s. take_as_step (by_state.taken s)) (λ t. ta
 
 pub agree-take : (a : SessionOf StreamState) (b : SessionOf Traced) (i : ℕ) → SessionsAgree a b → SessionsAgree (after_take_step by_state i a) (after_take_step by_history i b)
 agree-take a b i is = record { uuid = is.uuid; state = is.state; last = is.last; channels = is.channels; geometries = is.geometries; streams = all-changed i by_state.after_taken by_history.after_taken a.streams b.streams (λ s t agree. agree-taken s t agree) is.streams }
+
+pub same-fate : (a : SessionOf StreamState) (b : SessionOf Traced) (i serial : ℕ) → SessionsAgree a b → fate_asked by_state i serial a ≡ fate_asked by_history i serial b
+same-fate a b i serial is = same-at i (λ s. Ok (by_state.fated serial s)) (λ t. Ok (by_history.fated serial t)) _ a.streams b.streams (λ s t agree. ap (λ (fate : Option Fate). Ok fate) (same-fated s t serial agree)) is.streams
 
 -- ---- the session's calls
 

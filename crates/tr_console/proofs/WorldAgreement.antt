@@ -1,24 +1,22 @@
 -- A console by what its streams hold, and by their histories: both answer alike.
-use Rattle.std.proofs.Common.{◌≡◌, ℕ, ◌+◌, zero, suc, Bool, true, false, cond, List, [], ◌∷◌, ◌++◌, length, is_some, is_err, Option, Some, None, Result, Ok, Err, codes, refl, sym, ◌∙◌, ap, subst, arith}
+use Rattle.std.proofs.Common.{◌≡◌, ℕ, ◌+◌, Bool, true, false, cond, List, [], ◌∷◌, ◌++◌, length, is_some, is_err, Option, Some, None, Result, Ok, Err, codes, refl, sym, ◌∙◌, ap, subst, arith}
 use Rattle.std.proofs.lemmas.Grind.{common_steps}
-use Rattle.std.specs.Map.{lookup, set_value}
 use Rattle.std.specs.Fmt.{decimal}
-use Rattle.std.specs.Option.{option_map_or}
 use Rattle.std.specs.Prelude.{nat_le}
 use Rattle.std.specs.Str.{bytes_eq}
 use Rattle.tr_book.specs.declared.mode.Mode.{Mode}
-use Rattle.tr_command.specs.Asked.{Asked, Create, Channel, Thread, Start, Offer, Consume, Status}
-use Rattle.tr_console.proofs.SessionAgreement.{SessionsAgree, ResultsAgree, AllAgree, same-length, agree-channel, agree-thread, agree-started, same-offer, agree-offer, same-take, agree-take}
-use Rattle.tr_console.specs.Answers.{most_sessions, created, create_answer, at_session, settled, channel_answer, thread_answer, start_answer, payload_of, as_line, offer_answer, consume_answer, status_answer, answer_to}
+use Rattle.tr_command.specs.Asked.{Asked, Create, Channel, Thread, Start, Offer, Consume, Fate, Status}
+use Rattle.tr_console.proofs.SessionAgreement.{SessionsAgree, ResultsAgree, AllAgree, same-length, agree-channel, agree-thread, agree-started, same-offer, agree-offer, same-take, agree-take, same-fate}
+use Rattle.tr_console.specs.Answers.{most_sessions, created, create_answer, at_session, settled, channel_answer, thread_answer, start_answer, payload_of, as_line, offer_answer, consume_answer, fate_answer, status_answer, answer_to}
 use Rattle.tr_console.specs.declared.faults.LineFault.TheVariants.{BadName}
 use Rattle.tr_console.specs.Names.{is_name}
-use Rattle.tr_console.specs.Texts.{Text, offered_line, taken_line, status_line, status_rows, status_text, status_row}
-use Rattle.tr_console.specs.World.{World, Step, said, refused, session_named, with_session}
+use Rattle.tr_console.specs.Texts.{Text, offered_line, taken_line, fate_line, status_line, status_rows, status_text, status_row}
+use Rattle.tr_console.specs.World.{World, Step, refused, session_named, with_session}
 use Rattle.tr_session.specs.Session.{SessionOf, new_session}
-use Rattle.tr_session.specs.Steps.{channel_added, thread_added, started, offer_step, after_offer_step, take_step, after_take_step}
+use Rattle.tr_session.specs.Steps.{channel_added, thread_added, started, after_offer_step, after_take_step}
 use Rattle.tr_session.specs.declared.faults.SessionFault.{SessionFault}
 use Rattle.tr_stream.proofs.RuleLaws.{same-counted}
-use Rattle.tr_stream.specs.Rules.{Traced, Agrees, by_state, by_history}
+use Rattle.tr_stream.specs.Rules.{Traced, by_state, by_history}
 use Rattle.tr_stream.specs.State.{StreamState}
 use Rattle.uuid.specs.Text.{parsed}
 
@@ -156,6 +154,11 @@ consume-agree v w name stream is = at-agree v w name _ _ is (λ a b agree.
       is_refused = ap (λ r. is_err (as_line r)) same;
     })
 
+fate-agree : (v : World StreamState) (w : World Traced) (name : Text) (stream serial : ℕ) → WorldsAgree v w → StepsAgree (fate_answer by_state v name stream serial) (fate_answer by_history w name stream serial)
+fate-agree v w name stream serial is = at-agree v w name _ _ is (λ a b agree.
+    let same = same-fate a b stream serial agree in
+    record { world = is; text = ap (λ r. fate_line (as_line r) ++ 10 ∷ []) same; is_refused = ap (λ r. is_err (as_line r)) same })
+
 same-rows : (i : ℕ) (ss : List StreamState) (ts : List Traced) → AllAgree ss ts → status_rows by_state i ss ≡ status_rows by_history i ts
 same-rows i [] [] agree = refl
 same-rows i [] (t ∷ ts) agree = absurd agree
@@ -185,4 +188,5 @@ answers-agree (Thread session channel) v w is = thread-agree v w session channel
 answers-agree (Start session moment) v w is = start-agree v w session moment is
 answers-agree (Offer session stream moment id text fill) v w is = offer-agree v w session stream moment id text fill is
 answers-agree (Consume session stream) v w is = consume-agree v w session stream is
+answers-agree (Fate session stream serial) v w is = fate-agree v w session stream serial is
 answers-agree (Status session) v w is = status-agree v w session is

@@ -1,16 +1,16 @@
 -- The answer to each command: the first refusal that applies, or what it does.
-use Rattle.std.specs.Prelude.{ℕ, List, [], ◌∷◌, ◌++◌, Bool, true, false, nat_le, length, replicate, is_some, is_err, codes, Option, Result, Ok, Err, if◌then◌else◌}
+use Rattle.std.specs.Prelude.{ℕ, List, [], ◌∷◌, ◌++◌, nat_le, length, replicate, is_some, is_err, codes, Result, Ok, Err, if◌then◌else◌}
 use Rattle.std.specs.Fmt.{decimal}
 use Rattle.std.specs.Option.{option_map_or}
 use Rattle.tr_book.specs.declared.mode.Mode.{Mode}
-use Rattle.tr_command.specs.Asked.{Asked, Create, Channel, Thread, Start, Offer, Consume, Status}
+use Rattle.tr_command.specs.Asked.{Asked, Create, Channel, Thread, Start, Offer, Consume, Fate, Status}
 use Rattle.tr_console.specs.Names.{is_name}
-use Rattle.tr_console.specs.Texts.{Text, offered_line, taken_line, status_text}
+use Rattle.tr_console.specs.Texts.{Text, offered_line, taken_line, fate_line, status_text}
 use Rattle.tr_console.specs.World.{World, Step, said, refused, session_named, with_session}
 use Rattle.tr_console.specs.declared.faults.LineFault.{LineFault}
 use Rattle.tr_console.specs.declared.faults.LineFault.TheVariants as fault
 use Rattle.tr_session.specs.Session.{SessionOf, new_session}
-use Rattle.tr_session.specs.Steps.{channel_added, thread_added, started, offer_step, after_offer_step, take_step, after_take_step}
+use Rattle.tr_session.specs.Steps.{channel_added, thread_added, started, offer_step, after_offer_step, take_step, after_take_step, fate_asked}
 use Rattle.tr_session.specs.declared.faults.SessionFault.{SessionFault}
 use Rattle.tr_session.specs.declared.faults.SessionFault.TheVariants.{TooMany, NameTaken}
 use Rattle.tr_session.specs.declared.faults.StepFault.{StepFault}
@@ -73,6 +73,12 @@ consume_answer rules w name stream =
     let result = as_line (take_step rules stream s) in
     record { world = with_session name w (after_take_step rules stream s); text = taken_line result ++ 10 ∷ []; is_refused = is_err result })
 
+abbrev pub fate_answer : {S : Type 0} → StreamRules S → World S → Text → (stream serial : ℕ) → Step S
+fate_answer rules w name stream serial =
+    at_session w name (λ s.
+    let result = as_line (fate_asked rules stream serial s) in
+    record { world = w; text = fate_line result ++ 10 ∷ []; is_refused = is_err result })
+
 abbrev pub status_answer : {S : Type 0} → StreamRules S → World S → Text → Step S
 status_answer rules w name = at_session w name (λ s. said w (status_text rules name s))
 
@@ -83,4 +89,5 @@ answer_to rules w (Thread session channel) = thread_answer rules w session chann
 answer_to rules w (Start session moment) = start_answer rules w session moment
 answer_to rules w (Offer session stream moment id text fill) = offer_answer rules w session stream moment id text fill
 answer_to rules w (Consume session stream) = consume_answer rules w session stream
+answer_to rules w (Fate session stream serial) = fate_answer rules w session stream serial
 answer_to rules w (Status session) = status_answer rules w session

@@ -1,5 +1,5 @@
 -- What a reply says, and what it leaves.
-use Rattle.std.specs.Prelude.{◌≡◌, ℕ, List, Bool}
+use Rattle.std.specs.Prelude.{◌≡◌}
 use Rattle.std.specs.String.{string_bytes}
 use Rattle.tr_console.specs.World.{World, Step}
 use Rattle.tr_console.specs.declared.replies.Reply.{Reply}

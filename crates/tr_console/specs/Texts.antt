@@ -1,5 +1,5 @@
 -- The texts of answers, without the line feed behind the last line.
-use Rattle.std.specs.Prelude.{ℕ, ◌+◌, ◌-◌, List, [], ◌∷◌, ◌++◌, length, replicate, codes, Result, Ok, Err}
+use Rattle.std.specs.Prelude.{ℕ, ◌+◌, ◌-◌, List, [], ◌∷◌, ◌++◌, length, replicate, codes, Option, Some, None, Result, Ok, Err}
 use Rattle.std.specs.Fmt.{decimal}
 use Rattle.tr_book.specs.declared.counts.Counts.{Counts}
 use Rattle.tr_console.specs.Faults.{line_fault_code, line_fault_name}
@@ -11,6 +11,8 @@ use Rattle.tr_stream.specs.Rules.{StreamRules}
 use Rattle.tr_stream.specs.declared.answers.Offered.{Offered}
 use Rattle.tr_stream.specs.declared.answers.Offered.TheVariants.{Stored, StoredOver, Discarded}
 use Rattle.tr_stream.specs.declared.answers.Taken.{Taken}
+use Rattle.tr_stream.specs.declared.fate.Fate.{Fate}
+use Rattle.tr_stream.specs.declared.fate.Fate.TheVariants as fate
 
 abbrev pub Text : Type 0
 Text = List ℕ
@@ -30,6 +32,19 @@ offered_line (Err fault) = refusal_text fault
 abbrev pub taken_line : Result Taken LineFault → Text
 taken_line (Ok taken) = codes "taken " ++ (decimal taken.seq ++ (codes " records " ++ (decimal taken.count ++ (codes " chunk " ++ decimal taken.chunk))))
 taken_line (Err fault) = refusal_text fault
+
+-- what became of an offer; none: there was no such offer yet
+abbrev pub fate_text : Option Fate → Text
+fate_text None = codes "not offered"
+fate_text (Some fate.Discarded) = codes "discarded"
+fate_text (Some fate.Overwritten) = codes "overwritten"
+fate_text (Some (fate.InRing seq)) = codes "in ring " ++ decimal seq
+fate_text (Some (fate.InChunk chunk seq)) = codes "in chunk " ++ (decimal chunk ++ (32 ∷ decimal seq))
+
+-- what a question for a fate answers
+abbrev pub fate_line : Result (Option Fate) LineFault → Text
+fate_line (Ok fate) = fate_text fate
+fate_line (Err fault) = refusal_text fault
 
 -- a number, right in so many places; a longer one takes the places that it needs
 abbrev pub right : ℕ → ℕ → Text

@@ -4,7 +4,7 @@ ghost use Rattle.std.specs.Prelude.{◌≡◌, ◌≤◌, ◌∷◌, ◌++◌, [
 ghost use Rattle.tr_command.specs.Language.{asked_of};
 ghost use Rattle.std.specs.String.{string_bytes};
 ghost use Rattle.tr_command.specs.Asked.{asked_by, moment_in};
-ghost use Rattle.tr_console.specs.Answers.{answer_to, create_answer, channel_answer, thread_answer, start_answer, offer_answer, consume_answer, status_answer, payload_of};
+ghost use Rattle.tr_console.specs.Answers.{answer_to, create_answer, channel_answer, thread_answer, start_answer, offer_answer, consume_answer, fate_answer, status_answer, payload_of};
 ghost use Rattle.tr_console.specs.Replies.{Does};
 ghost use Rattle.tr_console.specs.Script.{asked_step, text_step};
 ghost use Rattle.tr_record.specs.Records.{last_moment};
@@ -12,9 +12,10 @@ ghost use Rattle.tr_stream.specs.Rules.{by_state};
 
 use crate::faults::LineFault;
 use crate::names::is_valid_name;
-use crate::replies::{Reply, bad_line, offered_reply, refusal, skipped, taken_reply};
+use crate::replies::{Reply, bad_line, fate_reply, offered_reply, refusal, skipped, taken_reply};
 use crate::sessions::{
-    ChannelShape, OfferTo, Sessions, add_channel_at, add_thread_at, offer_at, start_at, take_at,
+    ChannelShape, OfferTo, Sessions, add_channel_at, add_thread_at, fate_at, offer_at, start_at,
+    take_at,
 };
 use crate::status::status_of;
 use indexmap::IndexMap;
@@ -131,6 +132,11 @@ impl<A: Allocator + Copy> Console<A> {
                 fill,
             } => self.offer(session, stream, moment, id, text, fill),
             Request::Consume { session, stream } => self.consume(session, stream),
+            Request::Fate {
+                session,
+                stream,
+                serial,
+            } => self.fate(session, stream, serial),
             Request::Status { session } => self.status(session),
         }
     }
@@ -231,6 +237,14 @@ impl<A: Allocator + Copy> Console<A> {
     {
         let answer = take_at(&mut self.sessions, session, stream);
         taken_reply(self.alloc, answer)
+    }
+
+    /// `fate`
+    fn fate(&self, session: &str, stream: u64, serial: u64) -> Result<Reply<A>, AllocError>
+        ensures { IfOk result (Does (fate_answer by_state self.now session.now stream serial) self.now) }
+    {
+        let answer = fate_at(&self.sessions, session, stream, serial);
+        fate_reply(self.alloc, answer)
     }
 
     /// `status`

@@ -1,14 +1,14 @@
 //! The answers to lines, as texts.
 
-ghost use Rattle.std.specs.Prelude.{◌≡◌, ◌∷◌, ◌++◌, [], true, false, Ok, Err, IfOk, OnOk, codes, is_err};
+ghost use Rattle.std.specs.Prelude.{◌≡◌, ◌∷◌, ◌++◌, [], true, false, Some, Ok, Err, IfOk, OnOk, codes, is_err};
 ghost use Rattle.std.specs.String.{string_bytes};
 ghost use Rattle.tr_console.specs.Calls.{HasMemory};
 ghost use Rattle.tr_console.specs.Faults.{wants_memory};
-ghost use Rattle.tr_console.specs.Texts.{offered_line, refusal_text, taken_line};
+ghost use Rattle.tr_console.specs.Texts.{fate_line, fate_text, offered_line, refusal_text, taken_line};
 
 use crate::faults::LineFault;
 use std::alloc::{AllocError, Allocator, Global};
-use tr_stream::{Offered, Taken};
+use tr_stream::{Fate, Offered, Taken};
 
 /// The answer to a line: its text, with its line feeds, and whether it says that the line was refused.
 #[derive(Drop)]
@@ -126,4 +126,33 @@ pub fn taken_reply<A: Allocator + Copy>(
         }
         Err(fault) => refusal(alloc, fault),
     }
+}
+
+/// What became of an accepted offer.
+fn fate_words<A: Allocator + Copy>(alloc: A, fate: Fate) -> Result<String<A>, AllocError>
+    ensures { IfOk result (λ s. string_bytes s ≡ fate_text (Some fate) ++ 10 ∷ []) }
+{
+    let text = match fate {
+        Fate::Discarded => String::from_str(alloc, "discarded\n")?,
+        Fate::Overwritten => String::from_str(alloc, "overwritten\n")?,
+        Fate::InRing { seq } => format!(in alloc; "in ring {seq}\n")?,
+        Fate::InChunk { chunk, seq } => format!(in alloc; "in chunk {chunk} {seq}\n")?,
+    };
+    Ok(text)
+}
+
+/// The answer to a question for a fate.
+pub fn fate_reply<A: Allocator + Copy>(
+    alloc: A,
+    answer: Result<Option<Fate>, LineFault>,
+) -> Result<Reply<A>, AllocError>
+    ensures text { IfOk result (λ r. string_bytes r.text ≡ fate_line answer ++ 10 ∷ []) }
+    ensures refused { IfOk result (λ r. r.is_refused ≡ is_err answer) }
+{
+    let text = match answer {
+        Ok(Some(fate)) => fate_words(alloc, fate)?,
+        Ok(None) => String::from_str(alloc, "not offered\n")?,
+        Err(fault) => return refusal(alloc, fault),
+    };
+    Ok(Reply::done(text))
 }

@@ -5,7 +5,7 @@ ghost use Rattle.tr_console.specs.World.{session_named};
 ghost use Rattle.tr_console.specs.Calls.{HasMemory, called, channel_called, stepped, world_stepped};
 ghost use Rattle.tr_console.specs.Faults.{wants_memory};
 ghost use Rattle.tr_session.specs.Names.{by_name};
-ghost use Rattle.tr_session.specs.Steps.{thread_added, started, offer_step, after_offer_step, take_step, after_take_step};
+ghost use Rattle.tr_session.specs.Steps.{thread_added, started, offer_step, after_offer_step, take_step, after_take_step, fate_asked};
 ghost use Rattle.tr_stream.specs.Rules.{by_state};
 
 use crate::faults::LineFault;
@@ -16,7 +16,7 @@ use std::hash::{BuildHasherDefault, FoldHasher};
 use tr_book::Mode;
 use tr_record::Moment;
 use tr_session::Session;
-use tr_stream::{Offered, Taken};
+use tr_stream::{Fate, Offered, Taken};
 
 /// Sessions by name, in order of creation.
 pub type Sessions<A> = IndexMap<String<A>, Session<A>, BuildHasherDefault<FoldHasher>, A>;
@@ -135,6 +135,24 @@ pub fn take_at<A: Allocator + Copy>(
     };
     match found.take(stream) {
         Ok(taken) => Ok(taken),
+        Err(fault) => Err(LineFault::Step(fault)),
+    }
+}
+
+/// What became of an offer to a stream of a session, none where there was no such offer yet.
+pub fn fate_at<A: Allocator>(
+    sessions: &Sessions<A>,
+    session: &str,
+    stream: u64,
+    serial: u64,
+) -> Result<Option<Fate>, LineFault>
+    ensures { result ≡ stepped session.now (fate_asked by_state stream serial) (by_name sessions.now.entries) }
+{
+    let Some(found) = sessions.get(session) else {
+        return Err(LineFault::NoSession);
+    };
+    match found.fate_of(stream, serial) {
+        Ok(fate) => Ok(fate),
         Err(fault) => Err(LineFault::Step(fault)),
     }
 }

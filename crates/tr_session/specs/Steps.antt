@@ -22,6 +22,7 @@ use Rattle.tr_stream.specs.declared.answers.TakeFault.{TakeFault}
 use Rattle.tr_stream.specs.declared.answers.Taken.{Taken}
 use Rattle.tr_stream.specs.declared.config.SessionMode.TheVariants.{Local}
 use Rattle.tr_stream.specs.declared.config.StreamConfig.{StreamConfig}
+use Rattle.tr_stream.specs.declared.fate.Fate.{Fate}
 
 abbrev pub is_new : State → Bool
 is_new New = true
@@ -121,3 +122,9 @@ take_step rules i s = option_map_or (λ t. take_as_step (rules.taken t)) (slice_
 
 abbrev pub after_take_step : {S : Type 0} → StreamRules S → ℕ → SessionOf S → SessionOf S
 after_take_step rules i s = record s { streams = changed_at i rules.after_taken s.streams }
+
+-- ---- questions, which change nothing
+
+-- what became of the offer of this serial to stream i, none where there was no such offer yet
+abbrev pub fate_asked : {S : Type 0} → StreamRules S → ℕ → ℕ → SessionOf S → Result (Option Fate) StepFault
+fate_asked rules i serial s = option_map_or (λ t. Ok (rules.fated serial t)) (slice_get s.streams i) (Err (Session NoStream))

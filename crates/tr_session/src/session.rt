@@ -2,7 +2,7 @@
 
 ghost use Rattle.std.specs.Prelude.{◌≡◌, ◌≢◌, ◌≤◌, ◌<◌, [], ◌∷◌, ◌++◌, false, Ok, Err, IsOk, IsSome, IfOk, OnOk, IfErr, OnErr, is_some, length, option_copied, slice_get};
 ghost use Rattle.tr_session.specs.Session.{new_session};
-ghost use Rattle.tr_session.specs.Steps.{most_channels, most_streams, channel_of, with_channel, channel_added, next_config, thread_added, started, StepTakesMemory, offer_step, after_offer_step, take_step, after_take_step};
+ghost use Rattle.tr_session.specs.Steps.{most_channels, most_streams, channel_of, with_channel, channel_added, next_config, thread_added, started, StepTakesMemory, offer_step, after_offer_step, take_step, after_take_step, fate_asked};
 ghost use Rattle.tr_stream.specs.Rules.{by_state};
 ghost use Rattle.tr_stream.specs.StateSteps.{new_state};
 
@@ -16,7 +16,7 @@ use std::hash::{BuildHasherDefault, FoldHasher};
 use std::marker::Model;
 use tr_book::{Geometry, Mode};
 use tr_record::Moment;
-use tr_stream::{OfferFault, Offered, SessionMode, Stream, StreamConfig, TakeFault, Taken};
+use tr_stream::{Fate, OfferFault, Offered, SessionMode, Stream, StreamConfig, TakeFault, Taken};
 use uuid::Uuid;
 
 /// How many channels a session has at most.
@@ -224,6 +224,20 @@ impl<A: Allocator> Session<A> {
         self.state = State::Active;
         self.last = moment.later(self.last);
         Ok(())
+    }
+
+    /// What became of the offer of this serial to the stream of this number, none where there was no such offer yet.
+    ///
+    /// # Errors
+    ///
+    /// `NoStream`. It takes no memory.
+    pub fn fate_of(&self, i: u64, serial: u64) -> Result<Option<Fate>, StepFault>
+        ensures { result ≡ fate_asked by_state i serial self.now }
+    {
+        match self.stream(i) {
+            Some(stream) => Ok(stream.fate_of(serial)),
+            None => Err(StepFault::Session(SessionFault::NoStream)),
+        }
     }
 
     /// The identifier of the trace.

@@ -3,7 +3,7 @@ use std::process::Abort;
 use std::test::Fail;
 use tr_book::Mode;
 use tr_record::Moment;
-use tr_stream::{OfferFault, Offered, TakeFault, Taken};
+use tr_stream::{Fate, OfferFault, Offered, TakeFault, Taken};
 use uuid::Uuid;
 
 const PAYLOAD: [u8; 153] = [0x61; 153];
@@ -101,6 +101,42 @@ fn streams_stand_apart(rt: HostRuntime) -> Result<(), Fail> {
     assert_eq!(rt; (config.geometry.size(), config.geometry.count()), (256, 2));
     assert!(rt; config.mode == Mode::Overwrite && config.uuid == session.uuid());
     assert!(rt; session.stream(3).is_none());
+    Ok(())
+}
+
+// two records of 88 bytes fill a sub-buffer, and the fifth drops the first one's two
+#[test]
+fn fates_tell_where_records_are(rt: HostRuntime) -> Result<(), Fail> {
+    let mut session = Session::new(rt.alloc(), Uuid::nil());
+    session.add_channel("c", 256, 2, Mode::Overwrite)?;
+    session.add_channel("d", 256, 2, Mode::Discard)?;
+    assert_eq!(rt; session.add_thread("c")?, 0);
+    assert_eq!(rt; session.add_thread("d")?, 1);
+    assert_eq!(rt; session.fate_of(0, 0), Ok(None));
+    session.start(moment(0)?)?;
+    for at in 1..7 {
+        let _ = offer(&rt, &mut session, 0, at, 64)?;
+        let _ = offer(&rt, &mut session, 1, at, 64)?;
+    }
+    let wanted = [
+        (0, 0, Some(Fate::Overwritten)),
+        (0, 1, Some(Fate::Overwritten)),
+        (0, 2, Some(Fate::InRing { seq: 1 })),
+        (0, 5, Some(Fate::InRing { seq: 2 })),
+        (0, 6, None),
+        (1, 1, Some(Fate::InRing { seq: 0 })),
+        (1, 4, Some(Fate::Discarded)),
+        (1, 6, None),
+    ];
+    for (i, serial, want) in wanted {
+        assert_eq!(rt; session.fate_of(i, serial), Ok(want), "{i} {serial}");
+    }
+    session.take(1)?;
+    let kept = Fate::InChunk { chunk: 0, seq: 0 };
+    assert_eq!(rt; session.fate_of(1, 1), Ok(Some(kept)));
+    let none = StepFault::Session(SessionFault::NoStream);
+    assert_eq!(rt; session.fate_of(2, 0), Err(none));
+    assert_eq!(rt; session.fate_of(u64::MAX, 0), Err(none));
     Ok(())
 }
 

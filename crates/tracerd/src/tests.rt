@@ -35,6 +35,41 @@ fn a_script_is_answered(rt: HostRuntime) -> Result<(), Fail> {
 }
 
 #[test]
+fn an_overwriting_ring_is_answered(rt: HostRuntime) -> Result<(), Fail> {
+    let script = b"create s 00000000-0000-0000-0000-000000000001
+channel s c 256 2 overwrite
+thread s c
+start s 0
+offer s 0 1 7 --fill 64
+offer s 0 2 7 --fill 64
+offer s 0 3 7 --fill 64
+offer s 0 4 7 --fill 64
+offer s 0 5 7 --fill 64
+offer s 0 6 7 --fill 64
+fate s 0 1
+fate s 0 2
+";
+    let answer = b"created s
+channel c
+stream 0
+started
+stored 0 in 0
+stored 1 in 0
+stored 2 in 1
+stored 3 in 1
+stored 4 in 2 over 0 2
+stored 5 in 2
+overwritten
+in ring 1
+";
+    assert_eq!(rt;
+        ends_with(rt.alloc(), &["script"], script, answer, b""),
+        (0, true)
+    );
+    Ok(())
+}
+
+#[test]
 fn nothing_gets_no_answer(rt: HostRuntime) -> Result<(), Fail> {
     assert_eq!(rt;
         ends_with(rt.alloc(), &["script"], b"", b"", b""),

@@ -82,6 +82,115 @@ fn answers_a_script_however_it_is_cut(rt: HostRuntime) -> Result<(), Fail> {
 }
 
 #[test]
+fn tells_fates_of_discarded_and_consumed_records(rt: HostRuntime) -> Result<(), Fail> {
+    let alloc = rt.alloc();
+    let lines = joined(
+        alloc,
+        &[
+            OPENING,
+            SIX_OFFERS,
+            "fate s 0 4\nfate s 0 5\nfate s 0 0\nfate s 0 1\nfate s 0 6\n",
+            "fate s 0 18446744073709551615\n",
+        ],
+    )?;
+    let answer = joined(
+        alloc,
+        &[
+            OPENED,
+            SIX_ANSWERS,
+            "discarded\nin ring 1\nin chunk 0 0\nin chunk 0 0\nnot offered\n",
+            "not offered\n",
+        ],
+    )?;
+    assert!(rt; is_answered(alloc, lines.as_slice(), answer.as_slice(), 0)?);
+    Ok(())
+}
+
+/// A session with one stream in overwrite mode, started, and six offers, of which the fifth drops two records.
+const OVERWRITING: &str = "create s 00000000-0000-0000-0000-000000000001
+channel s c 256 2 overwrite
+thread s c
+start s 0
+offer s 0 1 7 --fill 64
+offer s 0 2 7 --fill 64
+offer s 0 3 7 --fill 64
+offer s 0 4 7 --fill 64
+offer s 0 5 7 --fill 64
+offer s 0 6 7 --fill 64
+";
+
+const OVERWRITTEN: &str = "created s
+channel c
+stream 0
+started
+stored 0 in 0
+stored 1 in 0
+stored 2 in 1
+stored 3 in 1
+stored 4 in 2 over 0 2
+stored 5 in 2
+";
+
+#[test]
+fn tells_fates_of_overwritten_records(rt: HostRuntime) -> Result<(), Fail> {
+    let alloc = rt.alloc();
+    let lines = "fate s 0 1
+fate s 0 2
+fate s 0 6
+consume s 0
+offer s 0 7 7 --fill 64
+offer s 0 8 7 --fill 64
+offer s 0 9 7 --fill 64
+offer s 0 10 7 --fill 64
+fate s 0 2
+fate s 0 5
+fate s 0 6
+fate s 0 9
+";
+    let answers = "overwritten
+in ring 1
+not offered
+taken 1 records 2 chunk 0
+stored 6 in 3
+stored 7 in 3
+stored 8 in 4 over 2 2
+stored 9 in 4
+in chunk 0 1
+overwritten
+in ring 3
+in ring 4
+";
+    let script = joined(alloc, &[OVERWRITING, lines])?;
+    let text = joined(alloc, &[OVERWRITTEN, answers])?;
+    assert!(rt; is_answered(alloc, script.as_slice(), text.as_slice(), 0)?);
+    Ok(())
+}
+
+#[test]
+fn refuses_fates_of_no_stream(rt: HostRuntime) -> Result<(), Fail> {
+    let lines = "fate t 0 0
+fate t 1 0
+fate s 1 0
+fate s 18446744073709551615 0
+fate s 0 0
+fate s 0 -1
+fate s 0
+fate t 0 x
+";
+    let answers = "refused K1 NoSession
+refused K1 NoSession
+refused S8 NoStream
+refused S8 NoStream
+not offered
+bad line
+bad line
+bad line
+";
+    assert!(rt; goes_on(rt.alloc(), lines, answers, 7)?);
+    Ok(())
+}
+
+#[test]
 fn counts_refused_lines(rt: HostRuntime) -> Result<(), Fail> {
     let alloc = rt.alloc();
     let sizes = "offer s 0 1 7 --fill 152\noffer s 0 2 7 --fill 153\noffer s 0 3 7\n";

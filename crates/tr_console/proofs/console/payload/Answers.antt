@@ -1,4 +1,3 @@
-use Rattle.std.proofs.Common.{rules, append-nil, sym, ◌∙◌}
 use Rattle.tr_console.proofs.AnswerLaws.{payload-more}
 use Rattle.tr_console.proofs.console.payload.Goals as goal
 

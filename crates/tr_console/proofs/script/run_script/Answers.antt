@@ -1,4 +1,4 @@
-use Rattle.std.proofs.Common.{◌≡◌, ◌∙◌, ◌≤◌, ◌+◌, refl, ap, sym, arith, Ok, Err, List, [], ℕ, option_map, length}
+use Rattle.std.proofs.Common.{◌≡◌, ◌∙◌, ◌≤◌, ◌+◌, refl, ap, sym, arith, Ok, Err, List, [], ℕ, option_map}
 use Rattle.std.specs.Borrow.{Bor}
 use Rattle.tr_console.proofs.FaultLemmas.{byte-one, made, made_err, same_err, ok_is_no_err, reading_fault-Write, reading_fault-NoMemory, reading_fault-Read, reading_fault-TooLong}
 use Rattle.tr_console.proofs.LineSteps.{one_if}

@@ -1,4 +1,4 @@
-use Rattle.std.proofs.Common.{rules, ◌≡◌, ◌∙◌, ap, sym, refl, None, Some, true, false}
+use Rattle.std.proofs.Common.{rules, ◌≡◌, ap, sym, refl, None, Some}
 use Rattle.std.specs.Map.{lookup}
 use Rattle.tr_console.proofs.CallLaws.{is_named, named-is, set-is, unchanged-is, channel-none, channel-bad, channel-ok, channel-err, kept-by_session}
 use Rattle.tr_console.proofs.sessions.add_channel_at.Goals as goal

@@ -1,4 +1,4 @@
-use Rattle.std.proofs.Common.{◌≡◌, ◌∙◌, ℕ, ap, sym, refl, None, Some, true, false}
+use Rattle.std.proofs.Common.{◌≡◌, ℕ, ap, sym, None, Some}
 use Rattle.std.specs.Map.{lookup}
 use Rattle.tr_console.proofs.CallLaws.{is_named, named-is, set-is, unchanged-is, called-none, called-ok, called-err, kept-by_session}
 use Rattle.tr_console.proofs.sessions.add_thread_at.Goals as goal

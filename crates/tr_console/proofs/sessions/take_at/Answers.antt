@@ -1,4 +1,4 @@
-use Rattle.std.proofs.Common.{◌≡◌, ◌∙◌, Ok, Err, ap, sym, refl, None, Some, true, false}
+use Rattle.std.proofs.Common.{◌≡◌, Ok, Err, ap, sym, None, Some}
 use Rattle.std.specs.Map.{lookup}
 use Rattle.tr_console.proofs.CallLaws.{is_named, named-is, set-is, stepped-none, stepped-some, kept-by_take}
 use Rattle.tr_console.proofs.sessions.take_at.Goals as goal

@@ -1,4 +1,3 @@
-use Rattle.std.proofs.Common.{◌≡◌}
 use Rattle.tr_console.proofs.status.session_head.Goals as goal
 
 pub returns : goal.returns

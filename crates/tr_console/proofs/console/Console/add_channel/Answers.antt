@@ -1,4 +1,4 @@
-use Rattle.std.proofs.Common.{◌≡◌, ◌∙◌, sym, ap, subst, refl, IfOk}
+use Rattle.std.proofs.Common.{◌≡◌, ◌∙◌, subst, refl, IfOk}
 use Rattle.std.specs.String.{string_bytes}
 use Rattle.tr_console.proofs.AnswerLaws.{refuses}
 use Rattle.tr_console.proofs.CallLaws.{channel_answered-ok, channel_answered-err}

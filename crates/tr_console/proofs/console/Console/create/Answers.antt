@@ -1,15 +1,12 @@
 use Rattle.std.proofs.Common.{rules, ◌≡◌, ◌∙◌, ◌∷◌, ◌++◌, [], sym, ap, subst, refl, None, Some, IfOk, true, false, true≢false, is_some, length, arith}
 use Rattle.std.proofs.lemmas.Bool.Decides.{nat_tests}
-use Rattle.std.specs.Map.{lookup}
 use Rattle.std.specs.Prelude.{nat_le}
-use Rattle.std.specs.Str.{bytes_eq}
 use Rattle.std.specs.String.{string_bytes}
 use Rattle.tr_console.proofs.AnswerLaws.{refuses, none_from, create-bad_uuid, create-taken, create-full, create-new}
 use Rattle.tr_console.proofs.console.Console.create.Goals as goal
 use Rattle.tr_console.specs.Answers.{create_answer, most_sessions}
 use Rattle.tr_console.specs.Names.{is_name}
 use Rattle.tr_console.specs.Replies.{Does}
-use Rattle.tr_console.specs.Texts.{Text}
 use Rattle.tr_console.specs.World.{World, session_named}
 use Rattle.tr_console.specs.declared.faults.LineFault.TheVariants as fault
 use Rattle.tr_session.specs.declared.faults.SessionFault.TheVariants.{TooMany, NameTaken}
