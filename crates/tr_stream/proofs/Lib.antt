@@ -1,5 +1,6 @@
 pub mod CallLaws
 pub mod ChunkLaws
+pub mod ChunkRuns
 pub mod Consistency
 pub mod CutForms
 pub mod CutLaws

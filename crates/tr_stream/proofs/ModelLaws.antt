@@ -67,7 +67,7 @@ none-waits (c ∷ cs) zero (suc j) b d order at later kept below = by_test (is_w
     by_test true e = absurd (kept-waits d kept (waits-at cs j d (order.0 (grind (arith, common_steps, at, e))) later))
 
 module _ {A : Type 0} where
-  well_event : (c : StreamConfig) (e : StreamEvent A) (h : History) → IsUsable c → IsWellFormed h → IsWellFormed (after_event c e h)
+  pub well_event : (c : StreamConfig) (e : StreamEvent A) (h : History) → IsUsable c → IsWellFormed h → IsWellFormed (after_event c e h)
   well_event c (Offer moment id payload) h usable well = (offers (held_by c h) h moment id payload (made c h usable) (stands c h well)).1.model
   well_event c Take h usable well = (takes (held_by c h) h (stands c h well)).1.model
   well_event c (Cut moment) h usable well = (cuts (held_by c h) h moment (stands c h well)).1.model

@@ -1,5 +1,7 @@
 -- A list of calls, one after another.
-use Rattle.std.specs.Prelude.{true, false, List, [], ◌∷◌}
+use Rattle.std.specs.Prelude.{ℕ, ◌+◌, max, true, false, ◌==◌, List, [], ◌∷◌, ◌++◌, take, if◌then◌else◌}
+use Rattle.tr_ring.specs.ClosedBuffer.{ClosedBuffer}
+use Rattle.tr_stream.specs.Chunks.{waiting_of, ring_of}
 use Rattle.tr_stream.specs.History.{History}
 use Rattle.tr_stream.specs.Steps.{after_offer, offer_answer, after_take, take_answer, after_cut, cut_answer, switched}
 use Rattle.tr_stream.specs.declared.config.StreamConfig.{StreamConfig}
@@ -33,3 +35,22 @@ after_events c (e ∷ es) h = after_events c es (after_event c e h)
 abbrev pub answers_to : {A : Type 0} → StreamConfig → List (StreamEvent A) → History → List StreamAnswer
 answers_to c [] h = []
 answers_to c (e ∷ es) h = answer_to c e h ∷ answers_to c es (after_event c e h)
+
+-- what a call keeps in the current chunk
+abbrev pub kept_by : {A : Type 0} → StreamEvent A → History → List ClosedBuffer
+kept_by (Offer moment id payload) h = []
+kept_by Take h = take 1 (waiting_of h)
+kept_by (Cut moment) h = ring_of (max moment h.last) h
+kept_by Start h = []
+kept_by Stop h = []
+
+-- what calls keep while there were so many cuts, in order
+abbrev pub kept_after_cuts : {A : Type 0} → ℕ → StreamConfig → List (StreamEvent A) → History → List ClosedBuffer
+kept_after_cuts k c [] h = []
+kept_after_cuts k c (e ∷ es) h = (if k == h.cuts then kept_by e h else []) ++ kept_after_cuts k c es (after_event c e h)
+
+-- how many cuts there are among calls
+abbrev pub cuts_among : {A : Type 0} → List (StreamEvent A) → ℕ
+cuts_among [] = 0
+cuts_among (Cut moment ∷ es) = cuts_among es + 1
+cuts_among (e ∷ es) = cuts_among es
