@@ -174,9 +174,9 @@ cut-told s end k len count packets are chunk_is len_is count_is =
 pub cut-is : (s : StreamState) (end count : ℕ) (packets : List Contents) (ring : RingState) (parts : PartsState) (noted_ book : BookState) → packets ≡ map (packet_of s.config) (ring_buffers end s.ring) → ring ≡ emptied s.ring → parts ≡ closed_part (with_packets packets s.parts) → count ≡ in_ring s.ring → noted_ ≡ noted.with_consumed count s.book → book ≡ noted.at_moment end noted_ → (let t : StreamState = record { config = s.config; ring = ring; parts = parts; book = book; active = s.active } in t) ≡ state_cut_at end s
 cut-is s end count packets ring parts noted_ book packets_are ring_is parts_is count_is first then = cc
 
-pub kept-cut_now : (s : StreamState) (end count : ℕ) (packets : List Contents) (ring : RingState) (parts : PartsState) (noted_ book : BookState) → IsKept s → end ≤ last_moment → packets ≡ map (packet_of s.config) (ring_buffers end s.ring) → ring ≡ emptied s.ring → parts ≡ closed_part (with_packets packets s.parts) → count ≡ in_ring s.ring → noted_ ≡ noted.with_consumed count s.book → book ≡ noted.at_moment end noted_ → IsKept (record { config = s.config; ring = ring; parts = parts; book = book; active = s.active })
-kept-cut_now s end count packets ring parts noted_ book is in_time packets_are ring_is parts_is count_is first then =
-    subst (λ (t : StreamState). IsKept t) (sym (cut-is s end count packets ring parts noted_ book packets_are ring_is parts_is count_is first then)) (kept-cut s end in_time is)
+pub kept-cut_now : (s : StreamState) (end count : ℕ) (packets : List Contents) (ring : RingState) (parts : PartsState) (noted_ book : BookState) → IsKept s → s.book.last ≤ end → end ≤ last_moment → packets ≡ map (packet_of s.config) (ring_buffers end s.ring) → ring ≡ emptied s.ring → parts ≡ closed_part (with_packets packets s.parts) → count ≡ in_ring s.ring → noted_ ≡ noted.with_consumed count s.book → book ≡ noted.at_moment end noted_ → IsKept (record { config = s.config; ring = ring; parts = parts; book = book; active = s.active })
+kept-cut_now s end count packets ring parts noted_ book is later in_time packets_are ring_is parts_is count_is first then =
+    subst (λ (t : StreamState). IsKept t) (sym (cut-is s end count packets ring parts noted_ book packets_are ring_is parts_is count_is first then)) (kept-cut s end later in_time is)
 
 -- a cut is the history's cut
 pub step-cut : (s new : StreamState) (h : History) (moment end : ℕ) (done : CutDone) → StandsFor s h → end ≡ max moment s.book.last → done ≡ cut_done end s → new ≡ state_cut_at end s → ((let r : Result CutDone CutFault = Ok done in r) ≡ cut_answer moment h) × StandsFor new (after_cut moment h)

@@ -248,7 +248,7 @@ loss_fate s h n mode.Discard e is losses below not = discarded_fate s h n is bel
 loss_fate s h n mode.Overwrite e is losses below not = overwritten_fate s h n is below not (losses.overwriting e)
 
 -- the parts of a stream are the chunks up to its cuts
-parts-are : (s : StreamState) (h : History) → StandsFor s h → all_parts s.parts ≡ parts_below s.config (suc h.cuts) h
+pub parts-are : (s : StreamState) (h : History) → StandsFor s h → all_parts s.parts ≡ parts_below s.config (suc h.cuts) h
 parts-are s h is = let a = is.closed in let b = is.current in cc
 
 -- by where the record is found
@@ -260,9 +260,9 @@ by_place s h n (Some fate) waits fills is losses below a b c =
 by_place s h n None (Some q) fills is losses below a b c = sym (waiting_fate s h n q is below b)
 by_place s h n None None true is losses below a b c = sym (filling_fate s h n is below c)
 by_place s h n None None false is losses below a b c = sym (loss_fate s h n s.config.mode refl is losses below (record {
-    lost = record { within = is.model.kept; waiting = b; kept = λ k le. parts_none n (suc h.cuts) s.config h a k (omega arith) };
-    filling = c;
-  }))
+  lost = record { within = is.model.kept; waiting = b; kept = λ k le. parts_none n (suc h.cuts) s.config h a k (omega arith) };
+  filling = c;
+}))
 
 accepted_fate : (s : StreamState) (h : History) (n : ℕ) → StandsFor s h → LosesByMode s → n < s.book.offered → Some (unwrap_or (held_fate n s) (loss_of s.config.mode)) ≡ fate_of n h
 accepted_fate s h n is losses below =

@@ -92,8 +92,8 @@ sound-oldest s (b ∷ bs) waiting_is is = sound-moved s b bs waiting_is is
 pub kept-taken : (s : StreamState) → IsKept s → IsKept (state_after_take s)
 kept-taken s is = record { sound = sound-oldest s s.ring.waiting refl is.sound; history = (after_take is.history.0, (takes s is.history.0 is.history.1).1) }
 
-pub kept-cut : (s : StreamState) (end : ℕ) → end ≤ last_moment → IsKept s → IsKept (state_cut_at end s)
-kept-cut s end in_time is = record { sound = sound-cut s end is.sound in_time; history = (cut_at end is.history.0, stands-cut s is.history.0 end is.history.1) }
+pub kept-cut : (s : StreamState) (end : ℕ) → s.book.last ≤ end → end ≤ last_moment → IsKept s → IsKept (state_cut_at end s)
+kept-cut s end later in_time is = record { sound = sound-cut s end is.sound later in_time; history = (cut_at end is.history.0, stands-cut s is.history.0 end is.history.1) }
 
 pub kept-switched : (s : StreamState) (active : Bool) → IsKept s → IsKept (state_switched active s)
 kept-switched s active is = record { sound = sound-switched s active is.sound; history = (switched active is.history.0, stands-switched s is.history.0 active is.history.1) }
@@ -116,6 +116,8 @@ kept-new c config size count = record {
     losses = record { discarding = λ e. (refl, refl); overwriting = λ e. refl };
     packets = tt;
     filling = open-none 0 0;
+    closed_sent = tt;
+    current_sent = tt;
   };
   history = (start, starts c);
 }

@@ -17,8 +17,8 @@ use Rattle.tr_stream.proofs.CutLaws.{records_in-ring}
 use Rattle.tr_stream.proofs.OpenLaws.{open-joined, open-one, open-missed, open-none}
 use Rattle.tr_packet.proofs.OrderLemmas.{MakePacket-later}
 use Rattle.tr_stream.proofs.Refinement.{with_joined, with_followed, with_missed, without_oldest, with_moved}
-use Rattle.tr_stream.specs.Chunks.{packet_of, begin_of, ring_buffers}
-use Rattle.tr_stream.specs.Sound.{IsSound, IsOpen, ArePackets, LosesByMode}
+use Rattle.tr_stream.specs.Chunks.{packet_of, begin_of, closing_if_any, ring_buffers}
+use Rattle.tr_stream.specs.Sound.{IsSound, IsOpen, ArePackets, CanBeSent, LosesByMode}
 use Rattle.tr_stream.specs.State.{StreamState, records_in, in_ring}
 use Rattle.tr_stream.specs.StateSteps.{state_switched, state_cut_at}
 use Rattle.tr_stream.specs.declared.config.StreamConfig.{StreamConfig}
@@ -31,9 +31,16 @@ are-drop : (c : StreamConfig) (bs : List ClosedBuffer) → ArePackets c bs → A
 are-drop c [] old = tt
 are-drop c (b ∷ bs) old = old.1
 
-fit-push : (size : ℕ) (bs : List ClosedBuffer) (b : ClosedBuffer) → AllByRecursion (IsClosedWithin size) bs → IsClosedWithin size b → AllByRecursion (IsClosedWithin size) (bs ++ b ∷ [])
-fit-push size [] b old new = (new, tt)
-fit-push size (x ∷ bs) b old new = (old.0, fit-push size bs b old.1 new)
+all-push : {X : Type 0} (P : X → Type 0) (xs : List X) (x : X) → AllByRecursion P xs → P x → AllByRecursion P (xs ++ x ∷ [])
+all-push P [] x old new = (new, tt)
+all-push P (y ∷ xs) x old new = (old.0, all-push P xs x old.1 new)
+
+all-append : {X : Type 0} (P : X → Type 0) (xs ys : List X) → AllByRecursion P xs → AllByRecursion P ys → AllByRecursion P (xs ++ ys)
+all-append P [] ys old new = new
+all-append P (x ∷ xs) ys old new = (old.0, all-append P xs ys old.1 new)
+
+first-packet : (c : StreamConfig) (b : ClosedBuffer) (bs : List ClosedBuffer) → ArePackets c (b ∷ bs) → IsPacket (packet_of c b)
+first-packet c b bs are = are.0
 
 fit-drop : (size : ℕ) (bs : List ClosedBuffer) → AllByRecursion (IsClosedWithin size) bs → AllByRecursion (IsClosedWithin size) (drop 1 bs)
 fit-drop size [] old = tt
@@ -76,6 +83,8 @@ sound-joined s e is next room = record {
   losses = record { discarding = is.losses.discarding; overwriting = is.losses.overwriting };
   packets = is.packets;
   filling = open-joined s.book.offered s.book.last s.ring.current e next.fits next.serial next.moment (omega (arith, room, is.config.size_high)) is.filling;
+  closed_sent = is.closed_sent;
+  current_sent = is.current_sent;
 }
 
 other : (let m : Mode = Discard in m) ≡ Overwrite → ⊥
@@ -103,6 +112,8 @@ sound-missed s moment is left le in_time mode = record {
   losses = losses-missed s moment mode is.losses;
   packets = is.packets;
   filling = open-missed s.book.offered s.book.last moment s.ring.current le in_time is.filling;
+  closed_sent = is.closed_sent;
+  current_sent = is.current_sent;
 }
 
 pub sound-followed : (s : StreamState) (e : Entry) → IsSound s → IsNext s e → s.ring.current ≢ [] → length e.payload + 104 ≤ s.config.geometry.size → length s.ring.waiting + 1 < s.config.geometry.count → IsSound (with_followed e s)
@@ -117,10 +128,12 @@ sound-followed s e is next used small room = record {
   dropped = grind (arith, common_steps, is.dropped);
   room = grind (arith, common_steps, room);
   fits = grind (arith, common_steps, small);
-  waiting_fit = fit-push s.config.geometry.size s.ring.waiting (closing e.moment s.ring) is.waiting_fit (record { some = used_some s.ring.current used; within = is.fits });
+  waiting_fit = all-push (IsClosedWithin s.config.geometry.size) s.ring.waiting (closing e.moment s.ring) is.waiting_fit (record { some = used_some s.ring.current used; within = is.fits });
   losses = record { discarding = is.losses.discarding; overwriting = is.losses.overwriting };
   packets = are-push s.config s.ring.waiting (closing e.moment s.ring) is.packets (closing-is_packet s e.moment is used next.moment next.fits.moment);
   filling = open-one s.book.offered e next.fits next.serial (grind (arith, common_steps, small, is.config.size_high));
+  closed_sent = is.closed_sent;
+  current_sent = is.current_sent;
 }
 
 first-split : (bs : List ClosedBuffer) → records_in bs ≡ records_in (take 1 bs) + records_in (drop 1 bs)
@@ -143,6 +156,8 @@ sound-without_oldest s is some mode = record {
   losses = losses-without_oldest s mode is.losses;
   packets = are-drop s.config s.ring.waiting is.packets;
   filling = is.filling;
+  closed_sent = is.closed_sent;
+  current_sent = is.current_sent;
 }
 
 one : (b : ClosedBuffer) (bs ws : List ClosedBuffer) → ws ≡ b ∷ bs → records_in ws ≡ length b.records + records_in (drop 1 ws)
@@ -167,10 +182,12 @@ sound-moved s b bs oldest is = record {
   losses = record { discarding = is.losses.discarding; overwriting = is.losses.overwriting };
   packets = are-drop s.config s.ring.waiting is.packets;
   filling = is.filling;
+  closed_sent = is.closed_sent;
+  current_sent = all-push IsPacket s.parts.current.packets (packet_of s.config b) is.current_sent (first-packet s.config b bs (subst (λ (ws : List ClosedBuffer). ArePackets s.config ws) oldest is.packets));
 }
 
 pub sound-switched : (s : StreamState) (active : Bool) → IsSound s → IsSound (state_switched active s)
-sound-switched s active is = record { config = is.config; made = is.made; few = is.few; in_time = is.in_time; total = is.total; consumed = is.consumed; numbers = is.numbers; dropped = is.dropped; room = is.room; fits = is.fits; waiting_fit = is.waiting_fit; losses = record { discarding = is.losses.discarding; overwriting = is.losses.overwriting }; packets = is.packets; filling = is.filling }
+sound-switched s active is = record { config = is.config; made = is.made; few = is.few; in_time = is.in_time; total = is.total; consumed = is.consumed; numbers = is.numbers; dropped = is.dropped; room = is.room; fits = is.fits; waiting_fit = is.waiting_fit; losses = record { discarding = is.losses.discarding; overwriting = is.losses.overwriting }; packets = is.packets; filling = is.filling; closed_sent = is.closed_sent; current_sent = is.current_sent }
 
 seq-after : (seq offered : ℕ) (es : List Entry) → seq + min 1 (length es) ≤ offered → seq_after seq es + min 1 0 ≤ offered
 seq-after seq offered [] le = omega arith
@@ -184,8 +201,27 @@ pub records_of-packets : (c : StreamConfig) (bs : List ClosedBuffer) → records
 records_of-packets c [] = refl
 records_of-packets c (b ∷ bs) = grind (arith, common_steps, records_of-packets c bs, records_in-cons b bs, sum_by-cons (λ (p : Contents). length p.records) (packet_of c b) (map (packet_of c) bs))
 
-pub sound-cut : (s : StreamState) (end : ℕ) → IsSound s → end ≤ last_moment → IsSound (state_cut_at end s)
-sound-cut s end is in_time = record {
+all-packets : (c : StreamConfig) (bs : List ClosedBuffer) → ArePackets c bs → AllByRecursion IsPacket (map (packet_of c) bs)
+all-packets c [] are = tt
+all-packets c (b ∷ bs) are = (are.0, all-packets c bs are.1)
+
+are-append : (c : StreamConfig) (bs ds : List ClosedBuffer) → ArePackets c bs → ArePackets c ds → ArePackets c (bs ++ ds)
+are-append c [] ds old new = new
+are-append c (b ∷ bs) ds old new = (old.0, are-append c bs ds old.1 new)
+
+-- all that the ring has can be sent
+are-ring : (s : StreamState) (end : ℕ) → IsSound s → s.book.last ≤ end → end ≤ last_moment → ArePackets s.config (ring_buffers end s.ring)
+are-ring s end is later in_time = are-append s.config s.ring.waiting (closing_if_any s.ring.seq end s.ring.refused s.ring.current) is.packets (are-closing s.ring.current (λ used. closing-is_packet s end is used later in_time))
+  where
+    not_nil : (e : Entry) (es : List Entry) → e ∷ es ≢ []
+    not_nil e es same = cc
+
+    are-closing : (es : List Entry) → (es ≢ [] → IsPacket (packet_of s.config (record { seq = s.ring.seq; end = end; lost = s.ring.refused; records = es }))) → ArePackets s.config (closing_if_any s.ring.seq end s.ring.refused es)
+    are-closing [] can = tt
+    are-closing (e ∷ es) can = (can (not_nil e es), tt)
+
+pub sound-cut : (s : StreamState) (end : ℕ) → IsSound s → s.book.last ≤ end → end ≤ last_moment → IsSound (state_cut_at end s)
+sound-cut s end is later in_time = record {
   config = is.config;
   made = record { size = is.made.size; count = is.made.count; mode = is.made.mode; size_low = is.made.size_low; count_low = is.made.count_low };
   few = is.few;
@@ -205,4 +241,7 @@ sound-cut s end is in_time = record {
   losses = record { discarding = is.losses.discarding; overwriting = is.losses.overwriting };
   packets = tt;
   filling = open-none s.book.offered end;
+  closed_sent = all-push CanBeSent s.parts.closed (record s.parts.current { packets = s.parts.current.packets ++ map (packet_of s.config) (ring_buffers end s.ring) }) is.closed_sent
+      (all-append IsPacket s.parts.current.packets (map (packet_of s.config) (ring_buffers end s.ring)) is.current_sent (all-packets s.config (ring_buffers end s.ring) (are-ring s end is later in_time)));
+  current_sent = tt;
 }

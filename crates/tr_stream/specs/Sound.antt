@@ -1,6 +1,7 @@
 -- What is true of every stream value, by itself.
 use Rattle.std.specs.Prelude.{◌≡◌, ◌≢◌, ℕ, ◌+◌, ◌^◌, ◌≤◌, ◌<◌, min, List, [], ◌∷◌, length}
 use Rattle.std.specs.List.{AllByRecursion}
+use Rattle.tr_book.specs.Parts.{PartState}
 use Rattle.tr_book.specs.declared.mode.Mode.{Mode}
 use Rattle.tr_book.specs.declared.mode.Mode.TheVariants.{Discard, Overwrite}
 use Rattle.tr_packet.specs.Order.{IsBelow}
@@ -39,6 +40,10 @@ abbrev pub ArePackets : StreamConfig → List ClosedBuffer → Type 0
 ArePackets c [] = Unit {0}
 ArePackets c (b ∷ bs) = IsPacket (packet_of c b) × ArePackets c bs
 
+-- each packet of a part can be sent
+abbrev pub CanBeSent : PartState → Type 0
+CanBeSent part = AllByRecursion IsPacket part.packets
+
 -- the records of a sub-buffer that the next record, of this serial and not before this moment, may join
 pub record IsOpen (serial last : ℕ) (es : List Entry) : Type 0 where
   pub below : AllByRecursion (IsBelow serial) es
@@ -67,3 +72,6 @@ pub record IsSound (s : StreamState) : Type 0 where
   -- what waits can be sent, and what is filling can be closed
   pub packets : ArePackets s.config s.ring.waiting
   pub filling : IsOpen s.book.offered s.book.last s.ring.current
+  -- what was consumed can be sent
+  pub closed_sent : AllByRecursion CanBeSent s.parts.closed
+  pub current_sent : CanBeSent s.parts.current

@@ -28,5 +28,4 @@ pub fn every_run<A: Allocator>()
     ensures chunks { (c : StreamConfig) (events : List (StreamEvent A)) (k : ℕ) → IsUsable c
         → chunk_of k (after_events c events start) ≡ kept_after_cuts k c events start }
     ensures cuts { (c : StreamConfig) (events : List (StreamEvent A)) → (after_events c events start).cuts ≡ cuts_among events }
-{
-}
+{}

@@ -16,7 +16,7 @@ ghost use Rattle.tr_ring.specs.Ring.{push_answer};
 
 use crate::answers::{CutDone, CutFault, OfferFault, Offered, TakeFault, Taken};
 use crate::config::{SessionMode, StreamConfig};
-use crate::fate::{fate_in_parts, loss, Fate};
+use crate::fate::{Fate, fate_in_parts, loss};
 use crate::packing::{packet_from, ring_packets};
 use std::alloc::{AllocError, Allocator, Global};
 use std::marker::Model;

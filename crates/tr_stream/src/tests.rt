@@ -207,7 +207,11 @@ fn a_cut_closes_a_part_with_all_that_the_ring_has(rt: HostRuntime) -> Result<(),
     }
     assert_eq!(rt; stream.offer(at(6), 7, &[97; 4]), stored(5, 1));
     assert!(rt; stream.take().is_ok());
-    let done = CutDone { chunk: 0, packets: 1, records: 3 };
+    let done = CutDone {
+        chunk: 0,
+        packets: 1,
+        records: 3,
+    };
     assert_eq!(rt; stream.cut(at(10)), Ok(done));
     let closed = stream.part(0).ok_or("a part")?;
     let [first, second] = closed.packets() else {
@@ -220,15 +224,39 @@ fn a_cut_closes_a_part_with_all_that_the_ring_has(rt: HostRuntime) -> Result<(),
     assert_eq!(rt; stream.fate_of(4), Some(Fate::Discarded));
     assert_eq!(rt; stream.fate_of(5), Some(Fate::InChunk { chunk: 0, seq: 1 }));
     assert_eq!(rt; stream.fate_of(6), None);
-    let empty = CutDone { chunk: 1, packets: 0, records: 0 };
+    Ok(())
+}
+
+#[test]
+fn a_cut_of_an_empty_ring_closes_an_empty_part(rt: HostRuntime) -> Result<(), Fail> {
+    let mut stream = small_stream(rt.alloc(), Mode::Discard)?;
+    stream.set_active(true);
+    assert_eq!(rt; stream.offer(at(3), 7, &[]), stored(0, 0));
+    let first = CutDone {
+        chunk: 0,
+        packets: 1,
+        records: 1,
+    };
+    assert_eq!(rt; stream.cut(at(10)), Ok(first));
+    let empty = CutDone {
+        chunk: 1,
+        packets: 0,
+        records: 0,
+    };
     assert_eq!(rt; stream.cut(at(11)), Ok(empty));
     // An empty sub-buffer used no number, and the cut's moment is the last one.
-    assert_eq!(rt; stream.offer(at(0), 7, &[]), stored(6, 2));
-    let last = CutDone { chunk: 2, packets: 1, records: 1 };
+    assert_eq!(rt; stream.offer(at(0), 7, &[]), stored(1, 1));
+    let last = CutDone {
+        chunk: 2,
+        packets: 1,
+        records: 1,
+    };
     assert_eq!(rt; stream.cut(at(0)), Ok(last));
-    let third = stream.part(2).ok_or("a part")?;
-    assert_eq!(rt; third.packets()[0].head().begin, at(11));
-    assert_eq!(rt; third.packets()[0].head().end, at(11));
+    let closed = stream.part(2).ok_or("a part")?;
+    let [only] = closed.packets() else {
+        panic!(rt; "one packet")
+    };
+    assert_eq!(rt; (only.head().begin, only.head().end), (at(11), at(11)));
     assert_eq!(rt; stream.counts().cuts, 3);
     assert_eq!(rt; stream.counts().current_bytes, 0);
     Ok(())
@@ -247,10 +275,19 @@ fn numbers_of_overwritten_packets_are_absent(rt: HostRuntime) -> Result<(), Fail
     assert_eq!(rt; stream.offer(at(8), 7, &half), stored(7, 3));
     assert_eq!(rt;
         stream.offer(at(9), 7, &half),
-        Ok(Offered::StoredOver { serial: 8, seq: 4, gone_seq: 2, gone_count: 2 })
+        Ok(Offered::StoredOver {
+            serial: 8,
+            seq: 4,
+            gone_seq: 2,
+            gone_count: 2
+        })
     );
     assert_eq!(rt; stream.offer(at(10), 7, &half), stored(9, 4));
-    let done = CutDone { chunk: 0, packets: 2, records: 4 };
+    let done = CutDone {
+        chunk: 0,
+        packets: 2,
+        records: 4,
+    };
     assert_eq!(rt; stream.cut(at(20)), Ok(done));
     let closed = stream.part(0).ok_or("a part")?;
     let [first, second, third] = closed.packets() else {
