@@ -1,2 +1,5 @@
+pub mod Decoding
+pub mod Faults
 pub mod Order
 pub mod Packets
+pub mod Seen
