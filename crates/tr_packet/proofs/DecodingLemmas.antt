@@ -241,9 +241,9 @@ packet_decoded bytes small none =
     let weight : packet_size p ≡ size = omega (arith, weight_of-records_text p.records, ap length sound.are.parts, body_length bytes passes) in
     let eight : 8 * packet_size p ≡ bits = omega (arith, weight, passes.whole) in
     let behind : drop 80 bytes ≡ records_text p.records ++ rest =
-        ap (drop 80) (sym (take-append-drop size bytes))
-        ∙ drop-append-le 80 (take size bytes) rest (omega (arith, passes.low, passes.there, length-take size bytes))
-        ∙ ap (λ (t : List ℕ). t ++ rest) sound.are.parts in
+    ap (drop 80) (sym (take-append-drop size bytes))
+    ∙ drop-append-le 80 (take size bytes) rest (omega (arith, passes.low, passes.there, length-take size bytes))
+    ∙ ap (λ (t : List ℕ). t ++ rest) sound.are.parts in
     record {
       packet = record {
         uuid = omega (arith, passes.long, length-take 16 (drop 4 bytes), length-drop 4 bytes);
@@ -303,10 +303,10 @@ packet_read p rest bytes b =
     let long : length bytes ≡ packet_size p + length rest = ap length b.parts ∙ length-append (packet_text p) rest ∙ ap (λ (n : ℕ). n + length rest) (length-packet_text p b.packet.uuid) in
     let some = nonempty p.head.begin p.head.end p.records made.moments in
     let body : body_in bytes ≡ text =
-        ap (λ (n : ℕ). drop 80 (take n bytes)) (size ∙ len)
-        ∙ drop-take 80 (length text) bytes
-        ∙ ap (take (length text)) f.tail
-        ∙ take_at text rest (length text) refl in
+    ap (λ (n : ℕ). drop 80 (take n bytes)) (size ∙ len)
+    ∙ drop-take 80 (length text) bytes
+    ∙ ap (take (length text)) f.tail
+    ∙ take_at text rest (length text) refl in
     let are : AreRecords p.records text = record { text = all_weaken Fits HasText fits_has_text p.records made.fits; parts = refl } in
     let read : entries_at (body_in bytes) ≡ Some p.records = ap entries_at body ∙ records_at text p.records are in
     let passes : Passes bytes = record {
@@ -327,7 +327,7 @@ packet_read p rest bytes b =
           ∙ ap (λ (n : ℕ). records_fault p.head.begin n (Some p.records)) f.end
           ∙ rw (made.serials, made.moments) refl;
       contents = same_contents p (bytes_from 16 4 bytes) (number_from w64 24 bytes) (begin_in bytes) (end_in bytes) (number_from w64 64 bytes) (number_from w64 72 bytes) (entries_of (body_in bytes))
-      f.uuid f.stream f.begin f.end f.seq f.lost (ap entries_of body ∙ records_of text p.records are);
+          f.uuid f.stream f.begin f.end f.seq f.lost (ap entries_of body ∙ records_of text p.records are);
       size = size;
     }
 

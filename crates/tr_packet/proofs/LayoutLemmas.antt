@@ -69,8 +69,8 @@ fields_read p rest bytes is fits small =
     let t20 = to_le_bytes w32 0 ++ t24 in
     let t4 = h.uuid ++ t20 in
     let at0 : bytes ≡ magic ++ t4 =
-        is ∙ in_a_row magic h.uuid (to_le_bytes w32 0) (to_le_bytes w64 h.stream) (to_le_bytes w64 h.begin) (to_le_bytes w64 h.end) (to_le_bytes w64 bits) (to_le_bytes w64 bits)
-        (to_le_bytes w64 h.seq) (to_le_bytes w64 h.lost) (records_text p.records) rest in
+    is ∙ in_a_row magic h.uuid (to_le_bytes w32 0) (to_le_bytes w64 h.stream) (to_le_bytes w64 h.begin) (to_le_bytes w64 h.end) (to_le_bytes w64 bits) (to_le_bytes w64 bits)
+    (to_le_bytes w64 h.seq) (to_le_bytes w64 h.lost) (records_text p.records) rest in
     let at4 : drop 4 bytes ≡ t4 = behind 0 4 4 magic t4 bytes at0 refl refl in
     let at20 : drop 20 bytes ≡ t20 = behind 4 16 20 h.uuid t20 bytes at4 fits.uuid refl in
     let at24 : drop 24 bytes ≡ t24 = behind 20 4 24 (to_le_bytes w32 0) t24 bytes at20 refl refl in

@@ -6,6 +6,8 @@ mod encoding;
 mod fault;
 mod fields;
 mod head;
+pub mod laws;
+mod metadata;
 mod order;
 mod packet;
 mod seen;
@@ -15,6 +17,7 @@ pub use decoding::decode_packet;
 pub use encoding::encode_packet;
 pub use fault::PacketFault;
 pub use head::Head;
+pub use metadata::metadata_text;
 pub use packet::Packet;
 pub use view::PacketView;
 
