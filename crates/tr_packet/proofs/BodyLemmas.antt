@@ -1,6 +1,6 @@
 -- The records of a packet, read one after another.
 use Rattle.std.proofs.Common.{◌≡◌, ℕ, ◌+◌, ◌<◌, ◌≤◌, Bool, true, false, ◌&&◌, leb, ltb, eqb, List, [], ◌∷◌, ◌++◌, length, Option, Some, None, refl, sym, ap, ◌∙◌, length-append, arith}
-use Rattle.std.specs.Prelude.{Result, Ok, Err}
+use Rattle.std.specs.Prelude.{Err}
 use Rattle.std.proofs.lemmas.Bool.{le-leb, eqb-true}
 use Rattle.tr_record.specs.Records.{Entry, record_text, records_text}
 use Rattle.tr_record.specs.Reading.{◌>>=◌, entry_at, Begins}
@@ -11,7 +11,6 @@ use Rattle.tr_record.proofs.RecordLemmas.{length-record_text}
 use Rattle.tr_record.proofs.WholeLemmas.{at_records, records_at, are_none, are_first}
 use Rattle.tr_packet.specs.Order.{rise_after, in_order}
 use Rattle.tr_packet.specs.Seen.{seen_first, seen_next, verdict, judged_after, judged}
-use Rattle.tr_packet.specs.declared.fault.PacketFault.{PacketFault}
 use Rattle.tr_packet.specs.declared.fault.PacketFault.TheVariants.{BadRecord}
 use Rattle.tr_packet.specs.declared.seen.Seen.{Seen}
 

@@ -1,5 +1,5 @@
 -- What is decoded is a packet's text, and a packet's text is decoded.
-use Rattle.std.proofs.Common.{◌≡◌, ℕ, ◌+◌, ◌-◌, ◌*◌, ◌/◌, ◌%◌, ◌^◌, ◌<◌, ◌≤◌, Bool, true, false, not, cond, ◌&&◌, leb, ltb, eqb, List, [], ◌∷◌, ◌++◌, length, take, drop, Option, Some, None, refl, sym, ap, subst, ◌∙◌, append_assoc, length-append, arith, ◌↔◌, ◌⊎◌, inl, inr}
+use Rattle.std.proofs.Common.{◌≡◌, ℕ, ◌+◌, ◌*◌, ◌/◌, ◌%◌, ◌<◌, ◌≤◌, Bool, true, false, not, cond, ◌&&◌, leb, ltb, eqb, List, [], ◌∷◌, ◌++◌, length, take, drop, Option, Some, None, refl, sym, ap, subst, ◌∙◌, append_assoc, length-append, arith, ◌⊎◌, inl, inr}
 use Rattle.std.specs.Prelude.{IsTrue, Result, Ok, Err, unwrap_or}
 use Rattle.std.specs.Cmp.Lexicographic.{same_text}
 use Rattle.std.specs.Int.{w64}
@@ -15,15 +15,15 @@ use Rattle.tr_record.proofs.Fields.{AreBytes, AreBytes-take, AreBytes-drop, nume
 use Rattle.tr_record.proofs.RecordLemmas.{all_weaken, fits_has_text, weight_of-records_text}
 use Rattle.tr_record.proofs.WholeLemmas.{at_records, records_at, records_of}
 use Rattle.tr_packet.specs.Order.{serials_rise, starts_at, in_order, moments_hold}
-use Rattle.tr_packet.specs.Packets.{Contents, magic, header_text, context_text, packet_text, packet_size, MakePacket, IsPacket}
+use Rattle.tr_packet.specs.Packets.{Contents, magic, header_text, context_text, packet_text, packet_size, IsPacket}
 use Rattle.tr_packet.specs.Decoding.{Begins, number_from, bytes_from, stream_id_in, begin_in, end_in, content_size_in, packet_size_in, body_in, contents_in, sizes_hold, front_fault, records_fault, first_fault}
 use Rattle.tr_packet.specs.Seen.{verdict, judged}
 use Rattle.tr_packet.specs.declared.fault.PacketFault.{PacketFault}
 use Rattle.tr_packet.specs.declared.fault.PacketFault.TheVariants.{Short, BadMagic, BadStreamId, BadSize, BadRecord, SerialOrder, MomentOrder}
 use Rattle.tr_packet.specs.declared.head.Head.{Head}
-use Rattle.tr_packet.proofs.LayoutLemmas.{Fields, HeadFits, fields_read, fields_stand}
+use Rattle.tr_packet.proofs.LayoutLemmas.{HeadFits, fields_read, fields_stand}
 use Rattle.tr_packet.proofs.TextLemmas.{length-packet_text}
-use Rattle.tr_packet.proofs.OrderLemmas.{both, first_holds, second_holds, in_order-within, moments_hold_says, moments_hold_from}
+use Rattle.tr_packet.proofs.OrderLemmas.{both, first_holds, second_holds, in_order-within, moments_hold_says}
 
 -- ---- the front
 

@@ -1,5 +1,5 @@
 -- A packet's text says where it ends.
-use Rattle.std.proofs.Common.{◌≡◌, ℕ, List, [], ◌++◌, length, drop, sym, ap, ◌∙◌, append-nil}
+use Rattle.std.proofs.Common.{◌≡◌, ℕ, List, [], ◌++◌, drop, sym, ap, ◌∙◌, append-nil}
 use Rattle.std.proofs.lemmas.List.{drop_at}
 use Rattle.tr_packet.specs.Packets.{Contents, packet_text, packet_size, IsPacket}
 use Rattle.tr_packet.specs.Decoding.{Begins}

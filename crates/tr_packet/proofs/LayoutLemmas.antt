@@ -5,8 +5,8 @@ use Rattle.std.proofs.lemmas.List.{take_at, drop_at, drop-drop, take-append-drop
 use Rattle.tr_record.specs.Records.{records_text}
 use Rattle.tr_record.proofs.Fields.{AreBytes, AreBytes-take, AreBytes-drop, IsNumeral, numeral_32, numeral_64}
 use Rattle.tr_packet.specs.declared.head.Head.{Head}
-use Rattle.tr_packet.specs.Packets.{Contents, magic, header_text, context_text, packet_text, packet_size, IsPacket}
-use Rattle.tr_packet.specs.Decoding.{Begins, number_from, bytes_from, stream_id_in, begin_in, end_in, content_size_in, packet_size_in, contents_in}
+use Rattle.tr_packet.specs.Packets.{Contents, magic, header_text, context_text, packet_text, packet_size}
+use Rattle.tr_packet.specs.Decoding.{number_from, bytes_from, stream_id_in, begin_in, end_in, content_size_in, packet_size_in, contents_in}
 
 -- ---- what is read where a text stands
 

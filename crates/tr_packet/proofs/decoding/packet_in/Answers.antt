@@ -1,5 +1,5 @@
 use Rattle.std.proofs.Common.{arith}
-use Rattle.tr_packet.proofs.DecodingLemmas.{Decoded, front_passes, body_is, sound_records, faulty_records, late_records, packet_decoded, packet_of, whole_of, contents_are}
+use Rattle.tr_packet.proofs.DecodingLemmas.{front_passes, body_is, sound_records, late_records, packet_decoded, packet_of, whole_of, contents_are}
 use Rattle.tr_packet.proofs.decoding.packet_in.Goals as goal
 
 pub split_at-requires : goal.split_at-requires

@@ -1,8 +1,7 @@
-use Rattle.std.proofs.Common.{◌≡◌, ◌<◌, ◌∙◌, length, eqb, sym, subst, arith, rules}
-use Rattle.std.proofs.lemmas.Bool.{eqb-true, eqb-false}
+use Rattle.std.proofs.Common.{◌<◌, ◌∙◌, length, sym, subst, arith, rules}
+use Rattle.std.proofs.lemmas.Bool.{eqb-true}
 use Rattle.std.proofs.lemmas.List.{nil_from_length}
 use Rattle.tr_record.specs.Raw.{entry_of}
-use Rattle.tr_packet.specs.declared.seen.Seen.{Seen}
 use Rattle.tr_packet.proofs.BodyLemmas.{Stands, stands_first, stands_next, stands_cut, stands_end, cut_at_once, begins_longer}
 use Rattle.tr_packet.proofs.seen.count_records.Goals as goal
 
