@@ -144,16 +144,6 @@ verdict_ok true true false limit n m e = absurd (err_is_ok m MomentOrder e)
 verdict_ok true false order limit n m e = absurd (err_is_ok m MomentOrder e)
 verdict_ok false starts order limit n m e = absurd (err_is_ok m SerialOrder e)
 
-verdict_err : (rise starts order limit : Bool) (n : ℕ) (f : PacketFault) → verdict rise (starts && order) n ≡ Err f → order_fault rise (starts && (order && limit)) ≡ Some f
-verdict_err true true true limit n f e = absurd (ok_is_err n f e)
-verdict_err true true false limit n f e = ap Some (same_fault MomentOrder f e)
-verdict_err true false order limit n f e = ap Some (same_fault MomentOrder f e)
-verdict_err false starts order limit n f e = ap Some (same_fault SerialOrder f e)
-
-pub judged_err : (begin end : ℕ) (o : Option (List Entry)) (f : PacketFault) → judged begin end o ≡ Err f → records_fault begin end o ≡ Some f
-judged_err begin end None f e = ap Some (same_fault BadRecord f e)
-judged_err begin end (Some es) f e = verdict_err (serials_rise es) (starts_at begin es) (in_order begin end es) (leb end last_moment) (length es) f e
-
 pub judged_ok : (begin end n : ℕ) (o : Option (List Entry)) → judged begin end o ≡ Ok n → end ≤ last_moment → (records_fault begin end o ≡ None) × (n ≡ length (unwrap_or o []))
 judged_ok begin end n None e within = absurd (err_is_ok n BadRecord e)
 judged_ok begin end n (Some es) e within =
@@ -349,11 +339,6 @@ unfolding entries_of
 sound_records bytes body begin end n none is begin-is end-is judged-is within =
     let ok = judged_ok (begin_in bytes) (end_in bytes) n (entries_at (body_in bytes)) (sym (judged-is ∙ judged_in bytes body begin end is begin-is end-is)) within in
     (fault_behind bytes none ∙ ok.0, ok.1 ∙ ap (λ (b : List ℕ). length (unwrap_or (entries_at b) [])) (sym is))
-
-pub faulty_records : (bytes body : List ℕ) (begin end : ℕ) (f : PacketFault) → front_fault bytes ≡ None → body ≡ body_in bytes → begin ≡ begin_in bytes → end ≡ end_in bytes
-    → Err f ≡ judged begin end (entries_at body) → first_fault bytes ≡ Some f
-faulty_records bytes body begin end f none is begin-is end-is judged-is =
-    fault_behind bytes none ∙ judged_err (begin_in bytes) (end_in bytes) (entries_at (body_in bytes)) f (sym (judged-is ∙ judged_in bytes body begin end is begin-is end-is))
 
 pub late_records : (bytes body : List ℕ) (begin end n : ℕ) → front_fault bytes ≡ None → body ≡ body_in bytes → begin ≡ begin_in bytes → end ≡ end_in bytes
     → Ok n ≡ judged begin end (entries_at body) → (last_moment < begin_in bytes) ⊎ (last_moment < end_in bytes) → first_fault bytes ≡ Some MomentOrder
