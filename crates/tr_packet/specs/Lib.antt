@@ -1,2 +1,6 @@
+pub mod Decoding
+pub mod Faults
+pub mod Metadata
 pub mod Order
 pub mod Packets
+pub mod Seen

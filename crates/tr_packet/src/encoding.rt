@@ -5,13 +5,11 @@ ghost use Rattle.tr_record.specs.Records.{records_text};
 ghost use Rattle.tr_record.specs.Weight.{record_weight};
 ghost use Rattle.tr_packet.specs.Packets.{header_text, times_text, context_text, packet_text, packet_size};
 
+use crate::fields::MAGIC;
 use crate::head::Head;
 use crate::packet::Packet;
 use std::alloc::{AllocError, Allocator};
 use tr_record::{Rec, put_bytes, put_rec, put_u32, put_u64};
-
-/// The number 0xC1FC1FC1, lowest byte first.
-const MAGIC: [u8; 4] = [0xC1, 0x1F, 0xFC, 0xC1];
 
 fn put_header<A: Allocator>(out: &mut Vec<u8, A>, head: &Head)
     requires uuid { length head.now.uuid ≡ 16 }

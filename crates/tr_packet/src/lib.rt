@@ -1,14 +1,25 @@
-//! Packets of one stream: what they hold, and the bytes that they are written as.
+//! Packets of one stream: what they hold, the bytes that they are written as, and how these are read again.
 #![tactic(auto)]
 
+mod decoding;
 mod encoding;
+mod fault;
+mod fields;
 mod head;
+pub mod laws;
+mod metadata;
 mod order;
 mod packet;
+mod seen;
+mod view;
 
+pub use decoding::decode_packet;
 pub use encoding::encode_packet;
+pub use fault::PacketFault;
 pub use head::Head;
+pub use metadata::metadata_text;
 pub use packet::Packet;
+pub use view::PacketView;
 
 #[cfg(test)]
 mod tests;

@@ -1,4 +1,4 @@
-//! Worked examples of the packet format, and what makes no packet.
+//! Worked examples of the packet format and of the metadata, what makes no packet, and damaged bytes.
 
 use super::*;
 use std::alloc::Global;
@@ -86,5 +86,242 @@ fn what_makes_a_packet(rt: HostRuntime) -> Result<(), Fail> {
         let packet = Packet::checked(head()?, records(alloc, row)?);
         assert_eq!(rt; packet.is_some(), *makes, "row {number}");
     }
+    Ok(())
+}
+
+/// The packet of records 0 and 1, of moments 1 and 2 with payloads of 50 bytes, closed at moment 3: 228 bytes.
+fn two_records(alloc: Global) -> Result<Vec<u8>, Fail> {
+    let mut head = head()?;
+    head.end = moment(3)?;
+    let records = records(alloc, &[(0, 1, 50), (1, 2, 50)])?;
+    let packet = Packet::checked(head, records).ok_or("a packet")?;
+    Ok(encode_packet(alloc, &packet)?)
+}
+
+/// The fault of the bytes, if any.
+fn fault_of(bytes: &[u8]) -> Option<PacketFault> {
+    decode_packet(bytes).err()
+}
+
+#[test]
+fn the_packet_of_one_record_is_read(rt: HostRuntime) -> Result<(), Fail> {
+    let (packet, size) = decode_packet(&ONE)?;
+    assert_eq!(rt; size, 105);
+    assert_eq!(rt; packet.head(), head()?);
+    assert_eq!(rt; packet.count(), 1);
+    let mut records = packet.records();
+    let r = records.next().ok_or("a record")?;
+    assert_eq!(rt; (r.serial(), r.moment().get(), r.id()), (0, 1, 7));
+    assert_eq!(rt; r.payload(), b"A".as_slice());
+    assert!(rt; records.next().is_none());
+    Ok(())
+}
+
+#[test]
+fn what_was_written_is_read_whatever_follows(rt: HostRuntime) -> Result<(), Fail> {
+    let alloc = rt.alloc();
+    let rows = [(4, 1, 0), (u64::MAX - 1, 1, 3), (u64::MAX, 9, 700)];
+    let mut head = head()?;
+    head.stream = 255;
+    head.seq = u64::MAX;
+    head.lost = 1 << 63;
+    let packet = Packet::checked(head, records(alloc, &rows)?).ok_or("a packet")?;
+    let mut bytes = encode_packet(alloc, &packet)?;
+    bytes.extend_from_slice(&ONE)?;
+    bytes.extend_from_slice(b"and more")?;
+    let (read, size) = decode_packet(&bytes)?;
+    assert_eq!(rt; size, 80 + 3 * 24 + 703);
+    assert_eq!(rt; read.head(), head);
+    assert_eq!(rt; read.count(), 3);
+    for (r, (serial, at, len)) in read.records().zip(rows) {
+        assert_eq!(rt;
+            (r.serial(), r.moment().get(), r.payload().len()),
+            (serial, at, len)
+        );
+    }
+    let (_, rest) = bytes.split_at_checked(size).ok_or("the bytes behind")?;
+    assert_eq!(rt; decode_packet(rest)?.1, 105);
+    Ok(())
+}
+
+#[test]
+fn a_damaged_byte(rt: HostRuntime) -> Result<(), Fail> {
+    let bytes = two_records(rt.alloc())?;
+    assert_eq!(rt; bytes.len(), 228);
+    for at in 0..bytes.len() {
+        let fault = match at {
+            0..=3 => Some(PacketFault::BadMagic),
+            20..=23 => Some(PacketFault::BadStreamId),
+            48..=63 => Some(PacketFault::BadSize),
+            100..=103 | 174..=177 => Some(PacketFault::BadRecord),
+            92..=99 => Some(PacketFault::SerialOrder),
+            32..=39 | 47 | 84..=91 | 158..=165 => Some(PacketFault::MomentOrder),
+            _ => None,
+        };
+        let mut damaged = bytes.clone()?;
+        if let Some(byte) = damaged.get_mut(at) {
+            *byte ^= 0xFF;
+        }
+        assert_eq!(rt; fault_of(&damaged), fault, "byte {at}");
+    }
+    Ok(())
+}
+
+#[test]
+fn cut_bytes_are_short(rt: HostRuntime) -> Result<(), Fail> {
+    let bytes = two_records(rt.alloc())?;
+    for len in 0..bytes.len() {
+        assert_eq!(rt;
+            fault_of(&bytes[..len]),
+            Some(PacketFault::Short),
+            "{len} bytes"
+        );
+    }
+    assert_eq!(rt; fault_of(&bytes), None);
+    Ok(())
+}
+
+#[test]
+fn sizes(rt: HostRuntime) -> Result<(), Fail> {
+    let alloc = rt.alloc();
+    let mut bytes = two_records(alloc)?;
+    bytes.extend_from_slice(&[0; 70_000])?;
+    let rows: [(u64, u64, Option<PacketFault>); 9] = [
+        (1824, 1824, None),
+        (1824, 1832, Some(PacketFault::BadSize)),
+        (1832, 1824, Some(PacketFault::BadSize)),
+        (1825, 1825, Some(PacketFault::BadSize)),
+        (8 * 103, 8 * 103, Some(PacketFault::BadSize)),
+        (8 * 104, 8 * 104, Some(PacketFault::BadRecord)),
+        (8 * 65_537, 8 * 65_537, Some(PacketFault::BadSize)),
+        (1832, 1832, Some(PacketFault::BadRecord)),
+        (1816, 1816, Some(PacketFault::BadRecord)),
+    ];
+    for (content, size, fault) in rows {
+        let mut changed = bytes.clone()?;
+        assert!(rt; changed.len() >= 64);
+        changed[48..56].copy_from_slice(&content.to_le_bytes());
+        changed[56..64].copy_from_slice(&size.to_le_bytes());
+        assert_eq!(rt; fault_of(&changed), fault, "{content} and {size}");
+    }
+    Ok(())
+}
+
+#[test]
+fn the_least_and_the_greatest_packet(rt: HostRuntime) -> Result<(), Fail> {
+    let alloc = rt.alloc();
+    for (len, size) in [(0, 104), (65_432, 65_536)] {
+        let packet = Packet::checked(head()?, records(alloc, &[(0, 1, len)])?).ok_or("a packet")?;
+        assert_eq!(rt; decode_packet(&encode_packet(alloc, &packet)?)?.1, size);
+    }
+    Ok(())
+}
+
+// All faults at once, in the decoder's order; with the first so many of them mended the next one shows.
+#[test]
+fn the_first_fault_is_answered(rt: HostRuntime) -> Result<(), Fail> {
+    let whole = two_records(rt.alloc())?;
+    let places = [0, 20, 48, 174, 92, 32];
+    for (mended, len, fault) in [
+        (0, 79, PacketFault::Short),
+        (0, 200, PacketFault::BadMagic),
+        (1, 200, PacketFault::BadStreamId),
+        (2, 200, PacketFault::BadSize),
+        (3, 200, PacketFault::Short),
+        (3, 228, PacketFault::BadRecord),
+        (4, 228, PacketFault::SerialOrder),
+        (5, 228, PacketFault::MomentOrder),
+    ] {
+        let mut bytes = whole.clone()?;
+        for at in places.iter().skip(mended) {
+            if let Some(byte) = bytes.get_mut(*at) {
+                *byte ^= 0xFF;
+            }
+        }
+        bytes.truncate(len);
+        assert_eq!(rt; fault_of(&bytes), Some(fault), "{mended} of them mended");
+    }
+    Ok(())
+}
+
+#[test]
+fn faults_have_codes_and_names(rt: HostRuntime) {
+    for (fault, code, name) in [
+        (PacketFault::Short, "P1", "Short"),
+        (PacketFault::BadMagic, "P2", "BadMagic"),
+        (PacketFault::BadStreamId, "P3", "BadStreamId"),
+        (PacketFault::BadSize, "P4", "BadSize"),
+        (PacketFault::BadRecord, "P5", "BadRecord"),
+        (PacketFault::SerialOrder, "P6", "SerialOrder"),
+        (PacketFault::MomentOrder, "P7", "MomentOrder"),
+    ] {
+        assert_eq!(rt; (fault.code(), fault.name()), (code, name));
+    }
+}
+
+/// The metadata of the trace 67e55044-10b1-426f-9247-bb680e5fe0c8, as readers of the standard take it.
+const METADATA: &str = "\
+/* CTF 1.8 */
+
+typealias integer { size = 8; align = 8; signed = false; } := uint8_t;
+typealias integer { size = 32; align = 8; signed = false; } := uint32_t;
+typealias integer { size = 64; align = 8; signed = false; } := uint64_t;
+
+trace {
+  major = 1;
+  minor = 8;
+  uuid = \"67e55044-10b1-426f-9247-bb680e5fe0c8\";
+  byte_order = le;
+  packet.header := struct {
+    uint32_t magic;
+    uint8_t uuid[16];
+    uint32_t stream_id;
+    uint64_t stream_instance_id;
+  };
+};
+
+clock {
+  name = \"moment\";
+  freq = 1000000000;
+  offset = 0;
+};
+
+typealias integer {
+  size = 64; align = 8; signed = false;
+  map = clock.moment.value;
+} := moment_t;
+
+stream {
+  id = 0;
+  packet.context := struct {
+    moment_t timestamp_begin;
+    moment_t timestamp_end;
+    uint64_t content_size;
+    uint64_t packet_size;
+    uint64_t packet_seq_num;
+    uint64_t events_discarded;
+  };
+  event.header := struct {
+    uint32_t kind;
+    moment_t timestamp;
+  };
+};
+
+event {
+  name = \"record\";
+  stream_id = 0;
+  fields := struct {
+    uint64_t serial;
+    uint32_t len;
+    uint8_t payload[len];
+  };
+};
+";
+
+#[test]
+fn the_metadata_of_a_trace(rt: HostRuntime) -> Result<(), Fail> {
+    let uuid = Uuid::parse_str("67E55044-10B1-426F-9247-BB680E5FE0C8")?;
+    let text = metadata_text(rt.alloc(), &uuid)?;
+    assert_eq!(rt; text.as_str(), METADATA);
     Ok(())
 }

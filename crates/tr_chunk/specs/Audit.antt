@@ -1,0 +1,141 @@
+-- The audit of one stream's packets.
+use Rattle.std.specs.Prelude.{◌≡◌, ℕ, ◌+◌, ◌-◌, ◌^◌, ◌<◌, Bool, true, false, ◌&&◌, not, nat_eq, nat_lt, IsTrue, List, [], ◌∷◌, ◌++◌, length, map, take, drop, min, slice_get, Option, Some, None, unwrap_or, if◌then◌else◌}
+use Rattle.std.specs.List.{AllByRecursion, flat_map, last_or}
+use Rattle.std.specs.Cmp.Lexicographic.{pointwise}
+use Rattle.tr_record.specs.Records.{Entry}
+use Rattle.tr_packet.specs.Decoding.{Begins, first_fault}
+use Rattle.tr_packet.specs.Order.{follows, serials_rise}
+use Rattle.tr_packet.specs.Packets.{Contents, IsPacket, packet_text}
+use Rattle.tr_chunk.specs.Files.{packets_text}
+use Rattle.tr_chunk.specs.declared.audit_fault.AuditCause.{AuditCause}
+use Rattle.tr_chunk.specs.declared.audit_fault.AuditCause.TheVariants.{Packet, NumberRepeat, SerialRepeat, Foreign, NoMemory}
+use Rattle.tr_chunk.specs.declared.audit_fault.AuditFault.{AuditFault}
+use Rattle.tr_chunk.specs.declared.stream_audit.StreamAudit.{StreamAudit}
+
+-- ---- what packets tell
+
+abbrev pub numbers_of : List Contents → List ℕ
+numbers_of = map (λ (p : Contents). p.head.seq)
+
+abbrev pub serials_of : List Entry → List ℕ
+serials_of = map (λ (e : Entry). e.serial)
+
+-- the records of packets, in order
+abbrev pub records_in : List Contents → List Entry
+records_in = flat_map (λ (p : Contents). p.records)
+
+abbrev pub last_number : List Contents → Option ℕ
+last_number ps = last_or None (numbers_of ps)
+
+abbrev pub last_serial : List Contents → Option ℕ
+last_serial ps = last_or None (serials_of (records_in ps))
+
+-- the numbers that are absent between two numbers, or below the first one: the first of them, and how many
+abbrev pub gap_before : Option ℕ → ℕ → List (ℕ × ℕ)
+gap_before None n = if nat_lt 0 n then (0, n) ∷ [] else []
+gap_before (Some before) n = if nat_lt (before + 1) n then (before + 1, n - (before + 1)) ∷ [] else []
+
+-- the absent numbers below the last of rising numbers, in runs as long as they can be
+abbrev pub gaps_behind : Option ℕ → List ℕ → List (ℕ × ℕ)
+gaps_behind before [] = []
+gaps_behind before (n ∷ ns) = gap_before before n ++ gaps_behind (Some n) ns
+
+-- a count that stops at the greatest u64
+abbrev pub counted : ℕ → ℕ
+counted n = min n (2 ^ 64 - 1)
+
+-- what the audit of these packets tells
+abbrev pub audit_of : {A : Type 0} → List Contents → StreamAudit A
+audit_of ps = record {
+  packets = counted (length ps);
+  records = counted (length (records_in ps));
+  gaps = gaps_behind None (numbers_of ps);
+  last_seq = last_number ps;
+  last_serial = last_serial ps;
+  last_lost = unwrap_or (last_or None (map (λ (p : Contents). p.head.lost) ps)) 0;
+}
+
+-- ---- packets of one stream
+
+-- the packet is of this trace and this stream
+abbrev pub belongs : List ℕ → ℕ → Contents → Bool
+belongs uuid stream p = pointwise nat_eq p.head.uuid uuid && nat_eq p.head.stream stream
+
+abbrev pub BelongsTo : List ℕ → ℕ → Contents → Type 0
+BelongsTo uuid stream p = IsTrue (belongs uuid stream p)
+
+-- numbers rise strictly, the first one from above the one before it, if any
+abbrev pub rise_from : Option ℕ → List ℕ → Bool
+rise_from before [] = true
+rise_from before (n ∷ ns) = follows before n && rise_from (Some n) ns
+
+-- packets of one stream, with rising numbers and rising serials
+pub record AreOfStream (uuid : List ℕ) (stream : ℕ) (ps : List Contents) : Type 0 where
+  pub packets : AllByRecursion IsPacket ps
+  pub belong : AllByRecursion (BelongsTo uuid stream) ps
+  pub numbers : IsTrue (rise_from None (numbers_of ps))
+  pub serials : IsTrue (serials_rise (records_in ps))
+
+-- ---- the first fault
+
+-- the first serial comes after the one before it, if any
+abbrev pub starts_above : Option ℕ → List Entry → Bool
+starts_above before [] = true
+starts_above before (e ∷ es) = follows before e.serial
+
+-- what is wrong with a packet, behind packets of the stream with this last number and this last serial
+abbrev pub packet_cause : List ℕ → ℕ → Option ℕ → Option ℕ → Contents → Option AuditCause
+packet_cause uuid stream number serial p =
+    if not (belongs uuid stream p) then Some Foreign
+    else if not (follows number p.head.seq) then Some NumberRepeat
+    else if not (starts_above serial p.records) then Some SerialRepeat
+    else None
+
+-- why no packet of the stream stands in front of these bytes: none stands there, or it is at fault; want of memory has no cause in them
+abbrev pub IsCause : List ℕ → ℕ → Option ℕ → Option ℕ → AuditCause → List ℕ → Type 0
+IsCause uuid stream number serial NoMemory bytes = Unit {0}
+IsCause uuid stream number serial (Packet f) bytes = first_fault bytes ≡ Some f
+IsCause uuid stream number serial cause bytes = (p : Contents) × (rest : List ℕ) × Begins p rest bytes × (packet_cause uuid stream number serial p ≡ Some cause)
+
+-- in a piece behind packets of the stream, the audit stops at this byte: such packets stand before it, and here is the cause
+pub record StopsIn (uuid : List ℕ) (stream : ℕ) (before : List Contents) (bytes : List ℕ) (offset : ℕ) (cause : AuditCause) : Type 0 where
+  pub here : List Contents
+  pub within : offset < length bytes
+  pub texts : take offset bytes ≡ packets_text here
+  pub sound : AreOfStream uuid stream (before ++ here)
+  pub is_cause : IsCause uuid stream (last_number (before ++ here)) (last_serial (before ++ here)) cause (drop offset bytes)
+
+-- the packets of all pieces, in order
+abbrev pub all_of : List (List Contents) → List Contents
+all_of = flat_map (λ (ps : List Contents). ps)
+
+-- the audit stops in this piece, and the pieces before it are packets of the stream
+pub record StopsAt (uuid : List ℕ) (stream : ℕ) (pieces : List (List ℕ)) (fault : AuditFault) : Type 0 where
+  pub before : List (List Contents)
+  pub bytes : List ℕ
+  pub texts : take fault.piece pieces ≡ map packets_text before
+  pub piece : slice_get pieces fault.piece ≡ Some bytes
+  pub stop : StopsIn uuid stream (all_of before) bytes fault.offset fault.cause
+
+-- each piece is these packets' texts end to end, and all of them are the stream's
+pub record AreAudited (uuid : List ℕ) (stream : ℕ) (pieces : List (List ℕ)) (pss : List (List Contents)) : Type 0 where
+  pub texts : pieces ≡ map packets_text pss
+  pub sound : AreOfStream uuid stream (all_of pss)
+
+-- ---- one packet more
+
+-- what is told of one packet more
+abbrev pub after_packet : {A : Type 0} → StreamAudit A → Contents → StreamAudit A
+after_packet a p = record {
+  packets = counted (a.packets + 1);
+  records = counted (a.records + length p.records);
+  gaps = a.gaps ++ gap_before a.last_seq p.head.seq;
+  last_seq = Some p.head.seq;
+  last_serial = last_or a.last_serial (serials_of p.records);
+  last_lost = p.head.lost;
+}
+
+-- the audit tells of these packets, which are the stream's
+pub record Tells {A : Type 0} (uuid : List ℕ) (stream : ℕ) (ps : List Contents) (a : StreamAudit A) : Type 0 where
+  pub sound : AreOfStream uuid stream ps
+  pub is : a ≡ audit_of ps

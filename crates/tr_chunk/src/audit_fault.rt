@@ -1,0 +1,67 @@
+//! Why an audit stops.
+
+ghost use Rattle.std.specs.Prelude.{◌≡◌};
+ghost use Rattle.tr_chunk.specs.Faults.{audit_cause_code, audit_cause_name};
+
+use thiserror::Error;
+use tr_packet::PacketFault;
+
+/// Why an audit stops, and at which packet.
+#[derive(Clone, Copy, Debug, PartialEq, Eq)]
+pub struct AuditFault {
+    /// The piece in which the packet begins, from 0.
+    pub piece: u64,
+    /// The byte of that piece at which it begins.
+    pub offset: u64,
+    /// What is wrong with it.
+    pub cause: AuditCause,
+}
+
+/// What is wrong with a packet. Of several causes an audit tells `Packet`, `Foreign`, `NumberRepeat`, `SerialRepeat`, in
+/// this order.
+#[derive(Clone, Copy, Debug, PartialEq, Eq, Error)]
+pub enum AuditCause {
+    /// No packet's text stands there.
+    #[error("A1 Packet")]
+    Packet(PacketFault),
+    /// Its number isn't above the one before.
+    #[error("A2 NumberRepeat")]
+    NumberRepeat,
+    /// Its first serial isn't above the last one before.
+    #[error("A3 SerialRepeat")]
+    SerialRepeat,
+    /// It is of another trace or another stream.
+    #[error("A4 Foreign")]
+    Foreign,
+    /// Memory was refused.
+    #[error("A5 NoMemory")]
+    NoMemory,
+}
+
+impl AuditCause {
+    /// The code that answers and documents call it by.
+    pub fn code(&self) -> &'static str
+        ensures { result.now ≡ audit_cause_code self.now }
+    {
+        match self {
+            AuditCause::Packet(_) => "A1",
+            AuditCause::NumberRepeat => "A2",
+            AuditCause::SerialRepeat => "A3",
+            AuditCause::Foreign => "A4",
+            AuditCause::NoMemory => "A5",
+        }
+    }
+
+    /// Its name, as answers print it.
+    pub fn name(&self) -> &'static str
+        ensures { result.now ≡ audit_cause_name self.now }
+    {
+        match self {
+            AuditCause::Packet(_) => "Packet",
+            AuditCause::NumberRepeat => "NumberRepeat",
+            AuditCause::SerialRepeat => "SerialRepeat",
+            AuditCause::Foreign => "Foreign",
+            AuditCause::NoMemory => "NoMemory",
+        }
+    }
+}

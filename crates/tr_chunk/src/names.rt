@@ -1,0 +1,18 @@
+//! The names of files.
+
+ghost use Rattle.std.specs.Prelude.{◌≡◌, IfOk};
+ghost use Rattle.std.specs.String.{string_bytes};
+ghost use Rattle.tr_chunk.specs.Files.{file_name};
+
+use std::alloc::{AllocError, Allocator};
+
+/// The name of a stream's file: its channel's, an underscore and its number.
+pub fn stream_file_name<A: Allocator>(
+    alloc: A,
+    channel: &str,
+    stream: u64,
+) -> Result<String<A>, AllocError>
+    ensures { IfOk result (λ s. string_bytes s ≡ file_name channel.now stream) }
+{
+    format!(in alloc; "{channel}_{stream}")
+}

@@ -1,0 +1,122 @@
+//! What an audit finds.
+
+ghost use Rattle.std.specs.Prelude.{◌≡◌, ◌++◌, [], OnOk, OnErr};
+ghost use Rattle.std.specs.List.{last_or};
+ghost use Rattle.tr_chunk.specs.Audit.{audit_of, after_packet, gap_before, serials_of};
+
+use std::alloc::{AllocError, Allocator, Global};
+use std::marker::Model;
+use tr_packet::PacketView;
+
+/// Runs of absent numbers, each its first number and how many they are. Contracts see the list.
+#[derive(Drop)]
+pub struct Gaps<A: Allocator = Global> {
+    runs: Vec<(u64, u64), A>,
+}
+
+impl<A: Allocator> Model for Gaps<A> {
+    ghost use Rattle.std.specs.Prelude.{ℕ, List};
+
+    ghost Value = { List (ℕ × ℕ) };
+
+    ghost view = { λ g. g.runs.items };
+}
+
+impl<A: Allocator> Gaps<A> {
+    /// These runs. It takes no memory.
+    pub fn new(runs: Vec<(u64, u64), A>) -> Gaps<A>
+        ensures { result ≡ runs.items }
+    {
+        Gaps { runs }
+    }
+
+    /// The runs.
+    pub fn as_slice(&self) -> &[(u64, u64)]
+        ensures { result.now ≡ self.now }
+    {
+        self.runs.as_slice()
+    }
+
+    /// The runs, given back.
+    pub fn into_runs(self) -> Vec<(u64, u64), A>
+        ensures { result.items ≡ self }
+    {
+        self.runs
+    }
+
+    /// Adds the numbers that are absent between two numbers, or below the first one.
+    fn add(&mut self, before: Option<u64>, number: u64) -> Result<(), AllocError>
+        ensures ok { OnOk result (self.new ≡ self.old ++ gap_before before number) }
+        ensures err { OnErr result (self.new ≡ self.old) }
+    {
+        let first = match before {
+            None => 0,
+            Some(u64::MAX) => return Ok(()),
+            Some(before) => before + 1,
+        };
+        if first < number {
+            self.runs.push((first, number - first))?;
+        }
+        Ok(())
+    }
+}
+
+/// What an audit finds in the packets of a stream.
+#[derive(Drop)]
+pub struct StreamAudit<A: Allocator = Global> {
+    /// How many packets there are; the count stops at the greatest u64.
+    pub packets: u64,
+    /// How many records they have; the count stops at the greatest u64.
+    pub records: u64,
+    /// The numbers below the last one that no packet has.
+    pub gaps: Gaps<A>,
+    /// The last packet's number.
+    pub last_seq: Option<u64>,
+    /// The last record's serial.
+    pub last_serial: Option<u64>,
+    /// How many records the stream had discarded by the last packet; 0 without packets.
+    pub last_lost: u64,
+}
+
+/// The last record's serial, or else the one before.
+fn last_serial(before: Option<u64>, packet: &PacketView<'_>) -> Option<u64>
+    ensures { result ≡ last_or before (serials_of packet.now.records) }
+{
+    let mut last = before;
+    let mut records = packet.records();
+    while let Some(r) = records.next() {
+        last = Some(r.serial());
+    }
+    last
+}
+
+impl<A: Allocator> StreamAudit<A> {
+    /// What there is to tell of no packet. It takes no memory.
+    pub(crate) fn new(alloc: A) -> StreamAudit<A>
+        ensures { result ≡ audit_of [] }
+    {
+        StreamAudit {
+            packets: 0,
+            records: 0,
+            gaps: Gaps::new(Vec::new(alloc)),
+            last_seq: None,
+            last_serial: None,
+            last_lost: 0,
+        }
+    }
+
+    /// Adds a packet. Where memory is refused, nothing is added.
+    pub(crate) fn add(&mut self, packet: &PacketView<'_>) -> Result<(), AllocError>
+        ensures ok { OnOk result (self.new ≡ after_packet self.old packet.now) }
+        ensures err { OnErr result (self.new ≡ self.old) }
+    {
+        let head = packet.head();
+        self.gaps.add(self.last_seq, head.seq)?;
+        self.packets = self.packets.saturating_add(1);
+        self.records = self.records.saturating_add(packet.count() as u64);
+        self.last_seq = Some(head.seq);
+        self.last_serial = last_serial(self.last_serial, packet);
+        self.last_lost = head.lost;
+        Ok(())
+    }
+}

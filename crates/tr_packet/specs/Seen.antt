@@ -1,0 +1,36 @@
+-- The records of a packet, one after another.
+use Rattle.std.specs.Prelude.{ℕ, ◌+◌, Bool, true, ◌&&◌, not, nat_eq, nat_le, nat_lt, List, length, Option, Some, None, Result, Ok, Err, if◌then◌else◌}
+use Rattle.tr_record.specs.Records.{Entry}
+use Rattle.tr_packet.specs.Order.{serials_rise, rise_after, starts_at, in_order}
+use Rattle.tr_packet.specs.declared.fault.PacketFault.{PacketFault}
+use Rattle.tr_packet.specs.declared.fault.PacketFault.TheVariants.{BadRecord, SerialOrder, MomentOrder}
+use Rattle.tr_packet.specs.declared.seen.Seen.{Seen}
+
+-- what is known of a first record, in a packet that begins at this moment
+abbrev pub seen_first : ℕ → Entry → Seen
+seen_first begin e = record { count = 1; serial = e.serial; serials_rise = true; moment = e.moment; moments_hold = nat_eq e.moment begin }
+
+-- and of one more
+abbrev pub seen_next : Seen → Entry → Seen
+seen_next s e = record {
+  count = s.count + 1;
+  serial = e.serial;
+  serials_rise = s.serials_rise && nat_lt s.serial e.serial;
+  moment = e.moment;
+  moments_hold = s.moments_hold && nat_le s.moment e.moment;
+}
+
+-- how many records there are, or the first fault of their order
+abbrev pub verdict : Bool → Bool → ℕ → Result ℕ PacketFault
+verdict serials_rise moments_hold count = if not serials_rise then Err SerialOrder else if not moments_hold then Err MomentOrder else Ok count
+
+-- of records of which some were seen and these are left, up to the moment `end`; None: what is left isn't whole records
+abbrev pub judged_after : Seen → ℕ → Option (List Entry) → Result ℕ PacketFault
+judged_after s end None = Err BadRecord
+judged_after s end (Some es) =
+    verdict (s.serials_rise && rise_after (Some s.serial) es) (s.moments_hold && in_order s.moment end es) (s.count + length es)
+
+-- of all records of a packet that begins and ends at these moments
+abbrev pub judged : ℕ → ℕ → Option (List Entry) → Result ℕ PacketFault
+judged begin end None = Err BadRecord
+judged begin end (Some es) = verdict (serials_rise es) (starts_at begin es && in_order begin end es) (length es)

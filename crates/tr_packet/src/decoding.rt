@@ -1,0 +1,37 @@
+//! Reading a packet from the front of bytes.
+
+ghost use Rattle.std.specs.Prelude.{◌≡◌, ◌/◌, ◌↔◌, ℕ, List, Ok, Err, Some, None, IfOk, IfErr, drop};
+ghost use Rattle.tr_packet.specs.Decoding.{Begins, packet_size_in, contents_in, first_fault};
+ghost use Rattle.tr_packet.specs.Packets.{Contents, packet_size};
+
+use crate::fault::PacketFault;
+use crate::fields::{FRONT, head_in, size_of_front, u64_from};
+use crate::seen::count_records;
+use crate::view::PacketView;
+
+/// The packet that the fields in front give, and how many bytes they say that it has, or the first fault.
+fn packet_in(bytes: &[u8]) -> Result<(PacketView<'_>, usize), PacketFault>
+    ensures sound { IfOk result (λ _. first_fault bytes.now ≡ None) }
+    ensures packet { IfOk result (λ x. x.0 ≡ contents_in bytes.now) }
+    ensures size { IfOk result (λ x. x.1 ≡ packet_size_in bytes.now / 8) }
+    ensures fault { IfErr result (λ f. first_fault bytes.now ≡ Some f) }
+{
+    let size = size_of_front(bytes)?;
+    let (text, _) = bytes.split_at(size);
+    let (_, body) = text.split_at(FRONT);
+    let count = count_records(body, u64_from(bytes, 32), u64_from(bytes, 40))?;
+    let Some(head) = head_in(bytes) else {
+        return Err(PacketFault::MomentOrder);
+    };
+    Ok((PacketView::new(head, count, body), size))
+}
+
+/// The packet whose text stands in front, and how many bytes that is, whatever follows. Where no packet's text stands
+/// there, the first fault of the decoder's order. It takes no memory.
+pub fn decode_packet(bytes: &[u8]) -> Result<(PacketView<'_>, usize), PacketFault>
+    ensures found { IfOk result (λ x. Begins x.0 (drop x.1 bytes.now) bytes.now × (x.1 ≡ packet_size x.0)) }
+    ensures only { (p : Contents) (rest : List ℕ) → Begins p rest bytes.now → result ≡ Ok (p, packet_size p) }
+    ensures fault { (f : PacketFault) → (result ≡ Err f) ↔ (first_fault bytes.now ≡ Some f) }
+{
+    packet_in(bytes)
+}

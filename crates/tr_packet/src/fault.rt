@@ -1,0 +1,64 @@
+//! Why no packet stands in front of bytes.
+
+ghost use Rattle.std.specs.Prelude.{◌≡◌};
+ghost use Rattle.tr_packet.specs.Faults.{packet_fault_code, packet_fault_name};
+
+use thiserror::Error;
+
+/// Why no packet stands in front of bytes. Where several apply, a decoder answers the first one of its order.
+#[derive(Clone, Copy, Debug, PartialEq, Eq, Error)]
+pub enum PacketFault {
+    /// There are fewer than 80 bytes, or fewer than packet_size says.
+    #[error("P1 Short")]
+    Short,
+    /// The first four bytes aren't the magic.
+    #[error("P2 BadMagic")]
+    BadMagic,
+    /// The stream_id isn't 0.
+    #[error("P3 BadStreamId")]
+    BadStreamId,
+    /// content_size and packet_size aren't one number of whole bytes, from 104 to 65,536.
+    #[error("P4 BadSize")]
+    BadSize,
+    /// The bytes from 80 to the packet's end aren't whole records.
+    #[error("P5 BadRecord")]
+    BadRecord,
+    /// The serials don't rise strictly.
+    #[error("P6 SerialOrder")]
+    SerialOrder,
+    /// The moments fall, begin isn't the first record's, end is before the last one's, or a moment is above the limit.
+    #[error("P7 MomentOrder")]
+    MomentOrder,
+}
+
+impl PacketFault {
+    /// The code that answers and documents call it by.
+    pub fn code(&self) -> &'static str
+        ensures { result.now ≡ packet_fault_code self.now }
+    {
+        match self {
+            PacketFault::Short => "P1",
+            PacketFault::BadMagic => "P2",
+            PacketFault::BadStreamId => "P3",
+            PacketFault::BadSize => "P4",
+            PacketFault::BadRecord => "P5",
+            PacketFault::SerialOrder => "P6",
+            PacketFault::MomentOrder => "P7",
+        }
+    }
+
+    /// Its name, as answers print it.
+    pub fn name(&self) -> &'static str
+        ensures { result.now ≡ packet_fault_name self.now }
+    {
+        match self {
+            PacketFault::Short => "Short",
+            PacketFault::BadMagic => "BadMagic",
+            PacketFault::BadStreamId => "BadStreamId",
+            PacketFault::BadSize => "BadSize",
+            PacketFault::BadRecord => "BadRecord",
+            PacketFault::SerialOrder => "SerialOrder",
+            PacketFault::MomentOrder => "MomentOrder",
+        }
+    }
+}

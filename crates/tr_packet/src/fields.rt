@@ -1,0 +1,112 @@
+//! The fields of a packet's header and context, by their places.
+
+ghost use Rattle.std.specs.Prelude.{◌≡◌, ◌+◌, ◌≤◌, ◌/◌, ◌<◌, ◌⊎◌, length, IfSome, IfNone, IfOk, IfErr, Some, None, true, false};
+ghost use Rattle.std.specs.Int.{w32, w64};
+ghost use Rattle.tr_record.specs.Records.{last_moment};
+ghost use Rattle.tr_packet.specs.Decoding.{number_from, bytes_from, packet_size_in, sizes_hold, front_fault, begin_in, end_in, contents_in};
+
+use crate::fault::PacketFault;
+use crate::head::Head;
+use tr_record::{Moment, u32_at, u64_at};
+use uuid::Uuid;
+
+/// The number 0xC1FC1FC1, lowest byte first.
+pub(crate) const MAGIC: [u8; 4] = [0xC1, 0x1F, 0xFC, 0xC1];
+
+/// How many bytes stand before the records.
+pub(crate) const FRONT: usize = 80;
+
+/// The number in the four bytes from `at` on, lowest byte first.
+fn u32_from(bytes: &[u8], at: usize) -> u32
+    requires { at + 4 ≤ length bytes.now }
+    ensures { result ≡ number_from w32 at bytes.now }
+{
+    let (_, rest) = bytes.split_at(at);
+    match u32_at(rest) {
+        Some((number, _)) => number,
+        None => unreachable!(),
+    }
+}
+
+/// The number in the eight bytes from `at` on, lowest byte first.
+pub(crate) fn u64_from(bytes: &[u8], at: usize) -> u64
+    requires { at + 8 ≤ length bytes.now }
+    ensures { result ≡ number_from w64 at bytes.now }
+{
+    let (_, rest) = bytes.split_at(at);
+    match u64_at(rest) {
+        Some((number, _)) => number,
+        None => unreachable!(),
+    }
+}
+
+/// The trace's identifier.
+fn uuid_in(bytes: &[u8]) -> Uuid
+    requires { 20 ≤ length bytes.now }
+    ensures value { result ≡ bytes_from 16 4 bytes.now }
+    ensures len { length result ≡ 16 }
+{
+    let (_, rest) = bytes.split_at(4);
+    match rest.split_first_chunk::<16>() {
+        Some((uuid, _)) => Uuid::from_bytes(*uuid),
+        None => unreachable!(),
+    }
+}
+
+/// How many bytes these sizes say: both are one multiple of 8, in bits, from 104 bytes to 65,536. None of others.
+fn bytes_of(content: u64, size: u64) -> Option<usize>
+    ensures some { IfSome result (λ n. (sizes_hold content size ≡ true) × (n ≡ size / 8)) }
+    ensures none { IfNone result (sizes_hold content size ≡ false) }
+{
+    if content != size || size % 8 != 0 {
+        return None;
+    }
+    let bytes = size / 8;
+    if !(104..=65_536).contains(&bytes) {
+        return None;
+    }
+    Some(bytes as usize)
+}
+
+/// How many bytes the packet in front has, by its fields, or the first fault of these.
+#[tactic(auto, unfolding(crate::specs::Decoding::front_fault))]
+pub(crate) fn size_of_front(bytes: &[u8]) -> Result<usize, PacketFault>
+    ensures size { IfOk result (λ n. (front_fault bytes.now ≡ None) × (n ≡ packet_size_in bytes.now / 8)) }
+    ensures fault { IfErr result (λ f. front_fault bytes.now ≡ Some f) }
+{
+    if bytes.len() < FRONT {
+        return Err(PacketFault::Short);
+    }
+    if !bytes.starts_with(&MAGIC) {
+        return Err(PacketFault::BadMagic);
+    }
+    if u32_from(bytes, 20) != 0 {
+        return Err(PacketFault::BadStreamId);
+    }
+    let Some(size) = bytes_of(u64_from(bytes, 48), u64_from(bytes, 56)) else {
+        return Err(PacketFault::BadSize);
+    };
+    if bytes.len() < size {
+        return Err(PacketFault::Short);
+    }
+    Ok(size)
+}
+
+/// What the packet in front says beside its records. None where a moment is above the limit.
+pub(crate) fn head_in(bytes: &[u8]) -> Option<Head>
+    requires { 80 ≤ length bytes.now }
+    ensures some { IfSome result (λ h. h ≡ (contents_in bytes.now).head) }
+    ensures limits { IfSome result (λ h. (begin_in bytes.now ≤ last_moment) × (end_in bytes.now ≤ last_moment)) }
+    ensures none { IfNone result ((last_moment < begin_in bytes.now) ⊎ (last_moment < end_in bytes.now)) }
+{
+    let begin = Moment::new(u64_from(bytes, 32))?;
+    let end = Moment::new(u64_from(bytes, 40))?;
+    Some(Head {
+        uuid: uuid_in(bytes),
+        stream: u64_from(bytes, 24),
+        begin,
+        end,
+        seq: u64_from(bytes, 64),
+        lost: u64_from(bytes, 72),
+    })
+}
