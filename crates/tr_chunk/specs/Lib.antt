@@ -1,0 +1,2 @@
+pub mod ArchiveName
+pub mod Civil
