@@ -1,3 +1,4 @@
+pub mod ArchiveNameLemmas
 pub mod AuditLemmas
 pub mod FileLemmas
 pub mod OnlyLemmas

@@ -1,3 +1,5 @@
+pub mod ArchiveName
 pub mod Audit
+pub mod Civil
 pub mod Faults
 pub mod Files

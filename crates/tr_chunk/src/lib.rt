@@ -1,16 +1,20 @@
 //! The files of trace chunks: their names, what is written to them, and the audit of what they hold.
 #![tactic(auto)]
 
+mod archive_names;
 mod audit;
 mod audit_fault;
 mod faults;
 mod names;
+mod offset;
 mod stream_audit;
 mod writing;
 
+pub use archive_names::archive_name;
 pub use audit::audit_stream;
 pub use audit_fault::{AuditCause, AuditFault};
 pub use faults::WriteFault;
 pub use names::stream_file_name;
+pub use offset::OffsetMinutes;
 pub use stream_audit::{Gaps, StreamAudit};
 pub use writing::{write_metadata, write_part};

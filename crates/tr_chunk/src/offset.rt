@@ -1,0 +1,47 @@
+//! The offset of a session's clock.
+
+ghost use Rattle.std.specs.Prelude.{◌≡◌, ◌↔◌, IsSome, IfSome};
+ghost use Rattle.jiff.specs.Words.{IsWithin};
+
+use std::marker::Model;
+
+/// How many whole minutes a clock is ahead of UTC, from -1,439 to 1,439. Contracts see the number.
+#[derive(Clone, Copy, Debug, PartialEq, Eq)]
+pub struct OffsetMinutes {
+    minutes: i32,
+}
+
+impl Model for OffsetMinutes {
+    ghost use Rattle.std.specs.Prelude.{ℤ};
+    ghost use Rattle.jiff.specs.Words.{IsWithin};
+
+    ghost Value = { ℤ };
+
+    ghost view = { λ o. o.minutes };
+
+    ghost invariant = { λ o. IsWithin 1439 o.minutes };
+
+    ghost inverse = { λ z. record { minutes = z } };
+}
+
+impl OffsetMinutes {
+    /// The offset of so many minutes. None where the number is outside the range.
+    pub fn new(minutes: i32) -> Option<OffsetMinutes>
+        ensures succeeds { IsSome result ↔ IsWithin 1439 minutes }
+        ensures value { IfSome result (λ o. o ≡ minutes) }
+    {
+        if (-1_439..=1_439).contains(&minutes) {
+            Some(OffsetMinutes { minutes })
+        } else {
+            None
+        }
+    }
+
+    /// The minutes ahead of UTC.
+    pub fn get(self) -> i32
+        ensures value { result ≡ self }
+        ensures within { IsWithin 1439 result }
+    {
+        self.minutes
+    }
+}
