@@ -1,2 +1,4 @@
+pub mod AuditLaws
+pub mod GapLaws
 pub mod ListLaws
 pub mod NameLaws

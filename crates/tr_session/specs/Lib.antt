@@ -1,3 +1,4 @@
+pub mod Audits
 pub mod Faults
 pub mod Names
 pub mod Session

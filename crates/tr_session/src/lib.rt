@@ -4,6 +4,7 @@
 
 mod channel;
 mod faults;
+mod laws;
 mod session;
 mod state;
 mod streams;
@@ -12,5 +13,6 @@ mod tests;
 
 pub use channel::Channel;
 pub use faults::{SessionFault, StepFault};
+pub use laws::every_audit;
 pub use session::Session;
 pub use state::State;

@@ -1,0 +1,5 @@
+use Rattle.tr_session.proofs.AuditLaws.{passes, packets-are, last-is, gaps-dropped}
+use Rattle.tr_session.proofs.laws.every_audit.Goals as goal
+
+pub returns : goal.returns
+returns g c = record { passes = passes; packets = packets-are; last = last-is _; gaps = gaps-dropped }

@@ -1,0 +1,42 @@
+-- What an audit of a stream's files tells of its history.
+use Rattle.std.specs.Prelude.{◌≡◌, ℕ, ◌+◌, Bool, ◌&&◌, nat_eq, nat_le, nat_lt, List, map, None, unwrap_or}
+use Rattle.std.specs.List.{flat_map, last_or, list_any}
+use Rattle.tr_book.specs.Parts.{PartState}
+use Rattle.tr_chunk.specs.Audit.{all_of}
+use Rattle.tr_chunk.specs.Files.{packets_text}
+use Rattle.tr_chunk.specs.declared.stream_audit.StreamAudit.{StreamAudit}
+use Rattle.tr_packet.specs.Packets.{Contents}
+use Rattle.tr_record.specs.Records.{Entry}
+use Rattle.tr_ring.specs.ClosedBuffer.{ClosedBuffer}
+use Rattle.tr_stream.specs.Fates.{all_parts}
+use Rattle.tr_stream.specs.History.{Closed, is_dropped, is_kept}
+use Rattle.tr_stream.specs.State.{StreamState}
+
+-- the packets of each part, and of all parts, in order
+abbrev pub packets_by_part : StreamState → List (List Contents)
+packets_by_part s = map (λ (p : PartState). p.packets) (all_parts s.parts)
+
+abbrev pub packets_in : StreamState → List Contents
+packets_in s = all_of (packets_by_part s)
+
+-- what the stream's files hold, one for each part
+abbrev pub files_of : StreamState → List (List ℕ)
+files_of s = map packets_text (packets_by_part s)
+
+-- what an audit tells of the last packet is what its sub-buffer had
+pub record LastIs {A : Type 0} (a : StreamAudit A) (bs : List ClosedBuffer) : Type 0 where
+  pub seq : a.last_seq ≡ last_or None (map (λ (b : ClosedBuffer). b.seq) bs)
+  pub serial : a.last_serial ≡ last_or None (map (λ (e : Entry). e.serial) (flat_map (λ (b : ClosedBuffer). b.records) bs))
+  pub lost : a.last_lost ≡ unwrap_or (last_or None (map (λ (b : ClosedBuffer). b.lost) bs)) 0
+
+-- a number lies in one of these runs, each its first number and how many they are
+abbrev pub in_runs : ℕ → List (ℕ × ℕ) → Bool
+in_runs n runs = list_any (λ (run : ℕ × ℕ). nat_le run.0 n && nat_lt n (run.0 + run.1)) runs
+
+-- the block of this number was dropped
+abbrev pub was_dropped : ℕ → List Closed → Bool
+was_dropped n cs = list_any (λ (c : Closed). nat_eq c.block.number n && is_dropped c.status) cs
+
+-- a block of a higher number was kept
+abbrev pub kept_above : ℕ → List Closed → Bool
+kept_above n cs = list_any (λ (c : Closed). nat_lt n c.block.number && is_kept c.status) cs
