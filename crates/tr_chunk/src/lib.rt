@@ -14,3 +14,6 @@ pub use faults::WriteFault;
 pub use names::stream_file_name;
 pub use stream_audit::{Gaps, StreamAudit};
 pub use writing::{write_metadata, write_part};
+
+#[cfg(test)]
+mod tests;
