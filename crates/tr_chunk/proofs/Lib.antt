@@ -1,3 +1,4 @@
 pub mod AuditLemmas
 pub mod FileLemmas
+pub mod GapLemmas
 pub mod OnlyLemmas

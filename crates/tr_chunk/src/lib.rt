@@ -4,6 +4,7 @@
 mod audit;
 mod audit_fault;
 mod faults;
+pub mod laws;
 mod names;
 mod stream_audit;
 mod writing;
