@@ -1,7 +1,7 @@
 -- What an audit tells of one packet more.
-use Rattle.std.proofs.Common.{◌≡◌, ℕ, ◌+◌, ◌-◌, ◌^◌, ◌<◌, ◌≤◌, Bool, true, false, not, cond, ◌&&◌, ltb, leb, List, [], ◌∷◌, ◌++◌, length, get_or, map, take, drop, min, Option, Some, None, refl, sym, ap, subst, ◌∙◌, append-nil, append_assoc, length-append, arith, Bor}
+use Rattle.std.proofs.Common.{◌≡◌, ℕ, ◌+◌, ◌<◌, ◌≤◌, Bool, true, false, not, cond, List, [], ◌∷◌, ◌++◌, length, get_or, map, take, drop, Option, Some, None, refl, sym, ap, subst, ◌∙◌, append-nil, append_assoc, length-append, arith, Bor}
 use Rattle.std.specs.Prelude.{IsTrue, unwrap_or}
-use Rattle.std.specs.List.{AllByRecursion, last_or}
+use Rattle.std.specs.List.{last_or}
 use Rattle.std.proofs.lemmas.List.Concat.{flat_map-append}
 use Rattle.std.proofs.lemmas.List.{map-append, get_or-map, length-map, take_at, take_all, take_more}
 use Rattle.std.proofs.lemmas.Option.{slice_get-get_or}
@@ -14,10 +14,9 @@ use Rattle.tr_packet.specs.Packets.{Contents, IsPacket, packet_text, packet_size
 use Rattle.tr_packet.proofs.OrderLemmas.{both, first_holds, second_holds}
 use Rattle.tr_packet.proofs.TextLemmas.{length-packet_text}
 use Rattle.tr_chunk.specs.Files.{packets_text}
-use Rattle.tr_chunk.specs.Audit.{numbers_of, serials_of, records_in, last_number, last_serial, gap_before, gaps_behind, counted, audit_of, belongs, BelongsTo, rise_from, AreOfStream, starts_above, packet_cause, after_packet, Tells, IsCause, StopsIn, StopsAt, AreAudited, all_of}
+use Rattle.tr_chunk.specs.Audit.{numbers_of, serials_of, records_in, last_number, last_serial, gap_before, gaps_behind, counted, audit_of, belongs, BelongsTo, rise_from, AreOfStream, starts_above, packet_cause, after_packet, Tells, StopsIn, StopsAt, AreAudited, all_of}
 use Rattle.tr_chunk.specs.declared.audit_fault.AuditCause.{AuditCause}
 use Rattle.tr_chunk.specs.declared.audit_fault.AuditCause.TheVariants.{NumberRepeat, SerialRepeat, Foreign}
-use Rattle.tr_chunk.specs.declared.audit_fault.AuditFault.{AuditFault}
 use Rattle.tr_chunk.specs.declared.stream_audit.StreamAudit.{StreamAudit}
 use Rattle.tr_chunk.proofs.FileLemmas.{packets_text-push}
 
@@ -116,10 +115,6 @@ tells_more {A = A} uuid stream ps p a b tells packet none after =
       is = after ∙ ap (λ (x : StreamAudit A). after_packet x p) tells.is ∙ sym (audit_of-push ps p);
     }
 
--- nothing was audited
-pub tells_none : {A : Type 0} (uuid : List ℕ) (stream : ℕ) (a : StreamAudit A) → a ≡ audit_of [] → Tells uuid stream [] a
-tells_none uuid stream a is = record { sound = record { packets = tt; belong = tt; numbers = refl; serials = refl }; is = is }
-
 -- ---- packets in front
 
 pub front_within : (p : Contents) (n : ℕ) (bytes : List ℕ) → Begins p (drop n bytes) bytes → n ≡ packet_size p → (0 < n) × (n ≤ length bytes)
@@ -132,9 +127,6 @@ pub record Reached {A : Type 0} (uuid : List ℕ) (stream : ℕ) (before : List 
   pub here : List Contents
   pub texts : take at bytes ≡ packets_text here
   pub tells : Tells uuid stream (before ++ here) a
-
-pub reached_none : {A : Type 0} (uuid : List ℕ) (stream : ℕ) (before : List Contents) (bytes : List ℕ) (a : StreamAudit A) → Tells uuid stream before a → Reached uuid stream before bytes 0 a
-reached_none {A = A} uuid stream before bytes a tells = record { here = []; texts = refl; tells = subst (λ (l : List Contents). Tells uuid stream l a) (sym (append-nil before)) tells }
 
 text_in_front : (p : Contents) (n : ℕ) (bytes : List ℕ) → Begins p (drop n bytes) bytes → n ≡ packet_size p → take n bytes ≡ packet_text p
 text_in_front p n bytes b size = ap (take n) b.parts ∙ take_at (packet_text p) (drop n bytes) n (length-packet_text p b.packet.uuid ∙ sym size)
@@ -152,22 +144,6 @@ reached_more {A = A} uuid stream before bytes rest at n p a b reached rest-is be
       (tells_more uuid stream (before ++ reached.here) p a b reached.tells begins.packet none after);
 }
 
-pub reached_stop : {A : Type 0} (uuid : List ℕ) (stream : ℕ) (before : List Contents) (bytes rest : List ℕ) (at : ℕ) (cause : AuditCause) (a : StreamAudit A) → Reached uuid stream before bytes at a
-    → rest ≡ drop at bytes → at < length bytes → IsCause uuid stream a.last_seq a.last_serial cause rest → StopsIn uuid stream before bytes at cause
-reached_stop {A = A} uuid stream before bytes rest at cause a reached rest-is within is = record {
-  here = reached.here;
-  within = within;
-  texts = reached.texts;
-  sound = reached.tells.sound;
-  is_cause =
-      subst (λ (t : List ℕ). IsCause uuid stream (last_number (before ++ reached.here)) (last_serial (before ++ reached.here)) cause t) rest-is
-      (subst (λ (x : StreamAudit A). IsCause uuid stream x.last_seq x.last_serial cause rest) reached.tells.is is);
-}
-
-pub reached_end : {A : Type 0} (uuid : List ℕ) (stream : ℕ) (before : List Contents) (bytes : List ℕ) (at : ℕ) (a : StreamAudit A) → Reached uuid stream before bytes at a → length bytes ≤ at
-    → (here : List Contents) × (bytes ≡ packets_text here) × Tells uuid stream (before ++ here) a
-reached_end uuid stream before bytes at a reached past = (reached.here, sym (take_all at bytes past) ∙ reached.texts, reached.tells)
-
 -- ---- pieces
 
 -- how many pieces were audited
@@ -175,9 +151,6 @@ pub record Passed {A : Type 0} (uuid : List ℕ) (stream : ℕ) (pieces : List (
   pub before : List (List Contents)
   pub texts : take i pieces ≡ map packets_text before
   pub tells : Tells uuid stream (all_of before) a
-
-pub passed_none : {A : Type 0} (uuid : List ℕ) (stream : ℕ) (pieces : List (List ℕ)) (a : StreamAudit A) → a ≡ audit_of [] → Passed uuid stream pieces 0 a
-passed_none uuid stream pieces a is = record { before = []; texts = refl; tells = tells_none uuid stream a is }
 
 all_of-push : (pss : List (List Contents)) (ps : List Contents) → all_of (pss ++ ps ∷ []) ≡ all_of pss ++ ps
 all_of-push pss ps = flat_map-append (λ (l : List Contents). l) pss (ps ∷ []) ∙ ap (λ (l : List Contents). all_of pss ++ l) (append-nil ps)

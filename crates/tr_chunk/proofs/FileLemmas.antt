@@ -1,10 +1,10 @@
 -- Packets that are written one after another.
-use Rattle.std.proofs.Common.{◌≡◌, ℕ, ◌+◌, ◌<◌, ◌≤◌, List, [], ◌∷◌, ◌++◌, length, get_or, take, drop, Option, sym, ap, subst, ◌∙◌, append-nil, append_assoc, length-append, arith}
+use Rattle.std.proofs.Common.{◌≡◌, ℕ, ◌+◌, ◌<◌, List, [], ◌∷◌, ◌++◌, length, get_or, take, drop, Option, sym, ap, subst, ◌∙◌, append-nil, append_assoc, length-append, arith}
 use Rattle.std.proofs.lemmas.List.{take_more, take-append-le, take-append-drop}
 use Rattle.std.proofs.lemmas.List.Concat.{flat_map-append}
 use Rattle.std.proofs.Math.Seq.{take-append-add}
 use Rattle.std.specs.Prelude.{Result, Ok, Err, OnErr}
-use Rattle.tr_record.specs.Bytes.{and_then_bytes}
+use Rattle.tr_record.specs.Bytes.{and_then_bytes, once_more}
 use Rattle.tr_record.proofs.ByteLemmas.{and_then_bytes-append}
 use Rattle.tr_packet.specs.Packets.{Contents, packet_text}
 use Rattle.tr_chunk.specs.Files.{packets_text, WentOut}
@@ -58,3 +58,10 @@ pub loop_cut : (start now after : Option (List ℕ)) (items ps : List Contents) 
     → now ≡ and_then_bytes start (packets_text (take i ps)) → WentOut now after (packet_text p) → WentOut start after (packets_text ps)
 loop_cut start now after items ps i p same within is =
     packets_cut start now after ps i p (subst (λ (l : List Contents). i < length l) same within) (subst (λ (l : List Contents). p ≡ get_or l i p) same is)
+
+-- failures are counted from the loop's begin on
+pub failed_since : (start now after : ℕ) → now ≡ start → after ≡ once_more now → after ≡ once_more start
+failed_since start now after same one = one ∙ ap once_more same
+
+pub same_since : (start now after : ℕ) → now ≡ start → after ≡ now → after ≡ start
+same_since start now after same one = one ∙ same

@@ -1,20 +1,19 @@
 -- Packets of a stream are audited: their texts are parted in one way, and none of them is at fault.
-use Rattle.std.proofs.Common.{◌≡◌, ℕ, zero, suc, ◌+◌, ◌<◌, ◌≤◌, Bool, true, false, not, cond, ◌&&◌, List, [], ◌∷◌, ◌++◌, length, map, take, drop, Option, Some, None, refl, sym, ap, subst, ◌∙◌, append-nil, append_assoc, length-append, arith}
-use Rattle.std.specs.Prelude.{IsTrue, slice_get, Result, Ok, Err, IfOk, IfErr, MatchResult}
+use Rattle.std.proofs.Common.{◌≡◌, ℕ, zero, suc, ◌<◌, ◌≤◌, Bool, true, not, cond, List, [], ◌∷◌, ◌++◌, length, map, take, drop, Option, Some, None, refl, sym, ap, subst, ◌∙◌, append-nil, append_assoc, length-append, arith}
+use Rattle.std.specs.Prelude.{IsTrue, slice_get}
 use Rattle.std.specs.List.{AllByRecursion, last_or}
 use Rattle.std.proofs.lemmas.List.Concat.{flat_map-append}
 use Rattle.std.proofs.lemmas.List.{map-append, take-append-drop, length-drop, take-map}
 use Rattle.tr_record.specs.Records.{Entry}
-use Rattle.tr_packet.specs.Decoding.{Begins, first_fault}
+use Rattle.tr_packet.specs.Decoding.{Begins}
 use Rattle.tr_packet.specs.Order.{follows, rise_after, serials_rise}
-use Rattle.tr_packet.specs.Packets.{Contents, IsPacket, packet_text, packet_size}
-use Rattle.tr_packet.specs.declared.fault.PacketFault.{PacketFault}
+use Rattle.tr_packet.specs.Packets.{Contents, IsPacket, packet_text}
 use Rattle.tr_packet.proofs.DecodingLemmas.{packet_read}
 use Rattle.tr_packet.proofs.LawLemmas.{one_in_front}
 use Rattle.tr_packet.proofs.OrderLemmas.{first_holds, second_holds}
 use Rattle.tr_packet.proofs.TextLemmas.{length-packet_text}
 use Rattle.tr_chunk.specs.Files.{packets_text}
-use Rattle.tr_chunk.specs.Audit.{numbers_of, serials_of, records_in, last_number, last_serial, audit_of, belongs, BelongsTo, rise_from, AreOfStream, starts_above, packet_cause, IsCause, StopsIn, StopsAt, AreAudited, all_of}
+use Rattle.tr_chunk.specs.Audit.{numbers_of, serials_of, records_in, last_number, last_serial, audit_of, belongs, BelongsTo, rise_from, AreOfStream, starts_above, packet_cause, IsCause, StopsAt, AreAudited, all_of}
 use Rattle.tr_chunk.specs.declared.audit_fault.AuditCause.{AuditCause}
 use Rattle.tr_chunk.specs.declared.audit_fault.AuditCause.TheVariants.{Packet, NumberRepeat, SerialRepeat, Foreign, NoMemory}
 use Rattle.tr_chunk.specs.declared.audit_fault.AuditFault.{AuditFault}

@@ -1,11 +1,11 @@
 -- The audit of one stream's packets.
-use Rattle.std.specs.Prelude.{◌≡◌, ℕ, ◌+◌, ◌-◌, ◌^◌, ◌<◌, Bool, true, false, ◌&&◌, not, nat_eq, nat_lt, IsTrue, List, [], ◌∷◌, ◌++◌, length, map, take, drop, min, slice_get, Option, Some, None, unwrap_or, if◌then◌else◌}
-use Rattle.std.specs.List.{AllByRecursion, flat_map, last_or}
+use Rattle.std.specs.Prelude.{◌≡◌, ℕ, ◌+◌, ◌-◌, ◌^◌, ◌<◌, Bool, true, ◌&&◌, not, nat_eq, nat_le, nat_lt, IsTrue, List, [], ◌∷◌, ◌++◌, length, map, take, drop, min, slice_get, Option, Some, None, unwrap_or, if◌then◌else◌}
+use Rattle.std.specs.List.{AllByRecursion, flat_map, last_or, list_any}
 use Rattle.std.specs.Cmp.Lexicographic.{pointwise}
 use Rattle.tr_record.specs.Records.{Entry}
 use Rattle.tr_packet.specs.Decoding.{Begins, first_fault}
 use Rattle.tr_packet.specs.Order.{follows, serials_rise}
-use Rattle.tr_packet.specs.Packets.{Contents, IsPacket, packet_text}
+use Rattle.tr_packet.specs.Packets.{Contents, IsPacket}
 use Rattle.tr_chunk.specs.Files.{packets_text}
 use Rattle.tr_chunk.specs.declared.audit_fault.AuditCause.{AuditCause}
 use Rattle.tr_chunk.specs.declared.audit_fault.AuditCause.TheVariants.{Packet, NumberRepeat, SerialRepeat, Foreign, NoMemory}
@@ -39,6 +39,24 @@ gap_before (Some before) n = if nat_lt (before + 1) n then (before + 1, n - (bef
 abbrev pub gaps_behind : Option ℕ → List ℕ → List (ℕ × ℕ)
 gaps_behind before [] = []
 gaps_behind before (n ∷ ns) = gap_before before n ++ gaps_behind (Some n) ns
+
+-- the number is one of a run
+abbrev pub is_in_run : ℕ → ℕ × ℕ → Bool
+is_in_run k run = nat_le run.0 k && nat_lt k (run.0 + run.1)
+
+-- the number is in one of the runs
+abbrev pub is_in_runs : ℕ → List (ℕ × ℕ) → Bool
+is_in_runs k = list_any (is_in_run k)
+
+-- the number is one of these
+abbrev pub is_one_of : ℕ → List ℕ → Bool
+is_one_of k = list_any (nat_eq k)
+
+-- a run isn't empty, one of these numbers stands right behind it, and one right before it where it doesn't begin at 0
+pub record IsLongest (ns : List ℕ) (run : ℕ × ℕ) : Type 0 where
+  pub some : 0 < run.1
+  pub behind : IsTrue (is_one_of (run.0 + run.1) ns)
+  pub before : 0 < run.0 → IsTrue (is_one_of (run.0 - 1) ns)
 
 -- a count that stops at the greatest u64
 abbrev pub counted : ℕ → ℕ

@@ -5,6 +5,7 @@ mod archive_names;
 mod audit;
 mod audit_fault;
 mod faults;
+pub mod laws;
 mod names;
 mod offset;
 mod stream_audit;

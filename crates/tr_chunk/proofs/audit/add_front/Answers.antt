@@ -1,5 +1,5 @@
 use Rattle.std.proofs.Common.{refl}
-use Rattle.tr_chunk.proofs.AuditLemmas.{front_within, tells_more}
+use Rattle.tr_chunk.proofs.AuditLemmas.{front_within}
 use Rattle.tr_chunk.proofs.audit.add_front.Goals as goal
 
 pub returns-in-Err-clause-err : goal.returns-in-Err-clause-err

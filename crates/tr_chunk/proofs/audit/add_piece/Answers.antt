@@ -1,5 +1,5 @@
 use Rattle.std.proofs.Common.{arith}
-use Rattle.tr_chunk.proofs.AuditLemmas.{reached_none, reached_more, reached_stop, reached_end}
+use Rattle.tr_chunk.proofs.AuditLemmas.{reached_more}
 use Rattle.tr_chunk.proofs.audit.add_piece.Goals as goal
 
 pub loop-at-preserved : goal.loop-at-preserved

@@ -1,7 +1,6 @@
-use Rattle.std.proofs.Common.{ap, ◌∙◌}
+use Rattle.std.proofs.Common.{◌∙◌}
 use Rattle.std.proofs.lemmas.Result.{err_from_is_err_and}
-use Rattle.tr_record.specs.Bytes.{once_more}
-use Rattle.tr_chunk.proofs.FileLemmas.{loop_more, loop_cut, OnErr-always}
+use Rattle.tr_chunk.proofs.FileLemmas.{loop_more, loop_cut, OnErr-always, failed_since, same_since}
 use Rattle.tr_chunk.proofs.writing.write_part.Goals as goal
 
 pub loop-packet-preserved : goal.loop-packet-preserved
@@ -22,9 +21,9 @@ returns-in_err-write_packet-clause-err g c =
 pub returns-in_err-write_packet-clause-failed : goal.returns-in_err-write_packet-clause-failed
 returns-in_err-write_packet-clause-failed g c =
     let p = err_from_is_err_and c.from_residual.result c.from_residual.ensures.1 in
-    rw (p.1, p.2) (λ e. c.in_err-write_packet.ensures.failed e ∙ ap once_more c.loop-packet.invariant.failures)
+    rw (p.1, p.2) (λ e. failed_since (g.K.ByteSink.failures c.args.sink.now) (g.K.ByteSink.failures c.loop-packet.sink) (g.K.ByteSink.failures c.write_packet.new.sink) c.loop-packet.invariant.failures (c.in_err-write_packet.ensures.failed e))
 
 pub returns-in_err-write_packet-clause-no_memory : goal.returns-in_err-write_packet-clause-no_memory
 returns-in_err-write_packet-clause-no_memory g c =
     let p = err_from_is_err_and c.from_residual.result c.from_residual.ensures.1 in
-    rw (p.1, p.2) (λ e. c.in_err-write_packet.ensures.no_memory e ∙ c.loop-packet.invariant.failures)
+    rw (p.1, p.2) (λ e. same_since (g.K.ByteSink.failures c.args.sink.now) (g.K.ByteSink.failures c.loop-packet.sink) (g.K.ByteSink.failures c.write_packet.new.sink) c.loop-packet.invariant.failures (c.in_err-write_packet.ensures.no_memory e))
