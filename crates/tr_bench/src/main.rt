@@ -1,13 +1,16 @@
-//! What `bench/run` measures of the daemon's own crates: parsing alone, and offers to one stream.
+//! What `bench/run` measures of the daemon's own crates: parsing alone, offers to one stream, and reading packets again.
 //!
 //! `tr_bench parse` reads and parses the lines of a script from standard input, and does nothing of it.
 //! `tr_bench offers CASE ROUNDS` makes 100,000 offers to a new stream, so many times.
-//! Both print what they counted and a sum over all that they were answered.
+//! `tr_bench decode ROUNDS` and `tr_bench audit ROUNDS` read packets from standard input, and then decode or audit them
+//! so many times.
+//! All print what they counted and a sum over all that they were answered.
 #![tactic(auto)]
 
 mod cases;
 mod lines;
 mod offers;
+mod packets;
 mod sums;
 #[cfg(test)]
 mod tests;
@@ -51,6 +54,42 @@ fn offer(rt: &impl Print, alloc: Global, case: &Case, rounds: u64) -> io::Result
     }
 }
 
+/// All bytes of a reader.
+fn bytes_of(alloc: Global, mut input: impl io::Read + Drop) -> io::Result<Vec<u8>> {
+    let mut bytes = Vec::new(alloc);
+    input.read_to_end(&mut bytes)?;
+    Ok(bytes)
+}
+
+fn decode(rt: &impl Print, bytes: &[u8], rounds: u64) -> io::Result<ExitCode> {
+    match packets::decode_rounds(bytes, rounds) {
+        Ok(t) => {
+            println!(rt; "packets {} records {} sum {}", t.packets, t.records, t.sum)?;
+            Ok(ExitCode::SUCCESS)
+        }
+        Err(fault) => {
+            println!(rt; "stopped {fault:?}")?;
+            Ok(ExitCode::FAILURE)
+        }
+    }
+}
+
+fn audit(rt: &impl Print, alloc: Global, bytes: &[u8], rounds: u64) -> io::Result<ExitCode> {
+    match packets::audit_rounds(alloc, bytes, rounds) {
+        Ok(t) => {
+            println!(rt;
+                "packets {} records {} gaps {} absent {} sum {}",
+                t.packets, t.records, t.gaps, t.absent, t.sum
+            )?;
+            Ok(ExitCode::SUCCESS)
+        }
+        Err(fault) => {
+            println!(rt; "stopped {fault:?}")?;
+            Ok(ExitCode::FAILURE)
+        }
+    }
+}
+
 fn main(rt: HostRuntime) -> io::Result<ExitCode> {
     let alloc: Global = rt.alloc();
     let mut given = Vec::new(alloc);
@@ -67,6 +106,16 @@ fn main(rt: HostRuntime) -> io::Result<ExitCode> {
             (Some(case), Some(rounds)) => offer(&rt, alloc, &case, rounds),
             _ => Ok(ExitCode::from(2)),
         },
+        [what @ ("decode" | "audit"), rounds] => {
+            let Some(rounds) = number(rounds, 1_000_000) else {
+                return Ok(ExitCode::from(2));
+            };
+            let bytes = bytes_of(alloc, rt.reader())?;
+            match *what {
+                "decode" => decode(&rt, &bytes, rounds),
+                _ => audit(&rt, alloc, &bytes, rounds),
+            }
+        }
         _ => Ok(ExitCode::from(2)),
     }
 }

@@ -1,8 +1,14 @@
 //! Counts that the geometry of each case decides: a sub-buffer of 4,096 bytes holds 125 records of 32 beside the packet's 80.
+//! And what two small packets hold.
 
 use crate::cases::Case;
 use crate::offers::all_rounds;
+use crate::packets::{audit_rounds, decode_rounds};
+use std::alloc::Global;
 use std::test::Fail;
+use tr_packet::{Head, Packet, encode_packet};
+use tr_record::{Moment, Rec};
+use uuid::Uuid;
 
 #[test]
 fn each_case_does_what_its_name_says(rt: HostRuntime) -> Result<(), Fail> {
@@ -29,5 +35,52 @@ fn each_case_does_what_its_name_says(rt: HostRuntime) -> Result<(), Fail> {
             "{name}"
         );
     }
+    Ok(())
+}
+
+fn moment(nanoseconds: u64) -> Result<Moment, Fail> {
+    Ok(Moment::new(nanoseconds).ok_or("a moment")?)
+}
+
+/// The packet of this number of the trace 1's stream 0, which closes at moment 9 after two lost records, with records of
+/// these serials, moments and lengths.
+fn text_of(alloc: Global, seq: u64, rows: &[(u64, u64, usize)]) -> Result<Vec<u8>, Fail> {
+    let mut records = Vec::new(alloc);
+    for (serial, at, len) in rows {
+        let payload = vec![in alloc; 0x41; *len]?;
+        if payload.len() > 100 {
+            return Err(Fail::from("a short payload"));
+        }
+        records.push(Rec::new(*serial, moment(*at)?, 7, payload))?;
+    }
+    let (_, begin, _) = *rows.first().ok_or("a record")?;
+    let head = Head {
+        uuid: Uuid::from_u128(1),
+        stream: 0,
+        begin: moment(begin)?,
+        end: moment(9)?,
+        seq,
+        lost: 2,
+    };
+    let packet = Packet::checked(head, records).ok_or("a packet")?;
+    Ok(encode_packet(alloc, &packet)?)
+}
+
+#[test]
+fn two_packets_read_again(rt: HostRuntime) -> Result<(), Fail> {
+    let alloc = rt.alloc();
+    let mut bytes = text_of(alloc, 1, &[(0, 1, 3), (1, 2, 0)])?;
+    let second = text_of(alloc, 4, &[(4, 8, 8)])?;
+    bytes.extend_from_slice(&second)?;
+    let read = decode_rounds(&bytes, 1)?;
+    // the records' numbers add up to 11, 10 and 27, and (11 * 31 + 10) * 31 + 27 is 10,908
+    assert_eq!(rt; (read.packets, read.records, read.sum), (2, 3, 10_908));
+    let twice = decode_rounds(&bytes, 2)?;
+    assert_eq!(rt; (twice.packets, twice.records), (4, 6));
+    // the numbers 0, 2 and 3 are absent; the last number and serial are 4, two records are lost: (4 * 31 + 4) * 31 + 2
+    let found = audit_rounds(alloc, &bytes, 1)?;
+    let counts = (found.packets, found.records, found.gaps, found.absent);
+    assert_eq!(rt; counts, (2, 3, 2, 3));
+    assert_eq!(rt; found.sum, 3_970);
     Ok(())
 }
