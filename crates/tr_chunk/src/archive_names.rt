@@ -1,6 +1,6 @@
 //! The names of archives.
 
-ghost use Rattle.std.specs.Prelude.{◌≡◌, ◌++◌, ◌<◌, ◌/◌, ◌%◌, OnOk, IfOk, unsigned_abs};
+ghost use Rattle.std.specs.Prelude.{◌≡◌, ◌++◌, ◌<◌, ◌/◌, ◌%◌, OnOk, IfOk};
 ghost use Rattle.std.specs.String.{string_bytes};
 ghost use Rattle.jiff_core.specs.Time.{time_seconds};
 ghost use Rattle.tr_chunk.specs.ArchiveName.{day_at, clock_seconds, two_digits, date_text, time_text, offset_text, stamp_text, archive_name_text};
