@@ -61,10 +61,7 @@ fn seq_waiting<A: Allocator>(
 ) -> Option<u64>
     ensures { result ≡ seq_waiting serial waiting.now.items }
 {
-    waiting
-        .iter()
-        .find(|b| b.has(serial))
-        .map(|b| b.seq())
+    waiting.iter().find(|b| b.has(serial)).map(|b| b.seq())
 }
 
 impl<A: Allocator + Copy> Ring<A> {

@@ -1,13 +1,13 @@
 -- An audit of a stream's files finds what its history says.
-use Rattle.std.proofs.Common.{◌≡◌, ℕ, ◌+◌, ◌≤◌, ◌<◌, zero, suc, Bool, true, false, List, [], ◌∷◌, ◌++◌, length, map, Option, Some, None, refl, sym, ◌∙◌, ap, subst, arith}
+use Rattle.std.proofs.Common.{◌≡◌, ℕ, ◌+◌, ◌≤◌, zero, suc, true, List, [], ◌∷◌, ◌++◌, map, Option, Some, None, refl, sym, ◌∙◌, ap, subst, arith}
 use Rattle.std.proofs.lemmas.Bool.Decides.{nat_tests}
 use Rattle.std.proofs.lemmas.Grind.{common_steps, flat_map-append}
 use Rattle.std.proofs.lemmas.List.{append-nil, map-append}
 use Rattle.std.specs.List.{AllByRecursion, flat_map, last_or}
 use Rattle.std.specs.Cmp.Lexicographic.{pointwise}
-use Rattle.std.specs.Prelude.{IsTrue, ◌&&◌, nat_eq, nat_lt, unwrap_or}
+use Rattle.std.specs.Prelude.{IsTrue, ◌&&◌, nat_eq, unwrap_or}
 use Rattle.tr_book.specs.Parts.{PartState}
-use Rattle.tr_chunk.specs.Audit.{numbers_of, serials_of, records_in, belongs, BelongsTo, rise_from, all_of, AreOfStream, AreAudited, audit_of}
+use Rattle.tr_chunk.specs.Audit.{numbers_of, serials_of, records_in, belongs, BelongsTo, rise_from, all_of, AreAudited, audit_of}
 use Rattle.tr_packet.specs.Order.{follows, rise_after}
 use Rattle.tr_packet.specs.Packets.{Contents, IsPacket}
 use Rattle.tr_record.specs.Records.{Entry}
@@ -20,7 +20,7 @@ use Rattle.tr_stream.proofs.ModelLaws.{well_run}
 use Rattle.tr_stream.specs.Chunks.{chunk_of, consumed_of, packet_of, part_of, parts_below}
 use Rattle.tr_stream.specs.Consistent.{Rising}
 use Rattle.tr_stream.specs.Fates.{all_parts}
-use Rattle.tr_stream.specs.History.{Closed, History, is_kept, offered_of}
+use Rattle.tr_stream.specs.History.{History, is_kept, offered_of}
 use Rattle.tr_stream.specs.Runs.{after_events}
 use Rattle.tr_stream.specs.Sound.{IsSound, IsUsable, CanBeSent}
 use Rattle.tr_stream.specs.StandsFor.{StandsFor}

@@ -1,17 +1,15 @@
 -- The runs of absent numbers are the dropped blocks.
-use Rattle.std.proofs.Common.{◌≡◌, ◌≢◌, ℕ, ◌+◌, ◌-◌, ◌≤◌, ◌<◌, zero, suc, Bool, true, false, cond, eqb, leb, ltb, List, [], ◌∷◌, ◌++◌, length, map, Option, Some, None, refl, sym, ◌∙◌, ap, subst, arith}
+use Rattle.std.proofs.Common.{◌≡◌, ℕ, ◌+◌, ◌≤◌, ◌<◌, Bool, true, false, List, [], ◌∷◌, length, map, Option, Some, None, refl, sym, ◌∙◌, ap, arith}
 use Rattle.std.proofs.lemmas.Bool.Decides.{nat_tests}
 use Rattle.std.proofs.lemmas.Grind.{common_steps}
 use Rattle.std.proofs.lemmas.List.Folds.{list_any-append}
-use Rattle.std.specs.List.{list_any}
 use Rattle.std.specs.Prelude.{nat_lt, nat_le, nat_eq, ◌&&◌, ◌||◌}
 use Rattle.tr_chunk.specs.Audit.{numbers_of, gap_before, gaps_behind}
-use Rattle.tr_packet.specs.Packets.{Contents}
 use Rattle.tr_ring.specs.ClosedBuffer.{ClosedBuffer}
 use Rattle.tr_session.specs.Audits.{in_runs, was_dropped, kept_above}
 use Rattle.tr_stream.proofs.ChunkLaws.{none_wait}
-use Rattle.tr_stream.specs.Chunks.{buffer_of, buffers_where, packet_of}
-use Rattle.tr_stream.specs.History.{Status, Waiting, Dropped, Kept, Closed, is_waiting, is_dropped, is_kept}
+use Rattle.tr_stream.specs.Chunks.{buffers_where, packet_of}
+use Rattle.tr_stream.specs.History.{Status, Waiting, Dropped, Kept, Closed, is_waiting, is_kept}
 use Rattle.tr_stream.specs.WellFormed.{NumberedFrom, AllWait, WaitLast}
 use Rattle.tr_stream.specs.declared.config.StreamConfig.{StreamConfig}
 
@@ -67,8 +65,8 @@ gap_step n place lost before c cs Dropped e numbers order le kept dropped =
     rw (e, numbers.0) (bool_dropped (low before) n place (was_dropped n cs) (kept_above n cs) _ le dropped)
 gap_step n place lost before c cs (Kept k) e numbers order le kept dropped =
     rw (e, numbers.0) (
-      list_any-append (λ (r : ℕ × ℕ). nat_le r.0 n && nat_lt n (r.0 + r.1)) (gap_before before place) (gaps_behind (Some place) (seqs (buffers_where is_kept (lost + length c.block.missed) cs)))
-      ∙ bool_kept (low before) n place (was_dropped n cs) (kept_above n cs) _ _ le (λ below. dropped-none n (place + 1) cs (omega (arith, below)) numbers.1) (in_gap before place n) kept
+    list_any-append (λ (r : ℕ × ℕ). nat_le r.0 n && nat_lt n (r.0 + r.1)) (gap_before before place) (gaps_behind (Some place) (seqs (buffers_where is_kept (lost + length c.block.missed) cs)))
+    ∙ bool_kept (low before) n place (was_dropped n cs) (kept_above n cs) _ _ le (λ below. dropped-none n (place + 1) cs (omega (arith, below)) numbers.1) (in_gap before place n) kept
     )
 
 -- the runs of absent numbers are the dropped blocks below a kept one

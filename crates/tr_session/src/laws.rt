@@ -29,5 +29,4 @@ pub fn every_audit<A: Allocator>()
     ensures gaps { (c : StreamConfig) (events : List (StreamEvent A)) (n : ℕ) → IsUsable c
         → (let h = after_events c events start in
         in_runs n (audit_of {A = A} (map (packet_of c) (consumed_of h))).gaps ≡ (was_dropped n h.closed && kept_above n h.closed)) }
-{
-}
+{}

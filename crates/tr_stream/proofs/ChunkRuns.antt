@@ -1,5 +1,5 @@
 -- A chunk has what was kept between its cuts.
-use Rattle.std.proofs.Common.{◌≡◌, ℕ, ◌+◌, max, Bool, true, false, cond, eqb, List, [], ◌∷◌, ◌++◌, length, take, refl, sym, ◌∙◌, ap, subst, append_assoc, arith}
+use Rattle.std.proofs.Common.{◌≡◌, ℕ, ◌+◌, max, Bool, true, false, cond, eqb, List, [], ◌∷◌, ◌++◌, length, take, refl, sym, ◌∙◌, ap, append_assoc, arith}
 use Rattle.std.proofs.lemmas.Bool.Decides.{nat_tests}
 use Rattle.std.proofs.lemmas.Grind.{common_steps}
 use Rattle.std.proofs.lemmas.List.{append-nil}
@@ -10,10 +10,10 @@ use Rattle.tr_stream.proofs.FormLaws.{WaitLast-push}
 use Rattle.tr_stream.proofs.ModelLaws.{well_event}
 use Rattle.tr_stream.proofs.TakeLaws.{starts}
 use Rattle.tr_stream.specs.Chunks.{chunk_of, waiting_of, ring_of, closing_if_any}
-use Rattle.tr_stream.specs.History.{is_waiting, Status, Waiting, Dropped, Kept, Closed, History, is_kept_in, discarded_of}
+use Rattle.tr_stream.specs.History.{is_waiting, Waiting, Dropped, Kept, Closed, History, is_kept_in, discarded_of}
 use Rattle.tr_stream.specs.Runs.{after_event, after_events, kept_by, kept_after_cuts, cuts_among}
 use Rattle.tr_stream.specs.Sound.{IsUsable}
-use Rattle.tr_stream.specs.Steps.{Course, Refuse, Join, Follow, Miss, Replace, course_of, after_course, entry_of, followed_by, settle_first, flushed_with, all_kept, start}
+use Rattle.tr_stream.specs.Steps.{Course, Refuse, Join, Follow, Miss, Replace, course_of, after_course, entry_of, settle_first, flushed_with, all_kept, start}
 use Rattle.tr_stream.specs.WellFormed.{IsWellFormed, WaitLast}
 use Rattle.tr_stream.specs.declared.config.StreamConfig.{StreamConfig}
 use Rattle.tr_stream.specs.declared.events.StreamEvent.{StreamEvent}

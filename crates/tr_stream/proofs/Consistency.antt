@@ -9,7 +9,7 @@ use Rattle.tr_ring.specs.ClosedBuffer.{ClosedBuffer}
 use Rattle.tr_stream.proofs.ChunkLaws.{none_wait, missed_in-cons, blocks_where-cons}
 use Rattle.tr_stream.proofs.TakeLaws.{length-parts_below}
 use Rattle.tr_ring.specs.Ring.{seq_after}
-use Rattle.tr_stream.specs.Chunks.{closing_if_any, ring_buffers, buffer_of, buffers_where, waiting_of, chunk_of, consumed_of, packet_of, part_of, parts_below}
+use Rattle.tr_stream.specs.Chunks.{closing_if_any, buffer_of, buffers_where, waiting_of, chunk_of, consumed_of, packet_of, part_of, parts_below}
 use Rattle.tr_stream.specs.Consistent.{buffer_in, buffers_in, held_buffers, Rising, CountUp, PartsFrom, first_in, first_serial, LostAgrees, SerialsFollow, GapsAgree, IsConsistent}
 use Rattle.tr_stream.specs.Fates.{all_parts}
 use Rattle.tr_stream.specs.History.{Status, Waiting, Dropped, Kept, Closed, History, is_waiting, is_dropped, is_kept, offers_in, offers_before, offered_of, missed_in, discarded_of, blocks_where}

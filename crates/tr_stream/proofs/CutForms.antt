@@ -1,12 +1,11 @@
 -- What a cut keeps of a well-formed history.
-use Rattle.std.proofs.Common.{◌≡◌, ◌≢◌, ℕ, ◌+◌, ◌≤◌, ◌<◌, true, false, cond, List, [], ◌∷◌, ◌++◌, length, refl, sym, ap, subst, ◌∙◌, arith}
+use Rattle.std.proofs.Common.{◌≡◌, ℕ, ◌+◌, ◌≤◌, ◌<◌, false, List, [], ◌∷◌, ◌++◌, length, refl, arith}
 use Rattle.std.proofs.lemmas.Bool.Decides.{nat_tests}
 use Rattle.std.proofs.lemmas.Grind.{common_steps}
-use Rattle.tr_record.specs.Records.{Entry}
 use Rattle.tr_stream.specs.Chunks.{buffers_where}
-use Rattle.tr_stream.specs.History.{Status, Waiting, Dropped, Kept, Block, Closed, is_waiting, is_dropped, is_kept_in, offers_in}
+use Rattle.tr_stream.specs.History.{Status, Waiting, Dropped, Kept, Closed, is_dropped, is_kept_in, offers_in}
 use Rattle.tr_stream.specs.Steps.{keep_waiting}
-use Rattle.tr_stream.specs.WellFormed.{NumberedFrom, AllWait, WaitLast, IsWithin, AllWithinCuts, RecordsRise, next_serial, StartsAt, Covers, CoversFrom, AllUsed, LastHeld}
+use Rattle.tr_stream.specs.WellFormed.{NumberedFrom, WaitLast, IsWithin, AllWithinCuts, Covers, CoversFrom, AllUsed, LastHeld}
 
 pub NumberedFrom-keep_waiting : (n k : ℕ) (cs : List Closed) → NumberedFrom n cs → NumberedFrom n (keep_waiting k cs)
 NumberedFrom-keep_waiting n k [] old = tt

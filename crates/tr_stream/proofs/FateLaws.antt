@@ -1,12 +1,12 @@
 -- A serial's fate by what a stream holds is its fate by the history.
-use Rattle.std.proofs.Common.{◌≡◌, ℕ, ◌+◌, ◌≤◌, ◌<◌, zero, suc, Bool, true, false, cond, eqb, ltb, List, [], ◌∷◌, ◌++◌, length, map, Option, Some, None, refl, sym, ◌∙◌, ap, subst, inl, inr, arith}
+use Rattle.std.proofs.Common.{◌≡◌, ℕ, ◌+◌, ◌≤◌, ◌<◌, zero, suc, Bool, true, false, cond, eqb, List, [], ◌∷◌, ◌++◌, length, map, Option, Some, None, refl, sym, ◌∙◌, ap, subst, inl, inr, arith}
 use Rattle.std.proofs.lemmas.Bool.{cases_eq}
 use Rattle.std.proofs.lemmas.Bool.Decides.{nat_tests}
 use Rattle.std.proofs.lemmas.Grind.{common_steps}
 use Rattle.std.proofs.lemmas.List.Sums.{sum_by-cons, count_by-le-length}
 use Rattle.std.specs.List.{list_any}
 use Rattle.std.specs.Option.{option_map, option_or, unwrap_or}
-use Rattle.std.specs.Prelude.{sum_by, count_by, find, nat_lt}
+use Rattle.std.specs.Prelude.{sum_by, count_by, nat_lt}
 use Rattle.tr_book.specs.Parts.{PartState, seq_among}
 use Rattle.tr_book.specs.declared.mode.Mode.{Mode}
 use Rattle.tr_book.specs.declared.mode.Mode.TheVariants as mode
@@ -15,8 +15,8 @@ use Rattle.tr_ring.specs.ClosedBuffer.{ClosedBuffer}
 use Rattle.tr_ring.specs.Ring.{seq_waiting, seq_of}
 use Rattle.tr_stream.proofs.ChunkLaws.{records_where-cons, missed_in-cons}
 use Rattle.tr_stream.specs.Chunks.{buffers_where, chunk_of, waiting_of, packet_of, part_of, parts_below}
-use Rattle.tr_stream.specs.Fates.{misses, is_missed, holder, status_fate, holder_fate, fate_of, all_parts, fate_in_parts, fate_in_ring, held_fate, loss_of, state_fate}
-use Rattle.tr_stream.specs.History.{Status, Waiting, Dropped, Kept, Block, Closed, History, is_waiting, is_dropped, is_kept_in, missed_in, records_where, discarded_of, offered_of, times_in}
+use Rattle.tr_stream.specs.Fates.{misses, holder, status_fate, holder_fate, fate_of, all_parts, fate_in_parts, fate_in_ring, held_fate, loss_of, state_fate}
+use Rattle.tr_stream.specs.History.{Status, Waiting, Dropped, Kept, Block, Closed, History, is_waiting, is_dropped, is_kept_in, missed_in, records_where, discarded_of, times_in}
 use Rattle.tr_stream.specs.Kept.{IsKept}
 use Rattle.tr_stream.specs.Sound.{LosesByMode}
 use Rattle.tr_stream.specs.StandsFor.{StandsFor}

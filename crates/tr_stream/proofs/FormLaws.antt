@@ -1,14 +1,11 @@
 -- What steps keep of a well-formed model.
-use Rattle.std.proofs.Common.{◌≡◌, ◌≢◌, ℕ, ◌+◌, ◌≤◌, ◌<◌, true, false, cond, eqb, ltb, List, [], ◌∷◌, ◌++◌, length, refl, sym, ap, subst, ◌∙◌, append_assoc, arith}
+use Rattle.std.proofs.Common.{◌≡◌, ◌≢◌, ℕ, ◌+◌, ◌≤◌, true, false, cond, eqb, ltb, List, [], ◌∷◌, ◌++◌, length, refl, sym, ap, subst, ◌∙◌, arith}
 use Rattle.std.proofs.lemmas.Bool.Decides.{nat_tests}
 use Rattle.std.proofs.lemmas.Grind.{common_steps}
-use Rattle.std.proofs.lemmas.List.{append-nil}
 use Rattle.std.proofs.lemmas.List.Sums.{sum_by-cons, sum_by_push}
-use Rattle.tr_stream.specs.History.{Status, Waiting, Dropped, Kept, Block, Closed, is_waiting, is_dropped, is_kept_in, offers_in, offers_before}
+use Rattle.tr_stream.specs.History.{Status, Kept, Block, Closed, is_waiting, offers_in, offers_before}
 use Rattle.tr_stream.specs.WellFormed.{NumberedFrom, AllWait, WaitLast, IsWithin, AllWithinCuts, RecordsRise, next_serial, StartsAt, Covers, CoversFrom, AllUsed, LastHeld}
-use Rattle.tr_ring.specs.ClosedBuffer.{ClosedBuffer}
 use Rattle.tr_record.specs.Records.{Entry}
-use Rattle.tr_stream.specs.Chunks.{buffers_where}
 use Rattle.tr_stream.specs.Steps.{settle_first}
 
 pub NumberedFrom-push : (n : ℕ) (cs : List Closed) (c : Closed) → NumberedFrom n cs → c.block.number ≡ n + length cs → NumberedFrom n (cs ++ c ∷ [])

@@ -1,25 +1,23 @@
 -- Each call leaves a stream sound, with a history that led to it.
-use Rattle.std.proofs.Common.{◌≡◌, ◌≢◌, ℕ, ◌+◌, ◌-◌, ◌^◌, ◌≤◌, ◌<◌, zero, suc, Bool, true, false, List, [], ◌∷◌, length, max, take, Option, Some, None, refl, sym, ◌∙◌, ap, subst, arith}
+use Rattle.std.proofs.Common.{◌≡◌, ℕ, ◌+◌, ◌^◌, ◌≤◌, ◌<◌, Bool, true, false, List, [], ◌∷◌, length, Option, Some, None, refl, sym, ◌∙◌, ap, subst, arith}
 use Rattle.std.proofs.lemmas.Bool.Decides.{nat_tests}
 use Rattle.std.proofs.lemmas.Grind.{common_steps}
 use Rattle.std.specs.Prelude.{nat_lt}
 use Rattle.tr_book.specs.declared.mode.Mode.{Mode}
 use Rattle.tr_book.specs.declared.mode.Mode.TheVariants.{Discard, Overwrite}
-use Rattle.tr_record.specs.Records.{Entry, Fits, last_moment}
-use Rattle.tr_ring.specs.Ring.{RingState, current_buffer, after_push, push_answer}
-use Rattle.tr_ring.specs.declared.pushed.Pushed.{Pushed}
-use Rattle.tr_book.specs.Book.{BookState}
+use Rattle.tr_record.specs.Records.{last_moment}
+use Rattle.tr_ring.specs.Ring.{current_buffer}
 use Rattle.tr_ring.specs.ClosedBuffer.{ClosedBuffer}
 use Rattle.tr_stream.proofs.CutLaws.{stands-cut}
 use Rattle.tr_stream.proofs.OfferLaws.{IsAccepted, accepted, not_empty, joins, follows, misses, replaces, offers}
 use Rattle.tr_stream.proofs.OpenLaws.{open-none}
-use Rattle.tr_stream.proofs.Refinement.{with_joined, with_followed, with_missed, without_oldest, stands-switched}
+use Rattle.tr_stream.proofs.Refinement.{without_oldest, stands-switched}
 use Rattle.tr_stream.proofs.SoundLaws.{sound-cut, IsNext, sound-joined, sound-missed, sound-followed, sound-without_oldest, sound-moved, sound-switched}
 use Rattle.tr_stream.proofs.TakeLaws.{starts, takes}
 use Rattle.tr_stream.specs.Kept.{IsKept}
 use Rattle.tr_stream.specs.Sound.{IsSound, IsConfig}
 use Rattle.tr_stream.specs.State.{StreamState}
-use Rattle.tr_stream.specs.StateSteps.{state_cut_at, booked, entered, refusal_of, state_unless, with_offer, state_after_offer, moved_oldest, state_after_take, state_switched, new_state, overwrites}
+use Rattle.tr_stream.specs.StateSteps.{state_cut_at, entered, refusal_of, state_unless, with_offer, state_after_offer, moved_oldest, state_after_take, state_switched, new_state, overwrites}
 use Rattle.tr_stream.specs.Steps.{cut_at, after_offer, after_take, start, switched}
 use Rattle.tr_stream.specs.declared.answers.OfferFault.{OfferFault}
 use Rattle.tr_stream.specs.declared.config.StreamConfig.{StreamConfig}

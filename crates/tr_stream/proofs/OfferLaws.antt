@@ -1,25 +1,24 @@
 -- An offer to a stream is the history's offer.
-use Rattle.std.proofs.Common.{◌≡◌, ◌≢◌, ℕ, ◌+◌, ◌-◌, ◌^◌, ◌≤◌, ◌<◌, zero, suc, Bool, true, false, List, [], ◌∷◌, length, max, zero-add, take, Option, Some, None, Result, Ok, Err, refl, sym, ◌∙◌, ap, subst, arith}
+use Rattle.std.proofs.Common.{◌≡◌, ◌≢◌, ℕ, ◌+◌, ◌-◌, ◌^◌, ◌≤◌, ◌<◌, Bool, true, false, List, [], ◌∷◌, length, zero-add, Option, Some, None, Result, Ok, Err, refl, sym, ◌∙◌, ap, subst, arith}
 use Rattle.std.proofs.lemmas.Bool.Decides.{nat_tests}
 use Rattle.std.proofs.lemmas.Grind.{common_steps}
-use Rattle.std.specs.Prelude.{nat_lt, nat_le}
+use Rattle.std.specs.Prelude.{nat_lt}
 use Rattle.tr_book.specs.declared.mode.Mode.{Mode}
 use Rattle.tr_book.specs.declared.mode.Mode.TheVariants.{Discard, Overwrite}
-use Rattle.tr_record.specs.Records.{Entry, Fits, last_moment}
+use Rattle.tr_record.specs.Records.{Entry}
 use Rattle.tr_record.specs.Weight.{weight_of}
-use Rattle.tr_ring.specs.Ring.{RingState, current_buffer}
+use Rattle.tr_ring.specs.Ring.{current_buffer}
 use Rattle.tr_ring.specs.ClosedBuffer.{ClosedBuffer}
-use Rattle.tr_stream.proofs.ChunkLaws.{records_in-cons, sum-settle_first}
+use Rattle.tr_stream.proofs.ChunkLaws.{sum-settle_first}
 use Rattle.tr_stream.proofs.Refinement.{with_joined, with_followed, with_missed, without_oldest, settled, stands-joined, stands-missed, stands-followed, stands-without_oldest}
 use Rattle.tr_stream.specs.Chunks.{waiting_of}
 use Rattle.tr_stream.specs.History.{Dropped, History, offers_in, offered_of}
 use Rattle.tr_stream.specs.Sound.{IsMade}
 use Rattle.tr_stream.specs.StandsFor.{StandsFor}
-use Rattle.tr_stream.specs.State.{StreamState, records_in}
+use Rattle.tr_stream.specs.State.{StreamState}
 use Rattle.tr_stream.specs.StateSteps.{entered, refusal_of, offer_unless, state_unless, with_offer, offered_as, offer_result, state_after_offer, overwrites}
-use Rattle.tr_stream.specs.Steps.{Course, Refuse, Join, Follow, Miss, Replace, course_of, course_when_full, course_answer, after_course, entry_of, followed_by, offer_answer, after_offer, over_oldest}
+use Rattle.tr_stream.specs.Steps.{Course, Refuse, Join, Follow, Miss, Replace, course_of, course_when_full, course_answer, after_course, entry_of, followed_by, offer_answer, after_offer}
 use Rattle.tr_stream.specs.declared.answers.OfferFault.{OfferFault}
-use Rattle.tr_stream.specs.declared.answers.OfferFault.TheVariants.{Inactive, TooBig, Spent}
 use Rattle.tr_stream.specs.declared.answers.Offered.{Offered}
 use Rattle.tr_subbuf.specs.SubBuffer.{has_room}
 use Rattle.tr_ring.specs.Ring.{push_answer}

@@ -1,9 +1,9 @@
 -- The parts of a stream are the history's chunks.
-use Rattle.std.proofs.Common.{◌≡◌, ℕ, ◌+◌, zero, suc, Bool, true, false, cond, eqb, leb, List, [], ◌∷◌, ◌++◌, length, Option, Some, None, refl, sym, ◌∙◌, ap, arith}
+use Rattle.std.proofs.Common.{◌≡◌, ℕ, ◌+◌, zero, suc, cond, eqb, leb, List, [], ◌∷◌, ◌++◌, length, Some, None, refl, arith}
 use Rattle.std.proofs.lemmas.Bool.Decides.{nat_tests}
 use Rattle.std.proofs.lemmas.Grind.{common_steps}
 use Rattle.std.specs.Prelude.{slice_get}
-use Rattle.tr_book.specs.Parts.{PartState, PartsState, part_at}
+use Rattle.tr_book.specs.Parts.{PartState, part_at}
 use Rattle.tr_stream.proofs.TakeLaws.{length-parts_below}
 use Rattle.tr_stream.specs.Chunks.{chunk_of, part_of, part_in, parts_below}
 use Rattle.tr_stream.specs.History.{History}

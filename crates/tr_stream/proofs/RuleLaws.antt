@@ -1,5 +1,5 @@
 -- A stream that stands for a history goes on doing so, and answers as the history does.
-use Rattle.std.proofs.Common.{◌≡◌, ℕ, ◌+◌, ◌≤◌, zero, suc, Bool, true, false, cond, List, [], ◌∷◌, length, Option, Some, None, refl, sym, ◌∙◌, ap, subst, arith}
+use Rattle.std.proofs.Common.{◌≡◌, ℕ, ◌+◌, ◌≤◌, Bool, true, false, cond, List, [], ◌∷◌, length, Option, Some, None, refl, sym, ◌∙◌, ap, subst, arith}
 use Rattle.std.proofs.lemmas.Bool.Decides.{nat_tests}
 use Rattle.std.specs.Prelude.{nat_lt}
 use Rattle.tr_book.specs.declared.mode.Mode.{Mode}
@@ -13,11 +13,11 @@ use Rattle.tr_stream.proofs.OfferLaws.{offers, joins, follows, misses, replaces}
 use Rattle.tr_stream.proofs.Refinement.{stands-switched}
 use Rattle.tr_stream.proofs.SoundLaws.{losses-missed, losses-without_oldest}
 use Rattle.tr_stream.proofs.TakeLaws.{starts, takes, counts-are}
-use Rattle.tr_stream.specs.Rules.{StreamRules, Traced, Agrees, by_state, by_history}
+use Rattle.tr_stream.specs.Rules.{Traced, Agrees, by_state, by_history}
 use Rattle.tr_stream.specs.Sound.{IsMade, LosesByMode}
 use Rattle.tr_stream.specs.StandsFor.{StandsFor}
 use Rattle.tr_stream.specs.State.{StreamState}
-use Rattle.tr_stream.specs.StateSteps.{entered, refusal_of, state_unless, state_after_offer, state_after_take, moved_oldest, overwrites, with_offer}
+use Rattle.tr_stream.specs.StateSteps.{entered, refusal_of, state_unless, state_after_offer, moved_oldest, overwrites, with_offer}
 use Rattle.tr_stream.specs.Steps.{after_offer}
 use Rattle.tr_stream.specs.declared.answers.OfferFault.{OfferFault}
 use Rattle.tr_stream.specs.declared.config.StreamConfig.{StreamConfig}

@@ -1,6 +1,6 @@
 -- Each inner step of a stream leaves it sound.
-use Rattle.std.proofs.Common.{◌≡◌, ◌≢◌, ℕ, ◌+◌, ◌-◌, ◌^◌, ◌≤◌, ◌<◌, Bool, List, [], ◌∷◌, ◌++◌, length, map, take, drop, min, refl, sym, ap, subst, ◌∙◌, arith}
-use Rattle.std.proofs.Common.{length-drop, length-append}
+use Rattle.std.proofs.Common.{◌≡◌, ◌≢◌, ℕ, ◌+◌, ◌^◌, ◌≤◌, ◌<◌, Bool, List, [], ◌∷◌, ◌++◌, length, map, take, drop, min, refl, sym, subst, ◌∙◌, arith}
+use Rattle.std.proofs.Common.{length-drop}
 use Rattle.std.proofs.lemmas.Grind.{common_steps}
 use Rattle.std.proofs.lemmas.List.Sums.{sum_by_push, sum_by-cons, sum_by-append}
 use Rattle.tr_book.specs.declared.mode.Mode.{Mode}
@@ -10,7 +10,7 @@ use Rattle.tr_packet.specs.Packets.{Contents, IsPacket}
 use Rattle.tr_record.specs.Records.{Entry, Fits, last_moment}
 use Rattle.tr_record.specs.Weight.{weight_of}
 use Rattle.std.specs.List.{AllByRecursion}
-use Rattle.tr_ring.specs.Ring.{RingState, IsClosedWithin, closing, seq_after}
+use Rattle.tr_ring.specs.Ring.{IsClosedWithin, closing, seq_after}
 use Rattle.tr_ring.specs.ClosedBuffer.{ClosedBuffer}
 use Rattle.tr_stream.proofs.ChunkLaws.{records_in-cons, records_in-append}
 use Rattle.tr_stream.proofs.CutLaws.{records_in-ring}
@@ -18,8 +18,8 @@ use Rattle.tr_stream.proofs.OpenLaws.{open-joined, open-one, open-missed, open-n
 use Rattle.tr_packet.proofs.OrderLemmas.{MakePacket-later}
 use Rattle.tr_stream.proofs.Refinement.{with_joined, with_followed, with_missed, without_oldest, with_moved}
 use Rattle.tr_stream.specs.Chunks.{packet_of, begin_of, closing_if_any, ring_buffers}
-use Rattle.tr_stream.specs.Sound.{IsSound, IsOpen, ArePackets, CanBeSent, LosesByMode}
-use Rattle.tr_stream.specs.State.{StreamState, records_in, in_ring}
+use Rattle.tr_stream.specs.Sound.{IsSound, ArePackets, CanBeSent, LosesByMode}
+use Rattle.tr_stream.specs.State.{StreamState, records_in}
 use Rattle.tr_stream.specs.StateSteps.{state_switched, state_cut_at}
 use Rattle.tr_stream.specs.declared.config.StreamConfig.{StreamConfig}
 

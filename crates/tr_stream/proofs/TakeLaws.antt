@@ -1,17 +1,15 @@
 -- A new stream begins a history, a take is the history's take, and the counts are the history's.
-use Rattle.std.proofs.Common.{◌≡◌, ℕ, ◌+◌, ◌-◌, ◌^◌, zero, suc, Bool, true, false, List, [], ◌∷◌, length, map, min, Result, Err, Ok, refl, sym, ◌∙◌, ap, subst, arith}
+use Rattle.std.proofs.Common.{◌≡◌, ℕ, ◌+◌, zero, suc, List, [], ◌∷◌, length, refl, sym, ◌∙◌, ap, subst, arith}
 use Rattle.std.proofs.lemmas.Bool.Decides.{nat_tests}
 use Rattle.std.proofs.lemmas.Grind.{common_steps}
-use Rattle.tr_book.specs.Parts.{bytes_of}
-use Rattle.tr_book.specs.declared.counts.Counts.{Counts}
 use Rattle.tr_ring.specs.ClosedBuffer.{ClosedBuffer}
 use Rattle.tr_stream.proofs.Refinement.{stands-moved}
-use Rattle.tr_stream.specs.Chunks.{buffers_where, waiting_of, chunk_of, packet_of, parts_below}
+use Rattle.tr_stream.specs.Chunks.{buffers_where, parts_below}
 use Rattle.tr_stream.specs.History.{Status, Kept, Closed, History, is_waiting}
 use Rattle.tr_stream.specs.StandsFor.{StandsFor}
 use Rattle.tr_stream.specs.State.{StreamState}
 use Rattle.tr_stream.specs.StateSteps.{take_result, moved_oldest, state_after_take, state_counts, new_state}
-use Rattle.tr_stream.specs.Steps.{settle_first, taken_from, take_answer, after_take, counts_of, start}
+use Rattle.tr_stream.specs.Steps.{settle_first, take_answer, after_take, counts_of, start}
 use Rattle.tr_stream.specs.declared.config.StreamConfig.{StreamConfig}
 
 -- a new stream stands for a history that begins

@@ -18,7 +18,14 @@ fn small_stream(alloc: Global, mode: Mode) -> Result<Stream, AllocError> {
     let Ok(geometry) = Geometry::new(256, 2) else {
         unreachable!()
     };
-    let mut stream = Stream::new(alloc, Uuid::from_u128(1), 0, geometry, mode, SessionMode::Local)?;
+    let mut stream = Stream::new(
+        alloc,
+        Uuid::from_u128(1),
+        0,
+        geometry,
+        mode,
+        SessionMode::Local,
+    )?;
     stream.set_active(true);
     Ok(stream)
 }

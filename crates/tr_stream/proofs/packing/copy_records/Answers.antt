@@ -1,6 +1,5 @@
-use Rattle.std.proofs.Common.{rules, ◌≡◌, ◌∷◌, [], ◌++◌, ◌∙◌, take, sym, Some}
+use Rattle.std.proofs.Common.{rules, ◌≡◌, Some}
 use Rattle.std.specs.Prelude.{slice_get}
-use Rattle.tr_record.specs.Records.{Entry}
 use Rattle.tr_stream.proofs.CallLaws.{copied-is, copied-more}
 use Rattle.tr_stream.proofs.packing.copy_records.Goals as goal
 

@@ -1,4 +1,4 @@
-use Rattle.std.proofs.Common.{rules, ◌≡◌, ◌<◌, Some, None, length, sym}
+use Rattle.std.proofs.Common.{rules, ◌≡◌, ◌<◌, Some, None, length}
 use Rattle.std.specs.Prelude.{slice_get}
 use Rattle.tr_stream.proofs.CallLaws.{is-there, waiting-at, packed-more}
 use Rattle.tr_stream.proofs.packing.waiting_packets.Goals as goal

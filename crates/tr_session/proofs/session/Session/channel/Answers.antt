@@ -1,4 +1,4 @@
-use Rattle.std.proofs.Common.{◌∙◌, ap, List, ℕ}
+use Rattle.std.proofs.Common.{◌∙◌, ap}
 use Rattle.tr_session.proofs.NameLaws.{lookup-by_name}
 use Rattle.tr_session.proofs.session.Session.channel.Goals as goal
 use Rattle.tr_session.specs.Session.{SessionOf}

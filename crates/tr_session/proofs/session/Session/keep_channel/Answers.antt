@@ -1,4 +1,4 @@
-use Rattle.std.proofs.Common.{◌≡◌, ◌∙◌, ap, List, ℕ, is_some}
+use Rattle.std.proofs.Common.{◌∙◌, ap, List, ℕ, is_some}
 use Rattle.tr_session.proofs.NameLaws.{insert_entry-new_name, is_some-by_name}
 use Rattle.tr_session.proofs.session.Session.keep_channel.Goals as goal
 use Rattle.tr_session.specs.Session.{SessionOf}

@@ -1,7 +1,6 @@
-use Rattle.std.proofs.Common.{rules, ◌≡◌, arith}
+use Rattle.std.proofs.Common.{rules, arith}
 use Rattle.tr_record.specs.Records.{Entry}
 use Rattle.tr_stream.proofs.CallLaws.{kept-pushed, booked-stored, booked-over, booked-refused}
-use Rattle.tr_stream.proofs.KeptLaws.{IsOffer}
 use Rattle.tr_stream.proofs.stream.Stream.accept.Goals as goal
 use Rattle.tr_stream.specs.State.{StreamState}
 

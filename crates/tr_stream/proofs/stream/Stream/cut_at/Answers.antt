@@ -1,5 +1,4 @@
 use Rattle.std.proofs.Common.{rules, ◌≤◌, ◌∙◌, ap, arith}
-use Rattle.tr_record.specs.Records.{last_moment}
 use Rattle.tr_stream.proofs.CallLaws.{cut-fits, cut-told, cut-is, kept-cut_now}
 use Rattle.tr_stream.proofs.SoundLaws.{closing-is_packet}
 use Rattle.tr_stream.proofs.stream.Stream.cut_at.Goals as goal

@@ -1,4 +1,4 @@
-use Rattle.std.proofs.Common.{rules, ◌≡◌, ◌∙◌, Some, None}
+use Rattle.std.proofs.Common.{rules, Some, None}
 use Rattle.tr_stream.proofs.FateLaws.{held-closed, held-current, held-ring}
 use Rattle.tr_stream.proofs.stream.Stream.held_fate.Goals as goal
 

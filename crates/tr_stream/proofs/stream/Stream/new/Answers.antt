@@ -1,4 +1,4 @@
-use Rattle.std.proofs.Common.{rules, ◌≡◌, length, sym, subst, false, arith}
+use Rattle.std.proofs.Common.{rules, ◌≡◌, length, sym, subst, false}
 use Rattle.tr_stream.proofs.CallLaws.{new-is}
 use Rattle.tr_stream.proofs.KeptLaws.{kept-new}
 use Rattle.tr_stream.proofs.stream.Stream.new.Goals as goal

@@ -1,4 +1,4 @@
-use Rattle.std.proofs.Common.{rules, ◌≡◌, sym, subst, ap, Option, None, Result, Ok, length}
+use Rattle.std.proofs.Common.{rules, ◌≡◌, sym, subst, Option, None, length}
 use Rattle.tr_stream.proofs.CallLaws.{step-accepted}
 use Rattle.tr_stream.proofs.stream.Stream.offer.Goals as goal
 use Rattle.tr_stream.specs.StateSteps.{entered, offer_unless, refusal_of, TakesMemory}

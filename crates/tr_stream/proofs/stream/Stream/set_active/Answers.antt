@@ -1,4 +1,4 @@
-use Rattle.std.proofs.Common.{rules, sym, subst}
+use Rattle.std.proofs.Common.{sym, subst}
 use Rattle.tr_stream.proofs.KeptLaws.{kept-switched}
 use Rattle.tr_stream.proofs.Refinement.{stands-switched}
 use Rattle.tr_stream.proofs.stream.Stream.set_active.Goals as goal

@@ -1,4 +1,4 @@
-use Rattle.std.proofs.Common.{rules, ◌≡◌, sym, ap, ◌∙◌}
+use Rattle.std.proofs.Common.{rules, sym}
 use Rattle.tr_stream.proofs.CallLaws.{nothing-taken, step-taken}
 use Rattle.tr_stream.proofs.stream.Stream.take.Goals as goal
 
