@@ -31,11 +31,7 @@ stands_begins bytes e n s = record {
   parts = sym (take-append-drop n bytes) ∙ ap (λ (t : List ℕ). t ++ drop n bytes) s.text;
 }
 
--- where the text of a record stands, it is read
-pub stands_read : (bytes : List ℕ) (e : Entry) (n : ℕ) → Stands e n bytes → entry_at bytes ≡ Some (e, drop n bytes)
-stands_read bytes e n s = begins_read bytes e (drop n bytes) (stands_begins bytes e n s)
-
--- and what is read stands there
+-- what is read stands there
 pub read_stands : (bytes : List ℕ) (e : Entry) (rest : List ℕ) → AreBytes bytes → entry_at bytes ≡ Some (e, rest) → e.moment ≤ last_moment → Stands e (24 + length e.payload) bytes
 read_stands bytes e rest small read in_time = begins_stands bytes e rest (read_begins bytes e rest small read) in_time
 

@@ -78,6 +78,6 @@ pub fn read_rec(bytes: &[u8]) -> Option<(RecView<'_>, usize)>
 {
     let (raw, _) = read_raw(bytes)?;
     let moment = Moment::new(raw.moment)?;
-    let size = 24 + raw.payload.len();
+    let size = FRONT + raw.payload.len();
     Some((RecView::new(raw.serial, moment, raw.id, raw.payload), size))
 }
