@@ -1,8 +1,7 @@
 //! What an audit finds.
 
 ghost use Rattle.std.specs.Prelude.{◌≡◌, ◌++◌, [], OnOk, OnErr};
-ghost use Rattle.std.specs.List.{last_or};
-ghost use Rattle.tr_chunk.specs.Audit.{audit_of, after_packet, gap_before, serials_of};
+ghost use Rattle.tr_chunk.specs.Audit.{audit_of, after_packet, gap_before};
 
 use std::alloc::{AllocError, Allocator, Global};
 use std::marker::Model;
@@ -78,18 +77,6 @@ pub struct StreamAudit<A: Allocator = Global> {
     pub last_lost: u64,
 }
 
-/// The last record's serial, or else the one before.
-fn last_serial(before: Option<u64>, packet: &PacketView<'_>) -> Option<u64>
-    ensures { result ≡ last_or before (serials_of packet.now.records) }
-{
-    let mut last = before;
-    let mut records = packet.records();
-    while let Some(r) = records.next() {
-        last = Some(r.serial());
-    }
-    last
-}
-
 impl<A: Allocator> StreamAudit<A> {
     /// What there is to tell of no packet. It takes no memory.
     pub(crate) fn new(alloc: A) -> StreamAudit<A>
@@ -115,7 +102,7 @@ impl<A: Allocator> StreamAudit<A> {
         self.packets = self.packets.saturating_add(1);
         self.records = self.records.saturating_add(packet.count() as u64);
         self.last_seq = Some(head.seq);
-        self.last_serial = last_serial(self.last_serial, packet);
+        self.last_serial = Some(packet.last_serial());
         self.last_lost = head.lost;
         Ok(())
     }

@@ -9,7 +9,7 @@ use Rattle.tr_record.proofs.Fields.{AreBytes, some_is, entry_takes}
 use Rattle.tr_record.proofs.ReadingLemmas.{read_begins, begins_read}
 use Rattle.tr_record.proofs.RecordLemmas.{length-record_text}
 use Rattle.tr_record.proofs.WholeLemmas.{at_records, records_at, are_none, are_first}
-use Rattle.tr_packet.specs.Order.{rise_after, in_order}
+use Rattle.tr_packet.specs.Order.{rise_after, last_serial_after, in_order}
 use Rattle.tr_packet.specs.Seen.{seen_first, seen_next, verdict, judged_after, judged}
 use Rattle.tr_packet.specs.declared.fault.PacketFault.TheVariants.{BadRecord}
 use Rattle.tr_packet.specs.declared.seen.Seen.{Seen}
@@ -64,8 +64,8 @@ entries_end = records_at [] [] are_none
 
 -- ---- what was seen
 
-same_verdict : (rise rise' hold hold' : Bool) (n n' : ℕ) → rise ≡ rise' → hold ≡ hold' → n ≡ n' → verdict rise hold n ≡ verdict rise' hold' n'
-same_verdict rise rise' hold hold' n n' same_rise same_hold same_count = rw (same_rise, same_hold, same_count) refl
+same_verdict : (rise rise' hold hold' : Bool) (n n' : ℕ) (last : Option ℕ) → rise ≡ rise' → hold ≡ hold' → n ≡ n' → verdict rise hold n last ≡ verdict rise' hold' n' last
+same_verdict rise rise' hold hold' n n' last same_rise same_hold same_count = rw (same_rise, same_hold, same_count) refl
 
 and_assoc : (a b c : Bool) → (a && (b && c)) ≡ ((a && b) && c)
 and_assoc true b c = refl
@@ -79,14 +79,14 @@ pub judged_first : (begin end : ℕ) (e : Entry) (o : Option (List Entry)) → j
 judged_first begin end e None = refl
 judged_first begin end e (Some es) =
     same_verdict (rise_after (Some e.serial) es) (rise_after (Some e.serial) es) (eqb e.moment begin && (leb begin e.moment && in_order e.moment end es)) (eqb e.moment begin && in_order e.moment end es)
-    (length (e ∷ es)) (1 + length es) refl (equal_is_enough e.moment begin (eqb e.moment begin) (in_order e.moment end es) refl) (omega arith)
+    (length (e ∷ es)) (1 + length es) (last_serial_after (Some e.serial) es) refl (equal_is_enough e.moment begin (eqb e.moment begin) (in_order e.moment end es) refl) (omega arith)
 
 pub judged_next : (s : Seen) (end : ℕ) (e : Entry) (o : Option (List Entry)) → judged_after s end (with_first e o) ≡ judged_after (seen_next s e) end o
 judged_next s end e None = refl
 judged_next s end e (Some es) =
     same_verdict (s.serials_rise && (ltb s.serial e.serial && rise_after (Some e.serial) es)) ((s.serials_rise && ltb s.serial e.serial) && rise_after (Some e.serial) es)
     (s.moments_hold && (leb s.moment e.moment && in_order e.moment end es)) ((s.moments_hold && leb s.moment e.moment) && in_order e.moment end es)
-    (s.count + length (e ∷ es)) ((s.count + 1) + length es)
+    (s.count + length (e ∷ es)) ((s.count + 1) + length es) (last_serial_after (Some e.serial) es)
     (and_assoc s.serials_rise (ltb s.serial e.serial) (rise_after (Some e.serial) es)) (and_assoc s.moments_hold (leb s.moment e.moment) (in_order e.moment end es)) (omega arith)
 
 -- ---- what the code's loop knows

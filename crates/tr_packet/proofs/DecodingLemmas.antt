@@ -14,7 +14,7 @@ use Rattle.tr_record.specs.Whole.{entries_at, entries_of, AreRecords, AreWhole}
 use Rattle.tr_record.proofs.Fields.{AreBytes, AreBytes-take, AreBytes-drop, numeral_64}
 use Rattle.tr_record.proofs.RecordLemmas.{all_weaken, fits_has_text, weight_of-records_text}
 use Rattle.tr_record.proofs.WholeLemmas.{at_records, records_at, records_of}
-use Rattle.tr_packet.specs.Order.{serials_rise, starts_at, in_order, moments_hold}
+use Rattle.tr_packet.specs.Order.{serials_rise, last_serial_after, starts_at, in_order, moments_hold}
 use Rattle.tr_packet.specs.Packets.{Contents, magic, header_text, context_text, packet_text, packet_size, IsPacket}
 use Rattle.tr_packet.specs.Decoding.{Begins, number_from, bytes_from, stream_id_in, begin_in, end_in, content_size_in, packet_size_in, body_in, contents_in, sizes_hold, front_fault, records_fault, first_fault}
 use Rattle.tr_packet.specs.Seen.{verdict, judged}
@@ -119,35 +119,40 @@ no_order_fault true true e = (refl, refl)
 no_order_fault true false e = absurd (some_is_none MomentOrder e)
 no_order_fault false hold e = absurd (some_is_none SerialOrder e)
 
-abbrev failed : PacketFault → Result ℕ PacketFault
+abbrev failed : PacketFault → Result (ℕ × ℕ) PacketFault
 failed f = Err f
 
-abbrev counted : ℕ → Result ℕ PacketFault
+abbrev counted : ℕ × ℕ → Result (ℕ × ℕ) PacketFault
 counted n = Ok n
 
-err_is_ok : (n : ℕ) (f : PacketFault) → failed f ≡ counted n → ⊥
+err_is_ok : (n : ℕ × ℕ) (f : PacketFault) → failed f ≡ counted n → ⊥
 err_is_ok n f e = cc
 
-ok_is_err : (n : ℕ) (f : PacketFault) → counted n ≡ failed f → ⊥
+ok_is_err : (n : ℕ × ℕ) (f : PacketFault) → counted n ≡ failed f → ⊥
 ok_is_err n f e = cc
 
 same_fault : (f g : PacketFault) → failed f ≡ failed g → f ≡ g
 same_fault f g e = cc
 
-same_count : (n m : ℕ) → counted n ≡ counted m → n ≡ m
+same_count : (n m : ℕ × ℕ) → counted n ≡ counted m → n ≡ m
 same_count n m e = cc
 
 -- records without a fault but for the limit of moments
-verdict_ok : (rise starts order limit : Bool) (n m : ℕ) → verdict rise (starts && order) n ≡ Ok m → (order_fault rise (starts && (order && limit)) ≡ order_fault true limit) × (m ≡ n)
-verdict_ok true true true limit n m e = (refl, sym (same_count n m e))
-verdict_ok true true false limit n m e = absurd (err_is_ok m MomentOrder e)
-verdict_ok true false order limit n m e = absurd (err_is_ok m MomentOrder e)
-verdict_ok false starts order limit n m e = absurd (err_is_ok m SerialOrder e)
+verdict_ok : (rise starts order limit : Bool) (n : ℕ) (last : Option ℕ) (m : ℕ × ℕ) → verdict rise (starts && order) n last ≡ Ok m
+    → (order_fault rise (starts && (order && limit)) ≡ order_fault true limit) × (m ≡ (n, unwrap_or last 0))
+verdict_ok true true true limit n last m e = (refl, sym (same_count (n, unwrap_or last 0) m e))
+verdict_ok true true false limit n last m e = absurd (err_is_ok m MomentOrder e)
+verdict_ok true false order limit n last m e = absurd (err_is_ok m MomentOrder e)
+verdict_ok false starts order limit n last m e = absurd (err_is_ok m SerialOrder e)
 
-pub judged_ok : (begin end n : ℕ) (o : Option (List Entry)) → judged begin end o ≡ Ok n → end ≤ last_moment → (records_fault begin end o ≡ None) × (n ≡ length (unwrap_or o []))
+-- how many records there are, and the last one's serial
+abbrev told : List Entry → ℕ × ℕ
+told es = (length es, unwrap_or (last_serial_after None es) 0)
+
+pub judged_ok : (begin end : ℕ) (n : ℕ × ℕ) (o : Option (List Entry)) → judged begin end o ≡ Ok n → end ≤ last_moment → (records_fault begin end o ≡ None) × (n ≡ told (unwrap_or o []))
 judged_ok begin end n None e within = absurd (err_is_ok n BadRecord e)
 judged_ok begin end n (Some es) e within =
-    let v = verdict_ok (serials_rise es) (starts_at begin es) (in_order begin end es) (leb end last_moment) (length es) n e in
+    let v = verdict_ok (serials_rise es) (starts_at begin es) (in_order begin end es) (leb end last_moment) (length es) (last_serial_after None es) n e in
     (v.0 ∙ ap (order_fault true) (le-leb end last_moment within), v.1)
 
 above : (begin end : ℕ) (es : List Entry) → starts_at begin es && in_order begin end es ≡ true → (last_moment < begin) ⊎ (last_moment < end) → leb end last_moment ≡ false
@@ -158,17 +163,17 @@ above begin end es h late =
       | inr end_late ↦ lt-leb end last_moment end_late
     ]
 
-verdict_holds : (rise hold : Bool) (n m : ℕ) → verdict rise hold n ≡ Ok m → hold ≡ true
-verdict_holds true true n m e = refl
-verdict_holds true false n m e = absurd (err_is_ok m MomentOrder e)
-verdict_holds false hold n m e = absurd (err_is_ok m SerialOrder e)
+verdict_holds : (rise hold : Bool) (n : ℕ) (last : Option ℕ) (m : ℕ × ℕ) → verdict rise hold n last ≡ Ok m → hold ≡ true
+verdict_holds true true n last m e = refl
+verdict_holds true false n last m e = absurd (err_is_ok m MomentOrder e)
+verdict_holds false hold n last m e = absurd (err_is_ok m SerialOrder e)
 
 -- a moment above the limit is the fault of records that have no other
-pub judged_late : (begin end n : ℕ) (o : Option (List Entry)) → judged begin end o ≡ Ok n → (last_moment < begin) ⊎ (last_moment < end) → records_fault begin end o ≡ Some MomentOrder
+pub judged_late : (begin end : ℕ) (n : ℕ × ℕ) (o : Option (List Entry)) → judged begin end o ≡ Ok n → (last_moment < begin) ⊎ (last_moment < end) → records_fault begin end o ≡ Some MomentOrder
 judged_late begin end n None e late = absurd (err_is_ok n BadRecord e)
 judged_late begin end n (Some es) e late =
-    let hold = verdict_holds (serials_rise es) (starts_at begin es && in_order begin end es) (length es) n e in
-    (verdict_ok (serials_rise es) (starts_at begin es) (in_order begin end es) (leb end last_moment) (length es) n e).0
+    let hold = verdict_holds (serials_rise es) (starts_at begin es && in_order begin end es) (length es) (last_serial_after None es) n e in
+    (verdict_ok (serials_rise es) (starts_at begin es) (in_order begin end es) (leb end last_moment) (length es) (last_serial_after None es) n e).0
     ∙ ap (order_fault true) (above begin end es hold late)
 
 -- ---- where no fault applies, a packet stands in front
@@ -333,17 +338,26 @@ judged_in bytes body begin end is begin-is end-is = rw (is, begin-is, end-is) re
 fault_behind : (bytes : List ℕ) → front_fault bytes ≡ None → first_fault bytes ≡ records_fault (begin_in bytes) (end_in bytes) (entries_at (body_in bytes))
 fault_behind bytes none = ap (λ (o : Option PacketFault). option_or o (records_fault (begin_in bytes) (end_in bytes) (entries_at (body_in bytes)))) none
 
-pub sound_records : (bytes body : List ℕ) (begin end n : ℕ) → front_fault bytes ≡ None → body ≡ body_in bytes → begin ≡ begin_in bytes → end ≡ end_in bytes
-    → Ok n ≡ judged begin end (entries_at body) → end_in bytes ≤ last_moment → (first_fault bytes ≡ None) × (n ≡ length (entries_of body))
+pub sound_records : (bytes body : List ℕ) (begin end : ℕ) (n : ℕ × ℕ) → front_fault bytes ≡ None → body ≡ body_in bytes → begin ≡ begin_in bytes → end ≡ end_in bytes
+    → Ok n ≡ judged begin end (entries_at body) → end_in bytes ≤ last_moment → (first_fault bytes ≡ None) × (n ≡ told (entries_of body))
 unfolding entries_of
 sound_records bytes body begin end n none is begin-is end-is judged-is within =
     let ok = judged_ok (begin_in bytes) (end_in bytes) n (entries_at (body_in bytes)) (sym (judged-is ∙ judged_in bytes body begin end is begin-is end-is)) within in
-    (fault_behind bytes none ∙ ok.0, ok.1 ∙ ap (λ (b : List ℕ). length (unwrap_or (entries_at b) [])) (sym is))
+    (fault_behind bytes none ∙ ok.0, ok.1 ∙ ap (λ (b : List ℕ). told (unwrap_or (entries_at b) [])) (sym is))
 
-pub late_records : (bytes body : List ℕ) (begin end n : ℕ) → front_fault bytes ≡ None → body ≡ body_in bytes → begin ≡ begin_in bytes → end ≡ end_in bytes
+pub late_records : (bytes body : List ℕ) (begin end : ℕ) (n : ℕ × ℕ) → front_fault bytes ≡ None → body ≡ body_in bytes → begin ≡ begin_in bytes → end ≡ end_in bytes
     → Ok n ≡ judged begin end (entries_at body) → (last_moment < begin_in bytes) ⊎ (last_moment < end_in bytes) → first_fault bytes ≡ Some MomentOrder
 late_records bytes body begin end n none is begin-is end-is judged-is late =
     fault_behind bytes none ∙ judged_late (begin_in bytes) (end_in bytes) n (entries_at (body_in bytes)) (sym (judged-is ∙ judged_in bytes body begin end is begin-is end-is)) late
+
+last_some : (before : ℕ) (es : List Entry) → last_serial_after (Some before) es ≡ Some (unwrap_or (last_serial_after (Some before) es) 0)
+last_some before [] = refl
+last_some before (e ∷ es) = last_some e.serial es
+
+-- a packet has a last record, and this is its serial
+pub last_is : (h : Head) (es : List Entry) (last : ℕ) → IsPacket (record { head = h; records = es }) → last ≡ unwrap_or (last_serial_after None es) 0 → last_serial_after None es ≡ Some last
+last_is h [] last packet is = absurd (false≢true (moments_hold_says h.begin h.end [] packet.records.moments).starts)
+last_is h (e ∷ es) last packet is = last_some e.serial es ∙ ap Some (sym is)
 
 pub packet_of : (bytes body : List ℕ) (h : Head) → IsPacket (contents_in bytes) → h ≡ (contents_in bytes).head → body ≡ body_in bytes → IsPacket (record { head = h; records = entries_of body })
 packet_of bytes body h packet head-is is =

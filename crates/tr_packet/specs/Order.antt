@@ -1,5 +1,6 @@
 -- The order of a packet's records.
-use Rattle.std.specs.Prelude.{ℕ, ◌<◌, Bool, true, false, ◌&&◌, nat_eq, nat_le, nat_lt, List, [], ◌∷◌, Option, Some, None}
+use Rattle.std.specs.Prelude.{ℕ, ◌<◌, Bool, true, false, ◌&&◌, nat_eq, nat_le, nat_lt, List, [], ◌∷◌, map, Option, Some, None}
+use Rattle.std.specs.List.{last_or}
 use Rattle.tr_record.specs.Records.{Entry, last_moment}
 
 -- a serial may come after the one before it, if any
@@ -14,6 +15,10 @@ rise_after before (e ∷ es) = follows before e.serial && rise_after (Some e.ser
 
 abbrev pub serials_rise : List Entry → Bool
 serials_rise es = rise_after None es
+
+-- the last record's serial, or else the one before, if any
+abbrev pub last_serial_after : Option ℕ → List Entry → Option ℕ
+last_serial_after before es = last_or before (map (λ (e : Entry). e.serial) es)
 
 -- the moments don't fall, from the first bound to the last one
 abbrev pub in_order : ℕ → ℕ → List Entry → Bool

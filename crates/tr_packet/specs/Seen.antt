@@ -1,7 +1,7 @@
 -- The records of a packet, one after another.
-use Rattle.std.specs.Prelude.{ℕ, ◌+◌, Bool, true, ◌&&◌, not, nat_eq, nat_le, nat_lt, List, length, Option, Some, None, Result, Ok, Err, if◌then◌else◌}
+use Rattle.std.specs.Prelude.{ℕ, ◌+◌, Bool, true, ◌&&◌, not, nat_eq, nat_le, nat_lt, List, length, Option, Some, None, unwrap_or, Result, Ok, Err, if◌then◌else◌}
 use Rattle.tr_record.specs.Records.{Entry}
-use Rattle.tr_packet.specs.Order.{serials_rise, rise_after, starts_at, in_order}
+use Rattle.tr_packet.specs.Order.{serials_rise, rise_after, last_serial_after, starts_at, in_order}
 use Rattle.tr_packet.specs.declared.fault.PacketFault.{PacketFault}
 use Rattle.tr_packet.specs.declared.fault.PacketFault.TheVariants.{BadRecord, SerialOrder, MomentOrder}
 use Rattle.tr_packet.specs.declared.seen.Seen.{Seen}
@@ -20,17 +20,17 @@ seen_next s e = record {
   moments_hold = s.moments_hold && nat_le s.moment e.moment;
 }
 
--- how many records there are, or the first fault of their order
-abbrev pub verdict : Bool → Bool → ℕ → Result ℕ PacketFault
-verdict serials_rise moments_hold count = if not serials_rise then Err SerialOrder else if not moments_hold then Err MomentOrder else Ok count
+-- how many records there are and the last one's serial, or the first fault of their order
+abbrev pub verdict : Bool → Bool → ℕ → Option ℕ → Result (ℕ × ℕ) PacketFault
+verdict serials_rise moments_hold count last = if not serials_rise then Err SerialOrder else if not moments_hold then Err MomentOrder else Ok (count, unwrap_or last 0)
 
 -- of records of which some were seen and these are left, up to the moment `end`; None: what is left isn't whole records
-abbrev pub judged_after : Seen → ℕ → Option (List Entry) → Result ℕ PacketFault
+abbrev pub judged_after : Seen → ℕ → Option (List Entry) → Result (ℕ × ℕ) PacketFault
 judged_after s end None = Err BadRecord
 judged_after s end (Some es) =
-    verdict (s.serials_rise && rise_after (Some s.serial) es) (s.moments_hold && in_order s.moment end es) (s.count + length es)
+    verdict (s.serials_rise && rise_after (Some s.serial) es) (s.moments_hold && in_order s.moment end es) (s.count + length es) (last_serial_after (Some s.serial) es)
 
 -- of all records of a packet that begins and ends at these moments
-abbrev pub judged : ℕ → ℕ → Option (List Entry) → Result ℕ PacketFault
+abbrev pub judged : ℕ → ℕ → Option (List Entry) → Result (ℕ × ℕ) PacketFault
 judged begin end None = Err BadRecord
-judged begin end (Some es) = verdict (serials_rise es) (starts_at begin es && in_order begin end es) (length es)
+judged begin end (Some es) = verdict (serials_rise es) (starts_at begin es && in_order begin end es) (length es) (last_serial_after None es)

@@ -6,7 +6,7 @@ ghost use Rattle.tr_packet.specs.Packets.{Contents, packet_size};
 
 use crate::fault::PacketFault;
 use crate::fields::{FRONT, head_in, size_of_front, u64_from};
-use crate::seen::count_records;
+use crate::seen::judge_records;
 use crate::view::PacketView;
 
 /// The packet that the fields in front give, and how many bytes they say that it has, or the first fault.
@@ -19,11 +19,11 @@ fn packet_in(bytes: &[u8]) -> Result<(PacketView<'_>, usize), PacketFault>
     let size = size_of_front(bytes)?;
     let (text, _) = bytes.split_at(size);
     let (_, body) = text.split_at(FRONT);
-    let count = count_records(body, u64_from(bytes, 32), u64_from(bytes, 40))?;
+    let (count, last_serial) = judge_records(body, u64_from(bytes, 32), u64_from(bytes, 40))?;
     let Some(head) = head_in(bytes) else {
         return Err(PacketFault::MomentOrder);
     };
-    Ok((PacketView::new(head, count, body), size))
+    Ok((PacketView::new(head, count, last_serial, body), size))
 }
 
 /// The packet whose text stands in front, and how many bytes that is, whatever follows. Where no packet's text stands

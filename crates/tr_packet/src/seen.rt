@@ -51,8 +51,9 @@ impl Seen {
         }
     }
 
-    /// All were read, of a packet that ends at this moment: how many they are, or the first fault of their order.
-    fn judge(self, end: u64) -> Result<usize, PacketFault>
+    /// All were read, of a packet that ends at this moment: how many they are and the last one's serial, or the first
+    /// fault of their order.
+    fn judge(self, end: u64) -> Result<(usize, u64), PacketFault>
         ensures { result ≡ judged_after self end (Some []) }
     {
         if !self.serials_rise {
@@ -61,13 +62,13 @@ impl Seen {
         if !self.moments_hold || end < self.moment {
             return Err(PacketFault::MomentOrder);
         }
-        Ok(self.count)
+        Ok((self.count, self.serial))
     }
 }
 
 /// How many records the bytes are, with serials that rise, and moments that begin with `begin` and don't fall up to
-/// `end`. Else the first fault. The limit of moments isn't looked at.
-pub(crate) fn count_records(body: &[u8], begin: u64, end: u64) -> Result<usize, PacketFault>
+/// `end`; and the last one's serial. Else the first fault. The limit of moments isn't looked at.
+pub(crate) fn judge_records(body: &[u8], begin: u64, end: u64) -> Result<(usize, u64), PacketFault>
     requires { 0 < length body.now }
     ensures { result ≡ judged begin end (entries_at body.now) }
 {

@@ -109,6 +109,7 @@ fn the_packet_of_one_record_is_read(rt: HostRuntime) -> Result<(), Fail> {
     assert_eq!(rt; size, 105);
     assert_eq!(rt; packet.head(), head()?);
     assert_eq!(rt; packet.count(), 1);
+    assert_eq!(rt; packet.last_serial(), 0);
     let mut records = packet.records();
     let r = records.next().ok_or("a record")?;
     assert_eq!(rt; (r.serial(), r.moment().get(), r.id()), (0, 1, 7));
@@ -133,6 +134,7 @@ fn what_was_written_is_read_whatever_follows(rt: HostRuntime) -> Result<(), Fail
     assert_eq!(rt; size, 80 + 3 * 24 + 703);
     assert_eq!(rt; read.head(), head);
     assert_eq!(rt; read.count(), 3);
+    assert_eq!(rt; read.last_serial(), u64::MAX);
     for (r, (serial, at, len)) in read.records().zip(rows) {
         assert_eq!(rt;
             (r.serial(), r.moment().get(), r.payload().len()),

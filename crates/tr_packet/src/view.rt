@@ -1,7 +1,8 @@
 //! A packet whose records lie in bytes.
 
-ghost use Rattle.std.specs.Prelude.{◌≡◌, length};
+ghost use Rattle.std.specs.Prelude.{◌≡◌, Some, None, length};
 ghost use Rattle.tr_record.specs.Whole.{AreWhole, entries_of};
+ghost use Rattle.tr_packet.specs.Order.{last_serial_after};
 ghost use Rattle.tr_packet.specs.Packets.{IsPacket};
 
 use crate::head::Head;
@@ -14,30 +15,38 @@ use tr_record::Records;
 pub struct PacketView<'a> {
     head: Head,
     count: usize,
+    last_serial: u64,
     body: &'a [u8],
 }
 
 impl<'a> Model for PacketView<'a> {
-    ghost use Rattle.std.specs.Prelude.{◌≡◌, length};
+    ghost use Rattle.std.specs.Prelude.{◌≡◌, Some, None, length};
     ghost use Rattle.tr_record.specs.Whole.{AreWhole, entries_of};
+    ghost use Rattle.tr_packet.specs.Order.{last_serial_after};
     ghost use Rattle.tr_packet.specs.Packets.{Contents, IsPacket};
 
     ghost Value = { Contents };
 
     ghost view = { λ p. record { head = p.head; records = entries_of p.body.now } };
 
-    ghost invariant = { λ p. IsPacket (record { head = p.head; records = entries_of p.body.now }) × AreWhole p.body.now × (p.count ≡ length (entries_of p.body.now)) };
+    ghost invariant = { λ p. IsPacket (record { head = p.head; records = entries_of p.body.now }) × AreWhole p.body.now × (p.count ≡ length (entries_of p.body.now)) × (last_serial_after None (entries_of p.body.now) ≡ Some p.last_serial) };
 }
 
 impl<'a> PacketView<'a> {
-    /// The packet of so many records, whose texts these bytes are.
-    pub(crate) fn new(head: Head, count: usize, body: &'a [u8]) -> PacketView<'a>
+    /// The packet of so many records with this last serial, whose texts these bytes are.
+    pub(crate) fn new(head: Head, count: usize, last_serial: u64, body: &'a [u8]) -> PacketView<'a>
         requires packet { IsPacket (record { head = head; records = entries_of body.now }) }
         requires whole { AreWhole body.now }
         requires count { count ≡ length (entries_of body.now) }
+        requires last_serial { last_serial_after None (entries_of body.now) ≡ Some last_serial }
         ensures { result ≡ record { head = head; records = entries_of body.entry.now } }
     {
-        PacketView { head, count, body }
+        PacketView {
+            head,
+            count,
+            last_serial,
+            body,
+        }
     }
 
     /// What it says beside its records.
@@ -54,6 +63,14 @@ impl<'a> PacketView<'a> {
         ensures packet { IsPacket self.now }
     {
         self.count
+    }
+
+    /// The serial of its last record. It has one at least.
+    pub fn last_serial(&self) -> u64
+        ensures value { last_serial_after None self.now.records ≡ Some result }
+        ensures packet { IsPacket self.now }
+    {
+        self.last_serial
     }
 
     /// Its records, in order.

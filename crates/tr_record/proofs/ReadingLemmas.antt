@@ -1,5 +1,5 @@
 -- A record is read exactly where its text stands in front.
-use Rattle.std.proofs.Common.{◌≡◌, ℕ, ◌+◌, ◌≤◌, List, ◌++◌, length, take, drop, Option, Some, None, IfSome, IsSomeAnd, Bor, refl, sym, ap, ◌∙◌, arith}
+use Rattle.std.proofs.Common.{◌≡◌, ℕ, ◌+◌, ◌<◌, ◌≤◌, List, ◌++◌, length, take, drop, Option, Some, None, IfSome, IsSomeAnd, Bor, refl, sym, ap, ◌∙◌, arith}
 use Rattle.std.proofs.lemmas.List.{take_at, take-append-drop, length-append}
 use Rattle.tr_record.specs.Records.{Entry, record_text, last_moment, Stands}
 use Rattle.tr_record.specs.Reading.{entry_at, Gives, Begins}
@@ -31,13 +31,16 @@ stands_begins bytes e n s = record {
   parts = sym (take-append-drop n bytes) ∙ ap (λ (t : List ℕ). t ++ drop n bytes) s.text;
 }
 
--- where the text of a record stands, it is read
-pub stands_read : (bytes : List ℕ) (e : Entry) (n : ℕ) → Stands e n bytes → entry_at bytes ≡ Some (e, drop n bytes)
-stands_read bytes e n s = begins_read bytes e (drop n bytes) (stands_begins bytes e n s)
-
--- and what is read stands there
+-- what is read stands there
 pub read_stands : (bytes : List ℕ) (e : Entry) (rest : List ℕ) → AreBytes bytes → entry_at bytes ≡ Some (e, rest) → e.moment ≤ last_moment → Stands e (24 + length e.payload) bytes
 read_stands bytes e rest small read in_time = begins_stands bytes e rest (read_begins bytes e rest small read) in_time
+
+-- where fewer bytes are there than stand before a payload, no record is read
+pub short_reads_none : (bytes : List ℕ) (found : Option (Entry × List ℕ)) → AreBytes bytes → length bytes < 24 → entry_at bytes ≡ found → entry_at bytes ≡ None
+short_reads_none bytes None small short is = is
+short_reads_none bytes (Some x) small short is =
+    let begins = read_begins bytes x.0 x.1 small is in
+    absurd (omega (arith, short, ap length begins.parts, length-append (record_text x.0) x.1, length-record_text x.0))
 
 -- ---- what the code's reader answers
 

@@ -8,7 +8,7 @@ use Rattle.tr_record.specs.Records.{Entry, record_text, records_text, HasText, F
 use Rattle.tr_record.specs.Reading.{◌>>=◌, entry_at, Begins}
 use Rattle.tr_record.specs.Whole.{entries_up_to, entries_at, entries_of, AreRecords, AreWhole}
 use Rattle.tr_record.proofs.Fields.{AreBytes, some_step, some_is, entry_takes, entry_again}
-use Rattle.tr_record.proofs.ReadingLemmas.{begins_read, begins_stands, stands_begins, stands_read}
+use Rattle.tr_record.proofs.ReadingLemmas.{begins_read, begins_stands, stands_begins}
 use Rattle.tr_record.proofs.RecordLemmas.{all_push, fits_has_text, length-record_text, records_text-push}
 
 -- ---- what is read is whole records
@@ -105,33 +105,47 @@ whole_push bytes e whole fits =
 
 record Split (e : Entry) (es : List Entry) (rest : List ℕ) : Type 0 where
   others : List Entry
+  first : Fits e
   is : es ≡ e ∷ others
   are : AreRecords others rest
   fits : AllByRecursion Fits others
 
-split_first : (es : List Entry) (bytes : List ℕ) (e : Entry) (n : ℕ) → AreRecords es bytes → AllByRecursion Fits es → Stands e n bytes → Split e es (drop n bytes)
-split_first [] bytes e n are fits stands = let none = ap length are.parts in absurd (omega (arith, stands.size, stands.within))
-split_first (x ∷ xs) bytes e n are fits stands =
-    let both = some_is (x, records_text xs) (e, drop n bytes) (sym (begins_read bytes x (records_text xs) (are_first x xs bytes are)) ∙ stands_read bytes e n stands) in
+split_first : (es : List Entry) (bytes : List ℕ) (e : Entry) (rest : List ℕ) → AreRecords es bytes → AllByRecursion Fits es → Begins e rest bytes → Split e es rest
+split_first [] bytes e rest are fits begins =
+    absurd (omega (arith, ap length are.parts, ap length begins.parts, length-append (record_text e) rest, length-record_text e))
+split_first (x ∷ xs) bytes e rest are fits begins =
+    let both = some_is (x, records_text xs) (e, rest) (sym (begins_read bytes x (records_text xs) (are_first x xs bytes are)) ∙ begins_read bytes e rest begins) in
     record {
       others = xs;
+      first = subst Fits (ap (λ (p : Entry × List ℕ). p.0) both) fits.0;
       is = ap (λ (p : Entry × List ℕ). p.0 ∷ xs) both;
       are = record { text = are.text.1; parts = sym (ap (λ (p : Entry × List ℕ). p.1) both) };
       fits = fits.1;
     }
 
--- a record that stands in front of whole records is the first of them, and the others are whole
+-- the first of whole records
+pub record First (e : Entry) (rest bytes : List ℕ) : Type 0 where
+  pub fits : Fits e
+  pub others : AreWhole rest
+  pub is : entries_of bytes ≡ e ∷ entries_of rest
+
+-- a record whose text stands in front of whole records is the first of them, and the others are whole
+pub whole_begins : (bytes rest : List ℕ) (e : Entry) → AreWhole bytes → Begins e rest bytes → First e rest bytes
+whole_begins bytes rest e whole begins =
+    let s = split_first (entries_of bytes) bytes e rest whole.are whole.fits begins in
+    let is = records_of rest s.others s.are in record {
+      fits = s.first;
+      others = record {
+        are = subst (λ (l : List Entry). AreRecords l rest) (sym is) s.are;
+        fits = subst (AllByRecursion Fits) (sym is) s.fits;
+      };
+      is = s.is ∙ ap (λ (l : List Entry). e ∷ l) (sym is);
+    }
+
 pub whole_first : (bytes rest : List ℕ) (e : Entry) (n : ℕ) → AreWhole bytes → Stands e n bytes → rest ≡ drop n bytes → AreWhole rest × (entries_of bytes ≡ e ∷ entries_of rest)
 whole_first bytes rest e n whole stands rest-is =
-    let s = split_first (entries_of bytes) bytes e n whole.are whole.fits stands in
-    let are : AreRecords s.others rest = subst (AreRecords s.others) (sym rest-is) s.are in
-    let is = records_of rest s.others are in (
-      record {
-        are = subst (λ (l : List Entry). AreRecords l rest) (sym is) are;
-        fits = subst (AllByRecursion Fits) (sym is) s.fits;
-      },
-      s.is ∙ ap (λ (l : List Entry). e ∷ l) (sym is),
-    )
+    let first = whole_begins bytes rest e whole (subst (λ (t : List ℕ). Begins e t bytes) (sym rest-is) (stands_begins bytes e n stands)) in
+    (first.others, first.is)
 
 nothing_stands : (es : List Entry) (bytes : List ℕ) → AreRecords es bytes → AllByRecursion Fits es → ((e : Entry) (n : ℕ) → Stands e n bytes → ⊥) → es ≡ []
 nothing_stands [] bytes are fits never = refl

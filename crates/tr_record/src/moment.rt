@@ -40,6 +40,14 @@ impl Moment {
         }
     }
 
+    /// The moment of so many nanoseconds since 1970, which are within the limit.
+    pub(crate) fn within_limit(nanoseconds: u64) -> Moment
+        requires { nanoseconds ≤ last_moment }
+        ensures { result ≡ nanoseconds }
+    {
+        Moment { nanoseconds }
+    }
+
     /// The first moment.
     pub fn zero() -> Moment
         ensures { result ≡ 0 }

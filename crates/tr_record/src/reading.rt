@@ -10,6 +10,9 @@ use crate::moment::Moment;
 use crate::raw::RawRec;
 use crate::view::RecView;
 
+/// How many bytes stand before the payload.
+const FRONT: usize = 24;
+
 /// The number in the first four bytes, lowest byte first, and the bytes behind it. None of fewer bytes.
 pub fn u32_at(bytes: &[u8]) -> Option<(u32, &[u8])>
     ensures { Gives (λ x. (x.0, x.1.now)) result (number_at w32 bytes.now) }
@@ -38,6 +41,10 @@ fn payload_of(bytes: &[u8]) -> Option<(&[u8], &[u8])>
 fn fields_of(bytes: &[u8]) -> Option<(RawRec<'_>, &[u8])>
     ensures { Gives (λ x. (entry_of x.0, x.1.now)) result (entry_at bytes.now) }
 {
+    // One test for all of the fields, so that no field needs one of its own.
+    if bytes.len() < FRONT {
+        return None;
+    }
     let (id, rest) = u32_at(bytes)?;
     let (moment, rest) = u64_at(rest)?;
     let (serial, rest) = u64_at(rest)?;
@@ -71,6 +78,6 @@ pub fn read_rec(bytes: &[u8]) -> Option<(RecView<'_>, usize)>
 {
     let (raw, _) = read_raw(bytes)?;
     let moment = Moment::new(raw.moment)?;
-    let size = 24 + raw.payload.len();
+    let size = FRONT + raw.payload.len();
     Some((RecView::new(raw.serial, moment, raw.id, raw.payload), size))
 }

@@ -4,7 +4,8 @@ ghost use Rattle.std.specs.Prelude.{◌≡◌, ◌↔◌, IsTrue, IsSome, IfSome
 ghost use Rattle.std.specs.Iterator.{YieldsFirst, item_count};
 ghost use Rattle.tr_record.specs.Whole.{AreWhole, entries_of};
 
-use crate::reading::read_rec;
+use crate::moment::Moment;
+use crate::reading::{read_raw, read_rec};
 use crate::view::RecView;
 use std::marker::Model;
 
@@ -71,11 +72,11 @@ impl<'a> Iterator for Records<'a> {
     ghost remaining = { item_count (λ left. left) };
 
     fn next(&mut self) -> Option<RecView<'a>> {
-        let Some((r, size)) = read_rec(self.rest) else {
+        let Some((raw, rest)) = read_raw(self.rest) else {
             return None;
         };
-        let (_, rest) = self.rest.split_at(size);
         self.rest = rest;
-        Some(r)
+        let moment = Moment::within_limit(raw.moment);
+        Some(RecView::new(raw.serial, moment, raw.id, raw.payload))
     }
 }

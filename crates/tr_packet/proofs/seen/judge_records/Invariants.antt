@@ -1,6 +1,6 @@
 use Rattle.std.proofs.Common.{length}
 use Rattle.tr_packet.proofs.BodyLemmas.{Stands}
-use Rattle.tr_packet.proofs.seen.count_records.Given as goal
+use Rattle.tr_packet.proofs.seen.judge_records.Given as goal
 
 abbrev pub invariant-loop-rest : goal.invariant-loop-rest
 invariant-loop-rest l = Stands l.fn.begin l.fn.end l.fn.body l.rest l.seen

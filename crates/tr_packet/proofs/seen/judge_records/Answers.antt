@@ -3,7 +3,7 @@ use Rattle.std.proofs.lemmas.Bool.{eqb-true}
 use Rattle.std.proofs.lemmas.List.{nil_from_length}
 use Rattle.tr_record.specs.Raw.{entry_of}
 use Rattle.tr_packet.proofs.BodyLemmas.{Stands, stands_first, stands_next, stands_cut, stands_end, cut_at_once, begins_longer}
-use Rattle.tr_packet.proofs.seen.count_records.Goals as goal
+use Rattle.tr_packet.proofs.seen.judge_records.Goals as goal
 
 pub returns-in_default : goal.returns-in_default
 returns-in_default c = sym (cut_at_once c.args.begin c.args.end c.args.body.now (λ i. omega (arith, c.type_inv.body i)) c.in_default.ensures.exact c.requires)
