@@ -105,10 +105,13 @@ fn the_audit_names_the_packet_at_fault(rt: HostRuntime) -> Result<(), Fail> {
         })
     };
     let short = fault(0, 228, AuditCause::Packet(PacketFault::Short));
-    assert!(rt; audit(alloc, &[&bytes[..483]]).err() == short);
+    let cut = bytes.get(..483).ok_or("483 bytes")?;
+    assert!(rt; audit(alloc, &[cut]).err() == short);
     let again = fault(1, 0, AuditCause::NumberRepeat);
     assert!(rt; audit(alloc, &[&bytes, &bytes]).err() == again);
-    bytes[0] = 0;
+    if let Some(first) = bytes.first_mut() {
+        *first = 0;
+    }
     let bad = fault(0, 0, AuditCause::Packet(PacketFault::BadMagic));
     assert!(rt; audit(alloc, &[&bytes]).err() == bad);
     assert!(rt; audit(alloc, &[]).is_ok());
