@@ -10,9 +10,10 @@ use Rattle.tr_book.specs.Parts.{PartState}
 use Rattle.tr_chunk.specs.Audit.{numbers_of, serials_of, records_in, belongs, BelongsTo, rise_from, all_of, AreAudited, audit_of}
 use Rattle.tr_packet.specs.Order.{follows, rise_after}
 use Rattle.tr_packet.specs.Packets.{Contents, IsPacket}
+use Rattle.tr_record.proofs.RecordLemmas.{all_append}
 use Rattle.tr_record.specs.Records.{Entry}
 use Rattle.tr_ring.specs.ClosedBuffer.{ClosedBuffer}
-use Rattle.tr_session.proofs.GapLaws.{gaps-are}
+use Rattle.tr_session.proofs.GapLaws.{low, gaps-are, numbers-packets}
 use Rattle.tr_session.specs.Audits.{packets_by_part, packets_in, files_of, LastIs, in_runs, was_dropped, kept_above}
 use Rattle.tr_stream.proofs.Consistency.{rising-where}
 use Rattle.tr_stream.proofs.FateLaws.{parts-are}
@@ -34,10 +35,6 @@ abbrev records_behind : List ClosedBuffer → List Entry
 records_behind bs = flat_map (λ (b : ClosedBuffer). b.records) bs
 
 -- what packets tell, by their sub-buffers
-numbers-packets : (c : StreamConfig) (bs : List ClosedBuffer) → numbers_of (map (packet_of c) bs) ≡ map (λ (b : ClosedBuffer). b.seq) bs
-numbers-packets c [] = refl
-numbers-packets c (b ∷ bs) = ap (λ (ns : List ℕ). b.seq ∷ ns) (numbers-packets c bs)
-
 lost-packets : (c : StreamConfig) (bs : List ClosedBuffer) → map (λ (p : Contents). p.head.lost) (map (packet_of c) bs) ≡ map (λ (b : ClosedBuffer). b.lost) bs
 lost-packets c [] = refl
 lost-packets c (b ∷ bs) = ap (λ (ns : List ℕ). b.lost ∷ ns) (lost-packets c bs)
@@ -71,11 +68,6 @@ packets-are s h is =
     ap (λ (parts : List PartState). all_of (map (λ (p : PartState). p.packets) parts)) (parts-are s h is)
     ∙ packets-below s.config (suc h.cuts) h
     ∙ ap (map (packet_of s.config)) is.model.chunks
-
--- the first number or serial that may come next
-abbrev low : Option ℕ → ℕ
-low None = 0
-low (Some before) = before + 1
 
 may-follow : (before : Option ℕ) (least n : ℕ) → low before ≤ least → least ≤ n → follows before n ≡ true
 may-follow None least n le more = refl
@@ -119,13 +111,9 @@ all-own c [] = tt
 all-own c (b ∷ bs) = (own c b, all-own c bs)
 
 -- what was consumed can be sent
-all-append : {X : Type 0} (P : X → Type 0) (xs ys : List X) → AllByRecursion P xs → AllByRecursion P ys → AllByRecursion P (xs ++ ys)
-all-append P [] ys old new = new
-all-append P (x ∷ xs) ys old new = (old.0, all-append P xs ys old.1 new)
-
 all-sent : (parts : List PartState) → AllByRecursion CanBeSent parts → AllByRecursion IsPacket (all_of (map (λ (p : PartState). p.packets) parts))
 all-sent [] sent = tt
-all-sent (p ∷ parts) sent = all-append IsPacket p.packets (all_of (map (λ (p : PartState). p.packets) parts)) sent.0 (all-sent parts sent.1)
+all-sent (p ∷ parts) sent = all_append IsPacket p.packets (all_of (map (λ (p : PartState). p.packets) parts)) sent.0 (all-sent parts sent.1)
 
 pub passes : (s : StreamState) (h : History) → IsSound s → StandsFor s h → AreAudited s.config.uuid s.config.number (files_of s) (packets_by_part s)
 passes s h sound is =
@@ -134,7 +122,7 @@ passes s h sound is =
     record {
       texts = refl;
       sound = record {
-        packets = all-sent (all_parts s.parts) (all-append CanBeSent s.parts.closed (s.parts.current ∷ []) sound.closed_sent (sound.current_sent, tt));
+        packets = all-sent (all_parts s.parts) (all_append CanBeSent s.parts.closed (s.parts.current ∷ []) sound.closed_sent (sound.current_sent, tt));
         belong = subst (λ (ps : List Contents). AllByRecursion (BelongsTo s.config.uuid s.config.number) ps) (sym same) (all-own s.config (consumed_of h));
         numbers = subst (λ (ps : List Contents). IsTrue (rise_from None (numbers_of ps))) (sym same) (subst (λ (ns : List ℕ). IsTrue (rise_from None ns)) (sym (numbers-packets s.config (consumed_of h))) (rise-numbers None 0 0 (consumed_of h) h.filling.number (offered_of h) (omega arith) rise));
         serials = subst (λ (ps : List Contents). IsTrue (rise_after None (records_in ps))) (sym same) (subst (λ (es : List Entry). IsTrue (rise_after None es)) (sym (records-packets s.config (consumed_of h))) (rise-records None 0 0 (consumed_of h) h.filling.number (offered_of h) (omega arith) rise));

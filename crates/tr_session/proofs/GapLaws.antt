@@ -16,8 +16,8 @@ use Rattle.tr_stream.specs.declared.config.StreamConfig.{StreamConfig}
 abbrev seqs : List ClosedBuffer → List ℕ
 seqs bs = map (λ (b : ClosedBuffer). b.seq) bs
 
--- the first number that may be absent
-abbrev low : Option ℕ → ℕ
+-- the first number, or serial, that may come next
+abbrev pub low : Option ℕ → ℕ
 low None = 0
 low (Some before) = before + 1
 
@@ -77,7 +77,8 @@ gaps-closed n place lost before (c ∷ cs) numbers order le =
     (gaps-closed n (place + 1) (lost + length c.block.missed) (Some place) cs numbers.1 order.1 (omega arith))
     (gaps-closed n (place + 1) (lost + length c.block.missed) before cs numbers.1 order.1 (omega (arith, le)))
 
-numbers-packets : (c : StreamConfig) (bs : List ClosedBuffer) → numbers_of (map (packet_of c) bs) ≡ seqs bs
+-- the numbers of packets are those of their sub-buffers
+pub numbers-packets : (c : StreamConfig) (bs : List ClosedBuffer) → numbers_of (map (packet_of c) bs) ≡ seqs bs
 numbers-packets c [] = refl
 numbers-packets c (b ∷ bs) = ap (λ (ns : List ℕ). b.seq ∷ ns) (numbers-packets c bs)
 

@@ -3,7 +3,7 @@ use Rattle.std.proofs.Common.{◌≡◌, ◌≢◌, ℕ, ◌+◌, ◌^◌, ◌�
 use Rattle.std.proofs.lemmas.Grind.{common_steps}
 use Rattle.std.proofs.lemmas.List.{append-nil, map-append, length-map, take_more}
 use Rattle.std.proofs.lemmas.Option.{slice_get_within, get_or_from_slice_get}
-use Rattle.std.specs.Prelude.{slice_get}
+use Rattle.std.specs.Prelude.{IsOk, slice_get}
 use Rattle.tr_book.specs.Book as noted
 use Rattle.tr_book.specs.Book.{BookState}
 use Rattle.tr_book.specs.Parts.{PartsState, records_of, no_parts, with_packet, with_packets, closed_part}
@@ -82,13 +82,23 @@ none_waits s (b ∷ bs) none = absurd (grind (arith, common_steps, none))
 pub nothing-taken : (s : StreamState) → length s.ring.waiting ≡ 0 → ((let r : Result Taken TakeFault = Err Nothing in r) ≡ take_result s) × (s ≡ state_after_take s)
 nothing-taken s none = none_waits s s.ring.waiting none
 
--- the oldest sub-buffer that waits can be sent
-first_packet : (c : StreamConfig) (waiting : List ClosedBuffer) (b : ClosedBuffer) → slice_get waiting 0 ≡ Some b → ArePackets c waiting → IsPacket (packet_of c b)
-first_packet c [] b first are = cc
-first_packet c (x ∷ xs) b first are = let e : x ≡ b = cc in subst (λ (y : ClosedBuffer). IsPacket (packet_of c y)) e are.0
+-- where something waits, there is something to take
+some-taken_from : (k : ℕ) (waiting : List ClosedBuffer) → 0 < length waiting → IsOk (taken_from k waiting)
+some-taken_from k [] some = absurd (omega (arith, some))
+some-taken_from k (b ∷ bs) some = refl
 
+pub some-taken : (s : StreamState) → 0 < length s.ring.waiting → IsOk (take_result s)
+some-taken s some = some-taken_from s.parts.current.id s.ring.waiting some
+
+-- what waits can be sent
+pub waiting-at : (c : StreamConfig) (waiting : List ClosedBuffer) (i : ℕ) (b : ClosedBuffer) → slice_get waiting i ≡ Some b → ArePackets c waiting → IsPacket (packet_of c b)
+waiting-at c [] i b at are = cc
+waiting-at c (x ∷ xs) zero b at are = let e : x ≡ b = cc in subst (λ (y : ClosedBuffer). IsPacket (packet_of c y)) e are.0
+waiting-at c (x ∷ xs) (suc i) b at are = waiting-at c xs i b at are.1
+
+-- the oldest sub-buffer that waits can be sent
 pub oldest-is_packet : (s : StreamState) (b : ClosedBuffer) → IsKept s → slice_get s.ring.waiting 0 ≡ Some b → IsPacket (packet_of s.config b)
-oldest-is_packet s b is first = first_packet s.config s.ring.waiting b first is.sound.packets
+oldest-is_packet s b is first = waiting-at s.config s.ring.waiting 0 b first is.sound.packets
 
 moved_first : (s : StreamState) (waiting : List ClosedBuffer) (b : ClosedBuffer) → slice_get waiting 0 ≡ Some b → moved_oldest waiting s ≡ with_moved b s
 moved_first s [] b first = cc
@@ -115,12 +125,6 @@ copied-more records copies more i e f got same so pushed =
 -- what a new stream is made of
 pub new-is : (c : StreamConfig) (ring : RingState) (parts : PartsState) (book : BookState) (size count : ℕ) (over : Bool) → ring ≡ empty_ring size count over → parts ≡ no_parts → book ≡ noted.empty_book → size ≡ c.geometry.size → count ≡ c.geometry.count → over ≡ overwrites c.mode → (let t : StreamState = record { config = c; ring = ring; parts = parts; book = book; active = false } in t) ≡ new_state c
 new-is c ring parts book size count over a b d e f g = cc
-
--- what waits can be sent
-pub waiting-at : (c : StreamConfig) (waiting : List ClosedBuffer) (i : ℕ) (b : ClosedBuffer) → slice_get waiting i ≡ Some b → ArePackets c waiting → IsPacket (packet_of c b)
-waiting-at c [] i b at are = cc
-waiting-at c (x ∷ xs) zero b at are = let e : x ≡ b = cc in subst (λ (y : ClosedBuffer). IsPacket (packet_of c y)) e are.0
-waiting-at c (x ∷ xs) (suc i) b at are = waiting-at c xs i b at are.1
 
 -- there is one at each place
 pub is-there : (waiting : List ClosedBuffer) (i : ℕ) → i < length waiting → slice_get waiting i ≡ None → ⊥

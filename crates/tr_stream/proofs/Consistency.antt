@@ -7,6 +7,7 @@ use Rattle.tr_book.specs.Parts.{PartState}
 use Rattle.tr_record.specs.Records.{Entry}
 use Rattle.tr_ring.specs.ClosedBuffer.{ClosedBuffer}
 use Rattle.tr_stream.proofs.ChunkLaws.{none_wait, missed_in-cons, blocks_where-cons}
+use Rattle.tr_stream.proofs.FateLaws.{parts-are}
 use Rattle.tr_stream.proofs.TakeLaws.{length-parts_below}
 use Rattle.tr_ring.specs.Ring.{seq_after}
 use Rattle.tr_stream.specs.Chunks.{closing_if_any, buffer_of, buffers_where, waiting_of, chunk_of, consumed_of, packet_of, part_of, parts_below}
@@ -49,10 +50,6 @@ buffers_in-chunks c (suc k) h =
   where
     append-both : {xs ys zs ws : List ClosedBuffer} → xs ≡ ys → zs ≡ ws → xs ++ zs ≡ ys ++ ws
     append-both e f = cc
-
--- the parts of a stream are the chunks
-parts-are : (s : StreamState) (h : History) → StandsFor s h → all_parts s.parts ≡ parts_below s.config (suc h.cuts) h
-parts-are s h is = let a = is.closed in let b = is.current in cc
 
 pub held-is : (s : StreamState) (h : History) → StandsFor s h → held_buffers s ≡ held_of s.book.last h
 held-is s h is =

@@ -23,11 +23,11 @@ use Rattle.tr_stream.specs.declared.answers.OfferFault.{OfferFault}
 use Rattle.tr_stream.specs.declared.config.StreamConfig.{StreamConfig}
 use Rattle.tr_subbuf.specs.SubBuffer.{has_room}
 
-overwrites-is : (m : Mode) → overwrites m ≡ true → m ≡ Overwrite
+pub overwrites-is : (m : Mode) → overwrites m ≡ true → m ≡ Overwrite
 overwrites-is Discard e = cc
 overwrites-is Overwrite e = refl
 
-overwrites-not : (m : Mode) → overwrites m ≡ false → m ≡ Discard
+pub overwrites-not : (m : Mode) → overwrites m ≡ false → m ≡ Discard
 overwrites-not Discard e = refl
 overwrites-not Overwrite e = cc
 

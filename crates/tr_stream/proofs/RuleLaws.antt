@@ -2,13 +2,12 @@
 use Rattle.std.proofs.Common.{◌≡◌, ℕ, ◌+◌, ◌≤◌, Bool, true, false, cond, List, [], ◌∷◌, length, Option, Some, None, refl, sym, ◌∙◌, ap, subst, arith}
 use Rattle.std.proofs.lemmas.Bool.Decides.{nat_tests}
 use Rattle.std.specs.Prelude.{nat_lt}
-use Rattle.tr_book.specs.declared.mode.Mode.{Mode}
-use Rattle.tr_book.specs.declared.mode.Mode.TheVariants.{Discard, Overwrite}
 use Rattle.tr_record.specs.Records.{Entry}
 use Rattle.tr_ring.specs.ClosedBuffer.{ClosedBuffer}
 use Rattle.tr_ring.specs.Ring.{RingState, current_buffer, after_push, joined, followed, refusing, without_first}
 use Rattle.tr_stream.proofs.CutLaws.{cuts}
 use Rattle.tr_stream.proofs.FateLaws.{fates}
+use Rattle.tr_stream.proofs.KeptLaws.{overwrites-is, overwrites-not}
 use Rattle.tr_stream.proofs.OfferLaws.{offers, joins, follows, misses, replaces}
 use Rattle.tr_stream.proofs.Refinement.{stands-switched}
 use Rattle.tr_stream.proofs.SoundLaws.{losses-missed, losses-without_oldest}
@@ -22,14 +21,6 @@ use Rattle.tr_stream.specs.Steps.{after_offer}
 use Rattle.tr_stream.specs.declared.answers.OfferFault.{OfferFault}
 use Rattle.tr_stream.specs.declared.config.StreamConfig.{StreamConfig}
 use Rattle.tr_subbuf.specs.SubBuffer.{has_room}
-
-discards : (m : Mode) → overwrites m ≡ false → m ≡ Discard
-discards Discard e = refl
-discards Overwrite e = cc
-
-drops : (m : Mode) → overwrites m ≡ true → m ≡ Overwrite
-drops Discard e = cc
-drops Overwrite e = refl
 
 -- a push leaves the ring as it was made
 chosen : {X : Type 0} (f : RingState → X) (x : X) (room free over : Bool) (a b c d : RingState) → f a ≡ x → f b ≡ x → f c ≡ x → f d ≡ x → f (cond room a (cond free b (cond over c d))) ≡ x
@@ -62,12 +53,12 @@ config-unless s e None = refl
 losses-pushed : (s : StreamState) (e : Entry) (room free over : Bool) (waiting : List ClosedBuffer) → has_room (current_buffer s.ring) (length e.payload) ≡ room → nat_lt (length s.ring.waiting + 1) s.ring.count ≡ free → s.ring.overwrite ≡ over → s.ring.waiting ≡ waiting → IsMade s.config s.ring → LosesByMode s → LosesByMode (with_offer e s)
 losses-pushed s e true free over waiting r f o w made is = subst (λ (t : StreamState). LosesByMode t) (sym (joins e s r)) (record { discarding = is.discarding; overwriting = is.overwriting })
 losses-pushed s e false true over waiting r f o w made is = subst (λ (t : StreamState). LosesByMode t) (sym (follows e s r f)) (record { discarding = is.discarding; overwriting = is.overwriting })
-losses-pushed s e false false false waiting r f o w made is = subst (λ (t : StreamState). LosesByMode t) (sym (misses e s r f o)) (losses-missed s e.moment (discards s.config.mode (sym made.mode ∙ o)) is)
+losses-pushed s e false false false waiting r f o w made is = subst (λ (t : StreamState). LosesByMode t) (sym (misses e s r f o)) (losses-missed s e.moment (overwrites-not s.config.mode (sym made.mode ∙ o)) is)
 losses-pushed s e false false true [] r f o w made is =
     let none : length s.ring.waiting ≡ 0 = ap length w in
     absurd (grind (arith, nat_tests, none, f, made.count, made.count_low))
 losses-pushed s e false false true (b ∷ bs) r f o w made is =
-    let t = losses-without_oldest s (drops s.config.mode (sym made.mode ∙ o)) is in
+    let t = losses-without_oldest s (overwrites-is s.config.mode (sym made.mode ∙ o)) is in
     subst (λ (t : StreamState). LosesByMode t) (sym (replaces e s r f o b bs w)) (record { discarding = t.discarding; overwriting = t.overwriting })
 
 losses-unless : (s : StreamState) (e : Entry) (refusal : Option OfferFault) → IsMade s.config s.ring → LosesByMode s → LosesByMode (state_unless refusal e s)

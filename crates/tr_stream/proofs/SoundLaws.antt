@@ -7,6 +7,7 @@ use Rattle.tr_book.specs.declared.mode.Mode.{Mode}
 use Rattle.tr_book.specs.declared.mode.Mode.TheVariants.{Discard, Overwrite}
 use Rattle.tr_book.specs.Parts.{PartState, records_of}
 use Rattle.tr_packet.specs.Packets.{Contents, IsPacket}
+use Rattle.tr_record.proofs.RecordLemmas.{all_append, all_push}
 use Rattle.tr_record.specs.Records.{Entry, Fits, last_moment}
 use Rattle.tr_record.specs.Weight.{weight_of}
 use Rattle.std.specs.List.{AllByRecursion}
@@ -30,14 +31,6 @@ are-push c (x ∷ bs) b old new = (old.0, are-push c bs b old.1 new)
 are-drop : (c : StreamConfig) (bs : List ClosedBuffer) → ArePackets c bs → ArePackets c (drop 1 bs)
 are-drop c [] old = tt
 are-drop c (b ∷ bs) old = old.1
-
-all-push : {X : Type 0} (P : X → Type 0) (xs : List X) (x : X) → AllByRecursion P xs → P x → AllByRecursion P (xs ++ x ∷ [])
-all-push P [] x old new = (new, tt)
-all-push P (y ∷ xs) x old new = (old.0, all-push P xs x old.1 new)
-
-all-append : {X : Type 0} (P : X → Type 0) (xs ys : List X) → AllByRecursion P xs → AllByRecursion P ys → AllByRecursion P (xs ++ ys)
-all-append P [] ys old new = new
-all-append P (x ∷ xs) ys old new = (old.0, all-append P xs ys old.1 new)
 
 first-packet : (c : StreamConfig) (b : ClosedBuffer) (bs : List ClosedBuffer) → ArePackets c (b ∷ bs) → IsPacket (packet_of c b)
 first-packet c b bs are = are.0
@@ -128,7 +121,7 @@ sound-followed s e is next used small room = record {
   dropped = grind (arith, common_steps, is.dropped);
   room = grind (arith, common_steps, room);
   fits = grind (arith, common_steps, small);
-  waiting_fit = all-push (IsClosedWithin s.config.geometry.size) s.ring.waiting (closing e.moment s.ring) is.waiting_fit (record { some = used_some s.ring.current used; within = is.fits });
+  waiting_fit = all_push (IsClosedWithin s.config.geometry.size) s.ring.waiting (closing e.moment s.ring) is.waiting_fit (record { some = used_some s.ring.current used; within = is.fits });
   losses = record { discarding = is.losses.discarding; overwriting = is.losses.overwriting };
   packets = are-push s.config s.ring.waiting (closing e.moment s.ring) is.packets (closing-is_packet s e.moment is used next.moment next.fits.moment);
   filling = open-one s.book.offered e next.fits next.serial (grind (arith, common_steps, small, is.config.size_high));
@@ -183,7 +176,7 @@ sound-moved s b bs oldest is = record {
   packets = are-drop s.config s.ring.waiting is.packets;
   filling = is.filling;
   closed_sent = is.closed_sent;
-  current_sent = all-push IsPacket s.parts.current.packets (packet_of s.config b) is.current_sent (first-packet s.config b bs (subst (λ (ws : List ClosedBuffer). ArePackets s.config ws) oldest is.packets));
+  current_sent = all_push IsPacket s.parts.current.packets (packet_of s.config b) is.current_sent (first-packet s.config b bs (subst (λ (ws : List ClosedBuffer). ArePackets s.config ws) oldest is.packets));
 }
 
 pub sound-switched : (s : StreamState) (active : Bool) → IsSound s → IsSound (state_switched active s)
@@ -241,7 +234,7 @@ sound-cut s end is later in_time = record {
   losses = record { discarding = is.losses.discarding; overwriting = is.losses.overwriting };
   packets = tt;
   filling = open-none s.book.offered end;
-  closed_sent = all-push CanBeSent s.parts.closed (record s.parts.current { packets = s.parts.current.packets ++ map (packet_of s.config) (ring_buffers end s.ring) }) is.closed_sent
-      (all-append IsPacket s.parts.current.packets (map (packet_of s.config) (ring_buffers end s.ring)) is.current_sent (all-packets s.config (ring_buffers end s.ring) (are-ring s end is later in_time)));
+  closed_sent = all_push CanBeSent s.parts.closed (record s.parts.current { packets = s.parts.current.packets ++ map (packet_of s.config) (ring_buffers end s.ring) }) is.closed_sent
+      (all_append IsPacket s.parts.current.packets (map (packet_of s.config) (ring_buffers end s.ring)) is.current_sent (all-packets s.config (ring_buffers end s.ring) (are-ring s end is later in_time)));
   current_sent = tt;
 }

@@ -1,6 +1,6 @@
 //! One stream: a ring of sub-buffers, and the parts that it is consumed into.
 
-ghost use Rattle.std.specs.Prelude.{◌≡◌, ◌≢◌, ◌+◌, ◌-◌, ◌^◌, ◌≤◌, ◌<◌, max, Some, Ok, Err, IfOk, OnOk, OnErr, length, option_copied};
+ghost use Rattle.std.specs.Prelude.{◌≡◌, ◌≢◌, ◌+◌, ◌-◌, ◌^◌, ◌≤◌, ◌<◌, max, Some, Ok, Err, IsOk, IfOk, OnOk, OnErr, length, option_copied};
 ghost use Rattle.tr_record.specs.Records.{last_moment};
 ghost use Rattle.tr_stream.specs.Chunks.{part_in};
 ghost use Rattle.tr_stream.specs.Consistent.{IsConsistent};
@@ -152,6 +152,7 @@ impl<A: Allocator + Copy> Stream<A> {
             (result ≡ take_answer h) × StandsFor self.new (after_take h) }
         ensures no_memory { result ≡ Err TakeFault.NoMemory → self.new ≡ self.old }
         ensures config { self.new.config ≡ self.old.config }
+        ensures memory { result ≡ Err TakeFault.NoMemory → IsOk (take_result self.old) }
     {
         if self.ring.waiting() == 0 {
             return Err(TakeFault::Nothing);
