@@ -1,1 +1,2 @@
+pub mod ArchiveLemmas
 pub mod MakingLemmas

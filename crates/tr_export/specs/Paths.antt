@@ -1,5 +1,5 @@
 -- Where archives lie.
-use Rattle.std.specs.Prelude.{ℕ, List, ◌∷◌, ◌++◌, codes}
+use Rattle.std.specs.Prelude.{ℕ, List, ◌++◌, codes}
 
 -- DIR/NAME/archives/ARCHIVE
 abbrev pub folder_of : List ℕ → List ℕ → List ℕ → List ℕ

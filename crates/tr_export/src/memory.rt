@@ -1,6 +1,7 @@
 //! A disk in memory.
 
 ghost use Rattle.std.specs.Prelude.{◌≡◌, Some, []};
+ghost use Rattle.tr_export.specs.Kept.{by_text};
 
 use crate::disk::Disk;
 use crate::made::Made;
@@ -13,7 +14,7 @@ use tr_record::{Failed, MemorySink};
 pub struct MemoryDisk<A: Allocator = Global> {
     alloc: A,
     made: Vec<Made<String<A>, Vec<u8, A>>, A>,
-    open: String<A>,
+    open_path: String<A>,
     piece: usize,
 }
 
@@ -25,26 +26,28 @@ impl<A: Allocator + Copy> MemoryDisk<A> {
         MemoryDisk {
             alloc,
             made: Vec::new(alloc),
-            open: String::new(alloc),
+            open_path: String::new(alloc),
             piece,
         }
     }
 
     /// What was made, in order.
-    pub fn made(&self) -> &[Made<String<A>, Vec<u8, A>>] {
+    pub fn made(&self) -> &[Made<String<A>, Vec<u8, A>>]
+        ensures { ⟦<MemoryDisk<A> as Disk>⟧.made self.now ≡ Some (by_text result.now) }
+    {
         self.made.as_slice()
     }
 }
 
 impl<A: Allocator + Copy> Disk for MemoryDisk<A> {
-    ghost use Rattle.std.specs.Prelude.{Some, map, string_bytes};
+    ghost use Rattle.std.specs.Prelude.{Some, string_bytes};
     ghost use Rattle.tr_export.specs.Kept.{by_text};
 
     type File = MemorySink<A>;
 
     ghost made = { λ s. Some (by_text s.made.items) };
 
-    ghost opened = { λ s. string_bytes s.open };
+    ghost opened = { λ s. string_bytes s.open_path };
 
     fn make_folder(&mut self, path: &str) -> Result<(), Failed> {
         let Ok(path) = String::from_str(self.alloc, path) else {
@@ -59,7 +62,7 @@ impl<A: Allocator + Copy> Disk for MemoryDisk<A> {
     fn open_file(&mut self, path: &str) -> Result<MemorySink<A>, Failed> {
         match String::from_str(self.alloc, path) {
             Ok(path) => {
-                self.open = path;
+                self.open_path = path;
                 Ok(MemorySink::new(self.alloc, self.piece))
             }
             Err(_) => Err(Failed),
@@ -67,7 +70,7 @@ impl<A: Allocator + Copy> Disk for MemoryDisk<A> {
     }
 
     fn close_file(&mut self, file: MemorySink<A>) -> Result<(), Failed> {
-        let path = mem::replace(&mut self.open, String::new(self.alloc));
+        let path = mem::replace(&mut self.open_path, String::new(self.alloc));
         match self.made.push(Made::File(path, file.into_bytes())) {
             Ok(()) => Ok(()),
             Err(_) => Err(Failed),

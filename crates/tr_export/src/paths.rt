@@ -19,11 +19,7 @@ pub fn archive_folder<A: Allocator>(
 }
 
 /// The path of a file in a folder: `FOLDER/FILE`.
-pub fn file_path<A: Allocator>(
-    alloc: A,
-    folder: &str,
-    file: &str,
-) -> Result<String<A>, AllocError>
+pub fn file_path<A: Allocator>(alloc: A, folder: &str, file: &str) -> Result<String<A>, AllocError>
     ensures { IfOk result (λ s. string_bytes s ≡ path_of folder.now file.now) }
 {
     format!(in alloc; "{folder}/{file}")

@@ -16,7 +16,9 @@ use uuid::Uuid;
 
 /// The paths in the archive of a chunk that begins at 0 and ends at 10.
 const FOLDER: &str = "d/s/archives/19700101T000000+0000-19700101T000000+0000-0";
+
 const METADATA: &str = "d/s/archives/19700101T000000+0000-19700101T000000+0000-0/metadata";
+
 const STREAM: &str = "d/s/archives/19700101T000000+0000-19700101T000000+0000-0/c_0";
 
 fn moment(nanoseconds: u64) -> Result<Moment, Fail> {
@@ -119,9 +121,21 @@ fn each_archive_has_its_own_part(rt: HostRuntime) -> Result<(), Fail> {
     let folder = "d/s/archives/19700101T000000+0000-19700101T000002+0000-1";
     assert!(rt; is_folder(made.get(4), folder));
     let mut wanted = Vec::new(rt.alloc());
-    wanted.push((3, "d/s/archives/19700101T000000+0000-19700101T000000+0000-0/c_1", 0))?;
-    wanted.push((6, "d/s/archives/19700101T000000+0000-19700101T000002+0000-1/c_0", 0))?;
-    wanted.push((7, "d/s/archives/19700101T000000+0000-19700101T000002+0000-1/c_1", 104))?;
+    wanted.push((
+        3,
+        "d/s/archives/19700101T000000+0000-19700101T000000+0000-0/c_1",
+        0,
+    ))?;
+    wanted.push((
+        6,
+        "d/s/archives/19700101T000000+0000-19700101T000002+0000-1/c_0",
+        0,
+    ))?;
+    wanted.push((
+        7,
+        "d/s/archives/19700101T000000+0000-19700101T000002+0000-1/c_1",
+        104,
+    ))?;
     for (place, path, len) in wanted {
         let bytes = bytes_of(made.get(place), path).ok_or("a file")?;
         assert_eq!(rt; bytes.len(), len);

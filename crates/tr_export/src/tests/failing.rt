@@ -1,14 +1,11 @@
 //! A disk that fails, at each of its calls and at each byte.
 
-ghost use Rattle.std.specs.Prelude.{◌≡◌};
-
-use super::{rotated, uuid};
+use super::rotated;
 use crate::disk::Disk;
 use crate::faults::ExportFault;
 use crate::writing::write_archives;
-use std::alloc::Global;
+use std::mem;
 use std::test::Fail;
-use tr_packet::metadata_text;
 use tr_record::{ByteSink, Failed};
 
 /// A file that takes so many bytes more, and then fails.
@@ -36,11 +33,12 @@ impl ByteSink for ShortFile {
     }
 }
 
-/// Fails once so many calls were made; its files have room for so many bytes.
+/// Fails once so many calls were made. Its first file has room for so many bytes, and each later one for so many.
 #[derive(Drop)]
 struct FailingDisk {
     calls: usize,
-    room: usize,
+    first: usize,
+    later: usize,
 }
 
 impl FailingDisk {
@@ -69,10 +67,8 @@ impl Disk for FailingDisk {
 
     fn open_file(&mut self, _path: &str) -> Result<ShortFile, Failed> {
         self.call()?;
-        Ok(ShortFile {
-            room: self.room,
-            failures: 0,
-        })
+        let room = mem::replace(&mut self.first, self.later);
+        Ok(ShortFile { room, failures: 0 })
     }
 
     fn close_file(&mut self, _file: ShortFile) -> Result<(), Failed> {
@@ -80,39 +76,44 @@ impl Disk for FailingDisk {
     }
 }
 
+fn disk(calls: usize, first: usize, later: usize) -> FailingDisk {
+    FailingDisk {
+        calls,
+        first,
+        later,
+    }
+}
+
 // five calls: a folder, and the begin and the end of two files
 #[test]
-fn each_failure_is_told(rt: HostRuntime) -> Result<(), Fail> {
+fn each_failed_call_is_told(rt: HostRuntime) -> Result<(), Fail> {
     let session = rotated(rt.alloc())?;
     for calls in 0..7 {
-        let mut disk = FailingDisk { calls, room: 4096 };
         let wanted = if calls < 5 {
             Err(ExportFault::Write)
         } else {
             Ok(())
         };
-        let answer = write_archives(rt.alloc(), &mut disk, "d", "s", &session);
+        let answer = write_archives(rt.alloc(), &mut disk(calls, 4096, 4096), "d", "s", &session);
         assert_eq!(rt; answer, wanted, "after {calls} calls");
     }
     Ok(())
 }
 
-// the metadata has more bytes than the stream's file
+// the metadata has 1,082 bytes, the stream's file 484
 #[test]
 fn a_file_that_is_cut_short_is_told(rt: HostRuntime) -> Result<(), Fail> {
     let session = rotated(rt.alloc())?;
-    let text = metadata_text(rt.alloc(), &uuid()?)?;
-    let whole = text.len();
-    assert_eq!(rt; whole, 1082);
-    for room in [0, 483, 484, 1081] {
-        let mut disk = FailingDisk { calls: 9, room };
-        let answer = write_archives(rt.alloc(), &mut disk, "d", "s", &session);
-        assert_eq!(rt; answer, Err(ExportFault::Write), "at {room} bytes");
+    let short = [(0, 4096), (1081, 4096), (4096, 0), (4096, 228), (4096, 483)];
+    for (first, later) in short {
+        let answer = write_archives(rt.alloc(), &mut disk(9, first, later), "d", "s", &session);
+        assert_eq!(rt;
+            answer,
+            Err(ExportFault::Write),
+            "at {first} and {later} bytes"
+        );
     }
-    let mut disk = FailingDisk { calls: 9, room: 1082 };
-    assert_eq!(rt;
-        write_archives(rt.alloc(), &mut disk, "d", "s", &session),
-        Ok(())
-    );
+    let answer = write_archives(rt.alloc(), &mut disk(9, 1082, 484), "d", "s", &session);
+    assert_eq!(rt; answer, Ok(()));
     Ok(())
 }

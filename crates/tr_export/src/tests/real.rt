@@ -20,28 +20,42 @@ fn free_path(rt: &HostRuntime, test: &str) -> Result<String, Fail> {
     Ok(path)
 }
 
-/// The bytes of a file in the archive of a chunk that begins at 0 and ends at 10.
-fn read(rt: &HostRuntime, dir: &str, file: &str) -> Result<Vec<u8>, Fail> {
+/// The path of a file in the archive of a chunk that begins at 0 and ends at 10.
+fn path_in(rt: &HostRuntime, dir: &str, file: &str) -> Result<String, Fail> {
     let archive = "19700101T000000+0000-19700101T000000+0000-0";
-    let path = format!(in rt.alloc(); "{dir}/s/archives/{archive}/{file}")?;
+    Ok(format!(in rt.alloc(); "{dir}/s/archives/{archive}/{file}")?)
+}
+
+/// The bytes of that file.
+fn read(rt: &HostRuntime, dir: &str, file: &str) -> Result<Vec<u8>, Fail> {
+    let path = path_in(rt, dir, file)?;
     Ok(fs::read(rt, path.as_str())?)
+}
+
+/// Whether the files of the archive of `rotated` are there, each with all its bytes.
+fn has_files(rt: &HostRuntime, dir: &str) -> Result<bool, Fail> {
+    let text = metadata_text(rt.alloc(), &uuid()?)?;
+    let metadata = read(rt, dir, "metadata")?;
+    let stream = read(rt, dir, "c_0")?;
+    let second = stream.get(228..232);
+    Ok(
+        metadata.as_slice() == text.as_bytes()
+            && stream.len() == 484
+            && second == Some(b"\xC1\x1F\xFC\xC1".as_slice()),
+    )
 }
 
 #[test]
 fn files_are_written_and_replaced(rt: HostRuntime) -> Result<(), Fail> {
     let dir = free_path(&rt, "files")?;
     let session = rotated(rt.alloc())?;
-    let text = metadata_text(rt.alloc(), &uuid()?)?;
     let mut disk = SystemDisk::new(&rt);
-    for run in 0..2 {
-        write_archives(rt.alloc(), &mut disk, dir.as_str(), "s", &session)?;
-        let metadata = read(&rt, dir.as_str(), "metadata")?;
-        assert!(rt; metadata.as_slice() == text.as_bytes(), "in run {run}");
-        let stream = read(&rt, dir.as_str(), "c_0")?;
-        assert_eq!(rt; stream.len(), 484, "in run {run}");
-        let second = stream.get(228..232);
-        assert!(rt; second == Some(b"\xC1\x1F\xFC\xC1".as_slice()));
-    }
+    write_archives(rt.alloc(), &mut disk, dir.as_str(), "s", &session)?;
+    assert!(rt; has_files(&rt, dir.as_str())?);
+    let path = path_in(&rt, dir.as_str(), "c_0")?;
+    fs::write(&rt, path.as_str(), [0x62; 600].as_slice())?;
+    write_archives(rt.alloc(), &mut disk, dir.as_str(), "s", &session)?;
+    assert!(rt; has_files(&rt, dir.as_str())?);
     fs::remove_dir_all(&rt, dir.as_str())?;
     Ok(())
 }
