@@ -106,6 +106,7 @@ impl<A: Allocator + Copy> SessionBook<A> {
         ensures ok { OnOk result (channel_added name.now size count mode self.old ≡ Ok self.new) }
         ensures refused { IfErr result (λ fault. fault ≢ SessionFault.NoMemory → channel_added name.now size count mode self.old ≡ Err fault) }
         ensures memory { result ≡ Err SessionFault.NoMemory → IsOk (channel_added name.now size count mode self.old) }
+        ensures streams { self.new.threads ≡ self.old.threads }
         ensures unchanged { OnErr result (self.new ≡ self.old) }
     {
         let channel = self.channel_for(name, size, count, mode)?;
@@ -163,6 +164,7 @@ impl<A: Allocator + Copy> SessionBook<A> {
             (result ≡ rotate_begin_answer self.old) × (self.new ≡ after_rotate_begin moment self.old) }
         ensures no_memory { result ≡ Err SessionFault.NoMemory → self.new ≡ self.old }
         ensures memory { result ≡ Err SessionFault.NoMemory → IsOk (rotate_begin_answer self.old) }
+        ensures streams { self.new.threads ≡ self.old.threads }
     {
         let id = self.next_chunk()?;
         self.begin_rotation(id, moment)?;
@@ -232,7 +234,7 @@ impl<A: Allocator> SessionBook<A> {
         let Some((place, _, channel)) = self.channels.get_full(name) else {
             return Err(SessionFault::NoChannel);
         };
-        if self.threads.len() >= MOST_STREAMS {
+        if self.streams() >= MOST_STREAMS {
             return Err(SessionFault::TooMany);
         }
         Ok((place, *channel))
@@ -262,6 +264,7 @@ impl<A: Allocator> SessionBook<A> {
     pub fn start(&mut self, moment: Moment) -> Result<(), SessionFault>
         ensures answer { result ≡ start_answer self.old }
         ensures after { self.new ≡ after_start moment self.old }
+        ensures streams { self.new.threads ≡ self.old.threads }
     {
         if self.pending.is_some() {
             return Err(SessionFault::RotationPending);
@@ -285,6 +288,7 @@ impl<A: Allocator> SessionBook<A> {
     pub fn stop(&mut self) -> Result<(), SessionFault>
         ensures answer { result ≡ stop_answer self.old }
         ensures after { self.new ≡ after_stop self.old }
+        ensures streams { self.new.threads ≡ self.old.threads }
     {
         if self.pending.is_some() {
             return Err(SessionFault::RotationPending);
@@ -378,6 +382,7 @@ impl<A: Allocator> SessionBook<A> {
     pub fn rotate_finish(&mut self) -> Result<Archive, SessionFault>
         ensures answer { result ≡ rotate_finish_answer self.old }
         ensures after { self.new ≡ after_rotate_finish self.old }
+        ensures streams { self.new.threads ≡ self.old.threads }
     {
         let Some(pending) = self.pending else {
             return Err(SessionFault::NotPending);

@@ -39,7 +39,7 @@ impl<A: Allocator + Copy> Session<A> {
         let Some(pending) = self.book().pending() else {
             return Err(StepFault::Session(SessionFault::NotPending));
         };
-        if pending.cut >= self.streams() {
+        if pending.cut >= self.book().streams() as u64 {
             return Ok(Next::AllCut);
         }
         match self.cut(pending.cut) {
