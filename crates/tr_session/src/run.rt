@@ -13,6 +13,9 @@ use crate::faults::SessionFault;
 use crate::session::Session;
 use std::alloc::Allocator;
 
+#[cfg(test)]
+mod tests;
+
 impl<A: Allocator + Copy> Session<A> {
     /// One event, answered as its call answers. A refusal, also for want of memory, changes nothing.
     pub fn step(&mut self, event: &Event<A>) -> Answer
