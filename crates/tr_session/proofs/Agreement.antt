@@ -1,5 +1,5 @@
 -- A session by what its streams hold, and by their histories: both take the same steps.
-use Rattle.std.proofs.Common.{◌≡◌, ℕ, ◌+◌, ◌≤◌, zero, suc, Bool, true, false, List, [], ◌∷◌, ◌++◌, length, map, Option, Some, None, Result, Ok, Err, refl, sym, ◌∙◌, ap, subst, arith}
+use Rattle.std.proofs.Common.{◌≡◌, ℕ, ◌≤◌, zero, suc, Bool, true, false, List, [], ◌∷◌, ◌++◌, length, map, Option, Some, None, Result, Ok, Err, refl, sym, ◌∙◌, ap, subst, arith}
 use Rattle.std.proofs.lemmas.Bool.Decides.{nat_tests}
 use Rattle.std.proofs.lemmas.Grind.{common_steps}
 use Rattle.std.specs.List.{sum_by}
@@ -8,13 +8,12 @@ use Rattle.std.specs.Option.{option_map_or}
 use Rattle.std.specs.Prelude.{if◌then◌else◌, nat_le, nat_lt, slice_get, is_some}
 use Rattle.std.specs.Str.{bytes_eq}
 use Rattle.tr_book.specs.Geometry.{GeometryState, geometry_of, is_size, is_count}
-use Rattle.tr_book.specs.Parts.{PartState}
 use Rattle.tr_book.specs.declared.geometry.GeometryFault.{GeometryFault}
 use Rattle.tr_book.specs.declared.geometry.GeometryFault.TheVariants as geometry
 use Rattle.tr_book.specs.declared.mode.Mode.{Mode}
 use Rattle.tr_session.specs.Agreement.{AllAgree, CanBeMade, AllCanBeMade, SessionsAgree}
 use Rattle.tr_session.specs.Book.{SessionBookState}
-use Rattle.tr_session.specs.BookSteps.{unless_refused, is_new, is_active, most_channels, channel_named, channel_made, channel_added, thread_place, with_thread, start_answer, started, after_start, stop_answer, stopped, after_stop, switch_answer, rotate_begin_answer, rotating, after_rotate_begin, cut_moment, with_cut, after_note_cut, rotate_finish_answer, archived, after_rotate_finish}
+use Rattle.tr_session.specs.BookSteps.{unless_refused, is_new, most_channels, channel_named, channel_made, channel_added, thread_place, with_thread, start_answer, started, after_start, stop_answer, stopped, after_stop, switch_answer, rotate_begin_answer, rotating, after_rotate_begin, cut_moment, with_cut, rotate_finish_answer, archived, after_rotate_finish}
 use Rattle.tr_session.specs.Session.{SessionOf}
 use Rattle.tr_session.specs.Sizes.{part_packets, part_bytes, archive_packets, archive_bytes}
 use Rattle.tr_session.specs.Steps.{with_book, session_channel_added, next_config, stream_made, thread_added, changed_at, offer_as_step, take_as_step, cut_as_step, offer_step, after_offer_step, take_step, after_take_step, cut_step_at, after_cut_step_at, cut_step, after_cut_step, after_switch_step, all_started, all_stopped, begun, finished, as_next, next_in, next_answer, after_next, cut_first, all_cut, rotated_answer, rotate_answer, after_rotate, fate_asked}
@@ -23,12 +22,10 @@ use Rattle.tr_session.specs.declared.archive.Pending.{Pending}
 use Rattle.tr_session.specs.declared.channel.Channel.{Channel}
 use Rattle.tr_session.specs.declared.faults.SessionFault.{SessionFault}
 use Rattle.tr_session.specs.declared.faults.StepFault.{StepFault}
-use Rattle.tr_session.specs.declared.rotation.Next.{Next}
 use Rattle.tr_session.specs.declared.rotation.Next.TheVariants as next
 use Rattle.tr_stream.proofs.RuleLaws.{agree-made, agree-offered, agree-taken, agree-cut, agree-turned, same-cut, same-fated, same-offered, same-parted, same-taken}
 use Rattle.tr_stream.specs.Rules.{Traced, Agrees, by_state, by_history}
 use Rattle.tr_stream.specs.State.{StreamState}
-use Rattle.tr_stream.specs.declared.config.StreamConfig.{StreamConfig}
 use Rattle.tr_stream.specs.declared.answers.CutDone.{CutDone}
 use Rattle.tr_stream.specs.declared.fate.Fate.{Fate}
 

@@ -1,5 +1,5 @@
 -- What a session's book finds among its channels.
-use Rattle.std.proofs.Common.{◌≡◌, ◌∙◌, ℕ, Bool, cond, true, false, List, [], ◌∷◌, length, map, suc, arith, ◌≤◌, ◌<◌, Result, Ok, Err, Option, Some, None, refl, subst, sym, ap}
+use Rattle.std.proofs.Common.{◌≡◌, ◌∙◌, ℕ, Bool, true, false, List, [], ◌∷◌, length, map, suc, arith, ◌≤◌, ◌<◌, Result, Ok, Err, Option, Some, refl, subst, sym, ap}
 use Rattle.std.proofs.lemmas.Option.{slice_get-map}
 use Rattle.std.proofs.lemmas.Bool.Decides.{nat_tests}
 use Rattle.std.specs.List.{position_or_len}
@@ -55,7 +55,7 @@ module _ {Z : Type 0} where
   channel_of-is es ts b i place e channels threads thread entry =
       let at : slice_get b.threads i ≡ Some place = ap (λ (xs : List ℕ). slice_get xs i) (sym threads) ∙ thread in
       let named : slice_get b.channels place ≡ Some (string_bytes e.0, e.1) =
-          ap (λ cs. slice_get cs place) (sym channels) ∙ slice_get-map (λ (f : String Z × Channel). (string_bytes f.0, f.1)) es place ∙ ap (option_map (λ (f : String Z × Channel). (string_bytes f.0, f.1))) entry in
+      ap (λ cs. slice_get cs place) (sym channels) ∙ slice_get-map (λ (f : String Z × Channel). (string_bytes f.0, f.1)) es place ∙ ap (option_map (λ (f : String Z × Channel). (string_bytes f.0, f.1))) entry in
       rw (at, named) refl
 
 -- a stream whose cut is due is there

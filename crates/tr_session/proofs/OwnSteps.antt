@@ -7,7 +7,7 @@ use Rattle.tr_session.specs.Book.{SessionBookState}
 use Rattle.tr_session.specs.BookSteps.{unless_refused, cut_moment, switch_answer, with_cut}
 use Rattle.tr_session.specs.Events.{after_event, after_events, book_after, cut_let_through, is_of, let_through, own_steps}
 use Rattle.tr_session.specs.Session.{SessionOf}
-use Rattle.tr_session.specs.Steps.{after_cut_step_at, after_switch_step, changed_at}
+use Rattle.tr_session.specs.Steps.{after_cut_step_at, changed_at}
 use Rattle.tr_session.specs.declared.events.Event.{Event}
 use Rattle.tr_session.specs.declared.events.Event.TheVariants.{Offer, Take, Cut, Start, Stop, SessionStart, SessionStop, RotateBegin, RotateFinish}
 use Rattle.tr_session.specs.declared.faults.SessionFault.{SessionFault}

@@ -81,8 +81,8 @@ agree-channels [] a b is = is
 agree-channels (c ∷ cs) a b is =
     agree-then (channel_configured by_state c a) (channel_configured by_history c b) (channels_configured by_state cs) (channels_configured by_history cs)
     (agree-then (session_channel_added (string_bytes c.name) c.size c.count c.mode a) (session_channel_added (string_bytes c.name) c.size c.count c.mode b)
-      (threads_added by_state (string_bytes c.name) c.threads) (threads_added by_history (string_bytes c.name) c.threads)
-      (agree-channel a b is (string_bytes c.name) c.size c.count c.mode) (λ d e agree. agree-threads (string_bytes c.name) c.threads d e agree))
+    (threads_added by_state (string_bytes c.name) c.threads) (threads_added by_history (string_bytes c.name) c.threads)
+    (agree-channel a b is (string_bytes c.name) c.size c.count c.mode) (λ d e agree. agree-threads (string_bytes c.name) c.threads d e agree))
     (λ d e agree. agree-channels cs d e agree)
 
 agree-configured : {A : Type 0} (config : Config A) → ResultsAgree (configured by_state config) (configured by_history config)

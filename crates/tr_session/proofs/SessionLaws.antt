@@ -18,7 +18,6 @@ use Rattle.tr_stream.specs.State.{StreamState}
 use Rattle.tr_stream.specs.StateSteps.{cut_result, state_after_cut}
 use Rattle.tr_stream.specs.declared.answers.CutDone.{CutDone}
 use Rattle.tr_stream.specs.declared.answers.CutFault.{CutFault}
-use Rattle.tr_stream.specs.declared.answers.CutFault.TheVariants as CutFault
 
 -- a step of the book that isn't refused is one of the session
 pub added-ok : {S : Type 0} (ts : List S) (r : Result SessionBookState SessionFault) → IsOk r → IsOk (with_book ts r)
@@ -62,8 +61,7 @@ pub next-cut : (s t : SessionOf StreamState) (p : Pending) (r : Result CutDone S
 next-cut s t p r pending within is after =
     let left : nat_lt p.cut (length s.book.threads) ≡ true = grind (arith, nat_tests, within) in
     let cuts : (if nat_lt p.cut (length s.book.threads) then as_next p.cut (cut_step by_state p.cut s) else Ok next.AllCut) ≡ as_next p.cut (cut_step by_state p.cut s) =
-        ap (λ (b : Bool). if b then as_next p.cut (cut_step by_state p.cut s) else Ok next.AllCut) left in
-    (
+    ap (λ (b : Bool). if b then as_next p.cut (cut_step by_state p.cut s) else Ok next.AllCut) left in (
       ap (as_next p.cut) is ∙ sym cuts ∙ sym (ap (λ (o : Option Pending). next_in by_state o s) pending),
       after ∙ sym (ap (λ (o : Option Pending). option_map_or (λ (q : Pending). after_cut_step by_state q.cut s) o s) pending),
     )

@@ -1,10 +1,10 @@
 -- How much an archive holds, one stream after another.
-use Rattle.std.proofs.Common.{◌≡◌, ◌∙◌, ℕ, ◌+◌, ◌*◌, ◌^◌, ◌≤◌, ◌<◌, zero, suc, List, [], ◌∷◌, Option, Some, None, ap, arith, length, refl, subst, sym, take}
+use Rattle.std.proofs.Common.{◌≡◌, ℕ, ◌+◌, ◌*◌, ◌^◌, ◌≤◌, ◌<◌, zero, suc, List, [], ◌∷◌, Some, arith, sym, take}
 use Rattle.std.proofs.lemmas.Grind.{common_steps}
 use Rattle.std.specs.List.{sum_by}
 use Rattle.std.specs.Prelude.{slice_get}
 use Rattle.tr_session.specs.Session.{SessionOf}
-use Rattle.tr_session.specs.Sizes.{part_packets, part_records, part_bytes, archive_packets, archive_records, archive_bytes}
+use Rattle.tr_session.specs.Sizes.{part_packets, part_records, part_bytes}
 use Rattle.tr_session.specs.declared.archive_size.ArchiveSize.{ArchiveSize}
 use Rattle.tr_stream.specs.Rules.{by_state}
 use Rattle.tr_stream.specs.State.{StreamState}

@@ -49,8 +49,17 @@ impl<A: Allocator> Model for SessionBook<A> {
     ghost Value = { SessionBookState };
 
     ghost view = { λ b. record {
-        uuid = b.uuid; offset = b.offset; mode = b.mode; state = b.state; rotated = b.rotated; last = b.last; begin = b.begin;
-        channels = by_name b.channels.entries; threads = b.threads.items; pending = b.pending; archives = b.archives.items;
+      uuid = b.uuid;
+      offset = b.offset;
+      mode = b.mode;
+      state = b.state;
+      rotated = b.rotated;
+      last = b.last;
+      begin = b.begin;
+      channels = by_name b.channels.entries;
+      threads = b.threads.items;
+      pending = b.pending;
+      archives = b.archives.items;
     } };
 
     ghost use Rattle.std.specs.Prelude.{◌≡◌, ◌<◌, true, is_some, vec_capacity, vec_len};
@@ -59,20 +68,24 @@ impl<A: Allocator> Model for SessionBook<A> {
     // the place of the pending archive is reserved
     ghost invariant = { λ b.
         IsWithinLimits (record {
-            uuid = b.uuid; offset = b.offset; mode = b.mode; state = b.state; rotated = b.rotated; last = b.last; begin = b.begin;
-            channels = by_name b.channels.entries; threads = b.threads.items; pending = b.pending; archives = b.archives.items;
+          uuid = b.uuid;
+          offset = b.offset;
+          mode = b.mode;
+          state = b.state;
+          rotated = b.rotated;
+          last = b.last;
+          begin = b.begin;
+          channels = by_name b.channels.entries;
+          threads = b.threads.items;
+          pending = b.pending;
+          archives = b.archives.items;
         })
         × (is_some b.pending ≡ true → vec_len b.archives < vec_capacity b.archives) };
 }
 
 impl<A: Allocator + Copy> SessionBook<A> {
     /// A book in which nothing is noted. It takes no memory.
-    pub fn new(
-        alloc: A,
-        uuid: Uuid,
-        offset: OffsetMinutes,
-        mode: SessionMode,
-    ) -> SessionBook<A>
+    pub fn new(alloc: A, uuid: Uuid, offset: OffsetMinutes, mode: SessionMode) -> SessionBook<A>
         ensures { result ≡ new_book uuid offset mode }
     {
         SessionBook {

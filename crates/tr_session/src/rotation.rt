@@ -11,6 +11,9 @@ use std::alloc::{AllocError, Allocator};
 use tr_record::Moment;
 use tr_stream::CutFault;
 
+#[cfg(test)]
+mod tests;
+
 /// What a rotation did next.
 #[derive(Clone, Copy, Debug, PartialEq, Eq)]
 pub enum Next {

@@ -16,7 +16,10 @@ use std::marker::Model;
 use tr_book::Mode;
 use tr_chunk::OffsetMinutes;
 use tr_record::Moment;
-use tr_stream::{CutDone, CutFault, Fate, OfferFault, Offered, SessionMode, Stream, StreamConfig, TakeFault, Taken};
+use tr_stream::{
+    CutDone, CutFault, Fate, OfferFault, Offered, SessionMode, Stream, StreamConfig, TakeFault,
+    Taken,
+};
 use uuid::Uuid;
 
 /// A session: its book, and its streams by number. Contracts see a `SessionOf StreamState`.

@@ -1,4 +1,4 @@
-use Rattle.std.proofs.Common.{◌≡◌, ◌∙◌, ℕ, Ok, ap, arith, refl, sym}
+use Rattle.std.proofs.Common.{◌≡◌, ◌∙◌, ℕ, ap, arith, refl}
 use Rattle.tr_session.proofs.RunLaws.{threads-more, threads-refused}
 use Rattle.tr_session.proofs.run.add_threads.Goals as goal
 use Rattle.tr_session.specs.Runs.{threads_added}

@@ -1,15 +1,11 @@
-use Rattle.std.proofs.Common.{◌≡◌, ◌∙◌, ◌++◌, List, ap, false, refl, rules, sym}
-use Rattle.tr_session.proofs.ResultLaws.{if-err}
-use Rattle.tr_session.proofs.RunAgreement.{has-run, refused-alike}
+use Rattle.std.proofs.Common.{◌≡◌, ◌++◌, List, ap, false, refl, rules}
+use Rattle.tr_session.proofs.RunAgreement.{has-run}
 use Rattle.tr_session.proofs.RunLaws.{runs-end, runs-more}
 use Rattle.tr_session.proofs.run.run_session.Goals as goal
 use Rattle.tr_session.specs.Events.{answers_to}
 use Rattle.tr_session.specs.Faults.{answer_wants_memory}
 use Rattle.tr_session.specs.declared.events.Answer.{Answer}
 use Rattle.tr_stream.specs.Rules.{by_state}
-
-pub returns-in_err-session-clause-refused : goal.returns-in_err-session-clause-refused
-returns-in_err-session-clause-refused g c = ?
 
 pub events-init : goal.events-init
 events-init g c = record { told = ap (λ (before : List Answer). before ++ answers_to by_state c.args.events.now c.in_ok-session.session) c.new-answers.ensures.items; leads = refl }
@@ -19,7 +15,7 @@ events-preserved g c =
     let memory : answer_wants_memory c.step-answer.result ≡ false = search rules in
     let did = c.step-answer.ensures.value memory in
     runs-more by_state c.args.events.now c.in_ok-session.session c.events.event-index c.events.session c.step-answer.new.self c.events.answers.items c.push.new.self.items c.event-item.result c.step-answer.result
-        c.events-test.true c.event-item.is c.events.invariant did.0 did.1 ?
+    c.events-test.true c.event-item.is c.events.invariant did.0 did.1 c.in_default.ensures.items
 
 pub returns-clause-ran : goal.returns-clause-ran
 returns-clause-ran g c =

@@ -1,4 +1,4 @@
-use Rattle.std.proofs.Common.{◌∙◌, ap, sym, length, None, Some, true, ◌≡◌, rules}
+use Rattle.std.proofs.Common.{◌∙◌, ap, sym, None, Some, true, ◌≡◌, rules}
 use Rattle.tr_session.proofs.BookLaws.{place-full, place-left, thread_place-is}
 use Rattle.tr_session.proofs.NameLaws.{lookup-by_name}
 use Rattle.tr_session.proofs.book.SessionBook.channel_at.Goals as goal

@@ -1,8 +1,7 @@
-use Rattle.std.proofs.Common.{◌≡◌, ◌∙◌, ℕ, List, Result, Ok, Err, ap, sym, subst}
+use Rattle.std.proofs.Common.{◌∙◌, ap, sym, subst}
 use Rattle.std.specs.Prelude.{IsOk, length}
 use Rattle.tr_session.proofs.ResultLaws.{on-ok, on-err, if-err}
 use Rattle.tr_session.proofs.SessionLaws.{added-ok}
-use Rattle.tr_session.specs.BookSteps.{channel_added}
 use Rattle.tr_session.specs.Steps.{session_channel_added, with_book}
 use Rattle.tr_session.proofs.session.Session.add_channel.Goals as goal
 use Rattle.tr_session.specs.Book.{SessionBookState}

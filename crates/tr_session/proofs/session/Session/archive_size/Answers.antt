@@ -1,4 +1,4 @@
-use Rattle.std.proofs.Common.{◌≡◌, ◌≤◌, ◌<◌, ◌∙◌, ℕ, List, Some, ap, arith, length, refl, sym, subst, take}
+use Rattle.std.proofs.Common.{◌≡◌, ◌≤◌, ◌∙◌, ℕ, List, Some, ap, arith, length, refl, sym, subst}
 use Rattle.std.proofs.lemmas.List.{take_all}
 use Rattle.std.specs.List.{sum_by}
 use Rattle.std.specs.Prelude.{slice_get}
@@ -24,7 +24,7 @@ pub streams-preserved : goal.streams-preserved
 streams-preserved g c =
     let at : slice_get c.args.self.now.streams c.streams.i ≡ Some c.in-Some.stream.now = sym c.in-Some.ensures in
     tallies-more c.streams.i c.args.id c.args.self.now c.streams.size c.part_size-part.result c.in-Some.stream.now c.streams.invariant at
-        c.part_size-part.ensures.packets c.part_size-part.ensures.records c.part_size-part.ensures.bytes c.part_size-part.ensures.few
+    c.part_size-part.ensures.packets c.part_size-part.ensures.records c.part_size-part.ensures.bytes c.part_size-part.ensures.few
 
 pub returns-clause-packets : goal.returns-clause-packets
 returns-clause-packets g c =

@@ -1,4 +1,4 @@
-use Rattle.std.proofs.Common.{◌≡◌, ◌≢◌, ◌∙◌, ◌≤◌, ℕ, Result, Err, ap, arith, length, refl, rules, subst, sym}
+use Rattle.std.proofs.Common.{◌≡◌, ◌≢◌, ◌∙◌, ◌≤◌, ℕ, Err, ap, arith, refl, rules, subst}
 use Rattle.tr_session.proofs.SessionLaws.{cut_first-more}
 use Rattle.tr_session.proofs.session.Session.cut_all.Goals as goal
 use Rattle.tr_session.specs.Steps.{cut_first}

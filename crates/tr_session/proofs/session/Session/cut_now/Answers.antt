@@ -1,5 +1,4 @@
 use Rattle.std.proofs.Common.{◌≡◌, ◌∙◌, ◌<◌, ℕ, List, Ok, length, ap, sym, subst}
-use Rattle.std.specs.Prelude.{option_map, slice_get}
 use Rattle.tr_session.proofs.BookLaws.{due-within}
 use Rattle.tr_session.proofs.SessionLaws.{cut-noted, cut-wants-memory, only-memory, ok-not-err}
 use Rattle.tr_session.proofs.session.Session.cut_now.Goals as goal

@@ -1,4 +1,4 @@
-use Rattle.std.proofs.Common.{◌≡◌, ◌∙◌, ℕ, List, Result, Ok, Err, ap, sym, subst}
+use Rattle.std.proofs.Common.{◌∙◌, ap, sym, subst}
 use Rattle.std.specs.Prelude.{IsOk, length}
 use Rattle.tr_session.specs.BookSteps.{rotate_begin_answer}
 use Rattle.tr_session.specs.Steps.{begun}
