@@ -5,6 +5,5 @@ pub mod FaultLemmas
 pub mod LineSteps
 pub mod RunLemmas
 pub mod ScriptAgreement
-pub mod SessionAgreement
 pub mod StatusLaws
 pub mod WorldAgreement

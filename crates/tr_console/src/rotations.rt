@@ -67,11 +67,9 @@ pub fn rotate_finish_at<A: Allocator>(
     let Some(found) = sessions.get_mut(session) else {
         return Err(LineFault::NoSession);
     };
+    let offset = found.book().offset();
     match found.rotate_finish() {
-        Ok(archive) => Ok(NamedArchive {
-            archive,
-            offset: found.book().offset(),
-        }),
+        Ok(archive) => Ok(NamedArchive { archive, offset }),
         Err(fault) => Err(LineFault::Session(fault)),
     }
 }
@@ -89,11 +87,9 @@ pub fn rotate_at<A: Allocator + Copy>(
     let Some(found) = sessions.get_mut(session) else {
         return Err(LineFault::NoSession);
     };
+    let offset = found.book().offset();
     match found.rotate(moment) {
-        Ok(archive) => Ok(NamedArchive {
-            archive,
-            offset: found.book().offset(),
-        }),
+        Ok(archive) => Ok(NamedArchive { archive, offset }),
         Err(fault) => Err(LineFault::Session(fault)),
     }
 }
