@@ -1,7 +1,8 @@
 -- What the code does to the map of sessions, said of the world that the map shows.
 use Rattle.std.proofs.Common.{◌≡◌, ◌≢◌, ◌∙◌, ℕ, Bool, cond, true, false, List, [], ◌∷◌, ◌++◌, Option, Some, None, Result, Ok, Err, codes, refl, sym, ap, subst}
+use Rattle.std.proofs.lemmas.Option.{slice_get-map}
 use Rattle.std.specs.Map.{lookup, set_value}
-use Rattle.std.specs.Prelude.{String, ℤ}
+use Rattle.std.specs.Prelude.{String, ℤ, option_map, slice_get}
 use Rattle.std.specs.Str.{bytes_eq}
 use Rattle.std.specs.String.{string_bytes}
 use Rattle.tr_book.specs.declared.mode.Mode.{Mode}
@@ -42,6 +43,10 @@ module _ {Z S : Type 0} where
   -- a session in its place is the world's
   pub set-is : (name : Text) (es after : List (String Z × SessionOf S)) (s : SessionOf S) → after ≡ set_value (is_named name) es s → by_name after ≡ with_session name (by_name es) s
   set-is name es after s is = ap by_name is ∙ set_value-by_name name es s
+
+  -- what the map has at a place is what the world has there
+  pub entry-is : (es : List (String Z × SessionOf S)) (k : ℕ) (o : Option (String Z × SessionOf S)) → o ≡ slice_get es k → option_map (λ (e : String Z × SessionOf S). (string_bytes e.0, e.1)) o ≡ slice_get (by_name es) k
+  entry-is es k o is = ap (option_map (λ (e : String Z × SessionOf S). (string_bytes e.0, e.1))) is ∙ sym (slice_get-map (λ (e : String Z × SessionOf S). (string_bytes e.0, e.1)) es k)
 
   same-set : (test : String Z → Bool) (es : List (String Z × SessionOf S)) (s : SessionOf S) → lookup test es ≡ Some s → set_value test es s ≡ es
   same-set test [] s found = refl

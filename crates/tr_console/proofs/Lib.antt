@@ -1,6 +1,8 @@
 pub mod AnswerLaws
+pub mod ArchiveLaws
 pub mod CallLaws
 pub mod ColumnLaws
+pub mod DropLaws
 pub mod FaultLemmas
 pub mod LineSteps
 pub mod RunLemmas

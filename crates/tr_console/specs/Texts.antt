@@ -133,10 +133,10 @@ archive_lines rules s [] = []
 archive_lines rules s (archive ∷ archives) = archive_line rules s archive ++ (10 ∷ archive_lines rules s archives)
 
 -- a line for each archive, or one that says that there is none
-abbrev pub archives_of : {S : Type 0} → StreamRules S → SessionOf S → List Archive → Text
-archives_of rules s [] = codes "none" ++ 10 ∷ []
-archives_of rules s (archive ∷ archives) = archive_lines rules s (archive ∷ archives)
+abbrev pub lines_or_none : {S : Type 0} → StreamRules S → SessionOf S → List Archive → Text
+lines_or_none rules s [] = codes "none" ++ 10 ∷ []
+lines_or_none rules s (archive ∷ archives) = archive_lines rules s (archive ∷ archives)
 
 -- the answer about archives, with its line feeds
 abbrev pub archives_text : {S : Type 0} → StreamRules S → SessionOf S → Text
-archives_text rules s = archives_of rules s s.book.archives
+archives_text rules s = lines_or_none rules s s.book.archives

@@ -25,7 +25,7 @@ returns-in-Ok g c = λ kept.
     let found : lookup (is_named name) es ≡ Some s = sym c.in-Some.ensures.value in
     let t = c.rotate.new.self in
     let told = c.in-Ok.ensures.value (λ e. cc) in
-    call-some name (λ (s : SessionOf StreamState). named s (rotate_answer by_state c.args.moment s)) (after_rotate by_state c.args.moment) (by_name es) (by_name (c.get_mut.follows.lender t).entries) s t (Ok (record { archive = c.in-Ok.archive; offset = c.offset.result })) (named-is name es (Some s) found) (named-ok s c.in-Ok.archive c.offset.result _ told.0 (search rules)) (told.1) (set-is name es (c.get_mut.follows.lender t).entries t (c.get_mut.follows.holds t).0)
+    call-some name (λ (s : SessionOf StreamState). named s (rotate_answer by_state c.args.moment s)) (after_rotate by_state c.args.moment) (by_name es) (by_name (c.get_mut.follows.lender t).entries) s t (Ok (record { archive = c.in-Ok.archive; offset = c.offset-offset.result })) (named-is name es (Some s) found) (named-ok s c.in-Ok.archive c.offset-offset.result _ told.0 (search rules)) (told.1) (set-is name es (c.get_mut.follows.lender t).entries t (c.get_mut.follows.holds t).0)
 
 pub returns-in-Err : goal.returns-in-Err
 returns-in-Err g c = λ kept.
