@@ -168,12 +168,7 @@ impl<A: Allocator + Copy> Console<A> {
     }
 
     /// `create`
-    fn create(
-        &mut self,
-        session: &str,
-        uuid: &str,
-        offset: i32,
-    ) -> Result<Reply<A>, AllocError>
+    fn create(&mut self, session: &str, uuid: &str, offset: i32) -> Result<Reply<A>, AllocError>
         requires { IsOffset offset }
         ensures { IfOk result (Does (create_answer self.old session.now uuid.now offset) self.new) }
     {

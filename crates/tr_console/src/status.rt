@@ -56,7 +56,10 @@ fn push_sizes<A: Allocator + Copy>(
     let channels = book.channels();
     let streams = book.streams();
     let archives = book.archives().len();
-    match write!(text, " channels {channels} streams {streams} archives {archives}") {
+    match write!(
+        text,
+        " channels {channels} streams {streams} archives {archives}"
+    ) {
         Ok(()) => Ok(()),
         Err(_) => Err(AllocError),
     }

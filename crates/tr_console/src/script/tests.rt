@@ -99,7 +99,12 @@ pub fn is_answered(
 }
 
 /// Whether these lines, where a session has one stream and is started, have this answer, with so many refused lines.
-pub fn goes_on(alloc: Global, lines: &str, answer: &str, refused: u64) -> Result<bool, ScriptFault> {
+pub fn goes_on(
+    alloc: Global,
+    lines: &str,
+    answer: &str,
+    refused: u64,
+) -> Result<bool, ScriptFault> {
     let script = joined(alloc, &[OPENING, lines])?;
     let text = joined(alloc, &[OPENED, answer])?;
     is_answered(alloc, script.as_slice(), text.as_slice(), refused)

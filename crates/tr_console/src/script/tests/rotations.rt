@@ -146,7 +146,10 @@ in chunk 0 1
 fn cuts_streams_one_after_another(rt: HostRuntime) -> Result<(), Fail> {
     let alloc = rt.alloc();
     let script = joined(alloc, &[TWO_STREAMS, STEPS, LAST_STEPS])?;
-    let text = joined(alloc, &[TWO_STREAMS_ANSWERS, STEPS_ANSWERS, LAST_STEPS_ANSWERS])?;
+    let text = joined(
+        alloc,
+        &[TWO_STREAMS_ANSWERS, STEPS_ANSWERS, LAST_STEPS_ANSWERS],
+    )?;
     assert!(rt; is_answered(alloc, script.as_slice(), text.as_slice(), 1)?);
     Ok(())
 }
