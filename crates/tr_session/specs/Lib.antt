@@ -1,3 +1,4 @@
+pub mod Agreement
 pub mod Audits
 pub mod Book
 pub mod BookSteps

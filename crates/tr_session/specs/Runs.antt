@@ -1,7 +1,6 @@
 -- A session over a configuration and a list of events.
 use Rattle.std.specs.Prelude.{◌≡◌, ℕ, zero, suc, List, [], ◌∷◌, Some, Result, Ok, Err, slice_get}
 use Rattle.std.specs.String.{string_bytes}
-use Rattle.tr_session.specs.Book.{SessionBookState}
 use Rattle.tr_session.specs.Events.{after_events, answers_to, own_steps}
 use Rattle.tr_session.specs.Session.{SessionOf, new_session}
 use Rattle.tr_session.specs.Steps.{session_channel_added, thread_added}

@@ -21,4 +21,3 @@ pub struct Pending {
     /// How many streams it has cut.
     pub cut: u64,
 }
-

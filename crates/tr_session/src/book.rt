@@ -49,8 +49,17 @@ impl<A: Allocator> Model for SessionBook<A> {
     ghost Value = { SessionBookState };
 
     ghost view = { λ b. record {
-        uuid = b.uuid; offset = b.offset; mode = b.mode; state = b.state; rotated = b.rotated; last = b.last; begin = b.begin;
-        channels = by_name b.channels.entries; threads = b.threads.items; pending = b.pending; archives = b.archives.items;
+      uuid = b.uuid;
+      offset = b.offset;
+      mode = b.mode;
+      state = b.state;
+      rotated = b.rotated;
+      last = b.last;
+      begin = b.begin;
+      channels = by_name b.channels.entries;
+      threads = b.threads.items;
+      pending = b.pending;
+      archives = b.archives.items;
     } };
 
     ghost use Rattle.std.specs.Prelude.{◌≡◌, ◌<◌, true, is_some, vec_capacity, vec_len};
@@ -59,20 +68,24 @@ impl<A: Allocator> Model for SessionBook<A> {
     // the place of the pending archive is reserved
     ghost invariant = { λ b.
         IsWithinLimits (record {
-            uuid = b.uuid; offset = b.offset; mode = b.mode; state = b.state; rotated = b.rotated; last = b.last; begin = b.begin;
-            channels = by_name b.channels.entries; threads = b.threads.items; pending = b.pending; archives = b.archives.items;
+          uuid = b.uuid;
+          offset = b.offset;
+          mode = b.mode;
+          state = b.state;
+          rotated = b.rotated;
+          last = b.last;
+          begin = b.begin;
+          channels = by_name b.channels.entries;
+          threads = b.threads.items;
+          pending = b.pending;
+          archives = b.archives.items;
         })
         × (is_some b.pending ≡ true → vec_len b.archives < vec_capacity b.archives) };
 }
 
 impl<A: Allocator + Copy> SessionBook<A> {
     /// A book in which nothing is noted. It takes no memory.
-    pub fn new(
-        alloc: A,
-        uuid: Uuid,
-        offset: OffsetMinutes,
-        mode: SessionMode,
-    ) -> SessionBook<A>
+    pub fn new(alloc: A, uuid: Uuid, offset: OffsetMinutes, mode: SessionMode) -> SessionBook<A>
         ensures { result ≡ new_book uuid offset mode }
     {
         SessionBook {
@@ -106,6 +119,7 @@ impl<A: Allocator + Copy> SessionBook<A> {
         ensures ok { OnOk result (channel_added name.now size count mode self.old ≡ Ok self.new) }
         ensures refused { IfErr result (λ fault. fault ≢ SessionFault.NoMemory → channel_added name.now size count mode self.old ≡ Err fault) }
         ensures memory { result ≡ Err SessionFault.NoMemory → IsOk (channel_added name.now size count mode self.old) }
+        ensures streams { self.new.threads ≡ self.old.threads }
         ensures unchanged { OnErr result (self.new ≡ self.old) }
     {
         let channel = self.channel_for(name, size, count, mode)?;
@@ -163,6 +177,7 @@ impl<A: Allocator + Copy> SessionBook<A> {
             (result ≡ rotate_begin_answer self.old) × (self.new ≡ after_rotate_begin moment self.old) }
         ensures no_memory { result ≡ Err SessionFault.NoMemory → self.new ≡ self.old }
         ensures memory { result ≡ Err SessionFault.NoMemory → IsOk (rotate_begin_answer self.old) }
+        ensures streams { self.new.threads ≡ self.old.threads }
     {
         let id = self.next_chunk()?;
         self.begin_rotation(id, moment)?;
@@ -232,7 +247,7 @@ impl<A: Allocator> SessionBook<A> {
         let Some((place, _, channel)) = self.channels.get_full(name) else {
             return Err(SessionFault::NoChannel);
         };
-        if self.threads.len() >= MOST_STREAMS {
+        if self.streams() >= MOST_STREAMS {
             return Err(SessionFault::TooMany);
         }
         Ok((place, *channel))
@@ -262,6 +277,7 @@ impl<A: Allocator> SessionBook<A> {
     pub fn start(&mut self, moment: Moment) -> Result<(), SessionFault>
         ensures answer { result ≡ start_answer self.old }
         ensures after { self.new ≡ after_start moment self.old }
+        ensures streams { self.new.threads ≡ self.old.threads }
     {
         if self.pending.is_some() {
             return Err(SessionFault::RotationPending);
@@ -285,6 +301,7 @@ impl<A: Allocator> SessionBook<A> {
     pub fn stop(&mut self) -> Result<(), SessionFault>
         ensures answer { result ≡ stop_answer self.old }
         ensures after { self.new ≡ after_stop self.old }
+        ensures streams { self.new.threads ≡ self.old.threads }
     {
         if self.pending.is_some() {
             return Err(SessionFault::RotationPending);
@@ -378,6 +395,7 @@ impl<A: Allocator> SessionBook<A> {
     pub fn rotate_finish(&mut self) -> Result<Archive, SessionFault>
         ensures answer { result ≡ rotate_finish_answer self.old }
         ensures after { self.new ≡ after_rotate_finish self.old }
+        ensures streams { self.new.threads ≡ self.old.threads }
     {
         let Some(pending) = self.pending else {
             return Err(SessionFault::NotPending);

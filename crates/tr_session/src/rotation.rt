@@ -11,6 +11,9 @@ use std::alloc::{AllocError, Allocator};
 use tr_record::Moment;
 use tr_stream::CutFault;
 
+#[cfg(test)]
+mod tests;
+
 /// What a rotation did next.
 #[derive(Clone, Copy, Debug, PartialEq, Eq)]
 pub enum Next {
@@ -39,7 +42,7 @@ impl<A: Allocator + Copy> Session<A> {
         let Some(pending) = self.book().pending() else {
             return Err(StepFault::Session(SessionFault::NotPending));
         };
-        if pending.cut >= self.streams() {
+        if pending.cut >= self.book().streams() as u64 {
             return Ok(Next::AllCut);
         }
         match self.cut(pending.cut) {

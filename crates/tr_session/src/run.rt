@@ -13,6 +13,9 @@ use crate::faults::SessionFault;
 use crate::session::Session;
 use std::alloc::Allocator;
 
+#[cfg(test)]
+mod tests;
+
 impl<A: Allocator + Copy> Session<A> {
     /// One event, answered as its call answers. A refusal, also for want of memory, changes nothing.
     pub fn step(&mut self, event: &Event<A>) -> Answer
@@ -70,12 +73,9 @@ fn add_configured<A: Allocator + Copy>(
 }
 
 /// The session of a configuration, or why there is none.
-fn configure<A: Allocator + Copy>(
-    alloc: A,
-    config: &Config<A>,
-) -> Result<Session<A>, SessionFault>
+fn configure<A: Allocator + Copy>(alloc: A, config: &Config<A>) -> Result<Session<A>, SessionFault>
     ensures ok { IfOk result (λ s. configured by_state config.now ≡ Ok s) }
-    ensures refused { IfErr result (λ fault. fault ≢ SessionFault.NoMemory → configured by_state config.now ≡ Err fault) }
+    ensures refused { IfErr result (λ fault. fault ≢ SessionFault.NoMemory → configured by_history config.now ≡ Err fault) }
 {
     let mut session = Session::new(alloc, config.uuid, config.offset, config.mode);
     'channels: for channel in config.channels.iter() {
@@ -107,7 +107,7 @@ pub fn run_session<A: Allocator + Copy>(
         if answer.wants_memory() {
             return Err(SessionFault::NoMemory);
         }
-        if answers.push(answer).is_err() {
+        if let Err(_) = answers.push(answer) {
             return Err(SessionFault::NoMemory);
         }
     }

@@ -1,6 +1,6 @@
 //! A session, and its rules.
 
-ghost use Rattle.std.specs.Prelude.{◌≡◌, ◌≢◌, ◌<◌, ◌∷◌, ◌++◌, [], true, false, Some, Ok, Err, IsOk, IsSome, IfOk, OnOk, IfErr, OnErr, length, option_copied, slice_get};
+ghost use Rattle.std.specs.Prelude.{◌≡◌, ◌≢◌, ◌≤◌, ◌<◌, ◌∷◌, ◌++◌, [], true, false, Some, Ok, Err, IsOk, IsSome, IfOk, OnOk, IfErr, OnErr, length, option_copied, slice_get};
 ghost use Rattle.tr_session.specs.BookSteps.{most_streams, with_thread, start_answer, after_start, stop_answer, after_stop, switch_answer, rotate_begin_answer, cut_moment, rotate_finish_answer};
 ghost use Rattle.tr_session.specs.Session.{new_session};
 ghost use Rattle.tr_session.specs.Steps.{session_channel_added, next_config, thread_added, StepTakesMemory, offer_step, after_offer_step, take_step, after_take_step, cut_step, after_cut_step, after_switch_step, all_started, all_stopped, begun, finished, fate_asked};
@@ -16,7 +16,10 @@ use std::marker::Model;
 use tr_book::Mode;
 use tr_chunk::OffsetMinutes;
 use tr_record::Moment;
-use tr_stream::{CutDone, CutFault, Fate, OfferFault, Offered, SessionMode, Stream, StreamConfig, TakeFault, Taken};
+use tr_stream::{
+    CutDone, CutFault, Fate, OfferFault, Offered, SessionMode, Stream, StreamConfig, TakeFault,
+    Taken,
+};
 use uuid::Uuid;
 
 /// A session: its book, and its streams by number. Contracts see a `SessionOf StreamState`.
@@ -308,9 +311,10 @@ impl<A: Allocator> Session<A> {
 
     /// How many streams there are.
     pub fn streams(&self) -> u64
-        ensures { result ≡ length self.now.streams }
+        ensures value { result ≡ length self.now.streams }
+        ensures within { result ≤ most_streams }
     {
-        self.streams.len() as u64
+        self.book.streams() as u64
     }
 
     /// The stream of this number.

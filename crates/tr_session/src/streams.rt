@@ -13,14 +13,16 @@ use tr_stream::{CutDone, CutFault, OfferFault, Offered, Stream, TakeFault, Taken
 /// Lets the stream of this number take offers, or lets it refuse them.
 pub fn switch_at<A: Allocator>(streams: &mut Vec<Stream<A>, A>, active: bool, i: usize)
     requires { i < length streams.old.items }
-    ensures { streams.new.items ≡ changed_at i (state_switched active) streams.old.items }
+    ensures value { streams.new.items ≡ changed_at i (state_switched active) streams.old.items }
+    ensures count { length streams.new.items ≡ length streams.old.items }
 {
     streams[i].set_active(active);
 }
 
 /// Lets each stream take offers, or lets each refuse them.
 pub fn switch<A: Allocator>(streams: &mut Vec<Stream<A>, A>, active: bool)
-    ensures { streams.new.items ≡ map (state_switched active) streams.old.items }
+    ensures value { streams.new.items ≡ map (state_switched active) streams.old.items }
+    ensures count { length streams.new.items ≡ length streams.old.items }
 {
     'each: for i in 0..streams.len() {
         switch_at(streams, active, i);
@@ -105,6 +107,7 @@ pub fn cut_at<A: Allocator + Copy>(
         (option_map (cut_result moment) (slice_get streams.old.items i) ≡ Some result)
         × (streams.new.items ≡ changed_at i (state_after_cut moment) streams.old.items) }
     ensures no_memory { result ≡ Err CutFault.NoMemory → streams.new.items ≡ streams.old.items }
+    ensures count { length streams.new.items ≡ length streams.old.items }
 {
     streams[i as usize].cut(moment)
 }

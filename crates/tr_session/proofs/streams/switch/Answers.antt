@@ -8,9 +8,9 @@ pub each-preserved : goal.each-preserved
 each-preserved g c =
     let on : StreamState → StreamState = state_switched c.args.active in
     record {
-      items = changed_before-more on c.each.i c.args.streams.now.items c.each.streams.items _ (omega arith) c.each.invariant.items c.switch_at.ensures;
-      count = ap length c.switch_at.ensures ∙ length-changed_at on c.each.i c.each.streams.items ∙ c.each.invariant.count;
+      items = changed_before-more on c.each.i c.args.streams.now.items c.each.streams.items _ (omega arith) c.each.invariant.items c.switch_at.ensures.value;
+      count = ap length c.switch_at.ensures.value ∙ length-changed_at on c.each.i c.each.streams.items ∙ c.each.invariant.count;
     }
 
-pub returns : goal.returns
-returns g c = c.each.invariant.items ∙ changed_before-all (state_switched c.args.active) c.each.i c.args.streams.now.items (omega arith)
+pub returns-clause-value : goal.returns-clause-value
+returns-clause-value g c = c.each.invariant.items ∙ changed_before-all (state_switched c.args.active) c.each.i c.args.streams.now.items (omega arith)
