@@ -38,3 +38,7 @@ fits-count i n size part within few all one = omega (arith, within, few, all, on
 
 pub fits-bytes : (i n size part : ℕ) → i < n → n ≤ 256 → size ≤ i * 2 ^ 80 → part < 2 ^ 80 → size + part < 2 ^ 128
 fits-bytes i n size part within few all one = omega (arith, within, few, all, one)
+
+-- a record has at most 65,536 bytes
+pub fits-part : (bytes n records : ℕ) → bytes ≤ 65536 * records → n ≡ records → n < 2 ^ 64 → bytes < 2 ^ 80
+fits-part bytes n records small is few = omega (arith, small, is, few)
