@@ -1,5 +1,5 @@
 -- The lines of a status.
-use Rattle.std.proofs.Common.{◌≡◌, ◌∙◌, ℕ, ◌+◌, List, [], ◌∷◌, ◌++◌, Some, drop, length, refl, sym, ap, append_assoc, append-nil}
+use Rattle.std.proofs.Common.{◌≡◌, ◌∙◌, ℕ, ◌+◌, List, [], ◌∷◌, ◌++◌, Some, drop, length, sym, ap, append_assoc, append-nil}
 use Rattle.std.specs.Prelude.{slice_get}
 use Rattle.tr_console.proofs.DropLaws.{drop-got, drop-all}
 use Rattle.tr_console.specs.Texts.{Text, status_head, status_line, status_row, status_rows, status_text}

@@ -1,5 +1,5 @@
 -- Why a line is refused, as its answer prints it.
-use Rattle.std.specs.Prelude.{ℕ, Bool, true, false, List, codes}
+use Rattle.std.specs.Prelude.{ℕ, Bool, false, List, codes}
 use Rattle.tr_console.specs.declared.faults.LineFault.{LineFault}
 use Rattle.tr_console.specs.declared.faults.LineFault.TheVariants.{NoSession, BadUuid, BadName, Session, Step}
 use Rattle.tr_session.specs.Faults.{session_fault_code, session_fault_name, session_wants_memory, step_fault_code, step_fault_name, step_wants_memory}

@@ -1,4 +1,4 @@
-use Rattle.std.proofs.Common.{◌≡◌, IfOk, to_z, of_z, w32}
+use Rattle.std.proofs.Common.{IfOk}
 use Rattle.tr_console.proofs.AnswerLaws.{as_passed}
 use Rattle.tr_console.proofs.console.Console.answer_request.Goals as goal
 use Rattle.std.specs.Prelude.{ℤ}

@@ -1,4 +1,4 @@
-use Rattle.std.proofs.Common.{◌≡◌, ◌∙◌, None, Some, ap}
+use Rattle.std.proofs.Common.{◌∙◌, None, Some, ap}
 use Rattle.std.specs.Prelude.{slice_get}
 use Rattle.tr_console.proofs.CallLaws.{entry-is}
 use Rattle.tr_console.proofs.console.Console.session.Goals as goal
