@@ -1,6 +1,6 @@
 //! A part: what a stream's ring gave to one trace chunk.
 
-ghost use Rattle.std.specs.Prelude.{◌≡◌, ◌+◌, ◌<◌, ◌^◌, ◌∷◌, [], ◌++◌, OnOk, OnErr, IfErr, length};
+ghost use Rattle.std.specs.Prelude.{◌≡◌, ◌≤◌, ◌+◌, ◌*◌, ◌<◌, ◌^◌, ◌∷◌, [], ◌++◌, OnOk, OnErr, IfErr, length};
 ghost use Rattle.tr_book.specs.Parts.{AreTallied, bytes_of, records_of, empty_part, seq_among};
 ghost use Rattle.tr_record.specs.Records.{has_serial};
 
@@ -63,7 +63,8 @@ impl<A: Allocator> Part<A> {
 
     /// The bytes of all its packets.
     pub fn bytes(&self) -> u128
-        ensures { result ≡ bytes_of self.now.packets }
+        ensures value { result ≡ bytes_of self.now.packets }
+        ensures small { result ≤ 65536 * records_of self.now.packets }
     {
         self.bytes
     }

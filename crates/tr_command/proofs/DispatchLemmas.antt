@@ -1,5 +1,5 @@
 -- A line whose first word names a command is read as by a command line with that command alone.
-use Rattle.std.proofs.Common.{◌≡◌, ◌∙◌, refl, sym, ap, ap₂, codes, Bool, true, false, List, [], ◌∷◌, ◌++◌, Some, None, Option, is_some, cond, subst, option_and_then}
+use Rattle.std.proofs.Common.{◌≡◌, ◌≢◌, ◌∙◌, refl, sym, ap, ap₂, codes, Bool, true, false, List, [], ◌∷◌, ◌++◌, Some, None, Option, is_some, cond, subst, option_and_then}
 use Rattle.std.specs.Prelude.{fold}
 use Rattle.std.specs.Str.{bytes_eq}
 use Rattle.std.proofs.lemmas.Slice.Eq.{bytes_eq-Decides}
@@ -10,7 +10,7 @@ use Rattle.clap.specs.Kinds.{Kinds, or_else}
 use Rattle.clap.specs.Words.{Row, is_simple, subcommand_of}
 use Rattle.clap.proofs.OnLiterals.{clap_on_literals}
 use Rattle.clap.proofs.WalkLemmas.{walk_stopped}
-use Rattle.tr_command.specs.CommandLine.{channel_app, consume_app, create_app, fate_app, offer_app, script_app, start_app, status_app, thread_app}
+use Rattle.tr_command.specs.CommandLine.{archives_app, channel_app, consume_app, create_app, fate_app, offer_app, rotate_app, rotate_begin_app, rotate_finish_app, rotate_next_app, script_app, start_app, status_app, stop_app, thread_app}
 use Rattle.tr_command.specs.Dispatch.{alone, app_for, command_word}
 use Rattle.tr_command.specs.Asked.{Asked}
 use Rattle.tr_command.specs.Language.{asked_from, asked_of, is_free_of_faults}
@@ -79,6 +79,14 @@ start-reads_same program rest = (
       ∙ sym (ap (λ (w : Walk). entered (built script_app) w.stopped) (walk-first (built script_app) (codes "start") rest refl)),
 )
 
+stop-reads_same : (program : Text) (rest : List Text) → ReadsSame (alone stop_app) script_app (program ∷ codes "stop" ∷ rest)
+unfolding clap_on_literals
+stop-reads_same program rest = (
+  fault-first (built (alone stop_app)) (codes "stop") rest refl refl ∙ sym (fault-first (built script_app) (codes "stop") rest refl refl),
+  ap (λ (w : Walk). entered (built (alone stop_app)) w.stopped) (walk-first (built (alone stop_app)) (codes "stop") rest refl)
+      ∙ sym (ap (λ (w : Walk). entered (built script_app) w.stopped) (walk-first (built script_app) (codes "stop") rest refl)),
+)
+
 offer-reads_same : (program : Text) (rest : List Text) → ReadsSame (alone offer_app) script_app (program ∷ codes "offer" ∷ rest)
 unfolding clap_on_literals
 offer-reads_same program rest = (
@@ -95,6 +103,38 @@ consume-reads_same program rest = (
       ∙ sym (ap (λ (w : Walk). entered (built script_app) w.stopped) (walk-first (built script_app) (codes "consume") rest refl)),
 )
 
+rotate_begin-reads_same : (program : Text) (rest : List Text) → ReadsSame (alone rotate_begin_app) script_app (program ∷ codes "rotate-begin" ∷ rest)
+unfolding clap_on_literals
+rotate_begin-reads_same program rest = (
+  fault-first (built (alone rotate_begin_app)) (codes "rotate-begin") rest refl refl ∙ sym (fault-first (built script_app) (codes "rotate-begin") rest refl refl),
+  ap (λ (w : Walk). entered (built (alone rotate_begin_app)) w.stopped) (walk-first (built (alone rotate_begin_app)) (codes "rotate-begin") rest refl)
+      ∙ sym (ap (λ (w : Walk). entered (built script_app) w.stopped) (walk-first (built script_app) (codes "rotate-begin") rest refl)),
+)
+
+rotate_next-reads_same : (program : Text) (rest : List Text) → ReadsSame (alone rotate_next_app) script_app (program ∷ codes "rotate-next" ∷ rest)
+unfolding clap_on_literals
+rotate_next-reads_same program rest = (
+  fault-first (built (alone rotate_next_app)) (codes "rotate-next") rest refl refl ∙ sym (fault-first (built script_app) (codes "rotate-next") rest refl refl),
+  ap (λ (w : Walk). entered (built (alone rotate_next_app)) w.stopped) (walk-first (built (alone rotate_next_app)) (codes "rotate-next") rest refl)
+      ∙ sym (ap (λ (w : Walk). entered (built script_app) w.stopped) (walk-first (built script_app) (codes "rotate-next") rest refl)),
+)
+
+rotate_finish-reads_same : (program : Text) (rest : List Text) → ReadsSame (alone rotate_finish_app) script_app (program ∷ codes "rotate-finish" ∷ rest)
+unfolding clap_on_literals
+rotate_finish-reads_same program rest = (
+  fault-first (built (alone rotate_finish_app)) (codes "rotate-finish") rest refl refl ∙ sym (fault-first (built script_app) (codes "rotate-finish") rest refl refl),
+  ap (λ (w : Walk). entered (built (alone rotate_finish_app)) w.stopped) (walk-first (built (alone rotate_finish_app)) (codes "rotate-finish") rest refl)
+      ∙ sym (ap (λ (w : Walk). entered (built script_app) w.stopped) (walk-first (built script_app) (codes "rotate-finish") rest refl)),
+)
+
+rotate-reads_same : (program : Text) (rest : List Text) → ReadsSame (alone rotate_app) script_app (program ∷ codes "rotate" ∷ rest)
+unfolding clap_on_literals
+rotate-reads_same program rest = (
+  fault-first (built (alone rotate_app)) (codes "rotate") rest refl refl ∙ sym (fault-first (built script_app) (codes "rotate") rest refl refl),
+  ap (λ (w : Walk). entered (built (alone rotate_app)) w.stopped) (walk-first (built (alone rotate_app)) (codes "rotate") rest refl)
+      ∙ sym (ap (λ (w : Walk). entered (built script_app) w.stopped) (walk-first (built script_app) (codes "rotate") rest refl)),
+)
+
 fate-reads_same : (program : Text) (rest : List Text) → ReadsSame (alone fate_app) script_app (program ∷ codes "fate" ∷ rest)
 unfolding clap_on_literals
 fate-reads_same program rest = (
@@ -109,6 +149,14 @@ status-reads_same program rest = (
   fault-first (built (alone status_app)) (codes "status") rest refl refl ∙ sym (fault-first (built script_app) (codes "status") rest refl refl),
   ap (λ (w : Walk). entered (built (alone status_app)) w.stopped) (walk-first (built (alone status_app)) (codes "status") rest refl)
       ∙ sym (ap (λ (w : Walk). entered (built script_app) w.stopped) (walk-first (built script_app) (codes "status") rest refl)),
+)
+
+archives-reads_same : (program : Text) (rest : List Text) → ReadsSame (alone archives_app) script_app (program ∷ codes "archives" ∷ rest)
+unfolding clap_on_literals
+archives-reads_same program rest = (
+  fault-first (built (alone archives_app)) (codes "archives") rest refl refl ∙ sym (fault-first (built script_app) (codes "archives") rest refl refl),
+  ap (λ (w : Walk). entered (built (alone archives_app)) w.stopped) (walk-first (built (alone archives_app)) (codes "archives") rest refl)
+      ∙ sym (ap (λ (w : Walk). entered (built script_app) w.stopped) (walk-first (built script_app) (codes "archives") rest refl)),
 )
 
 abbrev asks : Kinds → Option (Text × List Row) → Option Asked
@@ -138,11 +186,25 @@ asked_from-app_for (program ∷ word ∷ rest) =
     (choice-same (codes "channel") (alone channel_app) _ program word rest (channel-reads_same program rest)
     (choice-same (codes "thread") (alone thread_app) _ program word rest (thread-reads_same program rest)
     (choice-same (codes "start") (alone start_app) _ program word rest (start-reads_same program rest)
+    (choice-same (codes "stop") (alone stop_app) _ program word rest (stop-reads_same program rest)
     (choice-same (codes "offer") (alone offer_app) _ program word rest (offer-reads_same program rest)
     (choice-same (codes "consume") (alone consume_app) _ program word rest (consume-reads_same program rest)
+    (choice-same (codes "rotate-begin") (alone rotate_begin_app) _ program word rest (rotate_begin-reads_same program rest)
+    (choice-same (codes "rotate-next") (alone rotate_next_app) _ program word rest (rotate_next-reads_same program rest)
+    (choice-same (codes "rotate-finish") (alone rotate_finish_app) _ program word rest (rotate_finish-reads_same program rest)
+    (choice-same (codes "rotate") (alone rotate_app) _ program word rest (rotate-reads_same program rest)
     (choice-same (codes "fate") (alone fate_app) _ program word rest (fate-reads_same program rest)
     (choice-same (codes "status") (alone status_app) _ program word rest (status-reads_same program rest)
-    refl)))))))
+    (choice-same (codes "archives") (alone archives_app) _ program word rest (archives-reads_same program rest)
+    refl)))))))))))))
+
+-- a word that isn't this name leaves the choice to the others
+pub named_other : (word name : Text) (named others : App) → word ≢ name → others ≡ script_app → cond (bytes_eq word name) named others ≡ script_app
+named_other word name named others differs rest = go (bytes_eq word name) refl
+  where
+    go : (b : Bool) → bytes_eq word name ≡ b → cond b named others ≡ script_app
+    go false e = rest
+    go true e = absurd (differs ((bytes_eq-Decides word name).0 e))
 
 -- clap's definition speaks of these command lines
 abbrev pub IsSimple : App → Type 0
@@ -164,8 +226,14 @@ app_for-simple (Some word) =
     (choice-simple (bytes_eq word (codes "channel")) (alone channel_app) _ (refl, refl)
     (choice-simple (bytes_eq word (codes "thread")) (alone thread_app) _ (refl, refl)
     (choice-simple (bytes_eq word (codes "start")) (alone start_app) _ (refl, refl)
+    (choice-simple (bytes_eq word (codes "stop")) (alone stop_app) _ (refl, refl)
     (choice-simple (bytes_eq word (codes "offer")) (alone offer_app) _ (refl, refl)
     (choice-simple (bytes_eq word (codes "consume")) (alone consume_app) _ (refl, refl)
+    (choice-simple (bytes_eq word (codes "rotate-begin")) (alone rotate_begin_app) _ (refl, refl)
+    (choice-simple (bytes_eq word (codes "rotate-next")) (alone rotate_next_app) _ (refl, refl)
+    (choice-simple (bytes_eq word (codes "rotate-finish")) (alone rotate_finish_app) _ (refl, refl)
+    (choice-simple (bytes_eq word (codes "rotate")) (alone rotate_app) _ (refl, refl)
     (choice-simple (bytes_eq word (codes "fate")) (alone fate_app) _ (refl, refl)
     (choice-simple (bytes_eq word (codes "status")) (alone status_app) _ (refl, refl)
-    script-simple)))))))
+    (choice-simple (bytes_eq word (codes "archives")) (alone archives_app) _ (refl, refl)
+    script-simple)))))))))))))

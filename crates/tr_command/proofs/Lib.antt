@@ -1,4 +1,5 @@
 pub mod NumberLemmas
+pub mod ReadingLemmas
 pub mod CommandLemmas
 pub mod DispatchLemmas
-pub mod MomentLemmas
+pub mod LimitLemmas

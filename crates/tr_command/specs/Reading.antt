@@ -1,12 +1,12 @@
 -- What the values of a command's arguments ask for. None is a bad line.
-use Rattle.std.specs.Prelude.{ℕ, List, [], Option, Some, None, option_map, option_and_then, unwrap_or, codes, if◌then◌else◌}
+use Rattle.std.specs.Prelude.{ℕ, ℤ, pos, ◌-ℤ◌, List, [], Option, Some, None, option_map, option_and_then, unwrap_or, codes, if◌then◌else◌}
 use Rattle.std.specs.Option.{option_map_or}
 use Rattle.std.specs.Str.{bytes_eq}
 use Rattle.clap.specs.Words.{Row, Text, first_of}
 use Rattle.tr_book.specs.declared.mode.Mode.{Mode}
 use Rattle.tr_book.specs.declared.mode.Mode.TheVariants.{Discard, Overwrite}
 use Rattle.tr_record.specs.Records.{last_moment}
-use Rattle.tr_command.specs.Asked.{Asked, Create, Channel, Thread, Start, Offer, Consume, Fate, Status}
+use Rattle.tr_command.specs.Asked.{Asked, Create, Channel, Thread, Start, Stop, Offer, Consume, RotateBegin, RotateNext, RotateFinish, Rotate, Fate, Status, Archives}
 use Rattle.tr_command.specs.Number.{number_of}
 
 -- `option_and_then` and `option_map`, in the order of reading
@@ -24,6 +24,9 @@ most_u64 = 18446744073709551615
 
 abbrev pub most_fill : ℕ
 most_fill = 65536
+
+abbrev pub most_minutes : ℕ
+most_minutes = 1439
 
 abbrev pub session_of : List Row → Option Text
 session_of rows = first_of (codes "session") rows
@@ -48,11 +51,19 @@ mode_named text =
 abbrev pub mode_at : Text → List Row → Option Mode
 mode_at id rows = and_then (first_of id rows) mode_named
 
+-- the minutes ahead of UTC: those to the east, less those to the west
+abbrev pub offset_at : List Row → Option ℤ
+offset_at rows =
+    and_then (number_or_0 (codes "east") most_minutes rows) (λ east.
+    and_last (number_or_0 (codes "west") most_minutes rows) (λ west.
+    pos east -ℤ pos west))
+
 abbrev pub create_of : List Row → Option Asked
 create_of rows =
     and_then (session_of rows) (λ session.
-    and_last (first_of (codes "uuid") rows) (λ uuid.
-    Create session uuid))
+    and_then (first_of (codes "uuid") rows) (λ uuid.
+    and_last (offset_at rows) (λ offset.
+    Create session uuid offset)))
 
 abbrev pub channel_of : List Row → Option Asked
 channel_of rows =
@@ -75,6 +86,9 @@ start_of rows =
     and_last (number_at (codes "moment") last_moment rows) (λ moment.
     Start session moment))
 
+abbrev pub stop_of : List Row → Option Asked
+stop_of rows = and_last (session_of rows) (λ session. Stop session)
+
 abbrev pub offer_of : List Row → Option Asked
 offer_of rows =
     and_then (session_of rows) (λ session.
@@ -90,6 +104,24 @@ consume_of rows =
     and_last (number_at (codes "stream") most_u64 rows) (λ stream.
     Consume session stream))
 
+abbrev pub rotate_begin_of : List Row → Option Asked
+rotate_begin_of rows =
+    and_then (session_of rows) (λ session.
+    and_last (number_at (codes "moment") last_moment rows) (λ moment.
+    RotateBegin session moment))
+
+abbrev pub rotate_next_of : List Row → Option Asked
+rotate_next_of rows = and_last (session_of rows) (λ session. RotateNext session)
+
+abbrev pub rotate_finish_of : List Row → Option Asked
+rotate_finish_of rows = and_last (session_of rows) (λ session. RotateFinish session)
+
+abbrev pub rotate_of : List Row → Option Asked
+rotate_of rows =
+    and_then (session_of rows) (λ session.
+    and_last (number_at (codes "moment") last_moment rows) (λ moment.
+    Rotate session moment))
+
 abbrev pub fate_of : List Row → Option Asked
 fate_of rows =
     and_then (session_of rows) (λ session.
@@ -100,6 +132,9 @@ fate_of rows =
 abbrev pub status_of : List Row → Option Asked
 status_of rows = and_last (session_of rows) (λ session. Status session)
 
+abbrev pub archives_of : List Row → Option Asked
+archives_of rows = and_last (session_of rows) (λ session. Archives session)
+
 -- what the command of this name asks for
 abbrev pub asked_as : Text → List Row → Option Asked
 asked_as name rows =
@@ -107,8 +142,14 @@ asked_as name rows =
     (if bytes_eq name (codes "channel") then channel_of rows else
     (if bytes_eq name (codes "thread") then thread_of rows else
     (if bytes_eq name (codes "start") then start_of rows else
+    (if bytes_eq name (codes "stop") then stop_of rows else
     (if bytes_eq name (codes "offer") then offer_of rows else
     (if bytes_eq name (codes "consume") then consume_of rows else
+    (if bytes_eq name (codes "rotate-begin") then rotate_begin_of rows else
+    (if bytes_eq name (codes "rotate-next") then rotate_next_of rows else
+    (if bytes_eq name (codes "rotate-finish") then rotate_finish_of rows else
+    (if bytes_eq name (codes "rotate") then rotate_of rows else
     (if bytes_eq name (codes "fate") then fate_of rows else
     (if bytes_eq name (codes "status") then status_of rows else
-    None)))))))
+    (if bytes_eq name (codes "archives") then archives_of rows else
+    None)))))))))))))

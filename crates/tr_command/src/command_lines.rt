@@ -3,7 +3,7 @@
 ghost use Rattle.std.specs.Prelude.{◌≡◌, IfOk, false};
 ghost use Rattle.clap.specs.Words.{app_of};
 ghost use Rattle.clap.specs.declared.builder.command.Command.TheViews.{out-Command as fields_of};
-ghost use Rattle.tr_command.specs.CommandLine.{channel_app, channel_head, consume_app, create_app, fate_app, layout_app, offer_app, offer_head, running_app, script_app, start_app, status_app, thread_app};
+ghost use Rattle.tr_command.specs.CommandLine.{activity_app, archives_app, channel_app, channel_head, consume_app, create_app, fate_app, layout_app, offer_app, offer_head, rotate_app, rotate_begin_app, rotate_finish_app, rotate_next_app, rotation_app, rotation_steps_app, running_app, script_app, start_app, status_app, stop_app, thread_app};
 
 use crate::arguments::{option, place};
 use clap::Command;
@@ -15,7 +15,9 @@ pub fn create_command<'a>(alloc: Global) -> Result<Command<'a>, AllocError>
 {
     Command::new(alloc, "create")
         .arg(place(alloc, "session"))?
-        .arg(place(alloc, "uuid"))
+        .arg(place(alloc, "uuid"))?
+        .arg(option(alloc, "east"))?
+        .arg(option(alloc, "west"))
 }
 
 fn channel_head_command<'a>(alloc: Global) -> Result<Command<'a>, AllocError>
@@ -55,6 +57,13 @@ pub fn start_command<'a>(alloc: Global) -> Result<Command<'a>, AllocError>
         .arg(place(alloc, "moment"))
 }
 
+pub fn stop_command<'a>(alloc: Global) -> Result<Command<'a>, AllocError>
+    ensures shape { IfOk result (λ c. app_of c ≡ stop_app) }
+    ensures local { IfOk result (λ c. (fields_of c).has_globals ≡ false) }
+{
+    Command::new(alloc, "stop").arg(place(alloc, "session"))
+}
+
 fn offer_head_command<'a>(alloc: Global) -> Result<Command<'a>, AllocError>
     ensures shape { IfOk result (λ c. app_of c ≡ offer_head) }
     ensures local { IfOk result (λ c. (fields_of c).has_globals ≡ false) }
@@ -84,6 +93,38 @@ pub fn consume_command<'a>(alloc: Global) -> Result<Command<'a>, AllocError>
         .arg(place(alloc, "stream"))
 }
 
+pub fn rotate_begin_command<'a>(alloc: Global) -> Result<Command<'a>, AllocError>
+    ensures shape { IfOk result (λ c. app_of c ≡ rotate_begin_app) }
+    ensures local { IfOk result (λ c. (fields_of c).has_globals ≡ false) }
+{
+    Command::new(alloc, "rotate-begin")
+        .arg(place(alloc, "session"))?
+        .arg(place(alloc, "moment"))
+}
+
+pub fn rotate_next_command<'a>(alloc: Global) -> Result<Command<'a>, AllocError>
+    ensures shape { IfOk result (λ c. app_of c ≡ rotate_next_app) }
+    ensures local { IfOk result (λ c. (fields_of c).has_globals ≡ false) }
+{
+    Command::new(alloc, "rotate-next").arg(place(alloc, "session"))
+}
+
+pub fn rotate_finish_command<'a>(alloc: Global) -> Result<Command<'a>, AllocError>
+    ensures shape { IfOk result (λ c. app_of c ≡ rotate_finish_app) }
+    ensures local { IfOk result (λ c. (fields_of c).has_globals ≡ false) }
+{
+    Command::new(alloc, "rotate-finish").arg(place(alloc, "session"))
+}
+
+pub fn rotate_command<'a>(alloc: Global) -> Result<Command<'a>, AllocError>
+    ensures shape { IfOk result (λ c. app_of c ≡ rotate_app) }
+    ensures local { IfOk result (λ c. (fields_of c).has_globals ≡ false) }
+{
+    Command::new(alloc, "rotate")
+        .arg(place(alloc, "session"))?
+        .arg(place(alloc, "moment"))
+}
+
 pub fn fate_command<'a>(alloc: Global) -> Result<Command<'a>, AllocError>
     ensures shape { IfOk result (λ c. app_of c ≡ fate_app) }
     ensures local { IfOk result (λ c. (fields_of c).has_globals ≡ false) }
@@ -101,6 +142,13 @@ pub fn status_command<'a>(alloc: Global) -> Result<Command<'a>, AllocError>
     Command::new(alloc, "status").arg(place(alloc, "session"))
 }
 
+pub fn archives_command<'a>(alloc: Global) -> Result<Command<'a>, AllocError>
+    ensures shape { IfOk result (λ c. app_of c ≡ archives_app) }
+    ensures local { IfOk result (λ c. (fields_of c).has_globals ≡ false) }
+{
+    Command::new(alloc, "archives").arg(place(alloc, "session"))
+}
+
 /// The commands that lay a session out.
 fn layout_command<'a>(alloc: Global) -> Result<Command<'a>, AllocError>
     ensures { IfOk result (λ c. app_of c ≡ layout_app) }
@@ -111,21 +159,47 @@ fn layout_command<'a>(alloc: Global) -> Result<Command<'a>, AllocError>
         .subcommand(thread_command(alloc)?)
 }
 
-/// And those that run it.
-fn running_command<'a>(alloc: Global) -> Result<Command<'a>, AllocError>
-    ensures { IfOk result (λ c. app_of c ≡ running_app) }
+/// With those that start and stop it.
+fn activity_command<'a>(alloc: Global) -> Result<Command<'a>, AllocError>
+    ensures { IfOk result (λ c. app_of c ≡ activity_app) }
 {
     layout_command(alloc)?
         .subcommand(start_command(alloc)?)?
+        .subcommand(stop_command(alloc)?)
+}
+
+/// With those that its streams meet while it runs.
+fn running_command<'a>(alloc: Global) -> Result<Command<'a>, AllocError>
+    ensures { IfOk result (λ c. app_of c ≡ running_app) }
+{
+    activity_command(alloc)?
         .subcommand(offer_command(alloc)?)?
         .subcommand(consume_command(alloc)?)
+}
+
+/// With the steps of a rotation.
+fn rotation_steps_command<'a>(alloc: Global) -> Result<Command<'a>, AllocError>
+    ensures { IfOk result (λ c. app_of c ≡ rotation_steps_app) }
+{
+    running_command(alloc)?
+        .subcommand(rotate_begin_command(alloc)?)?
+        .subcommand(rotate_next_command(alloc)?)?
+        .subcommand(rotate_finish_command(alloc)?)
+}
+
+/// And with all of its steps at once.
+fn rotation_command<'a>(alloc: Global) -> Result<Command<'a>, AllocError>
+    ensures { IfOk result (λ c. app_of c ≡ rotation_app) }
+{
+    rotation_steps_command(alloc)?.subcommand(rotate_command(alloc)?)
 }
 
 /// The whole command line of a script's line, with those that ask.
 pub fn script_command<'a>(alloc: Global) -> Result<Command<'a>, AllocError>
     ensures { IfOk result (λ c. app_of c ≡ script_app) }
 {
-    running_command(alloc)?
+    rotation_command(alloc)?
         .subcommand(fate_command(alloc)?)?
-        .subcommand(status_command(alloc)?)
+        .subcommand(status_command(alloc)?)?
+        .subcommand(archives_command(alloc)?)
 }

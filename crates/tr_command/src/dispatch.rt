@@ -9,8 +9,10 @@ ghost use Rattle.clap.specs.declared.builder.command.Command.TheViews.{out-Comma
 ghost use Rattle.tr_command.specs.Dispatch.{alone, app_for, command_word};
 
 use crate::command_lines::{
-    channel_command, consume_command, create_command, fate_command, offer_command, script_command,
-    start_command, status_command, thread_command,
+    archives_command, channel_command, consume_command, create_command, fate_command,
+    offer_command, rotate_begin_command, rotate_command, rotate_finish_command,
+    rotate_next_command, script_command, start_command, status_command, stop_command,
+    thread_command,
 };
 use clap::Command;
 use std::alloc::{AllocError, Global};
@@ -42,10 +44,16 @@ pub fn command_for<'a>(alloc: Global, word: Option<&str>) -> Result<Command<'a>,
         Some("channel") => alone(alloc, channel_command(alloc)?),
         Some("thread") => alone(alloc, thread_command(alloc)?),
         Some("start") => alone(alloc, start_command(alloc)?),
+        Some("stop") => alone(alloc, stop_command(alloc)?),
         Some("offer") => alone(alloc, offer_command(alloc)?),
         Some("consume") => alone(alloc, consume_command(alloc)?),
+        Some("rotate-begin") => alone(alloc, rotate_begin_command(alloc)?),
+        Some("rotate-next") => alone(alloc, rotate_next_command(alloc)?),
+        Some("rotate-finish") => alone(alloc, rotate_finish_command(alloc)?),
+        Some("rotate") => alone(alloc, rotate_command(alloc)?),
         Some("fate") => alone(alloc, fate_command(alloc)?),
         Some("status") => alone(alloc, status_command(alloc)?),
+        Some("archives") => alone(alloc, archives_command(alloc)?),
         _ => script_command(alloc),
     }
 }

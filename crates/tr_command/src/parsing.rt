@@ -2,7 +2,7 @@
 
 ghost use Rattle.std.specs.Prelude.{◌≡◌, ◌≤◌, IfOk, IfSome, map, option_map};
 ghost use Rattle.tr_record.specs.Records.{last_moment};
-ghost use Rattle.tr_command.specs.Asked.{asked_by, moment_in};
+ghost use Rattle.tr_command.specs.Asked.{asked_by, IsOffset, moment_in, offset_in};
 ghost use Rattle.tr_command.specs.Language.{asked_of};
 
 use crate::Request;
@@ -19,6 +19,7 @@ use std::alloc::{AllocError, Global};
 pub fn parse<'a>(alloc: Global, words: &'a [&'a str]) -> Result<Option<Request<'a>>, AllocError>
     ensures asked { IfOk result (λ r. option_map asked_by r ≡ asked_of (map (λ w. w.now) words.entry.now)) }
     ensures moment { IfOk result (λ r. IfSome r (λ request. moment_in (asked_by request) ≤ last_moment)) }
+    ensures offset { IfOk result (λ r. IfSome r (λ request. IsOffset (offset_in (asked_by request)))) }
 {
     let command = command_for(alloc, command_word(words))?;
     match command.try_get_matches_from(words) {

@@ -3,11 +3,12 @@
 ghost use Rattle.std.specs.Prelude.{◌≡◌, option_map};
 ghost use Rattle.clap.specs.Words.{found_of, rows_of};
 ghost use Rattle.tr_command.specs.Asked.{asked_by};
-ghost use Rattle.tr_command.specs.Reading.{asked_as, channel_of, consume_of, create_of, fate_of, offer_of, start_of, status_of, thread_of};
+ghost use Rattle.tr_command.specs.Reading.{archives_of, asked_as, channel_of, consume_of, create_of, fate_of, offer_of, rotate_begin_of, rotate_finish_of, rotate_next_of, rotate_of, start_of, status_of, stop_of, thread_of};
 
 use crate::Request;
 use crate::values::{
-    mode_at, moment_at, number_at, number_u32_at, number_u32_or_zero, text_at, text_or_empty,
+    mode_at, moment_at, number_at, number_u32_at, number_u32_or_zero, offset_at, text_at,
+    text_or_empty,
 };
 use clap::ArgMatches;
 
@@ -18,7 +19,12 @@ fn create_request<'a>(matches: &ArgMatches<'a>) -> Option<Request<'a>>
 {
     let session = text_at(matches, "session")?;
     let uuid = text_at(matches, "uuid")?;
-    Some(Request::Create { session, uuid })
+    let offset = offset_at(matches)?;
+    Some(Request::Create {
+        session,
+        uuid,
+        offset,
+    })
 }
 
 fn channel_request<'a>(matches: &ArgMatches<'a>) -> Option<Request<'a>>
@@ -54,6 +60,13 @@ fn start_request<'a>(matches: &ArgMatches<'a>) -> Option<Request<'a>>
     Some(Request::Start { session, moment })
 }
 
+fn stop_request<'a>(matches: &ArgMatches<'a>) -> Option<Request<'a>>
+    ensures { option_map asked_by result ≡ stop_of (rows_of (found_of matches.now)) }
+{
+    let session = text_at(matches, "session")?;
+    Some(Request::Stop { session })
+}
+
 fn offer_request<'a>(matches: &ArgMatches<'a>) -> Option<Request<'a>>
     ensures { option_map asked_by result ≡ offer_of (rows_of (found_of matches.now)) }
 {
@@ -81,6 +94,36 @@ fn consume_request<'a>(matches: &ArgMatches<'a>) -> Option<Request<'a>>
     Some(Request::Consume { session, stream })
 }
 
+fn rotate_begin_request<'a>(matches: &ArgMatches<'a>) -> Option<Request<'a>>
+    ensures { option_map asked_by result ≡ rotate_begin_of (rows_of (found_of matches.now)) }
+{
+    let session = text_at(matches, "session")?;
+    let moment = moment_at(matches, "moment")?;
+    Some(Request::RotateBegin { session, moment })
+}
+
+fn rotate_next_request<'a>(matches: &ArgMatches<'a>) -> Option<Request<'a>>
+    ensures { option_map asked_by result ≡ rotate_next_of (rows_of (found_of matches.now)) }
+{
+    let session = text_at(matches, "session")?;
+    Some(Request::RotateNext { session })
+}
+
+fn rotate_finish_request<'a>(matches: &ArgMatches<'a>) -> Option<Request<'a>>
+    ensures { option_map asked_by result ≡ rotate_finish_of (rows_of (found_of matches.now)) }
+{
+    let session = text_at(matches, "session")?;
+    Some(Request::RotateFinish { session })
+}
+
+fn rotate_request<'a>(matches: &ArgMatches<'a>) -> Option<Request<'a>>
+    ensures { option_map asked_by result ≡ rotate_of (rows_of (found_of matches.now)) }
+{
+    let session = text_at(matches, "session")?;
+    let moment = moment_at(matches, "moment")?;
+    Some(Request::Rotate { session, moment })
+}
+
 fn fate_request<'a>(matches: &ArgMatches<'a>) -> Option<Request<'a>>
     ensures { option_map asked_by result ≡ fate_of (rows_of (found_of matches.now)) }
 {
@@ -101,6 +144,13 @@ fn status_request<'a>(matches: &ArgMatches<'a>) -> Option<Request<'a>>
     Some(Request::Status { session })
 }
 
+fn archives_request<'a>(matches: &ArgMatches<'a>) -> Option<Request<'a>>
+    ensures { option_map asked_by result ≡ archives_of (rows_of (found_of matches.now)) }
+{
+    let session = text_at(matches, "session")?;
+    Some(Request::Archives { session })
+}
+
 /// What the command of this name asks for, where these are the values of its arguments.
 pub fn request_of<'a>(name: &str, matches: &ArgMatches<'a>) -> Option<Request<'a>>
     ensures { option_map asked_by result ≡ asked_as name.now (rows_of (found_of matches.now)) }
@@ -110,10 +160,16 @@ pub fn request_of<'a>(name: &str, matches: &ArgMatches<'a>) -> Option<Request<'a
         "channel" => channel_request(matches),
         "thread" => thread_request(matches),
         "start" => start_request(matches),
+        "stop" => stop_request(matches),
         "offer" => offer_request(matches),
         "consume" => consume_request(matches),
+        "rotate-begin" => rotate_begin_request(matches),
+        "rotate-next" => rotate_next_request(matches),
+        "rotate-finish" => rotate_finish_request(matches),
+        "rotate" => rotate_request(matches),
         "fate" => fate_request(matches),
         "status" => status_request(matches),
+        "archives" => archives_request(matches),
         _ => None,
     }
 }

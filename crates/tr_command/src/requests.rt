@@ -4,18 +4,21 @@ use tr_book::Mode;
 
 /// What the words of a line ask for, with its texts as the words have them.
 ///
-/// A moment is in nanoseconds since 1970 and at most `Moment::LAST`, as [`parse`](crate::parse) ensures: it is a
-/// plain number here, since the check covers no value that holds both a reference and a type with an invariant.
+/// A moment is in nanoseconds since 1970 and at most `Moment::LAST`, and an offset within -1,439..=1,439, as
+/// [`parse`](crate::parse) ensures: they are plain numbers here, since the check covers no value that holds both a
+/// reference and a type with an invariant.
 ///
 /// To add a command: a variant here and in `specs/Asked.antt`, its command line in `command_lines` and
 /// `specs/CommandLine.antt`, its reading in `readings` and `specs/Reading.antt`, its arm in `dispatch`
-/// and `specs/Dispatch.antt`, and its lemmas in `proofs/DispatchLemmas.antt` and `proofs/MomentLemmas.antt`.
+/// and `specs/Dispatch.antt`, and its lemmas in `proofs/DispatchLemmas.antt`, `proofs/LimitLemmas.antt` and
+/// `proofs/dispatch/command_for/Answers.antt`.
 #[derive(Clone, Copy, Debug, PartialEq, Eq)]
 pub enum Request<'a> {
-    /// `create SESSION UUID`
+    /// `create SESSION UUID [--east MIN] [--west MIN]`, the offset in minutes ahead of UTC
     Create {
         session: &'a str,
         uuid: &'a str,
+        offset: i32,
     },
     /// `channel SESSION CHANNEL SIZE COUNT MODE`, the size in bytes
     Channel {
@@ -35,6 +38,10 @@ pub enum Request<'a> {
         session: &'a str,
         moment: u64,
     },
+    /// `stop SESSION`
+    Stop {
+        session: &'a str,
+    },
     /// `offer SESSION STREAM MOMENT ID [--text TEXT] [--fill LEN]`
     Offer {
         session: &'a str,
@@ -49,6 +56,24 @@ pub enum Request<'a> {
         session: &'a str,
         stream: u64,
     },
+    /// `rotate-begin SESSION MOMENT`
+    RotateBegin {
+        session: &'a str,
+        moment: u64,
+    },
+    /// `rotate-next SESSION`
+    RotateNext {
+        session: &'a str,
+    },
+    /// `rotate-finish SESSION`
+    RotateFinish {
+        session: &'a str,
+    },
+    /// `rotate SESSION MOMENT`
+    Rotate {
+        session: &'a str,
+        moment: u64,
+    },
     /// `fate SESSION STREAM SERIAL`
     Fate {
         session: &'a str,
@@ -57,6 +82,10 @@ pub enum Request<'a> {
     },
     /// `status SESSION`
     Status {
+        session: &'a str,
+    },
+    /// `archives SESSION`
+    Archives {
         session: &'a str,
     },
 }

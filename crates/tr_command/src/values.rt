@@ -3,12 +3,14 @@
 ghost use Rattle.std.specs.Prelude.{◌≡◌, option_map};
 ghost use Rattle.clap.specs.Words.{first_of, found_of, rows_of};
 ghost use Rattle.tr_record.specs.Records.{last_moment};
-ghost use Rattle.tr_command.specs.Reading.{mode_at, mode_named, number_at, number_or_0, text_or_empty};
+ghost use Rattle.tr_command.specs.Reading.{mode_at, mode_named, number_at, number_or_0, offset_at, text_or_empty};
 
 use crate::numbers::{number, number_u32};
 use clap::ArgMatches;
 use tr_book::Mode;
 use tr_record::Moment;
+
+const MOST_MINUTES: u32 = 1_439;
 
 /// The text of an argument.
 pub fn text_at<'a>(matches: &ArgMatches<'a>, id: &str) -> Option<&'a str>
@@ -53,6 +55,15 @@ pub fn number_u32_or_zero(matches: &ArgMatches<'_>, id: &str, most: u32) -> Opti
         Some(text) => number_u32(text, most),
         None => Some(0),
     }
+}
+
+/// How many minutes the clock is ahead of UTC: those of `--east`, less those of `--west`.
+pub fn offset_at(matches: &ArgMatches<'_>) -> Option<i32>
+    ensures { result ≡ offset_at (rows_of (found_of matches.now)) }
+{
+    let east = number_u32_or_zero(matches, "east", MOST_MINUTES)?;
+    let west = number_u32_or_zero(matches, "west", MOST_MINUTES)?;
+    Some(east as i32 - west as i32)
 }
 
 /// The mode of this name.

@@ -1,9 +1,11 @@
 -- What the console's answers are, case by case.
-use Rattle.std.proofs.Common.{◌≡◌, ◌∙◌, ℕ, ◌+◌, zero, suc, true, false, List, [], ◌∷◌, ◌++◌, length, Option, Some, None, is_some, Result, Ok, Err, IfOk, OnOk, codes, refl, sym, ap, append_assoc, arith}
+use Rattle.std.proofs.Common.{◌≡◌, ◌∙◌, ℕ, ◌+◌, zero, suc, true, false, List, [], ◌∷◌, ◌++◌, length, Option, Some, None, is_some, Result, Ok, Err, IfOk, OnOk, codes, refl, sym, ap, subst, append_assoc, arith, to_z, of_z, w32}
 use Rattle.std.proofs.lemmas.Grind.{common_steps}
-use Rattle.std.specs.Prelude.{nat_le, replicate}
+use Rattle.std.proofs.lemmas.Int.{ints}
+use Rattle.std.specs.Prelude.{ℤ, nat_le, replicate}
 use Rattle.std.specs.String.{string_bytes}
 use Rattle.std.specs.declared.alloc.AllocError.{AllocError}
+use Rattle.tr_command.specs.Asked.{IsOffset}
 use Rattle.tr_console.specs.Answers.{at_session, create_answer, most_sessions, payload_of}
 use Rattle.tr_console.specs.Faults.{wants_memory}
 use Rattle.tr_console.specs.Names.{is_name}
@@ -15,6 +17,7 @@ use Rattle.tr_console.specs.declared.faults.LineFault.TheVariants as fault
 use Rattle.tr_console.specs.declared.replies.Reply.{Reply}
 use Rattle.tr_session.specs.Session.{SessionOf, new_session}
 use Rattle.tr_session.specs.declared.faults.SessionFault.TheVariants.{TooMany, NameTaken}
+use Rattle.tr_stream.specs.declared.config.SessionMode.TheVariants.{Local}
 use Rattle.uuid.specs.Text.{parsed}
 
 module _ {S A : Type 0} where
@@ -31,17 +34,17 @@ module _ {S : Type 0} where
   pub at-some : (w : World S) (name : Text) (f : SessionOf S → Step S) (s : SessionOf S) → session_named name w ≡ Some s → at_session w name f ≡ f s
   at-some w name f s found = rw found refl
 
-  pub create-bad_uuid : (w : World S) (name uuid : Text) → is_name name ≡ true → parsed uuid ≡ None → create_answer w name uuid ≡ refused w fault.BadUuid
-  create-bad_uuid w name uuid named none = rw (named, none) refl
+  pub create-bad_uuid : (w : World S) (name uuid : Text) (offset : ℤ) → is_name name ≡ true → parsed uuid ≡ None → create_answer w name uuid offset ≡ refused w fault.BadUuid
+  create-bad_uuid w name uuid offset named none = rw (named, none) refl
 
-  pub create-taken : (w : World S) (name uuid : Text) (u : List ℕ) → is_name name ≡ true → parsed uuid ≡ Some u → is_some (session_named name w) ≡ true → create_answer w name uuid ≡ refused w (fault.Session NameTaken)
-  create-taken w name uuid u named good taken = rw (named, good, taken) refl
+  pub create-taken : (w : World S) (name uuid : Text) (offset : ℤ) (u : List ℕ) → is_name name ≡ true → parsed uuid ≡ Some u → is_some (session_named name w) ≡ true → create_answer w name uuid offset ≡ refused w (fault.Session NameTaken)
+  create-taken w name uuid offset u named good taken = rw (named, good, taken) refl
 
-  pub create-full : (w : World S) (name uuid : Text) (u : List ℕ) → is_name name ≡ true → parsed uuid ≡ Some u → is_some (session_named name w) ≡ false → nat_le most_sessions (length w) ≡ true → create_answer w name uuid ≡ refused w (fault.Session TooMany)
-  create-full w name uuid u named good free full = rw (named, good, free, full) refl
+  pub create-full : (w : World S) (name uuid : Text) (offset : ℤ) (u : List ℕ) → is_name name ≡ true → parsed uuid ≡ Some u → is_some (session_named name w) ≡ false → nat_le most_sessions (length w) ≡ true → create_answer w name uuid offset ≡ refused w (fault.Session TooMany)
+  create-full w name uuid offset u named good free full = rw (named, good, free, full) refl
 
-  pub create-new : (w : World S) (name uuid : Text) (u : List ℕ) → is_name name ≡ true → parsed uuid ≡ Some u → is_some (session_named name w) ≡ false → nat_le most_sessions (length w) ≡ false → create_answer w name uuid ≡ said (w ++ (name, new_session u) ∷ []) (codes "created " ++ name)
-  create-new w name uuid u named good free few = rw (named, good, free, few) refl
+  pub create-new : (w : World S) (name uuid : Text) (offset : ℤ) (u : List ℕ) → is_name name ≡ true → parsed uuid ≡ Some u → is_some (session_named name w) ≡ false → nat_le most_sessions (length w) ≡ false → create_answer w name uuid offset ≡ said (w ++ (name, new_session u offset Local) ∷ []) (codes "created " ++ name)
+  create-new w name uuid offset u named good free few = rw (named, good, free, few) refl
 
 pub none_from : {X : Type 0} → (o : Option X) → (((x : X) × (o ≡ Some x)) → ⊥) → o ≡ None
 none_from None h = refl
@@ -54,3 +57,7 @@ replicate-push (suc n) b = grind (arith, common_steps, replicate-push n b)
 -- one more byte of a payload
 pub payload-more : (text bytes more : List ℕ) (n : ℕ) → bytes ≡ payload_of text n → more ≡ bytes ++ 97 ∷ [] → more ≡ payload_of text (n + 1)
 payload-more text bytes more n so pushed = pushed ∙ ap (λ bs. bs ++ 97 ∷ []) so ∙ append_assoc text (replicate n 97) (97 ∷ []) ∙ ap (λ bs. text ++ bs) (sym (replicate-push n 97))
+
+-- an offset is the same as it is passed
+pub as_passed : (P : ℤ → Type 0) (z : ℤ) → IsOffset z → P (to_z w32 (of_z w32 z)) → P z
+as_passed P z within h = let back : to_z w32 (of_z w32 z) ≡ z = omega (arith, ints, within.0, within.1) in subst P back h

@@ -45,6 +45,10 @@ pub refused_in-append : {S : Type 0} → (rules : StreamRules S) (w : World S) (
 refused_in-append rules w [] b = omega arith
 refused_in-append rules w (first ∷ a) b = omega (arith, refused_in-append rules (line_step rules w first).world a b)
 
+pub world_after-append : {S : Type 0} → (rules : StreamRules S) (w : World S) (a b : List (List ℕ)) → world_after rules w (a ++ b) ≡ world_after rules (world_after rules w a) b
+world_after-append rules w [] b = refl
+world_after-append rules w (first ∷ a) b = world_after-append rules (line_step rules w first).world a b
+
 -- ---- a line
 
 pub line_step-text : {S : Type 0} → (rules : StreamRules S) (w : World S) (line : List ℕ) → text_step rules w (text_of_line line) ≡ line_step rules w line
@@ -63,3 +67,7 @@ answers-last rules w (b ∷ line) = refl
 pub refused_in-last : {S : Type 0} → (rules : StreamRules S) (w : World S) (line : List ℕ) → refused_in rules w (line ∷ []) ≡ refused_in rules w (with_last line)
 refused_in-last rules w [] = ap (λ (s : Step _). one_if s.is_refused + 0) (line_step-empty rules w)
 refused_in-last rules w (b ∷ line) = refl
+
+pub world_after-last : {S : Type 0} → (rules : StreamRules S) (w : World S) (line : List ℕ) → world_after rules w (line ∷ []) ≡ world_after rules w (with_last line)
+world_after-last rules w [] = ap (λ (s : Step _). s.world) (line_step-empty rules w)
+world_after-last rules w (b ∷ line) = refl

@@ -1,11 +1,12 @@
 -- A run of a script, line by line.
-use Rattle.std.proofs.Common.{◌≡◌, ◌∙◌, ◌≤◌, ◌<◌, ◌+◌, ◌⊎◌, ℕ, inl, inr, refl, sym, ap, ap₂, arith, List, [], ◌∷◌, ◌++◌, Option, length, take, append_assoc, append-nil, length-append}
+use Rattle.std.proofs.Common.{◌≡◌, ◌∙◌, ◌≤◌, ◌<◌, ◌+◌, ◌⊎◌, ℕ, inl, inr, refl, sym, ap, ap₂, subst, arith, List, [], ◌∷◌, ◌++◌, Option, length, take, append_assoc, append-nil, length-append}
 use Rattle.std.proofs.Math.Seq.{take-append_seam, take-append-add}
 use Rattle.std.proofs.lemmas.List.{take-append-le}
-use Rattle.tr_console.proofs.LineSteps.{answers-append, answers-last, answers-push, line_step-text, one_if, one_if-le, refused_in-append, refused_in-last, refused_in-push, world_after-push}
+use Rattle.tr_console.proofs.LineSteps.{answers-append, answers-last, answers-push, line_step-text, one_if, one_if-le, refused_in-append, refused_in-last, refused_in-push, world_after-append, world_after-last, world_after-push}
 use Rattle.tr_console.proofs.ScriptAgreement.{agree-after, line-agree}
 use Rattle.tr_console.proofs.WorldAgreement.{StepsAgree}
-use Rattle.tr_console.specs.Runs.{AnsweredSome, BrokeOff, Ran, WentTooFar, WroteSome, answers_to}
+use Rattle.tr_console.specs.Agreement.{WorldsAgree}
+use Rattle.tr_console.specs.Runs.{AnsweredSome, BrokeOff, Ran, WentTooFar, WroteSome, answers_to, world_left}
 use Rattle.tr_console.specs.Script.{answers, line_step, refused_in, script_text, text_step, world_after}
 use Rattle.tr_console.specs.Texts.{Text}
 use Rattle.tr_console.specs.World.{Step, World}
@@ -86,6 +87,18 @@ module _ (given now taken wrote_now : Option (List ℕ)) (reader : Reading) (wor
         refusals ∙ ap₂ (λ n b. n + one_if b) g.refusals (ap (λ (s : Step StreamState). s.is_refused) (by_states raw text (says ∙ is)) ∙ (agrees raw).is_refused)
         ∙ sym (refused_in-push by_history [] g.seen raw)
 
+    left_more : (raw : List ℕ) → reader'.line ≡ text_of_line raw → world' ≡ world_after by_state [] (g.seen ++ raw ∷ [])
+    left_more raw is = left ∙ ap (λ (s : Step StreamState). s.world) (by_states raw text (says ∙ is)) ∙ sym (world_after-push by_state [] g.seen raw)
+
+    -- the sessions that are left are the script's
+    agree_left : (raw : List ℕ) → reader'.line ≡ text_of_line raw → (script : List ℕ) → lines_of script ≡ g.seen ++ with_last raw → WorldsAgree world' (world_left script)
+    agree_left raw is script lines =
+        let seen : world_after by_history [] (g.seen ++ raw ∷ []) ≡ world_left script =
+        world_after-append by_history [] g.seen (raw ∷ []) ∙ world_after-last by_history (world_after by_history [] g.seen) raw
+        ∙ sym (world_after-append by_history [] g.seen (with_last raw)) ∙ ap (world_after by_history []) (sym lines) in
+        subst (λ (v : World StreamState). WorldsAgree v (world_left script)) (sym (left_more raw is))
+        (subst (WorldsAgree (world_after by_state [] (g.seen ++ raw ∷ []))) seen (agree-after (g.seen ++ raw ∷ []) [] [] tt))
+
     -- a line was answered
     pub Going-line : ReadsLine now after reader reader' → budget reader' < budget reader → Going given after taken wrote' reader' world' refused'
     Going-line r less = record {
@@ -103,13 +116,13 @@ module _ (given now taken wrote_now : Option (List ℕ)) (reader : Reading) (wor
         length-append (joined g.seen) (r.raw ++ 10 ∷ reader'.held),
       );
       wrote = wrote_more r.raw r.text;
-      left = left ∙ ap (λ (s : Step StreamState). s.world) (by_states r.raw text (says ∙ r.text)) ∙ sym (world_after-push by_state [] g.seen r.raw);
+      left = left_more r.raw r.text;
       refusals = refused_more r.raw r.text;
       fits = omega (arith, less, refusals, g.fits, one_if-le (text_step by_state world text).is_refused);
     }
 
     -- the last line was answered
-    pub Going-last : ReadsOn now after reader reader' → reader'.held ≡ [] → reader'.total ≤ longest_script → Ran given after taken wrote' refused'
+    pub Going-last : ReadsOn now after reader reader' → reader'.held ≡ [] → reader'.total ≤ longest_script → Ran given after taken wrote' world' refused'
     Going-last r none most =
         let lines = lines_of-joined g.seen r.raw g.are_lines ∙ ap (λ ls. g.seen ++ ls) (lines_of-last r.raw r.no_feed) in
         record {
@@ -133,6 +146,7 @@ module _ (given now taken wrote_now : Option (List ℕ)) (reader : Reading) (wor
           refusals = refused_more r.raw r.text ∙ refused_in-append by_history [] g.seen (r.raw ∷ [])
               ∙ ap (λ n. refused_in by_history [] g.seen + n) (refused_in-last by_history (world_after by_history [] g.seen) r.raw)
               ∙ sym (refused_in-append by_history [] g.seen (with_last r.raw)) ∙ ap (refused_in by_history []) (sym lines);
+          sessions = agree_left r.raw r.text (joined g.seen ++ r.raw) lines;
         }
 
   -- ---- a run that ends early

@@ -2,7 +2,8 @@
 use Rattle.std.proofs.Common.{◌≡◌, ℕ, Bool, true, false, cond, List, [], ◌∷◌, Option, Some, None, codes, refl}
 use Rattle.tr_command.specs.Asked.{Asked}
 use Rattle.tr_command.specs.Language.{asked_of}
-use Rattle.tr_console.proofs.WorldAgreement.{WorldsAgree, StepsAgree, answers-agree}
+use Rattle.tr_console.proofs.WorldAgreement.{StepsAgree, answers-agree}
+use Rattle.tr_console.specs.Agreement.{WorldsAgree}
 use Rattle.tr_console.specs.Answers.{answer_to}
 use Rattle.tr_console.specs.Script.{words_step, text_step, line_step, answers, world_after, refused_in}
 use Rattle.tr_console.specs.Texts.{Text}

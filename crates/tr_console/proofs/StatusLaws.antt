@@ -1,24 +1,19 @@
 -- The lines of a status.
-use Rattle.std.proofs.Common.{◌≡◌, ◌∙◌, ℕ, ◌+◌, zero, suc, List, [], ◌∷◌, ◌++◌, Some, drop, length, refl, sym, ap, append_assoc, append-nil, arith}
-use Rattle.std.proofs.lemmas.Grind.{common_steps}
+use Rattle.std.proofs.Common.{◌≡◌, ◌∙◌, ℕ, ◌+◌, List, [], ◌∷◌, ◌++◌, Some, drop, length, sym, ap, append_assoc, append-nil}
 use Rattle.std.specs.Prelude.{slice_get}
+use Rattle.tr_console.proofs.DropLaws.{drop-got, drop-all}
 use Rattle.tr_console.specs.Texts.{Text, status_head, status_line, status_row, status_rows, status_text}
 use Rattle.tr_session.specs.Session.{SessionOf}
 use Rattle.tr_stream.specs.Rules.{by_state}
 use Rattle.tr_stream.specs.State.{StreamState}
 use Rattle.tr_stream.specs.StateSteps.{state_counts}
 
-drop-got : (ts : List StreamState) (i : ℕ) (t : StreamState) → slice_get ts i ≡ Some t → drop i ts ≡ t ∷ drop (i + 1) ts
-drop-got [] i t got = cc
-drop-got (x ∷ ts) zero t got = let e : x ≡ t = cc in ap (λ (y : StreamState). y ∷ ts) e
-drop-got (x ∷ ts) (suc i) t got = grind (arith, common_steps, drop-got ts i t got)
-
 -- the lines that are written, and those that are left
-pub begins : (s : SessionOf StreamState) (name : Text) (line one two : Text) → line ≡ status_line name s → one ≡ line ++ 10 ∷ [] → two ≡ one ++ status_head → two ++ status_rows by_state 0 (drop 0 s.streams) ≡ status_text by_state name s
+pub begins : (s : SessionOf StreamState) (name : Text) (line one two : Text) → line ≡ status_line name s.book → one ≡ line ++ 10 ∷ [] → two ≡ one ++ status_head → two ++ status_rows by_state 0 (drop 0 s.streams) ≡ status_text by_state name s
 begins s name line one two a b c =
     let rows = status_rows by_state 0 s.streams in
-    let e : two ≡ (status_line name s ++ 10 ∷ []) ++ status_head = c ∙ ap (λ (t : Text). t ++ status_head) (b ∙ ap (λ (t : Text). t ++ 10 ∷ []) a) in
-    ap (λ (t : Text). t ++ rows) e ∙ append_assoc (status_line name s ++ 10 ∷ []) status_head rows ∙ append_assoc (status_line name s) (10 ∷ []) (status_head ++ rows)
+    let e : two ≡ (status_line name s.book ++ 10 ∷ []) ++ status_head = c ∙ ap (λ (t : Text). t ++ status_head) (b ∙ ap (λ (t : Text). t ++ 10 ∷ []) a) in
+    ap (λ (t : Text). t ++ rows) e ∙ append_assoc (status_line name s.book ++ 10 ∷ []) status_head rows ∙ append_assoc (status_line name s.book) (10 ∷ []) (status_head ++ rows)
 
 pub goes_on : (ts : List StreamState) (i : ℕ) (t : StreamState) (text more whole : Text) → slice_get ts i ≡ Some t → text ++ status_rows by_state i (drop i ts) ≡ whole → more ≡ text ++ 10 ∷ status_row i (state_counts t) → more ++ status_rows by_state (i + 1) (drop (i + 1) ts) ≡ whole
 goes_on ts i t text more whole got so pushed =
@@ -26,13 +21,6 @@ goes_on ts i t text more whole got so pushed =
     let rest = status_rows by_state (i + 1) (drop (i + 1) ts) in
     let f : text ++ status_rows by_state i (drop i ts) ≡ text ++ (10 ∷ (status_row i (state_counts t) ++ rest)) = ap (λ (us : List StreamState). text ++ status_rows by_state i us) e in
     ap (λ (m : Text). m ++ rest) pushed ∙ append_assoc text (10 ∷ status_row i (state_counts t)) rest ∙ sym f ∙ so
-
-drop-all : (ts : List StreamState) (i : ℕ) → i ≡ length ts → drop i ts ≡ []
-drop-all ts i end = rw end (all ts)
-  where
-    all : (ts : List StreamState) → drop (length ts) ts ≡ []
-    all [] = refl
-    all (t ∷ ts) = grind (arith, common_steps, all ts)
 
 pub ends : (ts : List StreamState) (i : ℕ) (text whole : Text) → i ≡ length ts → text ++ status_rows by_state i (drop i ts) ≡ whole → text ≡ whole
 ends ts i text whole end so = sym (append-nil text) ∙ ap (λ (us : List StreamState). text ++ status_rows by_state i us) (sym (drop-all ts i end)) ∙ so

@@ -1,31 +1,32 @@
 -- A console by what its streams hold, and by their histories: both answer alike.
-use Rattle.std.proofs.Common.{◌≡◌, ℕ, ◌+◌, Bool, true, false, cond, List, [], ◌∷◌, ◌++◌, length, is_some, is_err, Option, Some, None, Result, Ok, Err, codes, refl, sym, ◌∙◌, ap, subst, arith}
+use Rattle.std.proofs.Common.{◌≡◌, ℕ, ℤ, ◌+◌, Bool, true, false, cond, List, [], ◌∷◌, ◌++◌, length, is_some, is_err, Option, Some, None, Result, Ok, Err, codes, refl, sym, ◌∙◌, ap, subst, arith}
 use Rattle.std.proofs.lemmas.Grind.{common_steps}
 use Rattle.std.specs.Fmt.{decimal}
 use Rattle.std.specs.Prelude.{nat_le}
 use Rattle.std.specs.Str.{bytes_eq}
 use Rattle.tr_book.specs.declared.mode.Mode.{Mode}
-use Rattle.tr_command.specs.Asked.{Asked, Create, Channel, Thread, Start, Offer, Consume, Fate, Status}
-use Rattle.tr_console.proofs.SessionAgreement.{SessionsAgree, ResultsAgree, AllAgree, same-length, agree-channel, agree-thread, agree-started, same-offer, agree-offer, same-take, agree-take, same-fate}
-use Rattle.tr_console.specs.Answers.{most_sessions, created, create_answer, at_session, settled, channel_answer, thread_answer, start_answer, payload_of, as_line, offer_answer, consume_answer, fate_answer, status_answer, answer_to}
-use Rattle.tr_console.specs.declared.faults.LineFault.TheVariants.{BadName}
+use Rattle.tr_command.specs.Asked.{Asked, Create, Channel, Thread, Start, Stop, Offer, Consume, RotateBegin, RotateNext, RotateFinish, Rotate, Fate, Status, Archives}
+use Rattle.tr_console.specs.Agreement.{WorldsAgree}
+use Rattle.tr_console.specs.Answers.{most_sessions, created, create_answer, at_session, settled, answered, channel_answer, thread_answer, start_answer, stop_answer, payload_of, offer_answer, consume_answer, rotate_begin_answer, rotate_next_answer, rotate_finish_answer, rotate_answer, fate_answer, status_answer, archives_answer, answer_to}
+use Rattle.tr_console.specs.Calls.{by_session, by_step, named}
 use Rattle.tr_console.specs.Names.{is_name}
-use Rattle.tr_console.specs.Texts.{Text, offered_line, taken_line, fate_line, status_line, status_rows, status_text, status_row}
+use Rattle.tr_console.specs.Texts.{Text, line_of, started_text, stopped_text, offered_text, taken_text, rotating_text, next_text, archived_text, fate_text, status_line, status_head, status_rows, status_text, status_row, archive_text, archive_line, archive_lines, lines_or_none, archives_text}
 use Rattle.tr_console.specs.World.{World, Step, refused, session_named, with_session}
+use Rattle.tr_console.specs.declared.faults.LineFault.{LineFault}
+use Rattle.tr_console.specs.declared.faults.LineFault.TheVariants.{BadName}
+use Rattle.tr_session.proofs.Agreement.{ResultsAgree, same-length, agree-channel, agree-thread, agree-started, agree-stopped, same-offer, agree-offer, same-take, agree-take, agree-begun, same-next, agree-next, agree-finished, same-rotate, agree-rotate, same-fate, same-archive_packets, same-archive_bytes}
+use Rattle.tr_session.specs.Agreement.{AllAgree, SessionsAgree}
+use Rattle.tr_session.specs.BookSteps as book
 use Rattle.tr_session.specs.Session.{SessionOf, new_session}
-use Rattle.tr_session.specs.Steps.{channel_added, thread_added, started, after_offer_step, after_take_step}
+use Rattle.tr_session.specs.Sizes.{archive_packets, archive_bytes}
+use Rattle.tr_session.specs.Steps as session
+use Rattle.tr_session.specs.declared.archive.Archive.{Archive}
 use Rattle.tr_session.specs.declared.faults.SessionFault.{SessionFault}
 use Rattle.tr_stream.proofs.RuleLaws.{same-counted}
 use Rattle.tr_stream.specs.Rules.{Traced, by_state, by_history}
 use Rattle.tr_stream.specs.State.{StreamState}
+use Rattle.tr_stream.specs.declared.config.SessionMode.TheVariants.{Local}
 use Rattle.uuid.specs.Text.{parsed}
-
--- the same names in the same order, and sessions that agree
-abbrev pub WorldsAgree : World StreamState → World Traced → Type 0
-WorldsAgree [] [] = Unit {0}
-WorldsAgree [] (f ∷ fs) = ⊥
-WorldsAgree (e ∷ es) [] = ⊥
-WorldsAgree (e ∷ es) (f ∷ fs) = (e.0 ≡ f.0) × SessionsAgree e.1 f.1 × WorldsAgree es fs
 
 -- the same answer, and worlds that agree
 pub record StepsAgree (s : Step StreamState) (t : Step Traced) : Type 0 where
@@ -79,10 +80,10 @@ same-found (Some a) (Some b) is = refl
 
 -- ---- each command
 
-created-agree : (v : World StreamState) (w : World Traced) (name : Text) (uuid : List ℕ) → WorldsAgree v w → StepsAgree (created v name uuid) (created w name uuid)
-created-agree v w name uuid is = go (is_some (session_named name v)) (nat_le most_sessions (length v)) refl refl
+created-agree : (v : World StreamState) (w : World Traced) (name : Text) (offset : ℤ) (uuid : List ℕ) → WorldsAgree v w → StepsAgree (created v name offset uuid) (created w name offset uuid)
+created-agree v w name offset uuid is = go (is_some (session_named name v)) (nat_le most_sessions (length v)) refl refl
   where
-    go : (taken full : Bool) → is_some (session_named name v) ≡ taken → nat_le most_sessions (length v) ≡ full → StepsAgree (created v name uuid) (created w name uuid)
+    go : (taken full : Bool) → is_some (session_named name v) ≡ taken → nat_le most_sessions (length v) ≡ full → StepsAgree (created v name offset uuid) (created w name offset uuid)
     go true full x y =
         let u : is_some (session_named name w) ≡ true = sym (same-found (session_named name v) (session_named name w) (found-agree name v w is)) ∙ x in
         rw (x, u) (record { world = is; text = refl; is_refused = refl })
@@ -93,16 +94,16 @@ created-agree v w name uuid is = go (is_some (session_named name v)) (nat_le mos
     go false false x y =
         let u : is_some (session_named name w) ≡ false = sym (same-found (session_named name v) (session_named name w) (found-agree name v w is)) ∙ x in
         let z : nat_le most_sessions (length w) ≡ false = ap (nat_le most_sessions) (sym (worlds-length v w is)) ∙ y in
-        let new : SessionsAgree (new_session uuid) (new_session uuid) = record { uuid = refl; state = refl; last = refl; channels = refl; streams = tt; geometries = tt } in
-        rw (x, u, y, z) (record { world = worlds-push v w name (new_session uuid) (new_session uuid) is new; text = refl; is_refused = refl })
+        let new : SessionsAgree (new_session uuid offset Local) (new_session uuid offset Local) = record { book = refl; streams = tt; made = tt } in
+        rw (x, u, y, z) (record { world = worlds-push v w name (new_session uuid offset Local) (new_session uuid offset Local) is new; text = refl; is_refused = refl })
 
-create-agree : (v : World StreamState) (w : World Traced) (name uuid : Text) → WorldsAgree v w → StepsAgree (create_answer v name uuid) (create_answer w name uuid)
-create-agree v w name uuid is = go (is_name name) (parsed uuid) refl refl
+create-agree : (v : World StreamState) (w : World Traced) (name uuid : Text) (offset : ℤ) → WorldsAgree v w → StepsAgree (create_answer v name uuid offset) (create_answer w name uuid offset)
+create-agree v w name uuid offset is = go (is_name name) (parsed uuid) refl refl
   where
-    go : (named : Bool) (id : Option (List ℕ)) → is_name name ≡ named → parsed uuid ≡ id → StepsAgree (create_answer v name uuid) (create_answer w name uuid)
+    go : (named : Bool) (id : Option (List ℕ)) → is_name name ≡ named → parsed uuid ≡ id → StepsAgree (create_answer v name uuid offset) (create_answer w name uuid offset)
     go false id x y = rw x (record { world = is; text = refl; is_refused = refl })
     go true None x y = rw (x, y) (record { world = is; text = refl; is_refused = refl })
-    go true (Some u) x y = rw (x, y) (created-agree v w name u is)
+    go true (Some u) x y = rw (x, y) (created-agree v w name offset u is)
 
 -- what is done with sessions that agree
 at-agree : (v : World StreamState) (w : World Traced) (name : Text) (f : SessionOf StreamState → Step StreamState) (g : SessionOf Traced → Step Traced) → WorldsAgree v w → ((a : SessionOf StreamState) (b : SessionOf Traced) → SessionsAgree a b → StepsAgree (f a) (g b)) → StepsAgree (at_session v name f) (at_session w name g)
@@ -123,41 +124,66 @@ settled-agree v w name text (Err f) (Err g) is agree = subst (λ (h : SessionFau
 channel-agree : (v : World StreamState) (w : World Traced) (name channel : Text) (size count : ℕ) (mode : Mode) → WorldsAgree v w → StepsAgree (channel_answer v name channel size count mode) (channel_answer w name channel size count mode)
 channel-agree v w name channel size count mode is = at-agree v w name _ _ is (λ a b agree. go (is_name channel) refl a b agree)
   where
-    go : (named : Bool) → is_name channel ≡ named → (a : SessionOf StreamState) (b : SessionOf Traced) → SessionsAgree a b → StepsAgree (cond (is_name channel) (settled v name (codes "channel " ++ channel) (channel_added channel size count mode a)) (refused v BadName)) (cond (is_name channel) (settled w name (codes "channel " ++ channel) (channel_added channel size count mode b)) (refused w BadName))
+    go : (named : Bool) → is_name channel ≡ named → (a : SessionOf StreamState) (b : SessionOf Traced) → SessionsAgree a b → StepsAgree (cond (is_name channel) (settled v name (codes "channel " ++ channel) (session.session_channel_added channel size count mode a)) (refused v BadName)) (cond (is_name channel) (settled w name (codes "channel " ++ channel) (session.session_channel_added channel size count mode b)) (refused w BadName))
     go false x a b agree = rw x (record { world = is; text = refl; is_refused = refl })
-    go true x a b agree = rw x (settled-agree v w name (codes "channel " ++ channel) (channel_added channel size count mode a) (channel_added channel size count mode b) is (agree-channel a b channel size count mode agree))
+    go true x a b agree = rw x (settled-agree v w name (codes "channel " ++ channel) (session.session_channel_added channel size count mode a) (session.session_channel_added channel size count mode b) is (agree-channel a b agree channel size count mode))
 
 thread-agree : (v : World StreamState) (w : World Traced) (name channel : Text) → WorldsAgree v w → StepsAgree (thread_answer by_state v name channel) (thread_answer by_history w name channel)
 thread-agree v w name channel is = at-agree v w name _ _ is (λ a b agree.
-    subst (λ (n : ℕ). StepsAgree (settled v name (codes "stream " ++ decimal (length a.streams)) (thread_added by_state channel a)) (settled w name (codes "stream " ++ decimal n) (thread_added by_history channel b))) (same-length a.streams b.streams agree.streams)
-    (settled-agree v w name (codes "stream " ++ decimal (length a.streams)) (thread_added by_state channel a) (thread_added by_history channel b) is (agree-thread a b channel agree)))
+    subst (λ (n : ℕ). StepsAgree (settled v name (codes "stream " ++ decimal (length a.streams)) (session.thread_added by_state channel a)) (settled w name (codes "stream " ++ decimal n) (session.thread_added by_history channel b))) (same-length a.streams b.streams agree.streams)
+    (settled-agree v w name (codes "stream " ++ decimal (length a.streams)) (session.thread_added by_state channel a) (session.thread_added by_history channel b) is (agree-thread a b agree channel)))
+
+-- what a call answers, where both are left agreeing
+answered-agree : {R : Type 0} (v : World StreamState) (w : World Traced) (name : Text) (words : R → Text) (r q : Result R LineFault) (a : SessionOf StreamState) (b : SessionOf Traced) → WorldsAgree v w → r ≡ q → SessionsAgree a b → StepsAgree (answered v name words r a) (answered w name words q b)
+answered-agree v w name words r q a b is same agree = record { world = set-agree name v w a b is agree; text = ap (λ x. line_of words x ++ 10 ∷ []) same; is_refused = ap (λ x. is_err x) same }
 
 start-agree : (v : World StreamState) (w : World Traced) (name : Text) (moment : ℕ) → WorldsAgree v w → StepsAgree (start_answer by_state v name moment) (start_answer by_history w name moment)
-start-agree v w name moment is = at-agree v w name _ _ is (λ a b agree. settled-agree v w name (codes "started") (started by_state moment a) (started by_history moment b) is (agree-started a b moment agree))
+start-agree v w name moment is = at-agree v w name _ _ is (λ a b agree.
+    answered-agree v w name started_text _ _ (session.all_started by_state moment a) (session.all_started by_history moment b) is (ap (λ k. by_session (book.start_answer k)) agree.book) (agree-started a b agree moment))
+
+stop-agree : (v : World StreamState) (w : World Traced) (name : Text) → WorldsAgree v w → StepsAgree (stop_answer by_state v name) (stop_answer by_history w name)
+stop-agree v w name is = at-agree v w name _ _ is (λ a b agree.
+    answered-agree v w name stopped_text _ _ (session.all_stopped by_state a) (session.all_stopped by_history b) is (ap (λ k. by_session (book.stop_answer k)) agree.book) (agree-stopped a b agree))
 
 offer-agree : (v : World StreamState) (w : World Traced) (name : Text) (stream moment id : ℕ) (text : Text) (fill : ℕ) → WorldsAgree v w → StepsAgree (offer_answer by_state v name stream moment id text fill) (offer_answer by_history w name stream moment id text fill)
 offer-agree v w name stream moment id text fill is = at-agree v w name _ _ is (λ a b agree.
     let payload = payload_of text fill in
-    let same = same-offer a b stream moment id payload agree in
-    record {
-      world = set-agree name v w (after_offer_step by_state stream moment id payload a) (after_offer_step by_history stream moment id payload b) is (agree-offer a b stream moment id payload agree);
-      text = ap (λ r. offered_line (as_line r) ++ 10 ∷ []) same;
-      is_refused = ap (λ r. is_err (as_line r)) same;
-    })
+    answered-agree v w name offered_text _ _ (session.after_offer_step by_state stream moment id payload a) (session.after_offer_step by_history stream moment id payload b) is
+    (ap (λ r. by_step r) (same-offer a b agree stream moment id payload)) (agree-offer a b agree stream moment id payload))
 
 consume-agree : (v : World StreamState) (w : World Traced) (name : Text) (stream : ℕ) → WorldsAgree v w → StepsAgree (consume_answer by_state v name stream) (consume_answer by_history w name stream)
 consume-agree v w name stream is = at-agree v w name _ _ is (λ a b agree.
-    let same = same-take a b stream agree in
-    record {
-      world = set-agree name v w (after_take_step by_state stream a) (after_take_step by_history stream b) is (agree-take a b stream agree);
-      text = ap (λ r. taken_line (as_line r) ++ 10 ∷ []) same;
-      is_refused = ap (λ r. is_err (as_line r)) same;
-    })
+    answered-agree v w name taken_text _ _ (session.after_take_step by_state stream a) (session.after_take_step by_history stream b) is (ap (λ r. by_step r) (same-take a b agree stream)) (agree-take a b agree stream))
+
+rotate_begin-agree : (v : World StreamState) (w : World Traced) (name : Text) (moment : ℕ) → WorldsAgree v w → StepsAgree (rotate_begin_answer v name moment) (rotate_begin_answer w name moment)
+rotate_begin-agree v w name moment is = at-agree v w name _ _ is (λ a b agree.
+    answered-agree v w name rotating_text _ _ (session.begun moment a) (session.begun moment b) is (ap (λ k. by_session (book.rotate_begin_answer k)) agree.book) (agree-begun a b agree moment))
+
+rotate_next-agree : (v : World StreamState) (w : World Traced) (name : Text) → WorldsAgree v w → StepsAgree (rotate_next_answer by_state v name) (rotate_next_answer by_history w name)
+rotate_next-agree v w name is = at-agree v w name _ _ is (λ a b agree.
+    answered-agree v w name next_text _ _ (session.after_next by_state a) (session.after_next by_history b) is (ap (λ r. by_step r) (same-next a b agree)) (agree-next a b agree))
+
+-- archives have their names from the book
+same-named : (a : SessionOf StreamState) (b : SessionOf Traced) (r q : Result Archive SessionFault) → SessionsAgree a b → r ≡ q → named a r ≡ named b q
+same-named a b (Ok archive) q is same = subst (λ (x : Result Archive SessionFault). named a (Ok archive) ≡ named b x) same (ap (λ k. Ok (record { archive = archive; offset = k.offset })) is.book)
+same-named a b (Err why) q is same = subst (λ (x : Result Archive SessionFault). named a (Err why) ≡ named b x) same refl
+
+rotate_finish-agree : (v : World StreamState) (w : World Traced) (name : Text) → WorldsAgree v w → StepsAgree (rotate_finish_answer v name) (rotate_finish_answer w name)
+rotate_finish-agree v w name is = at-agree v w name _ _ is (λ a b agree.
+    answered-agree v w name archived_text _ _ (session.finished a) (session.finished b) is
+    (same-named a b (book.rotate_finish_answer a.book) (book.rotate_finish_answer b.book) agree (ap book.rotate_finish_answer agree.book)) (agree-finished a b agree))
+
+rotate-agree : (v : World StreamState) (w : World Traced) (name : Text) (moment : ℕ) → WorldsAgree v w → StepsAgree (rotate_answer by_state v name moment) (rotate_answer by_history w name moment)
+rotate-agree v w name moment is = at-agree v w name _ _ is (λ a b agree.
+    answered-agree v w name archived_text _ _ (session.after_rotate by_state moment a) (session.after_rotate by_history moment b) is
+    (same-named a b (session.rotate_answer by_state moment a) (session.rotate_answer by_history moment b) agree (same-rotate a b agree moment)) (agree-rotate a b agree moment))
+
+-- ---- questions
 
 fate-agree : (v : World StreamState) (w : World Traced) (name : Text) (stream serial : ℕ) → WorldsAgree v w → StepsAgree (fate_answer by_state v name stream serial) (fate_answer by_history w name stream serial)
 fate-agree v w name stream serial is = at-agree v w name _ _ is (λ a b agree.
-    let same = same-fate a b stream serial agree in
-    record { world = is; text = ap (λ r. fate_line (as_line r) ++ 10 ∷ []) same; is_refused = ap (λ r. is_err (as_line r)) same })
+    let same = same-fate a b agree stream serial in
+    record { world = is; text = ap (λ r. line_of fate_text (by_step r) ++ 10 ∷ []) same; is_refused = ap (λ r. is_err (by_step r)) same })
 
 same-rows : (i : ℕ) (ss : List StreamState) (ts : List Traced) → AllAgree ss ts → status_rows by_state i ss ≡ status_rows by_history i ts
 same-rows i [] [] agree = refl
@@ -170,23 +196,47 @@ same-rows i (s ∷ ss) (t ∷ ts) agree =
 
 same-status : (name : Text) (a : SessionOf StreamState) (b : SessionOf Traced) → SessionsAgree a b → status_text by_state name a ≡ status_text by_history name b
 same-status name a b is =
-    let rows = same-rows 0 a.streams b.streams is.streams in
-    let n = same-length a.streams b.streams is.streams in
-    let c = is.channels in
-    let s = is.state in
-    let line : status_line name a ≡ status_line name b = cc in
-    cc
+    ap (λ k. status_line name k ++ (10 ∷ (status_head ++ status_rows by_state 0 a.streams))) is.book
+    ∙ ap (λ rows. status_line name b.book ++ (10 ∷ (status_head ++ rows))) (same-rows 0 a.streams b.streams is.streams)
 
 status-agree : (v : World StreamState) (w : World Traced) (name : Text) → WorldsAgree v w → StepsAgree (status_answer by_state v name) (status_answer by_history w name)
 status-agree v w name is = at-agree v w name _ _ is (λ a b agree. record { world = is; text = ap (λ t. t ++ 10 ∷ []) (same-status name a b agree); is_refused = refl })
 
+same-archive : (a : SessionOf StreamState) (b : SessionOf Traced) (archive : Archive) → SessionsAgree a b → archive_line by_state a archive ≡ archive_line by_history b archive
+same-archive a b archive is =
+    let line : ℤ → ℕ → ℕ → Text = λ offset packets bytes. archive_text offset archive ++ (codes " packets " ++ (decimal packets ++ (codes " bytes " ++ decimal bytes))) in
+    ap (λ k. line k.offset (archive_packets by_state archive.id a) (archive_bytes by_state archive.id a)) is.book
+    ∙ ap (λ n. line b.book.offset n (archive_bytes by_state archive.id a)) (same-archive_packets a b is archive.id)
+    ∙ ap (λ n. line b.book.offset (archive_packets by_history archive.id b) n) (same-archive_bytes a b is archive.id)
+
+same-lines : (a : SessionOf StreamState) (b : SessionOf Traced) (archives : List Archive) → SessionsAgree a b → archive_lines by_state a archives ≡ archive_lines by_history b archives
+same-lines a b [] is = refl
+same-lines a b (archive ∷ archives) is =
+    ap (λ line. line ++ (10 ∷ archive_lines by_state a archives)) (same-archive a b archive is) ∙ ap (λ lines. archive_line by_history b archive ++ (10 ∷ lines)) (same-lines a b archives is)
+
+same-lines_or_none : (a : SessionOf StreamState) (b : SessionOf Traced) (archives : List Archive) → SessionsAgree a b → lines_or_none by_state a archives ≡ lines_or_none by_history b archives
+same-lines_or_none a b [] is = refl
+same-lines_or_none a b (archive ∷ archives) is = same-lines a b (archive ∷ archives) is
+
+same-archives : (a : SessionOf StreamState) (b : SessionOf Traced) → SessionsAgree a b → archives_text by_state a ≡ archives_text by_history b
+same-archives a b is = same-lines_or_none a b a.book.archives is ∙ ap (λ k. lines_or_none by_history b k.archives) is.book
+
+archives-agree : (v : World StreamState) (w : World Traced) (name : Text) → WorldsAgree v w → StepsAgree (archives_answer by_state v name) (archives_answer by_history w name)
+archives-agree v w name is = at-agree v w name _ _ is (λ a b agree. record { world = is; text = same-archives a b agree; is_refused = refl })
+
 -- the answer to what a line asks
 pub answers-agree : (asked : Asked) (v : World StreamState) (w : World Traced) → WorldsAgree v w → StepsAgree (answer_to by_state v asked) (answer_to by_history w asked)
-answers-agree (Create session uuid) v w is = create-agree v w session uuid is
+answers-agree (Create session uuid offset) v w is = create-agree v w session uuid offset is
 answers-agree (Channel session channel size count mode) v w is = channel-agree v w session channel size count mode is
 answers-agree (Thread session channel) v w is = thread-agree v w session channel is
 answers-agree (Start session moment) v w is = start-agree v w session moment is
+answers-agree (Stop session) v w is = stop-agree v w session is
 answers-agree (Offer session stream moment id text fill) v w is = offer-agree v w session stream moment id text fill is
 answers-agree (Consume session stream) v w is = consume-agree v w session stream is
+answers-agree (RotateBegin session moment) v w is = rotate_begin-agree v w session moment is
+answers-agree (RotateNext session) v w is = rotate_next-agree v w session is
+answers-agree (RotateFinish session) v w is = rotate_finish-agree v w session is
+answers-agree (Rotate session moment) v w is = rotate-agree v w session moment is
 answers-agree (Fate session stream serial) v w is = fate-agree v w session stream serial is
 answers-agree (Status session) v w is = status-agree v w session is
+answers-agree (Archives session) v w is = archives-agree v w session is

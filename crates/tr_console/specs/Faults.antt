@@ -1,14 +1,8 @@
 -- Why a line is refused, as its answer prints it.
-use Rattle.std.specs.Prelude.{ℕ, Bool, true, false, List, codes}
+use Rattle.std.specs.Prelude.{ℕ, Bool, false, List, codes}
 use Rattle.tr_console.specs.declared.faults.LineFault.{LineFault}
 use Rattle.tr_console.specs.declared.faults.LineFault.TheVariants.{NoSession, BadUuid, BadName, Session, Step}
-use Rattle.tr_session.specs.declared.faults.SessionFault.{SessionFault}
-use Rattle.tr_session.specs.declared.faults.SessionFault.TheVariants as session
-use Rattle.tr_session.specs.declared.faults.StepFault.{StepFault}
-use Rattle.tr_session.specs.declared.faults.StepFault.TheVariants as step
-use Rattle.tr_stream.specs.declared.answers.OfferFault.TheVariants as offer
-use Rattle.tr_stream.specs.declared.answers.TakeFault.TheVariants as take
-use Rattle.tr_session.specs.Faults.{session_fault_code, session_fault_name, step_fault_code, step_fault_name}
+use Rattle.tr_session.specs.Faults.{session_fault_code, session_fault_name, session_wants_memory, step_fault_code, step_fault_name, step_wants_memory}
 
 abbrev pub line_fault_code : LineFault → List ℕ
 line_fault_code NoSession = codes "K1"
@@ -25,25 +19,6 @@ line_fault_name (Session fault) = session_fault_name fault
 line_fault_name (Step fault) = step_fault_name fault
 
 -- memory was refused
-abbrev pub session_wants_memory : SessionFault → Bool
-session_wants_memory session.NoMemory = true
-session_wants_memory session.AlreadyActive = false
-session_wants_memory session.NoStream = false
-session_wants_memory session.AlreadyStarted = false
-session_wants_memory session.BadGeometry = false
-session_wants_memory session.TooMany = false
-session_wants_memory session.NameTaken = false
-session_wants_memory session.NoChannel = false
-
-abbrev pub step_wants_memory : StepFault → Bool
-step_wants_memory (step.Session fault) = session_wants_memory fault
-step_wants_memory (step.Offer offer.NoMemory) = true
-step_wants_memory (step.Offer offer.Inactive) = false
-step_wants_memory (step.Offer offer.TooBig) = false
-step_wants_memory (step.Offer offer.Spent) = false
-step_wants_memory (step.Take take.NoMemory) = true
-step_wants_memory (step.Take take.Nothing) = false
-
 abbrev pub wants_memory : LineFault → Bool
 wants_memory NoSession = false
 wants_memory BadUuid = false

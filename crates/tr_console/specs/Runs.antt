@@ -1,13 +1,14 @@
 -- How a run of a script ends: what its source gave, and what went out.
 use Rattle.std.specs.Prelude.{◌≡◌, ◌≤◌, ◌⊎◌, ℕ, List, [], ◌∷◌, ◌++◌, Option, length, option_map, take}
 use Rattle.std.specs.Borrow.{Bor}
-use Rattle.tr_console.specs.Script.{answers, refused_in, script_text, text_step}
+use Rattle.tr_console.specs.Agreement.{WorldsAgree}
+use Rattle.tr_console.specs.Script.{answers, refused_in, script_text, text_step, world_after}
 use Rattle.tr_console.specs.Texts.{Text}
 use Rattle.tr_console.specs.World.{Step, World}
 use Rattle.tr_lines.specs.Lines.{lines_of, whole_lines_of}
 use Rattle.tr_lines.specs.Reading.{longest_script}
 use Rattle.tr_record.specs.Bytes.{and_then_bytes}
-use Rattle.tr_stream.specs.Rules.{by_history, by_state}
+use Rattle.tr_stream.specs.Rules.{Traced, by_history, by_state}
 use Rattle.tr_stream.specs.State.{StreamState}
 
 -- what a console that holds these sessions does at a line's text
@@ -22,15 +23,21 @@ answers_to lines = answers by_history [] lines
 abbrev pub refused_lines : List ℕ → ℕ
 refused_lines script = refused_in by_history [] (lines_of script)
 
+-- the sessions, by their streams' histories, that a script leaves
+abbrev pub world_left : List ℕ → World Traced
+world_left script = world_after by_history [] (lines_of script)
+
 -- what the source had given and the sink taken before the run, and after it
 module _ (given given_now taken taken_now : Option (List ℕ)) where
-  -- the whole script was read, its whole answer written, and so many of its lines refused
-  pub record Ran (refused : ℕ) : Type 0 where
+  -- the whole script was read, its whole answer written, and so many of its lines refused; the sessions are as the script
+  -- leaves them
+  pub record Ran (world : World StreamState) (refused : ℕ) : Type 0 where
     pub script : List ℕ
     pub fits : length script ≤ longest_script
     pub read : given_now ≡ and_then_bytes given script
     pub wrote : taken_now ≡ and_then_bytes taken (script_text script)
     pub refusals : refused ≡ refused_lines script
+    pub sessions : WorldsAgree world (world_left script)
 
   -- this was read before the source failed, and its whole lines answered
   pub record BrokeOff : Type 0 where

@@ -1,30 +1,40 @@
 //! The sessions of a script, and the answer to each line.
 
-ghost use Rattle.std.specs.Prelude.{◌≡◌, ◌≤◌, ◌∷◌, ◌++◌, [], IfOk, codes, map, option_map};
+ghost use Rattle.std.specs.Prelude.{◌≡◌, ◌≤◌, ◌∷◌, ◌++◌, [], IfOk, codes, map, option_map, slice_get};
 ghost use Rattle.tr_command.specs.Language.{asked_of};
 ghost use Rattle.std.specs.String.{string_bytes};
-ghost use Rattle.tr_command.specs.Asked.{asked_by, moment_in};
-ghost use Rattle.tr_console.specs.Answers.{answer_to, create_answer, channel_answer, thread_answer, start_answer, offer_answer, consume_answer, fate_answer, status_answer, payload_of};
+ghost use Rattle.tr_command.specs.Asked.{IsOffset, asked_by, moment_in, offset_in};
+ghost use Rattle.tr_console.specs.Answers.{answer_to, create_answer, channel_answer, thread_answer, start_answer, stop_answer, offer_answer, consume_answer, rotate_begin_answer, rotate_next_answer, rotate_finish_answer, rotate_answer, fate_answer, status_answer, archives_answer, payload_of};
+ghost use Rattle.tr_console.specs.Calls.{RotatesOrAsks};
 ghost use Rattle.tr_console.specs.Replies.{Does};
 ghost use Rattle.tr_console.specs.Script.{asked_step, text_step};
 ghost use Rattle.tr_record.specs.Records.{last_moment};
 ghost use Rattle.tr_stream.specs.Rules.{by_state};
 
+use crate::archives::archives_of;
 use crate::faults::LineFault;
 use crate::names::is_valid_name;
-use crate::replies::{Reply, bad_line, fate_reply, offered_reply, refusal, skipped, taken_reply};
+use crate::replies::{
+    Reply, bad_line, done_reply, fate_reply, offered_reply, refusal, skipped, taken_reply,
+};
+use crate::rotations::{
+    archived_reply, next_reply, rotate_at, rotate_begin_at, rotate_finish_at, rotate_next_at,
+    rotating_reply,
+};
 use crate::sessions::{
-    ChannelShape, OfferTo, Sessions, add_channel_at, add_thread_at, fate_at, offer_at, start_at,
-    take_at,
+    ChannelShape, OfferTo, Sessions, add_channel_at, add_thread_at, fate_at, offer_at, shape_of,
+    start_at, stop_at, take_at,
 };
 use crate::status::status_of;
 use indexmap::IndexMap;
 use std::alloc::{AllocError, Allocator, Global};
 use std::marker::Model;
+use tr_chunk::OffsetMinutes;
 use tr_command::{Request, parse};
 use tr_lines::{is_skipped_line, push_words};
 use tr_record::Moment;
 use tr_session::{Session, SessionFault};
+use tr_stream::SessionMode;
 use uuid::Uuid;
 
 /// How many sessions a console has at most.
@@ -102,27 +112,26 @@ impl<A: Allocator + Copy> Console<A> {
 
     /// Answers a command.
     fn answer_request(&mut self, request: Request<'_>) -> Result<Reply<A>, AllocError>
-        requires { moment_in (asked_by request) ≤ last_moment }
+        requires moment { moment_in (asked_by request) ≤ last_moment }
+        requires offset { IsOffset (offset_in (asked_by request)) }
         ensures { IfOk result (Does (answer_to by_state self.old (asked_by request.entry)) self.new) }
     {
         match request {
-            Request::Create { session, uuid } => self.create(session, uuid),
+            Request::Create {
+                session,
+                uuid,
+                offset,
+            } => self.create(session, uuid, offset),
             Request::Channel {
                 session,
                 channel,
                 size,
                 count,
                 mode,
-            } => {
-                let shape = ChannelShape {
-                    size: u64::from(size),
-                    count: u64::from(count),
-                    mode,
-                };
-                self.add_channel(session, channel, shape)
-            }
+            } => self.add_channel(session, channel, shape_of(size, count, mode)),
             Request::Thread { session, channel } => self.add_thread(session, channel),
             Request::Start { session, moment } => self.start(session, moment),
+            Request::Stop { session } => self.stop(session),
             Request::Offer {
                 session,
                 stream,
@@ -132,19 +141,40 @@ impl<A: Allocator + Copy> Console<A> {
                 fill,
             } => self.offer(session, stream, moment, id, text, fill),
             Request::Consume { session, stream } => self.consume(session, stream),
+            _ => self.rotate_or_ask(request),
+        }
+    }
+
+    /// Answers a command of rotations, or a question.
+    fn rotate_or_ask(&mut self, request: Request<'_>) -> Result<Reply<A>, AllocError>
+        requires kind { RotatesOrAsks (asked_by request) }
+        requires moment { moment_in (asked_by request) ≤ last_moment }
+        ensures { IfOk result (Does (answer_to by_state self.old (asked_by request.entry)) self.new) }
+    {
+        match request {
+            Request::RotateBegin { session, moment } => self.rotate_begin(session, moment),
+            Request::RotateNext { session } => self.rotate_next(session),
+            Request::RotateFinish { session } => self.rotate_finish(session),
+            Request::Rotate { session, moment } => self.rotate(session, moment),
             Request::Fate {
                 session,
                 stream,
                 serial,
             } => self.fate(session, stream, serial),
             Request::Status { session } => self.status(session),
+            Request::Archives { session } => self.archives(session),
+            _ => unreachable!(),
         }
     }
 
     /// `create`
-    fn create(&mut self, session: &str, uuid: &str) -> Result<Reply<A>, AllocError>
-        ensures { IfOk result (Does (create_answer self.old session.now uuid.now) self.new) }
+    fn create(&mut self, session: &str, uuid: &str, offset: i32) -> Result<Reply<A>, AllocError>
+        requires { IsOffset offset }
+        ensures { IfOk result (Does (create_answer self.old session.now uuid.now offset) self.new) }
     {
+        let Some(offset) = OffsetMinutes::new(offset) else {
+            unreachable!()
+        };
         if !is_valid_name(session) {
             return refusal(self.alloc, LineFault::BadName);
         }
@@ -159,7 +189,8 @@ impl<A: Allocator + Copy> Console<A> {
         }
         let text = format!(in self.alloc; "created {session}\n")?;
         let name = String::from_str(self.alloc, session)?;
-        self.sessions.insert(name, Session::new(self.alloc, uuid))?;
+        let made = Session::new(self.alloc, uuid, offset, SessionMode::Local);
+        self.sessions.insert(name, made)?;
         Ok(Reply::done(text))
     }
 
@@ -200,13 +231,16 @@ impl<A: Allocator + Copy> Console<A> {
         let Some(moment) = Moment::new(moment) else {
             unreachable!()
         };
-        match start_at(&mut self.sessions, session, moment) {
-            Ok(()) => {
-                let text = String::from_str(self.alloc, "started\n")?;
-                Ok(Reply::done(text))
-            }
-            Err(fault) => refusal(self.alloc, fault),
-        }
+        let answer = start_at(&mut self.sessions, session, moment);
+        done_reply(self.alloc, "started", answer)
+    }
+
+    /// `stop`
+    fn stop(&mut self, session: &str) -> Result<Reply<A>, AllocError>
+        ensures { IfOk result (Does (stop_answer by_state self.old session.now) self.new) }
+    {
+        let answer = stop_at(&mut self.sessions, session);
+        done_reply(self.alloc, "stopped", answer)
     }
 
     /// `offer`
@@ -239,6 +273,46 @@ impl<A: Allocator + Copy> Console<A> {
         taken_reply(self.alloc, answer)
     }
 
+    /// `rotate-begin`
+    fn rotate_begin(&mut self, session: &str, moment: u64) -> Result<Reply<A>, AllocError>
+        requires { moment ≤ last_moment }
+        ensures { IfOk result (Does (rotate_begin_answer self.old session.now moment) self.new) }
+    {
+        let Some(moment) = Moment::new(moment) else {
+            unreachable!()
+        };
+        let answer = rotate_begin_at(&mut self.sessions, session, moment);
+        rotating_reply(self.alloc, answer)
+    }
+
+    /// `rotate-next`
+    fn rotate_next(&mut self, session: &str) -> Result<Reply<A>, AllocError>
+        ensures { IfOk result (Does (rotate_next_answer by_state self.old session.now) self.new) }
+    {
+        let answer = rotate_next_at(&mut self.sessions, session);
+        next_reply(self.alloc, answer)
+    }
+
+    /// `rotate-finish`
+    fn rotate_finish(&mut self, session: &str) -> Result<Reply<A>, AllocError>
+        ensures { IfOk result (Does (rotate_finish_answer self.old session.now) self.new) }
+    {
+        let answer = rotate_finish_at(&mut self.sessions, session);
+        archived_reply(self.alloc, answer)
+    }
+
+    /// `rotate`
+    fn rotate(&mut self, session: &str, moment: u64) -> Result<Reply<A>, AllocError>
+        requires { moment ≤ last_moment }
+        ensures { IfOk result (Does (rotate_answer by_state self.old session.now moment) self.new) }
+    {
+        let Some(moment) = Moment::new(moment) else {
+            unreachable!()
+        };
+        let answer = rotate_at(&mut self.sessions, session, moment);
+        archived_reply(self.alloc, answer)
+    }
+
     /// `fate`
     fn fate(&self, session: &str, stream: u64, serial: u64) -> Result<Reply<A>, AllocError>
         ensures { IfOk result (Does (fate_answer by_state self.now session.now stream serial) self.now) }
@@ -257,5 +331,27 @@ impl<A: Allocator + Copy> Console<A> {
         let mut text = status_of(self.alloc, session, found)?;
         text.push_str("\n")?;
         Ok(Reply::done(text))
+    }
+    /// `archives`
+    fn archives(&self, session: &str) -> Result<Reply<A>, AllocError>
+        ensures { IfOk result (Does (archives_answer by_state self.now session.now) self.now) }
+    {
+        let Some(found) = self.sessions.get(session) else {
+            return refusal(self.alloc, LineFault::NoSession);
+        };
+        let text = archives_of(self.alloc, found)?;
+        Ok(Reply::done(text))
+    }
+}
+
+impl<A: Allocator> Console<A> {
+    /// The session of this number in the order of creation, from 0, with its name. None where there are not so many.
+    pub fn session(&self, k: usize) -> Option<(&str, &Session<A>)>
+        ensures { option_map (λ e. (e.0.now, e.1.now)) result ≡ slice_get self.now k }
+    {
+        match self.sessions.get_index(k) {
+            Some((name, session)) => Some((name.as_str(), session)),
+            None => None,
+        }
     }
 }

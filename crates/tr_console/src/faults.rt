@@ -5,7 +5,6 @@ ghost use Rattle.tr_console.specs.Faults.{line_fault_code, line_fault_name, want
 
 use thiserror::Error;
 use tr_session::{SessionFault, StepFault};
-use tr_stream::{OfferFault, TakeFault};
 
 /// Why a line is refused: by the console, by a session, or by a stream. Nothing changed.
 #[derive(Clone, Copy, Debug, PartialEq, Eq, Error)]
@@ -59,10 +58,8 @@ impl LineFault {
         ensures { result ≡ wants_memory self.now }
     {
         match self {
-            LineFault::Session(SessionFault::NoMemory) => true,
-            LineFault::Step(StepFault::Session(SessionFault::NoMemory)) => true,
-            LineFault::Step(StepFault::Offer(OfferFault::NoMemory)) => true,
-            LineFault::Step(StepFault::Take(TakeFault::NoMemory)) => true,
+            LineFault::Session(fault) => fault.wants_memory(),
+            LineFault::Step(fault) => fault.wants_memory(),
             _ => false,
         }
     }

@@ -2,10 +2,12 @@
 //! A whole run is proved equal to a function from the script's bytes to the answer's bytes.
 #![tactic(auto)]
 
+mod archives;
 mod console;
 mod faults;
 mod names;
 mod replies;
+mod rotations;
 mod script;
 mod script_fault;
 mod sessions;

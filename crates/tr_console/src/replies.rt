@@ -4,7 +4,7 @@ ghost use Rattle.std.specs.Prelude.{◌≡◌, ◌∷◌, ◌++◌, [], true, fa
 ghost use Rattle.std.specs.String.{string_bytes};
 ghost use Rattle.tr_console.specs.Calls.{HasMemory};
 ghost use Rattle.tr_console.specs.Faults.{wants_memory};
-ghost use Rattle.tr_console.specs.Texts.{fate_line, fate_text, offered_line, refusal_text, taken_line};
+ghost use Rattle.tr_console.specs.Texts.{fate_text, line_of, offered_text, refusal_text, taken_text};
 
 use crate::faults::LineFault;
 use std::alloc::{AllocError, Allocator, Global};
@@ -85,12 +85,31 @@ pub fn skipped<A: Allocator + Copy>(alloc: A) -> Reply<A>
     }
 }
 
+/// The answer to a call that tells nothing but that it is done, in these words. Where memory was refused there is none.
+pub fn done_reply<A: Allocator + Copy>(
+    alloc: A,
+    words: &str,
+    answer: Result<(), LineFault>,
+) -> Result<Reply<A>, AllocError>
+    ensures text { IfOk result (λ r. string_bytes r.text ≡ line_of (λ done. words.now) answer ++ 10 ∷ []) }
+    ensures refused { IfOk result (λ r. r.is_refused ≡ is_err answer) }
+    ensures memory { OnOk result (HasMemory answer) }
+{
+    match answer {
+        Ok(()) => {
+            let text = format!(in alloc; "{words}\n")?;
+            Ok(Reply::done(text))
+        }
+        Err(fault) => refusal(alloc, fault),
+    }
+}
+
 /// The answer to an offer. Where memory was refused there is none.
 pub fn offered_reply<A: Allocator + Copy>(
     alloc: A,
     answer: Result<Offered, LineFault>,
 ) -> Result<Reply<A>, AllocError>
-    ensures text { IfOk result (λ r. string_bytes r.text ≡ offered_line answer ++ 10 ∷ []) }
+    ensures text { IfOk result (λ r. string_bytes r.text ≡ line_of offered_text answer ++ 10 ∷ []) }
     ensures refused { IfOk result (λ r. r.is_refused ≡ is_err answer) }
     ensures memory { OnOk result (HasMemory answer) }
 {
@@ -115,7 +134,7 @@ pub fn taken_reply<A: Allocator + Copy>(
     alloc: A,
     answer: Result<Taken, LineFault>,
 ) -> Result<Reply<A>, AllocError>
-    ensures text { IfOk result (λ r. string_bytes r.text ≡ taken_line answer ++ 10 ∷ []) }
+    ensures text { IfOk result (λ r. string_bytes r.text ≡ line_of taken_text answer ++ 10 ∷ []) }
     ensures refused { IfOk result (λ r. r.is_refused ≡ is_err answer) }
     ensures memory { OnOk result (HasMemory answer) }
 {
@@ -146,7 +165,7 @@ pub fn fate_reply<A: Allocator + Copy>(
     alloc: A,
     answer: Result<Option<Fate>, LineFault>,
 ) -> Result<Reply<A>, AllocError>
-    ensures text { IfOk result (λ r. string_bytes r.text ≡ fate_line answer ++ 10 ∷ []) }
+    ensures text { IfOk result (λ r. string_bytes r.text ≡ line_of fate_text answer ++ 10 ∷ []) }
     ensures refused { IfOk result (λ r. r.is_refused ≡ is_err answer) }
 {
     let text = match answer {

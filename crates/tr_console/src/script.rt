@@ -19,10 +19,12 @@ mod tests;
 const PIECE: usize = 65_536;
 
 /// A run that came to the script's end.
-#[derive(Debug, Drop)]
-pub struct ScriptDone {
+#[derive(Drop)]
+pub struct ScriptDone<A: Allocator = Global> {
     /// How many lines were refused, bad lines among them.
     pub refused: u64,
+    /// The sessions as the script left them.
+    pub console: Console<A>,
 }
 
 /// Answers a line, and says whether it was refused. Where its answer needs memory that is refused, nothing of it
@@ -63,8 +65,8 @@ pub fn run_script<A: Allocator + Copy, S: ByteSource, K: ByteSink>(
     clap: Global,
     source: &mut S,
     sink: &mut K,
-) -> Result<ScriptDone, ScriptFault>
-    ensures done { IfOk result (λ done. Ran (S.given source.old) (S.given source.new) (K.taken sink.old) (K.taken sink.new) done.refused) }
+) -> Result<ScriptDone<A>, ScriptFault>
+    ensures done { IfOk result (λ done. Ran (S.given source.old) (S.given source.new) (K.taken sink.old) (K.taken sink.new) done.console done.refused) }
     ensures end { OnOk result (S.given source.new ≡ S.content source.old) }
     ensures content { S.content source.new ≡ S.content source.old }
 
@@ -87,7 +89,7 @@ pub fn run_script<A: Allocator + Copy, S: ByteSource, K: ByteSink>(
         refused += u64::from(is_refused);
         match found {
             Found::Whole => {}
-            Found::Last => return Ok(ScriptDone { refused }),
+            Found::Last => return Ok(ScriptDone { refused, console }),
         }
     }
 }

@@ -2,10 +2,11 @@
 
 ghost use Rattle.std.specs.Prelude.{◌≡◌, false, Ok, Err, Some, OnOk, OnErr, IfOk, IfErr, length, option_map};
 ghost use Rattle.tr_console.specs.World.{session_named};
-ghost use Rattle.tr_console.specs.Calls.{HasMemory, called, channel_called, stepped, world_stepped};
+ghost use Rattle.tr_console.specs.Calls.{HasMemory, added, added_channel, after_call, by_session, by_step, call_answer};
 ghost use Rattle.tr_console.specs.Faults.{wants_memory};
+ghost use Rattle.tr_session.specs.BookSteps.{start_answer, stop_answer};
 ghost use Rattle.tr_session.specs.Names.{by_name};
-ghost use Rattle.tr_session.specs.Steps.{thread_added, started, offer_step, after_offer_step, take_step, after_take_step, fate_asked};
+ghost use Rattle.tr_session.specs.Steps.{thread_added, all_started, all_stopped, offer_step, after_offer_step, take_step, after_take_step, fate_asked};
 ghost use Rattle.tr_stream.specs.Rules.{by_state};
 
 use crate::faults::LineFault;
@@ -30,6 +31,17 @@ pub struct ChannelShape {
     pub mode: Mode,
 }
 
+/// The shape of a channel whose sizes a command gave.
+pub fn shape_of(size: u32, count: u32, mode: Mode) -> ChannelShape
+    ensures { result ≡ record { size = size; count = count; mode = mode } }
+{
+    ChannelShape {
+        size: u64::from(size),
+        count: u64::from(count),
+        mode,
+    }
+}
+
 /// An offer: its moment, its id and its payload.
 #[derive(Clone, Copy, Debug)]
 pub struct OfferTo {
@@ -45,8 +57,8 @@ pub fn add_channel_at<A: Allocator + Copy>(
     channel: &str,
     shape: ChannelShape,
 ) -> Result<(), LineFault>
-    ensures ok { OnOk result (channel_called session.now channel.now shape.size shape.count shape.mode (by_name sessions.old.entries) ≡ Ok (by_name sessions.new.entries)) }
-    ensures refused { IfErr result (λ fault. wants_memory fault ≡ false → channel_called session.now channel.now shape.size shape.count shape.mode (by_name sessions.old.entries) ≡ Err fault) }
+    ensures ok { OnOk result (added_channel session.now channel.now shape.size shape.count shape.mode (by_name sessions.old.entries) ≡ Ok (by_name sessions.new.entries)) }
+    ensures refused { IfErr result (λ fault. wants_memory fault ≡ false → added_channel session.now channel.now shape.size shape.count shape.mode (by_name sessions.old.entries) ≡ Err fault) }
     ensures unchanged { OnErr result (by_name sessions.new.entries ≡ by_name sessions.old.entries) }
 {
     let Some(found) = sessions.get_mut(session) else {
@@ -68,8 +80,8 @@ pub fn add_thread_at<A: Allocator + Copy>(
     channel: &str,
 ) -> Result<u64, LineFault>
     ensures number { IfOk result (λ n. option_map (λ s. length s.streams) (session_named session.now (by_name sessions.old.entries)) ≡ Some n) }
-    ensures ok { OnOk result (called session.now (thread_added by_state channel.now) (by_name sessions.old.entries) ≡ Ok (by_name sessions.new.entries)) }
-    ensures refused { IfErr result (λ fault. wants_memory fault ≡ false → called session.now (thread_added by_state channel.now) (by_name sessions.old.entries) ≡ Err fault) }
+    ensures ok { OnOk result (added session.now (thread_added by_state channel.now) (by_name sessions.old.entries) ≡ Ok (by_name sessions.new.entries)) }
+    ensures refused { IfErr result (λ fault. wants_memory fault ≡ false → added session.now (thread_added by_state channel.now) (by_name sessions.old.entries) ≡ Err fault) }
     ensures unchanged { OnErr result (by_name sessions.new.entries ≡ by_name sessions.old.entries) }
 {
     let Some(found) = sessions.get_mut(session) else {
@@ -81,20 +93,35 @@ pub fn add_thread_at<A: Allocator + Copy>(
     }
 }
 
-/// Starts a session.
+/// Starts a session and its streams.
 pub fn start_at<A: Allocator>(
     sessions: &mut Sessions<A>,
     session: &str,
     moment: Moment,
 ) -> Result<(), LineFault>
-    ensures ok { OnOk result (called session.now (started by_state moment) (by_name sessions.old.entries) ≡ Ok (by_name sessions.new.entries)) }
-    ensures refused { IfErr result (λ fault. called session.now (started by_state moment) (by_name sessions.old.entries) ≡ Err fault) }
-    ensures unchanged { OnErr result (by_name sessions.new.entries ≡ by_name sessions.old.entries) }
+    ensures { HasMemory result →
+        (result ≡ call_answer session.now (λ s. by_session (start_answer s.book)) (by_name sessions.old.entries))
+        × (by_name sessions.new.entries ≡ after_call session.now (all_started by_state moment) (by_name sessions.old.entries)) }
 {
     let Some(found) = sessions.get_mut(session) else {
         return Err(LineFault::NoSession);
     };
     match found.start(moment) {
+        Ok(()) => Ok(()),
+        Err(fault) => Err(LineFault::Session(fault)),
+    }
+}
+
+/// Stops a session and its streams.
+pub fn stop_at<A: Allocator>(sessions: &mut Sessions<A>, session: &str) -> Result<(), LineFault>
+    ensures { HasMemory result →
+        (result ≡ call_answer session.now (λ s. by_session (stop_answer s.book)) (by_name sessions.old.entries))
+        × (by_name sessions.new.entries ≡ after_call session.now (all_stopped by_state) (by_name sessions.old.entries)) }
+{
+    let Some(found) = sessions.get_mut(session) else {
+        return Err(LineFault::NoSession);
+    };
+    match found.stop() {
         Ok(()) => Ok(()),
         Err(fault) => Err(LineFault::Session(fault)),
     }
@@ -108,8 +135,8 @@ pub fn offer_at<A: Allocator + Copy>(
     payload: &[u8],
 ) -> Result<Offered, LineFault>
     ensures { HasMemory result →
-        (result ≡ stepped session.now (offer_step by_state offer.stream offer.moment offer.id payload.now) (by_name sessions.old.entries))
-        × (by_name sessions.new.entries ≡ world_stepped session.now (after_offer_step by_state offer.stream offer.moment offer.id payload.now) (by_name sessions.old.entries)) }
+        (result ≡ call_answer session.now (λ s. by_step (offer_step by_state offer.stream offer.moment offer.id payload.now s)) (by_name sessions.old.entries))
+        × (by_name sessions.new.entries ≡ after_call session.now (after_offer_step by_state offer.stream offer.moment offer.id payload.now) (by_name sessions.old.entries)) }
 {
     let Some(found) = sessions.get_mut(session) else {
         return Err(LineFault::NoSession);
@@ -127,8 +154,8 @@ pub fn take_at<A: Allocator + Copy>(
     stream: u64,
 ) -> Result<Taken, LineFault>
     ensures { HasMemory result →
-        (result ≡ stepped session.now (take_step by_state stream) (by_name sessions.old.entries))
-        × (by_name sessions.new.entries ≡ world_stepped session.now (after_take_step by_state stream) (by_name sessions.old.entries)) }
+        (result ≡ call_answer session.now (λ s. by_step (take_step by_state stream s)) (by_name sessions.old.entries))
+        × (by_name sessions.new.entries ≡ after_call session.now (after_take_step by_state stream) (by_name sessions.old.entries)) }
 {
     let Some(found) = sessions.get_mut(session) else {
         return Err(LineFault::NoSession);
@@ -146,7 +173,7 @@ pub fn fate_at<A: Allocator>(
     stream: u64,
     serial: u64,
 ) -> Result<Option<Fate>, LineFault>
-    ensures { result ≡ stepped session.now (fate_asked by_state stream serial) (by_name sessions.now.entries) }
+    ensures { result ≡ call_answer session.now (λ s. by_step (fate_asked by_state stream serial s)) (by_name sessions.now.entries) }
 {
     let Some(found) = sessions.get(session) else {
         return Err(LineFault::NoSession);

@@ -1,18 +1,26 @@
 //! The answer to `status`.
 
 ghost use Rattle.std.specs.Prelude.{◌≡◌, ◌∷◌, ◌++◌, [], OnOk, IfOk, codes};
-ghost use Rattle.std.specs.Fmt.{decimal};
 ghost use Rattle.std.specs.String.{string_bytes};
-ghost use Rattle.tr_console.specs.Texts.{right, state_text, status_head, status_line, status_row, status_rows, status_text};
+ghost use Rattle.tr_console.specs.Texts.{mode_text, pending_text, right, sizes_text, state_text, status_head, status_line, status_row, status_rows, status_text};
 ghost use Rattle.tr_stream.specs.Rules.{by_state};
 
 use std::alloc::{AllocError, Allocator};
 use std::fmt::Write;
 use tr_book::Counts;
-use tr_session::{Session, State};
+use tr_session::{Pending, Session, SessionBook, State};
+use tr_stream::SessionMode;
 
 /// The heads of the columns.
 const HEAD: &str = "stream     offered   discarded overwritten     in-ring   in-chunks";
+
+fn mode_word(mode: SessionMode) -> &'static str
+    ensures { result.now ≡ mode_text mode }
+{
+    match mode {
+        SessionMode::Local => "local",
+    }
+}
 
 fn state_word(state: State) -> &'static str
     ensures { result.now ≡ state_text state }
@@ -20,31 +28,55 @@ fn state_word(state: State) -> &'static str
     match state {
         State::New => "new",
         State::Active => "active",
+        State::Inactive => "inactive",
     }
 }
 
-/// What is said of the session by name and state.
+/// What is said of the session by name, mode and state.
 fn session_head<A: Allocator + Copy>(
     alloc: A,
     name: &str,
-    state: State,
+    book: &SessionBook<A>,
 ) -> Result<String<A>, AllocError>
-    ensures { IfOk result (λ s. string_bytes s ≡ codes "session " ++ (name.now ++ (codes " local " ++ state_text state))) }
+    ensures { IfOk result (λ s. string_bytes s ≡ codes "session " ++ (name.now ++ (32 ∷ (mode_text book.now.mode ++ (32 ∷ state_text book.now.state))))) }
 {
-    let state = state_word(state);
-    let text = format!(in alloc; "session {name} local {state}")?;
+    let mode = mode_word(book.mode());
+    let state = state_word(book.state());
+    let text = format!(in alloc; "session {name} {mode} {state}")?;
     Ok(text)
 }
 
-/// Adds how many channels and streams there are.
-fn push_sizes<A: Allocator>(
+/// Adds how many channels, streams and archives there are.
+fn push_sizes<A: Allocator + Copy>(
     text: &mut String<A>,
-    channels: usize,
-    streams: usize,
+    book: &SessionBook<A>,
 ) -> Result<(), AllocError>
-    ensures { OnOk result (string_bytes text.new ≡ string_bytes text.old ++ (codes " channels " ++ (decimal channels ++ (codes " streams " ++ (decimal streams ++ codes " archives 0"))))) }
+    ensures { OnOk result (string_bytes text.new ≡ string_bytes text.old ++ sizes_text book.now) }
 {
-    match write!(text, " channels {channels} streams {streams} archives 0") {
+    let channels = book.channels();
+    let streams = book.streams();
+    let archives = book.archives().len();
+    match write!(
+        text,
+        " channels {channels} streams {streams} archives {archives}"
+    ) {
+        Ok(()) => Ok(()),
+        Err(_) => Err(AllocError),
+    }
+}
+
+/// Adds the rotation that has begun and isn't finished, if there is one.
+fn push_pending<A: Allocator>(
+    text: &mut String<A>,
+    pending: Option<Pending>,
+) -> Result<(), AllocError>
+    ensures { OnOk result (string_bytes text.new ≡ string_bytes text.old ++ pending_text pending) }
+{
+    let Some(pending) = pending else {
+        return Ok(());
+    };
+    let id = pending.archive.id;
+    match write!(text, " pending {id}") {
         Ok(()) => Ok(()),
         Err(_) => Err(AllocError),
     }
@@ -54,12 +86,13 @@ fn push_sizes<A: Allocator>(
 fn session_line<A: Allocator + Copy>(
     alloc: A,
     name: &str,
-    session: &Session<A>,
+    book: &SessionBook<A>,
 ) -> Result<String<A>, AllocError>
-    ensures { IfOk result (λ s. string_bytes s ≡ status_line name.now session.now) }
+    ensures { IfOk result (λ s. string_bytes s ≡ status_line name.now book.now) }
 {
-    let mut text = session_head(alloc, name, session.state())?;
-    push_sizes(&mut text, session.channels(), session.streams())?;
+    let mut text = session_head(alloc, name, book)?;
+    push_sizes(&mut text, book)?;
+    push_pending(&mut text, book.pending())?;
     Ok(text)
 }
 
@@ -104,10 +137,10 @@ pub fn status_of<A: Allocator + Copy>(
 ) -> Result<String<A>, AllocError>
     ensures { IfOk result (λ s. string_bytes s ≡ status_text by_state name.now session.now) }
 {
-    let mut text = session_line(alloc, name, session)?;
+    let mut text = session_line(alloc, name, session.book())?;
     text.push_str("\n")?;
     text.push_str(HEAD)?;
-    'rows: for i in 0..session.streams() as u64 {
+    'rows: for i in 0..session.streams() {
         let Some(stream) = session.stream(i) else {
             unreachable!()
         };

@@ -1,4 +1,12 @@
+pub mod Agreement
 pub mod AuditLaws
+pub mod BookLaws
 pub mod GapLaws
 pub mod ListLaws
 pub mod NameLaws
+pub mod OwnSteps
+pub mod ResultLaws
+pub mod RunAgreement
+pub mod RunLaws
+pub mod SessionLaws
+pub mod SizeLaws

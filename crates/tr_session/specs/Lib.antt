@@ -1,5 +1,11 @@
+pub mod Agreement
 pub mod Audits
+pub mod Book
+pub mod BookSteps
+pub mod Events
 pub mod Faults
 pub mod Names
+pub mod Runs
 pub mod Session
+pub mod Sizes
 pub mod Steps

@@ -1,90 +1,54 @@
--- What a session's calls do, and what they answer: the first refusal that applies, or the session after the step.
-use Rattle.std.specs.Prelude.{ℕ, ◌≤◌, max, Bool, true, false, nat_le, List, [], ◌∷◌, ◌++◌, zero, suc, length, map, is_some, Option, Some, None, Result, Ok, Err, slice_get, if◌then◌else◌}
-use Rattle.std.specs.Map.{lookup}
+-- What the calls of a session answer, and what they do to its book and its streams.
+use Rattle.std.specs.Prelude.{◌≡◌, ◌≤◌, ◌⊎◌, ℕ, Bool, true, false, nat_lt, List, [], ◌∷◌, ◌++◌, zero, suc, length, map, Option, Some, None, Result, Ok, Err, slice_get, if◌then◌else◌}
 use Rattle.std.specs.Option.{option_map_or}
-use Rattle.std.specs.Str.{bytes_eq}
-use Rattle.tr_book.specs.Geometry.{GeometryState, geometry_of}
-use Rattle.tr_book.specs.declared.geometry.GeometryFault.{GeometryFault}
 use Rattle.tr_book.specs.declared.mode.Mode.{Mode}
+use Rattle.tr_session.specs.Book.{SessionBookState}
+use Rattle.tr_session.specs.BookSteps.{unless_refused, channel_named, channel_added, thread_place, with_thread, start_answer, after_start, stop_answer, after_stop, switch_answer, rotate_begin_answer, after_rotate_begin, cut_moment, with_cut, rotate_finish_answer, after_rotate_finish}
 use Rattle.tr_session.specs.Session.{SessionOf}
+use Rattle.tr_session.specs.declared.archive.Archive.{Archive}
+use Rattle.tr_session.specs.declared.archive.Pending.{Pending}
 use Rattle.tr_session.specs.declared.channel.Channel.{Channel}
 use Rattle.tr_session.specs.declared.faults.SessionFault.{SessionFault}
-use Rattle.tr_session.specs.declared.faults.SessionFault.TheVariants.{AlreadyActive, NoStream, AlreadyStarted, BadGeometry, TooMany, NameTaken, NoChannel}
+use Rattle.tr_session.specs.declared.faults.SessionFault.TheVariants.{NoStream, NoChannel, NotPending}
 use Rattle.tr_session.specs.declared.faults.StepFault.{StepFault}
-use Rattle.tr_session.specs.declared.faults.StepFault.TheVariants.{Session, Offer, Take}
-use Rattle.tr_session.specs.declared.state.State.{State}
-use Rattle.tr_session.specs.declared.state.State.TheVariants.{New, Active}
+use Rattle.tr_session.specs.declared.faults.StepFault.TheVariants.{Session, Offer, Take, Cut}
+use Rattle.tr_session.specs.declared.rotation.Next.{Next}
+use Rattle.tr_session.specs.declared.rotation.Next.TheVariants as next
 use Rattle.tr_stream.specs.Rules.{StreamRules}
+use Rattle.tr_stream.specs.declared.answers.CutDone.{CutDone}
+use Rattle.tr_stream.specs.declared.answers.CutFault.{CutFault}
 use Rattle.tr_stream.specs.declared.answers.OfferFault.{OfferFault}
 use Rattle.tr_stream.specs.declared.answers.Offered.{Offered}
 use Rattle.tr_stream.specs.declared.answers.Offered.TheVariants.{Stored, StoredOver, Discarded}
 use Rattle.tr_stream.specs.declared.answers.TakeFault.{TakeFault}
 use Rattle.tr_stream.specs.declared.answers.Taken.{Taken}
-use Rattle.tr_stream.specs.declared.config.SessionMode.TheVariants.{Local}
 use Rattle.tr_stream.specs.declared.config.StreamConfig.{StreamConfig}
 use Rattle.tr_stream.specs.declared.fate.Fate.{Fate}
 
-abbrev pub is_new : State → Bool
-is_new New = true
-is_new Active = false
+-- ---- channels and streams
 
-abbrev pub is_active : State → Bool
-is_active New = false
-is_active Active = true
-
--- ---- channels and streams, which are added before the first start only
-
-abbrev pub most_channels : ℕ
-most_channels = 8
-
-abbrev pub most_streams : ℕ
-most_streams = 256
-
--- as many as there may be
-abbrev pub IsWithinLimits : {S : Type 0} → SessionOf S → Type 0
-IsWithinLimits s = (length s.channels ≤ most_channels) × (length s.streams ≤ most_streams)
-
-abbrev pub channel_of : {S : Type 0} → List ℕ → SessionOf S → Option Channel
-channel_of name s = lookup (bytes_eq name) s.channels
-
-abbrev pub with_channel : {S : Type 0} → List ℕ → Channel → SessionOf S → SessionOf S
-with_channel name channel s = record s { channels = s.channels ++ (name, channel) ∷ [] }
-
--- a channel of this geometry, if there is such a geometry
-abbrev pub channel_made : {S : Type 0} → List ℕ → Mode → Result GeometryState GeometryFault → SessionOf S → Result (SessionOf S) SessionFault
-channel_made name mode (Err fault) s = Err BadGeometry
-channel_made name mode (Ok geometry) s = Ok (with_channel name (record { geometry = geometry; mode = mode }) s)
+-- a session with this book in place of its own, if there is one
+abbrev pub with_book : {S : Type 0} → List S → Result SessionBookState SessionFault → Result (SessionOf S) SessionFault
+with_book streams (Ok b) = Ok (record { book = b; streams = streams })
+with_book streams (Err fault) = Err fault
 
 -- a channel is added
-abbrev pub channel_added : {S : Type 0} → List ℕ → ℕ → ℕ → Mode → SessionOf S → Result (SessionOf S) SessionFault
-channel_added name size count mode s =
-    if is_new s.state then
-    (if is_some (channel_of name s) then Err NameTaken
-    else (if nat_le most_channels (length s.channels) then Err TooMany
-    else channel_made name mode (geometry_of size count) s))
-    else Err AlreadyStarted
+abbrev pub session_channel_added : {S : Type 0} → List ℕ → ℕ → ℕ → Mode → SessionOf S → Result (SessionOf S) SessionFault
+session_channel_added name size count mode s = with_book s.streams (channel_added name size count mode s.book)
 
 -- what the next stream of a channel is made with
-abbrev pub next_config : {S : Type 0} → Channel → SessionOf S → StreamConfig
-next_config channel s = record { uuid = s.uuid; number = length s.streams; geometry = channel.geometry; mode = channel.mode; session = Local }
+abbrev pub next_config : Channel → SessionBookState → StreamConfig
+next_config channel b = record { uuid = b.uuid; number = length b.threads; geometry = channel.geometry; mode = channel.mode; session = b.mode }
 
-abbrev pub stream_made : {S : Type 0} → StreamRules S → Option Channel → SessionOf S → Result (SessionOf S) SessionFault
-stream_made rules None s = Err NoChannel
-stream_made rules (Some channel) s =
-    if nat_le most_streams (length s.streams) then Err TooMany
-    else Ok (record s { streams = s.streams ++ rules.made (next_config channel s) ∷ [] })
+abbrev pub stream_made : {S : Type 0} → StreamRules S → Option Channel → Result ℕ SessionFault → SessionOf S → Result (SessionOf S) SessionFault
+stream_made rules channel (Err fault) s = Err fault
+stream_made rules None (Ok place) s = Err NoChannel
+stream_made rules (Some channel) (Ok place) s =
+    Ok (record { book = with_thread place s.book; streams = s.streams ++ rules.made (next_config channel s.book) ∷ [] })
 
--- a thread is added to a channel: the stream has the next number
+-- a thread is added to a channel: its stream has the next number
 abbrev pub thread_added : {S : Type 0} → StreamRules S → List ℕ → SessionOf S → Result (SessionOf S) SessionFault
-thread_added rules channel s = if is_new s.state then stream_made rules (channel_of channel s) s else Err AlreadyStarted
-
--- ---- the start
-
--- the session is active, and each of its streams
-abbrev pub started : {S : Type 0} → StreamRules S → ℕ → SessionOf S → Result (SessionOf S) SessionFault
-started rules moment s =
-    if is_active s.state then Err AlreadyActive
-    else Ok (record s { state = Active; last = max moment s.last; streams = map (rules.turned true) s.streams })
+thread_added rules channel s = stream_made rules (channel_named channel s.book) (thread_place channel s.book) s
 
 -- ---- steps of one stream
 
@@ -101,6 +65,10 @@ offer_as_step (Err fault) = Err (Offer fault)
 abbrev pub take_as_step : Result Taken TakeFault → Result Taken StepFault
 take_as_step (Ok taken) = Ok taken
 take_as_step (Err fault) = Err (Take fault)
+
+abbrev pub cut_as_step : Result CutDone CutFault → Result CutDone StepFault
+cut_as_step (Ok done) = Ok done
+cut_as_step (Err fault) = Err (Cut fault)
 
 -- the kinds of answer that may take memory
 abbrev pub StepTakesMemory : Result Offered StepFault → Type 0
@@ -122,6 +90,90 @@ take_step rules i s = option_map_or (λ t. take_as_step (rules.taken t)) (slice_
 
 abbrev pub after_take_step : {S : Type 0} → StreamRules S → ℕ → SessionOf S → SessionOf S
 after_take_step rules i s = record s { streams = changed_at i rules.after_taken s.streams }
+
+-- stream i is cut at this moment, if it is due
+abbrev pub cut_step_at : {S : Type 0} → StreamRules S → Result ℕ SessionFault → ℕ → SessionOf S → Result CutDone StepFault
+cut_step_at rules (Err fault) i s = Err (Session fault)
+cut_step_at rules (Ok moment) i s = option_map_or (λ t. cut_as_step (rules.cut moment t)) (slice_get s.streams i) (Err (Session NoStream))
+
+abbrev pub after_cut_step_at : {S : Type 0} → StreamRules S → Result ℕ SessionFault → ℕ → SessionOf S → SessionOf S
+after_cut_step_at rules (Err fault) i s = s
+after_cut_step_at rules (Ok moment) i s = record { book = with_cut s.book; streams = changed_at i (rules.after_cut moment) s.streams }
+
+-- a cut of stream i in the pending rotation
+abbrev pub cut_step : {S : Type 0} → StreamRules S → ℕ → SessionOf S → Result CutDone StepFault
+cut_step rules i s = cut_step_at rules (cut_moment i s.book) i s
+
+abbrev pub after_cut_step : {S : Type 0} → StreamRules S → ℕ → SessionOf S → SessionOf S
+after_cut_step rules i s = after_cut_step_at rules (cut_moment i s.book) i s
+
+-- stream i takes offers from now on, or takes none
+abbrev pub after_switch_step : {S : Type 0} → StreamRules S → Bool → ℕ → SessionOf S → SessionOf S
+after_switch_step rules active i s = unless_refused (switch_answer active i s.book) (record s { streams = changed_at i (rules.turned active) s.streams }) s
+
+-- ---- the session and then each stream
+
+-- the session starts, and then each of its streams
+abbrev pub all_started : {S : Type 0} → StreamRules S → ℕ → SessionOf S → SessionOf S
+all_started rules moment s = unless_refused (start_answer s.book) (record { book = after_start moment s.book; streams = map (rules.turned true) s.streams }) s
+
+abbrev pub all_stopped : {S : Type 0} → StreamRules S → SessionOf S → SessionOf S
+all_stopped rules s = unless_refused (stop_answer s.book) (record { book = after_stop s.book; streams = map (rules.turned false) s.streams }) s
+
+-- ---- rotations
+
+-- the rotation begins
+abbrev pub begun : {S : Type 0} → ℕ → SessionOf S → SessionOf S
+begun moment s = record s { book = after_rotate_begin moment s.book }
+
+-- the rotation ends
+abbrev pub finished : {S : Type 0} → SessionOf S → SessionOf S
+finished s = record s { book = after_rotate_finish s.book }
+
+abbrev pub as_next : ℕ → Result CutDone StepFault → Result Next StepFault
+as_next i (Ok done) = Ok (next.Cut i done.records)
+as_next i (Err fault) = Err fault
+
+abbrev pub next_in : {S : Type 0} → StreamRules S → Option Pending → SessionOf S → Result Next StepFault
+next_in rules None s = Err (Session NotPending)
+next_in rules (Some p) s = if nat_lt p.cut (length s.book.threads) then as_next p.cut (cut_step rules p.cut s) else Ok next.AllCut
+
+-- the pending rotation cuts its next stream, if there is one
+abbrev pub next_answer : {S : Type 0} → StreamRules S → SessionOf S → Result Next StepFault
+next_answer rules s = next_in rules s.book.pending s
+
+abbrev pub after_next : {S : Type 0} → StreamRules S → SessionOf S → SessionOf S
+after_next rules s = option_map_or (λ (p : Pending). after_cut_step rules p.cut s) s.book.pending s
+
+-- so many streams are cut, one after another
+abbrev pub cut_first : {S : Type 0} → StreamRules S → ℕ → SessionOf S → SessionOf S
+cut_first rules zero s = s
+cut_first rules (suc n) s = after_cut_step rules n (cut_first rules n s)
+
+-- a rotation that has begun, with all its cuts
+abbrev pub all_cut : {S : Type 0} → StreamRules S → ℕ → SessionOf S → SessionOf S
+all_cut rules moment s = cut_first rules (length s.streams) (begun moment s)
+
+abbrev pub rotated_answer : Result ℕ SessionFault → Result Archive SessionFault → Result Archive SessionFault
+rotated_answer (Ok id) end = end
+rotated_answer (Err fault) end = Err fault
+
+-- a whole rotation: it begins, cuts each stream and ends
+abbrev pub rotate_answer : {S : Type 0} → StreamRules S → ℕ → SessionOf S → Result Archive SessionFault
+rotate_answer rules moment s = rotated_answer (rotate_begin_answer s.book) (rotate_finish_answer (all_cut rules moment s).book)
+
+abbrev pub after_rotate : {S : Type 0} → StreamRules S → ℕ → SessionOf S → SessionOf S
+after_rotate rules moment s = unless_refused (rotate_begin_answer s.book) (finished (all_cut rules moment s)) s
+
+-- some of the streams are cut, the first ones
+pub record IsCutSome {S : Type 0} (rules : StreamRules S) (s t : SessionOf S) : Type 0 where
+  pub cuts : ℕ
+  pub within : cuts ≤ length s.streams
+  pub is : t ≡ cut_first rules cuts s
+
+-- what a rotation leaves that memory was refused to: what was before, or itself pending with some of its cuts
+abbrev pub IsHeldUp : {S : Type 0} → StreamRules S → ℕ → SessionOf S → SessionOf S → Type 0
+IsHeldUp rules moment s t = (t ≡ s) ⊎ IsCutSome rules (begun moment s) t
 
 -- ---- questions, which change nothing
 

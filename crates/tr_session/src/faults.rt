@@ -1,18 +1,30 @@
 //! Why calls of a session are refused.
 
 ghost use Rattle.std.specs.Prelude.{◌≡◌};
-ghost use Rattle.tr_session.specs.Faults.{session_fault_code, session_fault_name, step_fault_code, step_fault_name};
+ghost use Rattle.tr_session.specs.Faults.{session_fault_code, session_fault_name, session_wants_memory, step_fault_code, step_fault_name, step_wants_memory};
 
 use std::alloc::AllocError;
 use thiserror::Error;
-use tr_stream::{OfferFault, TakeFault};
+use tr_stream::{CutFault, OfferFault, TakeFault};
 
 /// Why a call was refused. The session is as it was.
 #[derive(Clone, Copy, Debug, PartialEq, Eq, Error)]
 pub enum SessionFault {
+    /// The session was never started.
+    #[error("S3 NeverStarted")]
+    NeverStarted,
+    /// A rotation is pending.
+    #[error("S4 RotationPending")]
+    RotationPending,
+    /// The session was rotated once since its stop.
+    #[error("S5 AlreadyRotated")]
+    AlreadyRotated,
     /// The session is active already.
     #[error("S6 AlreadyActive")]
     AlreadyActive,
+    /// The session isn't active.
+    #[error("S7 NotActive")]
+    NotActive,
     /// There is no stream of this number.
     #[error("S8 NoStream")]
     NoStream,
@@ -25,6 +37,12 @@ pub enum SessionFault {
     /// There are as many as there may be.
     #[error("S12 TooMany")]
     TooMany,
+    /// No rotation is pending that hasn't cut the stream.
+    #[error("S13 NotPending")]
+    NotPending,
+    /// A stream is still to be cut, which comes first.
+    #[error("S14 CutMissing")]
+    CutMissing,
     /// The name is taken.
     #[error("S15 NameTaken")]
     NameTaken,
@@ -48,6 +66,9 @@ pub enum StepFault {
     /// A take, by the stream.
     #[error("{0}")]
     Take(TakeFault),
+    /// A cut, by the stream.
+    #[error("{0}")]
+    Cut(CutFault),
 }
 
 impl SessionFault {
@@ -56,11 +77,17 @@ impl SessionFault {
         ensures { result.now ≡ session_fault_code self.now }
     {
         match self {
+            SessionFault::NeverStarted => "S3",
+            SessionFault::RotationPending => "S4",
+            SessionFault::AlreadyRotated => "S5",
             SessionFault::AlreadyActive => "S6",
+            SessionFault::NotActive => "S7",
             SessionFault::NoStream => "S8",
             SessionFault::AlreadyStarted => "S10",
             SessionFault::BadGeometry => "S11",
             SessionFault::TooMany => "S12",
+            SessionFault::NotPending => "S13",
+            SessionFault::CutMissing => "S14",
             SessionFault::NameTaken => "S15",
             SessionFault::NoMemory => "S16",
             SessionFault::NoChannel => "S17",
@@ -72,11 +99,17 @@ impl SessionFault {
         ensures { result.now ≡ session_fault_name self.now }
     {
         match self {
+            SessionFault::NeverStarted => "NeverStarted",
+            SessionFault::RotationPending => "RotationPending",
+            SessionFault::AlreadyRotated => "AlreadyRotated",
             SessionFault::AlreadyActive => "AlreadyActive",
+            SessionFault::NotActive => "NotActive",
             SessionFault::NoStream => "NoStream",
             SessionFault::AlreadyStarted => "AlreadyStarted",
             SessionFault::BadGeometry => "BadGeometry",
             SessionFault::TooMany => "TooMany",
+            SessionFault::NotPending => "NotPending",
+            SessionFault::CutMissing => "CutMissing",
             SessionFault::NameTaken => "NameTaken",
             SessionFault::NoMemory => "NoMemory",
             SessionFault::NoChannel => "NoChannel",
@@ -84,7 +117,28 @@ impl SessionFault {
     }
 }
 
+impl SessionFault {
+    /// Whether memory was refused.
+    pub fn wants_memory(&self) -> bool
+        ensures { result ≡ session_wants_memory self.now }
+    {
+        *self == SessionFault::NoMemory
+    }
+}
+
 impl StepFault {
+    /// Whether memory was refused.
+    pub fn wants_memory(&self) -> bool
+        ensures { result ≡ step_wants_memory self.now }
+    {
+        match self {
+            StepFault::Session(fault) => fault.wants_memory(),
+            StepFault::Offer(fault) => *fault == OfferFault::NoMemory,
+            StepFault::Take(fault) => *fault == TakeFault::NoMemory,
+            StepFault::Cut(fault) => *fault == CutFault::NoMemory,
+        }
+    }
+
     /// The code that answers and documents call it by.
     pub fn code(&self) -> &'static str
         ensures { result.now ≡ step_fault_code self.now }
@@ -93,6 +147,7 @@ impl StepFault {
             StepFault::Session(fault) => fault.code(),
             StepFault::Offer(fault) => fault.code(),
             StepFault::Take(fault) => fault.code(),
+            StepFault::Cut(fault) => fault.code(),
         }
     }
 
@@ -104,6 +159,7 @@ impl StepFault {
             StepFault::Session(fault) => fault.name(),
             StepFault::Offer(fault) => fault.name(),
             StepFault::Take(fault) => fault.name(),
+            StepFault::Cut(fault) => fault.name(),
         }
     }
 }
@@ -149,5 +205,16 @@ impl From<TakeFault> for StepFault {
 
     fn from(reason: TakeFault) -> StepFault {
         StepFault::Take(reason)
+    }
+}
+
+impl From<CutFault> for StepFault {
+    ghost use Rattle.std.specs.Prelude.{◌≡◌};
+    ghost use Rattle.tr_session.specs.declared.faults.StepFault.TheVariants.{Cut};
+
+    ghost from_gives = { λ reason fault. fault ≡ Cut reason };
+
+    fn from(reason: CutFault) -> StepFault {
+        StepFault::Cut(reason)
     }
 }

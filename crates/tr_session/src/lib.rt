@@ -1,18 +1,33 @@
-//! A recording session: its channels by name, its streams by number, and the rules by which they are started and used.
-//! The rules are one definition, over what streams hold and over their histories alike.
+//! A recording session: its book, which has its channels, its rotations and its archives, and its streams by number.
+//! The rules are one definition, over what streams hold and over their histories alike; `run_session` is the theorem
+//! that any interleaving of events follows them.
 #![tactic(auto)]
 
+mod archive;
+mod archive_size;
+mod book;
 mod channel;
+mod config;
+mod events;
 mod faults;
 mod laws;
+mod rotation;
+mod run;
 mod session;
 mod state;
 mod streams;
 #[cfg(test)]
 mod tests;
 
+pub use archive::{Archive, Pending};
+pub use archive_size::ArchiveSize;
+pub use book::SessionBook;
 pub use channel::Channel;
+pub use config::{ChannelConfig, Config};
+pub use events::{Answer, Event};
 pub use faults::{SessionFault, StepFault};
 pub use laws::every_audit;
+pub use rotation::Next;
+pub use run::run_session;
 pub use session::Session;
 pub use state::State;

@@ -1,72 +1,66 @@
 //! A session, and its rules.
 
-ghost use Rattle.std.specs.Prelude.{◌≡◌, ◌≢◌, ◌≤◌, ◌<◌, [], ◌∷◌, ◌++◌, false, Ok, Err, IsOk, IsSome, IfOk, OnOk, IfErr, OnErr, is_some, length, option_copied, slice_get};
+ghost use Rattle.std.specs.Prelude.{◌≡◌, ◌≢◌, ◌≤◌, ◌<◌, ◌∷◌, ◌++◌, [], true, false, Some, Ok, Err, IsOk, IsSome, IfOk, OnOk, IfErr, OnErr, length, option_copied, slice_get};
+ghost use Rattle.tr_session.specs.BookSteps.{most_streams, with_thread, start_answer, after_start, stop_answer, after_stop, switch_answer, rotate_begin_answer, cut_moment, rotate_finish_answer};
 ghost use Rattle.tr_session.specs.Session.{new_session};
-ghost use Rattle.tr_session.specs.Steps.{most_channels, most_streams, channel_of, with_channel, channel_added, next_config, thread_added, started, StepTakesMemory, offer_step, after_offer_step, take_step, after_take_step, fate_asked};
+ghost use Rattle.tr_session.specs.Steps.{session_channel_added, next_config, thread_added, StepTakesMemory, offer_step, after_offer_step, take_step, after_take_step, cut_step, after_cut_step, after_switch_step, all_started, all_stopped, begun, finished, fate_asked};
 ghost use Rattle.tr_stream.specs.Rules.{by_state};
 ghost use Rattle.tr_stream.specs.StateSteps.{new_state};
 
-use crate::channel::Channel;
+use crate::archive::Archive;
+use crate::book::SessionBook;
 use crate::faults::{SessionFault, StepFault};
-use crate::state::State;
-use crate::streams::{offer_at, take_at, turn_on};
-use indexmap::IndexMap;
+use crate::streams::{cut_at, offer_at, switch, switch_at, take_at};
 use std::alloc::{AllocError, Allocator, Global};
-use std::hash::{BuildHasherDefault, FoldHasher};
 use std::marker::Model;
-use tr_book::{Geometry, Mode};
+use tr_book::Mode;
+use tr_chunk::OffsetMinutes;
 use tr_record::Moment;
-use tr_stream::{Fate, OfferFault, Offered, SessionMode, Stream, StreamConfig, TakeFault, Taken};
+use tr_stream::{
+    CutDone, CutFault, Fate, OfferFault, Offered, SessionMode, Stream, StreamConfig, TakeFault,
+    Taken,
+};
 use uuid::Uuid;
 
-/// How many channels a session has at most.
-const MOST_CHANNELS: usize = 8;
-
-/// How many streams a session has at most.
-const MOST_STREAMS: usize = 256;
-
-/// A session: its channels by name, and its streams by number. Contracts see a `SessionOf StreamState`.
+/// A session: its book, and its streams by number. Contracts see a `SessionOf StreamState`.
 #[derive(Drop)]
 pub struct Session<A: Allocator = Global> {
     alloc: A,
-    uuid: Uuid,
-    state: State,
-    last: Moment,
-    channels: IndexMap<String<A>, Channel, BuildHasherDefault<FoldHasher>, A>,
+    book: SessionBook<A>,
     streams: Vec<Stream<A>, A>,
 }
 
 impl<A: Allocator> Model for Session<A> {
-    ghost use Rattle.tr_session.specs.Names.{by_name};
     ghost use Rattle.tr_session.specs.Session.{SessionOf};
     ghost use Rattle.tr_stream.specs.State.{StreamState};
 
     ghost Value = { SessionOf StreamState };
 
-    ghost view = { λ s. record { uuid = s.uuid; state = s.state; last = s.last; channels = by_name s.channels.entries; streams = s.streams.items } };
+    ghost view = { λ s. record { book = s.book; streams = s.streams.items } };
 
-    ghost use Rattle.tr_session.specs.Steps.{IsWithinLimits};
+    ghost use Rattle.std.specs.Prelude.{◌≡◌, length};
 
-    ghost invariant = { λ s. IsWithinLimits (record { uuid = s.uuid; state = s.state; last = s.last; channels = by_name s.channels.entries; streams = s.streams.items }) };
+    // each thread of the book has its stream
+    ghost invariant = { λ s. length s.streams.items ≡ length s.book.threads };
 }
 
 impl<A: Allocator + Copy> Session<A> {
     /// A session without channels and streams. It takes no memory.
-    pub fn new(alloc: A, uuid: Uuid) -> Session<A>
-        ensures { result ≡ new_session uuid }
+    pub fn new(alloc: A, uuid: Uuid, offset: OffsetMinutes, mode: SessionMode) -> Session<A>
+        ensures { result ≡ new_session uuid offset mode }
     {
         Session {
             alloc,
-            uuid,
-            state: State::New,
-            last: Moment::zero(),
-            channels: IndexMap::new(alloc),
+            book: SessionBook::new(alloc, uuid, offset, mode),
             streams: Vec::new(alloc),
         }
     }
 
-    /// Adds a channel, whose streams have rings of `count` sub-buffers of `size` bytes each. A refusal, also for want
-    /// of memory, changes nothing.
+    /// Adds a channel, whose streams have rings of `count` sub-buffers of `size` bytes each.
+    ///
+    /// # Errors
+    ///
+    /// `AlreadyStarted`, `NameTaken`, `TooMany`, `BadGeometry`, `NoMemory`: nothing changed.
     pub fn add_channel(
         &mut self,
         name: &str,
@@ -74,29 +68,19 @@ impl<A: Allocator + Copy> Session<A> {
         count: u64,
         mode: Mode,
     ) -> Result<(), SessionFault>
-        ensures ok { OnOk result (channel_added name.now size count mode self.old ≡ Ok self.new) }
-        ensures refused { IfErr result (λ fault. fault ≢ SessionFault.NoMemory → channel_added name.now size count mode self.old ≡ Err fault) }
-        ensures memory { result ≡ Err SessionFault.NoMemory → IsOk (channel_added name.now size count mode self.old) }
+        ensures ok { OnOk result (session_channel_added name.now size count mode self.old ≡ Ok self.new) }
+        ensures refused { IfErr result (λ fault. fault ≢ SessionFault.NoMemory → session_channel_added name.now size count mode self.old ≡ Err fault) }
+        ensures memory { result ≡ Err SessionFault.NoMemory → IsOk (session_channel_added name.now size count mode self.old) }
         ensures unchanged { OnErr result (self.new ≡ self.old) }
     {
-        let channel = self.channel_for(name, size, count, mode)?;
-        Ok(self.keep_channel(name, channel)?)
+        self.book.add_channel(name, size, count, mode)
     }
 
-    /// Puts a channel of a new name behind the others.
-    fn keep_channel(&mut self, name: &str, channel: Channel) -> Result<(), AllocError>
-        requires free { is_some (channel_of name.now self.old) ≡ false }
-        requires room { length self.old.channels < most_channels }
-        ensures ok { OnOk result (self.new ≡ with_channel name.now channel self.old) }
-        ensures err { OnErr result (self.new ≡ self.old) }
-    {
-        let name = String::from_str(self.alloc, name)?;
-        self.channels.insert(name, channel)?;
-        Ok(())
-    }
-
-    /// Adds a thread to a channel, and answers with the number of its stream. A refusal, also for want of memory,
-    /// changes nothing.
+    /// Adds a thread to a channel, and answers with the number of its stream.
+    ///
+    /// # Errors
+    ///
+    /// `AlreadyStarted`, `NoChannel`, `TooMany`, `NoMemory`: nothing changed.
     pub fn add_thread(&mut self, channel: &str) -> Result<u64, SessionFault>
         ensures number { IfOk result (λ number. number ≡ length self.old.streams) }
         ensures ok { OnOk result (thread_added by_state channel.now self.old ≡ Ok self.new) }
@@ -104,16 +88,23 @@ impl<A: Allocator + Copy> Session<A> {
         ensures memory { result ≡ Err SessionFault.NoMemory → IsOk (thread_added by_state channel.now self.old) }
         ensures unchanged { OnErr result (self.new ≡ self.old) }
     {
-        let config = self.config_for(channel)?;
-        let number = config.number;
-        self.keep_stream(config)?;
+        let (place, channel) = self.book.channel_at(channel)?;
+        let number = self.streams.len() as u64;
+        let config = StreamConfig {
+            uuid: self.book.uuid(),
+            number,
+            geometry: channel.geometry,
+            mode: channel.mode,
+            session: self.book.mode(),
+        };
+        self.keep_stream(place, config)?;
         Ok(number)
     }
 
-    /// Puts a new stream behind the others.
-    fn keep_stream(&mut self, config: StreamConfig) -> Result<(), AllocError>
-        requires { length self.old.streams < most_streams }
-        ensures ok { OnOk result (self.new ≡ record self.old { streams = self.old.streams ++ new_state config ∷ [] }) }
+    /// Puts a new stream behind the others, of the channel at this place. All memory is taken before anything changes.
+    fn keep_stream(&mut self, place: usize, config: StreamConfig) -> Result<(), AllocError>
+        requires { length self.old.book.threads < most_streams }
+        ensures ok { OnOk result (self.new ≡ record { book = with_thread place self.old.book; streams = self.old.streams ++ new_state config ∷ [] }) }
         ensures err { OnErr result (self.new ≡ self.old) }
     {
         let stream = Stream::new(
@@ -124,11 +115,17 @@ impl<A: Allocator + Copy> Session<A> {
             config.mode,
             config.session,
         )?;
-        self.streams.push(stream)?;
+        self.streams.reserve(1)?;
+        self.book.keep_thread(place)?;
+        self.streams.push_reserved(stream);
         Ok(())
     }
 
-    /// Offers a record to the stream of this number. A refusal, also for want of memory, changes nothing.
+    /// Offers a record to the stream of this number.
+    ///
+    /// # Errors
+    ///
+    /// `Session(NoStream)`, and those of the stream: nothing changed.
     pub fn offer(
         &mut self,
         i: u64,
@@ -145,92 +142,157 @@ impl<A: Allocator + Copy> Session<A> {
         offer_at(&mut self.streams, i, moment, id, payload)
     }
 
-    /// Moves the oldest packet of the stream of this number to its current part. A refusal, also for want of memory,
-    /// changes nothing.
+    /// Moves the oldest packet of the stream of this number to its current part.
+    ///
+    /// # Errors
+    ///
+    /// `Session(NoStream)`, and those of the stream: nothing changed.
     pub fn take(&mut self, i: u64) -> Result<Taken, StepFault>
         ensures value { result ≢ Err (StepFault.Take TakeFault.NoMemory) →
             (result ≡ take_step by_state i self.old) × (self.new ≡ after_take_step by_state i self.old) }
         ensures no_memory { result ≡ Err (StepFault.Take TakeFault.NoMemory) → self.new ≡ self.old }
-        ensures memory { result ≡ Err (StepFault.Take TakeFault.NoMemory) → IsSome (slice_get self.old.streams i) }
+        ensures memory { result ≡ Err (StepFault.Take TakeFault.NoMemory) → IsOk (take_step by_state i self.old) }
     {
         take_at(&mut self.streams, i)
+    }
+
+    /// Cuts the stream of this number in the pending rotation, at that rotation's end. Streams are cut in order of number.
+    ///
+    /// # Errors
+    ///
+    /// `Session(NoStream)`, `Session(NotPending)` where none is pending or it has cut the stream, `Session(CutMissing)` where
+    /// one of a smaller number isn't cut, `Cut(NoMemory)`: the stream is uncut, the rotation pending.
+    pub fn cut(&mut self, i: u64) -> Result<CutDone, StepFault>
+        ensures value { result ≢ Err (StepFault.Cut CutFault.NoMemory) →
+            (result ≡ cut_step by_state i self.old) × (self.new ≡ after_cut_step by_state i self.old) }
+        ensures no_memory { result ≡ Err (StepFault.Cut CutFault.NoMemory) → self.new ≡ self.old }
+        ensures memory { result ≡ Err (StepFault.Cut CutFault.NoMemory) → IsOk (cut_moment i self.old.book) }
+    {
+        match self.book.cut_moment(i) {
+            Ok(moment) => self.cut_now(i, moment),
+            Err(fault) => Err(StepFault::Session(fault)),
+        }
+    }
+
+    /// Cuts a stream whose cut is due.
+    fn cut_now(&mut self, i: u64, moment: Moment) -> Result<CutDone, StepFault>
+        requires { cut_moment i self.old.book ≡ Ok moment }
+        ensures value { result ≢ Err (StepFault.Cut CutFault.NoMemory) →
+            (result ≡ cut_step by_state i self.old) × (self.new ≡ after_cut_step by_state i self.old) }
+        ensures no_memory { result ≡ Err (StepFault.Cut CutFault.NoMemory) → self.new ≡ self.old }
+    {
+        match cut_at(&mut self.streams, i, moment) {
+            Ok(done) => {
+                self.book.count_cut(i);
+                Ok(done)
+            }
+            Err(fault) => Err(StepFault::Cut(fault)),
+        }
+    }
+
+    /// Begins a rotation at a moment, and answers with the number of the chunk that it archives.
+    ///
+    /// # Errors
+    ///
+    /// `NeverStarted`, `RotationPending`, `AlreadyRotated`, `NoMemory`: nothing changed.
+    pub fn rotate_begin(&mut self, moment: Moment) -> Result<u64, SessionFault>
+        ensures value { result ≢ Err SessionFault.NoMemory →
+            (result ≡ rotate_begin_answer self.old.book) × (self.new ≡ begun moment self.old) }
+        ensures no_memory { result ≡ Err SessionFault.NoMemory → self.new ≡ self.old }
+        ensures memory { result ≡ Err SessionFault.NoMemory → IsOk (rotate_begin_answer self.old.book) }
+    {
+        self.book.rotate_begin(moment)
     }
 }
 
 impl<A: Allocator> Session<A> {
-    /// The channel that is to be added, or why there is none.
-    fn channel_for(
-        &self,
-        name: &str,
-        size: u64,
-        count: u64,
-        mode: Mode,
-    ) -> Result<Channel, SessionFault>
-        ensures ok { IfOk result (λ channel. channel_added name.now size count mode self.now ≡ Ok (with_channel name.now channel self.now)) }
-        ensures free { OnOk result (is_some (channel_of name.now self.now) ≡ false) }
-        ensures room { OnOk result (length self.now.channels < most_channels) }
-        ensures err { IfErr result (λ fault. channel_added name.now size count mode self.now ≡ Err fault) }
+    /// Lets a stream of an active session take offers, or lets one of a stopped session refuse them. It takes no memory.
+    ///
+    /// # Errors
+    ///
+    /// `NoStream`; `NotActive` to switch it on, `AlreadyActive` to switch it off: nothing changed.
+    pub fn switch_stream(&mut self, active: bool, i: u64) -> Result<(), SessionFault>
+        ensures answer { result ≡ switch_answer active i self.old.book }
+        ensures after { self.new ≡ after_switch_step by_state active i self.old }
     {
-        if self.state != State::New {
-            return Err(SessionFault::AlreadyStarted);
+        match self.book.can_switch(active, i) {
+            Ok(()) => {
+                switch_at(&mut self.streams, active, i as usize);
+                Ok(())
+            }
+            Err(fault) => Err(fault),
         }
-        if self.channel(name).is_some() {
-            return Err(SessionFault::NameTaken);
-        }
-        if self.channels.len() >= MOST_CHANNELS {
-            return Err(SessionFault::TooMany);
-        }
-        let Ok(geometry) = Geometry::new(size, count) else {
-            return Err(SessionFault::BadGeometry);
-        };
-        Ok(Channel { geometry, mode })
     }
 
-    /// What the next stream of a channel is made with, or why there is none.
-    fn config_for(&self, channel: &str) -> Result<StreamConfig, SessionFault>
-        ensures number { IfOk result (λ config. config.number ≡ length self.now.streams) }
-        ensures room { OnOk result (length self.now.streams < most_streams) }
-        ensures ok { IfOk result (λ config. thread_added by_state channel.now self.now ≡ Ok (record self.now { streams = self.now.streams ++ new_state config ∷ [] })) }
-        ensures err { IfErr result (λ fault. thread_added by_state channel.now self.now ≡ Err fault) }
+    /// Starts the session, and none of its streams yet.
+    pub fn start_alone(&mut self, moment: Moment) -> Result<(), SessionFault>
+        ensures answer { result ≡ start_answer self.old.book }
+        ensures after { self.new ≡ record self.old { book = after_start moment self.old.book } }
     {
-        if self.state != State::New {
-            return Err(SessionFault::AlreadyStarted);
-        }
-        let Some(channel) = self.channel(channel) else {
-            return Err(SessionFault::NoChannel);
-        };
-        if self.streams.len() >= MOST_STREAMS {
-            return Err(SessionFault::TooMany);
-        }
-        Ok(StreamConfig {
-            uuid: self.uuid,
-            number: self.streams.len() as u64,
-            geometry: channel.geometry,
-            mode: channel.mode,
-            session: SessionMode::Local,
-        })
+        self.book.start(moment)
     }
 
-    /// Starts the session: its streams take offers from now on. It takes no memory, and a refusal changes nothing.
+    /// Stops the session, and none of its streams yet.
+    pub fn stop_alone(&mut self) -> Result<(), SessionFault>
+        ensures answer { result ≡ stop_answer self.old.book }
+        ensures after { self.new ≡ record self.old { book = after_stop self.old.book } }
+    {
+        self.book.stop()
+    }
+
+    /// Starts the session and then each of its streams: they take offers from now on. It takes no memory.
+    ///
+    /// # Errors
+    ///
+    /// `RotationPending`, `AlreadyActive`: nothing changed.
     pub fn start(&mut self, moment: Moment) -> Result<(), SessionFault>
-        ensures ok { OnOk result (started by_state moment self.old ≡ Ok self.new) }
-        ensures refused { IfErr result (λ fault. started by_state moment self.old ≡ Err fault) }
-        ensures unchanged { OnErr result (self.new ≡ self.old) }
+        ensures answer { result ≡ start_answer self.old.book }
+        ensures after { self.new ≡ all_started by_state moment self.old }
     {
-        if self.state == State::Active {
-            return Err(SessionFault::AlreadyActive);
+        match self.book.start(moment) {
+            Ok(()) => {
+                switch(&mut self.streams, true);
+                Ok(())
+            }
+            Err(fault) => Err(fault),
         }
-        turn_on(&mut self.streams);
-        self.state = State::Active;
-        self.last = moment.later(self.last);
-        Ok(())
+    }
+
+    /// Stops the session and then each of its streams: they take no offers from now on. It takes no memory.
+    ///
+    /// # Errors
+    ///
+    /// `RotationPending`, `NotActive`: nothing changed.
+    pub fn stop(&mut self) -> Result<(), SessionFault>
+        ensures answer { result ≡ stop_answer self.old.book }
+        ensures after { self.new ≡ all_stopped by_state self.old }
+    {
+        match self.book.stop() {
+            Ok(()) => {
+                switch(&mut self.streams, false);
+                Ok(())
+            }
+            Err(fault) => Err(fault),
+        }
+    }
+
+    /// Ends the pending rotation, and answers with the archive that it made. It takes no memory.
+    ///
+    /// # Errors
+    ///
+    /// `NotPending`, `CutMissing`: nothing changed.
+    pub fn rotate_finish(&mut self) -> Result<Archive, SessionFault>
+        ensures answer { result ≡ rotate_finish_answer self.old.book }
+        ensures after { self.new ≡ finished self.old }
+    {
+        self.book.rotate_finish()
     }
 
     /// What became of the offer of this serial to the stream of this number, none where there was no such offer yet.
     ///
     /// # Errors
     ///
-    /// `NoStream`. It takes no memory.
+    /// `Session(NoStream)`. It takes no memory.
     pub fn fate_of(&self, i: u64, serial: u64) -> Result<Option<Fate>, StepFault>
         ensures { result ≡ fate_asked by_state i serial self.now }
     {
@@ -240,48 +302,19 @@ impl<A: Allocator> Session<A> {
         }
     }
 
-    /// The identifier of the trace.
-    pub fn uuid(&self) -> Uuid
-        ensures { result ≡ self.now.uuid }
+    /// What the session keeps beside its streams.
+    pub fn book(&self) -> &SessionBook<A>
+        ensures { result.now ≡ self.now.book }
     {
-        self.uuid
-    }
-
-    /// What the streams are allowed.
-    pub fn state(&self) -> State
-        ensures { result ≡ self.now.state }
-    {
-        self.state
-    }
-
-    /// The last moment that was stored: 0 before the first start.
-    pub fn last(&self) -> Moment
-        ensures { result ≡ self.now.last }
-    {
-        self.last
-    }
-
-    /// How many channels there are.
-    pub fn channels(&self) -> usize
-        ensures value { result ≡ length self.now.channels }
-        ensures within { result ≤ most_channels }
-    {
-        self.channels.len()
-    }
-
-    /// The channel of this name.
-    pub fn channel(&self, name: &str) -> Option<&Channel>
-        ensures { option_copied result ≡ channel_of name.now self.now }
-    {
-        self.channels.get(name)
+        &self.book
     }
 
     /// How many streams there are.
-    pub fn streams(&self) -> usize
+    pub fn streams(&self) -> u64
         ensures value { result ≡ length self.now.streams }
         ensures within { result ≤ most_streams }
     {
-        self.streams.len()
+        self.book.streams() as u64
     }
 
     /// The stream of this number.

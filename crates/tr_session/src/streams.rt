@@ -1,29 +1,31 @@
 //! Steps of streams that stand in order of number.
 
-ghost use Rattle.std.specs.Prelude.{◌≡◌, ◌≢◌, ◌<◌, true, Err, IsSome, length, map, slice_get};
+ghost use Rattle.std.specs.Prelude.{◌≡◌, ◌≢◌, ◌<◌, Some, Err, IsOk, length, map, option_map, slice_get};
 ghost use Rattle.std.specs.Option.{option_map_or};
 ghost use Rattle.tr_session.specs.Steps.{changed_at, offer_as_step, take_as_step, StepTakesMemory};
-ghost use Rattle.tr_stream.specs.StateSteps.{offer_result, state_after_offer, take_result, state_after_take, state_switched};
+ghost use Rattle.tr_stream.specs.StateSteps.{offer_result, state_after_offer, take_result, state_after_take, cut_result, state_after_cut, state_switched};
 
 use crate::faults::{SessionFault, StepFault};
 use std::alloc::Allocator;
 use tr_record::Moment;
-use tr_stream::{OfferFault, Offered, Stream, TakeFault, Taken};
+use tr_stream::{CutDone, CutFault, OfferFault, Offered, Stream, TakeFault, Taken};
 
-/// Lets the stream of this number take offers.
-fn turn_on_at<A: Allocator>(streams: &mut Vec<Stream<A>, A>, i: usize)
+/// Lets the stream of this number take offers, or lets it refuse them.
+pub fn switch_at<A: Allocator>(streams: &mut Vec<Stream<A>, A>, active: bool, i: usize)
     requires { i < length streams.old.items }
-    ensures { streams.new.items ≡ changed_at i (state_switched true) streams.old.items }
+    ensures value { streams.new.items ≡ changed_at i (state_switched active) streams.old.items }
+    ensures count { length streams.new.items ≡ length streams.old.items }
 {
-    streams[i].set_active(true);
+    streams[i].set_active(active);
 }
 
-/// Lets each stream take offers.
-pub fn turn_on<A: Allocator>(streams: &mut Vec<Stream<A>, A>)
-    ensures { streams.new.items ≡ map (state_switched true) streams.old.items }
+/// Lets each stream take offers, or lets each refuse them.
+pub fn switch<A: Allocator>(streams: &mut Vec<Stream<A>, A>, active: bool)
+    ensures value { streams.new.items ≡ map (state_switched active) streams.old.items }
+    ensures count { length streams.new.items ≡ length streams.old.items }
 {
     'each: for i in 0..streams.len() {
-        turn_on_at(streams, i);
+        switch_at(streams, active, i);
     }
 }
 
@@ -70,6 +72,7 @@ fn take_from<A: Allocator + Copy>(stream: &mut Stream<A>) -> Result<Taken, StepF
     ensures value { result ≢ Err (StepFault.Take TakeFault.NoMemory) →
         (result ≡ take_as_step (take_result stream.old)) × (stream.new ≡ state_after_take stream.old) }
     ensures no_memory { result ≡ Err (StepFault.Take TakeFault.NoMemory) → stream.new ≡ stream.old }
+    ensures memory { result ≡ Err (StepFault.Take TakeFault.NoMemory) → IsOk (take_as_step (take_result stream.old)) }
 {
     Ok(stream.take()?)
 }
@@ -83,11 +86,28 @@ pub fn take_at<A: Allocator + Copy>(
         (result ≡ option_map_or (λ s. take_as_step (take_result s)) (slice_get streams.old.items i) (Err (StepFault.Session SessionFault.NoStream)))
         × (streams.new.items ≡ changed_at i state_after_take streams.old.items) }
     ensures no_memory { result ≡ Err (StepFault.Take TakeFault.NoMemory) → streams.new.items ≡ streams.old.items }
-    ensures memory { result ≡ Err (StepFault.Take TakeFault.NoMemory) → IsSome (slice_get streams.old.items i) }
+    ensures memory { result ≡ Err (StepFault.Take TakeFault.NoMemory) →
+        IsOk (option_map_or (λ s. take_as_step (take_result s)) (slice_get streams.old.items i) (Err (StepFault.Session SessionFault.NoStream))) }
     ensures count { length streams.new.items ≡ length streams.old.items }
 {
     let Some(stream) = streams.get_mut(i as usize) else {
         return Err(StepFault::Session(SessionFault::NoStream));
     };
     take_from(stream)
+}
+
+/// Cuts the stream of this number.
+pub fn cut_at<A: Allocator + Copy>(
+    streams: &mut Vec<Stream<A>, A>,
+    i: u64,
+    moment: Moment,
+) -> Result<CutDone, CutFault>
+    requires { i < length streams.old.items }
+    ensures value { result ≢ Err CutFault.NoMemory →
+        (option_map (cut_result moment) (slice_get streams.old.items i) ≡ Some result)
+        × (streams.new.items ≡ changed_at i (state_after_cut moment) streams.old.items) }
+    ensures no_memory { result ≡ Err CutFault.NoMemory → streams.new.items ≡ streams.old.items }
+    ensures count { length streams.new.items ≡ length streams.old.items }
+{
+    streams[i as usize].cut(moment)
 }

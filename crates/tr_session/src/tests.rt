@@ -1,15 +1,23 @@
 use super::*;
+use std::alloc::Global;
 use std::process::Abort;
 use std::test::Fail;
 use tr_book::Mode;
+use tr_chunk::OffsetMinutes;
 use tr_record::Moment;
-use tr_stream::{Fate, OfferFault, Offered, TakeFault, Taken};
+use tr_stream::{CutFault, Fate, OfferFault, Offered, SessionMode, TakeFault, Taken};
 use uuid::Uuid;
 
 const PAYLOAD: [u8; 153] = [0x61; 153];
 
 fn moment(nanoseconds: u64) -> Result<Moment, Fail> {
     Ok(Moment::new(nanoseconds).ok_or("a moment")?)
+}
+
+/// A local session of the nil identifier, at no offset.
+fn new_session(alloc: Global) -> Result<Session, Fail> {
+    let offset = OffsetMinutes::new(0).ok_or("an offset")?;
+    Ok(Session::new(alloc, Uuid::nil(), offset, SessionMode::Local))
 }
 
 /// Offers a payload of `len` bytes with the id 7.
@@ -27,12 +35,12 @@ fn offer(
 // of the 176 bytes beside a packet's 80, two records of 74 leave room for one of 28 and for no third of 74
 #[test]
 fn one_stream_from_the_start_to_a_packet(rt: HostRuntime) -> Result<(), Fail> {
-    let mut session = Session::new(rt.alloc(), Uuid::nil());
+    let mut session = new_session(rt.alloc())?;
     session.add_channel("c", 256, 2, Mode::Discard)?;
     assert_eq!(rt; session.add_thread("c")?, 0);
-    assert_eq!(rt; session.state(), State::New);
+    assert_eq!(rt; session.book().state(), State::New);
     session.start(moment(0)?)?;
-    assert_eq!(rt; session.state(), State::Active);
+    assert_eq!(rt; session.book().state(), State::Active);
     let wanted = [
         (1, 50, Offered::Stored { serial: 0, seq: 0 }),
         (2, 50, Offered::Stored { serial: 1, seq: 0 }),
@@ -63,16 +71,16 @@ fn one_stream_from_the_start_to_a_packet(rt: HostRuntime) -> Result<(), Fail> {
 // two records of 88 bytes fill a sub-buffer
 #[test]
 fn streams_stand_apart(rt: HostRuntime) -> Result<(), Fail> {
-    let mut session = Session::new(rt.alloc(), Uuid::nil());
+    let mut session = new_session(rt.alloc())?;
     session.add_channel("small", 256, 2, Mode::Overwrite)?;
     session.add_channel("large", 512, 4, Mode::Discard)?;
-    assert_eq!(rt; session.channels(), 2);
+    assert_eq!(rt; session.book().channels(), 2);
     assert_eq!(rt; session.add_thread("large")?, 0);
     assert_eq!(rt; session.add_thread("small")?, 1);
     assert_eq!(rt; session.add_thread("large")?, 2);
     assert_eq!(rt; session.streams(), 3);
     session.start(moment(100)?)?;
-    assert_eq!(rt; session.last().get(), 100);
+    assert_eq!(rt; session.book().last().get(), 100);
     let over = Offered::StoredOver {
         serial: 4,
         seq: 2,
@@ -99,7 +107,7 @@ fn streams_stand_apart(rt: HostRuntime) -> Result<(), Fail> {
     }
     let config = session.stream(1).ok_or("a stream")?.config();
     assert_eq!(rt; (config.geometry.size(), config.geometry.count()), (256, 2));
-    assert!(rt; config.mode == Mode::Overwrite && config.uuid == session.uuid());
+    assert!(rt; config.mode == Mode::Overwrite && config.uuid == session.book().uuid());
     assert!(rt; session.stream(3).is_none());
     Ok(())
 }
@@ -107,7 +115,7 @@ fn streams_stand_apart(rt: HostRuntime) -> Result<(), Fail> {
 // two records of 88 bytes fill a sub-buffer, and the fifth drops the first one's two
 #[test]
 fn fates_tell_where_records_are(rt: HostRuntime) -> Result<(), Fail> {
-    let mut session = Session::new(rt.alloc(), Uuid::nil());
+    let mut session = new_session(rt.alloc())?;
     session.add_channel("c", 256, 2, Mode::Overwrite)?;
     session.add_channel("d", 256, 2, Mode::Discard)?;
     assert_eq!(rt; session.add_thread("c")?, 0);
@@ -142,7 +150,7 @@ fn fates_tell_where_records_are(rt: HostRuntime) -> Result<(), Fail> {
 
 #[test]
 fn channels_are_refused_in_order(rt: HostRuntime) -> Result<(), Fail> {
-    let mut session = Session::new(rt.alloc(), Uuid::nil());
+    let mut session = new_session(rt.alloc())?;
     for (size, count) in [(255, 2), (256, 3), (131_072, 2), (256, 128)] {
         let refused = session.add_channel("c", size, count, Mode::Discard);
         assert_eq!(rt;
@@ -157,14 +165,14 @@ fn channels_are_refused_in_order(rt: HostRuntime) -> Result<(), Fail> {
     let taken = session.add_channel("a", 255, 2, Mode::Discard);
     assert_eq!(rt; taken, Err(SessionFault::NameTaken));
     session.add_channel("h", 65_536, 64, Mode::Overwrite)?;
-    assert_eq!(rt; session.channels(), 8);
+    assert_eq!(rt; session.book().channels(), 8);
     let taken = session.add_channel("h", 256, 2, Mode::Discard);
     assert_eq!(rt; taken, Err(SessionFault::NameTaken));
     let refused = session.add_channel("i", 255, 2, Mode::Discard);
     assert_eq!(rt; refused, Err(SessionFault::TooMany));
-    let last = session.channel("h").ok_or("a channel")?;
+    let last = session.book().channel("h").ok_or("a channel")?;
     assert_eq!(rt; (last.geometry.size(), last.geometry.count()), (65_536, 64));
-    assert!(rt; last.mode == Mode::Overwrite && session.channel("i").is_none());
+    assert!(rt; last.mode == Mode::Overwrite && session.book().channel("i").is_none());
     session.start(moment(0)?)?;
     let refused = session.add_channel("a", 255, 2, Mode::Discard);
     assert_eq!(rt; refused, Err(SessionFault::AlreadyStarted));
@@ -175,7 +183,7 @@ fn channels_are_refused_in_order(rt: HostRuntime) -> Result<(), Fail> {
 
 #[test]
 fn streams_are_refused_in_order(rt: HostRuntime) -> Result<(), Fail> {
-    let mut session = Session::new(rt.alloc(), Uuid::nil());
+    let mut session = new_session(rt.alloc())?;
     assert_eq!(rt; session.add_thread("c"), Err(SessionFault::NoChannel));
     session.add_channel("c", 256, 2, Mode::Discard)?;
     for number in 0..256 {
@@ -201,11 +209,17 @@ fn streams_are_refused_in_order(rt: HostRuntime) -> Result<(), Fail> {
 #[test]
 fn faults_are_printed_by_code_and_name(rt: HostRuntime) -> Result<(), Fail> {
     let wanted = [
+        (SessionFault::NeverStarted, "S3 NeverStarted"),
+        (SessionFault::RotationPending, "S4 RotationPending"),
+        (SessionFault::AlreadyRotated, "S5 AlreadyRotated"),
         (SessionFault::AlreadyActive, "S6 AlreadyActive"),
+        (SessionFault::NotActive, "S7 NotActive"),
         (SessionFault::NoStream, "S8 NoStream"),
         (SessionFault::AlreadyStarted, "S10 AlreadyStarted"),
         (SessionFault::BadGeometry, "S11 BadGeometry"),
         (SessionFault::TooMany, "S12 TooMany"),
+        (SessionFault::NotPending, "S13 NotPending"),
+        (SessionFault::CutMissing, "S14 CutMissing"),
         (SessionFault::NameTaken, "S15 NameTaken"),
         (SessionFault::NoMemory, "S16 NoMemory"),
         (SessionFault::NoChannel, "S17 NoChannel"),
@@ -222,5 +236,8 @@ fn faults_are_printed_by_code_and_name(rt: HostRuntime) -> Result<(), Fail> {
     assert_eq!(rt; (large.code(), large.name()), ("O2", "TooBig"));
     let nothing = StepFault::from(TakeFault::Nothing);
     assert_eq!(rt; (nothing.code(), nothing.name()), ("T1", "Nothing"));
+    let memory = StepFault::from(CutFault::NoMemory);
+    assert_eq!(rt; format!(in rt.alloc(); "{memory}")?.as_str(), "C2 NoMemory");
+    assert!(rt; memory.wants_memory() && !nothing.wants_memory());
     Ok(())
 }

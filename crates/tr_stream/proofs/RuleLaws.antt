@@ -9,9 +9,11 @@ use Rattle.tr_stream.proofs.CutLaws.{cuts}
 use Rattle.tr_stream.proofs.FateLaws.{fates}
 use Rattle.tr_stream.proofs.KeptLaws.{overwrites-is, overwrites-not}
 use Rattle.tr_stream.proofs.OfferLaws.{offers, joins, follows, misses, replaces}
+use Rattle.tr_stream.proofs.PartLaws.{part-is}
 use Rattle.tr_stream.proofs.Refinement.{stands-switched}
 use Rattle.tr_stream.proofs.SoundLaws.{losses-missed, losses-without_oldest}
 use Rattle.tr_stream.proofs.TakeLaws.{starts, takes, counts-are}
+use Rattle.tr_stream.specs.Chunks.{part_in}
 use Rattle.tr_stream.specs.Rules.{Traced, Agrees, by_state, by_history}
 use Rattle.tr_stream.specs.Sound.{IsMade, LosesByMode}
 use Rattle.tr_stream.specs.StandsFor.{StandsFor}
@@ -126,3 +128,7 @@ same-counted s t is = rw (← is.config) (counts-are s t.history is.stands)
 -- a fate
 pub same-fated : (s : StreamState) (t : Traced) (n : ℕ) → Agrees s t → by_state.fated n s ≡ by_history.fated n t
 same-fated s t n is = fates s t.history n is.stands is.losses
+
+-- a part
+pub same-parted : (s : StreamState) (t : Traced) (k : ℕ) → Agrees s t → by_state.parted k s ≡ by_history.parted k t
+same-parted s t k is = part-is s t.history k is.stands ∙ ap (λ (c : StreamConfig). part_in c k t.history) is.config

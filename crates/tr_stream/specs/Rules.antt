@@ -1,6 +1,8 @@
 -- What the layers above ask of a stream, whatever stands for it: what it holds, or its history.
 use Rattle.std.specs.Prelude.{◌≡◌, ℕ, Bool, List, Option, Result}
+use Rattle.tr_book.specs.Parts.{PartState, part_at}
 use Rattle.tr_book.specs.declared.counts.Counts.{Counts}
+use Rattle.tr_stream.specs.Chunks.{part_in}
 use Rattle.tr_stream.specs.Fates.{fate_of, state_fate}
 use Rattle.tr_stream.specs.History.{History}
 use Rattle.tr_stream.specs.Sound.{IsMade, LosesByMode}
@@ -28,6 +30,7 @@ pub record StreamRules (S : Type 0) : Type 0 where
   pub turned : Bool → S → S
   pub counted : S → Counts
   pub fated : ℕ → S → Option Fate
+  pub parted : ℕ → S → Option PartState
 
 -- a history, and what its stream was made with
 pub record Traced : Type 0 where
@@ -47,6 +50,7 @@ by_state = record {
   turned = state_switched;
   counted = state_counts;
   fated = state_fate;
+  parted = λ k s. part_at k s.parts;
 }
 
 -- by its history
@@ -62,6 +66,7 @@ by_history = record {
   turned = λ active t. record t { history = switched active t.history };
   counted = λ t. counts_of t.config t.history;
   fated = λ n t. fate_of n t.history;
+  parted = λ k t. part_in t.config k t.history;
 }
 
 -- the stream was made as the history says, loses records as its mode says, and stands for it

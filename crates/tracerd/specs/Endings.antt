@@ -1,7 +1,9 @@
 -- How runs of the program end.
-use Rattle.std.specs.Prelude.{ℕ}
+use Rattle.std.specs.Prelude.{ℕ, zero, suc}
 use Rattle.tr_console.specs.declared.script_fault.ScriptFault.{ScriptFault}
 use Rattle.tr_console.specs.declared.script_fault.ScriptFault.TheVariants as fault
+use Rattle.tr_export.specs.declared.faults.ExportFault.{ExportFault}
+use Rattle.tr_export.specs.declared.faults.ExportFault.TheVariants as export
 use Rattle.tracerd.specs.declared.ending.Ending.{Ending}
 use Rattle.tracerd.specs.declared.ending.Ending.TheVariants.{Done, Refused, BadCommandLine, ReadOrWrite, NoMemory}
 
@@ -17,3 +19,12 @@ ending_of fault.Read = ReadOrWrite
 ending_of fault.TooLong = ReadOrWrite
 ending_of fault.Write = ReadOrWrite
 ending_of fault.NoMemory = NoMemory
+
+abbrev pub ending_of_export : ExportFault → Ending
+ending_of_export export.Write = ReadOrWrite
+ending_of_export export.NoMemory = NoMemory
+
+-- a script that came to its end, with so many refused lines
+abbrev pub ending_of_refused : ℕ → Ending
+ending_of_refused zero = Done
+ending_of_refused (suc n) = Refused

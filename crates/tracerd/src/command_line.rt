@@ -1,33 +1,52 @@
 //! The program's own command line.
 
-use clap::Command;
 use clap::error::ErrorKind;
+use clap::{Arg, Command};
 use std::alloc::{AllocError, Global};
 
 /// What the program is asked to do.
 #[derive(Clone, Copy, Debug, PartialEq, Eq)]
-pub enum Job {
-    /// To run the script that standard input gives.
-    Script,
+pub enum Job<'a> {
+    /// To run the script that standard input gives, and then to write its archives below a folder, if one is named.
+    Script {
+        /// The folder.
+        out: Option<&'a str>,
+    },
 }
 
 fn command_line<'a>(alloc: Global) -> Result<Command<'a>, AllocError> {
-    Command::new(alloc, "tracerd").subcommand(Command::new(alloc, "script"))
+    let out = Arg::new(alloc, "out").long("out");
+    let script = Command::new(alloc, "script").arg(out)?;
+    Command::new(alloc, "tracerd").subcommand(script)
 }
 
-/// What the words behind the program's name ask for. None: they are no command line of this program's, help among them.
-pub fn job_of(alloc: Global, words: &[&str]) -> Result<Option<Job>, AllocError> {
+/// The program's name, and then these words.
+pub fn with_program<'a>(alloc: Global, words: &[&'a str]) -> Result<Vec<&'a str>, AllocError> {
     let mut all = Vec::new(alloc);
     all.push("tracerd")?;
     for word in words {
         all.push(*word)?;
     }
-    match command_line(alloc)?.try_get_matches_from(all.as_slice()) {
+    Ok(all)
+}
+
+/// What the words ask for, the program's name first. None: they are no command line of this program's, help and a folder
+/// without a name among them.
+pub fn job_of<'a>(alloc: Global, words: &'a [&'a str]) -> Result<Option<Job<'a>>, AllocError> {
+    match command_line(alloc)?.try_get_matches_from(words) {
         Ok(matches) => match matches.subcommand() {
-            Some(("script", _)) => Ok(Some(Job::Script)),
+            Some(("script", script)) => Ok(script_of(script.get_str("out"))),
             _ => Ok(None),
         },
         Err(error) if error.kind() == ErrorKind::OutOfMemory => Err(AllocError),
         Err(_) => Ok(None),
+    }
+}
+
+/// A run of a script, with its archives below this folder.
+fn script_of<'a>(out: Option<&'a str>) -> Option<Job<'a>> {
+    match out {
+        Some("") => None,
+        _ => Some(Job::Script { out }),
     }
 }

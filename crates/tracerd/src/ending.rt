@@ -1,9 +1,10 @@
 //! How a run of the program ends.
 
 ghost use Rattle.std.specs.Prelude.{◌≡◌};
-ghost use Rattle.tracerd.specs.Endings.{ending_of, status_of};
+ghost use Rattle.tracerd.specs.Endings.{ending_of, ending_of_export, ending_of_refused, status_of};
 
-use tr_console::{ScriptDone, ScriptFault};
+use tr_console::ScriptFault;
+use tr_export::ExportFault;
 
 /// How a run of the program ends.
 #[derive(Clone, Copy, Debug, PartialEq, Eq)]
@@ -14,7 +15,7 @@ pub enum Ending {
     Refused,
     /// The command line was bad.
     BadCommandLine,
-    /// The input couldn't be read or was too long, or the output couldn't be written.
+    /// The input couldn't be read or was too long, or the output or an archive couldn't be written.
     ReadOrWrite,
     /// Memory was refused.
     NoMemory,
@@ -44,12 +45,24 @@ impl Ending {
         }
     }
 
-    /// How a script that ran to its end ends the program.
-    pub fn of_done(done: &ScriptDone) -> Ending {
-        if done.refused == 0 {
+    /// How a script of which so many lines were refused ends the program.
+    pub fn of_refused(refused: u64) -> Ending
+        ensures { result ≡ ending_of_refused refused }
+    {
+        if refused == 0 {
             Ending::Done
         } else {
             Ending::Refused
+        }
+    }
+
+    /// How archives that can't be written end the program.
+    pub fn of_export_fault(fault: ExportFault) -> Ending
+        ensures { result ≡ ending_of_export fault }
+    {
+        match fault {
+            ExportFault::Write => Ending::ReadOrWrite,
+            ExportFault::NoMemory => Ending::NoMemory,
         }
     }
 

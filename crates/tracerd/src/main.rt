@@ -11,6 +11,7 @@ use running::run;
 use std::alloc::Global;
 use std::process::ExitCode;
 use std::{env, io};
+use tr_export::SystemDisk;
 use tr_record::{ReaderSource, WriterSink};
 
 fn main(rt: HostRuntime) -> io::Result<ExitCode> {
@@ -26,6 +27,14 @@ fn main(rt: HostRuntime) -> io::Result<ExitCode> {
     let mut input = ReaderSource::new(rt.reader());
     let mut out = WriterSink::new(io::writer(&rt));
     let mut err = WriterSink::new(rt.stderr());
-    let status = run(alloc, words.as_slice(), &mut input, &mut out, &mut err);
+    let mut disk = SystemDisk::new(&rt);
+    let status = run(
+        alloc,
+        words.as_slice(),
+        &mut input,
+        &mut out,
+        &mut err,
+        &mut disk,
+    );
     Ok(ExitCode::from(status))
 }

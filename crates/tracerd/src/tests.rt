@@ -1,11 +1,14 @@
 //! Runs of the program over memory.
 
+mod exporting;
+
 use crate::running::run;
 use std::alloc::Global;
 use std::test::Fail;
+use tr_export::MemoryDisk;
 use tr_record::{MemorySink, MemorySource};
 
-/// The status, and whether these bytes went out and these to standard error.
+/// The status, and whether these bytes went out and these to standard error, and no file was made.
 fn ends_with(
     alloc: Global,
     words: &[&str],
@@ -16,10 +19,15 @@ fn ends_with(
     let mut input = MemorySource::new(script, 4096);
     let mut out = MemorySink::new(alloc, 4096);
     let mut err = MemorySink::new(alloc, 4096);
-    let status = run(alloc, words, &mut input, &mut out, &mut err);
+    let mut disk = MemoryDisk::new(alloc, 4096);
+    let status = run(alloc, words, &mut input, &mut out, &mut err, &mut disk);
+    let untouched = disk.made().is_empty();
     let out = out.into_bytes();
     let err = err.into_bytes();
-    (status, out.as_slice() == answer && err.as_slice() == fault)
+    (
+        status,
+        untouched && out.as_slice() == answer && err.as_slice() == fault,
+    )
 }
 
 #[test]
@@ -123,8 +131,32 @@ fn a_bad_command_line_is_told(rt: HostRuntime) -> Result<(), Fail> {
         ends_with(rt.alloc(), &["help", "script"], script, b"", fault),
         (2, true)
     );
+    Ok(())
+}
+
+#[test]
+fn a_bad_folder_is_told(rt: HostRuntime) -> Result<(), Fail> {
+    let fault = b"tracerd: bad command line\n";
     assert_eq!(rt;
-        ends_with(rt.alloc(), &["script", "--out", "d"], script, b"", fault),
+        ends_with(rt.alloc(), &["script", "--out"], b"", b"", fault),
+        (2, true)
+    );
+    assert_eq!(rt;
+        ends_with(rt.alloc(), &["script", "--out", ""], b"", b"", fault),
+        (2, true)
+    );
+    assert_eq!(rt;
+        ends_with(
+            rt.alloc(),
+            &["script", "--out", "d", "--out", "e"],
+            b"",
+            b"",
+            fault
+        ),
+        (2, true)
+    );
+    assert_eq!(rt;
+        ends_with(rt.alloc(), &["--out", "d", "script"], b"", b"", fault),
         (2, true)
     );
     Ok(())

@@ -4,7 +4,7 @@ use Rattle.tr_command.specs.Dispatch.{app_for, command_word}
 use Rattle.tr_command.specs.Language.{asked_from, asked_of}
 use Rattle.tr_command.proofs.CommandLemmas.{asked_from-entered, asked_from-fault, asked_from-none, subcommand_rows_of-entered, subcommand_rows_of-none}
 use Rattle.tr_command.proofs.DispatchLemmas.{asked_from-app_for, app_for-simple}
-use Rattle.tr_command.proofs.MomentLemmas.{request-moment}
+use Rattle.tr_command.proofs.LimitLemmas.{request-moment, request-offset}
 use Rattle.tr_command.proofs.parsing.parse.Goals as goal
 
 pub returns-in-Some-clause-asked : goal.returns-in-Some-clause-asked
@@ -42,3 +42,6 @@ returns-clause-asked c =
 
 pub returns-in-Some-clause-moment : goal.returns-in-Some-clause-moment
 returns-in-Some-clause-moment c = request-moment c.request_of.result c.in-Some.name.now (rows_of (found_of c.in-Some.inner.now)) c.request_of.ensures
+
+pub returns-in-Some-clause-offset : goal.returns-in-Some-clause-offset
+returns-in-Some-clause-offset c = request-offset c.request_of.result c.in-Some.name.now (rows_of (found_of c.in-Some.inner.now)) c.request_of.ensures

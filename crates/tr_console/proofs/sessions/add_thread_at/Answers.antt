@@ -1,6 +1,6 @@
 use Rattle.std.proofs.Common.{◌≡◌, ℕ, ap, sym, None, Some}
 use Rattle.std.specs.Map.{lookup}
-use Rattle.tr_console.proofs.CallLaws.{is_named, named-is, set-is, unchanged-is, called-none, called-ok, called-err, kept-by_session}
+use Rattle.tr_console.proofs.CallLaws.{is_named, named-is, set-is, unchanged-is, added-none, added-ok, added-err, kept-by_session}
 use Rattle.tr_console.proofs.sessions.add_thread_at.Goals as goal
 use Rattle.tr_session.specs.Names.{by_name}
 use Rattle.tr_session.specs.Steps.{thread_added}
@@ -11,7 +11,7 @@ returns-in_default-clause-refused g c = λ _.
     let es = c.args.sessions.now.entries in
     let name = c.args.session.now in
     let none : lookup (is_named name) es ≡ None = sym c.in_default.ensures.value in
-    called-none name (thread_added by_state c.args.channel.now) (by_name es) (named-is name es None none)
+    added-none name (thread_added by_state c.args.channel.now) (by_name es) (named-is name es None none)
 
 pub returns-in_default-clause-unchanged : goal.returns-in_default-clause-unchanged
 returns-in_default-clause-unchanged g c = ap (λ m. by_name m.entries) c.get_mut.follows.holds-at-none
@@ -23,7 +23,7 @@ returns-in-Ok-clause-ok g c =
     let s = c.in-Some.found.now in
     let found : lookup (is_named name) es ≡ Some s = sym c.in-Some.ensures.value in
     let t = c.add_thread.new.self in
-    called-ok name (thread_added by_state c.args.channel.now) (by_name es) (by_name (c.get_mut.follows.lender t).entries) s t (named-is name es (Some s) found) c.in-Ok.ensures.ok (set-is name es (c.get_mut.follows.lender t).entries t (c.get_mut.follows.holds t).0)
+    added-ok name (thread_added by_state c.args.channel.now) (by_name es) (by_name (c.get_mut.follows.lender t).entries) s t (named-is name es (Some s) found) c.in-Ok.ensures.ok (set-is name es (c.get_mut.follows.lender t).entries t (c.get_mut.follows.holds t).0)
 
 pub returns-in-Err-clause-refused : goal.returns-in-Err-clause-refused
 returns-in-Err-clause-refused g c = λ kept.
@@ -31,7 +31,7 @@ returns-in-Err-clause-refused g c = λ kept.
     let name = c.args.session.now in
     let s = c.in-Some.found.now in
     let found : lookup (is_named name) es ≡ Some s = sym c.in-Some.ensures.value in
-    called-err name (thread_added by_state c.args.channel.now) (by_name es) s c.in-Err.fault (named-is name es (Some s) found) (c.in-Err.ensures.refused (kept-by_session c.in-Err.fault kept))
+    added-err name (thread_added by_state c.args.channel.now) (by_name es) s c.in-Err.fault (named-is name es (Some s) found) (c.in-Err.ensures.refused (kept-by_session c.in-Err.fault kept))
 
 pub returns-in-Err-clause-unchanged : goal.returns-in-Err-clause-unchanged
 returns-in-Err-clause-unchanged g c =

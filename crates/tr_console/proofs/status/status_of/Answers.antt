@@ -1,12 +1,13 @@
-use Rattle.std.proofs.Common.{rules, ◌≡◌, Some}
+use Rattle.std.proofs.Common.{rules, ◌≡◌, ◌∙◌, Some, ap}
 use Rattle.std.specs.Prelude.{slice_get}
 use Rattle.std.specs.String.{string_bytes}
 use Rattle.tr_console.proofs.StatusLaws.{begins, goes_on, ends}
 use Rattle.tr_console.proofs.status.status_of.Goals as goal
+use Rattle.tr_console.specs.Texts.{status_line}
 
 pub rows-init : goal.rows-init
 rows-init g c =
-    begins c.args.session.now c.args.name.now (string_bytes c.in_ok-text.text) (string_bytes c.push_str.new.self) (string_bytes c.push_str-2.new.self) c.in_ok-text.ensures
+    begins c.args.session.now c.args.name.now (string_bytes c.in_ok-text.text) (string_bytes c.push_str.new.self) (string_bytes c.push_str-2.new.self) (c.in_ok-text.ensures ∙ ap (status_line c.args.name.now) c.book.ensures)
     (rw c.in_ok-push_str.was at c.push_str.ensures.bytes) (rw c.in_ok-push_str-2.was at c.push_str-2.ensures.bytes)
 
 pub rows-preserved : goal.rows-preserved

@@ -1,6 +1,5 @@
 use Rattle.std.proofs.Common.{◌∙◌, ap, subst, List}
 use Rattle.tr_session.proofs.session.Session.offer.Goals as goal
-use Rattle.tr_session.specs.Names.{by_name}
 use Rattle.tr_session.specs.Session.{SessionOf}
 use Rattle.tr_session.specs.Steps.{StepTakesMemory, offer_step, after_offer_step}
 use Rattle.tr_stream.specs.Rules.{by_state}
@@ -10,13 +9,13 @@ pub returns-clause-value : goal.returns-clause-value
 returns-clause-value g c = λ not_memory.
     let did = c.offer_at.ensures.value not_memory in (
       did.0 ∙ ap (λ (s : SessionOf StreamState). offer_step by_state c.args.i c.args.moment c.args.id c.args.payload.now s) c.self.view_is,
-      ap (λ (xs : List StreamState). (let s : SessionOf StreamState = record { uuid = c.self.inside.uuid; state = c.self.inside.state; last = c.self.inside.last; channels = by_name c.self.inside.channels.entries; streams = xs } in s)) did.1
+      ap (λ (xs : List StreamState). (let s : SessionOf StreamState = record { book = c.self.inside.book; streams = xs } in s)) did.1
           ∙ ap (λ (s : SessionOf StreamState). after_offer_step by_state c.args.i c.args.moment c.args.id c.args.payload.now s) c.self.view_is,
     )
 
 pub returns-clause-no_memory : goal.returns-clause-no_memory
 returns-clause-no_memory g c = λ memory.
-    ap (λ (xs : List StreamState). (let s : SessionOf StreamState = record { uuid = c.self.inside.uuid; state = c.self.inside.state; last = c.self.inside.last; channels = by_name c.self.inside.channels.entries; streams = xs } in s)) (c.offer_at.ensures.no_memory memory)
+    ap (λ (xs : List StreamState). (let s : SessionOf StreamState = record { book = c.self.inside.book; streams = xs } in s)) (c.offer_at.ensures.no_memory memory)
     ∙ c.self.view_is
 
 pub returns-clause-memory : goal.returns-clause-memory

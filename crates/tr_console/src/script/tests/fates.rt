@@ -1,0 +1,95 @@
+//! What `fate` tells.
+
+use super::{
+    OPENED, OPENING, SIX_ANSWERS, SIX_OFFERS, goes_on, goes_on_overwriting, is_answered, joined,
+};
+use std::test::Fail;
+
+/// A discarded record, one in the ring, two that were taken, and none.
+const FATES: &str = "fate s 0 4
+fate s 0 5
+fate s 0 0
+fate s 0 1
+fate s 0 6
+fate s 0 18446744073709551615
+";
+
+const FATES_ANSWERS: &str = "discarded
+in ring 1
+in chunk 0 0
+in chunk 0 0
+not offered
+not offered
+";
+
+#[test]
+fn tells_fates_of_discarded_and_consumed_records(rt: HostRuntime) -> Result<(), Fail> {
+    let alloc = rt.alloc();
+    let script = joined(alloc, &[OPENING, SIX_OFFERS, FATES])?;
+    let text = joined(alloc, &[OPENED, SIX_ANSWERS, FATES_ANSWERS])?;
+    assert!(rt; is_answered(alloc, script.as_slice(), text.as_slice(), 0)?);
+    Ok(())
+}
+
+/// Records that gave way, before a take and after it.
+const OVERWRITES: &str = "fate s 0 1
+fate s 0 2
+fate s 0 6
+consume s 0
+offer s 0 7 7 --fill 64
+offer s 0 8 7 --fill 64
+offer s 0 9 7 --fill 64
+offer s 0 10 7 --fill 64
+fate s 0 2
+fate s 0 5
+fate s 0 6
+fate s 0 9
+";
+
+const OVERWRITES_ANSWERS: &str = "overwritten
+in ring 1
+not offered
+taken 1 records 2 chunk 0
+stored 6 in 3
+stored 7 in 3
+stored 8 in 4 over 2 2
+stored 9 in 4
+in chunk 0 1
+overwritten
+in ring 3
+in ring 4
+";
+
+#[test]
+fn tells_fates_of_overwritten_records(rt: HostRuntime) -> Result<(), Fail> {
+    let answers = OVERWRITES_ANSWERS;
+    assert!(rt; goes_on_overwriting(rt.alloc(), OVERWRITES, answers, 0)?);
+    Ok(())
+}
+
+/// Questions for fates in no session or no stream, and bad ones.
+const NO_STREAMS: &str = "fate t 0 0
+fate t 1 0
+fate s 1 0
+fate s 18446744073709551615 0
+fate s 0 0
+fate s 0 -1
+fate s 0
+fate t 0 x
+";
+
+const NO_STREAMS_ANSWERS: &str = "refused K1 NoSession
+refused K1 NoSession
+refused S8 NoStream
+refused S8 NoStream
+not offered
+bad line
+bad line
+bad line
+";
+
+#[test]
+fn refuses_fates_of_no_stream(rt: HostRuntime) -> Result<(), Fail> {
+    assert!(rt; goes_on(rt.alloc(), NO_STREAMS, NO_STREAMS_ANSWERS, 7)?);
+    Ok(())
+}

@@ -1,0 +1,49 @@
+-- What a session's archives are on a disk.
+use Rattle.std.specs.Prelude.{ℕ, zero, suc, List, [], ◌∷◌, ◌++◌, codes, length, slice_get, Option, Some, None, option_and_then}
+use Rattle.std.specs.List.{flat_map}
+use Rattle.tr_book.specs.Parts.{PartState, part_at}
+use Rattle.tr_chunk.specs.ArchiveName.{archive_name_text}
+use Rattle.tr_chunk.specs.Files.{file_name, packets_text}
+use Rattle.tr_export.specs.Making.{Makings}
+use Rattle.tr_export.specs.Paths.{folder_of, path_of}
+use Rattle.tr_export.specs.declared.made.Made.TheVariants.{Folder, File}
+use Rattle.tr_packet.specs.Metadata.{metadata_of}
+use Rattle.tr_session.specs.BookSteps.{channel_of}
+use Rattle.tr_session.specs.Session.{SessionOf}
+use Rattle.tr_session.specs.declared.archive.Archive.{Archive}
+use Rattle.tr_stream.specs.State.{StreamState}
+
+-- a part's packets, in the file that its stream's channel and number name
+abbrev pub part_file : List ℕ → ℕ → Option (List ℕ) → Option PartState → Makings
+part_file folder i None part = []
+part_file folder i (Some channel) None = []
+part_file folder i (Some channel) (Some part) = File (path_of folder (file_name channel i)) (packets_text part.packets) ∷ []
+
+-- stream i's part of chunk id
+abbrev pub part_of_stream : ℕ → ℕ → SessionOf StreamState → Option PartState
+part_of_stream i id s = option_and_then (λ (stream : StreamState). part_at id stream.parts) (slice_get s.streams i)
+
+-- what stream i has in chunk id
+abbrev pub stream_file : List ℕ → ℕ → SessionOf StreamState → ℕ → Makings
+stream_file folder id s i = part_file folder i (channel_of i s.book) (part_of_stream i id s)
+
+-- what the first n streams have
+abbrev pub stream_files : List ℕ → ℕ → SessionOf StreamState → ℕ → Makings
+stream_files folder id s zero = []
+stream_files folder id s (suc i) = stream_files folder id s i ++ stream_file folder id s i
+
+-- the metadata beside them
+abbrev pub metadata_file : List ℕ → SessionOf StreamState → Makings
+metadata_file folder s = File (path_of folder (codes "metadata")) (metadata_of s.book.uuid) ∷ []
+
+-- a folder of the trace chunk of this number: the folder, the metadata, and a file for each stream
+abbrev pub chunk_made : List ℕ → ℕ → SessionOf StreamState → Makings
+chunk_made folder id s = Folder folder ∷ (metadata_file folder s ++ stream_files folder id s (length s.streams))
+
+-- the folder that an archive's name names
+abbrev pub archive_made : List ℕ → List ℕ → SessionOf StreamState → Archive → Makings
+archive_made dir name s a = chunk_made (folder_of dir name (archive_name_text a.begin a.end s.book.offset a.id)) a.id s
+
+-- each archive in order; a pending one and the current chunk are none
+abbrev pub archives_made : List ℕ → List ℕ → SessionOf StreamState → Makings
+archives_made dir name s = flat_map (archive_made dir name s) s.book.archives

@@ -1,0 +1,34 @@
+//! Where folders and files are made, for code that must not know whether it is a file system.
+
+ghost use Rattle.std.specs.Prelude.{◌≡◌, ℕ, List, [], ◌∷◌, Option, IsSome, IfOk, OnOk, OnErr};
+ghost use Rattle.tr_export.specs.Making.{Makings, and_then_made, with_file, nothing_in};
+ghost use Rattle.tr_export.specs.declared.made.Made.TheVariants.{Folder};
+
+use tr_record::{ByteSink, Failed};
+
+/// Makes folders and files, of which one is open at a time.
+pub trait Disk {
+    /// An open file.
+    type File: ByteSink + Drop;
+
+    /// The folders and files that were made so far, in order, where the type says.
+    ghost made: { Self → Option Makings };
+    /// The path of the file that was opened last.
+    ghost opened: { Self → List ℕ };
+
+    /// Makes a folder, and those above it, where they aren't there.
+    fn make_folder(&mut self, path: &str) -> Result<(), Failed>
+        ensures ok { OnOk result (made self.new ≡ and_then_made (made self.old) (Folder path.now ∷ [])) }
+        ensures err { OnErr result (made self.new ≡ made self.old) };
+
+    /// Opens a file to be written. One that is there loses what it had.
+    fn open_file(&mut self, path: &str) -> Result<Self::File, Failed>
+        ensures made { made self.new ≡ made self.old }
+        ensures path { OnOk result (IsSome (made self.old) → opened self.new ≡ path.now) }
+        ensures empty { IfOk result (λ file. Self.File.taken file ≡ nothing_in (made self.old)) };
+
+    /// Ends the file that was opened last, which has all its bytes now.
+    fn close_file(&mut self, file: Self::File) -> Result<(), Failed>
+        ensures ok { OnOk result (made self.new ≡ with_file (made self.old) (opened self.old) (Self.File.taken file)) }
+        ensures err { OnErr result (made self.new ≡ made self.old) };
+}

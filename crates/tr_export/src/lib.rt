@@ -1,0 +1,20 @@
+//! A session's archives on disk: the folder of each, with the metadata text and a file for each stream.
+#![tactic(auto)]
+
+mod disk;
+mod faults;
+mod made;
+mod memory;
+mod paths;
+mod system;
+#[cfg(test)]
+mod tests;
+mod writing;
+
+pub use disk::Disk;
+pub use faults::ExportFault;
+pub use made::Made;
+pub use memory::MemoryDisk;
+pub use paths::{archive_folder, file_path};
+pub use system::SystemDisk;
+pub use writing::write_archives;

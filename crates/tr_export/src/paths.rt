@@ -1,0 +1,26 @@
+//! Where archives lie.
+
+ghost use Rattle.std.specs.Prelude.{◌≡◌, IfOk};
+ghost use Rattle.std.specs.String.{string_bytes};
+ghost use Rattle.tr_export.specs.Paths.{folder_of, path_of};
+
+use std::alloc::{AllocError, Allocator};
+
+/// The folder of an archive: `DIR/NAME/archives/ARCHIVE`.
+pub fn archive_folder<A: Allocator>(
+    alloc: A,
+    dir: &str,
+    name: &str,
+    archive: &str,
+) -> Result<String<A>, AllocError>
+    ensures { IfOk result (λ s. string_bytes s ≡ folder_of dir.now name.now archive.now) }
+{
+    format!(in alloc; "{dir}/{name}/archives/{archive}")
+}
+
+/// The path of a file in a folder: `FOLDER/FILE`.
+pub fn file_path<A: Allocator>(alloc: A, folder: &str, file: &str) -> Result<String<A>, AllocError>
+    ensures { IfOk result (λ s. string_bytes s ≡ path_of folder.now file.now) }
+{
+    format!(in alloc; "{folder}/{file}")
+}

@@ -1,0 +1,119 @@
+//! A disk that fails, at each of its calls and at each byte.
+
+use super::rotated;
+use crate::disk::Disk;
+use crate::faults::ExportFault;
+use crate::writing::write_archives;
+use std::mem;
+use std::test::Fail;
+use tr_record::{ByteSink, Failed};
+
+/// A file that takes so many bytes more, and then fails.
+#[derive(Drop)]
+struct ShortFile {
+    room: usize,
+    failures: u64,
+}
+
+impl ByteSink for ShortFile {
+    ghost use Rattle.std.specs.Prelude.{None};
+
+    ghost taken = { λ _. None };
+
+    ghost failures = { λ s. s.failures };
+
+    fn put(&mut self, b: &[u8]) -> Result<usize, Failed> {
+        let count = b.len().min(self.room);
+        if count == 0 {
+            self.failures = self.failures.wrapping_add(1);
+            return Err(Failed);
+        }
+        self.room -= count;
+        Ok(count)
+    }
+}
+
+/// Fails once so many calls were made. Its first file has room for so many bytes, and each later one for so many.
+#[derive(Drop)]
+struct FailingDisk {
+    calls: usize,
+    first: usize,
+    later: usize,
+}
+
+impl FailingDisk {
+    /// Counts one call.
+    fn call(&mut self) -> Result<(), Failed> {
+        if self.calls == 0 {
+            return Err(Failed);
+        }
+        self.calls -= 1;
+        Ok(())
+    }
+}
+
+impl Disk for FailingDisk {
+    ghost use Rattle.std.specs.Prelude.{None, []};
+
+    type File = ShortFile;
+
+    ghost made = { λ _. None };
+
+    ghost opened = { λ _. [] };
+
+    fn make_folder(&mut self, _path: &str) -> Result<(), Failed> {
+        self.call()
+    }
+
+    fn open_file(&mut self, _path: &str) -> Result<ShortFile, Failed> {
+        self.call()?;
+        let room = mem::replace(&mut self.first, self.later);
+        Ok(ShortFile { room, failures: 0 })
+    }
+
+    fn close_file(&mut self, _file: ShortFile) -> Result<(), Failed> {
+        self.call()
+    }
+}
+
+fn disk(calls: usize, first: usize, later: usize) -> FailingDisk {
+    FailingDisk {
+        calls,
+        first,
+        later,
+    }
+}
+
+// five calls: a folder, and the begin and the end of two files
+#[test]
+fn each_failed_call_is_told(rt: HostRuntime) -> Result<(), Fail> {
+    let session = rotated(rt.alloc())?;
+    for calls in 0..7 {
+        let wanted = if calls < 5 {
+            Err(ExportFault::Write)
+        } else {
+            Ok(())
+        };
+        let answer = write_archives(rt.alloc(), &mut disk(calls, 4096, 4096), "d", "s", &session);
+        assert_eq!(rt; answer, wanted, "after {calls} calls");
+    }
+    Ok(())
+}
+
+// the metadata has 1,082 bytes, the stream's file 484
+#[test]
+fn a_file_that_is_cut_short_is_told(rt: HostRuntime) -> Result<(), Fail> {
+    let session = rotated(rt.alloc())?;
+    let short = [(0, 4096), (1081, 4096), (4096, 0), (4096, 228), (4096, 483)];
+    for (first, later) in short {
+        let answer = write_archives(rt.alloc(), &mut disk(9, first, later), "d", "s", &session);
+        assert_eq!(rt;
+            answer,
+            Err(ExportFault::Write),
+            "at {first} and {later} bytes"
+        );
+    }
+    let answer = write_archives(rt.alloc(), &mut disk(9, 1082, 484), "d", "s", &session);
+    assert_eq!(rt; answer, Ok(()));
+    Ok(())
+}

@@ -1,0 +1,152 @@
+//! Writing a session's archives.
+
+ghost use Rattle.std.specs.Prelude.{◌≡◌, ◌∷◌, [], length, OnOk, OnErr};
+ghost use Rattle.tr_chunk.specs.Files.{packets_text};
+ghost use Rattle.tr_export.specs.Archives.{stream_file, stream_files, chunk_made, archive_made, archives_made};
+ghost use Rattle.tr_export.specs.Making.{and_then_made, MadeFront};
+ghost use Rattle.tr_export.specs.declared.made.Made.TheVariants.{File};
+ghost use Rattle.tr_packet.specs.Metadata.{metadata_of};
+
+use crate::disk::Disk;
+use crate::faults::ExportFault;
+use crate::paths::{archive_folder, file_path};
+use std::alloc::Allocator;
+use tr_book::Part;
+use tr_chunk::{archive_name, stream_file_name, write_metadata, write_part};
+use tr_session::{Archive, Session};
+use uuid::Uuid;
+
+/// Writes the metadata text to a file of this path.
+fn write_metadata_file<B: Allocator, D: Disk>(
+    alloc: B,
+    disk: &mut D,
+    path: &str,
+    uuid: &Uuid,
+) -> Result<(), ExportFault>
+    ensures ok { OnOk result (D.made disk.new ≡ and_then_made (D.made disk.old) (File path.now (metadata_of uuid.now) ∷ [])) }
+    ensures err { OnErr result (D.made disk.new ≡ D.made disk.old) }
+{
+    let mut file = disk.open_file(path)?;
+    write_metadata(alloc, &mut file, uuid)?;
+    disk.close_file(file)?;
+    Ok(())
+}
+
+/// Writes a part's packets to a file of this path.
+fn write_part_file<A: Allocator, B: Allocator + Copy, D: Disk>(
+    alloc: B,
+    disk: &mut D,
+    path: &str,
+    part: &Part<A>,
+) -> Result<(), ExportFault>
+    ensures ok { OnOk result (D.made disk.new ≡ and_then_made (D.made disk.old) (File path.now (packets_text part.now.packets) ∷ [])) }
+    ensures err { OnErr result (D.made disk.new ≡ D.made disk.old) }
+{
+    let mut file = disk.open_file(path)?;
+    write_part(alloc, &mut file, part)?;
+    disk.close_file(file)?;
+    Ok(())
+}
+
+/// Writes what stream `i` got in chunk `id` to its file in the folder.
+fn write_stream<A: Allocator, B: Allocator + Copy, D: Disk>(
+    alloc: B,
+    disk: &mut D,
+    folder: &str,
+    id: u64,
+    session: &Session<A>,
+    i: u64,
+) -> Result<(), ExportFault>
+    ensures ok { OnOk result (D.made disk.new ≡ and_then_made (D.made disk.old) (stream_file folder.now id session.now i)) }
+    ensures err { OnErr result (D.made disk.new ≡ D.made disk.old) }
+{
+    let Some(channel) = session.book().channel_of(i) else {
+        return Ok(());
+    };
+    let Some(stream) = session.stream(i) else {
+        return Ok(());
+    };
+    let Some(part) = stream.part(id) else {
+        return Ok(());
+    };
+    let name = stream_file_name(alloc, channel, i)?;
+    let path = file_path(alloc, folder, name.as_str())?;
+    write_part_file(alloc, disk, path.as_str(), part)
+}
+
+/// Writes what each stream got in chunk `id` to its file in the folder.
+fn write_streams<A: Allocator, B: Allocator + Copy, D: Disk>(
+    alloc: B,
+    disk: &mut D,
+    folder: &str,
+    id: u64,
+    session: &Session<A>,
+) -> Result<(), ExportFault>
+    ensures ok { OnOk result (D.made disk.new ≡ and_then_made (D.made disk.old) (stream_files folder.now id session.now (length session.now.streams))) }
+    ensures err { OnErr result (MadeFront (D.made disk.old) (D.made disk.new) (stream_files folder.now id session.now (length session.now.streams))) }
+{
+    'streams: for i in 0..session.streams() {
+        write_stream(alloc, disk, folder, id, session, i)?;
+    }
+    Ok(())
+}
+
+/// Writes chunk `id` to a folder: the metadata text, and a file for each stream.
+fn write_chunk<A: Allocator, B: Allocator + Copy, D: Disk>(
+    alloc: B,
+    disk: &mut D,
+    folder: &str,
+    id: u64,
+    session: &Session<A>,
+) -> Result<(), ExportFault>
+    ensures ok { OnOk result (D.made disk.new ≡ and_then_made (D.made disk.old) (chunk_made folder.now id session.now)) }
+    ensures err { OnErr result (MadeFront (D.made disk.old) (D.made disk.new) (chunk_made folder.now id session.now)) }
+{
+    let metadata = file_path(alloc, folder, "metadata")?;
+    disk.make_folder(folder)?;
+    write_metadata_file(alloc, disk, metadata.as_str(), &session.book().uuid())?;
+    write_streams(alloc, disk, folder, id, session)
+}
+
+/// Writes an archive to the folder that its name names.
+fn write_archive<A: Allocator, B: Allocator + Copy, D: Disk>(
+    alloc: B,
+    disk: &mut D,
+    dir: &str,
+    name: &str,
+    session: &Session<A>,
+    archive: Archive,
+) -> Result<(), ExportFault>
+    ensures ok { OnOk result (D.made disk.new ≡ and_then_made (D.made disk.old) (archive_made dir.now name.now session.now archive)) }
+    ensures err { OnErr result (MadeFront (D.made disk.old) (D.made disk.new) (archive_made dir.now name.now session.now archive)) }
+{
+    let offset = session.book().offset();
+    let own_name = archive_name(alloc, archive.begin, archive.end, offset, archive.id)?;
+    let folder = archive_folder(alloc, dir, name, own_name.as_str())?;
+    write_chunk(alloc, disk, folder.as_str(), archive.id, session)
+}
+
+/// Writes each archive of a session, in order: the folder `DIR/NAME/archives/ARCHIVE` (see `archive_name`), in it the
+/// file `metadata`, and for each stream the file `CHANNEL_NUMBER` with the packets of its part of that chunk, empty where
+/// there are none. What isn't an archive yet, the current chunk and a pending rotation's, isn't written. Folders that
+/// aren't there are made, and files that are there lose what they had.
+///
+/// # Errors
+///
+/// `Write` where a folder or a file can't be made or written, `NoMemory`: what was written before stays, and the file that
+/// was being written may have a front part of its bytes.
+pub fn write_archives<A: Allocator, B: Allocator + Copy, D: Disk>(
+    alloc: B,
+    disk: &mut D,
+    dir: &str,
+    name: &str,
+    session: &Session<A>,
+) -> Result<(), ExportFault>
+    ensures ok { OnOk result (D.made disk.new ≡ and_then_made (D.made disk.old) (archives_made dir.now name.now session.now)) }
+    ensures err { OnErr result (MadeFront (D.made disk.old) (D.made disk.new) (archives_made dir.now name.now session.now)) }
+{
+    'archives: for archive in session.book().archives() {
+        write_archive(alloc, disk, dir, name, session, *archive)?;
+    }
+    Ok(())
+}

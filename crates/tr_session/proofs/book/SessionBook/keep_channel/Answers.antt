@@ -1,0 +1,27 @@
+use Rattle.std.proofs.Common.{◌∙◌, ap, List, ℕ, is_some}
+use Rattle.tr_session.proofs.NameLaws.{insert_entry-new_name, is_some-by_name}
+use Rattle.tr_session.proofs.book.SessionBook.keep_channel.Goals as goal
+use Rattle.tr_session.specs.Book.{SessionBookState}
+use Rattle.tr_session.specs.BookSteps.{channel_named, with_channel}
+use Rattle.tr_session.specs.declared.channel.Channel.{Channel}
+
+pub returns-clause-ok : goal.returns-clause-ok
+returns-clause-ok g c =
+    let name = c.args.name.now in
+    let es = c.self.inside.channels.entries in
+    let free = is_some-by_name name es ∙ ap (λ (b : SessionBookState). is_some (channel_named name b)) c.self.view_is ∙ c.requires.free in
+    let added = insert_entry-new_name name es c.insert.new.self.entries c.in_ok-name.name c.args.channel c.in_ok-name.ensures.ok free c.in_ok-insert.ensures.entries in
+    ap (λ (cs : List (List ℕ × Channel)). (let b : SessionBookState = record {
+      uuid = c.self.inside.uuid;
+      offset = c.self.inside.offset;
+      mode = c.self.inside.mode;
+      state = c.self.inside.state;
+      rotated = c.self.inside.rotated;
+      last = c.self.inside.last;
+      begin = c.self.inside.begin;
+      channels = cs;
+      threads = c.self.inside.threads.items;
+      pending = c.self.inside.pending;
+      archives = c.self.inside.archives.items;
+    } in b)) added
+    ∙ ap (λ (b : SessionBookState). with_channel name c.args.channel b) c.self.view_is

@@ -1,0 +1,27 @@
+use Rattle.std.proofs.Common.{◌∙◌, ap, sym, subst}
+use Rattle.std.specs.Prelude.{IsOk, length}
+use Rattle.tr_session.specs.BookSteps.{rotate_begin_answer}
+use Rattle.tr_session.specs.Steps.{begun}
+use Rattle.tr_session.proofs.session.Session.rotate_begin.Goals as goal
+use Rattle.tr_session.specs.Book.{SessionBookState}
+use Rattle.tr_session.specs.Session.{SessionOf}
+use Rattle.tr_stream.specs.State.{StreamState}
+
+pub invariant_of-self : goal.invariant_of-self
+invariant_of-self g c = c.self.invariant ∙ sym (ap length c.rotate_begin.ensures.streams)
+
+pub returns-clause-value : goal.returns-clause-value
+returns-clause-value g c = λ not_memory.
+    let did = c.rotate_begin.ensures.value not_memory in (
+      did.0 ∙ ap (λ (s : SessionOf StreamState). rotate_begin_answer s.book) c.self.view_is,
+      ap (λ (b : SessionBookState). (let s : SessionOf StreamState = record { book = b; streams = c.self.inside.streams.items } in s)) did.1
+          ∙ ap (λ (s : SessionOf StreamState). begun c.args.moment s) c.self.view_is,
+    )
+
+pub returns-clause-no_memory : goal.returns-clause-no_memory
+returns-clause-no_memory g c = λ memory.
+    ap (λ (b : SessionBookState). (let s : SessionOf StreamState = record { book = b; streams = c.self.inside.streams.items } in s)) (c.rotate_begin.ensures.no_memory memory)
+    ∙ c.self.view_is
+
+pub returns-clause-memory : goal.returns-clause-memory
+returns-clause-memory g c = λ memory. subst (λ (s : SessionOf StreamState). IsOk (rotate_begin_answer s.book)) c.self.view_is (c.rotate_begin.ensures.memory memory)

@@ -1,0 +1,28 @@
+-- A session by what its streams hold, and the same by their histories.
+use Rattle.std.specs.Prelude.{◌≡◌, ℕ, ◌≤◌, List, [], ◌∷◌}
+use Rattle.tr_book.specs.Geometry.{GeometryState}
+use Rattle.tr_session.specs.Session.{SessionOf}
+use Rattle.tr_session.specs.declared.channel.Channel.{Channel}
+use Rattle.tr_stream.specs.Rules.{Traced, Agrees}
+use Rattle.tr_stream.specs.State.{StreamState}
+
+-- each stream agrees with the history of its number
+abbrev pub AllAgree : List StreamState → List Traced → Type 0
+AllAgree [] [] = Unit {0}
+AllAgree [] (t ∷ ts) = ⊥
+AllAgree (s ∷ ss) [] = ⊥
+AllAgree (s ∷ ss) (t ∷ ts) = Agrees s t × AllAgree ss ts
+
+-- rings of these sub-buffers can be made
+abbrev pub CanBeMade : GeometryState → Type 0
+CanBeMade g = (256 ≤ g.size) × (2 ≤ g.count)
+
+abbrev pub AllCanBeMade : List (List ℕ × Channel) → Type 0
+AllCanBeMade [] = Unit {0}
+AllCanBeMade (c ∷ cs) = CanBeMade c.1.geometry × AllCanBeMade cs
+
+-- the same book, and streams that agree
+pub record SessionsAgree (a : SessionOf StreamState) (b : SessionOf Traced) : Type 0 where
+  pub book : a.book ≡ b.book
+  pub streams : AllAgree a.streams b.streams
+  pub made : AllCanBeMade a.book.channels

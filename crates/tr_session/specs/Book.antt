@@ -1,0 +1,41 @@
+-- What a session keeps beside its streams.
+use Rattle.std.specs.Prelude.{ℕ, ℤ, Bool, false, List, [], Option, None}
+use Rattle.tr_session.specs.declared.archive.Archive.{Archive}
+use Rattle.tr_session.specs.declared.archive.Pending.{Pending}
+use Rattle.tr_session.specs.declared.channel.Channel.{Channel}
+use Rattle.tr_session.specs.declared.state.State.{State}
+use Rattle.tr_session.specs.declared.state.State.TheVariants.{New}
+use Rattle.tr_stream.specs.declared.config.SessionMode.{SessionMode}
+
+pub record SessionBookState : Type 0 where
+  -- the trace's identifier, the minutes that its clock is ahead of UTC, and what becomes of packets
+  pub uuid : List ℕ
+  pub offset : ℤ
+  pub mode : SessionMode
+  pub state : State
+  -- whether a rotation was begun since the last stop
+  pub rotated : Bool
+  -- the last moment that was stored, and the one at which the current chunk began: 0 before the first start
+  pub last : ℕ
+  pub begin : ℕ
+  -- the channels by name, in order of addition; for each stream, the place of its channel
+  pub channels : List (List ℕ × Channel)
+  pub threads : List ℕ
+  pub pending : Option Pending
+  pub archives : List Archive
+
+-- before anything is added
+abbrev pub new_book : List ℕ → ℤ → SessionMode → SessionBookState
+new_book uuid offset mode = record {
+  uuid = uuid;
+  offset = offset;
+  mode = mode;
+  state = New;
+  rotated = false;
+  last = 0;
+  begin = 0;
+  channels = [];
+  threads = [];
+  pending = None;
+  archives = [];
+}

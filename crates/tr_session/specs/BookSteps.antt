@@ -1,0 +1,194 @@
+-- What the calls of a session's book answer, and what they do: the first refusal that applies, or else the step.
+use Rattle.std.specs.Prelude.{ℕ, ◌+◌, ◌≤◌, max, Bool, true, false, ◌&&◌, nat_le, nat_lt, List, [], ◌∷◌, ◌++◌, length, map, is_some, Option, Some, None, option_map, option_and_then, position, Result, Ok, Err, slice_get, if◌then◌else◌}
+use Rattle.std.specs.Map.{lookup}
+use Rattle.std.specs.Str.{bytes_eq}
+use Rattle.tr_book.specs.Geometry.{GeometryState, geometry_of}
+use Rattle.tr_book.specs.declared.geometry.GeometryFault.{GeometryFault}
+use Rattle.tr_book.specs.declared.mode.Mode.{Mode}
+use Rattle.tr_session.specs.Book.{SessionBookState}
+use Rattle.tr_session.specs.declared.archive.Archive.{Archive}
+use Rattle.tr_session.specs.declared.archive.Pending.{Pending}
+use Rattle.tr_session.specs.declared.channel.Channel.{Channel}
+use Rattle.tr_session.specs.declared.faults.SessionFault.{SessionFault}
+use Rattle.tr_session.specs.declared.faults.SessionFault.TheVariants.{NeverStarted, RotationPending, AlreadyRotated, AlreadyActive, NotActive, NoStream, AlreadyStarted, BadGeometry, TooMany, NotPending, CutMissing, NameTaken, NoChannel}
+use Rattle.tr_session.specs.declared.state.State.{State}
+use Rattle.tr_session.specs.declared.state.State.TheVariants.{New, Active, Inactive}
+
+abbrev pub is_new : State → Bool
+is_new New = true
+is_new Active = false
+is_new Inactive = false
+
+abbrev pub is_active : State → Bool
+is_active New = false
+is_active Active = true
+is_active Inactive = false
+
+abbrev pub is_inactive : State → Bool
+is_inactive New = false
+is_inactive Active = false
+is_inactive Inactive = true
+
+-- what is so after a step, and what stays so where it was refused
+abbrev pub unless_refused : {R F X : Type 0} → Result R F → X → X → X
+unless_refused (Ok r) done old = done
+unless_refused (Err fault) done old = old
+
+-- ---- channels and streams, which are added before the first start only
+
+abbrev pub most_channels : ℕ
+most_channels = 8
+
+abbrev pub most_streams : ℕ
+most_streams = 256
+
+-- as many as there may be
+abbrev pub IsWithinLimits : SessionBookState → Type 0
+IsWithinLimits b = (length b.channels ≤ most_channels) × (length b.threads ≤ most_streams)
+
+abbrev pub channel_named : List ℕ → SessionBookState → Option Channel
+channel_named name b = lookup (bytes_eq name) b.channels
+
+abbrev pub with_channel : List ℕ → Channel → SessionBookState → SessionBookState
+with_channel name channel b = record b { channels = b.channels ++ (name, channel) ∷ [] }
+
+-- a channel of this geometry, if there is such a geometry
+abbrev pub channel_made : List ℕ → Mode → Result GeometryState GeometryFault → SessionBookState → Result SessionBookState SessionFault
+channel_made name mode (Err fault) b = Err BadGeometry
+channel_made name mode (Ok geometry) b = Ok (with_channel name (record { geometry = geometry; mode = mode }) b)
+
+-- a channel is added
+abbrev pub channel_added : List ℕ → ℕ → ℕ → Mode → SessionBookState → Result SessionBookState SessionFault
+channel_added name size count mode b =
+    if is_new b.state then
+    (if is_some (channel_named name b) then Err NameTaken
+    else (if nat_le most_channels (length b.channels) then Err TooMany
+    else channel_made name mode (geometry_of size count) b))
+    else Err AlreadyStarted
+
+abbrev pub place_free : Option ℕ → SessionBookState → Result ℕ SessionFault
+place_free None b = Err NoChannel
+place_free (Some place) b = if nat_le most_streams (length b.threads) then Err TooMany else Ok place
+
+-- the place of the channel that a thread is added to
+abbrev pub thread_place : List ℕ → SessionBookState → Result ℕ SessionFault
+thread_place channel b =
+    if is_new b.state then place_free (position (bytes_eq channel) (map (λ (c : List ℕ × Channel). c.0) b.channels)) b else Err AlreadyStarted
+
+-- the next stream is of the channel at this place
+abbrev pub with_thread : ℕ → SessionBookState → SessionBookState
+with_thread place b = record b { threads = b.threads ++ place ∷ [] }
+
+abbrev pub noted_at : Result ℕ SessionFault → SessionBookState → Result SessionBookState SessionFault
+noted_at (Ok place) b = Ok (with_thread place b)
+noted_at (Err fault) b = Err fault
+
+-- a thread of a channel is noted
+abbrev pub thread_noted : List ℕ → SessionBookState → Result SessionBookState SessionFault
+thread_noted channel b = noted_at (thread_place channel b) b
+
+-- the name of the channel of stream i
+abbrev pub channel_of : ℕ → SessionBookState → Option (List ℕ)
+channel_of i b = option_and_then (λ place. option_map (λ (c : List ℕ × Channel). c.0) (slice_get b.channels place)) (slice_get b.threads i)
+
+-- ---- starts and stops
+
+abbrev pub start_answer : SessionBookState → Result Unit SessionFault
+start_answer b =
+    if is_some b.pending then Err RotationPending
+    else (if is_active b.state then Err AlreadyActive
+    else Ok tt)
+
+-- the first start begins the first chunk
+abbrev pub started : ℕ → SessionBookState → SessionBookState
+started moment b = record b { state = Active; last = max moment b.last; begin = if is_new b.state then max moment b.last else b.begin }
+
+abbrev pub after_start : ℕ → SessionBookState → SessionBookState
+after_start moment b = unless_refused (start_answer b) (started moment b) b
+
+abbrev pub stop_answer : SessionBookState → Result Unit SessionFault
+stop_answer b =
+    if is_some b.pending then Err RotationPending
+    else (if is_active b.state then Ok tt
+    else Err NotActive)
+
+abbrev pub stopped : SessionBookState → SessionBookState
+stopped b = record b { state = Inactive; rotated = false }
+
+abbrev pub after_stop : SessionBookState → SessionBookState
+after_stop b = unless_refused (stop_answer b) (stopped b) b
+
+-- a stream is switched as the session was
+abbrev pub switch_answer : Bool → ℕ → SessionBookState → Result Unit SessionFault
+switch_answer true i b = if nat_lt i (length b.threads) then (if is_active b.state then Ok tt else Err NotActive) else Err NoStream
+switch_answer false i b = if nat_lt i (length b.threads) then (if is_inactive b.state then Ok tt else Err AlreadyActive) else Err NoStream
+
+-- ---- rotations
+
+-- a rotation answers the number of the chunk that it archives
+abbrev pub rotate_begin_answer : SessionBookState → Result ℕ SessionFault
+rotate_begin_answer b =
+    if is_new b.state then Err NeverStarted
+    else (if is_some b.pending then Err RotationPending
+    else (if is_inactive b.state && b.rotated then Err AlreadyRotated
+    else Ok (length b.archives)))
+
+-- the archive that a rotation at this moment makes
+abbrev pub archive_at : ℕ → SessionBookState → Archive
+archive_at moment b = record { id = length b.archives; begin = b.begin; end = max moment b.last }
+
+-- the current chunk ends now, and the next one begins
+abbrev pub rotating : ℕ → SessionBookState → SessionBookState
+rotating moment b = record b {
+  rotated = true;
+  last = max moment b.last;
+  begin = max moment b.last;
+  pending = Some (record { archive = archive_at moment b; cut = 0 });
+}
+
+abbrev pub after_rotate_begin : ℕ → SessionBookState → SessionBookState
+after_rotate_begin moment b = unless_refused (rotate_begin_answer b) (rotating moment b) b
+
+abbrev pub cut_in : ℕ → Option Pending → Result ℕ SessionFault
+cut_in i None = Err NotPending
+cut_in i (Some p) =
+    if nat_lt i p.cut then Err NotPending
+    else (if nat_lt p.cut i then Err CutMissing
+    else Ok p.archive.end)
+
+-- the moment at which stream i is to be cut now: the pending rotation's end
+abbrev pub cut_moment : ℕ → SessionBookState → Result ℕ SessionFault
+cut_moment i b = if nat_lt i (length b.threads) then cut_in i b.pending else Err NoStream
+
+abbrev pub one_more : Pending → Pending
+one_more p = record p { cut = p.cut + 1 }
+
+-- one stream more is cut
+abbrev pub with_cut : SessionBookState → SessionBookState
+with_cut b = record b { pending = option_map one_more b.pending }
+
+abbrev pub as_noted : Result ℕ SessionFault → Result Unit SessionFault
+as_noted (Ok moment) = Ok tt
+as_noted (Err fault) = Err fault
+
+-- the cut of stream i is noted, if it is due
+abbrev pub note_cut_answer : ℕ → SessionBookState → Result Unit SessionFault
+note_cut_answer i b = as_noted (cut_moment i b)
+
+abbrev pub after_note_cut : ℕ → SessionBookState → SessionBookState
+after_note_cut i b = unless_refused (cut_moment i b) (with_cut b) b
+
+abbrev pub finished_of : ℕ → Option Pending → Result Archive SessionFault
+finished_of streams None = Err NotPending
+finished_of streams (Some p) = if nat_lt p.cut streams then Err CutMissing else Ok p.archive
+
+-- a rotation that has cut every stream answers the archive that it made
+abbrev pub rotate_finish_answer : SessionBookState → Result Archive SessionFault
+rotate_finish_answer b = finished_of (length b.threads) b.pending
+
+abbrev pub archived : Result Archive SessionFault → SessionBookState → SessionBookState
+archived (Ok archive) b = record b { pending = None; archives = b.archives ++ archive ∷ [] }
+archived (Err fault) b = b
+
+abbrev pub after_rotate_finish : SessionBookState → SessionBookState
+after_rotate_finish b = archived (rotate_finish_answer b) b

@@ -1,0 +1,66 @@
+//! How much an archive holds.
+
+ghost use Rattle.std.specs.Prelude.{◌≡◌, ◌<◌, ◌^◌};
+ghost use Rattle.tr_session.specs.Sizes.{part_packets, part_records, part_bytes, archive_packets, archive_records, archive_bytes};
+ghost use Rattle.tr_stream.specs.Rules.{by_state};
+
+use crate::session::Session;
+use std::alloc::Allocator;
+use tr_stream::Stream;
+
+/// How many packets an archive holds over all streams, how many records these have, and how many bytes.
+#[derive(Clone, Copy, Debug, PartialEq, Eq)]
+pub struct ArchiveSize {
+    /// How many packets.
+    pub packets: u128,
+    /// How many records the packets have.
+    pub records: u128,
+    /// How many bytes their texts have.
+    pub bytes: u128,
+}
+
+/// How much a stream's part of a chunk holds.
+fn part_size<A: Allocator>(stream: &Stream<A>, id: u64) -> ArchiveSize
+    ensures packets { result.packets ≡ part_packets (by_state.parted id stream.now) }
+    ensures records { result.records ≡ part_records (by_state.parted id stream.now) }
+    ensures bytes { result.bytes ≡ part_bytes (by_state.parted id stream.now) }
+    ensures few { (result.packets < 2 ^ 64) × (result.records < 2 ^ 64) × (result.bytes < 2 ^ 80) }
+{
+    match stream.part(id) {
+        Some(part) => ArchiveSize {
+            packets: part.packets().len() as u128,
+            records: u128::from(part.records()),
+            bytes: part.bytes(),
+        },
+        None => ArchiveSize {
+            packets: 0,
+            records: 0,
+            bytes: 0,
+        },
+    }
+}
+
+impl<A: Allocator> Session<A> {
+    /// How much the archive of this number holds: the parts of that chunk, over all streams.
+    pub fn archive_size(&self, id: u64) -> ArchiveSize
+        ensures packets { result.packets ≡ archive_packets by_state id self.now }
+        ensures records { result.records ≡ archive_records by_state id self.now }
+        ensures bytes { result.bytes ≡ archive_bytes by_state id self.now }
+    {
+        let mut size = ArchiveSize {
+            packets: 0,
+            records: 0,
+            bytes: 0,
+        };
+        'streams: for i in 0..self.streams() {
+            let Some(stream) = self.stream(i) else {
+                unreachable!()
+            };
+            let part = part_size(stream, id);
+            size.packets += part.packets;
+            size.records += part.records;
+            size.bytes += part.bytes;
+        }
+        size
+    }
+}

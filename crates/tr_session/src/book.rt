@@ -1,0 +1,498 @@
+//! The book of a session: what it keeps beside its streams.
+
+ghost use Rattle.std.specs.Prelude.{◌≡◌, ◌≢◌, ◌≤◌, ◌<◌, false, Some, Ok, Err, IsOk, IfOk, OnOk, IfErr, OnErr, is_some, length, option_copied, option_map};
+ghost use Rattle.tr_session.specs.Book.{new_book};
+ghost use Rattle.tr_session.specs.BookSteps.{most_channels, most_streams, channel_named, channel_added, with_channel, thread_place, thread_noted, with_thread, channel_of, start_answer, after_start, stop_answer, after_stop, switch_answer, rotate_begin_answer, rotating, after_rotate_begin, cut_moment, with_cut, note_cut_answer, after_note_cut, rotate_finish_answer, after_rotate_finish};
+
+use crate::archive::{Archive, Pending};
+use crate::channel::Channel;
+use crate::faults::SessionFault;
+use crate::state::State;
+use indexmap::IndexMap;
+use std::alloc::{AllocError, Allocator, Global};
+use std::hash::{BuildHasherDefault, FoldHasher};
+use std::marker::Model;
+use tr_book::{Geometry, Mode};
+use tr_chunk::OffsetMinutes;
+use tr_record::Moment;
+use tr_stream::SessionMode;
+use uuid::Uuid;
+
+/// How many channels a session has at most.
+const MOST_CHANNELS: usize = 8;
+
+/// How many streams a session has at most.
+const MOST_STREAMS: usize = 256;
+
+/// What a session keeps beside its streams: its channels and the threads that were added to them, what it allows, its
+/// rotations and its archives. Contracts see a `SessionBookState`.
+#[derive(Drop)]
+pub struct SessionBook<A: Allocator = Global> {
+    alloc: A,
+    uuid: Uuid,
+    offset: OffsetMinutes,
+    mode: SessionMode,
+    state: State,
+    rotated: bool,
+    last: Moment,
+    begin: Moment,
+    channels: IndexMap<String<A>, Channel, BuildHasherDefault<FoldHasher>, A>,
+    threads: Vec<usize, A>,
+    pending: Option<Pending>,
+    archives: Vec<Archive, A>,
+}
+
+impl<A: Allocator> Model for SessionBook<A> {
+    ghost use Rattle.tr_session.specs.Book.{SessionBookState};
+    ghost use Rattle.tr_session.specs.Names.{by_name};
+
+    ghost Value = { SessionBookState };
+
+    ghost view = { λ b. record {
+      uuid = b.uuid;
+      offset = b.offset;
+      mode = b.mode;
+      state = b.state;
+      rotated = b.rotated;
+      last = b.last;
+      begin = b.begin;
+      channels = by_name b.channels.entries;
+      threads = b.threads.items;
+      pending = b.pending;
+      archives = b.archives.items;
+    } };
+
+    ghost use Rattle.std.specs.Prelude.{◌≡◌, ◌<◌, true, is_some, vec_capacity, vec_len};
+    ghost use Rattle.tr_session.specs.BookSteps.{IsWithinLimits};
+
+    // the place of the pending archive is reserved
+    ghost invariant = { λ b.
+        IsWithinLimits (record {
+          uuid = b.uuid;
+          offset = b.offset;
+          mode = b.mode;
+          state = b.state;
+          rotated = b.rotated;
+          last = b.last;
+          begin = b.begin;
+          channels = by_name b.channels.entries;
+          threads = b.threads.items;
+          pending = b.pending;
+          archives = b.archives.items;
+        })
+        × (is_some b.pending ≡ true → vec_len b.archives < vec_capacity b.archives) };
+}
+
+impl<A: Allocator + Copy> SessionBook<A> {
+    /// A book in which nothing is noted. It takes no memory.
+    pub fn new(alloc: A, uuid: Uuid, offset: OffsetMinutes, mode: SessionMode) -> SessionBook<A>
+        ensures { result ≡ new_book uuid offset mode }
+    {
+        SessionBook {
+            alloc,
+            uuid,
+            offset,
+            mode,
+            state: State::New,
+            rotated: false,
+            last: Moment::zero(),
+            begin: Moment::zero(),
+            channels: IndexMap::new(alloc),
+            threads: Vec::new(alloc),
+            pending: None,
+            archives: Vec::new(alloc),
+        }
+    }
+
+    /// Adds a channel, whose streams have rings of `count` sub-buffers of `size` bytes each.
+    ///
+    /// # Errors
+    ///
+    /// `AlreadyStarted`, `NameTaken`, `TooMany`, `BadGeometry`, `NoMemory`: nothing changed.
+    pub fn add_channel(
+        &mut self,
+        name: &str,
+        size: u64,
+        count: u64,
+        mode: Mode,
+    ) -> Result<(), SessionFault>
+        ensures ok { OnOk result (channel_added name.now size count mode self.old ≡ Ok self.new) }
+        ensures refused { IfErr result (λ fault. fault ≢ SessionFault.NoMemory → channel_added name.now size count mode self.old ≡ Err fault) }
+        ensures memory { result ≡ Err SessionFault.NoMemory → IsOk (channel_added name.now size count mode self.old) }
+        ensures streams { self.new.threads ≡ self.old.threads }
+        ensures unchanged { OnErr result (self.new ≡ self.old) }
+    {
+        let channel = self.channel_for(name, size, count, mode)?;
+        Ok(self.keep_channel(name, channel)?)
+    }
+
+    /// Puts a channel of a new name behind the others.
+    fn keep_channel(&mut self, name: &str, channel: Channel) -> Result<(), AllocError>
+        requires free { is_some (channel_named name.now self.old) ≡ false }
+        requires room { length self.old.channels < most_channels }
+        ensures ok { OnOk result (self.new ≡ with_channel name.now channel self.old) }
+        ensures err { OnErr result (self.new ≡ self.old) }
+    {
+        let name = String::from_str(self.alloc, name)?;
+        self.channels.insert(name, channel)?;
+        Ok(())
+    }
+
+    /// Notes a thread of a channel, and answers with the number of its stream.
+    ///
+    /// # Errors
+    ///
+    /// `AlreadyStarted`, `NoChannel`, `TooMany`, `NoMemory`: nothing changed.
+    pub fn add_thread(&mut self, channel: &str) -> Result<u64, SessionFault>
+        ensures number { IfOk result (λ number. number ≡ length self.old.threads) }
+        ensures ok { OnOk result (thread_noted channel.now self.old ≡ Ok self.new) }
+        ensures refused { IfErr result (λ fault. fault ≢ SessionFault.NoMemory → thread_noted channel.now self.old ≡ Err fault) }
+        ensures memory { result ≡ Err SessionFault.NoMemory → IsOk (thread_noted channel.now self.old) }
+        ensures unchanged { OnErr result (self.new ≡ self.old) }
+    {
+        let (place, _) = self.channel_at(channel)?;
+        let number = self.threads.len() as u64;
+        self.keep_thread(place)?;
+        Ok(number)
+    }
+
+    /// Puts a thread of the channel at this place behind the others.
+    pub fn keep_thread(&mut self, place: usize) -> Result<(), AllocError>
+        requires { length self.old.threads < most_streams }
+        ensures ok { OnOk result (self.new ≡ with_thread place self.old) }
+        ensures err { OnErr result (self.new ≡ self.old) }
+    {
+        self.threads.push(place)?;
+        Ok(())
+    }
+
+    /// Begins a rotation at a moment, and answers with the number of the chunk that it archives. The place of its archive
+    /// is reserved.
+    ///
+    /// # Errors
+    ///
+    /// `NeverStarted`, `RotationPending`, `AlreadyRotated`, `NoMemory`: nothing changed.
+    pub fn rotate_begin(&mut self, moment: Moment) -> Result<u64, SessionFault>
+        ensures value { result ≢ Err SessionFault.NoMemory →
+            (result ≡ rotate_begin_answer self.old) × (self.new ≡ after_rotate_begin moment self.old) }
+        ensures no_memory { result ≡ Err SessionFault.NoMemory → self.new ≡ self.old }
+        ensures memory { result ≡ Err SessionFault.NoMemory → IsOk (rotate_begin_answer self.old) }
+        ensures streams { self.new.threads ≡ self.old.threads }
+    {
+        let id = self.next_chunk()?;
+        self.begin_rotation(id, moment)?;
+        Ok(id)
+    }
+
+    /// Ends the current chunk, and begins the next one.
+    fn begin_rotation(&mut self, id: u64, moment: Moment) -> Result<(), AllocError>
+        requires { id ≡ length self.old.archives }
+        ensures ok { OnOk result (self.new ≡ rotating moment self.old) }
+        ensures err { OnErr result (self.new ≡ self.old) }
+    {
+        self.archives.reserve(1)?;
+        let end = moment.later(self.last);
+        let archive = Archive {
+            id,
+            begin: self.begin,
+            end,
+        };
+        self.pending = Some(Pending { archive, cut: 0 });
+        self.rotated = true;
+        self.last = end;
+        self.begin = end;
+        Ok(())
+    }
+}
+
+impl<A: Allocator> SessionBook<A> {
+    /// The channel that is to be added, or why there is none.
+    fn channel_for(
+        &self,
+        name: &str,
+        size: u64,
+        count: u64,
+        mode: Mode,
+    ) -> Result<Channel, SessionFault>
+        ensures ok { IfOk result (λ channel. channel_added name.now size count mode self.now ≡ Ok (with_channel name.now channel self.now)) }
+        ensures free { OnOk result (is_some (channel_named name.now self.now) ≡ false) }
+        ensures room { OnOk result (length self.now.channels < most_channels) }
+        ensures err { IfErr result (λ fault. channel_added name.now size count mode self.now ≡ Err fault) }
+    {
+        if self.state != State::New {
+            return Err(SessionFault::AlreadyStarted);
+        }
+        if self.channel(name).is_some() {
+            return Err(SessionFault::NameTaken);
+        }
+        if self.channels.len() >= MOST_CHANNELS {
+            return Err(SessionFault::TooMany);
+        }
+        let Ok(geometry) = Geometry::new(size, count) else {
+            return Err(SessionFault::BadGeometry);
+        };
+        Ok(Channel { geometry, mode })
+    }
+
+    /// The channel that a thread is to be added to, with its place, or why there is none.
+    pub fn channel_at(&self, name: &str) -> Result<(usize, Channel), SessionFault>
+        ensures place { IfOk result (λ found. thread_place name.now self.now ≡ Ok found.0) }
+        ensures channel { IfOk result (λ found. channel_named name.now self.now ≡ Some found.1) }
+        ensures room { OnOk result (length self.now.threads < most_streams) }
+        ensures err { IfErr result (λ fault. thread_place name.now self.now ≡ Err fault) }
+    {
+        if self.state != State::New {
+            return Err(SessionFault::AlreadyStarted);
+        }
+        let Some((place, _, channel)) = self.channels.get_full(name) else {
+            return Err(SessionFault::NoChannel);
+        };
+        if self.streams() >= MOST_STREAMS {
+            return Err(SessionFault::TooMany);
+        }
+        Ok((place, *channel))
+    }
+
+    /// The number of the chunk that a rotation would archive, or why there can be no rotation.
+    fn next_chunk(&self) -> Result<u64, SessionFault>
+        ensures { result ≡ rotate_begin_answer self.now }
+    {
+        if self.state == State::New {
+            return Err(SessionFault::NeverStarted);
+        }
+        if self.pending.is_some() {
+            return Err(SessionFault::RotationPending);
+        }
+        if self.state == State::Inactive && self.rotated {
+            return Err(SessionFault::AlreadyRotated);
+        }
+        Ok(self.archives.len() as u64)
+    }
+
+    /// Starts the session at a moment. Its first start begins the first chunk. It takes no memory.
+    ///
+    /// # Errors
+    ///
+    /// `RotationPending`, `AlreadyActive`: nothing changed.
+    pub fn start(&mut self, moment: Moment) -> Result<(), SessionFault>
+        ensures answer { result ≡ start_answer self.old }
+        ensures after { self.new ≡ after_start moment self.old }
+        ensures streams { self.new.threads ≡ self.old.threads }
+    {
+        if self.pending.is_some() {
+            return Err(SessionFault::RotationPending);
+        }
+        if self.state == State::Active {
+            return Err(SessionFault::AlreadyActive);
+        }
+        self.last = moment.later(self.last);
+        if self.state == State::New {
+            self.begin = self.last;
+        }
+        self.state = State::Active;
+        Ok(())
+    }
+
+    /// Stops the session. It takes no memory.
+    ///
+    /// # Errors
+    ///
+    /// `RotationPending`, `NotActive`: nothing changed.
+    pub fn stop(&mut self) -> Result<(), SessionFault>
+        ensures answer { result ≡ stop_answer self.old }
+        ensures after { self.new ≡ after_stop self.old }
+        ensures streams { self.new.threads ≡ self.old.threads }
+    {
+        if self.pending.is_some() {
+            return Err(SessionFault::RotationPending);
+        }
+        if self.state != State::Active {
+            return Err(SessionFault::NotActive);
+        }
+        self.state = State::Inactive;
+        self.rotated = false;
+        Ok(())
+    }
+
+    /// Whether the stream of this number may be switched: on while the session is active, off while it is stopped.
+    ///
+    /// # Errors
+    ///
+    /// `NoStream`; `NotActive` to switch it on, `AlreadyActive` to switch it off.
+    pub fn can_switch(&self, active: bool, i: u64) -> Result<(), SessionFault>
+        ensures { result ≡ switch_answer active i self.now }
+    {
+        if i >= self.threads.len() as u64 {
+            return Err(SessionFault::NoStream);
+        }
+        if active && self.state != State::Active {
+            return Err(SessionFault::NotActive);
+        }
+        if !active && self.state != State::Inactive {
+            return Err(SessionFault::AlreadyActive);
+        }
+        Ok(())
+    }
+
+    /// The moment at which the stream of this number is to be cut now: the end of the pending rotation. Streams are cut
+    /// in order of number.
+    ///
+    /// # Errors
+    ///
+    /// `NoStream`, `NotPending` where none is pending or it has cut the stream, `CutMissing` where one of a smaller number
+    /// isn't cut.
+    pub fn cut_moment(&self, i: u64) -> Result<Moment, SessionFault>
+        ensures { result ≡ cut_moment i self.now }
+    {
+        if i >= self.threads.len() as u64 {
+            return Err(SessionFault::NoStream);
+        }
+        let Some(pending) = self.pending else {
+            return Err(SessionFault::NotPending);
+        };
+        if i < pending.cut {
+            return Err(SessionFault::NotPending);
+        }
+        if pending.cut < i {
+            return Err(SessionFault::CutMissing);
+        }
+        Ok(pending.archive.end)
+    }
+
+    /// Notes that the pending rotation has cut the stream of this number. It takes no memory.
+    ///
+    /// # Errors
+    ///
+    /// Those of `cut_moment`: nothing changed.
+    pub fn note_cut(&mut self, i: u64) -> Result<(), SessionFault>
+        ensures answer { result ≡ note_cut_answer i self.old }
+        ensures after { self.new ≡ after_note_cut i self.old }
+    {
+        match self.cut_moment(i) {
+            Ok(_) => {
+                self.count_cut(i);
+                Ok(())
+            }
+            Err(fault) => Err(fault),
+        }
+    }
+
+    /// One stream more is cut, that of this number.
+    pub fn count_cut(&mut self, i: u64)
+        requires { IsOk (cut_moment i self.old) }
+        ensures { self.new ≡ with_cut self.old }
+    {
+        if let Some(pending) = &mut self.pending {
+            pending.cut = i + 1;
+        }
+    }
+
+    /// Ends the pending rotation, and answers with the archive that it made. It takes no memory.
+    ///
+    /// # Errors
+    ///
+    /// `NotPending`, `CutMissing`: nothing changed.
+    pub fn rotate_finish(&mut self) -> Result<Archive, SessionFault>
+        ensures answer { result ≡ rotate_finish_answer self.old }
+        ensures after { self.new ≡ after_rotate_finish self.old }
+        ensures streams { self.new.threads ≡ self.old.threads }
+    {
+        let Some(pending) = self.pending else {
+            return Err(SessionFault::NotPending);
+        };
+        if pending.cut < self.threads.len() as u64 {
+            return Err(SessionFault::CutMissing);
+        }
+        self.pending = None;
+        self.archives.push_reserved(pending.archive);
+        Ok(pending.archive)
+    }
+
+    /// The identifier of the trace.
+    pub fn uuid(&self) -> Uuid
+        ensures { result ≡ self.now.uuid }
+    {
+        self.uuid
+    }
+
+    /// How many minutes the clock of archives' names is ahead of UTC.
+    pub fn offset(&self) -> OffsetMinutes
+        ensures { result ≡ self.now.offset }
+    {
+        self.offset
+    }
+
+    /// What becomes of packets.
+    pub fn mode(&self) -> SessionMode
+        ensures { result ≡ self.now.mode }
+    {
+        self.mode
+    }
+
+    /// What the session allows.
+    pub fn state(&self) -> State
+        ensures { result ≡ self.now.state }
+    {
+        self.state
+    }
+
+    /// The last moment that was stored: 0 before the first start.
+    pub fn last(&self) -> Moment
+        ensures { result ≡ self.now.last }
+    {
+        self.last
+    }
+
+    /// The moment at which the current chunk began: 0 before the first start.
+    pub fn begin(&self) -> Moment
+        ensures { result ≡ self.now.begin }
+    {
+        self.begin
+    }
+
+    /// How many channels there are.
+    pub fn channels(&self) -> usize
+        ensures value { result ≡ length self.now.channels }
+        ensures within { result ≤ most_channels }
+    {
+        self.channels.len()
+    }
+
+    /// The channel of this name.
+    pub fn channel(&self, name: &str) -> Option<&Channel>
+        ensures { option_copied result ≡ channel_named name.now self.now }
+    {
+        self.channels.get(name)
+    }
+
+    /// How many streams there are.
+    pub fn streams(&self) -> usize
+        ensures value { result ≡ length self.now.threads }
+        ensures within { result ≤ most_streams }
+    {
+        self.threads.len()
+    }
+
+    /// The name of the channel of the stream of this number.
+    pub fn channel_of(&self, i: u64) -> Option<&str>
+        ensures { option_map (λ n. n.now) result ≡ channel_of i self.now }
+    {
+        let place = self.threads.get(i as usize)?;
+        let (name, _) = self.channels.get_index(*place)?;
+        Some(name.as_str())
+    }
+
+    /// The archives that were made, in order.
+    pub fn archives(&self) -> &[Archive]
+        ensures { result.now ≡ self.now.archives }
+    {
+        self.archives.as_slice()
+    }
+
+    /// The rotation that has begun and isn't finished.
+    pub fn pending(&self) -> Option<Pending>
+        ensures { result ≡ self.now.pending }
+    {
+        self.pending
+    }
+}

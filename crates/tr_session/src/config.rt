@@ -1,0 +1,35 @@
+//! What a session is made with.
+
+use std::alloc::{Allocator, Global};
+use tr_book::Mode;
+use tr_chunk::OffsetMinutes;
+use tr_stream::SessionMode;
+use uuid::Uuid;
+
+/// A channel that is to be added, and how many threads it gets.
+#[derive(Drop)]
+pub struct ChannelConfig<A: Allocator = Global> {
+    /// The name of the channel.
+    pub name: String<A>,
+    /// The size of a sub-buffer in bytes.
+    pub size: u64,
+    /// How many sub-buffers a ring has.
+    pub count: u64,
+    /// What a full ring does.
+    pub mode: Mode,
+    /// How many threads are added to it.
+    pub threads: u64,
+}
+
+/// What a session is made with: its channels are added in order, each before its threads.
+#[derive(Drop)]
+pub struct Config<A: Allocator = Global> {
+    /// The identifier of the trace.
+    pub uuid: Uuid,
+    /// How many minutes the clock of archives' names is ahead of UTC.
+    pub offset: OffsetMinutes,
+    /// What becomes of packets.
+    pub mode: SessionMode,
+    /// The channels.
+    pub channels: Vec<ChannelConfig<A>, A>,
+}

@@ -1,0 +1,76 @@
+//! The events of a session as values.
+
+ghost use Rattle.std.specs.Prelude.{◌≡◌};
+ghost use Rattle.tr_session.specs.Faults.{answer_wants_memory};
+
+use crate::archive::Archive;
+use crate::faults::{SessionFault, StepFault};
+use std::alloc::{Allocator, Global};
+use tr_record::Moment;
+use tr_stream::{CutDone, Offered, Payload, Taken};
+
+/// What is done to one stream of a session, by its number, or to the session itself.
+#[derive(Drop)]
+pub enum Event<A: Allocator = Global> {
+    /// An offer to a stream at a moment, of an id and a payload.
+    Offer(u64, Moment, u32, Payload<A>),
+    /// A take from a stream.
+    Take(u64),
+    /// The pending rotation cuts a stream.
+    Cut(u64),
+    /// A stream of an active session takes offers from now on.
+    Start(u64),
+    /// A stream of a stopped session takes no offers from now on.
+    Stop(u64),
+    /// The session starts at a moment.
+    SessionStart(Moment),
+    /// The session stops.
+    SessionStop,
+    /// A rotation begins at a moment.
+    RotateBegin(Moment),
+    /// The pending rotation ends.
+    RotateFinish,
+}
+
+/// What an event answered.
+#[derive(Clone, Copy, Debug, PartialEq, Eq)]
+pub enum Answer {
+    /// To an offer.
+    Offer(Result<Offered, StepFault>),
+    /// To a take.
+    Take(Result<Taken, StepFault>),
+    /// To a cut.
+    Cut(Result<CutDone, StepFault>),
+    /// To the start of a stream.
+    Start(Result<(), SessionFault>),
+    /// To the stop of a stream.
+    Stop(Result<(), SessionFault>),
+    /// To the start of the session.
+    SessionStart(Result<(), SessionFault>),
+    /// To the stop of the session.
+    SessionStop(Result<(), SessionFault>),
+    /// To the begin of a rotation: the number of the chunk that it archives.
+    RotateBegin(Result<u64, SessionFault>),
+    /// To the end of a rotation.
+    RotateFinish(Result<Archive, SessionFault>),
+}
+
+impl Answer {
+    /// Whether memory was refused.
+    pub fn wants_memory(&self) -> bool
+        ensures { result ≡ answer_wants_memory self.now }
+    {
+        match self {
+            Answer::Offer(Err(fault)) => fault.wants_memory(),
+            Answer::Take(Err(fault)) => fault.wants_memory(),
+            Answer::Cut(Err(fault)) => fault.wants_memory(),
+            Answer::Start(Err(fault)) => fault.wants_memory(),
+            Answer::Stop(Err(fault)) => fault.wants_memory(),
+            Answer::SessionStart(Err(fault)) => fault.wants_memory(),
+            Answer::SessionStop(Err(fault)) => fault.wants_memory(),
+            Answer::RotateBegin(Err(fault)) => fault.wants_memory(),
+            Answer::RotateFinish(Err(fault)) => fault.wants_memory(),
+            _ => false,
+        }
+    }
+}

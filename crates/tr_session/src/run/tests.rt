@@ -1,0 +1,180 @@
+use super::*;
+use crate::{Archive, StepFault};
+use std::alloc::Global;
+use std::test::Fail;
+use tr_book::Mode;
+use tr_chunk::OffsetMinutes;
+use tr_record::Moment;
+use tr_stream::{CutDone, Fate, Offered, Payload, SessionMode, Taken};
+use uuid::Uuid;
+
+fn moment(nanoseconds: u64) -> Result<Moment, Fail> {
+    Ok(Moment::new(nanoseconds).ok_or("a moment")?)
+}
+
+/// One channel, of a sub-buffer's size and so many threads.
+fn config(alloc: Global, size: u64, threads: u64) -> Result<Config, Fail> {
+    let mut channels = Vec::new(alloc);
+    channels.push(ChannelConfig {
+        name: String::from_str(alloc, "c")?,
+        size,
+        count: 2,
+        mode: Mode::Discard,
+        threads,
+    })?;
+    let offset = OffsetMinutes::new(0).ok_or("an offset")?;
+    Ok(Config {
+        uuid: Uuid::nil(),
+        offset,
+        mode: SessionMode::Local,
+        channels,
+    })
+}
+
+/// An offer of 50 bytes: two of them fit a sub-buffer of 256 bytes, and no third.
+fn offer(alloc: Global, i: u64, at: u64) -> Result<Event, Fail> {
+    let mut bytes = Vec::new(alloc);
+    for _ in 0..50 {
+        bytes.push(b'a')?;
+    }
+    Ok(Event::Offer(i, moment(at)?, 1, Payload::new(bytes)))
+}
+
+fn stored(serial: u64, seq: u64) -> Answer {
+    Answer::Offer(Ok(Offered::Stored { serial, seq }))
+}
+
+/// Two streams, up to the cut of the first one.
+fn until_the_first_cut(alloc: Global) -> Result<Vec<Event>, Fail> {
+    let mut events = Vec::new(alloc);
+    events.push(Event::SessionStart(moment(0)?))?;
+    events.push(Event::Start(0))?;
+    events.push(Event::Start(1))?;
+    events.push(offer(alloc, 0, 1)?)?;
+    events.push(offer(alloc, 1, 1)?)?;
+    events.push(Event::RotateBegin(moment(10)?))?;
+    events.push(Event::Cut(0))?;
+    Ok(events)
+}
+
+#[test]
+fn a_rotation_begins(rt: HostRuntime) -> Result<(), Fail> {
+    let config = config(rt.alloc(), 256, 2)?;
+    let events = until_the_first_cut(rt.alloc())?;
+    let (session, answers) = run_session(rt.alloc(), &config, events.as_slice())?;
+    let done = CutDone {
+        chunk: 0,
+        packets: 1,
+        records: 1,
+    };
+    let wanted = [
+        Answer::SessionStart(Ok(())),
+        Answer::Start(Ok(())),
+        Answer::Start(Ok(())),
+        stored(0, 0),
+        stored(0, 0),
+        Answer::RotateBegin(Ok(0)),
+        Answer::Cut(Ok(done)),
+    ];
+    assert_eq!(rt; answers.as_slice(), wanted.as_slice());
+    assert_eq!(rt; session.book().pending().ok_or("a rotation")?.cut, 1);
+    Ok(())
+}
+
+// the first stream is cut, the second isn't: what each takes goes to its own chunk
+#[test]
+fn takes_during_a_rotation(rt: HostRuntime) -> Result<(), Fail> {
+    let alloc = rt.alloc();
+    let config = config(alloc, 256, 2)?;
+    let mut events = until_the_first_cut(alloc)?;
+    for at in 11..14 {
+        events.push(offer(alloc, 0, at)?)?;
+    }
+    events.push(Event::Take(0))?;
+    events.push(offer(alloc, 1, 11)?)?;
+    events.push(offer(alloc, 1, 12)?)?;
+    events.push(Event::Take(1))?;
+    events.push(Event::RotateFinish)?;
+    let (session, answers) = run_session(alloc, &config, events.as_slice())?;
+    let wanted = [
+        stored(1, 1),
+        stored(2, 1),
+        stored(3, 2),
+        Answer::Take(Ok(Taken {
+            seq: 1,
+            count: 2,
+            chunk: 1,
+        })),
+        stored(1, 0),
+        stored(2, 1),
+        Answer::Take(Ok(Taken {
+            seq: 0,
+            count: 2,
+            chunk: 0,
+        })),
+        Answer::RotateFinish(Err(SessionFault::CutMissing)),
+    ];
+    assert_eq!(rt;
+        answers.as_slice().get(7..).ok_or("answers")?,
+        wanted.as_slice()
+    );
+    assert_eq!(rt;
+        session.fate_of(0, 1),
+        Ok(Some(Fate::InChunk { chunk: 1, seq: 1 }))
+    );
+    assert_eq!(rt; session.fate_of(0, 3), Ok(Some(Fate::InRing { seq: 2 })));
+    assert_eq!(rt; session.fate_of(1, 2), Ok(Some(Fate::InRing { seq: 1 })));
+    Ok(())
+}
+
+#[test]
+fn a_rotation_ends(rt: HostRuntime) -> Result<(), Fail> {
+    let config = config(rt.alloc(), 256, 2)?;
+    let mut events = until_the_first_cut(rt.alloc())?;
+    events.push(Event::Cut(1))?;
+    events.push(Event::Cut(2))?;
+    events.push(Event::RotateFinish)?;
+    events.push(Event::SessionStop)?;
+    events.push(Event::Start(0))?;
+    events.push(Event::Stop(1))?;
+    let (session, answers) = run_session(rt.alloc(), &config, events.as_slice())?;
+    let archive = Archive {
+        id: 0,
+        begin: moment(0)?,
+        end: moment(10)?,
+    };
+    let wanted = [
+        Answer::Cut(Ok(CutDone {
+            chunk: 0,
+            packets: 1,
+            records: 1,
+        })),
+        Answer::Cut(Err(StepFault::Session(SessionFault::NoStream))),
+        Answer::RotateFinish(Ok(archive)),
+        Answer::SessionStop(Ok(())),
+        Answer::Start(Err(SessionFault::NotActive)),
+        Answer::Stop(Ok(())),
+    ];
+    assert_eq!(rt;
+        answers.as_slice().get(7..).ok_or("answers")?,
+        wanted.as_slice()
+    );
+    assert_eq!(rt; session.book().archives(), [archive].as_slice());
+    Ok(())
+}
+
+#[test]
+fn a_configuration_is_refused(rt: HostRuntime) -> Result<(), Fail> {
+    let bad = config(rt.alloc(), 255, 1)?;
+    assert!(rt;
+        run_session(rt.alloc(), &bad, &[]).is_err_and(|fault| fault == SessionFault::BadGeometry)
+    );
+    let many = config(rt.alloc(), 256, 257)?;
+    assert!(rt;
+        run_session(rt.alloc(), &many, &[]).is_err_and(|fault| fault == SessionFault::TooMany)
+    );
+    let most = config(rt.alloc(), 256, 256)?;
+    let (session, answers) = run_session(rt.alloc(), &most, &[])?;
+    assert_eq!(rt; (session.streams(), answers.len()), (256, 0));
+    Ok(())
+}
