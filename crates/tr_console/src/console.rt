@@ -1,6 +1,6 @@
 //! The sessions of a script, and the answer to each line.
 
-ghost use Rattle.std.specs.Prelude.{◌≡◌, ◌≤◌, ◌∷◌, ◌++◌, [], IfOk, codes, map, option_map, slice_get};
+ghost use Rattle.std.specs.Prelude.{◌≡◌, ◌≤◌, ◌∷◌, ◌++◌, [], IfOk, codes, map, option_map, length, slice_get};
 ghost use Rattle.tr_command.specs.Language.{asked_of};
 ghost use Rattle.std.specs.String.{string_bytes};
 ghost use Rattle.tr_command.specs.Asked.{IsOffset, asked_by, moment_in, offset_in};
@@ -332,6 +332,7 @@ impl<A: Allocator + Copy> Console<A> {
         text.push_str("\n")?;
         Ok(Reply::done(text))
     }
+
     /// `archives`
     fn archives(&self, session: &str) -> Result<Reply<A>, AllocError>
         ensures { IfOk result (Does (archives_answer by_state self.now session.now) self.now) }
@@ -345,6 +346,13 @@ impl<A: Allocator + Copy> Console<A> {
 }
 
 impl<A: Allocator> Console<A> {
+    /// How many sessions there are.
+    pub fn sessions(&self) -> usize
+        ensures { result ≡ length self.now }
+    {
+        self.sessions.len()
+    }
+
     /// The session of this number in the order of creation, from 0, with its name. None where there are not so many.
     pub fn session(&self, k: usize) -> Option<(&str, &Session<A>)>
         ensures { option_map (λ e. (e.0.now, e.1.now)) result ≡ slice_get self.now k }

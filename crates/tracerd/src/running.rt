@@ -14,10 +14,10 @@ fn write_all<D: Disk>(
     dir: &str,
     console: &Console,
 ) -> Result<(), ExportFault> {
-    let mut k = 0;
-    while let Some((name, session)) = console.session(k) {
-        write_archives(alloc, disk, dir, name, session)?;
-        k += 1;
+    for k in 0..console.sessions() {
+        if let Some((name, session)) = console.session(k) {
+            write_archives(alloc, disk, dir, name, session)?;
+        }
     }
     Ok(())
 }
