@@ -7,7 +7,7 @@
 //! so many times.
 //! `tr_bench fill LENGTH ROUNDS` fills the rings of a new session with records of so long a payload, so many times;
 //! `tr_bench rotate LENGTH ROUNDS` rotates each of these sessions too, and also prints how long the quickest rotation took.
-//! All print what they counted and a sum over all that they were answered.
+//! All print what they counted and, but for `fill`, a sum over all that they were answered.
 #![tactic(auto)]
 
 mod cases;
