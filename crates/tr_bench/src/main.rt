@@ -1,16 +1,20 @@
-//! What `bench/run` measures of the daemon's own crates: parsing alone, offers to one stream, and reading packets again.
+//! What `bench/run` measures of the daemon's own crates: parsing alone, offers to one stream, reading packets again, and
+//! rotations.
 //!
 //! `tr_bench parse` reads and parses the lines of a script from standard input, and does nothing of it.
 //! `tr_bench offers CASE ROUNDS` makes 100,000 offers to a new stream, so many times.
 //! `tr_bench decode ROUNDS` and `tr_bench audit ROUNDS` read packets from standard input, and then decode or audit them
 //! so many times.
-//! All print what they counted and a sum over all that they were answered.
+//! `tr_bench fill LENGTH ROUNDS` fills the rings of a new session with records of so long a payload, so many times;
+//! `tr_bench rotate LENGTH ROUNDS` rotates each of these sessions too, and also prints how long the quickest rotation took.
+//! All print what they counted and, but for `fill`, a sum over all that they were answered.
 #![tactic(auto)]
 
 mod cases;
 mod lines;
 mod offers;
 mod packets;
+mod rotations;
 mod sums;
 #[cfg(test)]
 mod tests;
@@ -18,6 +22,7 @@ mod tests;
 use cases::Case;
 use std::alloc::Global;
 use std::process::ExitCode;
+use std::time::CpuClock;
 use std::{env, io};
 use tr_command::number;
 use tr_record::ReaderSource;
@@ -90,6 +95,43 @@ fn audit(rt: &impl Print, alloc: Global, bytes: &[u8], rounds: u64) -> io::Resul
     }
 }
 
+fn rotate(
+    rt: &(impl Print + CpuClock),
+    alloc: Global,
+    length: u64,
+    rounds: u64,
+) -> io::Result<ExitCode> {
+    let payload = vec![in alloc; 0x61; length as usize]?;
+    match rotations::rotate_rounds(rt, alloc, &payload, rounds) {
+        Ok((t, quickest)) => {
+            println!(rt;
+                "packets {} records {} bytes {} sum {}",
+                t.packets, t.records, t.bytes, t.sum
+            )?;
+            println!(rt; "quickest {quickest}")?;
+            Ok(ExitCode::SUCCESS)
+        }
+        Err(fault) => {
+            println!(rt; "stopped {fault:?}")?;
+            Ok(ExitCode::FAILURE)
+        }
+    }
+}
+
+fn fill(rt: &impl Print, alloc: Global, length: u64, rounds: u64) -> io::Result<ExitCode> {
+    let payload = vec![in alloc; 0x61; length as usize]?;
+    match rotations::fill_rounds(alloc, &payload, rounds) {
+        Ok(records) => {
+            println!(rt; "records {records}")?;
+            Ok(ExitCode::SUCCESS)
+        }
+        Err(fault) => {
+            println!(rt; "stopped {fault:?}")?;
+            Ok(ExitCode::FAILURE)
+        }
+    }
+}
+
 fn main(rt: HostRuntime) -> io::Result<ExitCode> {
     let alloc: Global = rt.alloc();
     let mut given = Vec::new(alloc);
@@ -106,6 +148,13 @@ fn main(rt: HostRuntime) -> io::Result<ExitCode> {
             (Some(case), Some(rounds)) => offer(&rt, alloc, &case, rounds),
             _ => Ok(ExitCode::from(2)),
         },
+        [what @ ("fill" | "rotate"), length, rounds] => {
+            match (*what, number(length, 4_000), number(rounds, 1_000_000)) {
+                ("fill", Some(length), Some(rounds)) => fill(&rt, alloc, length, rounds),
+                ("rotate", Some(length), Some(rounds)) => rotate(&rt, alloc, length, rounds),
+                _ => Ok(ExitCode::from(2)),
+            }
+        }
         [what @ ("decode" | "audit"), rounds] => {
             let Some(rounds) = number(rounds, 1_000_000) else {
                 return Ok(ExitCode::from(2));

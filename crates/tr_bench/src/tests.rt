@@ -1,9 +1,10 @@
 //! Counts that the geometry of each case decides: a sub-buffer of 4,096 bytes holds 125 records of 32 beside the packet's 80.
-//! And what two small packets hold.
+//! What two small packets hold. And what a rotation of 256 streams moves, with 64 sub-buffers each.
 
 use crate::cases::Case;
 use crate::offers::all_rounds;
 use crate::packets::{audit_rounds, decode_rounds};
+use crate::rotations::{fill_rounds, rotate_rounds};
 use std::alloc::Global;
 use std::test::Fail;
 use tr_packet::{Head, Packet, encode_packet};
@@ -82,5 +83,17 @@ fn two_packets_read_again(rt: HostRuntime) -> Result<(), Fail> {
     let counts = (found.packets, found.records, found.gaps, found.absent);
     assert_eq!(rt; counts, (2, 3, 2, 3));
     assert_eq!(rt; found.sum, 3_970);
+    Ok(())
+}
+
+// a record of 2,524 bytes fills a sub-buffer of 4,096, and its packet has 2,604
+#[test]
+fn a_rotation_moves_what_all_rings_hold(rt: HostRuntime) -> Result<(), Fail> {
+    let alloc = rt.alloc();
+    let payload = vec![in alloc; 0x61; 2_500]?;
+    assert_eq!(rt; fill_rounds(alloc, &payload, 1)?, 16_384);
+    let (total, _) = rotate_rounds(&rt, alloc, &payload, 1)?;
+    let counts = (total.packets, total.records, total.bytes);
+    assert_eq!(rt; counts, (16_384, 16_384, 42_663_936));
     Ok(())
 }

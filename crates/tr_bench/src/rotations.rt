@@ -1,0 +1,177 @@
+//! Rotations of a session whose rings are full.
+
+use crate::sums::mix;
+use std::alloc::Global;
+use std::time::CpuClock;
+use tr_book::Mode;
+use tr_chunk::OffsetMinutes;
+use tr_packet::Packet;
+use tr_record::Moment;
+use tr_session::{Session, SessionFault, StepFault};
+use tr_stream::SessionMode;
+use uuid::Uuid;
+
+/// How many streams the session has.
+const STREAMS: u64 = 256;
+
+/// The size of a sub-buffer in bytes, and how many a ring has.
+const SIZE: u64 = 4_096;
+
+const COUNT: u64 = 64;
+
+/// What a sub-buffer has beside its packet's front, and what a record has beside its payload, in bytes.
+const ROOM: u64 = 4_016;
+
+const RECORD_FRONT: u64 = 24;
+
+/// What the archives of all rounds hold.
+#[derive(Clone, Copy, Debug)]
+pub struct Rotated {
+    pub packets: u128,
+    pub records: u128,
+    pub bytes: u128,
+    /// A sum over each packet's head and its last record.
+    pub sum: u64,
+}
+
+/// Why the rounds stopped.
+#[derive(Clone, Copy, Debug)]
+pub enum RotateFault {
+    /// Nobody tells the processor time.
+    NoClock,
+    /// No clock is at UTC.
+    NoOffset,
+    /// The session refused.
+    Refused(StepFault),
+}
+
+impl From<SessionFault> for RotateFault {
+    fn from(fault: SessionFault) -> RotateFault {
+        RotateFault::Refused(StepFault::Session(fault))
+    }
+}
+
+impl From<StepFault> for RotateFault {
+    fn from(fault: StepFault) -> RotateFault {
+        RotateFault::Refused(fault)
+    }
+}
+
+fn moment(nanoseconds: u64) -> Moment {
+    Moment::new(nanoseconds).unwrap_or(Moment::zero())
+}
+
+/// How many records of so long a payload a ring takes.
+fn records_of_ring(payload: &[u8]) -> u64 {
+    let record = RECORD_FRONT.wrapping_add(payload.len() as u64);
+    match ROOM.checked_div(record) {
+        Some(records) => records.wrapping_mul(COUNT),
+        None => 0,
+    }
+}
+
+/// A session that was started at moment 0, and each of whose rings is full of records with this payload.
+fn full_session(alloc: Global, payload: &[u8]) -> Result<Session, RotateFault> {
+    let Some(offset) = OffsetMinutes::new(0) else {
+        return Err(RotateFault::NoOffset);
+    };
+    let mut session = Session::new(alloc, Uuid::from_u128(1), offset, SessionMode::Local);
+    session.add_channel("c", SIZE, COUNT, Mode::Discard)?;
+    for _ in 0..STREAMS {
+        session.add_thread("c")?;
+    }
+    session.start(moment(0))?;
+    let records = records_of_ring(payload);
+    for stream in 0..STREAMS {
+        for k in 0..records {
+            session.offer(stream, moment(k), 7, payload)?;
+        }
+    }
+    Ok(session)
+}
+
+/// The sum with a packet's head and its last record.
+fn mix_packet(before: u64, packet: &Packet) -> u64 {
+    let head = packet.head();
+    let mut sum = mix(mix(before, head.stream), head.seq);
+    sum = mix(mix(mix(sum, head.begin.get()), head.end.get()), head.lost);
+    let Some(last) = packet.records().last() else {
+        return sum;
+    };
+    let byte = last.payload().last().copied().unwrap_or(0);
+    sum = mix(mix(sum, last.serial()), last.moment().get());
+    mix(mix(sum, u64::from(last.id())), u64::from(byte))
+}
+
+/// The counts with those of the first archive.
+fn add_archive(session: &Session, total: Rotated) -> Rotated {
+    let mut sum = total.sum;
+    for i in 0..session.streams() {
+        let Some(part) = session.stream(i).and_then(|s| s.part(0)) else {
+            break;
+        };
+        for packet in part.packets() {
+            sum = mix_packet(sum, packet);
+        }
+    }
+    let size = session.archive_size(0);
+    Rotated {
+        packets: total.packets.wrapping_add(size.packets),
+        records: total.records.wrapping_add(size.records),
+        bytes: total.bytes.wrapping_add(size.bytes),
+        sum,
+    }
+}
+
+/// The nanoseconds on a processor that a rotation takes.
+fn rotate(clock: &impl CpuClock, session: &mut Session) -> Result<u128, RotateFault> {
+    let Ok(before) = clock.process_cpu_time() else {
+        return Err(RotateFault::NoClock);
+    };
+    session.rotate(moment(Moment::LAST))?;
+    let Ok(after) = clock.process_cpu_time() else {
+        return Err(RotateFault::NoClock);
+    };
+    match after.checked_sub(before) {
+        Some(spent) => Ok(spent.as_nanos()),
+        None => Err(RotateFault::NoClock),
+    }
+}
+
+/// So many rounds: a new session is filled and rotated. The last number is how many nanoseconds the quickest rotation took
+/// on a processor.
+pub fn rotate_rounds(
+    clock: &impl CpuClock,
+    alloc: Global,
+    payload: &[u8],
+    rounds: u64,
+) -> Result<(Rotated, u128), RotateFault> {
+    let mut total = Rotated {
+        packets: 0,
+        records: 0,
+        bytes: 0,
+        sum: 0,
+    };
+    let mut quickest = u128::MAX;
+    for _ in 0..rounds {
+        let mut session = full_session(alloc, payload)?;
+        let spent = rotate(clock, &mut session)?;
+        quickest = quickest.min(spent);
+        total = add_archive(&session, total);
+    }
+    Ok((total, quickest))
+}
+
+/// So many rounds without the rotation: how many records the rings of all the sessions have.
+pub fn fill_rounds(alloc: Global, payload: &[u8], rounds: u64) -> Result<u64, RotateFault> {
+    let mut records = 0_u64;
+    for _ in 0..rounds {
+        let session = full_session(alloc, payload)?;
+        for i in 0..session.streams() {
+            if let Some(stream) = session.stream(i) {
+                records = records.wrapping_add(stream.counts().in_ring);
+            }
+        }
+    }
+    Ok(records)
+}
