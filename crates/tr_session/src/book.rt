@@ -157,7 +157,7 @@ impl<A: Allocator + Copy> SessionBook<A> {
     }
 
     /// Puts a thread of the channel at this place behind the others.
-    pub fn keep_thread(&mut self, place: usize) -> Result<(), AllocError>
+    pub(crate) fn keep_thread(&mut self, place: usize) -> Result<(), AllocError>
         requires { length self.old.threads < most_streams }
         ensures ok { OnOk result (self.new ≡ with_thread place self.old) }
         ensures err { OnErr result (self.new ≡ self.old) }
@@ -235,7 +235,7 @@ impl<A: Allocator> SessionBook<A> {
     }
 
     /// The channel that a thread is to be added to, with its place, or why there is none.
-    pub fn channel_at(&self, name: &str) -> Result<(usize, Channel), SessionFault>
+    pub(crate) fn channel_at(&self, name: &str) -> Result<(usize, Channel), SessionFault>
         ensures place { IfOk result (λ found. thread_place name.now self.now ≡ Ok found.0) }
         ensures channel { IfOk result (λ found. channel_named name.now self.now ≡ Some found.1) }
         ensures room { OnOk result (length self.now.threads < most_streams) }
@@ -378,7 +378,7 @@ impl<A: Allocator> SessionBook<A> {
     }
 
     /// One stream more is cut, that of this number.
-    pub fn count_cut(&mut self, i: u64)
+    pub(crate) fn count_cut(&mut self, i: u64)
         requires { IsOk (cut_moment i self.old) }
         ensures { self.new ≡ with_cut self.old }
     {

@@ -225,7 +225,7 @@ impl<A: Allocator> Session<A> {
     }
 
     /// Starts the session, and none of its streams yet.
-    pub fn start_alone(&mut self, moment: Moment) -> Result<(), SessionFault>
+    pub(crate) fn start_alone(&mut self, moment: Moment) -> Result<(), SessionFault>
         ensures answer { result ≡ start_answer self.old.book }
         ensures after { self.new ≡ record self.old { book = after_start moment self.old.book } }
     {
@@ -233,7 +233,7 @@ impl<A: Allocator> Session<A> {
     }
 
     /// Stops the session, and none of its streams yet.
-    pub fn stop_alone(&mut self) -> Result<(), SessionFault>
+    pub(crate) fn stop_alone(&mut self) -> Result<(), SessionFault>
         ensures answer { result ≡ stop_answer self.old.book }
         ensures after { self.new ≡ record self.old { book = after_stop self.old.book } }
     {
