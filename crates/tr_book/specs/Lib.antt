@@ -1,3 +1,4 @@
 pub mod Book
 pub mod Geometry
 pub mod Parts
+pub mod Snaps

@@ -7,6 +7,7 @@ mod geometry;
 mod mode;
 mod part;
 mod parts;
+mod snap;
 #[cfg(test)]
 mod tests;
 
@@ -16,3 +17,4 @@ pub use geometry::{Geometry, GeometryFault};
 pub use mode::Mode;
 pub use part::Part;
 pub use parts::Parts;
+pub use snap::StreamSnap;

@@ -89,3 +89,15 @@ fn geometries_within_the_limits_are_taken(rt: HostRuntime) {
         assert_eq!(rt; geometry.count() as u64, count);
     }
 }
+
+#[test]
+fn a_snap_gives_back_what_it_is_made_of(rt: HostRuntime) -> Result<(), Fail> {
+    let packets = vec![in rt.alloc(); packet(&rt, rt.alloc(), 3, 50)?]?;
+    let snap = StreamSnap::new(2, 9, 1, packets);
+    assert_eq!(rt; (snap.stream(), snap.offered(), snap.lost()), (2, 9, 1));
+    let [only] = snap.packets() else {
+        panic!(rt; "one packet")
+    };
+    assert_eq!(rt; only.head().seq, 3);
+    Ok(())
+}
