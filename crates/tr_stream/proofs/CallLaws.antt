@@ -7,16 +7,18 @@ use Rattle.std.specs.Prelude.{IsOk, slice_get}
 use Rattle.tr_book.specs.Book as noted
 use Rattle.tr_book.specs.Book.{BookState}
 use Rattle.tr_book.specs.Parts.{PartsState, records_of, no_parts, with_packet, with_packets, closed_part}
+use Rattle.tr_book.specs.Snaps.{SnapState}
 use Rattle.tr_packet.specs.Packets.{Contents, IsPacket}
 use Rattle.tr_record.specs.Records.{Entry, last_moment}
 use Rattle.tr_ring.specs.ClosedBuffer.{ClosedBuffer}
 use Rattle.tr_ring.specs.Ring.{RingState, after_push, closing, emptied, empty_ring, push_answer, without_first}
 use Rattle.tr_ring.specs.declared.pushed.Pushed.{Pushed}
 use Rattle.tr_ring.specs.declared.pushed.Pushed.TheVariants as pushed
-use Rattle.tr_stream.proofs.CutLaws.{cuts, records_in-ring}
-use Rattle.tr_stream.proofs.KeptLaws.{IsOffer, kept-offered, kept-taken, kept-cut}
+use Rattle.tr_stream.proofs.CutLaws.{cuts, snaps, records_in-ring}
+use Rattle.tr_stream.proofs.KeptLaws.{IsOffer, kept-offered, kept-oldest, kept-cut}
 use Rattle.tr_stream.proofs.OfferLaws.{offers}
 use Rattle.tr_stream.proofs.Refinement.{with_moved}
+use Rattle.tr_stream.proofs.SessionLaws.{in-local, in-snapshot}
 use Rattle.tr_stream.proofs.SoundLaws.{records_of-packets}
 use Rattle.tr_stream.proofs.TakeLaws.{takes}
 use Rattle.tr_stream.specs.Chunks.{packet_of, closing_if_any, ring_buffers}
@@ -25,15 +27,18 @@ use Rattle.tr_stream.specs.Kept.{IsKept}
 use Rattle.tr_stream.specs.Sound.{IsMade, ArePackets}
 use Rattle.tr_stream.specs.StandsFor.{StandsFor}
 use Rattle.tr_stream.specs.State.{StreamState, in_ring}
-use Rattle.tr_stream.specs.StateSteps.{new_state, overwrites, booked, entered, refusal_of, offer_unless, state_unless, with_offer, offered_as, offer_result, state_after_offer, TakesMemory, moved_oldest, take_result, state_after_take, state_cut_at, cut_done}
-use Rattle.tr_stream.specs.Steps.{offer_answer, after_offer, take_answer, after_take, cut_answer, after_cut, taken_from}
+use Rattle.tr_stream.specs.StateSteps.{new_state, overwrites, booked, entered, refusal_of, offer_unless, state_unless, with_offer, offered_as, offer_result, state_after_offer, TakesMemory, moved_oldest, take_result, state_after_take, state_cut_at, cut_done, cut_result, state_after_cut, state_snap}
+use Rattle.tr_stream.specs.Steps.{offer_answer, after_offer, take_answer, after_take, cut_answer, after_cut, snap_of, taken_from}
 use Rattle.tr_stream.specs.declared.answers.CutDone.{CutDone}
 use Rattle.tr_stream.specs.declared.answers.CutFault.{CutFault}
+use Rattle.tr_stream.specs.declared.answers.CutFault.TheVariants as cut_fault
 use Rattle.tr_stream.specs.declared.answers.OfferFault.{OfferFault}
 use Rattle.tr_stream.specs.declared.answers.Offered.{Offered}
 use Rattle.tr_stream.specs.declared.answers.TakeFault.{TakeFault}
+use Rattle.tr_stream.specs.declared.answers.TakeFault.TheVariants as take_fault
 use Rattle.tr_stream.specs.declared.answers.TakeFault.TheVariants.{Nothing}
 use Rattle.tr_stream.specs.declared.answers.Taken.{Taken}
+use Rattle.tr_stream.specs.declared.config.SessionMode.TheVariants.{Local, Snapshot}
 use Rattle.tr_stream.specs.declared.config.StreamConfig.{StreamConfig}
 
 -- what is left of an offer once the ring has it
@@ -71,24 +76,24 @@ step-accepted s new h moment id payload answer made is open_ told moved =
     (ap (λ (o : Offered). (let r : Result Offered OfferFault = Ok o in r)) told ∙ sym answers ∙ steps.0, subst (λ (t : StreamState). StandsFor t (after_offer s.config moment id payload h)) (accepts ∙ sym moved) steps.1)
 
 -- a take is the history's take
-pub step-taken : (s new : StreamState) (h : History) (answer : Result Taken TakeFault) → StandsFor s h → answer ≡ take_result s → new ≡ state_after_take s → (answer ≡ take_answer h) × StandsFor new (after_take h)
-step-taken s new h answer is told moved = (told ∙ (takes s h is).0, subst (λ (t : StreamState). StandsFor t (after_take h)) (sym moved) (takes s h is).1)
+pub step-taken : (s new : StreamState) (h : History) (answer : Result Taken TakeFault) → StandsFor s h → answer ≡ take_result s → new ≡ state_after_take s → (answer ≡ take_answer s.config h) × StandsFor new (after_take s.config h)
+step-taken s new h answer is told moved = (told ∙ (takes s h is).0, subst (λ (t : StreamState). StandsFor t (after_take s.config h)) (sym moved) (takes s h is).1)
+
+take-local : (s : StreamState) → s.config.session ≡ Local → take_result s ≡ taken_from s.parts.current.id s.ring.waiting
+take-local s local = in-local s.config.session (taken_from s.parts.current.id s.ring.waiting) (Err take_fault.SnapshotMode) local
+
+after-local : (s : StreamState) → s.config.session ≡ Local → state_after_take s ≡ moved_oldest s.ring.waiting s
+after-local s local = in-local s.config.session (moved_oldest s.ring.waiting s) s local
 
 none_waits : (s : StreamState) (waiting : List ClosedBuffer) → length waiting ≡ 0 → ((let r : Result Taken TakeFault = Err Nothing in r) ≡ taken_from s.parts.current.id waiting) × (s ≡ moved_oldest waiting s)
 none_waits s [] none = (refl, refl)
 none_waits s (b ∷ bs) none = absurd (grind (arith, common_steps, none))
 
 -- nothing waits
-pub nothing-taken : (s : StreamState) → length s.ring.waiting ≡ 0 → ((let r : Result Taken TakeFault = Err Nothing in r) ≡ take_result s) × (s ≡ state_after_take s)
-nothing-taken s none = none_waits s s.ring.waiting none
-
--- where something waits, there is something to take
-some-taken_from : (k : ℕ) (waiting : List ClosedBuffer) → 0 < length waiting → IsOk (taken_from k waiting)
-some-taken_from k [] some = absurd (omega (arith, some))
-some-taken_from k (b ∷ bs) some = refl
-
-pub some-taken : (s : StreamState) → 0 < length s.ring.waiting → IsOk (take_result s)
-some-taken s some = some-taken_from s.parts.current.id s.ring.waiting some
+pub nothing-taken : (s : StreamState) → s.config.session ≡ Local → length s.ring.waiting ≡ 0 → ((let r : Result Taken TakeFault = Err Nothing in r) ≡ take_result s) × (s ≡ state_after_take s)
+nothing-taken s local none =
+    let is = none_waits s s.ring.waiting none in
+    (is.0 ∙ sym (take-local s local), is.1 ∙ sym (after-local s local))
 
 -- what waits can be sent
 pub waiting-at : (c : StreamConfig) (waiting : List ClosedBuffer) (i : ℕ) (b : ClosedBuffer) → slice_get waiting i ≡ Some b → ArePackets c waiting → IsPacket (packet_of c b)
@@ -105,11 +110,14 @@ moved_first s [] b first = cc
 moved_first s (x ∷ xs) b first = let e : x ≡ b = cc in ap (λ (y : ClosedBuffer). with_moved y s) e
 
 -- what is left of a take once the part has the packet
-pub moved-is : (s : StreamState) (b : ClosedBuffer) (ring : RingState) (parts : PartsState) (book : BookState) → slice_get s.ring.waiting 0 ≡ Some b → ring ≡ without_first s.ring → parts ≡ with_packet (packet_of s.config b) s.parts → book ≡ noted.with_consumed (length b.records) s.book → (let t : StreamState = record { config = s.config; ring = ring; parts = parts; book = book; active = s.active } in t) ≡ state_after_take s
+pub moved-is : (s : StreamState) (b : ClosedBuffer) (ring : RingState) (parts : PartsState) (book : BookState) → slice_get s.ring.waiting 0 ≡ Some b → ring ≡ without_first s.ring → parts ≡ with_packet (packet_of s.config b) s.parts → book ≡ noted.with_consumed (length b.records) s.book → (let t : StreamState = record { config = s.config; ring = ring; parts = parts; book = book; active = s.active } in t) ≡ moved_oldest s.ring.waiting s
 moved-is s b ring parts book first ring_is parts_is book_is = let e = moved_first s s.ring.waiting b first in cc
 
-pub kept-moved : (s : StreamState) (b : ClosedBuffer) (ring : RingState) (parts : PartsState) (book : BookState) → IsKept s → slice_get s.ring.waiting 0 ≡ Some b → ring ≡ without_first s.ring → parts ≡ with_packet (packet_of s.config b) s.parts → book ≡ noted.with_consumed (length b.records) s.book → IsKept (record { config = s.config; ring = ring; parts = parts; book = book; active = s.active })
-kept-moved s b ring parts book is first ring_is parts_is book_is = subst (λ (t : StreamState). IsKept t) (sym (moved-is s b ring parts book first ring_is parts_is book_is)) (kept-taken s is)
+pub moved-local : (s : StreamState) (b : ClosedBuffer) (ring : RingState) (parts : PartsState) (book : BookState) → s.config.session ≡ Local → slice_get s.ring.waiting 0 ≡ Some b → ring ≡ without_first s.ring → parts ≡ with_packet (packet_of s.config b) s.parts → book ≡ noted.with_consumed (length b.records) s.book → (let t : StreamState = record { config = s.config; ring = ring; parts = parts; book = book; active = s.active } in t) ≡ state_after_take s
+moved-local s b ring parts book local first ring_is parts_is book_is = moved-is s b ring parts book first ring_is parts_is book_is ∙ sym (after-local s local)
+
+pub kept-moved : (s : StreamState) (b : ClosedBuffer) (ring : RingState) (parts : PartsState) (book : BookState) → s.config.session ≡ Local → IsKept s → slice_get s.ring.waiting 0 ≡ Some b → ring ≡ without_first s.ring → parts ≡ with_packet (packet_of s.config b) s.parts → book ≡ noted.with_consumed (length b.records) s.book → IsKept (record { config = s.config; ring = ring; parts = parts; book = book; active = s.active })
+kept-moved s b ring parts book local is first ring_is parts_is book_is = subst (λ (t : StreamState). IsKept t) (sym (moved-is s b ring parts book first ring_is parts_is book_is)) (kept-oldest s local is)
 
 -- a record with the fields of another
 pub copied-is : (e f : Entry) (serial moment id : ℕ) (payload : List ℕ) → f ≡ record { serial = serial; moment = moment; id = id; payload = payload } → serial ≡ e.serial → moment ≡ e.moment → id ≡ e.id → payload ≡ e.payload → f ≡ e
@@ -178,12 +186,17 @@ cut-told s end k len count packets are chunk_is len_is count_is =
 pub cut-is : (s : StreamState) (end count : ℕ) (packets : List Contents) (ring : RingState) (parts : PartsState) (noted_ book : BookState) → packets ≡ map (packet_of s.config) (ring_buffers end s.ring) → ring ≡ emptied s.ring → parts ≡ closed_part (with_packets packets s.parts) → count ≡ in_ring s.ring → noted_ ≡ noted.with_consumed count s.book → book ≡ noted.at_moment end noted_ → (let t : StreamState = record { config = s.config; ring = ring; parts = parts; book = book; active = s.active } in t) ≡ state_cut_at end s
 cut-is s end count packets ring parts noted_ book packets_are ring_is parts_is count_is first then = cc
 
-pub kept-cut_now : (s : StreamState) (end count : ℕ) (packets : List Contents) (ring : RingState) (parts : PartsState) (noted_ book : BookState) → IsKept s → s.book.last ≤ end → end ≤ last_moment → packets ≡ map (packet_of s.config) (ring_buffers end s.ring) → ring ≡ emptied s.ring → parts ≡ closed_part (with_packets packets s.parts) → count ≡ in_ring s.ring → noted_ ≡ noted.with_consumed count s.book → book ≡ noted.at_moment end noted_ → IsKept (record { config = s.config; ring = ring; parts = parts; book = book; active = s.active })
-kept-cut_now s end count packets ring parts noted_ book is later in_time packets_are ring_is parts_is count_is first then =
-    subst (λ (t : StreamState). IsKept t) (sym (cut-is s end count packets ring parts noted_ book packets_are ring_is parts_is count_is first then)) (kept-cut s end later in_time is)
+pub kept-cut_now : (s : StreamState) (end count : ℕ) (packets : List Contents) (ring : RingState) (parts : PartsState) (noted_ book : BookState) → s.config.session ≡ Local → IsKept s → s.book.last ≤ end → end ≤ last_moment → packets ≡ map (packet_of s.config) (ring_buffers end s.ring) → ring ≡ emptied s.ring → parts ≡ closed_part (with_packets packets s.parts) → count ≡ in_ring s.ring → noted_ ≡ noted.with_consumed count s.book → book ≡ noted.at_moment end noted_ → IsKept (record { config = s.config; ring = ring; parts = parts; book = book; active = s.active })
+kept-cut_now s end count packets ring parts noted_ book local is later in_time packets_are ring_is parts_is count_is first then =
+    subst (λ (t : StreamState). IsKept t) (sym (cut-is s end count packets ring parts noted_ book packets_are ring_is parts_is count_is first then)) (kept-cut s end local later in_time is)
 
 -- a cut is the history's cut
-pub step-cut : (s new : StreamState) (h : History) (moment end : ℕ) (done : CutDone) → StandsFor s h → end ≡ max moment s.book.last → done ≡ cut_done end s → new ≡ state_cut_at end s → ((let r : Result CutDone CutFault = Ok done in r) ≡ cut_answer moment h) × StandsFor new (after_cut moment h)
-step-cut s new h moment end done is at told moved =
-    let step = cuts s h moment is in
-    (ap (λ (d : CutDone). (let r : Result CutDone CutFault = Ok d in r)) (told ∙ ap (λ (m : ℕ). cut_done m s) at) ∙ step.0, subst (λ (t : StreamState). StandsFor t (after_cut moment h)) (sym (moved ∙ ap (λ (m : ℕ). state_cut_at m s) at)) step.1)
+pub step-cut : (s new : StreamState) (h : History) (moment : ℕ) (answer : Result CutDone CutFault) → StandsFor s h → answer ≡ cut_result moment s → new ≡ state_after_cut moment s → (answer ≡ cut_answer s.config moment h) × StandsFor new (after_cut s.config moment h)
+step-cut s new h moment answer is told moved = (told ∙ (cuts s h moment is).0, subst (λ (t : StreamState). StandsFor t (after_cut s.config moment h)) (sym moved) (cuts s h moment is).1)
+
+-- in a local session a cut is done
+pub cut-local : (s new : StreamState) (moment end : ℕ) (done : CutDone) → s.config.session ≡ Local → end ≡ max moment s.book.last → done ≡ cut_done end s → new ≡ state_cut_at end s → ((let r : Result CutDone CutFault = Ok done in r) ≡ cut_result moment s) × (new ≡ state_after_cut moment s)
+cut-local s new moment end done local at told moved =
+    let end_is : max moment s.book.last ≡ end = sym at in
+    (ap (λ (d : CutDone). (let r : Result CutDone CutFault = Ok d in r)) (told ∙ ap (λ (m : ℕ). cut_done m s) at) ∙ sym (in-local s.config.session (Ok (cut_done (max moment s.book.last) s)) (Err cut_fault.SnapshotMode) local),
+    moved ∙ ap (λ (m : ℕ). state_cut_at m s) at ∙ sym (in-local s.config.session (state_cut_at (max moment s.book.last) s) s local))

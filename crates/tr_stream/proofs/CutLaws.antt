@@ -1,5 +1,5 @@
 -- A cut of a stream is the history's cut.
-use Rattle.std.proofs.Common.{◌≡◌, ◌≢◌, ℕ, ◌+◌, ◌<◌, suc, List, [], ◌∷◌, ◌++◌, length, map, max, refl, sym, ◌∙◌, ap, subst, append_assoc, arith}
+use Rattle.std.proofs.Common.{◌≡◌, ◌≢◌, ℕ, ◌+◌, ◌<◌, suc, List, [], ◌∷◌, ◌++◌, length, map, max, Result, Ok, Err, refl, sym, ◌∙◌, ap, subst, append_assoc, arith}
 use Rattle.std.proofs.lemmas.Grind.{common_steps}
 use Rattle.std.proofs.lemmas.List.{append-nil, map-append}
 use Rattle.std.proofs.lemmas.List.Sums.{sum_by_push}
@@ -15,9 +15,14 @@ use Rattle.tr_stream.specs.Chunks.{chunk_of, waiting_of, consumed_of, packet_of,
 use Rattle.tr_stream.specs.History.{Waiting, Block, Closed, History, is_waiting, is_dropped, is_kept, is_kept_in, offers_in, offers_before, offered_of, times_in, times}
 use Rattle.tr_stream.specs.StandsFor.{StandsFor}
 use Rattle.tr_stream.specs.State.{StreamState, records_in, in_ring}
-use Rattle.tr_stream.specs.StateSteps.{state_cut_at, cut_result, state_after_cut}
-use Rattle.tr_stream.specs.Steps.{flushed_with, keep_waiting, all_kept, cut_at, after_cut, cut_answer}
+use Rattle.tr_stream.specs.StateSteps.{cut_done, state_cut_at, cut_result, state_after_cut, state_snap}
+use Rattle.tr_stream.specs.Steps.{by_session, done_with, flushed_with, keep_waiting, all_kept, cut_at, after_cut, cut_answer, snap_of}
 use Rattle.tr_stream.specs.WellFormed.{Covers, chunks_below}
+use Rattle.tr_stream.specs.declared.answers.CutDone.{CutDone}
+use Rattle.tr_stream.specs.declared.answers.CutFault.{CutFault}
+use Rattle.tr_stream.specs.declared.answers.CutFault.TheVariants.{SnapshotMode}
+use Rattle.tr_stream.specs.declared.config.SessionMode.{SessionMode}
+use Rattle.tr_stream.specs.declared.config.SessionMode.TheVariants.{Local, Snapshot}
 use Rattle.tr_stream.specs.declared.config.StreamConfig.{StreamConfig}
 
 -- all that waits is in the current part, which is closed
@@ -153,9 +158,24 @@ ring-same : (s : StreamState) (h : History) (end : ℕ) → StandsFor s h → ri
 ring-same s h end is = let a = is.waiting in let b = is.number in let c = is.discarded in let d = is.filling in cc
 
 -- a cut is the history's cut
-pub cuts : (s : StreamState) (h : History) (moment : ℕ) → StandsFor s h → (cut_result moment s ≡ cut_answer moment h) × StandsFor (state_after_cut moment s) (after_cut moment h)
-cuts s h moment is =
+cuts_in : (m : SessionMode) (s : StreamState) (h : History) (moment : ℕ) → StandsFor s h
+    → (by_session m (Ok (cut_done (max moment s.book.last) s)) (Err SnapshotMode) ≡ by_session m (Ok (done_with h.cuts (ring_of (max moment h.last) h))) (Err SnapshotMode))
+    × StandsFor (by_session m (state_cut_at (max moment s.book.last) s) s) (by_session m (cut_at (max moment h.last) h) h)
+cuts_in Snapshot s h moment is = (refl, is)
+cuts_in Local s h moment is =
     let end : max moment s.book.last ≡ max moment h.last = ap (max moment) is.last in
     let same = ring-same s h (max moment h.last) is in
     let k : s.parts.current.id ≡ h.cuts = ap (λ (p : PartState). p.id) is.current in
     ((let a = end in let b = same in let c = k in cc), rw end (stands-cut s h (max moment h.last) is))
+
+pub cuts : (s : StreamState) (h : History) (moment : ℕ) → StandsFor s h → (cut_result moment s ≡ cut_answer s.config moment h) × StandsFor (state_after_cut moment s) (after_cut s.config moment h)
+cuts s h moment is = cuts_in s.config.session s h moment is
+
+-- what is seen of a stream is what is seen of its history
+pub snaps : (s : StreamState) (h : History) (moment : ℕ) → StandsFor s h → state_snap moment s ≡ snap_of s.config moment h
+snaps s h moment is =
+    let end : max moment s.book.last ≡ max moment h.last = ap (max moment) is.last in
+    let same = ring-same s h (max moment h.last) is in
+    let a = is.offered in
+    let b = is.discarded in
+    cc

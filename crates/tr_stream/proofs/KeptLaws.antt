@@ -13,13 +13,14 @@ use Rattle.tr_stream.proofs.OfferLaws.{IsAccepted, accepted, not_empty, joins, f
 use Rattle.tr_stream.proofs.OpenLaws.{open-none}
 use Rattle.tr_stream.proofs.Refinement.{without_oldest, stands-switched}
 use Rattle.tr_stream.proofs.SoundLaws.{sound-cut, IsNext, sound-joined, sound-missed, sound-followed, sound-without_oldest, sound-moved, sound-switched}
-use Rattle.tr_stream.proofs.TakeLaws.{starts, takes}
+use Rattle.tr_stream.proofs.TakeLaws.{starts, taken}
 use Rattle.tr_stream.specs.Kept.{IsKept}
 use Rattle.tr_stream.specs.Sound.{IsSound, IsConfig}
 use Rattle.tr_stream.specs.State.{StreamState}
-use Rattle.tr_stream.specs.StateSteps.{state_cut_at, entered, refusal_of, state_unless, with_offer, state_after_offer, moved_oldest, state_after_take, state_switched, new_state, overwrites}
-use Rattle.tr_stream.specs.Steps.{cut_at, after_offer, after_take, start, switched}
+use Rattle.tr_stream.specs.StateSteps.{state_cut_at, entered, refusal_of, state_unless, with_offer, state_after_offer, moved_oldest, state_switched, new_state, overwrites}
+use Rattle.tr_stream.specs.Steps.{cut_at, after_offer, oldest_kept, start, switched}
 use Rattle.tr_stream.specs.declared.answers.OfferFault.{OfferFault}
+use Rattle.tr_stream.specs.declared.config.SessionMode.TheVariants.{Local}
 use Rattle.tr_stream.specs.declared.config.StreamConfig.{StreamConfig}
 use Rattle.tr_subbuf.specs.SubBuffer.{has_room}
 
@@ -83,15 +84,15 @@ kept-offered s moment id payload offer is = record {
   history = (after_offer s.config moment id payload is.history.0, (offers s is.history.0 moment id payload is.sound.made is.history.1).1);
 }
 
-sound-oldest : (s : StreamState) (waiting : List ClosedBuffer) → s.ring.waiting ≡ waiting → IsSound s → IsSound (moved_oldest waiting s)
-sound-oldest s [] waiting_is is = is
-sound-oldest s (b ∷ bs) waiting_is is = sound-moved s b bs waiting_is is
+sound-oldest : (s : StreamState) (waiting : List ClosedBuffer) → s.ring.waiting ≡ waiting → s.config.session ≡ Local → IsSound s → IsSound (moved_oldest waiting s)
+sound-oldest s [] waiting_is local is = is
+sound-oldest s (b ∷ bs) waiting_is local is = sound-moved s b bs waiting_is local is
 
-pub kept-taken : (s : StreamState) → IsKept s → IsKept (state_after_take s)
-kept-taken s is = record { sound = sound-oldest s s.ring.waiting refl is.sound; history = (after_take is.history.0, (takes s is.history.0 is.history.1).1) }
+pub kept-oldest : (s : StreamState) → s.config.session ≡ Local → IsKept s → IsKept (moved_oldest s.ring.waiting s)
+kept-oldest s local is = record { sound = sound-oldest s s.ring.waiting refl local is.sound; history = (oldest_kept is.history.0, taken s is.history.0 s.ring.waiting refl is.history.1) }
 
-pub kept-cut : (s : StreamState) (end : ℕ) → s.book.last ≤ end → end ≤ last_moment → IsKept s → IsKept (state_cut_at end s)
-kept-cut s end later in_time is = record { sound = sound-cut s end is.sound later in_time; history = (cut_at end is.history.0, stands-cut s is.history.0 end is.history.1) }
+pub kept-cut : (s : StreamState) (end : ℕ) → s.config.session ≡ Local → s.book.last ≤ end → end ≤ last_moment → IsKept s → IsKept (state_cut_at end s)
+kept-cut s end local later in_time is = record { sound = sound-cut s end local is.sound later in_time; history = (cut_at end is.history.0, stands-cut s is.history.0 end is.history.1) }
 
 pub kept-switched : (s : StreamState) (active : Bool) → IsKept s → IsKept (state_switched active s)
 kept-switched s active is = record { sound = sound-switched s active is.sound; history = (switched active is.history.0, stands-switched s is.history.0 active is.history.1) }
@@ -114,6 +115,7 @@ kept-new c config size count = record {
     losses = record { discarding = λ e. (refl, refl); overwriting = λ e. refl };
     packets = tt;
     filling = open-none 0 0;
+    unconsumed = λ e. refl;
     closed_sent = tt;
     current_sent = tt;
   };

@@ -14,5 +14,6 @@ pub mod PartLaws
 pub mod Refinement
 pub mod RuleLaws
 pub mod RunLaws
+pub mod SessionLaws
 pub mod SoundLaws
 pub mod TakeLaws

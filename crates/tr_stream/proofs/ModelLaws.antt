@@ -20,7 +20,7 @@ use Rattle.tr_stream.specs.Steps.{start}
 use Rattle.tr_stream.specs.WellFormed.{IsWellFormed, NumberedFrom, AllWait, WaitLast}
 use Rattle.tr_stream.specs.declared.config.StreamConfig.{StreamConfig}
 use Rattle.tr_stream.specs.declared.events.StreamEvent.{StreamEvent}
-use Rattle.tr_stream.specs.declared.events.StreamEvent.TheVariants.{Offer, Take, Cut, Start, Stop}
+use Rattle.tr_stream.specs.declared.events.StreamEvent.TheVariants.{Offer, Take, Cut, Peek, Start, Stop}
 
 -- what a stream would hold that stands for a history
 abbrev held_by : StreamConfig → History → StreamState
@@ -71,6 +71,7 @@ module _ {A : Type 0} where
   well_event c (Offer moment id payload) h usable well = (offers (held_by c h) h moment id payload (made c h usable) (stands c h well)).1.model
   well_event c Take h usable well = (takes (held_by c h) h (stands c h well)).1.model
   well_event c (Cut moment) h usable well = (cuts (held_by c h) h moment (stands c h well)).1.model
+  well_event c (Peek moment) h usable well = well
   well_event c Start h usable well = (stands-switched (held_by c h) h true (stands c h well)).model
   well_event c Stop h usable well = (stands-switched (held_by c h) h false (stands c h well)).model
 

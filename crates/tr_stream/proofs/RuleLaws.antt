@@ -1,26 +1,28 @@
 -- A stream that stands for a history goes on doing so, and answers as the history does.
-use Rattle.std.proofs.Common.{◌≡◌, ℕ, ◌+◌, ◌≤◌, Bool, true, false, cond, List, [], ◌∷◌, length, Option, Some, None, refl, sym, ◌∙◌, ap, subst, arith}
+use Rattle.std.proofs.Common.{◌≡◌, ℕ, ◌+◌, ◌≤◌, max, Bool, true, false, cond, List, [], ◌∷◌, length, Option, Some, None, refl, sym, ◌∙◌, ap, subst, arith}
 use Rattle.std.proofs.lemmas.Bool.Decides.{nat_tests}
 use Rattle.std.specs.Prelude.{nat_lt}
 use Rattle.tr_record.specs.Records.{Entry}
 use Rattle.tr_ring.specs.ClosedBuffer.{ClosedBuffer}
 use Rattle.tr_ring.specs.Ring.{RingState, current_buffer, after_push, joined, followed, refusing, without_first}
-use Rattle.tr_stream.proofs.CutLaws.{cuts}
+use Rattle.tr_stream.proofs.CutLaws.{cuts, snaps, stands-cut}
 use Rattle.tr_stream.proofs.FateLaws.{fates}
 use Rattle.tr_stream.proofs.KeptLaws.{overwrites-is, overwrites-not}
 use Rattle.tr_stream.proofs.OfferLaws.{offers, joins, follows, misses, replaces}
 use Rattle.tr_stream.proofs.PartLaws.{part-is}
 use Rattle.tr_stream.proofs.Refinement.{stands-switched}
 use Rattle.tr_stream.proofs.SoundLaws.{losses-missed, losses-without_oldest}
-use Rattle.tr_stream.proofs.TakeLaws.{starts, takes, counts-are}
+use Rattle.tr_stream.proofs.TakeLaws.{starts, taken, takes, counts-are}
 use Rattle.tr_stream.specs.Chunks.{part_in}
 use Rattle.tr_stream.specs.Rules.{Traced, Agrees, by_state, by_history}
 use Rattle.tr_stream.specs.Sound.{IsMade, LosesByMode}
 use Rattle.tr_stream.specs.StandsFor.{StandsFor}
 use Rattle.tr_stream.specs.State.{StreamState}
-use Rattle.tr_stream.specs.StateSteps.{entered, refusal_of, state_unless, state_after_offer, moved_oldest, overwrites, with_offer}
-use Rattle.tr_stream.specs.Steps.{after_offer}
+use Rattle.tr_stream.specs.StateSteps.{entered, refusal_of, state_unless, state_after_offer, moved_oldest, state_cut_at, overwrites, with_offer}
+use Rattle.tr_stream.specs.Steps.{by_session, after_offer, oldest_kept, after_take, cut_at, after_cut}
 use Rattle.tr_stream.specs.declared.answers.OfferFault.{OfferFault}
+use Rattle.tr_stream.specs.declared.config.SessionMode.{SessionMode}
+use Rattle.tr_stream.specs.declared.config.SessionMode.TheVariants.{Local, Snapshot}
 use Rattle.tr_stream.specs.declared.config.StreamConfig.{StreamConfig}
 use Rattle.tr_subbuf.specs.SubBuffer.{has_room}
 
@@ -88,7 +90,7 @@ agree-offered s t moment id payload is =
 
 -- a take
 pub same-taken : (s : StreamState) (t : Traced) → Agrees s t → by_state.taken s ≡ by_history.taken t
-same-taken s t is = (takes s t.history is.stands).0
+same-taken s t is = rw (← is.config) ((takes s t.history is.stands).0)
 
 made-oldest : (s : StreamState) (waiting : List ClosedBuffer) → IsMade s.config s.ring → IsMade (moved_oldest waiting s).config (moved_oldest waiting s).ring
 made-oldest s [] is = is
@@ -102,20 +104,32 @@ config-oldest : (s : StreamState) (waiting : List ClosedBuffer) → (moved_oldes
 config-oldest s [] = refl
 config-oldest s (b ∷ bs) = refl
 
+agree-oldest : (m : SessionMode) (s : StreamState) (t : Traced) → Agrees s t → Agrees (by_session m (moved_oldest s.ring.waiting s) s) (record t { history = by_session m (oldest_kept t.history) t.history })
+agree-oldest Local s t is = record { config = config-oldest s s.ring.waiting ∙ is.config; made = made-oldest s s.ring.waiting is.made; losses = losses-oldest s s.ring.waiting is.losses; stands = taken s t.history s.ring.waiting refl is.stands }
+agree-oldest Snapshot s t is = record { config = is.config; made = is.made; losses = is.losses; stands = is.stands }
+
 pub agree-taken : (s : StreamState) (t : Traced) → Agrees s t → Agrees (by_state.after_taken s) (by_history.after_taken t)
-agree-taken s t is = record { config = config-oldest s s.ring.waiting ∙ is.config; made = made-oldest s s.ring.waiting is.made; losses = losses-oldest s s.ring.waiting is.losses; stands = (takes s t.history is.stands).1 }
+agree-taken s t is = subst (λ (c : StreamConfig). Agrees (by_state.after_taken s) (record t { history = after_take c t.history })) is.config (agree-oldest s.config.session s t is)
 
 -- a cut
 pub same-cut : (s : StreamState) (t : Traced) (moment : ℕ) → Agrees s t → by_state.cut moment s ≡ by_history.cut moment t
-same-cut s t moment is = (cuts s t.history moment is.stands).0
+same-cut s t moment is = rw (← is.config) ((cuts s t.history moment is.stands).0)
 
-pub agree-cut : (s : StreamState) (t : Traced) (moment : ℕ) → Agrees s t → Agrees (by_state.after_cut moment s) (by_history.after_cut moment t)
-agree-cut s t moment is = record {
+agree-cut_at : (m : SessionMode) (s : StreamState) (t : Traced) (moment : ℕ) → Agrees s t → Agrees (by_session m (state_cut_at (max moment s.book.last) s) s) (record t { history = by_session m (cut_at (max moment t.history.last) t.history) t.history })
+agree-cut_at Snapshot s t moment is = record { config = is.config; made = is.made; losses = is.losses; stands = is.stands }
+agree-cut_at Local s t moment is = record {
   config = is.config;
   made = record { size = is.made.size; count = is.made.count; mode = is.made.mode; size_low = is.made.size_low; count_low = is.made.count_low };
   losses = record { discarding = is.losses.discarding; overwriting = is.losses.overwriting };
-  stands = (cuts s t.history moment is.stands).1;
+  stands = rw (ap (max moment) is.stands.last) (stands-cut s t.history (max moment t.history.last) is.stands);
 }
+
+pub agree-cut : (s : StreamState) (t : Traced) (moment : ℕ) → Agrees s t → Agrees (by_state.after_cut moment s) (by_history.after_cut moment t)
+agree-cut s t moment is = subst (λ (c : StreamConfig). Agrees (by_state.after_cut moment s) (record t { history = after_cut c moment t.history })) is.config (agree-cut_at s.config.session s t moment is)
+
+-- a look
+pub same-snapped : (s : StreamState) (t : Traced) (moment : ℕ) → Agrees s t → by_state.snapped moment s ≡ by_history.snapped moment t
+same-snapped s t moment is = rw (← is.config) (snaps s t.history moment is.stands)
 
 -- a start or a stop
 pub agree-turned : (s : StreamState) (t : Traced) (active : Bool) → Agrees s t → Agrees (by_state.turned active s) (by_history.turned active t)

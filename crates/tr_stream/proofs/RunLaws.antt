@@ -1,30 +1,41 @@
 -- One more call at the end of a run.
-use Rattle.std.proofs.Common.{◌≡◌, ℕ, ◌+◌, ◌<◌, List, [], ◌∷◌, ◌++◌, length, get_or, take, refl, ap, sym, subst, ◌∙◌}
+use Rattle.std.proofs.Common.{◌≡◌, ℕ, ◌+◌, ◌<◌, List, [], ◌∷◌, ◌++◌, length, get_or, take, Result, refl, ap, sym, subst, ◌∙◌}
 use Rattle.std.proofs.lemmas.List.{take_more}
 use Rattle.tr_stream.specs.History.{History}
 use Rattle.tr_stream.specs.Runs.{after_event, answer_to, after_events, answers_to}
 use Rattle.tr_stream.specs.StandsFor.{StandsFor}
 use Rattle.tr_stream.specs.State.{StreamState}
+use Rattle.tr_stream.specs.declared.answers.CutDone.{CutDone}
+use Rattle.tr_stream.specs.declared.answers.CutFault.{CutFault}
+use Rattle.tr_stream.specs.declared.answers.OfferFault.{OfferFault}
+use Rattle.tr_stream.specs.declared.answers.Offered.{Offered}
 use Rattle.tr_stream.specs.declared.config.StreamConfig.{StreamConfig}
 use Rattle.tr_stream.specs.declared.events.StreamAnswer.{StreamAnswer}
+use Rattle.tr_stream.specs.declared.events.StreamAnswer.TheVariants as answer
 use Rattle.tr_stream.specs.declared.events.StreamEvent.{StreamEvent}
 
 module _ {A : Type 0} where
+  pub offer-answered : (a b : Result Offered OfferFault) → a ≡ b → (let r : StreamAnswer A = answer.Offer a in r) ≡ answer.Offer b
+  offer-answered a b e = ap (λ (x : Result Offered OfferFault). (let r : StreamAnswer A = answer.Offer x in r)) e
+
+  pub cut-answered : (a b : Result CutDone CutFault) → a ≡ b → (let r : StreamAnswer A = answer.Cut a in r) ≡ answer.Cut b
+  cut-answered a b e = ap (λ (x : Result CutDone CutFault). (let r : StreamAnswer A = answer.Cut x in r)) e
+
   after_events-push : (c : StreamConfig) (es : List (StreamEvent A)) (e : StreamEvent A) (h : History) → after_events c (es ++ e ∷ []) h ≡ after_event c e (after_events c es h)
   after_events-push c [] e h = refl
   after_events-push c (x ∷ es) e h = after_events-push c es e (after_event c x h)
 
   answers_to-push : (c : StreamConfig) (es : List (StreamEvent A)) (e : StreamEvent A) (h : History) → answers_to c (es ++ e ∷ []) h ≡ answers_to c es h ++ answer_to c e (after_events c es h) ∷ []
   answers_to-push c [] e h = refl
-  answers_to-push c (x ∷ es) e h = ap (λ (more : List StreamAnswer). answer_to c x h ∷ more) (answers_to-push c es e (after_event c x h))
+  answers_to-push c (x ∷ es) e h = ap (λ (more : List (StreamAnswer A)). answer_to c x h ∷ more) (answers_to-push c es e (after_event c x h))
 
   -- the run over the first calls
-  pub record RunsSo (config : StreamConfig) (events : List (StreamEvent A)) (start : History) (stream : StreamState) (answers : List StreamAnswer) : Type 0 where
+  pub record RunsSo (config : StreamConfig) (events : List (StreamEvent A)) (start : History) (stream : StreamState) (answers : List (StreamAnswer A)) : Type 0 where
     pub with_config : stream.config ≡ config
     pub stands : StandsFor stream (after_events config events start)
     pub told : answers ≡ answers_to config events start
 
-  pub runs-more : (c : StreamConfig) (events : List (StreamEvent A)) (i : ℕ) (e : StreamEvent A) (h : History) (old new : StreamState) (before answers : List StreamAnswer) (a : StreamAnswer) → i < length events → e ≡ get_or events i e → RunsSo c (take i events) h old before → new.config ≡ old.config
+  pub runs-more : (c : StreamConfig) (events : List (StreamEvent A)) (i : ℕ) (e : StreamEvent A) (h : History) (old new : StreamState) (before answers : List (StreamAnswer A)) (a : StreamAnswer A) → i < length events → e ≡ get_or events i e → RunsSo c (take i events) h old before → new.config ≡ old.config
       → ((g : History) → StandsFor old g → (a ≡ answer_to old.config e g) × StandsFor new (after_event old.config e g)) → answers ≡ before ++ a ∷ [] → RunsSo c (take (i + 1) events) h new answers
   runs-more c events i e h old new before answers a within item so kept step pushed =
       let more : take (i + 1) events ≡ take i events ++ e ∷ [] = take_more events i e within ∙ ap (λ (x : StreamEvent A). take i events ++ x ∷ []) (sym item) in

@@ -13,6 +13,7 @@ use Rattle.tr_record.specs.Weight.{weight_of}
 use Rattle.std.specs.List.{AllByRecursion}
 use Rattle.tr_ring.specs.Ring.{IsClosedWithin, closing, seq_after}
 use Rattle.tr_ring.specs.ClosedBuffer.{ClosedBuffer}
+use Rattle.tr_stream.proofs.SessionLaws.{not-both}
 use Rattle.tr_stream.proofs.ChunkLaws.{records_in-cons, records_in-append}
 use Rattle.tr_stream.proofs.CutLaws.{records_in-ring}
 use Rattle.tr_stream.proofs.OpenLaws.{open-joined, open-one, open-missed, open-none}
@@ -22,6 +23,7 @@ use Rattle.tr_stream.specs.Chunks.{packet_of, begin_of, closing_if_any, ring_buf
 use Rattle.tr_stream.specs.Sound.{IsSound, ArePackets, CanBeSent, LosesByMode}
 use Rattle.tr_stream.specs.State.{StreamState, records_in}
 use Rattle.tr_stream.specs.StateSteps.{state_switched, state_cut_at}
+use Rattle.tr_stream.specs.declared.config.SessionMode.TheVariants.{Local}
 use Rattle.tr_stream.specs.declared.config.StreamConfig.{StreamConfig}
 
 are-push : (c : StreamConfig) (bs : List ClosedBuffer) (b : ClosedBuffer) → ArePackets c bs → IsPacket (packet_of c b) → ArePackets c (bs ++ b ∷ [])
@@ -76,6 +78,7 @@ sound-joined s e is next room = record {
   losses = record { discarding = is.losses.discarding; overwriting = is.losses.overwriting };
   packets = is.packets;
   filling = open-joined s.book.offered s.book.last s.ring.current e next.fits next.serial next.moment (omega (arith, room, is.config.size_high)) is.filling;
+  unconsumed = is.unconsumed;
   closed_sent = is.closed_sent;
   current_sent = is.current_sent;
 }
@@ -105,6 +108,7 @@ sound-missed s moment is left le in_time mode = record {
   losses = losses-missed s moment mode is.losses;
   packets = is.packets;
   filling = open-missed s.book.offered s.book.last moment s.ring.current le in_time is.filling;
+  unconsumed = is.unconsumed;
   closed_sent = is.closed_sent;
   current_sent = is.current_sent;
 }
@@ -125,6 +129,7 @@ sound-followed s e is next used small room = record {
   losses = record { discarding = is.losses.discarding; overwriting = is.losses.overwriting };
   packets = are-push s.config s.ring.waiting (closing e.moment s.ring) is.packets (closing-is_packet s e.moment is used next.moment next.fits.moment);
   filling = open-one s.book.offered e next.fits next.serial (grind (arith, common_steps, small, is.config.size_high));
+  unconsumed = is.unconsumed;
   closed_sent = is.closed_sent;
   current_sent = is.current_sent;
 }
@@ -149,6 +154,7 @@ sound-without_oldest s is some mode = record {
   losses = losses-without_oldest s mode is.losses;
   packets = are-drop s.config s.ring.waiting is.packets;
   filling = is.filling;
+  unconsumed = is.unconsumed;
   closed_sent = is.closed_sent;
   current_sent = is.current_sent;
 }
@@ -159,8 +165,8 @@ one b bs (c ∷ ws) e =
     let f : c ≡ b = cc in
     rw (← f) (records_in-cons c ws)
 
-pub sound-moved : (s : StreamState) (b : ClosedBuffer) (bs : List ClosedBuffer) → s.ring.waiting ≡ b ∷ bs → IsSound s → IsSound (with_moved b s)
-sound-moved s b bs oldest is = record {
+pub sound-moved : (s : StreamState) (b : ClosedBuffer) (bs : List ClosedBuffer) → s.ring.waiting ≡ b ∷ bs → s.config.session ≡ Local → IsSound s → IsSound (with_moved b s)
+sound-moved s b bs oldest local is = record {
   config = is.config;
   made = record { size = is.made.size; count = is.made.count; mode = is.made.mode; size_low = is.made.size_low; count_low = is.made.count_low };
   few = is.few;
@@ -175,12 +181,13 @@ sound-moved s b bs oldest is = record {
   losses = record { discarding = is.losses.discarding; overwriting = is.losses.overwriting };
   packets = are-drop s.config s.ring.waiting is.packets;
   filling = is.filling;
+  unconsumed = λ e. absurd (not-both s.config.session local e);
   closed_sent = is.closed_sent;
   current_sent = all_push IsPacket s.parts.current.packets (packet_of s.config b) is.current_sent (first-packet s.config b bs (subst (λ (ws : List ClosedBuffer). ArePackets s.config ws) oldest is.packets));
 }
 
 pub sound-switched : (s : StreamState) (active : Bool) → IsSound s → IsSound (state_switched active s)
-sound-switched s active is = record { config = is.config; made = is.made; few = is.few; in_time = is.in_time; total = is.total; consumed = is.consumed; numbers = is.numbers; dropped = is.dropped; room = is.room; fits = is.fits; waiting_fit = is.waiting_fit; losses = record { discarding = is.losses.discarding; overwriting = is.losses.overwriting }; packets = is.packets; filling = is.filling; closed_sent = is.closed_sent; current_sent = is.current_sent }
+sound-switched s active is = record { config = is.config; made = is.made; few = is.few; in_time = is.in_time; total = is.total; consumed = is.consumed; numbers = is.numbers; dropped = is.dropped; room = is.room; fits = is.fits; waiting_fit = is.waiting_fit; losses = record { discarding = is.losses.discarding; overwriting = is.losses.overwriting }; packets = is.packets; filling = is.filling; unconsumed = is.unconsumed; closed_sent = is.closed_sent; current_sent = is.current_sent }
 
 seq-after : (seq offered : ℕ) (es : List Entry) → seq + min 1 (length es) ≤ offered → seq_after seq es + min 1 0 ≤ offered
 seq-after seq offered [] le = omega arith
@@ -213,8 +220,8 @@ are-ring s end is later in_time = are-append s.config s.ring.waiting (closing_if
     are-closing [] can = tt
     are-closing (e ∷ es) can = (can (not_nil e es), tt)
 
-pub sound-cut : (s : StreamState) (end : ℕ) → IsSound s → s.book.last ≤ end → end ≤ last_moment → IsSound (state_cut_at end s)
-sound-cut s end is later in_time = record {
+pub sound-cut : (s : StreamState) (end : ℕ) → s.config.session ≡ Local → IsSound s → s.book.last ≤ end → end ≤ last_moment → IsSound (state_cut_at end s)
+sound-cut s end local is later in_time = record {
   config = is.config;
   made = record { size = is.made.size; count = is.made.count; mode = is.made.mode; size_low = is.made.size_low; count_low = is.made.count_low };
   few = is.few;
@@ -234,6 +241,7 @@ sound-cut s end is later in_time = record {
   losses = record { discarding = is.losses.discarding; overwriting = is.losses.overwriting };
   packets = tt;
   filling = open-none s.book.offered end;
+  unconsumed = λ e. absurd (not-both s.config.session local e);
   closed_sent = all_push CanBeSent s.parts.closed (record s.parts.current { packets = s.parts.current.packets ++ map (packet_of s.config) (ring_buffers end s.ring) }) is.closed_sent
       (all_append IsPacket s.parts.current.packets (map (packet_of s.config) (ring_buffers end s.ring)) is.current_sent (all-packets s.config (ring_buffers end s.ring) (are-ring s end is later in_time)));
   current_sent = tt;

@@ -1,15 +1,18 @@
 -- A new stream begins a history, a take is the history's take, and the counts are the history's.
-use Rattle.std.proofs.Common.{◌≡◌, ℕ, ◌+◌, zero, suc, List, [], ◌∷◌, length, refl, sym, ◌∙◌, ap, subst, arith}
+use Rattle.std.proofs.Common.{◌≡◌, ℕ, ◌+◌, zero, suc, List, [], ◌∷◌, length, Err, refl, sym, ◌∙◌, ap, subst, arith}
 use Rattle.std.proofs.lemmas.Bool.Decides.{nat_tests}
 use Rattle.std.proofs.lemmas.Grind.{common_steps}
 use Rattle.tr_ring.specs.ClosedBuffer.{ClosedBuffer}
 use Rattle.tr_stream.proofs.Refinement.{stands-moved}
-use Rattle.tr_stream.specs.Chunks.{buffers_where, parts_below}
+use Rattle.tr_stream.specs.Chunks.{buffers_where, parts_below, waiting_of}
 use Rattle.tr_stream.specs.History.{Status, Kept, Closed, History, is_waiting}
 use Rattle.tr_stream.specs.StandsFor.{StandsFor}
 use Rattle.tr_stream.specs.State.{StreamState}
 use Rattle.tr_stream.specs.StateSteps.{take_result, moved_oldest, state_after_take, state_counts, new_state}
-use Rattle.tr_stream.specs.Steps.{settle_first, take_answer, after_take, counts_of, start}
+use Rattle.tr_stream.specs.Steps.{by_session, taken_from, settle_first, oldest_kept, take_answer, after_take, counts_of, start}
+use Rattle.tr_stream.specs.declared.answers.TakeFault.TheVariants.{SnapshotMode}
+use Rattle.tr_stream.specs.declared.config.SessionMode.{SessionMode}
+use Rattle.tr_stream.specs.declared.config.SessionMode.TheVariants.{Local, Snapshot}
 use Rattle.tr_stream.specs.declared.config.StreamConfig.{StreamConfig}
 
 -- a new stream stands for a history that begins
@@ -34,15 +37,21 @@ nothing_settled : (status : Status) (lost : ℕ) (cs : List Closed) → buffers_
 nothing_settled status lost [] none = refl
 nothing_settled status lost (c ∷ cs) none = grind (arith, common_steps, nothing_settled status (lost + length c.block.missed) cs)
 
-taken : (s : StreamState) (h : History) (waiting : List ClosedBuffer) → s.ring.waiting ≡ waiting → StandsFor s h → StandsFor (moved_oldest waiting s) (after_take h)
+pub taken : (s : StreamState) (h : History) (waiting : List ClosedBuffer) → s.ring.waiting ≡ waiting → StandsFor s h → StandsFor (moved_oldest waiting s) (oldest_kept h)
 taken s h [] waiting_is is =
     let same : settle_first (Kept h.cuts) h.closed ≡ h.closed = nothing_settled (Kept h.cuts) 0 h.closed (sym is.waiting ∙ waiting_is) in
     subst (λ (cs : List Closed). StandsFor s (record h { closed = cs })) (sym same) is
 taken s h (b ∷ bs) waiting_is is = stands-moved s h b bs waiting_is is
 
 -- a take from a stream is the history's take
-pub takes : (s : StreamState) (h : History) → StandsFor s h → (take_result s ≡ take_answer h) × StandsFor (state_after_take s) (after_take h)
-takes s h is = (let a = is.current in let b = is.waiting in cc, taken s h s.ring.waiting refl is)
+takes_in : (m : SessionMode) (s : StreamState) (h : History) → StandsFor s h
+    → (by_session m (taken_from s.parts.current.id s.ring.waiting) (Err SnapshotMode) ≡ by_session m (taken_from h.cuts (waiting_of h)) (Err SnapshotMode))
+    × StandsFor (by_session m (moved_oldest s.ring.waiting s) s) (by_session m (oldest_kept h) h)
+takes_in Local s h is = (let a = is.current in let b = is.waiting in cc, taken s h s.ring.waiting refl is)
+takes_in Snapshot s h is = (refl, is)
+
+pub takes : (s : StreamState) (h : History) → StandsFor s h → (take_result s ≡ take_answer s.config h) × StandsFor (state_after_take s) (after_take s.config h)
+takes s h is = takes_in s.config.session s h is
 
 pub length-parts_below : (c : StreamConfig) (k : ℕ) (h : History) → length (parts_below c k h) ≡ k
 length-parts_below c zero h = refl

@@ -21,14 +21,18 @@ offer_fault_name offer.NoMemory = codes "NoMemory"
 
 abbrev pub take_fault_code : TakeFault → List ℕ
 take_fault_code take.Nothing = codes "T1"
+take_fault_code take.SnapshotMode = codes "T2"
 take_fault_code take.NoMemory = codes "T3"
 
 abbrev pub take_fault_name : TakeFault → List ℕ
 take_fault_name take.Nothing = codes "Nothing"
+take_fault_name take.SnapshotMode = codes "SnapshotMode"
 take_fault_name take.NoMemory = codes "NoMemory"
 
 abbrev pub cut_fault_code : CutFault → List ℕ
+cut_fault_code cut.SnapshotMode = codes "C1"
 cut_fault_code cut.NoMemory = codes "C2"
 
 abbrev pub cut_fault_name : CutFault → List ℕ
+cut_fault_name cut.SnapshotMode = codes "SnapshotMode"
 cut_fault_name cut.NoMemory = codes "NoMemory"

@@ -1,28 +1,30 @@
 -- A list of calls, one after another.
-use Rattle.std.specs.Prelude.{ℕ, ◌+◌, max, true, false, ◌==◌, List, [], ◌∷◌, ◌++◌, take, if◌then◌else◌}
+use Rattle.std.specs.Prelude.{ℕ, ◌+◌, max, true, false, ◌==◌, List, [], ◌∷◌, ◌++◌, take, Ok, if◌then◌else◌}
 use Rattle.tr_ring.specs.ClosedBuffer.{ClosedBuffer}
 use Rattle.tr_stream.specs.Chunks.{waiting_of, ring_of}
 use Rattle.tr_stream.specs.History.{History}
-use Rattle.tr_stream.specs.Steps.{after_offer, offer_answer, after_take, take_answer, after_cut, cut_answer, switched}
+use Rattle.tr_stream.specs.Steps.{by_session, after_offer, offer_answer, after_take, take_answer, after_cut, cut_answer, snap_of, switched}
 use Rattle.tr_stream.specs.declared.config.StreamConfig.{StreamConfig}
 use Rattle.tr_stream.specs.declared.events.StreamAnswer.{StreamAnswer}
 use Rattle.tr_stream.specs.declared.events.StreamAnswer.TheVariants as answer
 use Rattle.tr_stream.specs.declared.events.StreamEvent.{StreamEvent}
-use Rattle.tr_stream.specs.declared.events.StreamEvent.TheVariants.{Offer, Take, Cut, Start, Stop}
+use Rattle.tr_stream.specs.declared.events.StreamEvent.TheVariants.{Offer, Take, Cut, Peek, Start, Stop}
 
 -- the history after a call
 abbrev pub after_event : {A : Type 0} → StreamConfig → StreamEvent A → History → History
 after_event c (Offer moment id payload) h = after_offer c moment id payload h
-after_event c Take h = after_take h
-after_event c (Cut moment) h = after_cut moment h
+after_event c Take h = after_take c h
+after_event c (Cut moment) h = after_cut c moment h
+after_event c (Peek moment) h = h
 after_event c Start h = switched true h
 after_event c Stop h = switched false h
 
 -- what it answers
-abbrev pub answer_to : {A : Type 0} → StreamConfig → StreamEvent A → History → StreamAnswer
+abbrev pub answer_to : {A : Type 0} → StreamConfig → StreamEvent A → History → StreamAnswer A
 answer_to c (Offer moment id payload) h = answer.Offer (offer_answer c payload h)
-answer_to c Take h = answer.Take (take_answer h)
-answer_to c (Cut moment) h = answer.Cut (cut_answer moment h)
+answer_to c Take h = answer.Take (take_answer c h)
+answer_to c (Cut moment) h = answer.Cut (cut_answer c moment h)
+answer_to c (Peek moment) h = answer.Peek (Ok (snap_of c moment h))
 answer_to c Start h = answer.Start
 answer_to c Stop h = answer.Stop
 
@@ -32,25 +34,30 @@ after_events c [] h = h
 after_events c (e ∷ es) h = after_events c es (after_event c e h)
 
 -- the answer to each
-abbrev pub answers_to : {A : Type 0} → StreamConfig → List (StreamEvent A) → History → List StreamAnswer
+abbrev pub answers_to : {A : Type 0} → StreamConfig → List (StreamEvent A) → History → List (StreamAnswer A)
 answers_to c [] h = []
 answers_to c (e ∷ es) h = answer_to c e h ∷ answers_to c es (after_event c e h)
 
 -- what a call keeps in the current chunk
-abbrev pub kept_by : {A : Type 0} → StreamEvent A → History → List ClosedBuffer
-kept_by (Offer moment id payload) h = []
-kept_by Take h = take 1 (waiting_of h)
-kept_by (Cut moment) h = ring_of (max moment h.last) h
-kept_by Start h = []
-kept_by Stop h = []
+abbrev pub kept_by : {A : Type 0} → StreamConfig → StreamEvent A → History → List ClosedBuffer
+kept_by c (Offer moment id payload) h = []
+kept_by c Take h = by_session c.session (take 1 (waiting_of h)) []
+kept_by c (Cut moment) h = by_session c.session (ring_of (max moment h.last) h) []
+kept_by c (Peek moment) h = []
+kept_by c Start h = []
+kept_by c Stop h = []
 
 -- what calls keep while there were so many cuts, in order
 abbrev pub kept_after_cuts : {A : Type 0} → ℕ → StreamConfig → List (StreamEvent A) → History → List ClosedBuffer
 kept_after_cuts k c [] h = []
-kept_after_cuts k c (e ∷ es) h = (if k == h.cuts then kept_by e h else []) ++ kept_after_cuts k c es (after_event c e h)
+kept_after_cuts k c (e ∷ es) h = (if k == h.cuts then kept_by c e h else []) ++ kept_after_cuts k c es (after_event c e h)
 
 -- how many cuts there are among calls
 abbrev pub cuts_among : {A : Type 0} → List (StreamEvent A) → ℕ
 cuts_among [] = 0
 cuts_among (Cut moment ∷ es) = cuts_among es + 1
 cuts_among (e ∷ es) = cuts_among es
+
+-- how many of them cut the stream
+abbrev pub cuts_made : {A : Type 0} → StreamConfig → List (StreamEvent A) → ℕ
+cuts_made c events = by_session c.session (cuts_among events) 0

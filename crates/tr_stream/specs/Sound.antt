@@ -1,7 +1,7 @@
 -- What is true of every stream value, by itself.
 use Rattle.std.specs.Prelude.{◌≡◌, ◌≢◌, ℕ, ◌+◌, ◌^◌, ◌≤◌, ◌<◌, min, List, [], ◌∷◌, length}
 use Rattle.std.specs.List.{AllByRecursion}
-use Rattle.tr_book.specs.Parts.{PartState}
+use Rattle.tr_book.specs.Parts.{PartState, no_parts}
 use Rattle.tr_book.specs.declared.mode.Mode.TheVariants.{Discard, Overwrite}
 use Rattle.tr_packet.specs.Order.{IsBelow}
 use Rattle.tr_packet.specs.Packets.{IsPacket, MakePacket}
@@ -12,6 +12,7 @@ use Rattle.tr_ring.specs.ClosedBuffer.{ClosedBuffer}
 use Rattle.tr_stream.specs.Chunks.{packet_of, begin_of}
 use Rattle.tr_stream.specs.State.{StreamState, in_ring, in_parts}
 use Rattle.tr_stream.specs.StateSteps.{overwrites}
+use Rattle.tr_stream.specs.declared.config.SessionMode.TheVariants.{Snapshot}
 use Rattle.tr_stream.specs.declared.config.StreamConfig.{StreamConfig}
 
 -- what a stream is made with
@@ -71,6 +72,8 @@ pub record IsSound (s : StreamState) : Type 0 where
   -- what waits can be sent, and what is filling can be closed
   pub packets : ArePackets s.config s.ring.waiting
   pub filling : IsOpen s.book.offered s.book.last s.ring.current
+  -- in a snapshot session nothing was consumed, and nothing was cut
+  pub unconsumed : s.config.session ≡ Snapshot → s.parts ≡ no_parts
   -- what was consumed can be sent
   pub closed_sent : AllByRecursion CanBeSent s.parts.closed
   pub current_sent : CanBeSent s.parts.current

@@ -2,6 +2,7 @@
 use Rattle.std.specs.Prelude.{ℕ, ◌+◌, ◌-◌, ◌^◌, max, min, Bool, true, false, nat_lt, nat_le, not, List, [], ◌∷◌, length, map, Option, Some, None, Result, Ok, Err, if◌then◌else◌}
 use Rattle.tr_book.specs.Book.{BookState, empty_book, with_consumed, at_moment}
 use Rattle.tr_book.specs.Parts.{bytes_of, no_parts, with_packet, with_packets, closed_part}
+use Rattle.tr_book.specs.Snaps.{SnapState}
 use Rattle.tr_book.specs.declared.counts.Counts.{Counts}
 use Rattle.tr_record.specs.Records.{Entry}
 use Rattle.tr_ring.specs.Ring.{after_push, emptied, empty_ring, push_answer, without_first}
@@ -12,14 +13,16 @@ use Rattle.tr_book.specs.declared.mode.Mode.{Mode}
 use Rattle.tr_book.specs.declared.mode.Mode.TheVariants.{Discard, Overwrite}
 use Rattle.tr_stream.specs.Chunks.{packet_of, ring_buffers}
 use Rattle.tr_stream.specs.State.{StreamState, in_ring}
-use Rattle.tr_stream.specs.Steps.{taken_from, done_with}
+use Rattle.tr_stream.specs.Steps.{by_session, taken_from, done_with}
 use Rattle.tr_stream.specs.declared.answers.CutDone.{CutDone}
 use Rattle.tr_stream.specs.declared.answers.CutFault.{CutFault}
+use Rattle.tr_stream.specs.declared.answers.CutFault.TheVariants as cut_fault
 use Rattle.tr_stream.specs.declared.answers.OfferFault.{OfferFault}
 use Rattle.tr_stream.specs.declared.answers.OfferFault.TheVariants.{Inactive, TooBig, Spent}
 use Rattle.tr_stream.specs.declared.answers.Offered.{Offered}
 use Rattle.tr_stream.specs.declared.answers.Offered.TheVariants.{Stored, StoredOver, Discarded}
 use Rattle.tr_stream.specs.declared.answers.TakeFault.{TakeFault}
+use Rattle.tr_stream.specs.declared.answers.TakeFault.TheVariants as take_fault
 use Rattle.tr_stream.specs.declared.answers.Taken.{Taken}
 use Rattle.tr_stream.specs.declared.config.StreamConfig.{StreamConfig}
 
@@ -82,10 +85,10 @@ moved_oldest (b ∷ bs) s = record s {
 
 -- a take
 abbrev pub take_result : StreamState → Result Taken TakeFault
-take_result s = taken_from s.parts.current.id s.ring.waiting
+take_result s = by_session s.config.session (taken_from s.parts.current.id s.ring.waiting) (Err take_fault.SnapshotMode)
 
 abbrev pub state_after_take : StreamState → StreamState
-state_after_take s = moved_oldest s.ring.waiting s
+state_after_take s = by_session s.config.session (moved_oldest s.ring.waiting s) s
 
 -- all that the ring holds is in the current part, which is closed
 abbrev pub state_cut_at : ℕ → StreamState → StreamState
@@ -100,10 +103,14 @@ abbrev pub cut_done : ℕ → StreamState → CutDone
 cut_done end s = done_with s.parts.current.id (ring_buffers end s.ring)
 
 abbrev pub cut_result : ℕ → StreamState → Result CutDone CutFault
-cut_result moment s = Ok (cut_done (max moment s.book.last) s)
+cut_result moment s = by_session s.config.session (Ok (cut_done (max moment s.book.last) s)) (Err cut_fault.SnapshotMode)
 
 abbrev pub state_after_cut : ℕ → StreamState → StreamState
-state_after_cut moment s = state_cut_at (max moment s.book.last) s
+state_after_cut moment s = by_session s.config.session (state_cut_at (max moment s.book.last) s) s
+
+-- what is seen of the stream at a moment
+abbrev pub state_snap : ℕ → StreamState → SnapState
+state_snap moment s = record { stream = s.config.number; offered = s.book.offered; lost = s.ring.refused; packets = map (packet_of s.config) (ring_buffers (max moment s.book.last) s.ring) }
 
 abbrev pub state_switched : Bool → StreamState → StreamState
 state_switched active s = record s { active = active }

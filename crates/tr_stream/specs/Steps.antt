@@ -1,6 +1,7 @@
 -- What each call does to the history, and what it answers.
 use Rattle.std.specs.Prelude.{ℕ, ◌+◌, ◌-◌, ◌^◌, max, min, Bool, false, nat_lt, nat_le, not, List, [], ◌∷◌, ◌++◌, length, map, Result, Ok, Err, if◌then◌else◌}
 use Rattle.tr_book.specs.Parts.{bytes_of}
+use Rattle.tr_book.specs.Snaps.{SnapState}
 use Rattle.tr_book.specs.declared.counts.Counts.{Counts}
 use Rattle.tr_book.specs.declared.mode.Mode.{Mode}
 use Rattle.tr_book.specs.declared.mode.Mode.TheVariants.{Discard, Overwrite}
@@ -12,13 +13,16 @@ use Rattle.tr_stream.specs.History.{Status, Waiting, Dropped, Kept, Closed, Hist
 use Rattle.tr_stream.specs.State.{records_in}
 use Rattle.tr_stream.specs.declared.answers.CutDone.{CutDone}
 use Rattle.tr_stream.specs.declared.answers.CutFault.{CutFault}
+use Rattle.tr_stream.specs.declared.answers.CutFault.TheVariants as cut_fault
 use Rattle.tr_stream.specs.declared.answers.OfferFault.{OfferFault}
 use Rattle.tr_stream.specs.declared.answers.OfferFault.TheVariants.{Inactive, TooBig, Spent}
 use Rattle.tr_stream.specs.declared.answers.Offered.{Offered}
 use Rattle.tr_stream.specs.declared.answers.Offered.TheVariants.{Stored, StoredOver, Discarded}
 use Rattle.tr_stream.specs.declared.answers.TakeFault.{TakeFault}
-use Rattle.tr_stream.specs.declared.answers.TakeFault.TheVariants.{Nothing}
+use Rattle.tr_stream.specs.declared.answers.TakeFault.TheVariants as take_fault
 use Rattle.tr_stream.specs.declared.answers.Taken.{Taken}
+use Rattle.tr_stream.specs.declared.config.SessionMode.{SessionMode}
+use Rattle.tr_stream.specs.declared.config.SessionMode.TheVariants.{Local, Snapshot}
 use Rattle.tr_stream.specs.declared.config.StreamConfig.{StreamConfig}
 
 -- at the start: one empty block is filling
@@ -92,14 +96,24 @@ offer_answer c payload h = course_answer (course_of c h (length payload)) h
 
 -- the oldest of these, for the chunk
 abbrev pub taken_from : ℕ → List ClosedBuffer → Result Taken TakeFault
-taken_from k [] = Err Nothing
+taken_from k [] = Err take_fault.Nothing
 taken_from k (b ∷ bs) = Ok (record { seq = b.seq; count = length b.records; chunk = k })
 
-abbrev pub take_answer : History → Result Taken TakeFault
-take_answer h = taken_from h.cuts (waiting_of h)
+-- one of these two, by what becomes of the session's packets
+abbrev pub by_session : {X : Type 0} → SessionMode → X → X → X
+by_session Local local snapshot = local
+by_session Snapshot local snapshot = snapshot
 
-abbrev pub after_take : History → History
-after_take h = record h { closed = settle_first (Kept h.cuts) h.closed }
+-- the first block that waits is kept
+abbrev pub oldest_kept : History → History
+oldest_kept h = record h { closed = settle_first (Kept h.cuts) h.closed }
+
+-- in a snapshot session nothing is taken
+abbrev pub take_answer : StreamConfig → History → Result Taken TakeFault
+take_answer c h = by_session c.session (taken_from h.cuts (waiting_of h)) (Err take_fault.SnapshotMode)
+
+abbrev pub after_take : StreamConfig → History → History
+after_take c h = by_session c.session (oldest_kept h) h
 
 -- the filling block, if it has a record, is closed and waits, and an empty one follows
 abbrev pub flushed_with : List Entry → ℕ → History → History
@@ -122,15 +136,20 @@ all_kept h = record h { closed = keep_waiting h.cuts h.closed; cuts = h.cuts + 1
 abbrev pub cut_at : ℕ → History → History
 cut_at end h = all_kept (flushed_with h.filling.records end h)
 
-abbrev pub after_cut : ℕ → History → History
-after_cut moment h = cut_at (max moment h.last) h
+-- in a snapshot session nothing is cut
+abbrev pub after_cut : StreamConfig → ℕ → History → History
+after_cut c moment h = by_session c.session (cut_at (max moment h.last) h) h
 
 -- how many blocks and records that keeps
 abbrev pub done_with : ℕ → List ClosedBuffer → CutDone
 done_with k buffers = record { chunk = k; packets = length buffers; records = records_in buffers }
 
-abbrev pub cut_answer : ℕ → History → Result CutDone CutFault
-cut_answer moment h = Ok (done_with h.cuts (ring_of (max moment h.last) h))
+abbrev pub cut_answer : StreamConfig → ℕ → History → Result CutDone CutFault
+cut_answer c moment h = by_session c.session (Ok (done_with h.cuts (ring_of (max moment h.last) h))) (Err cut_fault.SnapshotMode)
+
+-- what is seen of the stream at a moment: the filling block, if it has a record, as if it were closed
+abbrev pub snap_of : StreamConfig → ℕ → History → SnapState
+snap_of c moment h = record { stream = c.number; offered = offered_of h; lost = discarded_of h; packets = map (packet_of c) (ring_of (max moment h.last) h) }
 
 abbrev pub switched : Bool → History → History
 switched active h = record h { active = active }

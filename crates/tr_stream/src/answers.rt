@@ -105,6 +105,9 @@ pub enum TakeFault {
     /// No sub-buffer waits.
     #[error("T1 Nothing")]
     Nothing,
+    /// In a snapshot session nothing is taken.
+    #[error("T2 SnapshotMode")]
+    SnapshotMode,
     /// Memory was refused.
     #[error("T3 NoMemory")]
     NoMemory,
@@ -117,6 +120,7 @@ impl TakeFault {
     {
         match self {
             TakeFault::Nothing => "T1",
+            TakeFault::SnapshotMode => "T2",
             TakeFault::NoMemory => "T3",
         }
     }
@@ -127,6 +131,7 @@ impl TakeFault {
     {
         match self {
             TakeFault::Nothing => "Nothing",
+            TakeFault::SnapshotMode => "SnapshotMode",
             TakeFault::NoMemory => "NoMemory",
         }
     }
@@ -157,6 +162,9 @@ pub struct CutDone {
 /// Why a cut was refused. The stream is as it was.
 #[derive(Clone, Copy, Debug, PartialEq, Eq, Error)]
 pub enum CutFault {
+    /// In a snapshot session nothing is cut.
+    #[error("C1 SnapshotMode")]
+    SnapshotMode,
     /// Memory was refused.
     #[error("C2 NoMemory")]
     NoMemory,
@@ -168,6 +176,7 @@ impl CutFault {
         ensures { result.now ≡ cut_fault_code self.now }
     {
         match self {
+            CutFault::SnapshotMode => "C1",
             CutFault::NoMemory => "C2",
         }
     }
@@ -177,6 +186,7 @@ impl CutFault {
         ensures { result.now ≡ cut_fault_name self.now }
     {
         match self {
+            CutFault::SnapshotMode => "SnapshotMode",
             CutFault::NoMemory => "NoMemory",
         }
     }

@@ -8,6 +8,8 @@ use uuid::Uuid;
 pub enum SessionMode {
     /// They are consumed into trace chunks.
     Local,
+    /// They stay in the rings, which snapshots copy. Nothing is consumed.
+    Snapshot,
 }
 
 /// What a stream is made with.

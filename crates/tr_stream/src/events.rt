@@ -2,7 +2,8 @@
 
 use crate::answers::{CutDone, CutFault, OfferFault, Offered, TakeFault, Taken};
 use crate::payload::Payload;
-use std::alloc::{Allocator, Global};
+use std::alloc::{AllocError, Allocator, Global};
+use tr_book::StreamSnap;
 use tr_record::Moment;
 
 /// A call of a stream.
@@ -14,6 +15,8 @@ pub enum StreamEvent<A: Allocator = Global> {
     Take,
     /// A cut at a moment.
     Cut(Moment),
+    /// A look at a moment.
+    Peek(Moment),
     /// The stream takes offers from now on.
     Start,
     /// The stream takes no offers from now on.
@@ -21,14 +24,16 @@ pub enum StreamEvent<A: Allocator = Global> {
 }
 
 /// What a call answered.
-#[derive(Clone, Copy, Debug, PartialEq, Eq)]
-pub enum StreamAnswer {
+#[derive(Drop)]
+pub enum StreamAnswer<A: Allocator = Global> {
     /// To an offer.
     Offer(Result<Offered, OfferFault>),
     /// To a take.
     Take(Result<Taken, TakeFault>),
     /// To a cut.
     Cut(Result<CutDone, CutFault>),
+    /// To a look.
+    Peek(Result<StreamSnap<A>, AllocError>),
     /// To a start, which is never refused.
     Start,
     /// To a stop, which is never refused.

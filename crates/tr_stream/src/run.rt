@@ -16,7 +16,7 @@ use std::alloc::{AllocError, Allocator};
 fn step<A: Allocator + Copy>(
     stream: &mut Stream<A>,
     event: &StreamEvent<A>,
-) -> Result<StreamAnswer, AllocError>
+) -> Result<StreamAnswer<A>, AllocError>
     ensures config { stream.new.config ≡ stream.old.config }
     ensures step { (h : History) → StandsFor stream.old h → IfOk result (λ answer.
         (answer ≡ answer_to stream.old.config event.now h)
@@ -45,6 +45,10 @@ fn step<A: Allocator + Copy>(
             }
             Ok(StreamAnswer::Cut(answer))
         }
+        StreamEvent::Peek(moment) => {
+            let snap = stream.peek(*moment)?;
+            Ok(StreamAnswer::Peek(Ok(snap)))
+        }
         StreamEvent::Start => {
             stream.set_active(true);
             Ok(StreamAnswer::Start)
@@ -61,7 +65,7 @@ pub fn run_stream<A: Allocator + Copy>(
     alloc: A,
     config: StreamConfig,
     events: &[StreamEvent<A>],
-) -> Result<(Stream<A>, Vec<StreamAnswer, A>), AllocError>
+) -> Result<(Stream<A>, Vec<StreamAnswer<A>, A>), AllocError>
     ensures stream { IfOk result (λ r. StandsFor r.0 (after_events config events.now start)) }
     ensures answers { IfOk result (λ r. r.1.items ≡ answers_to config events.now start) }
 {

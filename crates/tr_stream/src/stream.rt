@@ -9,8 +9,8 @@ ghost use Rattle.tr_stream.specs.History.{History};
 ghost use Rattle.tr_stream.specs.Sound.{IsSound};
 ghost use Rattle.tr_stream.specs.StandsFor.{StandsFor};
 ghost use Rattle.tr_stream.specs.State.{in_ring};
-ghost use Rattle.tr_stream.specs.StateSteps.{new_state, overwrites, refusal_of, entered, with_offer, offered_as, offer_result, state_after_offer, TakesMemory, take_result, state_after_take, cut_done, cut_result, state_cut_at, state_after_cut, state_switched, state_counts};
-ghost use Rattle.tr_stream.specs.Steps.{start, offer_answer, after_offer, take_answer, after_take, cut_answer, after_cut, switched, counts_of};
+ghost use Rattle.tr_stream.specs.StateSteps.{new_state, overwrites, refusal_of, entered, with_offer, offered_as, offer_result, state_after_offer, TakesMemory, take_result, state_after_take, cut_done, cut_result, state_cut_at, state_after_cut, state_switched, state_snap, state_counts};
+ghost use Rattle.tr_stream.specs.Steps.{start, offer_answer, after_offer, take_answer, after_take, cut_answer, after_cut, switched, snap_of, counts_of};
 ghost use Rattle.tr_book.specs.Parts.{part_at};
 ghost use Rattle.tr_ring.specs.Ring.{push_answer};
 
@@ -20,7 +20,7 @@ use crate::fate::{Fate, fate_in_parts, loss};
 use crate::packing::{packet_from, ring_packets};
 use std::alloc::{AllocError, Allocator, Global};
 use std::marker::Model;
-use tr_book::{Book, Counts, Geometry, Mode, Part, Parts};
+use tr_book::{Book, Counts, Geometry, Mode, Part, Parts, StreamSnap};
 use tr_record::Moment;
 use tr_ring::{Pushed, Ring};
 use uuid::Uuid;
@@ -145,15 +145,19 @@ impl<A: Allocator + Copy> Stream<A> {
     }
 
     /// Moves the oldest sub-buffer that waits, as a packet, to the end of the current part. A take that is refused, also
-    /// for want of memory, changes nothing.
+    /// for want of memory, changes nothing. In a snapshot session each is.
     pub fn take(&mut self) -> Result<Taken, TakeFault>
         ensures value { result ≢ Err TakeFault.NoMemory → (result ≡ take_result self.old) × (self.new ≡ state_after_take self.old) }
         ensures step { (h : History) → StandsFor self.old h → result ≢ Err TakeFault.NoMemory →
-            (result ≡ take_answer h) × StandsFor self.new (after_take h) }
+            (result ≡ take_answer self.old.config h) × StandsFor self.new (after_take self.old.config h) }
         ensures no_memory { result ≡ Err TakeFault.NoMemory → self.new ≡ self.old }
         ensures config { self.new.config ≡ self.old.config }
         ensures memory { result ≡ Err TakeFault.NoMemory → IsOk (take_result self.old) }
     {
+        match self.config.session {
+            SessionMode::Snapshot => return Err(TakeFault::SnapshotMode),
+            SessionMode::Local => {}
+        }
         if self.ring.waiting() == 0 {
             return Err(TakeFault::Nothing);
         }
@@ -162,7 +166,8 @@ impl<A: Allocator + Copy> Stream<A> {
 
     /// Moves the oldest sub-buffer that waits. All memory is taken before anything moves.
     fn move_oldest(&mut self) -> Result<Taken, AllocError>
-        requires { 0 < length self.old.ring.waiting }
+        requires local { self.old.config.session ≡ SessionMode.Local }
+        requires some { 0 < length self.old.ring.waiting }
         ensures answer { IfOk result (λ t. take_result self.old ≡ Ok t) }
         ensures ok { OnOk result (self.new ≡ state_after_take self.old) }
         ensures err { OnErr result (self.new ≡ self.old) }
@@ -183,21 +188,28 @@ impl<A: Allocator + Copy> Stream<A> {
     }
 
     /// Closes the current sub-buffer if it has a record, moves all that waits, as packets, to the current part, closes that
-    /// part and begins the next one. A cut that is refused for want of memory changes nothing.
+    /// part and begins the next one. A cut that is refused, also for want of memory, changes nothing. In a snapshot session
+    /// each is.
     pub fn cut(&mut self, moment: Moment) -> Result<CutDone, CutFault>
         ensures value { result ≢ Err CutFault.NoMemory → (result ≡ cut_result moment self.old) × (self.new ≡ state_after_cut moment self.old) }
         ensures step { (h : History) → StandsFor self.old h → result ≢ Err CutFault.NoMemory →
-            (result ≡ cut_answer moment h) × StandsFor self.new (after_cut moment h) }
+            (result ≡ cut_answer self.old.config moment h) × StandsFor self.new (after_cut self.old.config moment h) }
         ensures no_memory { result ≡ Err CutFault.NoMemory → self.new ≡ self.old }
         ensures config { self.new.config ≡ self.old.config }
+        ensures memory { result ≡ Err CutFault.NoMemory → IsOk (cut_result moment self.old) }
     {
+        match self.config.session {
+            SessionMode::Snapshot => return Err(CutFault::SnapshotMode),
+            SessionMode::Local => {}
+        }
         let end = self.book.stored_moment(moment);
         Ok(self.cut_at(end)?)
     }
 
     /// Moves all that the ring holds. All memory is taken before anything moves.
     fn cut_at(&mut self, end: Moment) -> Result<CutDone, AllocError>
-        requires { self.old.book.last ≤ end }
+        requires local { self.old.config.session ≡ SessionMode.Local }
+        requires later { self.old.book.last ≤ end }
         ensures answer { IfOk result (λ d. d ≡ cut_done end self.old) }
         ensures ok { OnOk result (self.new ≡ state_cut_at end self.old) }
         ensures err { OnErr result (self.new ≡ self.old) }
@@ -213,6 +225,18 @@ impl<A: Allocator + Copy> Stream<A> {
         self.book.note_consumed(done.records);
         self.book.note_moment(end);
         Ok(done)
+    }
+
+    /// What the stream has now: its offers, its losses, and copies of the packets that its ring holds, the current
+    /// sub-buffer's too, as if it were closed at this moment, or at the last one if that is later. Nothing changes.
+    pub fn peek(&self, moment: Moment) -> Result<StreamSnap<A>, AllocError>
+        ensures value { IfOk result (λ snap. snap ≡ state_snap moment self.now) }
+        ensures step { (h : History) → StandsFor self.now h → IfOk result (λ snap. snap ≡ snap_of self.now.config moment h) }
+    {
+        let end = self.book.stored_moment(moment);
+        let packets = ring_packets(self.alloc, self.config, &self.ring, end)?;
+        let stream = self.config.number;
+        Ok(StreamSnap::new(stream, self.book.offered(), self.ring.refused(), packets))
     }
 }
 

@@ -20,7 +20,7 @@ pub invariant_of-self-2 : goal.invariant_of-self-2
 invariant_of-self-2 g c =
     let s : StreamState = record { config = c.self.inside.config; ring = c.self.inside.ring; parts = c.self.inside.parts; book = c.self.inside.book; active = c.self.inside.active } in
     let later : s.book.last ≤ c.args.end = search rules in
-    kept-cut_now s c.args.end c.in_ring.result c.in_ok-packets.packets.items c.empty.new.self c.cut.new.self c.note_consumed.new.self c.note_moment.new.self c.self.invariant later (omega arith) c.in_ok-packets.ensures (search rules) (search rules) (search rules) (search rules) (search rules)
+    kept-cut_now s c.args.end c.in_ring.result c.in_ok-packets.packets.items c.empty.new.self c.cut.new.self c.note_consumed.new.self c.note_moment.new.self (search rules) c.self.invariant later (omega arith) c.in_ok-packets.ensures (search rules) (search rules) (search rules) (search rules) (search rules)
 
 pub returns-clause-answer : goal.returns-clause-answer
 returns-clause-answer g c =

@@ -1,15 +1,12 @@
 use Rattle.std.proofs.Common.{rules, sym}
-use Rattle.tr_stream.proofs.CallLaws.{nothing-taken, some-taken, step-taken}
+use Rattle.tr_stream.proofs.CallLaws.{nothing-taken, step-taken}
 use Rattle.tr_stream.proofs.stream.Stream.take.Goals as goal
 
 pub returns-then-waiting-eq0-clause-step : goal.returns-then-waiting-eq0-clause-step
 returns-then-waiting-eq0-clause-step g c = λ h is _.
-    let none = nothing-taken c.args.self.now (search rules) in
+    let none = nothing-taken c.args.self.now (search rules) (search rules) in
     step-taken c.args.self.now c.args.self.now h _ is none.0 none.1
 
 pub returns-clause-step : goal.returns-clause-step
 returns-clause-step g c = λ h is _.
     step-taken c.args.self.now c.move_oldest.new.self h _ is (sym c.in_ok-move_oldest.ensures.answer) c.in_ok-move_oldest.ensures.ok
-
-pub returns-in_err-move_oldest-clause-memory : goal.returns-in_err-move_oldest-clause-memory
-returns-in_err-move_oldest-clause-memory g c = λ _. some-taken c.args.self.now (search rules)

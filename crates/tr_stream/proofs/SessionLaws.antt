@@ -1,0 +1,15 @@
+-- What a session's mode decides.
+use Rattle.std.proofs.Common.{◌≡◌, ap}
+use Rattle.tr_stream.specs.Steps.{by_session}
+use Rattle.tr_stream.specs.declared.config.SessionMode.{SessionMode}
+use Rattle.tr_stream.specs.declared.config.SessionMode.TheVariants.{Local, Snapshot}
+
+pub in-local : {X : Type 0} (m : SessionMode) (local snapshot : X) → m ≡ Local → by_session m local snapshot ≡ local
+in-local m local snapshot e = ap (λ (n : SessionMode). by_session n local snapshot) e
+
+pub in-snapshot : {X : Type 0} (m : SessionMode) (local snapshot : X) → m ≡ Snapshot → by_session m local snapshot ≡ snapshot
+in-snapshot m local snapshot e = ap (λ (n : SessionMode). by_session n local snapshot) e
+
+-- a session has one mode
+pub not-both : (m : SessionMode) → m ≡ Local → m ≡ Snapshot → ⊥
+not-both m local snapshot = cc
