@@ -10,20 +10,21 @@ use Rattle.std.specs.Str.{bytes_eq}
 use Rattle.tr_book.specs.Geometry.{GeometryState, geometry_of, is_size, is_count}
 use Rattle.tr_book.specs.declared.geometry.GeometryFault.{GeometryFault}
 use Rattle.tr_book.specs.declared.geometry.GeometryFault.TheVariants as geometry
+use Rattle.tr_book.specs.Snaps.{SnapState}
 use Rattle.tr_book.specs.declared.mode.Mode.{Mode}
 use Rattle.tr_session.specs.Agreement.{AllAgree, CanBeMade, AllCanBeMade, SessionsAgree}
 use Rattle.tr_session.specs.Book.{SessionBookState}
-use Rattle.tr_session.specs.BookSteps.{unless_refused, is_new, most_channels, channel_named, channel_made, channel_added, thread_place, with_thread, start_answer, started, after_start, stop_answer, stopped, after_stop, switch_answer, rotate_begin_answer, rotating, after_rotate_begin, cut_moment, with_cut, rotate_finish_answer, archived, after_rotate_finish}
+use Rattle.tr_session.specs.BookSteps.{unless_refused, is_new, is_allowed, most_channels, channel_named, channel_made, channel_added, thread_place, with_thread, start_answer, started, after_start, stop_answer, stopped, after_stop, switch_answer, rotate_begin_answer, rotating, after_rotate_begin, cut_moment, with_cut, rotate_finish_answer, archived, after_rotate_finish, snap_allowed}
 use Rattle.tr_session.specs.Session.{SessionOf}
 use Rattle.tr_session.specs.Sizes.{part_packets, part_bytes, archive_packets, archive_bytes}
-use Rattle.tr_session.specs.Steps.{with_book, session_channel_added, next_config, stream_made, thread_added, changed_at, offer_as_step, take_as_step, cut_as_step, offer_step, after_offer_step, take_step, after_take_step, cut_step_at, after_cut_step_at, cut_step, after_cut_step, after_switch_step, all_started, all_stopped, begun, finished, as_next, next_in, next_answer, after_next, cut_first, all_cut, rotated_answer, rotate_answer, after_rotate, fate_asked}
+use Rattle.tr_session.specs.Steps.{with_book, session_channel_added, next_config, stream_made, thread_added, changed_at, offer_as_step, take_as_step, cut_as_step, offer_step, after_offer_step, take_step, after_take_step, cut_step_at, after_cut_step_at, cut_step, after_cut_step, snap_step_at, snap_step, after_switch_step, all_started, all_stopped, begun, finished, as_next, next_in, next_answer, after_next, cut_first, all_cut, rotated_answer, rotate_answer, after_rotate, fate_asked}
 use Rattle.tr_session.specs.declared.archive.Archive.{Archive}
 use Rattle.tr_session.specs.declared.archive.Pending.{Pending}
 use Rattle.tr_session.specs.declared.channel.Channel.{Channel}
 use Rattle.tr_session.specs.declared.faults.SessionFault.{SessionFault}
 use Rattle.tr_session.specs.declared.faults.StepFault.{StepFault}
 use Rattle.tr_session.specs.declared.rotation.Next.TheVariants as next
-use Rattle.tr_stream.proofs.RuleLaws.{agree-made, agree-offered, agree-taken, agree-cut, agree-turned, same-cut, same-fated, same-offered, same-parted, same-taken}
+use Rattle.tr_stream.proofs.RuleLaws.{agree-made, agree-offered, agree-taken, agree-cut, agree-turned, same-cut, same-fated, same-offered, same-parted, same-snapped, same-taken}
 use Rattle.tr_stream.specs.Rules.{Traced, Agrees, by_state, by_history}
 use Rattle.tr_stream.specs.State.{StreamState}
 use Rattle.tr_stream.specs.declared.answers.CutDone.{CutDone}
@@ -113,6 +114,13 @@ module _ (a : SessionOf StreamState) (b : SessionOf Traced) (is : SessionsAgree 
 
   pub agree-cut_step : (i : ℕ) → SessionsAgree (after_cut_step by_state i a) (after_cut_step by_history i b)
   agree-cut_step i = subst (λ (c : SessionBookState). SessionsAgree (after_cut_step by_state i a) (after_cut_step_at by_history (cut_moment i c) i b)) is.book (agree-cut_at (cut_moment i a.book) i)
+
+  same-snap_at : (r : Result Unit SessionFault) (i moment : ℕ) → snap_step_at by_state r i moment a ≡ snap_step_at by_history r i moment b
+  same-snap_at (Err fault) i moment = refl
+  same-snap_at (Ok done) i moment = same-at i (λ s. Ok (by_state.snapped moment s)) (λ t. Ok (by_history.snapped moment t)) _ a.streams b.streams (λ s t agree. ap (λ (snap : SnapState). Ok snap) (same-snapped s t moment agree)) is.streams
+
+  pub same-snap : (i moment : ℕ) → snap_step by_state i moment a ≡ snap_step by_history i moment b
+  same-snap i moment = same-snap_at (snap_allowed i a.book) i moment ∙ ap (λ (c : SessionBookState). snap_step_at by_history (snap_allowed i c) i moment b) is.book
 
   pub same-fate : (i serial : ℕ) → fate_asked by_state i serial a ≡ fate_asked by_history i serial b
   same-fate i serial = same-at i (λ s. Ok (by_state.fated serial s)) (λ t. Ok (by_history.fated serial t)) _ a.streams b.streams (λ s t agree. ap (λ (fate : Option Fate). Ok fate) (same-fated s t serial agree)) is.streams
@@ -226,7 +234,11 @@ AreMade (Err f) = Unit {0}
 
 made-geometry : (b : SessionBookState) (name : List ℕ) (mode : Mode) (g : Result GeometryState GeometryFault) → ((h : GeometryState) → g ≡ Ok h → CanBeMade h) → AllCanBeMade b.channels → AreMade (channel_made name mode g b)
 made-geometry b name mode (Err fault) can is = tt
-made-geometry b name mode (Ok g) can is = can-push b.channels (name, record { geometry = g; mode = mode }) is (can g refl)
+made-geometry b name mode (Ok g) can is = by_test (is_allowed b.mode mode) refl
+  where
+    by_test : (allowed : Bool) → is_allowed b.mode mode ≡ allowed → AreMade (channel_made name mode (Ok g) b)
+    by_test true e = rw e (can-push b.channels (name, record { geometry = g; mode = mode }) is (can g refl))
+    by_test false e = rw e tt
 
 made-channel : (b : SessionBookState) (name : List ℕ) (size count : ℕ) (mode : Mode) → AllCanBeMade b.channels → AreMade (channel_added name size count mode b)
 made-channel b name size count mode is = go (is_new b.state) (is_some (channel_named name b)) (nat_le most_channels (length b.channels)) refl refl refl

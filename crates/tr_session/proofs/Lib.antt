@@ -3,6 +3,7 @@ pub mod AuditLaws
 pub mod BookLaws
 pub mod GapLaws
 pub mod ListLaws
+pub mod ModeLaws
 pub mod NameLaws
 pub mod OwnSteps
 pub mod ResultLaws

@@ -4,12 +4,12 @@ use Rattle.std.proofs.lemmas.Bool.Decides.{nat_tests}
 use Rattle.std.proofs.lemmas.Grind.{common_steps}
 use Rattle.std.specs.Prelude.{◌==◌, if◌then◌else◌, option_map, slice_get}
 use Rattle.tr_session.specs.Book.{SessionBookState}
-use Rattle.tr_session.specs.BookSteps.{unless_refused, cut_moment, switch_answer, with_cut}
+use Rattle.tr_session.specs.BookSteps.{unless_refused, cut_moment, switch_answer, with_cut, snap_allowed}
 use Rattle.tr_session.specs.Events.{after_event, after_events, book_after, cut_let_through, is_of, let_through, own_steps}
 use Rattle.tr_session.specs.Session.{SessionOf}
 use Rattle.tr_session.specs.Steps.{after_cut_step_at, changed_at}
 use Rattle.tr_session.specs.declared.events.Event.{Event}
-use Rattle.tr_session.specs.declared.events.Event.TheVariants.{Offer, Take, Cut, Start, Stop, SessionStart, SessionStop, RotateBegin, RotateFinish}
+use Rattle.tr_session.specs.declared.events.Event.TheVariants.{Offer, Take, Cut, Snap, Start, Stop, SessionStart, SessionStop, RotateBegin, RotateFinish}
 use Rattle.tr_session.specs.declared.faults.SessionFault.{SessionFault}
 use Rattle.tr_stream.specs.History.{History}
 use Rattle.tr_stream.specs.Rules.{Traced, by_history}
@@ -75,11 +75,25 @@ module _ (A : Type 0) where
   at-switch i j active (Ok x) steps s same = at-own i j (by_history.turned active) steps s.streams same
   at-switch i j active (Err fault) steps s same = if-none (i == j) (slice_get s.streams i)
 
+  -- a look changes no stream
+  seen : (moment : ℕ) (o : Option Traced) → o ≡ option_map (moved (stream.Peek moment ∷ [])) o
+  seen moment None = refl
+  seen moment (Some t) = refl
+
+  if-seen : (b : Bool) (moment : ℕ) (o : Option Traced) → o ≡ option_map (moved (if b then stream.Peek moment ∷ [] else [])) o
+  if-seen true moment o = seen moment o
+  if-seen false moment o = none-moved o
+
+  at-snap : (i j moment : ℕ) (r : Result Unit SessionFault) (ts : List Traced) → slice_get ts i ≡ option_map (moved (if i == j then unless_refused r (stream.Peek moment ∷ []) [] else [])) (slice_get ts i)
+  at-snap i j moment (Ok done) ts = if-seen (i == j) moment (slice_get ts i)
+  at-snap i j moment (Err fault) ts = if-none (i == j) (slice_get ts i)
+
   -- what an event does to stream i
   own-event : (i : ℕ) (e : Event A) (s : SessionOf Traced) → slice_get (after_event by_history e s).streams i ≡ option_map (moved (if is_of i e then let_through e s.book else [])) (slice_get s.streams i)
   own-event i (Offer j moment id payload) s = at-own i j (by_history.after_offered moment id payload) (stream.Offer moment id payload ∷ []) s.streams (λ t. refl)
   own-event i (Take j) s = at-own i j by_history.after_taken (stream.Take ∷ []) s.streams (λ t. refl)
   own-event i (Cut j) s = at-cut i j (cut_moment j s.book) s
+  own-event i (Snap j moment) s = at-snap i j moment (snap_allowed j s.book) s.streams
   own-event i (Start j) s = at-switch i j true (switch_answer true j s.book) (stream.Start ∷ []) s (λ t. refl)
   own-event i (Stop j) s = at-switch i j false (switch_answer false j s.book) (stream.Stop ∷ []) s (λ t. refl)
   own-event i (SessionStart moment) s = none-moved (slice_get s.streams i)
@@ -92,6 +106,7 @@ module _ (A : Type 0) where
   book-event (Offer j moment id payload) s = refl
   book-event (Take j) s = refl
   book-event (Cut j) s = book-cut (cut_moment j s.book) j s
+  book-event (Snap j moment) s = refl
   book-event (Start j) s = book-switch (switch_answer true j s.book) s (changed_at j (by_history.turned true) s.streams)
   book-event (Stop j) s = book-switch (switch_answer false j s.book) s (changed_at j (by_history.turned false) s.streams)
   book-event (SessionStart moment) s = refl

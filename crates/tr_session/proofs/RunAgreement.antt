@@ -2,7 +2,7 @@
 use Rattle.std.proofs.Common.{◌≡◌, ◌∙◌, ℕ, zero, suc, true, false, List, [], ◌∷◌, ◌++◌, Option, Some, None, Result, Ok, Err, ap, refl, subst, sym}
 use Rattle.std.specs.Prelude.{option_map, slice_get}
 use Rattle.std.specs.String.{string_bytes}
-use Rattle.tr_session.proofs.Agreement.{ResultsAgree, agree-alone_started, agree-alone_stopped, agree-begun, agree-channel, agree-cut_step, agree-finished, agree-offer, agree-switch, agree-take, agree-thread, same-cut_step, same-offer, same-take}
+use Rattle.tr_session.proofs.Agreement.{ResultsAgree, agree-alone_started, agree-alone_stopped, agree-begun, agree-channel, agree-cut_step, agree-finished, agree-offer, agree-switch, agree-take, agree-thread, same-cut_step, same-offer, same-snap, same-take}
 use Rattle.tr_session.proofs.OwnSteps.{moved, own-events}
 use Rattle.tr_session.specs.Agreement.{AllAgree, SessionsAgree}
 use Rattle.tr_session.specs.Book.{SessionBookState}
@@ -17,7 +17,7 @@ use Rattle.tr_session.specs.declared.config.Config.{Config}
 use Rattle.tr_session.specs.declared.events.Answer.{Answer}
 use Rattle.tr_session.specs.declared.events.Answer.TheVariants as answer
 use Rattle.tr_session.specs.declared.events.Event.{Event}
-use Rattle.tr_session.specs.declared.events.Event.TheVariants.{Offer, Take, Cut, Start, Stop, SessionStart, SessionStop, RotateBegin, RotateFinish}
+use Rattle.tr_session.specs.declared.events.Event.TheVariants.{Offer, Take, Cut, Snap, Start, Stop, SessionStart, SessionStop, RotateBegin, RotateFinish}
 use Rattle.tr_session.specs.declared.faults.SessionFault.{SessionFault}
 use Rattle.tr_stream.specs.Rules.{Traced, Agrees, by_state, by_history}
 use Rattle.tr_stream.specs.Runs as runs
@@ -33,6 +33,7 @@ module _ {A : Type 0} (a : SessionOf StreamState) (b : SessionOf Traced) (is : S
   same-event (Offer i moment id payload) = ap (λ r. answer.Offer r) (same-offer a b is i moment id payload)
   same-event (Take i) = ap (λ r. answer.Take r) (same-take a b is i)
   same-event (Cut i) = ap (λ r. answer.Cut r) (same-cut_step a b is i)
+  same-event (Snap i moment) = ap (λ r. answer.Snap r) (same-snap a b is i moment)
   same-event (Start i) = ap (λ (c : SessionBookState). answer.Start (switch_answer true i c)) is.book
   same-event (Stop i) = ap (λ (c : SessionBookState). answer.Stop (switch_answer false i c)) is.book
   same-event (SessionStart moment) = ap (λ (c : SessionBookState). answer.SessionStart (start_answer c)) is.book
@@ -44,6 +45,7 @@ module _ {A : Type 0} (a : SessionOf StreamState) (b : SessionOf Traced) (is : S
   agree-event (Offer i moment id payload) = agree-offer a b is i moment id payload
   agree-event (Take i) = agree-take a b is i
   agree-event (Cut i) = agree-cut_step a b is i
+  agree-event (Snap i moment) = is
   agree-event (Start i) = agree-switch a b is true i
   agree-event (Stop i) = agree-switch a b is false i
   agree-event (SessionStart moment) = agree-alone_started a b is moment
@@ -54,8 +56,8 @@ module _ {A : Type 0} (a : SessionOf StreamState) (b : SessionOf Traced) (is : S
 same-answers : {A : Type 0} (es : List (Event A)) (a : SessionOf StreamState) (b : SessionOf Traced) → SessionsAgree a b → answers_to by_state es a ≡ answers_to by_history es b
 same-answers [] a b is = refl
 same-answers (e ∷ es) a b is =
-    ap (λ (x : Answer). x ∷ answers_to by_state es (after_event by_state e a)) (same-event a b is e)
-    ∙ ap (λ (xs : List Answer). answer_to by_history e b ∷ xs) (same-answers es (after_event by_state e a) (after_event by_history e b) (agree-event a b is e))
+    ap (λ (x : Answer _). x ∷ answers_to by_state es (after_event by_state e a)) (same-event a b is e)
+    ∙ ap (λ (xs : List (Answer _)). answer_to by_history e b ∷ xs) (same-answers es (after_event by_state e a) (after_event by_history e b) (agree-event a b is e))
 
 agree-events : {A : Type 0} (es : List (Event A)) (a : SessionOf StreamState) (b : SessionOf Traced) → SessionsAgree a b → SessionsAgree (after_events by_state es a) (after_events by_history es b)
 agree-events [] a b is = is
@@ -159,7 +161,7 @@ module _ {A : Type 0} where
       let config : u.config ≡ s.config = ap (λ (v : Traced). v.config) same ∙ sym is.config in
       subst (λ h. StandsFor s h) (sym history ∙ ap (λ h. runs.after_events u.config steps h) (begins u refl) ∙ ap (λ c. runs.after_events c steps start) config) is.stands
 
-  pub has-run : (config : Config A) (events : List (Event A)) (begin now : SessionOf StreamState) (answers : List Answer) → configured by_state config ≡ Ok begin
+  pub has-run : (config : Config A) (events : List (Event A)) (begin now : SessionOf StreamState) (answers : List (Answer A)) → configured by_state config ≡ Ok begin
       → (answers ≡ answers_to by_state events begin) × (now ≡ after_events by_state events begin) → HasRun config events now answers
   has-run config events begin now answers is ran =
       go (configured by_history config) refl (subst (λ (r : Result (SessionOf StreamState) SessionFault). ResultsAgree r (configured by_history config)) is (agree-configured config))
@@ -174,7 +176,7 @@ module _ {A : Type 0} where
             begin = b;
             begins = e;
             answers_are = ran.0 ∙ same-answers events begin b agree;
-            book = after.book;
+            agrees = after;
             streams = λ i t at.
                 let found = found-agree i now.streams (after_events by_history events b).streams t after.streams at in
                 stands-own (own_steps i events b.book) t found.0 (slice_get b.streams i) found.2 (sym (own-events A i events b) ∙ found.1) (λ u here. found-begin i b.streams u starts here);

@@ -53,22 +53,22 @@ module _ {S A : Type 0} (rules : StreamRules S) where
   channels-end cs i now all past so = sym so ∙ ap (λ (ds : List (ChannelConfig A)). channels_configured rules ds now) (drop_all i cs past)
 
   -- a run over the first events: the others lead from here to where all lead from the start
-  pub record RunsSo (events : List (Event A)) (start : SessionOf S) (i : ℕ) (now : SessionOf S) (answers : List Answer) : Type 0 where
+  pub record RunsSo (events : List (Event A)) (start : SessionOf S) (i : ℕ) (now : SessionOf S) (answers : List (Answer A)) : Type 0 where
     pub told : answers ++ answers_to rules (drop i events) now ≡ answers_to rules events start
     pub leads : after_events rules (drop i events) now ≡ after_events rules events start
 
-  pub runs-more : (events : List (Event A)) (start : SessionOf S) (i : ℕ) (now next : SessionOf S) (before answers : List Answer) (e : Event A) (a : Answer) → i < length events → e ≡ get_or events i e
+  pub runs-more : (events : List (Event A)) (start : SessionOf S) (i : ℕ) (now next : SessionOf S) (before answers : List (Answer A)) (e : Event A) (a : Answer A) → i < length events → e ≡ get_or events i e
       → RunsSo events start i now before → a ≡ answer_to rules e now → next ≡ after_event rules e now → answers ≡ before ++ a ∷ [] → RunsSo events start (i + 1) next answers
   runs-more events start i now next before answers e a within item so told after pushed = record {
     told =
-        ap (λ (bs : List Answer). bs ++ answers_to rules (drop (i + 1) events) next) pushed ∙ append_assoc before (a ∷ []) (answers_to rules (drop (i + 1) events) next)
+        ap (λ (bs : List (Answer A)). bs ++ answers_to rules (drop (i + 1) events) next) pushed ∙ append_assoc before (a ∷ []) (answers_to rules (drop (i + 1) events) next)
         ∙ ap (λ (t : SessionOf S). before ++ a ∷ answers_to rules (drop (i + 1) events) t) after
-        ∙ ap (λ (b : Answer). before ++ b ∷ answers_to rules (drop (i + 1) events) (after_event rules e now)) told
+        ∙ ap (λ (b : Answer A). before ++ b ∷ answers_to rules (drop (i + 1) events) (after_event rules e now)) told
         ∙ ap (λ (es : List (Event A)). before ++ answers_to rules es now) (sym (front events i e within item)) ∙ so.told;
     leads = ap (after_events rules (drop (i + 1) events)) after ∙ ap (λ (es : List (Event A)). after_events rules es now) (sym (front events i e within item)) ∙ so.leads;
   }
 
-  pub runs-end : (events : List (Event A)) (start : SessionOf S) (i : ℕ) (now : SessionOf S) (answers : List Answer) → length events ≤ i → RunsSo events start i now answers
+  pub runs-end : (events : List (Event A)) (start : SessionOf S) (i : ℕ) (now : SessionOf S) (answers : List (Answer A)) → length events ≤ i → RunsSo events start i now answers
       → (answers ≡ answers_to rules events start) × (now ≡ after_events rules events start)
   runs-end events start i now answers past so =
       let none = drop_all i events past in (

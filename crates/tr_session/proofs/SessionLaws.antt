@@ -1,41 +1,51 @@
 -- What the steps of a session leave.
-use Rattle.std.proofs.Common.{◌≡◌, ◌∙◌, ℕ, ◌+◌, ◌≤◌, ◌<◌, suc, Bool, true, false, length, arith, List, Option, Some, None, Result, Ok, Err, ap, refl, sym}
+use Rattle.std.proofs.Common.{◌≡◌, ◌≢◌, ◌∙◌, ℕ, max, ◌+◌, ◌≤◌, ◌<◌, zero, suc, Bool, true, false, length, arith, List, [], ◌∷◌, ◌++◌, Option, Some, None, Result, Ok, Err, ap, refl, subst, sym}
 use Rattle.std.proofs.lemmas.Bool.Decides.{nat_tests}
 use Rattle.std.specs.Option.{option_map_or}
 use Rattle.std.specs.Prelude.{IsOk, if◌then◌else◌, nat_lt, option_map, slice_get}
+use Rattle.tr_session.proofs.BookLaws.{due-within}
+use Rattle.tr_session.proofs.ModeLaws.{as-many, mode-at}
 use Rattle.tr_session.specs.Book.{SessionBookState}
-use Rattle.tr_session.specs.BookSteps.{cut_moment, with_cut}
-use Rattle.tr_session.specs.Session.{SessionOf}
-use Rattle.tr_session.specs.Steps.{with_book, changed_at, cut_as_step, cut_step, after_cut_step, cut_first, as_next, next_in, next_answer, after_next}
+use Rattle.tr_session.specs.BookSteps.{channel_named, thread_place, with_thread, cut_moment, with_cut}
+use Rattle.tr_session.specs.Session.{SessionOf, HasItsStreams}
+use Rattle.tr_session.specs.Steps.{with_book, next_config, stream_made, thread_added, changed_at, cut_as_step, cut_step, after_cut_step, cut_first, as_next, next_in, next_answer, after_next}
 use Rattle.tr_session.specs.declared.archive.Pending.{Pending}
+use Rattle.tr_session.specs.declared.channel.Channel.{Channel}
 use Rattle.tr_session.specs.declared.faults.SessionFault.{SessionFault}
 use Rattle.tr_session.specs.declared.faults.StepFault.{StepFault}
 use Rattle.tr_session.specs.declared.faults.StepFault.TheVariants.{Cut}
 use Rattle.tr_session.specs.declared.rotation.Next.{Next}
 use Rattle.tr_session.specs.declared.rotation.Next.TheVariants as next
+use Rattle.tr_stream.proofs.SessionLaws.{in-local}
 use Rattle.tr_stream.specs.Rules.{StreamRules, by_state}
 use Rattle.tr_stream.specs.State.{StreamState}
-use Rattle.tr_stream.specs.StateSteps.{cut_result, state_after_cut}
+use Rattle.tr_stream.specs.StateSteps.{new_state, cut_done, cut_result, state_after_cut}
 use Rattle.tr_stream.specs.declared.answers.CutDone.{CutDone}
 use Rattle.tr_stream.specs.declared.answers.CutFault.{CutFault}
+use Rattle.tr_stream.specs.declared.config.SessionMode.{SessionMode}
+use Rattle.tr_stream.specs.declared.config.SessionMode.TheVariants.{Local}
+use Rattle.tr_stream.specs.declared.config.StreamConfig.{StreamConfig}
 
 -- a step of the book that isn't refused is one of the session
 pub added-ok : {S : Type 0} (ts : List S) (r : Result SessionBookState SessionFault) → IsOk r → IsOk (with_book ts r)
 added-ok ts (Ok b) is = is
 added-ok ts (Err fault) is = is
 
-only_memory : (f : CutFault) → f ≡ CutFault.NoMemory
-only_memory CutFault.NoMemory = refl
-
-pub only-memory : (f : CutFault) → (let r : Result CutDone CutFault = Err f in r) ≡ Err CutFault.NoMemory
-only-memory f = ap (λ (g : CutFault). Err g) (only_memory f)
-
 pub ok-not-err : {R F : Type 0} {x : R} {y : F} → (let r : Result R F = Ok x in r) ≡ Err y → ⊥
 ok-not-err same = absurd cc
 
--- only want of memory refuses a stream's cut
-pub cut-wants-memory : (f : CutFault) → (let r : Result CutDone StepFault = Err (Cut f) in r) ≡ Err (Cut CutFault.NoMemory)
-cut-wants-memory f = ap (λ (g : CutFault). Err (Cut g)) (only_memory f)
+-- in a local session only want of memory refuses a stream's cut
+pub only-memory : (s : SessionOf StreamState) (i moment : ℕ) (f : CutFault) → HasItsStreams s → s.book.mode ≡ Local
+    → ((let r : Result CutDone CutFault = Err f in r) ≢ Err CutFault.NoMemory → option_map (cut_result moment) (slice_get s.streams i) ≡ Some (Err f)) → f ≡ CutFault.NoMemory
+only-memory s i moment CutFault.NoMemory is local given = refl
+only-memory s i moment CutFault.SnapshotMode is local given = absurd (go (slice_get s.streams i) refl (given (λ e. cc)))
+  where
+    go : (o : Option StreamState) → slice_get s.streams i ≡ o → option_map (cut_result moment) o ≡ Some (Err CutFault.SnapshotMode) → ⊥
+    go None at refused = cc
+    go (Some t) at refused =
+        let mode : t.config.session ≡ Local = mode-at s.streams s.book.threads s.book.mode i t is at ∙ local in
+        let cuts : cut_result moment t ≡ Ok (cut_done (max moment t.book.last) t) = in-local t.config.session (Ok (cut_done (max moment t.book.last) t)) (Err CutFault.SnapshotMode) mode in
+        cc
 
 told : {X R Y : Type 0} (f : X → R) (g : R → Y) (o : Option X) (r : R) (d : Y) → option_map f o ≡ Some r → option_map_or (λ t. g (f t)) o d ≡ g r
 told f g None r d is = absurd cc
@@ -72,3 +82,34 @@ pub next-none : (s : SessionOf StreamState) (p : Pending) → s.book.pending ≡
 next-none s p pending past =
     let left : nat_lt p.cut (length s.book.threads) ≡ false = grind (arith, nat_tests, past) in
     (rw (pending, left) refl, rw (pending, left) refl)
+
+-- ---- threads
+
+-- a thread whose channel is there is added
+pub thread-made : (s t : SessionOf StreamState) (name uuid : List ℕ) (place number : ℕ) (channel : Channel) (mode : SessionMode) → HasItsStreams s → thread_place name s.book ≡ Ok place → channel_named name s.book ≡ Some channel
+    → uuid ≡ s.book.uuid → number ≡ length s.streams → mode ≡ s.book.mode
+    → t ≡ record { book = with_thread place s.book; streams = s.streams ++ new_state (record { uuid = uuid; number = number; geometry = channel.geometry; mode = channel.mode; session = mode }) ∷ [] }
+    → thread_added by_state name s ≡ Ok t
+thread-made s t name uuid place number channel mode is at named uuid_is number_is mode_is made =
+    let count : number ≡ length s.book.threads = number_is ∙ as-many s is in
+    let config : (let c : StreamConfig = record { uuid = uuid; number = number; geometry = channel.geometry; mode = channel.mode; session = mode } in c) ≡ next_config channel s.book = cc in
+    ap (λ (o : Option Channel). stream_made by_state o (thread_place name s.book) s) named
+    ∙ ap (λ (r : Result ℕ SessionFault). stream_made by_state (Some channel) r s) at
+    ∙ sym (ap (λ (u : SessionOf StreamState). (let r : Result (SessionOf StreamState) SessionFault = Ok u in r)) (made ∙ ap (λ (c : StreamConfig). (let u : SessionOf StreamState = record { book = with_thread place s.book; streams = s.streams ++ new_state c ∷ [] } in u)) config))
+
+-- ---- cuts that are due
+
+at-there : (i : ℕ) (ts : List StreamState) → i < length ts → (t : StreamState) × (slice_get ts i ≡ Some t)
+at-there i [] within = absurd (omega (arith, within))
+at-there zero (t ∷ ts) within = (t, refl)
+at-there (suc i) (t ∷ ts) within = at-there i ts (omega (arith, within))
+
+-- in a local session a cut that is due can be done
+pub cut-can : (s : SessionOf StreamState) (i moment : ℕ) → HasItsStreams s → s.book.mode ≡ Local → cut_moment i s.book ≡ Ok moment → IsOk (cut_step by_state i s)
+cut-can s i moment is local due =
+    let within : i < length s.streams = subst (λ (n : ℕ). i < n) (sym (as-many s is)) (due-within i moment s.book due) in
+    let there = at-there i s.streams within in
+    let t = there.0 in
+    let mode : t.config.session ≡ Local = mode-at s.streams s.book.threads s.book.mode i t is there.1 ∙ local in
+    let cuts : cut_result moment t ≡ Ok (cut_done (max moment t.book.last) t) = in-local t.config.session (Ok (cut_done (max moment t.book.last) t)) (Err CutFault.SnapshotMode) mode in
+    rw (due, there.1, cuts) refl

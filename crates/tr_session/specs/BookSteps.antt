@@ -5,14 +5,18 @@ use Rattle.std.specs.Str.{bytes_eq}
 use Rattle.tr_book.specs.Geometry.{GeometryState, geometry_of}
 use Rattle.tr_book.specs.declared.geometry.GeometryFault.{GeometryFault}
 use Rattle.tr_book.specs.declared.mode.Mode.{Mode}
+use Rattle.tr_book.specs.declared.mode.Mode.TheVariants.{Discard, Overwrite}
 use Rattle.tr_session.specs.Book.{SessionBookState}
 use Rattle.tr_session.specs.declared.archive.Archive.{Archive}
 use Rattle.tr_session.specs.declared.archive.Pending.{Pending}
 use Rattle.tr_session.specs.declared.channel.Channel.{Channel}
 use Rattle.tr_session.specs.declared.faults.SessionFault.{SessionFault}
-use Rattle.tr_session.specs.declared.faults.SessionFault.TheVariants.{NeverStarted, RotationPending, AlreadyRotated, AlreadyActive, NotActive, NoStream, AlreadyStarted, BadGeometry, TooMany, NotPending, CutMissing, NameTaken, NoChannel}
+use Rattle.tr_session.specs.declared.faults.SessionFault.TheVariants.{SnapshotMode, NotSnapshotMode, NeverStarted, RotationPending, AlreadyRotated, AlreadyActive, NotActive, NoStream, DiscardInSnapshot, AlreadyStarted, BadGeometry, TooMany, NotPending, CutMissing, NameTaken, NoChannel}
 use Rattle.tr_session.specs.declared.state.State.{State}
 use Rattle.tr_session.specs.declared.state.State.TheVariants.{New, Active, Inactive}
+use Rattle.tr_stream.specs.Steps.{by_session}
+use Rattle.tr_stream.specs.declared.config.SessionMode.{SessionMode}
+use Rattle.tr_stream.specs.declared.config.SessionMode.TheVariants.{Local, Snapshot}
 
 abbrev pub is_new : State → Bool
 is_new New = true
@@ -52,10 +56,16 @@ channel_named name b = lookup (bytes_eq name) b.channels
 abbrev pub with_channel : List ℕ → Channel → SessionBookState → SessionBookState
 with_channel name channel b = record b { channels = b.channels ++ (name, channel) ∷ [] }
 
+-- in a snapshot session every ring overwrites
+abbrev pub is_allowed : SessionMode → Mode → Bool
+is_allowed Local mode = true
+is_allowed Snapshot Overwrite = true
+is_allowed Snapshot Discard = false
+
 -- a channel of this geometry, if there is such a geometry
 abbrev pub channel_made : List ℕ → Mode → Result GeometryState GeometryFault → SessionBookState → Result SessionBookState SessionFault
 channel_made name mode (Err fault) b = Err BadGeometry
-channel_made name mode (Ok geometry) b = Ok (with_channel name (record { geometry = geometry; mode = mode }) b)
+channel_made name mode (Ok geometry) b = if is_allowed b.mode mode then Ok (with_channel name (record { geometry = geometry; mode = mode }) b) else Err DiscardInSnapshot
 
 -- a channel is added
 abbrev pub channel_added : List ℕ → ℕ → ℕ → Mode → SessionBookState → Result SessionBookState SessionFault
@@ -125,13 +135,17 @@ switch_answer false i b = if nat_lt i (length b.threads) then (if is_inactive b.
 
 -- ---- rotations
 
--- a rotation answers the number of the chunk that it archives
-abbrev pub rotate_begin_answer : SessionBookState → Result ℕ SessionFault
-rotate_begin_answer b =
+-- in a local session a rotation answers the number of the chunk that it archives
+abbrev pub local_rotation : SessionBookState → Result ℕ SessionFault
+local_rotation b =
     if is_new b.state then Err NeverStarted
     else (if is_some b.pending then Err RotationPending
     else (if is_inactive b.state && b.rotated then Err AlreadyRotated
     else Ok (length b.archives)))
+
+-- a snapshot session isn't rotated
+abbrev pub rotate_begin_answer : SessionBookState → Result ℕ SessionFault
+rotate_begin_answer b = by_session b.mode (local_rotation b) (Err SnapshotMode)
 
 -- the archive that a rotation at this moment makes
 abbrev pub archive_at : ℕ → SessionBookState → Archive
@@ -192,3 +206,24 @@ archived (Err fault) b = b
 
 abbrev pub after_rotate_finish : SessionBookState → SessionBookState
 after_rotate_finish b = archived (rotate_finish_answer b) b
+
+-- ---- snapshots
+
+-- whether snapshots can be taken: of a snapshot session that was started once
+abbrev pub snapshot_allowed : SessionBookState → Result Unit SessionFault
+snapshot_allowed b = by_session b.mode (Err NotSnapshotMode) (if is_new b.state then Err NeverStarted else Ok tt)
+
+abbrev pub moment_stored : Result Unit SessionFault → ℕ → SessionBookState → Result ℕ SessionFault
+moment_stored (Ok done) moment b = Ok (max moment b.last)
+moment_stored (Err fault) moment b = Err fault
+
+-- a snapshot begins: its moment is stored, and answered
+abbrev pub snapshot_begin_answer : ℕ → SessionBookState → Result ℕ SessionFault
+snapshot_begin_answer moment b = moment_stored (snapshot_allowed b) moment b
+
+abbrev pub after_snapshot_begin : ℕ → SessionBookState → SessionBookState
+after_snapshot_begin moment b = unless_refused (snapshot_allowed b) (record b { last = max moment b.last }) b
+
+-- whether stream i can be seen
+abbrev pub snap_allowed : ℕ → SessionBookState → Result Unit SessionFault
+snap_allowed i b = if nat_lt i (length b.threads) then snapshot_allowed b else Err NoStream

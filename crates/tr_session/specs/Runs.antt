@@ -1,6 +1,7 @@
 -- A session over a configuration and a list of events.
 use Rattle.std.specs.Prelude.{◌≡◌, ℕ, zero, suc, List, [], ◌∷◌, Some, Result, Ok, Err, slice_get}
 use Rattle.std.specs.String.{string_bytes}
+use Rattle.tr_session.specs.Agreement.{SessionsAgree}
 use Rattle.tr_session.specs.Events.{after_events, answers_to, own_steps}
 use Rattle.tr_session.specs.Session.{SessionOf, new_session}
 use Rattle.tr_session.specs.Steps.{session_channel_added, thread_added}
@@ -40,13 +41,14 @@ configured rules c = channels_configured rules c.channels.items (new_session c.u
 
 -- a session that its configuration and a list of events led to, and what the events answered
 module _ {A : Type 0} (config : Config A) (events : List (Event A)) where
-  pub record HasRun (session : SessionOf StreamState) (answers : List Answer) : Type 0 where
+  pub record HasRun (session : SessionOf StreamState) (answers : List (Answer A)) : Type 0 where
     -- the session of the configuration, by the histories of its streams
     pub begin : SessionOf Traced
     pub begins : configured by_history config ≡ Ok begin
-    -- the answers are the rules', and so is the book
+    -- the answers are the rules', and so is the session: the same book, and streams of the same number, made alike, each
+    -- of which stands for its history
     pub answers_are : answers ≡ answers_to by_history events begin
-    pub book : session.book ≡ (after_events by_history events begin).book
-    -- each stream stands for the run of its own steps
+    pub agrees : SessionsAgree session (after_events by_history events begin)
+    -- and that history is the run of the stream's own steps
     pub streams : (i : ℕ) (t : StreamState) → slice_get session.streams i ≡ Some t
         → StandsFor t (stream_runs.after_events t.config (own_steps i events begin.book) stream_steps.start)

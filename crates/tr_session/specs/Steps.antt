@@ -1,9 +1,10 @@
 -- What the calls of a session answer, and what they do to its book and its streams.
 use Rattle.std.specs.Prelude.{◌≡◌, ◌≤◌, ◌⊎◌, ℕ, Bool, true, false, nat_lt, List, [], ◌∷◌, ◌++◌, zero, suc, length, map, Option, Some, None, Result, Ok, Err, slice_get, if◌then◌else◌}
 use Rattle.std.specs.Option.{option_map_or}
+use Rattle.tr_book.specs.Snaps.{SnapState}
 use Rattle.tr_book.specs.declared.mode.Mode.{Mode}
 use Rattle.tr_session.specs.Book.{SessionBookState}
-use Rattle.tr_session.specs.BookSteps.{unless_refused, channel_named, channel_added, thread_place, with_thread, start_answer, after_start, stop_answer, after_stop, switch_answer, rotate_begin_answer, after_rotate_begin, cut_moment, with_cut, rotate_finish_answer, after_rotate_finish}
+use Rattle.tr_session.specs.BookSteps.{unless_refused, channel_named, channel_added, thread_place, with_thread, start_answer, after_start, stop_answer, after_stop, switch_answer, rotate_begin_answer, after_rotate_begin, cut_moment, with_cut, rotate_finish_answer, after_rotate_finish, snap_allowed}
 use Rattle.tr_session.specs.Session.{SessionOf}
 use Rattle.tr_session.specs.declared.archive.Archive.{Archive}
 use Rattle.tr_session.specs.declared.archive.Pending.{Pending}
@@ -107,6 +108,14 @@ cut_step rules i s = cut_step_at rules (cut_moment i s.book) i s
 abbrev pub after_cut_step : {S : Type 0} → StreamRules S → ℕ → SessionOf S → SessionOf S
 after_cut_step rules i s = after_cut_step_at rules (cut_moment i s.book) i s
 
+-- stream i is seen as it is at this moment
+abbrev pub snap_step_at : {S : Type 0} → StreamRules S → Result Unit SessionFault → ℕ → ℕ → SessionOf S → Result SnapState SessionFault
+snap_step_at rules (Err fault) i moment s = Err fault
+snap_step_at rules (Ok done) i moment s = option_map_or (λ t. Ok (rules.snapped moment t)) (slice_get s.streams i) (Err NoStream)
+
+abbrev pub snap_step : {S : Type 0} → StreamRules S → ℕ → ℕ → SessionOf S → Result SnapState SessionFault
+snap_step rules i moment s = snap_step_at rules (snap_allowed i s.book) i moment s
+
 -- stream i takes offers from now on, or takes none
 abbrev pub after_switch_step : {S : Type 0} → StreamRules S → Bool → ℕ → SessionOf S → SessionOf S
 after_switch_step rules active i s = unless_refused (switch_answer active i s.book) (record s { streams = changed_at i (rules.turned active) s.streams }) s
@@ -137,6 +146,12 @@ as_next i (Err fault) = Err fault
 abbrev pub next_in : {S : Type 0} → StreamRules S → Option Pending → SessionOf S → Result Next StepFault
 next_in rules None s = Err (Session NotPending)
 next_in rules (Some p) s = if nat_lt p.cut (length s.book.threads) then as_next p.cut (cut_step rules p.cut s) else Ok next.AllCut
+
+-- only a cut takes memory
+abbrev pub NextTakesMemory : Result Next StepFault → Type 0
+NextTakesMemory (Ok (next.Cut stream records)) = Unit {0}
+NextTakesMemory (Ok next.AllCut) = ⊥
+NextTakesMemory (Err fault) = ⊥
 
 -- the pending rotation cuts its next stream, if there is one
 abbrev pub next_answer : {S : Type 0} → StreamRules S → SessionOf S → Result Next StepFault

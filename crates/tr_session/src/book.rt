@@ -2,7 +2,8 @@
 
 ghost use Rattle.std.specs.Prelude.{◌≡◌, ◌≢◌, ◌≤◌, ◌<◌, false, Some, Ok, Err, IsOk, IfOk, OnOk, IfErr, OnErr, is_some, length, option_copied, option_map};
 ghost use Rattle.tr_session.specs.Book.{new_book};
-ghost use Rattle.tr_session.specs.BookSteps.{most_channels, most_streams, channel_named, channel_added, with_channel, thread_place, thread_noted, with_thread, channel_of, start_answer, after_start, stop_answer, after_stop, switch_answer, rotate_begin_answer, rotating, after_rotate_begin, cut_moment, with_cut, note_cut_answer, after_note_cut, rotate_finish_answer, after_rotate_finish};
+ghost use Rattle.tr_session.specs.BookSteps.{most_channels, most_streams, channel_named, channel_added, with_channel, thread_place, thread_noted, with_thread, channel_of, start_answer, after_start, stop_answer, after_stop, switch_answer, rotate_begin_answer, rotating, after_rotate_begin, cut_moment, with_cut, note_cut_answer, after_note_cut, rotate_finish_answer, after_rotate_finish, snapshot_allowed, snapshot_begin_answer, after_snapshot_begin, snap_allowed};
+ghost use Rattle.tr_session.specs.BookSteps as rules;
 
 use crate::archive::{Archive, Pending};
 use crate::channel::Channel;
@@ -23,6 +24,16 @@ const MOST_CHANNELS: usize = 8;
 
 /// How many streams a session has at most.
 const MOST_STREAMS: usize = 256;
+
+/// Whether a session of this mode may have a channel of that one: in a snapshot session every ring overwrites.
+fn is_allowed(session: SessionMode, mode: Mode) -> bool
+    ensures { result ≡ rules.is_allowed session mode }
+{
+    match (session, mode) {
+        (SessionMode::Snapshot, Mode::Discard) => false,
+        _ => true,
+    }
+}
 
 /// What a session keeps beside its streams: its channels and the threads that were added to them, what it allows, its
 /// rotations and its archives. Contracts see a `SessionBookState`.
@@ -64,8 +75,9 @@ impl<A: Allocator> Model for SessionBook<A> {
 
     ghost use Rattle.std.specs.Prelude.{◌≡◌, ◌<◌, true, is_some, vec_capacity, vec_len};
     ghost use Rattle.tr_session.specs.BookSteps.{IsWithinLimits};
+    ghost use Rattle.tr_stream.specs.declared.config.SessionMode.TheVariants.{Local};
 
-    // the place of the pending archive is reserved
+    // the place of the pending archive is reserved; a snapshot session has none
     ghost invariant = { λ b.
         IsWithinLimits (record {
           uuid = b.uuid;
@@ -80,7 +92,8 @@ impl<A: Allocator> Model for SessionBook<A> {
           pending = b.pending;
           archives = b.archives.items;
         })
-        × (is_some b.pending ≡ true → vec_len b.archives < vec_capacity b.archives) };
+        × (is_some b.pending ≡ true → vec_len b.archives < vec_capacity b.archives)
+        × (is_some b.pending ≡ true → b.mode ≡ Local) };
 }
 
 impl<A: Allocator + Copy> SessionBook<A> {
@@ -108,7 +121,7 @@ impl<A: Allocator + Copy> SessionBook<A> {
     ///
     /// # Errors
     ///
-    /// `AlreadyStarted`, `NameTaken`, `TooMany`, `BadGeometry`, `NoMemory`: nothing changed.
+    /// `AlreadyStarted`, `NameTaken`, `TooMany`, `BadGeometry`, `DiscardInSnapshot`, `NoMemory`: nothing changed.
     pub fn add_channel(
         &mut self,
         name: &str,
@@ -120,6 +133,7 @@ impl<A: Allocator + Copy> SessionBook<A> {
         ensures refused { IfErr result (λ fault. fault ≢ SessionFault.NoMemory → channel_added name.now size count mode self.old ≡ Err fault) }
         ensures memory { result ≡ Err SessionFault.NoMemory → IsOk (channel_added name.now size count mode self.old) }
         ensures streams { self.new.threads ≡ self.old.threads }
+        ensures mode { self.new.mode ≡ self.old.mode }
         ensures unchanged { OnErr result (self.new ≡ self.old) }
     {
         let channel = self.channel_for(name, size, count, mode)?;
@@ -171,13 +185,14 @@ impl<A: Allocator + Copy> SessionBook<A> {
     ///
     /// # Errors
     ///
-    /// `NeverStarted`, `RotationPending`, `AlreadyRotated`, `NoMemory`: nothing changed.
+    /// `SnapshotMode`, `NeverStarted`, `RotationPending`, `AlreadyRotated`, `NoMemory`: nothing changed.
     pub fn rotate_begin(&mut self, moment: Moment) -> Result<u64, SessionFault>
         ensures value { result ≢ Err SessionFault.NoMemory →
             (result ≡ rotate_begin_answer self.old) × (self.new ≡ after_rotate_begin moment self.old) }
         ensures no_memory { result ≡ Err SessionFault.NoMemory → self.new ≡ self.old }
         ensures memory { result ≡ Err SessionFault.NoMemory → IsOk (rotate_begin_answer self.old) }
         ensures streams { self.new.threads ≡ self.old.threads }
+        ensures mode { self.new.mode ≡ self.old.mode }
     {
         let id = self.next_chunk()?;
         self.begin_rotation(id, moment)?;
@@ -186,7 +201,8 @@ impl<A: Allocator + Copy> SessionBook<A> {
 
     /// Ends the current chunk, and begins the next one.
     fn begin_rotation(&mut self, id: u64, moment: Moment) -> Result<(), AllocError>
-        requires { id ≡ length self.old.archives }
+        requires id { id ≡ length self.old.archives }
+        requires local { self.old.mode ≡ SessionMode.Local }
         ensures ok { OnOk result (self.new ≡ rotating moment self.old) }
         ensures err { OnErr result (self.new ≡ self.old) }
     {
@@ -218,6 +234,7 @@ impl<A: Allocator> SessionBook<A> {
         ensures free { OnOk result (is_some (channel_named name.now self.now) ≡ false) }
         ensures room { OnOk result (length self.now.channels < most_channels) }
         ensures err { IfErr result (λ fault. channel_added name.now size count mode self.now ≡ Err fault) }
+        ensures reason { IfErr result (λ fault. fault ≢ SessionFault.NoMemory) }
     {
         if self.state != State::New {
             return Err(SessionFault::AlreadyStarted);
@@ -231,6 +248,9 @@ impl<A: Allocator> SessionBook<A> {
         let Ok(geometry) = Geometry::new(size, count) else {
             return Err(SessionFault::BadGeometry);
         };
+        if !is_allowed(self.mode, mode) {
+            return Err(SessionFault::DiscardInSnapshot);
+        }
         Ok(Channel { geometry, mode })
     }
 
@@ -255,8 +275,13 @@ impl<A: Allocator> SessionBook<A> {
 
     /// The number of the chunk that a rotation would archive, or why there can be no rotation.
     fn next_chunk(&self) -> Result<u64, SessionFault>
-        ensures { result ≡ rotate_begin_answer self.now }
+        ensures value { result ≡ rotate_begin_answer self.now }
+        ensures local { OnOk result (self.now.mode ≡ SessionMode.Local) }
     {
+        match self.mode {
+            SessionMode::Snapshot => return Err(SessionFault::SnapshotMode),
+            SessionMode::Local => {}
+        }
         if self.state == State::New {
             return Err(SessionFault::NeverStarted);
         }
@@ -278,6 +303,7 @@ impl<A: Allocator> SessionBook<A> {
         ensures answer { result ≡ start_answer self.old }
         ensures after { self.new ≡ after_start moment self.old }
         ensures streams { self.new.threads ≡ self.old.threads }
+        ensures mode { self.new.mode ≡ self.old.mode }
     {
         if self.pending.is_some() {
             return Err(SessionFault::RotationPending);
@@ -302,6 +328,7 @@ impl<A: Allocator> SessionBook<A> {
         ensures answer { result ≡ stop_answer self.old }
         ensures after { self.new ≡ after_stop self.old }
         ensures streams { self.new.threads ≡ self.old.threads }
+        ensures mode { self.new.mode ≡ self.old.mode }
     {
         if self.pending.is_some() {
             return Err(SessionFault::RotationPending);
@@ -342,7 +369,8 @@ impl<A: Allocator> SessionBook<A> {
     /// `NoStream`, `NotPending` where none is pending or it has cut the stream, `CutMissing` where one of a smaller number
     /// isn't cut.
     pub fn cut_moment(&self, i: u64) -> Result<Moment, SessionFault>
-        ensures { result ≡ cut_moment i self.now }
+        ensures value { result ≡ cut_moment i self.now }
+        ensures local { OnOk result (self.now.mode ≡ SessionMode.Local) }
     {
         if i >= self.threads.len() as u64 {
             return Err(SessionFault::NoStream);
@@ -396,6 +424,7 @@ impl<A: Allocator> SessionBook<A> {
         ensures answer { result ≡ rotate_finish_answer self.old }
         ensures after { self.new ≡ after_rotate_finish self.old }
         ensures streams { self.new.threads ≡ self.old.threads }
+        ensures mode { self.new.mode ≡ self.old.mode }
     {
         let Some(pending) = self.pending else {
             return Err(SessionFault::NotPending);
@@ -406,6 +435,51 @@ impl<A: Allocator> SessionBook<A> {
         self.pending = None;
         self.archives.push_reserved(pending.archive);
         Ok(pending.archive)
+    }
+
+    /// Begins a snapshot: stores its moment, or keeps the last one if that is later, and answers with what is stored. It
+    /// takes no memory.
+    ///
+    /// # Errors
+    ///
+    /// `NotSnapshotMode`, `NeverStarted`: nothing changed.
+    pub fn snapshot_begin(&mut self, moment: Moment) -> Result<Moment, SessionFault>
+        ensures answer { result ≡ snapshot_begin_answer moment self.old }
+        ensures after { self.new ≡ after_snapshot_begin moment self.old }
+        ensures streams { self.new.threads ≡ self.old.threads }
+        ensures mode { self.new.mode ≡ self.old.mode }
+    {
+        self.can_snapshot()?;
+        self.last = moment.later(self.last);
+        Ok(self.last)
+    }
+
+    /// Whether a snapshot can begin.
+    fn can_snapshot(&self) -> Result<(), SessionFault>
+        ensures { result ≡ snapshot_allowed self.now }
+    {
+        match self.mode {
+            SessionMode::Local => return Err(SessionFault::NotSnapshotMode),
+            SessionMode::Snapshot => {}
+        }
+        if self.state == State::New {
+            return Err(SessionFault::NeverStarted);
+        }
+        Ok(())
+    }
+
+    /// Whether the stream of this number can be seen.
+    ///
+    /// # Errors
+    ///
+    /// `NoStream`, `NotSnapshotMode`, `NeverStarted`.
+    pub fn can_snap(&self, i: u64) -> Result<(), SessionFault>
+        ensures { result ≡ snap_allowed i self.now }
+    {
+        if i >= self.threads.len() as u64 {
+            return Err(SessionFault::NoStream);
+        }
+        self.can_snapshot()
     }
 
     /// The identifier of the trace.

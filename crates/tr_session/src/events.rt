@@ -6,6 +6,7 @@ ghost use Rattle.tr_session.specs.Faults.{answer_wants_memory};
 use crate::archive::Archive;
 use crate::faults::{SessionFault, StepFault};
 use std::alloc::{Allocator, Global};
+use tr_book::StreamSnap;
 use tr_record::Moment;
 use tr_stream::{CutDone, Offered, Payload, Taken};
 
@@ -18,6 +19,8 @@ pub enum Event<A: Allocator = Global> {
     Take(u64),
     /// The pending rotation cuts a stream.
     Cut(u64),
+    /// A stream of a snapshot session is seen at a moment.
+    Snap(u64, Moment),
     /// A stream of an active session takes offers from now on.
     Start(u64),
     /// A stream of a stopped session takes no offers from now on.
@@ -33,14 +36,16 @@ pub enum Event<A: Allocator = Global> {
 }
 
 /// What an event answered.
-#[derive(Clone, Copy, Debug, PartialEq, Eq)]
-pub enum Answer {
+#[derive(Drop)]
+pub enum Answer<A: Allocator = Global> {
     /// To an offer.
     Offer(Result<Offered, StepFault>),
     /// To a take.
     Take(Result<Taken, StepFault>),
     /// To a cut.
     Cut(Result<CutDone, StepFault>),
+    /// To a look at a stream.
+    Snap(Result<StreamSnap<A>, SessionFault>),
     /// To the start of a stream.
     Start(Result<(), SessionFault>),
     /// To the stop of a stream.
@@ -55,7 +60,7 @@ pub enum Answer {
     RotateFinish(Result<Archive, SessionFault>),
 }
 
-impl Answer {
+impl<A: Allocator> Answer<A> {
     /// Whether memory was refused.
     pub fn wants_memory(&self) -> bool
         ensures { result ≡ answer_wants_memory self.now }
@@ -64,6 +69,7 @@ impl Answer {
             Answer::Offer(Err(fault)) => fault.wants_memory(),
             Answer::Take(Err(fault)) => fault.wants_memory(),
             Answer::Cut(Err(fault)) => fault.wants_memory(),
+            Answer::Snap(Err(fault)) => fault.wants_memory(),
             Answer::Start(Err(fault)) => fault.wants_memory(),
             Answer::Stop(Err(fault)) => fault.wants_memory(),
             Answer::SessionStart(Err(fault)) => fault.wants_memory(),

@@ -10,6 +10,12 @@ use tr_stream::{CutFault, OfferFault, TakeFault};
 /// Why a call was refused. The session is as it was.
 #[derive(Clone, Copy, Debug, PartialEq, Eq, Error)]
 pub enum SessionFault {
+    /// A snapshot session isn't rotated.
+    #[error("S1 SnapshotMode")]
+    SnapshotMode,
+    /// Snapshots are of snapshot sessions.
+    #[error("S2 NotSnapshotMode")]
+    NotSnapshotMode,
     /// The session was never started.
     #[error("S3 NeverStarted")]
     NeverStarted,
@@ -28,6 +34,9 @@ pub enum SessionFault {
     /// There is no stream of this number.
     #[error("S8 NoStream")]
     NoStream,
+    /// In a snapshot session every ring overwrites.
+    #[error("S9 DiscardInSnapshot")]
+    DiscardInSnapshot,
     /// The session was started, so nothing can be added.
     #[error("S10 AlreadyStarted")]
     AlreadyStarted,
@@ -77,12 +86,15 @@ impl SessionFault {
         ensures { result.now ≡ session_fault_code self.now }
     {
         match self {
+            SessionFault::SnapshotMode => "S1",
+            SessionFault::NotSnapshotMode => "S2",
             SessionFault::NeverStarted => "S3",
             SessionFault::RotationPending => "S4",
             SessionFault::AlreadyRotated => "S5",
             SessionFault::AlreadyActive => "S6",
             SessionFault::NotActive => "S7",
             SessionFault::NoStream => "S8",
+            SessionFault::DiscardInSnapshot => "S9",
             SessionFault::AlreadyStarted => "S10",
             SessionFault::BadGeometry => "S11",
             SessionFault::TooMany => "S12",
@@ -99,12 +111,15 @@ impl SessionFault {
         ensures { result.now ≡ session_fault_name self.now }
     {
         match self {
+            SessionFault::SnapshotMode => "SnapshotMode",
+            SessionFault::NotSnapshotMode => "NotSnapshotMode",
             SessionFault::NeverStarted => "NeverStarted",
             SessionFault::RotationPending => "RotationPending",
             SessionFault::AlreadyRotated => "AlreadyRotated",
             SessionFault::AlreadyActive => "AlreadyActive",
             SessionFault::NotActive => "NotActive",
             SessionFault::NoStream => "NoStream",
+            SessionFault::DiscardInSnapshot => "DiscardInSnapshot",
             SessionFault::AlreadyStarted => "AlreadyStarted",
             SessionFault::BadGeometry => "BadGeometry",
             SessionFault::TooMany => "TooMany",

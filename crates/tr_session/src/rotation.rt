@@ -1,7 +1,8 @@
 //! A whole rotation of a session, and each of its cuts.
 
-ghost use Rattle.std.specs.Prelude.{◌≡◌, ◌≢◌, Err, OnOk, OnErr, length};
-ghost use Rattle.tr_session.specs.Steps.{next_answer, after_next, rotate_answer, after_rotate, cut_first, IsCutSome, IsHeldUp};
+ghost use Rattle.std.specs.Prelude.{◌≡◌, ◌≢◌, Err, IsOk, OnOk, OnErr, length};
+ghost use Rattle.tr_session.specs.BookSteps.{rotate_begin_answer};
+ghost use Rattle.tr_session.specs.Steps.{NextTakesMemory, next_answer, after_next, rotate_answer, after_rotate, cut_first, IsCutSome, IsHeldUp};
 ghost use Rattle.tr_stream.specs.Rules.{by_state};
 
 use crate::archive::Archive;
@@ -38,6 +39,7 @@ impl<A: Allocator + Copy> Session<A> {
         ensures value { result ≢ Err (StepFault.Cut CutFault.NoMemory) →
             (result ≡ next_answer by_state self.old) × (self.new ≡ after_next by_state self.old) }
         ensures no_memory { result ≡ Err (StepFault.Cut CutFault.NoMemory) → self.new ≡ self.old }
+        ensures memory { result ≡ Err (StepFault.Cut CutFault.NoMemory) → NextTakesMemory (next_answer by_state self.old) }
     {
         let Some(pending) = self.book().pending() else {
             return Err(StepFault::Session(SessionFault::NotPending));
@@ -64,6 +66,7 @@ impl<A: Allocator + Copy> Session<A> {
         ensures value { result ≢ Err SessionFault.NoMemory →
             (result ≡ rotate_answer by_state moment self.old) × (self.new ≡ after_rotate by_state moment self.old) }
         ensures no_memory { result ≡ Err SessionFault.NoMemory → IsHeldUp by_state moment self.old self.new }
+        ensures memory { result ≡ Err SessionFault.NoMemory → IsOk (rotate_begin_answer self.old.book) }
     {
         if let Err(fault) = self.rotate_begin(moment) {
             return Err(fault);

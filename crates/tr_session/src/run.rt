@@ -2,7 +2,7 @@
 
 ghost use Rattle.std.specs.Prelude.{◌≡◌, ◌≢◌, true, false, Ok, Err, IfOk, OnOk, IfErr};
 ghost use Rattle.std.specs.String.{string_bytes};
-ghost use Rattle.tr_session.specs.Events.{answer_to, after_event};
+ghost use Rattle.tr_session.specs.Events.{MayWantMemory, answer_to, after_event};
 ghost use Rattle.tr_session.specs.Faults.{answer_wants_memory};
 ghost use Rattle.tr_session.specs.Runs.{threads_added, channel_configured, configured, HasRun};
 ghost use Rattle.tr_stream.specs.Rules.{by_state, by_history};
@@ -18,10 +18,11 @@ mod tests;
 
 impl<A: Allocator + Copy> Session<A> {
     /// One event, answered as its call answers. A refusal, also for want of memory, changes nothing.
-    pub fn step(&mut self, event: &Event<A>) -> Answer
+    pub fn step(&mut self, event: &Event<A>) -> Answer<A>
         ensures value { answer_wants_memory result ≡ false →
             (result ≡ answer_to by_state event.now self.old) × (self.new ≡ after_event by_state event.now self.old) }
         ensures no_memory { answer_wants_memory result ≡ true → self.new ≡ self.old }
+        ensures memory { answer_wants_memory result ≡ true → MayWantMemory result (answer_to by_state event.now self.old) }
     {
         match event {
             Event::Offer(i, moment, id, payload) => {
@@ -29,6 +30,7 @@ impl<A: Allocator + Copy> Session<A> {
             }
             Event::Take(i) => Answer::Take(self.take(*i)),
             Event::Cut(i) => Answer::Cut(self.cut(*i)),
+            Event::Snap(i, moment) => Answer::Snap(self.snap(*i, *moment)),
             Event::Start(i) => Answer::Start(self.switch_stream(true, *i)),
             Event::Stop(i) => Answer::Stop(self.switch_stream(false, *i)),
             Event::SessionStart(moment) => Answer::SessionStart(self.start_alone(*moment)),
@@ -96,7 +98,7 @@ pub fn run_session<A: Allocator + Copy>(
     alloc: A,
     config: &Config<A>,
     events: &[Event<A>],
-) -> Result<(Session<A>, Vec<Answer, A>), SessionFault>
+) -> Result<(Session<A>, Vec<Answer<A>, A>), SessionFault>
     ensures ran { IfOk result (λ r. HasRun config.now events.now r.0 r.1.items) }
     ensures refused { IfErr result (λ fault. fault ≢ SessionFault.NoMemory → configured by_history config.now ≡ Err fault) }
 {

@@ -1,9 +1,9 @@
 //! A session, and its rules.
 
 ghost use Rattle.std.specs.Prelude.{◌≡◌, ◌≢◌, ◌≤◌, ◌<◌, ◌∷◌, ◌++◌, [], true, false, Some, Ok, Err, IsOk, IsSome, IfOk, OnOk, IfErr, OnErr, length, option_copied, slice_get};
-ghost use Rattle.tr_session.specs.BookSteps.{most_streams, with_thread, start_answer, after_start, stop_answer, after_stop, switch_answer, rotate_begin_answer, cut_moment, rotate_finish_answer};
+ghost use Rattle.tr_session.specs.BookSteps.{most_streams, with_thread, start_answer, after_start, stop_answer, after_stop, switch_answer, rotate_begin_answer, cut_moment, rotate_finish_answer, snapshot_begin_answer, after_snapshot_begin};
 ghost use Rattle.tr_session.specs.Session.{new_session};
-ghost use Rattle.tr_session.specs.Steps.{session_channel_added, next_config, thread_added, StepTakesMemory, offer_step, after_offer_step, take_step, after_take_step, cut_step, after_cut_step, after_switch_step, all_started, all_stopped, begun, finished, fate_asked};
+ghost use Rattle.tr_session.specs.Steps.{session_channel_added, next_config, thread_added, StepTakesMemory, offer_step, after_offer_step, take_step, after_take_step, cut_step, after_cut_step, snap_step, after_switch_step, all_started, all_stopped, begun, finished, fate_asked};
 ghost use Rattle.tr_stream.specs.Rules.{by_state};
 ghost use Rattle.tr_stream.specs.StateSteps.{new_state};
 
@@ -13,7 +13,7 @@ use crate::faults::{SessionFault, StepFault};
 use crate::streams::{cut_at, offer_at, switch, switch_at, take_at};
 use std::alloc::{AllocError, Allocator, Global};
 use std::marker::Model;
-use tr_book::Mode;
+use tr_book::{Mode, StreamSnap};
 use tr_chunk::OffsetMinutes;
 use tr_record::Moment;
 use tr_stream::{
@@ -38,10 +38,11 @@ impl<A: Allocator> Model for Session<A> {
 
     ghost view = { λ s. record { book = s.book; streams = s.streams.items } };
 
-    ghost use Rattle.std.specs.Prelude.{◌≡◌, length};
+    ghost use Rattle.std.specs.Prelude.{◌≡◌, map};
+    ghost use Rattle.tr_session.specs.Session.{modes_of};
 
-    // each thread of the book has its stream
-    ghost invariant = { λ s. length s.streams.items ≡ length s.book.threads };
+    // each thread of the book has its stream, of the session's mode
+    ghost invariant = { λ s. modes_of s.streams.items ≡ map (λ place. s.book.mode) s.book.threads };
 }
 
 impl<A: Allocator + Copy> Session<A> {
@@ -60,7 +61,7 @@ impl<A: Allocator + Copy> Session<A> {
     ///
     /// # Errors
     ///
-    /// `AlreadyStarted`, `NameTaken`, `TooMany`, `BadGeometry`, `NoMemory`: nothing changed.
+    /// `AlreadyStarted`, `NameTaken`, `TooMany`, `BadGeometry`, `DiscardInSnapshot`, `NoMemory`: nothing changed.
     pub fn add_channel(
         &mut self,
         name: &str,
@@ -103,7 +104,8 @@ impl<A: Allocator + Copy> Session<A> {
 
     /// Puts a new stream behind the others, of the channel at this place. All memory is taken before anything changes.
     fn keep_stream(&mut self, place: usize, config: StreamConfig) -> Result<(), AllocError>
-        requires { length self.old.book.threads < most_streams }
+        requires room { length self.old.book.threads < most_streams }
+        requires mode { config.session ≡ self.old.book.mode }
         ensures ok { OnOk result (self.new ≡ record { book = with_thread place self.old.book; streams = self.old.streams ++ new_state config ∷ [] }) }
         ensures err { OnErr result (self.new ≡ self.old) }
     {
@@ -166,7 +168,7 @@ impl<A: Allocator + Copy> Session<A> {
         ensures value { result ≢ Err (StepFault.Cut CutFault.NoMemory) →
             (result ≡ cut_step by_state i self.old) × (self.new ≡ after_cut_step by_state i self.old) }
         ensures no_memory { result ≡ Err (StepFault.Cut CutFault.NoMemory) → self.new ≡ self.old }
-        ensures memory { result ≡ Err (StepFault.Cut CutFault.NoMemory) → IsOk (cut_moment i self.old.book) }
+        ensures memory { result ≡ Err (StepFault.Cut CutFault.NoMemory) → IsOk (cut_step by_state i self.old) }
     {
         match self.book.cut_moment(i) {
             Ok(moment) => self.cut_now(i, moment),
@@ -176,10 +178,12 @@ impl<A: Allocator + Copy> Session<A> {
 
     /// Cuts a stream whose cut is due.
     fn cut_now(&mut self, i: u64, moment: Moment) -> Result<CutDone, StepFault>
-        requires { cut_moment i self.old.book ≡ Ok moment }
+        requires due { cut_moment i self.old.book ≡ Ok moment }
+        requires local { self.old.book.mode ≡ SessionMode.Local }
         ensures value { result ≢ Err (StepFault.Cut CutFault.NoMemory) →
             (result ≡ cut_step by_state i self.old) × (self.new ≡ after_cut_step by_state i self.old) }
         ensures no_memory { result ≡ Err (StepFault.Cut CutFault.NoMemory) → self.new ≡ self.old }
+        ensures can { IsOk (cut_step by_state i self.old) }
     {
         match cut_at(&mut self.streams, i, moment) {
             Ok(done) => {
@@ -190,11 +194,29 @@ impl<A: Allocator + Copy> Session<A> {
         }
     }
 
+    /// The stream of this number as it is at this moment, or at its last one if that is later. Nothing changes.
+    ///
+    /// # Errors
+    ///
+    /// `NoStream`, `NotSnapshotMode`, `NeverStarted`, `NoMemory`.
+    pub fn snap(&self, i: u64, moment: Moment) -> Result<StreamSnap<A>, SessionFault>
+        ensures value { result ≢ Err SessionFault.NoMemory → result ≡ snap_step by_state i moment self.now }
+        ensures memory { result ≡ Err SessionFault.NoMemory → IsOk (snap_step by_state i moment self.now) }
+    {
+        if let Err(fault) = self.book.can_snap(i) {
+            return Err(fault);
+        }
+        let Some(stream) = self.stream(i) else {
+            return Err(SessionFault::NoStream);
+        };
+        Ok(stream.peek(moment)?)
+    }
+
     /// Begins a rotation at a moment, and answers with the number of the chunk that it archives.
     ///
     /// # Errors
     ///
-    /// `NeverStarted`, `RotationPending`, `AlreadyRotated`, `NoMemory`: nothing changed.
+    /// `SnapshotMode`, `NeverStarted`, `RotationPending`, `AlreadyRotated`, `NoMemory`: nothing changed.
     pub fn rotate_begin(&mut self, moment: Moment) -> Result<u64, SessionFault>
         ensures value { result ≢ Err SessionFault.NoMemory →
             (result ≡ rotate_begin_answer self.old.book) × (self.new ≡ begun moment self.old) }
@@ -286,6 +308,19 @@ impl<A: Allocator> Session<A> {
         ensures after { self.new ≡ finished self.old }
     {
         self.book.rotate_finish()
+    }
+
+    /// Begins a snapshot: stores its moment, or keeps the last one if that is later, and answers with what is stored. It
+    /// takes no memory.
+    ///
+    /// # Errors
+    ///
+    /// `NotSnapshotMode`, `NeverStarted`: nothing changed.
+    pub fn snapshot_begin(&mut self, moment: Moment) -> Result<Moment, SessionFault>
+        ensures answer { result ≡ snapshot_begin_answer moment self.old.book }
+        ensures after { self.new ≡ record self.old { book = after_snapshot_begin moment self.old.book } }
+    {
+        self.book.snapshot_begin(moment)
     }
 
     /// What became of the offer of this serial to the stream of this number, none where there was no such offer yet.

@@ -8,7 +8,7 @@ use Rattle.tr_session.specs.declared.events.Answer.{Answer}
 use Rattle.tr_stream.specs.Rules.{by_state}
 
 pub events-init : goal.events-init
-events-init g c = record { told = ap (λ (before : List Answer). before ++ answers_to by_state c.args.events.now c.in_ok-session.session) c.new-answers.ensures.items; leads = refl }
+events-init g c = record { told = ap (λ (before : List (Answer _)). before ++ answers_to by_state c.args.events.now c.in_ok-session.session) c.new-answers.ensures.items; leads = refl }
 
 pub events-preserved : goal.events-preserved
 events-preserved g c =

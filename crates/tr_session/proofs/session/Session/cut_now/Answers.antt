@@ -1,37 +1,62 @@
-use Rattle.std.proofs.Common.{◌≡◌, ◌∙◌, ◌<◌, ℕ, List, Ok, length, ap, sym, subst}
+use Rattle.std.specs.Prelude.{IsOk}
+use Rattle.std.proofs.Common.{◌≡◌, ◌∙◌, ◌<◌, ℕ, List, Ok, Err, Result, ap, sym, subst}
 use Rattle.tr_session.proofs.BookLaws.{due-within}
-use Rattle.tr_session.proofs.SessionLaws.{cut-noted, cut-wants-memory, only-memory, ok-not-err}
+use Rattle.tr_session.proofs.ModeLaws.{as-many, same-book}
+use Rattle.tr_session.proofs.SessionLaws.{cut-can, cut-noted, only-memory, ok-not-err}
 use Rattle.tr_session.proofs.session.Session.cut_now.Goals as goal
 use Rattle.tr_session.specs.Book.{SessionBookState}
 use Rattle.tr_session.specs.BookSteps.{cut_moment}
 use Rattle.tr_session.specs.Session.{SessionOf}
 use Rattle.tr_session.specs.Steps.{after_cut_step, cut_step}
+use Rattle.tr_session.specs.declared.faults.StepFault.{StepFault}
+use Rattle.tr_session.specs.declared.faults.StepFault.TheVariants.{Cut}
 use Rattle.tr_stream.specs.Rules.{by_state}
 use Rattle.tr_stream.specs.State.{StreamState}
+use Rattle.tr_stream.specs.declared.answers.CutDone.{CutDone}
+use Rattle.tr_stream.specs.declared.answers.CutFault.{CutFault}
 
 pub cut_at-requires : goal.cut_at-requires
 cut_at-requires g c =
-    subst (λ (n : ℕ). c.args.i < n) (sym c.self.invariant)
-    (due-within c.args.i c.args.moment c.self.inside.book (ap (λ (s : SessionOf StreamState). cut_moment c.args.i s.book) c.self.view_is ∙ c.requires))
+    let s : SessionOf StreamState = record { book = c.self.inside.book; streams = c.self.inside.streams.items } in
+    subst (λ (n : ℕ). c.args.i < n) (sym (as-many s c.self.invariant))
+    (due-within c.args.i c.args.moment c.self.inside.book (ap (λ (s : SessionOf StreamState). cut_moment c.args.i s.book) c.self.view_is ∙ c.requires.due))
 
 pub invariant_of-self : goal.invariant_of-self
-invariant_of-self g c = c.cut_at.ensures.count ∙ c.self.invariant ∙ sym (ap (λ (b : SessionBookState). length b.threads) c.count_cut.ensures)
+invariant_of-self g c =
+    c.cut_at.ensures.modes ∙ same-book c.self.inside.book c.count_cut.new.self c.self.inside.streams.items c.self.invariant (ap (λ (b : SessionBookState). b.threads) c.count_cut.ensures) (ap (λ (b : SessionBookState). b.mode) c.count_cut.ensures)
 
 pub invariant_of-self-in-Err : goal.invariant_of-self-in-Err
-invariant_of-self-in-Err g c = c.cut_at.ensures.count ∙ c.self.invariant
+invariant_of-self-in-Err g c = c.cut_at.ensures.modes ∙ c.self.invariant
 
 pub returns-in-Ok-clause-value : goal.returns-in-Ok-clause-value
 returns-in-Ok-clause-value g c = λ _.
     let s : SessionOf StreamState = record { book = c.self.inside.book; streams = c.self.inside.streams.items } in
-    let due : cut_moment c.args.i s.book ≡ Ok c.args.moment = ap (λ (t : SessionOf StreamState). cut_moment c.args.i t.book) c.self.view_is ∙ c.requires in
+    let due : cut_moment c.args.i s.book ≡ Ok c.args.moment = ap (λ (t : SessionOf StreamState). cut_moment c.args.i t.book) c.self.view_is ∙ c.requires.due in
     let did = c.in-Ok.ensures.value (λ same. absurd (ok-not-err same)) in
     let is = cut-noted s c.args.i c.args.moment c.in-Ok.done c.count_cut.new.self c.cut_at.new.streams.items due did.0 did.1 c.count_cut.ensures in
     (is.0 ∙ ap (λ (t : SessionOf StreamState). cut_step by_state c.args.i t) c.self.view_is, is.1 ∙ ap (λ (t : SessionOf StreamState). after_cut_step by_state c.args.i t) c.self.view_is)
 
 pub returns-in-Err-clause-value : goal.returns-in-Err-clause-value
-returns-in-Err-clause-value g c = λ not_memory. absurd (not_memory (cut-wants-memory _))
+returns-in-Err-clause-value g c = λ not_memory.
+    let s : SessionOf StreamState = record { book = c.self.inside.book; streams = c.self.inside.streams.items } in
+    let memory = only-memory s c.args.i c.args.moment c.in-Err.fault c.self.invariant (ap (λ (t : SessionOf StreamState). t.book.mode) c.self.view_is ∙ c.requires.local) (λ other. (c.in-Err.ensures.value other).0) in
+    absurd (not_memory (ap (λ (f : CutFault). (let r : Result CutDone StepFault = Err (Cut f) in r)) memory))
 
 pub returns-in-Err-clause-no_memory : goal.returns-in-Err-clause-no_memory
-returns-in-Err-clause-no_memory g c = λ memory.
-    ap (λ (ts : List StreamState). (let s : SessionOf StreamState = record { book = c.self.inside.book; streams = ts } in s)) (c.cut_at.ensures.no_memory (c.in-Err.is ∙ only-memory c.in-Err.fault))
+returns-in-Err-clause-no_memory g c = λ _.
+    let s : SessionOf StreamState = record { book = c.self.inside.book; streams = c.self.inside.streams.items } in
+    let memory = only-memory s c.args.i c.args.moment c.in-Err.fault c.self.invariant (ap (λ (t : SessionOf StreamState). t.book.mode) c.self.view_is ∙ c.requires.local) (λ other. (c.in-Err.ensures.value other).0) in
+    ap (λ (ts : List StreamState). (let s : SessionOf StreamState = record { book = c.self.inside.book; streams = ts } in s)) (c.cut_at.ensures.no_memory (c.in-Err.is ∙ ap (λ (f : CutFault). (let r : Result CutDone CutFault = Err f in r)) memory))
     ∙ c.self.view_is
+
+pub returns-in-Ok-clause-can : goal.returns-in-Ok-clause-can
+returns-in-Ok-clause-can g c =
+    let s : SessionOf StreamState = record { book = c.self.inside.book; streams = c.self.inside.streams.items } in
+    subst (λ (t : SessionOf StreamState). IsOk (cut_step by_state c.args.i t)) c.self.view_is
+    (cut-can s c.args.i c.args.moment c.self.invariant (ap (λ (t : SessionOf StreamState). t.book.mode) c.self.view_is ∙ c.requires.local) (ap (λ (t : SessionOf StreamState). cut_moment c.args.i t.book) c.self.view_is ∙ c.requires.due))
+
+pub returns-in-Err-clause-can : goal.returns-in-Err-clause-can
+returns-in-Err-clause-can g c =
+    let s : SessionOf StreamState = record { book = c.self.inside.book; streams = c.self.inside.streams.items } in
+    subst (λ (t : SessionOf StreamState). IsOk (cut_step by_state c.args.i t)) c.self.view_is
+    (cut-can s c.args.i c.args.moment c.self.invariant (ap (λ (t : SessionOf StreamState). t.book.mode) c.self.view_is ∙ c.requires.local) (ap (λ (t : SessionOf StreamState). cut_moment c.args.i t.book) c.self.view_is ∙ c.requires.due))

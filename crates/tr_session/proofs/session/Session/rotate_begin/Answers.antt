@@ -1,5 +1,6 @@
-use Rattle.std.proofs.Common.{◌∙◌, ap, sym, subst}
-use Rattle.std.specs.Prelude.{IsOk, length}
+use Rattle.std.proofs.Common.{◌∙◌, ap, subst}
+use Rattle.std.specs.Prelude.{IsOk}
+use Rattle.tr_session.proofs.ModeLaws.{same-book}
 use Rattle.tr_session.specs.BookSteps.{rotate_begin_answer}
 use Rattle.tr_session.specs.Steps.{begun}
 use Rattle.tr_session.proofs.session.Session.rotate_begin.Goals as goal
@@ -8,7 +9,7 @@ use Rattle.tr_session.specs.Session.{SessionOf}
 use Rattle.tr_stream.specs.State.{StreamState}
 
 pub invariant_of-self : goal.invariant_of-self
-invariant_of-self g c = c.self.invariant ∙ sym (ap length c.rotate_begin.ensures.streams)
+invariant_of-self g c = same-book c.self.inside.book c.rotate_begin.new.self c.self.inside.streams.items c.self.invariant c.rotate_begin.ensures.streams c.rotate_begin.ensures.mode
 
 pub returns-clause-value : goal.returns-clause-value
 returns-clause-value g c = λ not_memory.
