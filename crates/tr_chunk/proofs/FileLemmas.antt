@@ -1,5 +1,5 @@
 -- Packets that are written one after another.
-use Rattle.std.proofs.Common.{◌≡◌, ℕ, ◌+◌, ◌<◌, List, [], ◌∷◌, ◌++◌, length, get_or, take, drop, Option, sym, ap, subst, ◌∙◌, append-nil, append_assoc, length-append, arith}
+use Rattle.std.proofs.Common.{◌≡◌, ℕ, ◌+◌, ◌<◌, List, [], ◌∷◌, ◌++◌, length, get_or, take, drop, Option, sym, ap, ◌∙◌, append-nil, append_assoc, length-append, arith}
 use Rattle.std.proofs.lemmas.List.{take_more, take-append-le, take-append-drop}
 use Rattle.std.proofs.lemmas.List.Concat.{flat_map-append}
 use Rattle.std.proofs.Math.Seq.{take-append-add}
@@ -47,17 +47,6 @@ packets_cut start now after ps i p within is so_far cut =
 pub OnErr-always : {T E : Type 0} {P : Type 0} (r : Result T E) → P → OnErr r P
 OnErr-always (Ok t) p = tt
 OnErr-always (Err e) p = p
-
--- the same, where the loop goes over a list that was asked for
-pub loop_more : (start now after : Option (List ℕ)) (items ps : List Contents) (i : ℕ) (p : Contents) → items ≡ ps → i < length items → p ≡ get_or items i p
-    → now ≡ and_then_bytes start (packets_text (take i ps)) → after ≡ and_then_bytes now (packet_text p) → after ≡ and_then_bytes start (packets_text (take (i + 1) ps))
-loop_more start now after items ps i p same within is =
-    packets_more start now after ps i p (subst (λ (l : List Contents). i < length l) same within) (subst (λ (l : List Contents). p ≡ get_or l i p) same is)
-
-pub loop_cut : (start now after : Option (List ℕ)) (items ps : List Contents) (i : ℕ) (p : Contents) → items ≡ ps → i < length items → p ≡ get_or items i p
-    → now ≡ and_then_bytes start (packets_text (take i ps)) → WentOut now after (packet_text p) → WentOut start after (packets_text ps)
-loop_cut start now after items ps i p same within is =
-    packets_cut start now after ps i p (subst (λ (l : List Contents). i < length l) same within) (subst (λ (l : List Contents). p ≡ get_or l i p) same is)
 
 -- failures are counted from the loop's begin on
 pub failed_since : (start now after : ℕ) → now ≡ start → after ≡ once_more now → after ≡ once_more start

@@ -31,6 +31,24 @@ fn write_packet<A: Allocator, B: Allocator, K: ByteSink>(
     Ok(())
 }
 
+/// Writes packets, one after another. After a refusal a front part of them went out.
+pub fn write_packets<A: Allocator, B: Allocator + Copy, K: ByteSink>(
+    alloc: B,
+    sink: &mut K,
+    packets: &[Packet<A>],
+) -> Result<(), WriteFault>
+    ensures ok { OnOk result (K.taken sink.new ≡ and_then_bytes (K.taken sink.old) (packets_text packets.now)) }
+    ensures err { OnErr result (WentOut (K.taken sink.old) (K.taken sink.new) (packets_text packets.now)) }
+    ensures no_failure { OnOk result (K.failures sink.new ≡ K.failures sink.old) }
+    ensures failed { IfErr result (λ f. f ≡ Write → K.failures sink.new ≡ once_more (K.failures sink.old)) }
+    ensures no_memory { IfErr result (λ f. f ≡ NoMemory → K.failures sink.new ≡ K.failures sink.old) }
+{
+    for packet in packets {
+        write_packet(alloc, sink, packet)?;
+    }
+    Ok(())
+}
+
 /// Writes the packets of a part, one after another. After a refusal a front part of them went out.
 pub fn write_part<A: Allocator, B: Allocator + Copy, K: ByteSink>(
     alloc: B,
@@ -43,10 +61,7 @@ pub fn write_part<A: Allocator, B: Allocator + Copy, K: ByteSink>(
     ensures failed { IfErr result (λ f. f ≡ Write → K.failures sink.new ≡ once_more (K.failures sink.old)) }
     ensures no_memory { IfErr result (λ f. f ≡ NoMemory → K.failures sink.new ≡ K.failures sink.old) }
 {
-    for packet in part.packets() {
-        write_packet(alloc, sink, packet)?;
-    }
-    Ok(())
+    write_packets(alloc, sink, part.packets())
 }
 
 /// Writes the metadata text of a trace. After a refusal a front part of it went out.
