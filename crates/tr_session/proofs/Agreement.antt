@@ -1,5 +1,5 @@
 -- A session by what its streams hold, and by their histories: both take the same steps.
-use Rattle.std.proofs.Common.{◌≡◌, ℕ, ◌≤◌, zero, suc, Bool, true, false, List, [], ◌∷◌, ◌++◌, length, map, Option, Some, None, Result, Ok, Err, refl, sym, ◌∙◌, ap, subst, arith}
+use Rattle.std.proofs.Common.{◌≡◌, ℕ, ◌≤◌, max, zero, suc, Bool, true, false, List, [], ◌∷◌, ◌++◌, length, map, Option, Some, None, Result, Ok, Err, refl, sym, ◌∙◌, ap, subst, arith}
 use Rattle.std.proofs.lemmas.Bool.Decides.{nat_tests}
 use Rattle.std.proofs.lemmas.Grind.{common_steps}
 use Rattle.std.specs.List.{sum_by}
@@ -14,10 +14,10 @@ use Rattle.tr_book.specs.Snaps.{SnapState}
 use Rattle.tr_book.specs.declared.mode.Mode.{Mode}
 use Rattle.tr_session.specs.Agreement.{AllAgree, CanBeMade, AllCanBeMade, SessionsAgree}
 use Rattle.tr_session.specs.Book.{SessionBookState}
-use Rattle.tr_session.specs.BookSteps.{unless_refused, is_new, is_allowed, most_channels, channel_named, channel_made, channel_added, thread_place, with_thread, start_answer, started, after_start, stop_answer, stopped, after_stop, switch_answer, rotate_begin_answer, rotating, after_rotate_begin, cut_moment, with_cut, rotate_finish_answer, archived, after_rotate_finish, snap_allowed}
+use Rattle.tr_session.specs.BookSteps.{unless_refused, is_new, is_allowed, most_channels, channel_named, channel_made, channel_added, thread_place, with_thread, start_answer, started, after_start, stop_answer, stopped, after_stop, switch_answer, rotate_begin_answer, rotating, after_rotate_begin, cut_moment, with_cut, rotate_finish_answer, archived, after_rotate_finish, snapshot_allowed, snapshot_begin_answer, after_snapshot_begin, snap_allowed}
 use Rattle.tr_session.specs.Session.{SessionOf}
 use Rattle.tr_session.specs.Sizes.{part_packets, part_bytes, archive_packets, archive_bytes}
-use Rattle.tr_session.specs.Steps.{with_book, session_channel_added, next_config, stream_made, thread_added, changed_at, offer_as_step, take_as_step, cut_as_step, offer_step, after_offer_step, take_step, after_take_step, cut_step_at, after_cut_step_at, cut_step, after_cut_step, snap_step_at, snap_step, after_switch_step, all_started, all_stopped, begun, finished, as_next, next_in, next_answer, after_next, cut_first, all_cut, rotated_answer, rotate_answer, after_rotate, fate_asked}
+use Rattle.tr_session.specs.Steps.{with_book, session_channel_added, next_config, stream_made, thread_added, changed_at, offer_as_step, take_as_step, cut_as_step, offer_step, after_offer_step, take_step, after_take_step, cut_step_at, after_cut_step_at, cut_step, after_cut_step, snap_step_at, snap_step, after_switch_step, all_started, all_stopped, begun, finished, as_next, next_in, next_answer, after_next, cut_first, all_cut, rotated_answer, rotate_answer, after_rotate, seen_at, snapshot_answer, after_snapshot, fate_asked}
 use Rattle.tr_session.specs.declared.archive.Archive.{Archive}
 use Rattle.tr_session.specs.declared.archive.Pending.{Pending}
 use Rattle.tr_session.specs.declared.channel.Channel.{Channel}
@@ -25,6 +25,7 @@ use Rattle.tr_session.specs.declared.faults.SessionFault.{SessionFault}
 use Rattle.tr_session.specs.declared.faults.StepFault.{StepFault}
 use Rattle.tr_session.specs.declared.rotation.Next.TheVariants as next
 use Rattle.tr_stream.proofs.RuleLaws.{agree-made, agree-offered, agree-taken, agree-cut, agree-turned, same-cut, same-fated, same-offered, same-parted, same-snapped, same-taken}
+use Rattle.tr_snapshot.specs.Snapshots.{SnapshotState}
 use Rattle.tr_stream.specs.Rules.{Traced, Agrees, by_state, by_history}
 use Rattle.tr_stream.specs.State.{StreamState}
 use Rattle.tr_stream.specs.declared.answers.CutDone.{CutDone}
@@ -77,6 +78,13 @@ same-sum f g [] [] same agree = refl
 same-sum f g [] (t ∷ ts) same agree = absurd agree
 same-sum f g (s ∷ ss) [] same agree = absurd agree
 same-sum f g (s ∷ ss) (t ∷ ts) same agree = let first = same s t agree.0 in let rest = same-sum f g ss ts same agree.1 in grind (arith, common_steps, first, rest)
+
+-- what is asked of each stream
+same-each : {X : Type 0} (f : StreamState → X) (g : Traced → X) (ss : List StreamState) (ts : List Traced) → ((s : StreamState) (t : Traced) → Agrees s t → f s ≡ g t) → AllAgree ss ts → map f ss ≡ map g ts
+same-each f g [] [] same agree = refl
+same-each f g [] (t ∷ ts) same agree = absurd agree
+same-each f g (s ∷ ss) [] same agree = absurd agree
+same-each f g (s ∷ ss) (t ∷ ts) same agree = let first = same s t agree.0 in let rest = same-each f g ss ts same agree.1 in cc
 
 kept-unless : {R : Type 0} (r : Result R SessionFault) (done old : SessionBookState) → done.channels ≡ old.channels → (unless_refused r done old).channels ≡ old.channels
 kept-unless (Ok x) done old same = same
@@ -175,6 +183,20 @@ module _ (a : SessionOf StreamState) (b : SessionOf Traced) (is : SessionsAgree 
 
   pub agree-next : SessionsAgree (after_next by_state a) (after_next by_history b)
   agree-next = subst (λ (c : SessionBookState). SessionsAgree (after_next by_state a) (option_map_or (λ (q : Pending). after_cut_step by_history q.cut b) c.pending b)) is.book (agree-next_in a.book.pending)
+
+  -- ---- a whole snapshot
+
+  same-seen_at : (r : Result ℕ SessionFault) → seen_at by_state r a ≡ seen_at by_history r b
+  same-seen_at (Err fault) = refl
+  same-seen_at (Ok moment) =
+      ap (λ (snaps : List SnapState). (let r : Result SnapshotState SessionFault = Ok (record { moment = moment; streams = snaps }) in r))
+      (same-each (by_state.snapped moment) (by_history.snapped moment) a.streams b.streams (λ s t agree. same-snapped s t moment agree) is.streams)
+
+  pub same-snapshot : (moment : ℕ) → snapshot_answer by_state moment a ≡ snapshot_answer by_history moment b
+  same-snapshot moment = same-seen_at (snapshot_begin_answer moment a.book) ∙ ap (λ (c : SessionBookState). seen_at by_history (snapshot_begin_answer moment c) b) is.book
+
+  pub agree-snapshot : (moment : ℕ) → SessionsAgree (after_snapshot moment a) (after_snapshot moment b)
+  agree-snapshot moment = agree-book (after_snapshot_begin moment) (kept-unless (snapshot_allowed a.book) (record a.book { last = max moment a.book.last }) a.book refl)
 
   -- ---- how much an archive holds
 

@@ -4,7 +4,7 @@ use Rattle.std.specs.Option.{option_map_or}
 use Rattle.tr_book.specs.Snaps.{SnapState}
 use Rattle.tr_book.specs.declared.mode.Mode.{Mode}
 use Rattle.tr_session.specs.Book.{SessionBookState}
-use Rattle.tr_session.specs.BookSteps.{unless_refused, channel_named, channel_added, thread_place, with_thread, start_answer, after_start, stop_answer, after_stop, switch_answer, rotate_begin_answer, after_rotate_begin, cut_moment, with_cut, rotate_finish_answer, after_rotate_finish, snap_allowed}
+use Rattle.tr_session.specs.BookSteps.{unless_refused, channel_named, channel_added, thread_place, with_thread, start_answer, after_start, stop_answer, after_stop, switch_answer, rotate_begin_answer, after_rotate_begin, cut_moment, with_cut, rotate_finish_answer, after_rotate_finish, snapshot_begin_answer, after_snapshot_begin, snap_allowed}
 use Rattle.tr_session.specs.Session.{SessionOf}
 use Rattle.tr_session.specs.declared.archive.Archive.{Archive}
 use Rattle.tr_session.specs.declared.archive.Pending.{Pending}
@@ -15,6 +15,7 @@ use Rattle.tr_session.specs.declared.faults.StepFault.{StepFault}
 use Rattle.tr_session.specs.declared.faults.StepFault.TheVariants.{Session, Offer, Take, Cut}
 use Rattle.tr_session.specs.declared.rotation.Next.{Next}
 use Rattle.tr_session.specs.declared.rotation.Next.TheVariants as next
+use Rattle.tr_snapshot.specs.Snapshots.{SnapshotState}
 use Rattle.tr_stream.specs.Rules.{StreamRules}
 use Rattle.tr_stream.specs.declared.answers.CutDone.{CutDone}
 use Rattle.tr_stream.specs.declared.answers.CutFault.{CutFault}
@@ -189,6 +190,20 @@ pub record IsCutSome {S : Type 0} (rules : StreamRules S) (s t : SessionOf S) : 
 -- what a rotation leaves that memory was refused to: what was before, or itself pending with some of its cuts
 abbrev pub IsHeldUp : {S : Type 0} → StreamRules S → ℕ → SessionOf S → SessionOf S → Type 0
 IsHeldUp rules moment s t = (t ≡ s) ⊎ IsCutSome rules (begun moment s) t
+
+-- ---- snapshots
+
+-- each stream as it is at this moment, unless that was refused
+abbrev pub seen_at : {S : Type 0} → StreamRules S → Result ℕ SessionFault → SessionOf S → Result SnapshotState SessionFault
+seen_at rules (Ok moment) s = Ok (record { moment = moment; streams = map (rules.snapped moment) s.streams })
+seen_at rules (Err fault) s = Err fault
+
+-- a whole snapshot: it begins, and shows each stream at the moment that is stored
+abbrev pub snapshot_answer : {S : Type 0} → StreamRules S → ℕ → SessionOf S → Result SnapshotState SessionFault
+snapshot_answer rules moment s = seen_at rules (snapshot_begin_answer moment s.book) s
+
+abbrev pub after_snapshot : {S : Type 0} → ℕ → SessionOf S → SessionOf S
+after_snapshot moment s = record s { book = after_snapshot_begin moment s.book }
 
 -- ---- questions, which change nothing
 

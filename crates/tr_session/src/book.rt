@@ -449,9 +449,21 @@ impl<A: Allocator> SessionBook<A> {
         ensures streams { self.new.threads ≡ self.old.threads }
         ensures mode { self.new.mode ≡ self.old.mode }
     {
+        let stored = self.snapshot_moment(moment)?;
+        self.last = stored;
+        Ok(stored)
+    }
+
+    /// The moment that a snapshot which begins now would store.
+    ///
+    /// # Errors
+    ///
+    /// `NotSnapshotMode`, `NeverStarted`.
+    pub fn snapshot_moment(&self, moment: Moment) -> Result<Moment, SessionFault>
+        ensures { result ≡ snapshot_begin_answer moment self.now }
+    {
         self.can_snapshot()?;
-        self.last = moment.later(self.last);
-        Ok(self.last)
+        Ok(moment.later(self.last))
     }
 
     /// Whether a snapshot can begin.

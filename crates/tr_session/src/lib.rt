@@ -14,6 +14,7 @@ mod laws;
 mod rotation;
 mod run;
 mod session;
+mod snapshot;
 mod state;
 mod streams;
 #[cfg(test)]

@@ -1,16 +1,16 @@
 //! A session, and its rules.
 
-ghost use Rattle.std.specs.Prelude.{◌≡◌, ◌≢◌, ◌≤◌, ◌<◌, ◌∷◌, ◌++◌, [], true, false, Some, Ok, Err, IsOk, IsSome, IfOk, OnOk, IfErr, OnErr, length, option_copied, slice_get};
+ghost use Rattle.std.specs.Prelude.{◌≡◌, ◌≢◌, ◌≤◌, ◌<◌, ◌∷◌, ◌++◌, [], true, false, Some, Ok, Err, IsOk, IsSome, IfOk, OnOk, IfErr, OnErr, length, map, option_copied, slice_get};
 ghost use Rattle.tr_session.specs.BookSteps.{most_streams, with_thread, start_answer, after_start, stop_answer, after_stop, switch_answer, rotate_begin_answer, cut_moment, rotate_finish_answer, snapshot_begin_answer, after_snapshot_begin};
 ghost use Rattle.tr_session.specs.Session.{new_session};
 ghost use Rattle.tr_session.specs.Steps.{session_channel_added, next_config, thread_added, StepTakesMemory, offer_step, after_offer_step, take_step, after_take_step, cut_step, after_cut_step, snap_step, after_switch_step, all_started, all_stopped, begun, finished, fate_asked};
 ghost use Rattle.tr_stream.specs.Rules.{by_state};
-ghost use Rattle.tr_stream.specs.StateSteps.{new_state};
+ghost use Rattle.tr_stream.specs.StateSteps.{new_state, state_snap};
 
 use crate::archive::Archive;
 use crate::book::SessionBook;
 use crate::faults::{SessionFault, StepFault};
-use crate::streams::{cut_at, offer_at, switch, switch_at, take_at};
+use crate::streams::{cut_at, offer_at, snap_all, switch, switch_at, take_at};
 use std::alloc::{AllocError, Allocator, Global};
 use std::marker::Model;
 use tr_book::{Mode, StreamSnap};
@@ -210,6 +210,13 @@ impl<A: Allocator + Copy> Session<A> {
             return Err(SessionFault::NoStream);
         };
         Ok(stream.peek(moment)?)
+    }
+
+    /// Each stream as it is at this moment.
+    pub(crate) fn snap_streams(&self, moment: Moment) -> Result<Vec<StreamSnap<A>, A>, AllocError>
+        ensures { IfOk result (λ snaps. snaps.items ≡ map (state_snap moment) self.now.streams) }
+    {
+        snap_all(self.alloc, &self.streams, moment)
     }
 
     /// Begins a rotation at a moment, and answers with the number of the chunk that it archives.

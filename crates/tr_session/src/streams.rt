@@ -1,13 +1,14 @@
 //! Steps of streams that stand in order of number.
 
-ghost use Rattle.std.specs.Prelude.{◌≡◌, ◌≢◌, ◌<◌, Some, Err, IsOk, length, map, option_map, slice_get};
+ghost use Rattle.std.specs.Prelude.{◌≡◌, ◌≢◌, ◌<◌, Some, Err, IfOk, IsOk, length, map, option_map, slice_get};
 ghost use Rattle.std.specs.Option.{option_map_or};
 ghost use Rattle.tr_session.specs.Session.{modes_of};
 ghost use Rattle.tr_session.specs.Steps.{changed_at, offer_as_step, take_as_step, StepTakesMemory};
-ghost use Rattle.tr_stream.specs.StateSteps.{offer_result, state_after_offer, take_result, state_after_take, cut_result, state_after_cut, state_switched};
+ghost use Rattle.tr_stream.specs.StateSteps.{offer_result, state_after_offer, take_result, state_after_take, cut_result, state_after_cut, state_snap, state_switched};
 
 use crate::faults::{SessionFault, StepFault};
-use std::alloc::Allocator;
+use std::alloc::{AllocError, Allocator};
+use tr_book::StreamSnap;
 use tr_record::Moment;
 use tr_stream::{CutDone, CutFault, OfferFault, Offered, Stream, TakeFault, Taken};
 
@@ -113,4 +114,19 @@ pub fn cut_at<A: Allocator + Copy>(
     ensures modes { modes_of streams.new.items ≡ modes_of streams.old.items }
 {
     streams[i as usize].cut(moment)
+}
+
+/// Each stream as it is at this moment.
+pub fn snap_all<A: Allocator + Copy>(
+    alloc: A,
+    streams: &[Stream<A>],
+    moment: Moment,
+) -> Result<Vec<StreamSnap<A>, A>, AllocError>
+    ensures { IfOk result (λ snaps. snaps.items ≡ map (state_snap moment) streams.now) }
+{
+    let mut snaps = Vec::with_capacity(alloc, streams.len())?;
+    'streams: for stream in streams {
+        snaps.push(stream.peek(moment)?)?;
+    }
+    Ok(snaps)
 }
