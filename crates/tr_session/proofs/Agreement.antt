@@ -11,20 +11,23 @@ use Rattle.tr_book.specs.Geometry.{GeometryState, geometry_of, is_size, is_count
 use Rattle.tr_book.specs.declared.geometry.GeometryFault.{GeometryFault}
 use Rattle.tr_book.specs.declared.geometry.GeometryFault.TheVariants as geometry
 use Rattle.tr_book.specs.Snaps.{SnapState}
+use Rattle.tr_book.specs.declared.counts.Counts.{Counts}
 use Rattle.tr_book.specs.declared.mode.Mode.{Mode}
+use Rattle.tr_schedule.specs.Schedules.{ScheduleState}
+use Rattle.tr_schedule.specs.declared.cause.Cause.{Cause}
 use Rattle.tr_session.specs.Agreement.{AllAgree, CanBeMade, AllCanBeMade, SessionsAgree}
 use Rattle.tr_session.specs.Book.{SessionBookState}
-use Rattle.tr_session.specs.BookSteps.{unless_refused, is_new, is_allowed, most_channels, channel_named, channel_made, channel_added, thread_place, with_thread, start_answer, started, after_start, stop_answer, stopped, after_stop, switch_answer, rotate_begin_answer, rotating, after_rotate_begin, cut_moment, with_cut, rotate_finish_answer, archived, after_rotate_finish, snapshot_allowed, snapshot_begin_answer, after_snapshot_begin, snap_allowed}
+use Rattle.tr_session.specs.BookSteps.{unless_refused, is_new, is_allowed, most_channels, channel_named, channel_made, channel_added, thread_place, with_thread, start_answer, started, after_start, stop_answer, stopped, after_stop, switch_answer, rotate_begin_answer, rotating, after_rotate_begin, cut_moment, with_cut, rotate_finish_answer, archived, after_rotate_finish, snapshot_allowed, snapshot_begin_answer, after_snapshot_begin, snap_allowed, schedule_answer, after_schedule, due_now}
 use Rattle.tr_session.specs.Session.{SessionOf}
 use Rattle.tr_session.specs.Sizes.{part_packets, part_bytes, archive_packets, archive_bytes}
-use Rattle.tr_session.specs.Steps.{with_book, session_channel_added, next_config, stream_made, thread_added, changed_at, offer_as_step, take_as_step, cut_as_step, offer_step, after_offer_step, take_step, after_take_step, cut_step_at, after_cut_step_at, cut_step, after_cut_step, snap_step_at, snap_step, after_switch_step, all_started, all_stopped, begun, finished, as_next, next_in, next_answer, after_next, cut_first, all_cut, rotated_answer, rotate_answer, after_rotate, seen_at, snapshot_answer, after_snapshot, fate_asked}
+use Rattle.tr_session.specs.Steps.{with_book, session_channel_added, next_config, stream_made, thread_added, changed_at, offer_as_step, take_as_step, cut_as_step, offer_step, after_offer_step, take_step, after_take_step, cut_step_at, after_cut_step_at, cut_step, after_cut_step, snap_step_at, snap_step, after_switch_step, all_started, all_stopped, begun, finished, as_next, next_in, next_answer, after_next, cut_first, all_cut, rotated_answer, rotate_answer, after_rotate, seen_at, snapshot_answer, after_snapshot, current_sizes, tick_cause, as_ticked, tick_answer, after_tick, fate_asked}
 use Rattle.tr_session.specs.declared.archive.Archive.{Archive}
 use Rattle.tr_session.specs.declared.archive.Pending.{Pending}
 use Rattle.tr_session.specs.declared.channel.Channel.{Channel}
 use Rattle.tr_session.specs.declared.faults.SessionFault.{SessionFault}
 use Rattle.tr_session.specs.declared.faults.StepFault.{StepFault}
 use Rattle.tr_session.specs.declared.rotation.Next.TheVariants as next
-use Rattle.tr_stream.proofs.RuleLaws.{agree-made, agree-offered, agree-taken, agree-cut, agree-turned, same-cut, same-fated, same-offered, same-parted, same-snapped, same-taken}
+use Rattle.tr_stream.proofs.RuleLaws.{agree-made, agree-offered, agree-taken, agree-cut, agree-turned, same-counted, same-cut, same-fated, same-offered, same-parted, same-snapped, same-taken}
 use Rattle.tr_snapshot.specs.Snapshots.{SnapshotState}
 use Rattle.tr_stream.specs.Rules.{Traced, Agrees, by_state, by_history}
 use Rattle.tr_stream.specs.State.{StreamState}
@@ -198,6 +201,16 @@ module _ (a : SessionOf StreamState) (b : SessionOf Traced) (is : SessionsAgree 
   pub agree-snapshot : (moment : ℕ) → SessionsAgree (after_snapshot moment a) (after_snapshot moment b)
   agree-snapshot moment = agree-book (after_snapshot_begin moment) (kept-unless (snapshot_allowed a.book) (record a.book { last = max moment a.book.last }) a.book refl)
 
+  -- ---- schedules
+
+  pub agree-scheduled : (schedule : Option ScheduleState) → SessionsAgree (record a { book = after_schedule schedule a.book }) (record b { book = after_schedule schedule b.book })
+  agree-scheduled schedule = agree-book (after_schedule schedule) (kept-unless (schedule_answer a.book) (record a.book { schedule = schedule }) a.book refl)
+
+  pub same-cause : (now : ℕ) → tick_cause by_state now a ≡ tick_cause by_history now b
+  same-cause now =
+      ap (λ (sizes : List ℕ). due_now now sizes a.book) (same-each (λ s. (by_state.counted s).current_bytes) (λ t. (by_history.counted t).current_bytes) a.streams b.streams (λ s t agree. ap (λ (n : Counts). n.current_bytes) (same-counted s t agree)) is.streams)
+      ∙ ap (due_now now (current_sizes by_history b)) is.book
+
   -- ---- how much an archive holds
 
   pub same-archive_packets : (id : ℕ) → archive_packets by_state id a ≡ archive_packets by_history id b
@@ -225,6 +238,22 @@ same-rotate a b is moment =
 pub agree-rotate : (a : SessionOf StreamState) (b : SessionOf Traced) → SessionsAgree a b → (moment : ℕ) → SessionsAgree (after_rotate by_state moment a) (after_rotate by_history moment b)
 agree-rotate a b is moment = agree-unless a b is (rotate_begin_answer a.book) (rotate_begin_answer b.book) _ _ (ap rotate_begin_answer is.book)
     (agree-finished (all_cut by_state moment a) (all_cut by_history moment b) (agree-all_cut a b moment is))
+
+-- ---- ticks
+
+pub same-tick : (a : SessionOf StreamState) (b : SessionOf Traced) → SessionsAgree a b → (now : ℕ) → tick_answer by_state now a ≡ tick_answer by_history now b
+same-tick a b is now =
+    ap (λ (cause : Option Cause). as_ticked cause (rotate_answer by_state now a)) (same-cause a b is now)
+    ∙ ap (as_ticked (tick_cause by_history now b)) (same-rotate a b is now)
+
+agree-ticked : (a c : SessionOf StreamState) (b d : SessionOf Traced) (cause : Option Cause) → SessionsAgree a b → SessionsAgree c d → SessionsAgree (option_map_or (λ (x : Cause). c) cause a) (option_map_or (λ (x : Cause). d) cause b)
+agree-ticked a c b d None is done = is
+agree-ticked a c b d (Some cause) is done = done
+
+pub agree-tick : (a : SessionOf StreamState) (b : SessionOf Traced) → SessionsAgree a b → (now : ℕ) → SessionsAgree (after_tick by_state now a) (after_tick by_history now b)
+agree-tick a b is now =
+    subst (λ (cause : Option Cause). SessionsAgree (after_tick by_state now a) (option_map_or (λ (x : Cause). after_rotate by_history now b) cause b)) (same-cause a b is now)
+    (agree-ticked a (after_rotate by_state now a) b (after_rotate by_history now b) (tick_cause by_state now a) is (agree-rotate a b is now))
 
 -- ---- channels and threads
 

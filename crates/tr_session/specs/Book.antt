@@ -1,5 +1,6 @@
 -- What a session keeps beside its streams.
 use Rattle.std.specs.Prelude.{ℕ, ℤ, Bool, false, List, [], Option, None}
+use Rattle.tr_schedule.specs.Schedules.{ScheduleState}
 use Rattle.tr_session.specs.declared.archive.Archive.{Archive}
 use Rattle.tr_session.specs.declared.archive.Pending.{Pending}
 use Rattle.tr_session.specs.declared.channel.Channel.{Channel}
@@ -23,6 +24,8 @@ pub record SessionBookState : Type 0 where
   pub threads : List ℕ
   pub pending : Option Pending
   pub archives : List Archive
+  -- when rotations are due
+  pub schedule : Option ScheduleState
 
 -- before anything is added
 abbrev pub new_book : List ℕ → ℤ → SessionMode → SessionBookState
@@ -38,4 +41,5 @@ new_book uuid offset mode = record {
   threads = [];
   pending = None;
   archives = [];
+  schedule = None;
 }

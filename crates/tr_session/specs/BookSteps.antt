@@ -1,11 +1,14 @@
 -- What the calls of a session's book answer, and what they do: the first refusal that applies, or else the step.
-use Rattle.std.specs.Prelude.{ℕ, ◌+◌, ◌≤◌, max, Bool, true, false, ◌&&◌, nat_le, nat_lt, List, [], ◌∷◌, ◌++◌, length, map, is_some, Option, Some, None, option_map, option_and_then, position, Result, Ok, Err, slice_get, if◌then◌else◌}
+use Rattle.std.specs.Prelude.{ℕ, ◌+◌, ◌≤◌, max, Bool, true, false, not, ◌&&◌, nat_le, nat_lt, List, [], ◌∷◌, ◌++◌, length, map, is_some, Option, Some, None, option_map, option_and_then, position, Result, Ok, Err, slice_get, if◌then◌else◌}
 use Rattle.std.specs.Map.{lookup}
 use Rattle.std.specs.Str.{bytes_eq}
 use Rattle.tr_book.specs.Geometry.{GeometryState, geometry_of}
 use Rattle.tr_book.specs.declared.geometry.GeometryFault.{GeometryFault}
 use Rattle.tr_book.specs.declared.mode.Mode.{Mode}
 use Rattle.tr_book.specs.declared.mode.Mode.TheVariants.{Discard, Overwrite}
+use Rattle.tr_schedule.specs.Due.{due_cause}
+use Rattle.tr_schedule.specs.Schedules.{ScheduleState}
+use Rattle.tr_schedule.specs.declared.cause.Cause.{Cause}
 use Rattle.tr_session.specs.Book.{SessionBookState}
 use Rattle.tr_session.specs.declared.archive.Archive.{Archive}
 use Rattle.tr_session.specs.declared.archive.Pending.{Pending}
@@ -227,3 +230,20 @@ after_snapshot_begin moment b = unless_refused (snapshot_allowed b) (record b { 
 -- whether stream i can be seen
 abbrev pub snap_allowed : ℕ → SessionBookState → Result Unit SessionFault
 snap_allowed i b = if nat_lt i (length b.threads) then snapshot_allowed b else Err NoStream
+
+-- ---- schedules
+
+-- a snapshot session has no schedule
+abbrev pub schedule_answer : SessionBookState → Result Unit SessionFault
+schedule_answer b = by_session b.mode (Ok tt) (Err SnapshotMode)
+
+abbrev pub after_schedule : Option ScheduleState → SessionBookState → SessionBookState
+after_schedule schedule b = unless_refused (schedule_answer b) (record b { schedule = schedule }) b
+
+-- the schedule by which a local session rotates now: it is active, and no rotation is pending
+abbrev pub schedule_in_force : SessionBookState → Option ScheduleState
+schedule_in_force b = if is_active b.state && not (is_some b.pending) then by_session b.mode b.schedule None else None
+
+-- why a rotation of the current chunk is due, if it is
+abbrev pub due_now : ℕ → List ℕ → SessionBookState → Option Cause
+due_now now sizes b = option_and_then (λ (schedule : ScheduleState). due_cause schedule b.begin now sizes) (schedule_in_force b)

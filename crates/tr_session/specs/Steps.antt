@@ -3,8 +3,9 @@ use Rattle.std.specs.Prelude.{◌≡◌, ◌≤◌, ◌⊎◌, ℕ, Bool, true, 
 use Rattle.std.specs.Option.{option_map_or}
 use Rattle.tr_book.specs.Snaps.{SnapState}
 use Rattle.tr_book.specs.declared.mode.Mode.{Mode}
+use Rattle.tr_schedule.specs.declared.cause.Cause.{Cause}
 use Rattle.tr_session.specs.Book.{SessionBookState}
-use Rattle.tr_session.specs.BookSteps.{unless_refused, channel_named, channel_added, thread_place, with_thread, start_answer, after_start, stop_answer, after_stop, switch_answer, rotate_begin_answer, after_rotate_begin, cut_moment, with_cut, rotate_finish_answer, after_rotate_finish, snapshot_begin_answer, after_snapshot_begin, snap_allowed}
+use Rattle.tr_session.specs.BookSteps.{unless_refused, channel_named, channel_added, thread_place, with_thread, start_answer, after_start, stop_answer, after_stop, switch_answer, rotate_begin_answer, after_rotate_begin, cut_moment, with_cut, rotate_finish_answer, after_rotate_finish, snapshot_begin_answer, after_snapshot_begin, snap_allowed, due_now}
 use Rattle.tr_session.specs.Session.{SessionOf}
 use Rattle.tr_session.specs.declared.archive.Archive.{Archive}
 use Rattle.tr_session.specs.declared.archive.Pending.{Pending}
@@ -15,6 +16,8 @@ use Rattle.tr_session.specs.declared.faults.StepFault.{StepFault}
 use Rattle.tr_session.specs.declared.faults.StepFault.TheVariants.{Session, Offer, Take, Cut}
 use Rattle.tr_session.specs.declared.rotation.Next.{Next}
 use Rattle.tr_session.specs.declared.rotation.Next.TheVariants as next
+use Rattle.tr_session.specs.declared.ticks.Ticked.{Ticked}
+use Rattle.tr_session.specs.declared.ticks.Ticked.TheVariants as ticked
 use Rattle.tr_snapshot.specs.Snapshots.{SnapshotState}
 use Rattle.tr_stream.specs.Rules.{StreamRules}
 use Rattle.tr_stream.specs.declared.answers.CutDone.{CutDone}
@@ -204,6 +207,27 @@ snapshot_answer rules moment s = seen_at rules (snapshot_begin_answer moment s.b
 
 abbrev pub after_snapshot : {S : Type 0} → ℕ → SessionOf S → SessionOf S
 after_snapshot moment s = record s { book = after_snapshot_begin moment s.book }
+
+-- ---- ticks
+
+-- the bytes of each stream's current part
+abbrev pub current_sizes : {S : Type 0} → StreamRules S → SessionOf S → List ℕ
+current_sizes rules s = map (λ t. (rules.counted t).current_bytes) s.streams
+
+abbrev pub tick_cause : {S : Type 0} → StreamRules S → ℕ → SessionOf S → Option Cause
+tick_cause rules now s = due_now now (current_sizes rules s) s.book
+
+abbrev pub as_ticked : Option Cause → Result Archive SessionFault → Result Ticked SessionFault
+as_ticked None rotated = Ok ticked.Idle
+as_ticked (Some cause) (Ok archive) = Ok (ticked.Rotated cause archive)
+as_ticked (Some cause) (Err fault) = Err fault
+
+-- a tick rotates the session where that is due, and else does nothing
+abbrev pub tick_answer : {S : Type 0} → StreamRules S → ℕ → SessionOf S → Result Ticked SessionFault
+tick_answer rules now s = as_ticked (tick_cause rules now s) (rotate_answer rules now s)
+
+abbrev pub after_tick : {S : Type 0} → StreamRules S → ℕ → SessionOf S → SessionOf S
+after_tick rules now s = option_map_or (λ (cause : Cause). after_rotate rules now s) (tick_cause rules now s) s
 
 -- ---- questions, which change nothing
 

@@ -2,7 +2,7 @@
 
 ghost use Rattle.std.specs.Prelude.{◌≡◌, ◌≢◌, ◌≤◌, ◌<◌, false, Some, Ok, Err, IsOk, IfOk, OnOk, IfErr, OnErr, is_some, length, option_copied, option_map};
 ghost use Rattle.tr_session.specs.Book.{new_book};
-ghost use Rattle.tr_session.specs.BookSteps.{most_channels, most_streams, channel_named, channel_added, with_channel, thread_place, thread_noted, with_thread, channel_of, start_answer, after_start, stop_answer, after_stop, switch_answer, rotate_begin_answer, rotating, after_rotate_begin, cut_moment, with_cut, note_cut_answer, after_note_cut, rotate_finish_answer, after_rotate_finish, snapshot_allowed, snapshot_begin_answer, after_snapshot_begin, snap_allowed};
+ghost use Rattle.tr_session.specs.BookSteps.{most_channels, most_streams, channel_named, channel_added, with_channel, thread_place, thread_noted, with_thread, channel_of, start_answer, after_start, stop_answer, after_stop, switch_answer, rotate_begin_answer, rotating, after_rotate_begin, cut_moment, with_cut, note_cut_answer, after_note_cut, rotate_finish_answer, after_rotate_finish, snapshot_allowed, snapshot_begin_answer, after_snapshot_begin, snap_allowed, schedule_answer, after_schedule, schedule_in_force};
 ghost use Rattle.tr_session.specs.BookSteps as rules;
 
 use crate::archive::{Archive, Pending};
@@ -16,6 +16,7 @@ use std::marker::Model;
 use tr_book::{Geometry, Mode};
 use tr_chunk::OffsetMinutes;
 use tr_record::Moment;
+use tr_schedule::Schedule;
 use tr_stream::SessionMode;
 use uuid::Uuid;
 
@@ -51,6 +52,7 @@ pub struct SessionBook<A: Allocator = Global> {
     threads: Vec<usize, A>,
     pending: Option<Pending>,
     archives: Vec<Archive, A>,
+    schedule: Option<Schedule>,
 }
 
 impl<A: Allocator> Model for SessionBook<A> {
@@ -71,6 +73,7 @@ impl<A: Allocator> Model for SessionBook<A> {
       threads = b.threads.items;
       pending = b.pending;
       archives = b.archives.items;
+      schedule = b.schedule;
     } };
 
     ghost use Rattle.std.specs.Prelude.{◌≡◌, ◌<◌, true, is_some, vec_capacity, vec_len};
@@ -91,6 +94,7 @@ impl<A: Allocator> Model for SessionBook<A> {
           threads = b.threads.items;
           pending = b.pending;
           archives = b.archives.items;
+          schedule = b.schedule;
         })
         × (is_some b.pending ≡ true → vec_len b.archives < vec_capacity b.archives)
         × (is_some b.pending ≡ true → b.mode ≡ Local) };
@@ -114,6 +118,7 @@ impl<A: Allocator + Copy> SessionBook<A> {
             threads: Vec::new(alloc),
             pending: None,
             archives: Vec::new(alloc),
+            schedule: None,
         }
     }
 
@@ -492,6 +497,45 @@ impl<A: Allocator> SessionBook<A> {
             return Err(SessionFault::NoStream);
         }
         self.can_snapshot()
+    }
+
+    /// Sets when rotations are due: by this schedule, or never. It takes no memory.
+    ///
+    /// # Errors
+    ///
+    /// `SnapshotMode`: nothing changed.
+    pub fn set_schedule(&mut self, schedule: Option<Schedule>) -> Result<(), SessionFault>
+        ensures answer { result ≡ schedule_answer self.old }
+        ensures after { self.new ≡ after_schedule schedule self.old }
+        ensures streams { self.new.threads ≡ self.old.threads }
+        ensures mode { self.new.mode ≡ self.old.mode }
+    {
+        match self.mode {
+            SessionMode::Snapshot => return Err(SessionFault::SnapshotMode),
+            SessionMode::Local => {}
+        }
+        self.schedule = schedule;
+        Ok(())
+    }
+
+    /// When rotations are due, if ever.
+    pub fn schedule(&self) -> Option<Schedule>
+        ensures { result ≡ self.now.schedule }
+    {
+        self.schedule
+    }
+
+    /// The schedule by which the session rotates now: none unless it is active and no rotation is pending.
+    pub fn schedule_in_force(&self) -> Option<Schedule>
+        ensures { result ≡ schedule_in_force self.now }
+    {
+        if self.state != State::Active || self.pending.is_some() {
+            return None;
+        }
+        match self.mode {
+            SessionMode::Local => self.schedule,
+            SessionMode::Snapshot => None,
+        }
     }
 
     /// The identifier of the trace.

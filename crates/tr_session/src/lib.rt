@@ -19,6 +19,7 @@ mod state;
 mod streams;
 #[cfg(test)]
 mod tests;
+mod ticks;
 
 pub use archive::{Archive, Pending};
 pub use archive_size::ArchiveSize;
@@ -32,3 +33,4 @@ pub use rotation::Next;
 pub use run::run_session;
 pub use session::Session;
 pub use state::State;
+pub use ticks::Ticked;

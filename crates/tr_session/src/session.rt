@@ -1,21 +1,22 @@
 //! A session, and its rules.
 
 ghost use Rattle.std.specs.Prelude.{◌≡◌, ◌≢◌, ◌≤◌, ◌<◌, ◌∷◌, ◌++◌, [], true, false, Some, Ok, Err, IsOk, IsSome, IfOk, OnOk, IfErr, OnErr, length, map, option_copied, slice_get};
-ghost use Rattle.tr_session.specs.BookSteps.{most_streams, with_thread, start_answer, after_start, stop_answer, after_stop, switch_answer, rotate_begin_answer, cut_moment, rotate_finish_answer, snapshot_begin_answer, after_snapshot_begin};
+ghost use Rattle.tr_session.specs.BookSteps.{most_streams, with_thread, start_answer, after_start, stop_answer, after_stop, switch_answer, rotate_begin_answer, cut_moment, rotate_finish_answer, snapshot_begin_answer, after_snapshot_begin, schedule_answer, after_schedule};
 ghost use Rattle.tr_session.specs.Session.{new_session};
-ghost use Rattle.tr_session.specs.Steps.{session_channel_added, next_config, thread_added, StepTakesMemory, offer_step, after_offer_step, take_step, after_take_step, cut_step, after_cut_step, snap_step, after_switch_step, all_started, all_stopped, begun, finished, fate_asked};
+ghost use Rattle.tr_session.specs.Steps.{session_channel_added, next_config, thread_added, StepTakesMemory, offer_step, after_offer_step, take_step, after_take_step, cut_step, after_cut_step, snap_step, after_switch_step, all_started, all_stopped, begun, finished, current_sizes, fate_asked};
 ghost use Rattle.tr_stream.specs.Rules.{by_state};
 ghost use Rattle.tr_stream.specs.StateSteps.{new_state, state_snap};
 
 use crate::archive::Archive;
 use crate::book::SessionBook;
 use crate::faults::{SessionFault, StepFault};
-use crate::streams::{cut_at, offer_at, snap_all, switch, switch_at, take_at};
+use crate::streams::{cut_at, offer_at, sizes_of, snap_all, switch, switch_at, take_at};
 use std::alloc::{AllocError, Allocator, Global};
 use std::marker::Model;
 use tr_book::{Mode, StreamSnap};
 use tr_chunk::OffsetMinutes;
 use tr_record::Moment;
+use tr_schedule::Schedule;
 use tr_stream::{
     CutDone, CutFault, Fate, OfferFault, Offered, SessionMode, Stream, StreamConfig, TakeFault,
     Taken,
@@ -219,6 +220,13 @@ impl<A: Allocator + Copy> Session<A> {
         snap_all(self.alloc, &self.streams, moment)
     }
 
+    /// The bytes of each stream's current part, or the greatest u64 where they are more.
+    pub(crate) fn current_sizes(&self) -> Result<Vec<u64, A>, AllocError>
+        ensures { IfOk result (λ sizes. sizes.items ≡ current_sizes by_state self.now) }
+    {
+        sizes_of(self.alloc, &self.streams)
+    }
+
     /// Begins a rotation at a moment, and answers with the number of the chunk that it archives.
     ///
     /// # Errors
@@ -328,6 +336,18 @@ impl<A: Allocator> Session<A> {
         ensures after { self.new ≡ record self.old { book = after_snapshot_begin moment self.old.book } }
     {
         self.book.snapshot_begin(moment)
+    }
+
+    /// Sets when rotations are due: by this schedule, or never. It takes no memory.
+    ///
+    /// # Errors
+    ///
+    /// `SnapshotMode`: nothing changed.
+    pub fn set_schedule(&mut self, schedule: Option<Schedule>) -> Result<(), SessionFault>
+        ensures answer { result ≡ schedule_answer self.old.book }
+        ensures after { self.new ≡ record self.old { book = after_schedule schedule self.old.book } }
+    {
+        self.book.set_schedule(schedule)
     }
 
     /// What became of the offer of this serial to the stream of this number, none where there was no such offer yet.

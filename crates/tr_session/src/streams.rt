@@ -4,7 +4,7 @@ ghost use Rattle.std.specs.Prelude.{◌≡◌, ◌≢◌, ◌<◌, Some, Err, If
 ghost use Rattle.std.specs.Option.{option_map_or};
 ghost use Rattle.tr_session.specs.Session.{modes_of};
 ghost use Rattle.tr_session.specs.Steps.{changed_at, offer_as_step, take_as_step, StepTakesMemory};
-ghost use Rattle.tr_stream.specs.StateSteps.{offer_result, state_after_offer, take_result, state_after_take, cut_result, state_after_cut, state_snap, state_switched};
+ghost use Rattle.tr_stream.specs.StateSteps.{offer_result, state_after_offer, take_result, state_after_take, cut_result, state_after_cut, state_snap, state_switched, state_counts};
 
 use crate::faults::{SessionFault, StepFault};
 use std::alloc::{AllocError, Allocator};
@@ -129,4 +129,18 @@ pub fn snap_all<A: Allocator + Copy>(
         snaps.push(stream.peek(moment)?)?;
     }
     Ok(snaps)
+}
+
+/// The bytes of each stream's current part, or the greatest u64 where they are more.
+pub fn sizes_of<A: Allocator + Copy>(
+    alloc: A,
+    streams: &[Stream<A>],
+) -> Result<Vec<u64, A>, AllocError>
+    ensures { IfOk result (λ sizes. sizes.items ≡ map (λ s. (state_counts s).current_bytes) streams.now) }
+{
+    let mut sizes = Vec::with_capacity(alloc, streams.len())?;
+    'streams: for stream in streams {
+        sizes.push(stream.counts().current_bytes)?;
+    }
+    Ok(sizes)
 }

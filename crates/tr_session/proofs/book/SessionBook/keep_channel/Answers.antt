@@ -23,5 +23,6 @@ returns-clause-ok g c =
       threads = c.self.inside.threads.items;
       pending = c.self.inside.pending;
       archives = c.self.inside.archives.items;
+      schedule = c.self.inside.schedule;
     } in b)) added
     ∙ ap (λ (b : SessionBookState). with_channel name c.args.channel b) c.self.view_is

@@ -1,0 +1,55 @@
+//! Ticks of a session's schedule.
+
+ghost use Rattle.std.specs.Prelude.{◌≡◌, ◌≢◌, true, Err, is_some};
+ghost use Rattle.tr_session.specs.BookSteps.{schedule_in_force};
+ghost use Rattle.tr_session.specs.Steps.{tick_answer, after_tick, IsHeldUp};
+ghost use Rattle.tr_stream.specs.Rules.{by_state};
+
+use crate::archive::Archive;
+use crate::faults::SessionFault;
+use crate::session::Session;
+use std::alloc::Allocator;
+use tr_record::Moment;
+use tr_schedule::Cause;
+
+/// What a tick did.
+#[derive(Clone, Copy, Debug, PartialEq, Eq)]
+pub enum Ticked {
+    /// Nothing: no rotation was due.
+    Idle,
+    /// It rotated the session.
+    Rotated {
+        /// Why that was due.
+        cause: Cause,
+        /// The archive that the rotation made.
+        archive: Archive,
+    },
+}
+
+impl<A: Allocator + Copy> Session<A> {
+    /// Rotates the session where its schedule says at this moment that a rotation is due. An idle tick stores no moment.
+    ///
+    /// # Errors
+    ///
+    /// `NoMemory`: nothing changed, or the rotation is pending with the cuts that were made, and `rotate_next` goes on.
+    pub fn tick(&mut self, now: Moment) -> Result<Ticked, SessionFault>
+        ensures value { result ≢ Err SessionFault.NoMemory →
+            (result ≡ tick_answer by_state now self.old) × (self.new ≡ after_tick by_state now self.old) }
+        ensures no_memory { result ≡ Err SessionFault.NoMemory → IsHeldUp by_state now self.old self.new }
+        ensures memory { result ≡ Err SessionFault.NoMemory → is_some (schedule_in_force self.old.book) ≡ true }
+    {
+        let Some(schedule) = self.book().schedule_in_force() else {
+            return Ok(Ticked::Idle);
+        };
+        let Ok(sizes) = self.current_sizes() else {
+            return Err(SessionFault::NoMemory);
+        };
+        let Some(cause) = schedule.due(self.book().begin(), now, sizes.as_slice()) else {
+            return Ok(Ticked::Idle);
+        };
+        match self.rotate(now) {
+            Ok(archive) => Ok(Ticked::Rotated { cause, archive }),
+            Err(fault) => Err(fault),
+        }
+    }
+}
