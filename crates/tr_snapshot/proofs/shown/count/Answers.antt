@@ -1,4 +1,4 @@
-use Rattle.std.proofs.Common.{◌≡◌, ◌∙◌, sym, ap}
+use Rattle.std.proofs.Common.{◌∙◌, sym, ap}
 use Rattle.std.proofs.lemmas.List.Concat.{length-flat_map}
 use Rattle.tr_packet.specs.Packets.{Contents}
 use Rattle.tr_book.specs.Parts.{records_of}
