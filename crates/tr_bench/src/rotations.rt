@@ -7,7 +7,8 @@ use tr_book::Mode;
 use tr_chunk::OffsetMinutes;
 use tr_packet::Packet;
 use tr_record::Moment;
-use tr_session::{Session, SessionFault, StepFault};
+use tr_session::{Session, StepFault};
+use tr_session_book::SessionFault;
 use tr_stream::SessionMode;
 use uuid::Uuid;
 

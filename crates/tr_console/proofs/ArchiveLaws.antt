@@ -4,7 +4,7 @@ use Rattle.std.specs.Prelude.{slice_get}
 use Rattle.tr_console.proofs.DropLaws.{drop-got, drop-all}
 use Rattle.tr_console.specs.Texts.{Text, archive_line, archive_lines, lines_or_none}
 use Rattle.tr_session.specs.Session.{SessionOf}
-use Rattle.tr_session.specs.declared.archive.Archive.{Archive}
+use Rattle.tr_session_book.specs.declared.archive.Archive.{Archive}
 use Rattle.tr_stream.specs.Rules.{by_state}
 use Rattle.tr_stream.specs.State.{StreamState}
 

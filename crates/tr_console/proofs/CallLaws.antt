@@ -15,14 +15,14 @@ use Rattle.tr_console.specs.World.{World, said, refused, session_named, with_ses
 use Rattle.tr_console.specs.declared.archives.NamedArchive.{NamedArchive}
 use Rattle.tr_console.specs.declared.faults.LineFault.{LineFault}
 use Rattle.tr_console.specs.declared.faults.LineFault.TheVariants as fault
-use Rattle.tr_session.proofs.NameLaws.{lookup-by_name, set_value-by_name}
+use Rattle.tr_session_book.proofs.NameLaws.{lookup-by_name, set_value-by_name}
 use Rattle.tr_session.specs.Faults.{session_wants_memory, step_wants_memory}
-use Rattle.tr_session.specs.Names.{by_name}
+use Rattle.tr_session_book.specs.Names.{by_name}
 use Rattle.tr_session.specs.Session.{SessionOf}
 use Rattle.tr_session.specs.Steps.{session_channel_added}
-use Rattle.tr_session.specs.declared.archive.Archive.{Archive}
-use Rattle.tr_session.specs.declared.faults.SessionFault.{SessionFault}
-use Rattle.tr_session.specs.declared.faults.SessionFault.TheVariants as session
+use Rattle.tr_session_book.specs.declared.archive.Archive.{Archive}
+use Rattle.tr_session_book.specs.declared.faults.SessionFault.{SessionFault}
+use Rattle.tr_session_book.specs.declared.faults.SessionFault.TheVariants as session
 use Rattle.tr_session.specs.declared.faults.StepFault.{StepFault}
 use Rattle.tr_session.specs.declared.faults.StepFault.TheVariants as step
 use Rattle.tr_session.specs.declared.rotation.Next.{Next}

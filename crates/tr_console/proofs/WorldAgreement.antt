@@ -16,12 +16,12 @@ use Rattle.tr_console.specs.declared.faults.LineFault.{LineFault}
 use Rattle.tr_console.specs.declared.faults.LineFault.TheVariants.{BadName}
 use Rattle.tr_session.proofs.Agreement.{ResultsAgree, same-length, agree-channel, agree-thread, agree-started, agree-stopped, same-offer, agree-offer, same-take, agree-take, agree-begun, same-next, agree-next, agree-finished, same-rotate, agree-rotate, same-fate, same-archive_packets, same-archive_bytes}
 use Rattle.tr_session.specs.Agreement.{AllAgree, SessionsAgree}
-use Rattle.tr_session.specs.BookSteps as book
+use Rattle.tr_session_book.specs.BookSteps as book
 use Rattle.tr_session.specs.Session.{SessionOf, new_session}
 use Rattle.tr_session.specs.Sizes.{archive_packets, archive_bytes}
 use Rattle.tr_session.specs.Steps as session
-use Rattle.tr_session.specs.declared.archive.Archive.{Archive}
-use Rattle.tr_session.specs.declared.faults.SessionFault.{SessionFault}
+use Rattle.tr_session_book.specs.declared.archive.Archive.{Archive}
+use Rattle.tr_session_book.specs.declared.faults.SessionFault.{SessionFault}
 use Rattle.tr_stream.proofs.RuleLaws.{same-counted}
 use Rattle.tr_stream.specs.Rules.{Traced, by_state, by_history}
 use Rattle.tr_stream.specs.State.{StreamState}

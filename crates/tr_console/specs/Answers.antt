@@ -10,11 +10,11 @@ use Rattle.tr_console.specs.Texts.{Text, line_of, started_text, stopped_text, of
 use Rattle.tr_console.specs.World.{World, Step, said, refused, session_named, with_session}
 use Rattle.tr_console.specs.declared.faults.LineFault.{LineFault}
 use Rattle.tr_console.specs.declared.faults.LineFault.TheVariants as fault
-use Rattle.tr_session.specs.BookSteps as book
+use Rattle.tr_session_book.specs.BookSteps as book
 use Rattle.tr_session.specs.Session.{SessionOf, new_session}
 use Rattle.tr_session.specs.Steps as session
-use Rattle.tr_session.specs.declared.faults.SessionFault.{SessionFault}
-use Rattle.tr_session.specs.declared.faults.SessionFault.TheVariants.{TooMany, NameTaken}
+use Rattle.tr_session_book.specs.declared.faults.SessionFault.{SessionFault}
+use Rattle.tr_session_book.specs.declared.faults.SessionFault.TheVariants.{TooMany, NameTaken}
 use Rattle.tr_stream.specs.Rules.{StreamRules}
 use Rattle.tr_stream.specs.declared.config.SessionMode.TheVariants.{Local}
 use Rattle.uuid.specs.Text.{parsed}

@@ -12,8 +12,8 @@ use Rattle.tr_console.specs.declared.faults.LineFault.{LineFault}
 use Rattle.tr_console.specs.declared.faults.LineFault.TheVariants.{NoSession, BadName, Session, Step}
 use Rattle.tr_session.specs.Session.{SessionOf}
 use Rattle.tr_session.specs.Steps.{session_channel_added}
-use Rattle.tr_session.specs.declared.archive.Archive.{Archive}
-use Rattle.tr_session.specs.declared.faults.SessionFault.{SessionFault}
+use Rattle.tr_session_book.specs.declared.archive.Archive.{Archive}
+use Rattle.tr_session_book.specs.declared.faults.SessionFault.{SessionFault}
 use Rattle.tr_session.specs.declared.faults.StepFault.{StepFault}
 
 -- a refusal by a session, or of a step, as the line's

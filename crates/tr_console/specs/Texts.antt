@@ -6,15 +6,15 @@ use Rattle.tr_chunk.specs.ArchiveName.{archive_name_text}
 use Rattle.tr_console.specs.Faults.{line_fault_code, line_fault_name}
 use Rattle.tr_console.specs.declared.archives.NamedArchive.{NamedArchive}
 use Rattle.tr_console.specs.declared.faults.LineFault.{LineFault}
-use Rattle.tr_session.specs.Book.{SessionBookState}
+use Rattle.tr_session_book.specs.Book.{SessionBookState}
 use Rattle.tr_session.specs.Session.{SessionOf}
 use Rattle.tr_session.specs.Sizes.{archive_packets, archive_bytes}
-use Rattle.tr_session.specs.declared.archive.Archive.{Archive}
-use Rattle.tr_session.specs.declared.archive.Pending.{Pending}
+use Rattle.tr_session_book.specs.declared.archive.Archive.{Archive}
+use Rattle.tr_session_book.specs.declared.archive.Pending.{Pending}
 use Rattle.tr_session.specs.declared.rotation.Next.{Next}
 use Rattle.tr_session.specs.declared.rotation.Next.TheVariants as next
-use Rattle.tr_session.specs.declared.state.State.{State}
-use Rattle.tr_session.specs.declared.state.State.TheVariants.{New, Active, Inactive}
+use Rattle.tr_session_book.specs.declared.state.State.{State}
+use Rattle.tr_session_book.specs.declared.state.State.TheVariants.{New, Active, Inactive}
 use Rattle.tr_stream.specs.Rules.{StreamRules}
 use Rattle.tr_stream.specs.declared.answers.Offered.{Offered}
 use Rattle.tr_stream.specs.declared.answers.Offered.TheVariants.{Stored, StoredOver, Discarded}

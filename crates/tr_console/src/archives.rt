@@ -8,7 +8,8 @@ ghost use Rattle.tr_stream.specs.Rules.{by_state};
 use std::alloc::{AllocError, Allocator};
 use std::fmt::Write;
 use tr_chunk::{OffsetMinutes, archive_name};
-use tr_session::{Archive, Session};
+use tr_session::Session;
+use tr_session_book::Archive;
 
 /// An archive, and what its name needs beside it.
 #[derive(Clone, Copy, Debug, PartialEq, Eq)]

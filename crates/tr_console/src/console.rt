@@ -33,7 +33,8 @@ use tr_chunk::OffsetMinutes;
 use tr_command::{Request, parse};
 use tr_lines::{is_skipped_line, push_words};
 use tr_record::Moment;
-use tr_session::{Session, SessionFault};
+use tr_session::Session;
+use tr_session_book::SessionFault;
 use tr_stream::SessionMode;
 use uuid::Uuid;
 
@@ -49,7 +50,7 @@ pub struct Console<A: Allocator = Global> {
 
 impl<A: Allocator> Model for Console<A> {
     ghost use Rattle.tr_console.specs.World.{World};
-    ghost use Rattle.tr_session.specs.Names.{by_name};
+    ghost use Rattle.tr_session_book.specs.Names.{by_name};
     ghost use Rattle.tr_stream.specs.State.{StreamState};
 
     ghost Value = { World StreamState };

@@ -4,7 +4,8 @@ ghost use Rattle.std.specs.Prelude.{◌≡◌};
 ghost use Rattle.tr_console.specs.Faults.{line_fault_code, line_fault_name, wants_memory};
 
 use thiserror::Error;
-use tr_session::{SessionFault, StepFault};
+use tr_session::StepFault;
+use tr_session_book::SessionFault;
 
 /// Why a line is refused: by the console, by a session, or by a stream. Nothing changed.
 #[derive(Clone, Copy, Debug, PartialEq, Eq, Error)]

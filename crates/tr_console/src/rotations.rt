@@ -4,8 +4,8 @@ ghost use Rattle.std.specs.Prelude.{◌≡◌, ◌∷◌, ◌++◌, [], Ok, Err,
 ghost use Rattle.std.specs.String.{string_bytes};
 ghost use Rattle.tr_console.specs.Calls.{HasMemory, after_call, by_session, by_step, call_answer, named};
 ghost use Rattle.tr_console.specs.Texts.{archived_text, line_of, next_text, rotating_text};
-ghost use Rattle.tr_session.specs.BookSteps.{rotate_begin_answer, rotate_finish_answer};
-ghost use Rattle.tr_session.specs.Names.{by_name};
+ghost use Rattle.tr_session_book.specs.BookSteps.{rotate_begin_answer, rotate_finish_answer};
+ghost use Rattle.tr_session_book.specs.Names.{by_name};
 ghost use Rattle.tr_session.specs.Steps.{after_next, after_rotate, begun, finished, next_answer, rotate_answer};
 ghost use Rattle.tr_stream.specs.Rules.{by_state};
 

@@ -4,8 +4,8 @@ ghost use Rattle.std.specs.Prelude.{◌≡◌, false, Ok, Err, Some, OnOk, OnErr
 ghost use Rattle.tr_console.specs.World.{session_named};
 ghost use Rattle.tr_console.specs.Calls.{HasMemory, added, added_channel, after_call, by_session, by_step, call_answer};
 ghost use Rattle.tr_console.specs.Faults.{wants_memory};
-ghost use Rattle.tr_session.specs.BookSteps.{start_answer, stop_answer};
-ghost use Rattle.tr_session.specs.Names.{by_name};
+ghost use Rattle.tr_session_book.specs.BookSteps.{start_answer, stop_answer};
+ghost use Rattle.tr_session_book.specs.Names.{by_name};
 ghost use Rattle.tr_session.specs.Steps.{thread_added, all_started, all_stopped, offer_step, after_offer_step, take_step, after_take_step, fate_asked};
 ghost use Rattle.tr_stream.specs.Rules.{by_state};
 

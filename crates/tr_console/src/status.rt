@@ -8,7 +8,8 @@ ghost use Rattle.tr_stream.specs.Rules.{by_state};
 use std::alloc::{AllocError, Allocator};
 use std::fmt::Write;
 use tr_book::Counts;
-use tr_session::{Pending, Session, SessionBook, State};
+use tr_session::Session;
+use tr_session_book::{Pending, SessionBook, State};
 use tr_stream::SessionMode;
 
 /// The heads of the columns.

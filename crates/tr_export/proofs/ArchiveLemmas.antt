@@ -9,7 +9,7 @@ use Rattle.tr_export.specs.Paths.{folder_of, path_of}
 use Rattle.tr_export.specs.declared.made.Made.TheVariants.{Folder, File}
 use Rattle.tr_packet.specs.Metadata.{metadata_of}
 use Rattle.tr_session.specs.Session.{SessionOf}
-use Rattle.tr_session.specs.declared.archive.Archive.{Archive}
+use Rattle.tr_session_book.specs.declared.archive.Archive.{Archive}
 use Rattle.tr_stream.specs.State.{StreamState}
 
 module _ (folder : List ℕ) (id : ℕ) (s : SessionOf StreamState) where

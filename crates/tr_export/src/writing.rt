@@ -13,7 +13,8 @@ use crate::paths::{archive_folder, file_path};
 use std::alloc::Allocator;
 use tr_book::Part;
 use tr_chunk::{archive_name, stream_file_name, write_metadata, write_part};
-use tr_session::{Archive, Session};
+use tr_session::Session;
+use tr_session_book::Archive;
 use uuid::Uuid;
 
 /// Writes the metadata text to a file of this path.

@@ -16,15 +16,15 @@ use Rattle.tr_book.specs.declared.mode.Mode.{Mode}
 use Rattle.tr_schedule.specs.Schedules.{ScheduleState}
 use Rattle.tr_schedule.specs.declared.cause.Cause.{Cause}
 use Rattle.tr_session.specs.Agreement.{AllAgree, CanBeMade, AllCanBeMade, SessionsAgree}
-use Rattle.tr_session.specs.Book.{SessionBookState}
-use Rattle.tr_session.specs.BookSteps.{unless_refused, is_new, is_allowed, most_channels, channel_named, channel_made, channel_added, thread_place, with_thread, start_answer, started, after_start, stop_answer, stopped, after_stop, switch_answer, rotate_begin_answer, rotating, after_rotate_begin, cut_moment, with_cut, rotate_finish_answer, archived, after_rotate_finish, snapshot_allowed, snapshot_begin_answer, after_snapshot_begin, snap_allowed, schedule_answer, after_schedule, due_now}
+use Rattle.tr_session_book.specs.Book.{SessionBookState}
+use Rattle.tr_session_book.specs.BookSteps.{unless_refused, is_new, is_allowed, most_channels, channel_named, channel_made, channel_added, thread_place, with_thread, start_answer, started, after_start, stop_answer, stopped, after_stop, switch_answer, rotate_begin_answer, rotating, after_rotate_begin, cut_moment, with_cut, rotate_finish_answer, archived, after_rotate_finish, snapshot_allowed, snapshot_begin_answer, after_snapshot_begin, snap_allowed, schedule_answer, after_schedule, due_now}
 use Rattle.tr_session.specs.Session.{SessionOf}
 use Rattle.tr_session.specs.Sizes.{part_packets, part_bytes, archive_packets, archive_bytes}
 use Rattle.tr_session.specs.Steps.{with_book, session_channel_added, next_config, stream_made, thread_added, changed_at, offer_as_step, take_as_step, cut_as_step, offer_step, after_offer_step, take_step, after_take_step, cut_step_at, after_cut_step_at, cut_step, after_cut_step, snap_step_at, snap_step, after_switch_step, all_started, all_stopped, begun, finished, as_next, next_in, next_answer, after_next, cut_first, all_cut, rotated_answer, rotate_answer, after_rotate, seen_at, snapshot_answer, after_snapshot, current_sizes, tick_cause, as_ticked, tick_answer, after_tick, fate_asked}
-use Rattle.tr_session.specs.declared.archive.Archive.{Archive}
-use Rattle.tr_session.specs.declared.archive.Pending.{Pending}
-use Rattle.tr_session.specs.declared.channel.Channel.{Channel}
-use Rattle.tr_session.specs.declared.faults.SessionFault.{SessionFault}
+use Rattle.tr_session_book.specs.declared.archive.Archive.{Archive}
+use Rattle.tr_session_book.specs.declared.archive.Pending.{Pending}
+use Rattle.tr_session_book.specs.declared.channel.Channel.{Channel}
+use Rattle.tr_session_book.specs.declared.faults.SessionFault.{SessionFault}
 use Rattle.tr_session.specs.declared.faults.StepFault.{StepFault}
 use Rattle.tr_session.specs.declared.rotation.Next.TheVariants as next
 use Rattle.tr_stream.proofs.RuleLaws.{agree-made, agree-offered, agree-taken, agree-cut, agree-turned, same-counted, same-cut, same-fated, same-offered, same-parted, same-snapped, same-taken}

@@ -1,10 +1,8 @@
 pub mod Agreement
 pub mod AuditLaws
-pub mod BookLaws
 pub mod GapLaws
 pub mod ListLaws
 pub mod ModeLaws
-pub mod NameLaws
 pub mod OwnSteps
 pub mod ResultLaws
 pub mod RunAgreement

@@ -9,11 +9,6 @@ use Rattle.std.specs.Slice.{IsItemAt}
 use Rattle.tr_session.specs.Steps.{changed_at}
 
 module _ {X : Type 0} where
-  -- what a reference by place shows
-  pub copied-item : (xs : List X) (i : ℕ) (r : Option (Bor X)) → IsItemAt xs i r → option_copied r ≡ slice_get xs i
-  copied-item xs i None is = sym (slice_get_past xs i is.3)
-  copied-item xs i (Some x) is = sym (slice_get_read xs (length xs) i x.now refl (is.3).0 is.1)
-
   pub lent-some : (xs : List X) (i : ℕ) (x : MutBor X) → IsItemAtMut xs i (Some x) → slice_get xs i ≡ Some x.now
   lent-some xs i x is = slice_get_read xs (length xs) i x.now refl (is.3).0 is.1
 

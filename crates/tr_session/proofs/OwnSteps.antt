@@ -3,14 +3,14 @@ use Rattle.std.proofs.Common.{◌≡◌, ◌∙◌, ℕ, zero, suc, Bool, true, 
 use Rattle.std.proofs.lemmas.Bool.Decides.{nat_tests}
 use Rattle.std.proofs.lemmas.Grind.{common_steps}
 use Rattle.std.specs.Prelude.{◌==◌, if◌then◌else◌, option_map, slice_get}
-use Rattle.tr_session.specs.Book.{SessionBookState}
-use Rattle.tr_session.specs.BookSteps.{unless_refused, cut_moment, switch_answer, with_cut, snap_allowed}
+use Rattle.tr_session_book.specs.Book.{SessionBookState}
+use Rattle.tr_session_book.specs.BookSteps.{unless_refused, cut_moment, switch_answer, with_cut, snap_allowed}
 use Rattle.tr_session.specs.Events.{after_event, after_events, book_after, cut_let_through, is_of, let_through, own_steps}
 use Rattle.tr_session.specs.Session.{SessionOf}
 use Rattle.tr_session.specs.Steps.{after_cut_step_at, changed_at}
 use Rattle.tr_session.specs.declared.events.Event.{Event}
 use Rattle.tr_session.specs.declared.events.Event.TheVariants.{Offer, Take, Cut, Snap, Start, Stop, SessionStart, SessionStop, RotateBegin, RotateFinish}
-use Rattle.tr_session.specs.declared.faults.SessionFault.{SessionFault}
+use Rattle.tr_session_book.specs.declared.faults.SessionFault.{SessionFault}
 use Rattle.tr_stream.specs.History.{History}
 use Rattle.tr_stream.specs.Rules.{Traced, by_history}
 use Rattle.tr_stream.specs.Runs as runs

@@ -5,20 +5,20 @@ use Rattle.std.specs.String.{string_bytes}
 use Rattle.tr_session.proofs.Agreement.{ResultsAgree, agree-alone_started, agree-alone_stopped, agree-begun, agree-channel, agree-cut_step, agree-finished, agree-offer, agree-switch, agree-take, agree-thread, same-cut_step, same-offer, same-snap, same-take}
 use Rattle.tr_session.proofs.OwnSteps.{moved, own-events}
 use Rattle.tr_session.specs.Agreement.{AllAgree, SessionsAgree}
-use Rattle.tr_session.specs.Book.{SessionBookState}
-use Rattle.tr_session.specs.BookSteps.{start_answer, stop_answer, switch_answer, rotate_begin_answer, rotate_finish_answer}
+use Rattle.tr_session_book.specs.Book.{SessionBookState}
+use Rattle.tr_session_book.specs.BookSteps.{start_answer, stop_answer, switch_answer, rotate_begin_answer, rotate_finish_answer}
 use Rattle.tr_session.specs.Events.{after_event, after_events, answer_to, answers_to, own_steps}
 use Rattle.tr_session.specs.Runs.{and_then, channel_configured, channels_configured, configured, threads_added, HasRun}
 use Rattle.tr_session.specs.Session.{SessionOf, new_session}
 use Rattle.tr_session.specs.Steps.{session_channel_added, stream_made, thread_added, with_book}
-use Rattle.tr_session.specs.declared.channel.Channel.{Channel}
+use Rattle.tr_session_book.specs.declared.channel.Channel.{Channel}
 use Rattle.tr_session.specs.declared.config.ChannelConfig.{ChannelConfig}
 use Rattle.tr_session.specs.declared.config.Config.{Config}
 use Rattle.tr_session.specs.declared.events.Answer.{Answer}
 use Rattle.tr_session.specs.declared.events.Answer.TheVariants as answer
 use Rattle.tr_session.specs.declared.events.Event.{Event}
 use Rattle.tr_session.specs.declared.events.Event.TheVariants.{Offer, Take, Cut, Snap, Start, Stop, SessionStart, SessionStop, RotateBegin, RotateFinish}
-use Rattle.tr_session.specs.declared.faults.SessionFault.{SessionFault}
+use Rattle.tr_session_book.specs.declared.faults.SessionFault.{SessionFault}
 use Rattle.tr_stream.specs.Rules.{Traced, Agrees, by_state, by_history}
 use Rattle.tr_stream.specs.Runs as runs
 use Rattle.tr_stream.specs.StandsFor.{StandsFor}

@@ -8,7 +8,7 @@ use Rattle.tr_session.specs.Steps.{thread_added}
 use Rattle.tr_session.specs.declared.config.ChannelConfig.{ChannelConfig}
 use Rattle.tr_session.specs.declared.events.Answer.{Answer}
 use Rattle.tr_session.specs.declared.events.Event.{Event}
-use Rattle.tr_session.specs.declared.faults.SessionFault.{SessionFault}
+use Rattle.tr_session_book.specs.declared.faults.SessionFault.{SessionFault}
 use Rattle.tr_stream.specs.Rules.{StreamRules}
 
 module _ {S : Type 0} (rules : StreamRules S) (channel : List ℕ) where

@@ -3,15 +3,16 @@ use Rattle.std.proofs.Common.{◌≡◌, ◌≢◌, ◌∙◌, ℕ, max, ◌+◌
 use Rattle.std.proofs.lemmas.Bool.Decides.{nat_tests}
 use Rattle.std.specs.Option.{option_map_or}
 use Rattle.std.specs.Prelude.{IsOk, if◌then◌else◌, nat_lt, option_map, slice_get}
-use Rattle.tr_session.proofs.BookLaws.{due-within}
-use Rattle.tr_session.proofs.ModeLaws.{as-many, mode-at}
-use Rattle.tr_session.specs.Book.{SessionBookState}
-use Rattle.tr_session.specs.BookSteps.{channel_named, thread_place, with_thread, cut_moment, with_cut}
+use Rattle.tr_session_book.proofs.BookLaws.{due-within}
+use Rattle.tr_session.proofs.ModeLaws.{as-many, mode-at, noted-is}
+use Rattle.tr_session_book.specs.Book.{SessionBookState}
+use Rattle.tr_session_book.specs.BookSteps.{channel_named, noted_at, thread_noted, thread_place, unless_refused, cut_moment, with_cut, after_note_cut}
 use Rattle.tr_session.specs.Session.{SessionOf, HasItsStreams}
 use Rattle.tr_session.specs.Steps.{with_book, next_config, stream_made, thread_added, changed_at, cut_as_step, cut_step, after_cut_step, cut_first, as_next, next_in, next_answer, after_next}
-use Rattle.tr_session.specs.declared.archive.Pending.{Pending}
-use Rattle.tr_session.specs.declared.channel.Channel.{Channel}
-use Rattle.tr_session.specs.declared.faults.SessionFault.{SessionFault}
+use Rattle.tr_session_book.specs.declared.archive.Pending.{Pending}
+use Rattle.tr_session_book.specs.declared.channel.Channel.{Channel}
+use Rattle.tr_session_book.specs.declared.faults.SessionFault.{SessionFault}
+use Rattle.tr_session_book.specs.declared.faults.SessionFault.TheVariants.{SnapshotMode, NotSnapshotMode, NeverStarted, RotationPending, AlreadyRotated, AlreadyActive, NotActive, NoStream, DiscardInSnapshot, AlreadyStarted, BadGeometry, TooMany, NotPending, CutMissing, NameTaken, NoMemory, NoChannel}
 use Rattle.tr_session.specs.declared.faults.StepFault.{StepFault}
 use Rattle.tr_session.specs.declared.faults.StepFault.TheVariants.{Cut}
 use Rattle.tr_session.specs.declared.rotation.Next.{Next}
@@ -86,18 +87,49 @@ next-none s p pending past =
 -- ---- threads
 
 -- a thread whose channel is there is added
-pub thread-made : (s t : SessionOf StreamState) (name uuid : List ℕ) (place number : ℕ) (channel : Channel) (mode : SessionMode) → HasItsStreams s → thread_place name s.book ≡ Ok place → channel_named name s.book ≡ Some channel
+pub thread-made : (s t : SessionOf StreamState) (name uuid : List ℕ) (number : ℕ) (channel : Channel) (mode : SessionMode) (stream : StreamState) → HasItsStreams s → channel_named name s.book ≡ Some channel
     → uuid ≡ s.book.uuid → number ≡ length s.streams → mode ≡ s.book.mode
-    → t ≡ record { book = with_thread place s.book; streams = s.streams ++ new_state (record { uuid = uuid; number = number; geometry = channel.geometry; mode = channel.mode; session = mode }) ∷ [] }
+    → stream ≡ new_state (record { uuid = uuid; number = number; geometry = channel.geometry; mode = channel.mode; session = mode }) → t.streams ≡ s.streams ++ stream ∷ [] → thread_noted name s.book ≡ Ok t.book
     → thread_added by_state name s ≡ Ok t
-thread-made s t name uuid place number channel mode is at named uuid_is number_is mode_is made =
+thread-made s t name uuid number channel mode stream is named uuid_is number_is mode_is stream_is pushed noted =
     let count : number ≡ length s.book.threads = number_is ∙ as-many s is in
     let config : (let c : StreamConfig = record { uuid = uuid; number = number; geometry = channel.geometry; mode = channel.mode; session = mode } in c) ≡ next_config channel s.book = cc in
+    let kept = noted-is name s.book t.book noted in
+    let made : t.streams ≡ s.streams ++ new_state (next_config channel s.book) ∷ [] = pushed ∙ ap (λ (u : StreamState). s.streams ++ u ∷ []) (stream_is ∙ ap new_state config) in
     ap (λ (o : Option Channel). stream_made by_state o (thread_place name s.book) s) named
-    ∙ ap (λ (r : Result ℕ SessionFault). stream_made by_state (Some channel) r s) at
-    ∙ sym (ap (λ (u : SessionOf StreamState). (let r : Result (SessionOf StreamState) SessionFault = Ok u in r)) (made ∙ ap (λ (c : StreamConfig). (let u : SessionOf StreamState = record { book = with_thread place s.book; streams = s.streams ++ new_state c ∷ [] } in u)) config))
+    ∙ ap (λ (r : Result ℕ SessionFault). stream_made by_state (Some channel) r s) kept.1
+    ∙ ap (λ (b : SessionBookState). (let r : Result (SessionOf StreamState) SessionFault = Ok (record { book = b; streams = s.streams ++ new_state (next_config channel s.book) ∷ [] }) in r)) (sym kept.2)
+    ∙ ap (λ (us : List StreamState). (let r : Result (SessionOf StreamState) SessionFault = Ok (record { book = t.book; streams = us }) in r)) (sym made)
+
+only_wants : (r : Result ℕ SessionFault) (b : SessionBookState) (f : SessionFault) → IsOk r → noted_at r b ≡ Err f → ⊥
+only_wants (Ok place) b f placed refused = cc
+only_wants (Err fault) b f placed refused = cc
+
+-- where there is a place, only want of memory refuses a thread
+pub thread-wants : (b : SessionBookState) (name : List ℕ) (f : SessionFault) → IsOk (thread_place name b) → (f ≢ NoMemory → thread_noted name b ≡ Err f) → f ≡ NoMemory
+thread-wants b name NoMemory placed refused = refl
+thread-wants b name SnapshotMode placed refused = absurd (only_wants (thread_place name b) b SnapshotMode placed (refused (λ e. cc)))
+thread-wants b name NotSnapshotMode placed refused = absurd (only_wants (thread_place name b) b NotSnapshotMode placed (refused (λ e. cc)))
+thread-wants b name NeverStarted placed refused = absurd (only_wants (thread_place name b) b NeverStarted placed (refused (λ e. cc)))
+thread-wants b name RotationPending placed refused = absurd (only_wants (thread_place name b) b RotationPending placed (refused (λ e. cc)))
+thread-wants b name AlreadyRotated placed refused = absurd (only_wants (thread_place name b) b AlreadyRotated placed (refused (λ e. cc)))
+thread-wants b name AlreadyActive placed refused = absurd (only_wants (thread_place name b) b AlreadyActive placed (refused (λ e. cc)))
+thread-wants b name NotActive placed refused = absurd (only_wants (thread_place name b) b NotActive placed (refused (λ e. cc)))
+thread-wants b name NoStream placed refused = absurd (only_wants (thread_place name b) b NoStream placed (refused (λ e. cc)))
+thread-wants b name DiscardInSnapshot placed refused = absurd (only_wants (thread_place name b) b DiscardInSnapshot placed (refused (λ e. cc)))
+thread-wants b name AlreadyStarted placed refused = absurd (only_wants (thread_place name b) b AlreadyStarted placed (refused (λ e. cc)))
+thread-wants b name BadGeometry placed refused = absurd (only_wants (thread_place name b) b BadGeometry placed (refused (λ e. cc)))
+thread-wants b name TooMany placed refused = absurd (only_wants (thread_place name b) b TooMany placed (refused (λ e. cc)))
+thread-wants b name NotPending placed refused = absurd (only_wants (thread_place name b) b NotPending placed (refused (λ e. cc)))
+thread-wants b name CutMissing placed refused = absurd (only_wants (thread_place name b) b CutMissing placed (refused (λ e. cc)))
+thread-wants b name NameTaken placed refused = absurd (only_wants (thread_place name b) b NameTaken placed (refused (λ e. cc)))
+thread-wants b name NoChannel placed refused = absurd (only_wants (thread_place name b) b NoChannel placed (refused (λ e. cc)))
 
 -- ---- cuts that are due
+
+-- a cut that is due is noted
+pub noted-due : (i moment : ℕ) (b : SessionBookState) → cut_moment i b ≡ Ok moment → after_note_cut i b ≡ with_cut b
+noted-due i moment b due = ap (λ (r : Result ℕ SessionFault). unless_refused r (with_cut b) b) due
 
 at-there : (i : ℕ) (ts : List StreamState) → i < length ts → (t : StreamState) × (slice_get ts i ≡ Some t)
 at-there i [] within = absurd (omega (arith, within))

@@ -2,7 +2,7 @@
 use Rattle.std.specs.Prelude.{◌≡◌, ℕ, ◌≤◌, List, [], ◌∷◌}
 use Rattle.tr_book.specs.Geometry.{GeometryState}
 use Rattle.tr_session.specs.Session.{SessionOf}
-use Rattle.tr_session.specs.declared.channel.Channel.{Channel}
+use Rattle.tr_session_book.specs.declared.channel.Channel.{Channel}
 use Rattle.tr_stream.specs.Rules.{Traced, Agrees}
 use Rattle.tr_stream.specs.State.{StreamState}
 

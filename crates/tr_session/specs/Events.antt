@@ -1,14 +1,14 @@
 -- The events of a session: what each answers, and what it does to the book and to the streams.
 use Rattle.std.specs.Prelude.{ℕ, Bool, true, false, IsOk, List, [], ◌∷◌, ◌++◌, Result, Ok, Err, if◌then◌else◌, ◌==◌}
-use Rattle.tr_session.specs.Book.{SessionBookState}
-use Rattle.tr_session.specs.BookSteps.{unless_refused, start_answer, after_start, stop_answer, after_stop, switch_answer, rotate_begin_answer, after_rotate_begin, cut_moment, after_note_cut, rotate_finish_answer, after_rotate_finish, snap_allowed}
+use Rattle.tr_session_book.specs.Book.{SessionBookState}
+use Rattle.tr_session_book.specs.BookSteps.{unless_refused, start_answer, after_start, stop_answer, after_stop, switch_answer, rotate_begin_answer, after_rotate_begin, cut_moment, after_note_cut, rotate_finish_answer, after_rotate_finish, snap_allowed}
 use Rattle.tr_session.specs.Session.{SessionOf}
 use Rattle.tr_session.specs.Steps.{StepTakesMemory, begun, finished, offer_step, after_offer_step, take_step, after_take_step, cut_step, after_cut_step, snap_step, after_switch_step}
 use Rattle.tr_session.specs.declared.events.Answer.{Answer}
 use Rattle.tr_session.specs.declared.events.Answer.TheVariants as answer
 use Rattle.tr_session.specs.declared.events.Event.{Event}
 use Rattle.tr_session.specs.declared.events.Event.TheVariants.{Offer, Take, Cut, Snap, Start, Stop, SessionStart, SessionStop, RotateBegin, RotateFinish}
-use Rattle.tr_session.specs.declared.faults.SessionFault.{SessionFault}
+use Rattle.tr_session_book.specs.declared.faults.SessionFault.{SessionFault}
 use Rattle.tr_stream.specs.Rules.{StreamRules}
 use Rattle.tr_stream.specs.declared.events.StreamEvent.{StreamEvent}
 use Rattle.tr_stream.specs.declared.events.StreamEvent.TheVariants as stream

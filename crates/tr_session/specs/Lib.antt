@@ -1,10 +1,7 @@
 pub mod Agreement
 pub mod Audits
-pub mod Book
-pub mod BookSteps
 pub mod Events
 pub mod Faults
-pub mod Names
 pub mod Runs
 pub mod Session
 pub mod Sizes

@@ -9,7 +9,7 @@ use Rattle.tr_session.specs.declared.config.ChannelConfig.{ChannelConfig}
 use Rattle.tr_session.specs.declared.config.Config.{Config}
 use Rattle.tr_session.specs.declared.events.Answer.{Answer}
 use Rattle.tr_session.specs.declared.events.Event.{Event}
-use Rattle.tr_session.specs.declared.faults.SessionFault.{SessionFault}
+use Rattle.tr_session_book.specs.declared.faults.SessionFault.{SessionFault}
 use Rattle.tr_stream.specs.Rules.{StreamRules, Traced, by_history}
 use Rattle.tr_stream.specs.Runs as stream_runs
 use Rattle.tr_stream.specs.StandsFor.{StandsFor}

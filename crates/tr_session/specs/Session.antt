@@ -1,6 +1,6 @@
 -- A session over whatever stands for its streams.
 use Rattle.std.specs.Prelude.{◌≡◌, ℕ, ℤ, List, [], map}
-use Rattle.tr_session.specs.Book.{SessionBookState, new_book}
+use Rattle.tr_session_book.specs.Book.{SessionBookState, new_book}
 use Rattle.tr_stream.specs.State.{StreamState}
 use Rattle.tr_stream.specs.declared.config.SessionMode.{SessionMode}
 

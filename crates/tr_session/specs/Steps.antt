@@ -4,14 +4,14 @@ use Rattle.std.specs.Option.{option_map_or}
 use Rattle.tr_book.specs.Snaps.{SnapState}
 use Rattle.tr_book.specs.declared.mode.Mode.{Mode}
 use Rattle.tr_schedule.specs.declared.cause.Cause.{Cause}
-use Rattle.tr_session.specs.Book.{SessionBookState}
-use Rattle.tr_session.specs.BookSteps.{unless_refused, channel_named, channel_added, thread_place, with_thread, start_answer, after_start, stop_answer, after_stop, switch_answer, rotate_begin_answer, after_rotate_begin, cut_moment, with_cut, rotate_finish_answer, after_rotate_finish, snapshot_begin_answer, after_snapshot_begin, snap_allowed, due_now}
+use Rattle.tr_session_book.specs.Book.{SessionBookState}
+use Rattle.tr_session_book.specs.BookSteps.{unless_refused, channel_named, channel_added, thread_place, with_thread, start_answer, after_start, stop_answer, after_stop, switch_answer, rotate_begin_answer, after_rotate_begin, cut_moment, with_cut, rotate_finish_answer, after_rotate_finish, snapshot_begin_answer, after_snapshot_begin, snap_allowed, due_now}
 use Rattle.tr_session.specs.Session.{SessionOf}
-use Rattle.tr_session.specs.declared.archive.Archive.{Archive}
-use Rattle.tr_session.specs.declared.archive.Pending.{Pending}
-use Rattle.tr_session.specs.declared.channel.Channel.{Channel}
-use Rattle.tr_session.specs.declared.faults.SessionFault.{SessionFault}
-use Rattle.tr_session.specs.declared.faults.SessionFault.TheVariants.{NoStream, NoChannel, NotPending}
+use Rattle.tr_session_book.specs.declared.archive.Archive.{Archive}
+use Rattle.tr_session_book.specs.declared.archive.Pending.{Pending}
+use Rattle.tr_session_book.specs.declared.channel.Channel.{Channel}
+use Rattle.tr_session_book.specs.declared.faults.SessionFault.{SessionFault}
+use Rattle.tr_session_book.specs.declared.faults.SessionFault.TheVariants.{NoStream, NoChannel, NotPending}
 use Rattle.tr_session.specs.declared.faults.StepFault.{StepFault}
 use Rattle.tr_session.specs.declared.faults.StepFault.TheVariants.{Session, Offer, Take, Cut}
 use Rattle.tr_session.specs.declared.rotation.Next.{Next}

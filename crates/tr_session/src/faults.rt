@@ -1,67 +1,11 @@
-//! Why calls of a session are refused.
+//! Why steps of a session's streams are refused.
 
 ghost use Rattle.std.specs.Prelude.{◌≡◌};
-ghost use Rattle.tr_session.specs.Faults.{session_fault_code, session_fault_name, session_wants_memory, step_fault_code, step_fault_name, step_wants_memory};
+ghost use Rattle.tr_session.specs.Faults.{step_fault_code, step_fault_name, step_wants_memory};
 
-use std::alloc::AllocError;
 use thiserror::Error;
+use tr_session_book::SessionFault;
 use tr_stream::{CutFault, OfferFault, TakeFault};
-
-/// Why a call was refused. The session is as it was.
-#[derive(Clone, Copy, Debug, PartialEq, Eq, Error)]
-pub enum SessionFault {
-    /// A snapshot session isn't rotated.
-    #[error("S1 SnapshotMode")]
-    SnapshotMode,
-    /// Snapshots are of snapshot sessions.
-    #[error("S2 NotSnapshotMode")]
-    NotSnapshotMode,
-    /// The session was never started.
-    #[error("S3 NeverStarted")]
-    NeverStarted,
-    /// A rotation is pending.
-    #[error("S4 RotationPending")]
-    RotationPending,
-    /// The session was rotated once since its stop.
-    #[error("S5 AlreadyRotated")]
-    AlreadyRotated,
-    /// The session is active already.
-    #[error("S6 AlreadyActive")]
-    AlreadyActive,
-    /// The session isn't active.
-    #[error("S7 NotActive")]
-    NotActive,
-    /// There is no stream of this number.
-    #[error("S8 NoStream")]
-    NoStream,
-    /// In a snapshot session every ring overwrites.
-    #[error("S9 DiscardInSnapshot")]
-    DiscardInSnapshot,
-    /// The session was started, so nothing can be added.
-    #[error("S10 AlreadyStarted")]
-    AlreadyStarted,
-    /// No ring has such sub-buffers.
-    #[error("S11 BadGeometry")]
-    BadGeometry,
-    /// There are as many as there may be.
-    #[error("S12 TooMany")]
-    TooMany,
-    /// No rotation is pending that hasn't cut the stream.
-    #[error("S13 NotPending")]
-    NotPending,
-    /// A stream is still to be cut, which comes first.
-    #[error("S14 CutMissing")]
-    CutMissing,
-    /// The name is taken.
-    #[error("S15 NameTaken")]
-    NameTaken,
-    /// Memory was refused.
-    #[error("S16 NoMemory")]
-    NoMemory,
-    /// There is no channel of this name.
-    #[error("S17 NoChannel")]
-    NoChannel,
-}
 
 /// Why a step of a stream was refused: by the session, or by the stream. Nothing changed.
 #[derive(Clone, Copy, Debug, PartialEq, Eq, Error)]
@@ -78,67 +22,6 @@ pub enum StepFault {
     /// A cut, by the stream.
     #[error("{0}")]
     Cut(CutFault),
-}
-
-impl SessionFault {
-    /// The code that answers and documents call it by.
-    pub fn code(&self) -> &'static str
-        ensures { result.now ≡ session_fault_code self.now }
-    {
-        match self {
-            SessionFault::SnapshotMode => "S1",
-            SessionFault::NotSnapshotMode => "S2",
-            SessionFault::NeverStarted => "S3",
-            SessionFault::RotationPending => "S4",
-            SessionFault::AlreadyRotated => "S5",
-            SessionFault::AlreadyActive => "S6",
-            SessionFault::NotActive => "S7",
-            SessionFault::NoStream => "S8",
-            SessionFault::DiscardInSnapshot => "S9",
-            SessionFault::AlreadyStarted => "S10",
-            SessionFault::BadGeometry => "S11",
-            SessionFault::TooMany => "S12",
-            SessionFault::NotPending => "S13",
-            SessionFault::CutMissing => "S14",
-            SessionFault::NameTaken => "S15",
-            SessionFault::NoMemory => "S16",
-            SessionFault::NoChannel => "S17",
-        }
-    }
-
-    /// Its name, as answers print it.
-    pub fn name(&self) -> &'static str
-        ensures { result.now ≡ session_fault_name self.now }
-    {
-        match self {
-            SessionFault::SnapshotMode => "SnapshotMode",
-            SessionFault::NotSnapshotMode => "NotSnapshotMode",
-            SessionFault::NeverStarted => "NeverStarted",
-            SessionFault::RotationPending => "RotationPending",
-            SessionFault::AlreadyRotated => "AlreadyRotated",
-            SessionFault::AlreadyActive => "AlreadyActive",
-            SessionFault::NotActive => "NotActive",
-            SessionFault::NoStream => "NoStream",
-            SessionFault::DiscardInSnapshot => "DiscardInSnapshot",
-            SessionFault::AlreadyStarted => "AlreadyStarted",
-            SessionFault::BadGeometry => "BadGeometry",
-            SessionFault::TooMany => "TooMany",
-            SessionFault::NotPending => "NotPending",
-            SessionFault::CutMissing => "CutMissing",
-            SessionFault::NameTaken => "NameTaken",
-            SessionFault::NoMemory => "NoMemory",
-            SessionFault::NoChannel => "NoChannel",
-        }
-    }
-}
-
-impl SessionFault {
-    /// Whether memory was refused.
-    pub fn wants_memory(&self) -> bool
-        ensures { result ≡ session_wants_memory self.now }
-    {
-        *self == SessionFault::NoMemory
-    }
 }
 
 impl StepFault {
@@ -176,17 +59,6 @@ impl StepFault {
             StepFault::Take(fault) => fault.name(),
             StepFault::Cut(fault) => fault.name(),
         }
-    }
-}
-
-impl From<AllocError> for SessionFault {
-    ghost use Rattle.std.specs.Prelude.{◌≡◌};
-    ghost use Rattle.tr_session.specs.declared.faults.SessionFault.TheVariants.{NoMemory};
-
-    ghost from_gives = { λ _ fault. fault ≡ NoMemory };
-
-    fn from(_error: AllocError) -> SessionFault {
-        SessionFault::NoMemory
     }
 }
 

@@ -3,10 +3,7 @@
 //! that any interleaving of events follows them.
 #![tactic(auto)]
 
-mod archive;
 mod archive_size;
-mod book;
-mod channel;
 mod config;
 mod events;
 mod faults;
@@ -15,22 +12,17 @@ mod rotation;
 mod run;
 mod session;
 mod snapshot;
-mod state;
 mod streams;
 #[cfg(test)]
 mod tests;
 mod ticks;
 
-pub use archive::{Archive, Pending};
 pub use archive_size::ArchiveSize;
-pub use book::SessionBook;
-pub use channel::Channel;
 pub use config::{ChannelConfig, Config};
 pub use events::{Answer, Event};
-pub use faults::{SessionFault, StepFault};
+pub use faults::StepFault;
 pub use laws::every_audit;
 pub use rotation::Next;
 pub use run::run_session;
 pub use session::Session;
-pub use state::State;
 pub use ticks::Ticked;

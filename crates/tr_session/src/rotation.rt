@@ -1,15 +1,15 @@
 //! A whole rotation of a session, and each of its cuts.
 
 ghost use Rattle.std.specs.Prelude.{◌≡◌, ◌≢◌, Err, IsOk, OnOk, OnErr, length};
-ghost use Rattle.tr_session.specs.BookSteps.{rotate_begin_answer};
+ghost use Rattle.tr_session_book.specs.BookSteps.{rotate_begin_answer};
 ghost use Rattle.tr_session.specs.Steps.{NextTakesMemory, next_answer, after_next, rotate_answer, after_rotate, cut_first, IsCutSome, IsHeldUp};
 ghost use Rattle.tr_stream.specs.Rules.{by_state};
 
-use crate::archive::Archive;
-use crate::faults::{SessionFault, StepFault};
+use crate::faults::StepFault;
 use crate::session::Session;
 use std::alloc::{AllocError, Allocator};
 use tr_record::Moment;
+use tr_session_book::{Archive, SessionFault};
 use tr_stream::CutFault;
 
 #[cfg(test)]

@@ -9,9 +9,9 @@ ghost use Rattle.tr_stream.specs.Rules.{by_state, by_history};
 
 use crate::config::{ChannelConfig, Config};
 use crate::events::{Answer, Event};
-use crate::faults::SessionFault;
 use crate::session::Session;
 use std::alloc::Allocator;
+use tr_session_book::SessionFault;
 
 #[cfg(test)]
 mod tests;

@@ -1,15 +1,13 @@
 //! A session, and its rules.
 
 ghost use Rattle.std.specs.Prelude.{◌≡◌, ◌≢◌, ◌≤◌, ◌<◌, ◌∷◌, ◌++◌, [], true, false, Some, Ok, Err, IsOk, IsSome, IfOk, OnOk, IfErr, OnErr, length, map, option_copied, slice_get};
-ghost use Rattle.tr_session.specs.BookSteps.{most_streams, with_thread, start_answer, after_start, stop_answer, after_stop, switch_answer, rotate_begin_answer, cut_moment, rotate_finish_answer, snapshot_begin_answer, after_snapshot_begin, schedule_answer, after_schedule};
+ghost use Rattle.tr_session_book.specs.BookSteps.{most_streams, channel_named, thread_place, start_answer, after_start, stop_answer, after_stop, switch_answer, rotate_begin_answer, cut_moment, rotate_finish_answer, snapshot_begin_answer, after_snapshot_begin, schedule_answer, after_schedule};
 ghost use Rattle.tr_session.specs.Session.{new_session};
-ghost use Rattle.tr_session.specs.Steps.{session_channel_added, next_config, thread_added, StepTakesMemory, offer_step, after_offer_step, take_step, after_take_step, cut_step, after_cut_step, snap_step, after_switch_step, all_started, all_stopped, begun, finished, current_sizes, fate_asked};
+ghost use Rattle.tr_session.specs.Steps.{session_channel_added, thread_added, StepTakesMemory, offer_step, after_offer_step, take_step, after_take_step, cut_step, after_cut_step, snap_step, after_switch_step, all_started, all_stopped, begun, finished, current_sizes, fate_asked};
 ghost use Rattle.tr_stream.specs.Rules.{by_state};
 ghost use Rattle.tr_stream.specs.StateSteps.{new_state, state_snap};
 
-use crate::archive::Archive;
-use crate::book::SessionBook;
-use crate::faults::{SessionFault, StepFault};
+use crate::faults::StepFault;
 use crate::streams::{cut_at, offer_at, sizes_of, snap_all, switch, switch_at, take_at};
 use std::alloc::{AllocError, Allocator, Global};
 use std::marker::Model;
@@ -17,9 +15,9 @@ use tr_book::{Mode, StreamSnap};
 use tr_chunk::OffsetMinutes;
 use tr_record::Moment;
 use tr_schedule::Schedule;
+use tr_session_book::{Archive, Channel, SessionBook, SessionFault};
 use tr_stream::{
-    CutDone, CutFault, Fate, OfferFault, Offered, SessionMode, Stream, StreamConfig, TakeFault,
-    Taken,
+    CutDone, CutFault, Fate, OfferFault, Offered, SessionMode, Stream, TakeFault, Taken,
 };
 use uuid::Uuid;
 
@@ -90,38 +88,36 @@ impl<A: Allocator + Copy> Session<A> {
         ensures memory { result ≡ Err SessionFault.NoMemory → IsOk (thread_added by_state channel.now self.old) }
         ensures unchanged { OnErr result (self.new ≡ self.old) }
     {
-        let (place, channel) = self.book.channel_at(channel)?;
-        let number = self.streams.len() as u64;
-        let config = StreamConfig {
-            uuid: self.book.uuid(),
-            number,
-            geometry: channel.geometry,
-            mode: channel.mode,
-            session: self.book.mode(),
-        };
-        self.keep_stream(place, config)?;
-        Ok(number)
+        let made = self.book.thread_channel(channel)?;
+        self.keep_stream(channel, made)
     }
 
-    /// Puts a new stream behind the others, of the channel at this place. All memory is taken before anything changes.
-    fn keep_stream(&mut self, place: usize, config: StreamConfig) -> Result<(), AllocError>
-        requires room { length self.old.book.threads < most_streams }
-        requires mode { config.session ≡ self.old.book.mode }
-        ensures ok { OnOk result (self.new ≡ record { book = with_thread place self.old.book; streams = self.old.streams ++ new_state config ∷ [] }) }
-        ensures err { OnErr result (self.new ≡ self.old) }
+    /// Adds a thread to a channel of this name, which is there. All memory is taken before anything changes.
+    fn keep_stream(&mut self, name: &str, channel: Channel) -> Result<u64, SessionFault>
+        requires named { channel_named name.now self.old.book ≡ Some channel }
+        requires placed { IsOk (thread_place name.now self.old.book) }
+        ensures number { IfOk result (λ number. number ≡ length self.old.streams) }
+        ensures ok { OnOk result (thread_added by_state name.now self.old ≡ Ok self.new) }
+        ensures reason { IfErr result (λ fault. fault ≡ SessionFault.NoMemory) }
+        ensures able { IsOk (thread_added by_state name.now self.old) }
+        ensures unchanged { OnErr result (self.new ≡ self.old) }
     {
         let stream = Stream::new(
             self.alloc,
-            config.uuid,
-            config.number,
-            config.geometry,
-            config.mode,
-            config.session,
+            self.book.uuid(),
+            self.streams.len() as u64,
+            channel.geometry,
+            channel.mode,
+            self.book.mode(),
         )?;
         self.streams.reserve(1)?;
-        self.book.keep_thread(place)?;
-        self.streams.push_reserved(stream);
-        Ok(())
+        match self.book.add_thread(name) {
+            Ok(number) => {
+                self.streams.push_reserved(stream);
+                Ok(number)
+            }
+            Err(fault) => Err(fault),
+        }
     }
 
     /// Offers a record to the stream of this number.
@@ -188,7 +184,8 @@ impl<A: Allocator + Copy> Session<A> {
     {
         match cut_at(&mut self.streams, i, moment) {
             Ok(done) => {
-                self.book.count_cut(i);
+                // It was due, so this isn't refused.
+                let _ = self.book.note_cut(i);
                 Ok(done)
             }
             Err(fault) => Err(StepFault::Cut(fault)),

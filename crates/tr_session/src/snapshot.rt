@@ -4,10 +4,10 @@ ghost use Rattle.std.specs.Prelude.{◌≡◌, ◌≢◌, Err, IsOk};
 ghost use Rattle.tr_session.specs.Steps.{snapshot_answer, after_snapshot};
 ghost use Rattle.tr_stream.specs.Rules.{by_state};
 
-use crate::faults::SessionFault;
 use crate::session::Session;
 use std::alloc::Allocator;
 use tr_record::Moment;
+use tr_session_book::SessionFault;
 use tr_snapshot::Snapshot;
 
 impl<A: Allocator + Copy> Session<A> {

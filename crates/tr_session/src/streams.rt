@@ -6,10 +6,11 @@ ghost use Rattle.tr_session.specs.Session.{modes_of};
 ghost use Rattle.tr_session.specs.Steps.{changed_at, offer_as_step, take_as_step, StepTakesMemory};
 ghost use Rattle.tr_stream.specs.StateSteps.{offer_result, state_after_offer, take_result, state_after_take, cut_result, state_after_cut, state_snap, state_switched, state_counts};
 
-use crate::faults::{SessionFault, StepFault};
+use crate::faults::StepFault;
 use std::alloc::{AllocError, Allocator};
 use tr_book::StreamSnap;
 use tr_record::Moment;
+use tr_session_book::SessionFault;
 use tr_stream::{CutDone, CutFault, OfferFault, Offered, Stream, TakeFault, Taken};
 
 /// Lets the stream of this number take offers, or lets it refuse them.

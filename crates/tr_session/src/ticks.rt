@@ -1,16 +1,15 @@
 //! Ticks of a session's schedule.
 
 ghost use Rattle.std.specs.Prelude.{◌≡◌, ◌≢◌, true, Err, is_some};
-ghost use Rattle.tr_session.specs.BookSteps.{schedule_in_force};
+ghost use Rattle.tr_session_book.specs.BookSteps.{schedule_in_force};
 ghost use Rattle.tr_session.specs.Steps.{tick_answer, after_tick, IsHeldUp};
 ghost use Rattle.tr_stream.specs.Rules.{by_state};
 
-use crate::archive::Archive;
-use crate::faults::SessionFault;
 use crate::session::Session;
 use std::alloc::Allocator;
 use tr_record::Moment;
 use tr_schedule::Cause;
+use tr_session_book::{Archive, SessionFault};
 
 /// What a tick did.
 #[derive(Clone, Copy, Debug, PartialEq, Eq)]

@@ -1,5 +1,5 @@
 use super::*;
-use crate::{Archive, StepFault};
+use crate::StepFault;
 use std::alloc::Global;
 use std::test::Fail;
 use tr_book::Mode;

@@ -5,8 +5,8 @@ use Rattle.std.specs.String.{string_bytes}
 use Rattle.tr_console.proofs.ArchiveLaws.{goes_on, ends, told}
 use Rattle.tr_console.proofs.archives.archives_of.Goals as goal
 use Rattle.tr_console.specs.Texts.{Text, archive_lines, lines_or_none}
-use Rattle.tr_session.specs.Book.{SessionBookState}
-use Rattle.tr_session.specs.declared.archive.Archive.{Archive}
+use Rattle.tr_session_book.specs.Book.{SessionBookState}
+use Rattle.tr_session_book.specs.declared.archive.Archive.{Archive}
 use Rattle.tr_stream.specs.Rules.{by_state}
 
 pub archives-init : goal.archives-init

@@ -2,7 +2,7 @@ use Rattle.std.proofs.Common.{rules, ◌≡◌, ap, sym, refl, None, Some}
 use Rattle.std.specs.Map.{lookup}
 use Rattle.tr_console.proofs.CallLaws.{is_named, named-is, set-is, unchanged-is, channel-none, channel-bad, channel-ok, channel-err, kept-by_session}
 use Rattle.tr_console.proofs.sessions.add_channel_at.Goals as goal
-use Rattle.tr_session.specs.Names.{by_name}
+use Rattle.tr_session_book.specs.Names.{by_name}
 
 pub returns-in_default-clause-refused : goal.returns-in_default-clause-refused
 returns-in_default-clause-refused g c = λ _.

@@ -2,7 +2,7 @@ use Rattle.std.proofs.Common.{◌≡◌, ℕ, ap, sym, None, Some}
 use Rattle.std.specs.Map.{lookup}
 use Rattle.tr_console.proofs.CallLaws.{is_named, named-is, set-is, unchanged-is, added-none, added-ok, added-err, kept-by_session}
 use Rattle.tr_console.proofs.sessions.add_thread_at.Goals as goal
-use Rattle.tr_session.specs.Names.{by_name}
+use Rattle.tr_session_book.specs.Names.{by_name}
 use Rattle.tr_session.specs.Steps.{thread_added}
 use Rattle.tr_stream.specs.Rules.{by_state}
 

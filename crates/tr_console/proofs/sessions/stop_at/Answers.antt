@@ -4,8 +4,8 @@ use Rattle.tr_console.proofs.CallLaws.{is_named, named-is, set-is, call-none, ca
 use Rattle.tr_console.proofs.sessions.stop_at.Goals as goal
 use Rattle.tr_console.specs.Calls.{by_session}
 use Rattle.tr_console.specs.declared.faults.LineFault.TheVariants.{Session}
-use Rattle.tr_session.specs.BookSteps.{stop_answer}
-use Rattle.tr_session.specs.Names.{by_name}
+use Rattle.tr_session_book.specs.BookSteps.{stop_answer}
+use Rattle.tr_session_book.specs.Names.{by_name}
 use Rattle.tr_session.specs.Session.{SessionOf}
 use Rattle.tr_session.specs.Steps.{all_stopped}
 use Rattle.tr_stream.specs.Rules.{by_state}

@@ -4,7 +4,7 @@ use Rattle.tr_console.proofs.CallLaws.{is_named, named-is, set-is, call-none, ca
 use Rattle.tr_console.proofs.sessions.take_at.Goals as goal
 use Rattle.tr_console.specs.Calls.{by_step}
 use Rattle.tr_console.specs.declared.faults.LineFault.TheVariants.{Step}
-use Rattle.tr_session.specs.Names.{by_name}
+use Rattle.tr_session_book.specs.Names.{by_name}
 use Rattle.tr_session.specs.Session.{SessionOf}
 use Rattle.tr_session.specs.Steps.{take_step, after_take_step}
 use Rattle.tr_stream.specs.Rules.{by_state}

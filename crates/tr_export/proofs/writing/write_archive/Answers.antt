@@ -6,7 +6,7 @@ use Rattle.tr_export.proofs.MakingLemmas.{front_none, OnErr-always}
 use Rattle.tr_export.specs.Archives.{archive_made}
 use Rattle.tr_export.specs.Paths.{folder_of}
 use Rattle.tr_export.proofs.writing.write_archive.Goals as goal
-use Rattle.tr_session.specs.Book.{SessionBookState}
+use Rattle.tr_session_book.specs.Book.{SessionBookState}
 
 pub returns-in_err-own_name-clause-err : goal.returns-in_err-own_name-clause-err
 returns-in_err-own_name-clause-err g c =

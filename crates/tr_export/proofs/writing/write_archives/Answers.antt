@@ -2,7 +2,7 @@ use Rattle.std.proofs.Common.{◌∙◌, ap}
 use Rattle.tr_export.proofs.MakingLemmas.{each_more, each_cut, OnErr-always}
 use Rattle.tr_export.specs.Archives.{archive_made}
 use Rattle.tr_export.proofs.writing.write_archives.Goals as goal
-use Rattle.tr_session.specs.Book.{SessionBookState}
+use Rattle.tr_session_book.specs.Book.{SessionBookState}
 
 pub archives-preserved : goal.archives-preserved
 archives-preserved g c =

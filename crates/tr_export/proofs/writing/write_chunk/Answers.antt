@@ -2,7 +2,7 @@ use Rattle.std.proofs.Common.{◌∙◌, ap}
 use Rattle.std.proofs.lemmas.Result.{on_ok_weaker, on_err_weaker}
 use Rattle.tr_export.proofs.ArchiveLemmas.{chunk_whole, chunk_cut}
 use Rattle.tr_export.proofs.writing.write_chunk.Goals as goal
-use Rattle.tr_session.specs.Book.{SessionBookState}
+use Rattle.tr_session_book.specs.Book.{SessionBookState}
 
 pub returns-clause-ok : goal.returns-clause-ok
 returns-clause-ok g c =

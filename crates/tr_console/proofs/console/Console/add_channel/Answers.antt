@@ -6,7 +6,7 @@ use Rattle.tr_console.proofs.console.Console.add_channel.Goals as goal
 use Rattle.tr_console.specs.Answers.{channel_answer}
 use Rattle.tr_console.specs.Replies.{Does}
 use Rattle.tr_console.specs.World.{World}
-use Rattle.tr_session.specs.Names.{by_name}
+use Rattle.tr_session_book.specs.Names.{by_name}
 use Rattle.tr_stream.specs.State.{StreamState}
 
 pub returns-in-Err : goal.returns-in-Err

@@ -10,9 +10,9 @@ use Rattle.tr_console.specs.Names.{is_name}
 use Rattle.tr_console.specs.Replies.{Does}
 use Rattle.tr_console.specs.World.{World, session_named}
 use Rattle.tr_console.specs.declared.faults.LineFault.TheVariants as fault
-use Rattle.tr_session.specs.declared.faults.SessionFault.TheVariants.{TooMany, NameTaken}
-use Rattle.tr_session.proofs.NameLaws.{is_some-by_name, length-by_name, insert_entry-new_name}
-use Rattle.tr_session.specs.Names.{by_name}
+use Rattle.tr_session_book.specs.declared.faults.SessionFault.TheVariants.{TooMany, NameTaken}
+use Rattle.tr_session_book.proofs.NameLaws.{is_some-by_name, length-by_name, insert_entry-new_name}
+use Rattle.tr_session_book.specs.Names.{by_name}
 use Rattle.tr_session.specs.Session.{new_session}
 use Rattle.tr_stream.specs.State.{StreamState}
 use Rattle.tr_stream.specs.declared.config.SessionMode.TheVariants.{Local}

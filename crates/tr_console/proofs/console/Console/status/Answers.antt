@@ -9,7 +9,7 @@ use Rattle.tr_console.specs.Replies.{Does}
 use Rattle.tr_console.specs.Texts.{Text, status_text}
 use Rattle.tr_console.specs.World.{World, said}
 use Rattle.tr_console.specs.declared.faults.LineFault.TheVariants.{NoSession}
-use Rattle.tr_session.specs.Names.{by_name}
+use Rattle.tr_session_book.specs.Names.{by_name}
 use Rattle.tr_session.specs.Session.{SessionOf}
 use Rattle.tr_stream.specs.Rules.{by_state}
 use Rattle.tr_stream.specs.State.{StreamState}

@@ -5,7 +5,7 @@ use Rattle.tr_session.proofs.ResultLaws.{on-ok, on-err, if-err}
 use Rattle.tr_session.proofs.SessionLaws.{added-ok}
 use Rattle.tr_session.specs.Steps.{session_channel_added, with_book}
 use Rattle.tr_session.proofs.session.Session.add_channel.Goals as goal
-use Rattle.tr_session.specs.Book.{SessionBookState}
+use Rattle.tr_session_book.specs.Book.{SessionBookState}
 use Rattle.tr_session.specs.Session.{SessionOf}
 use Rattle.tr_stream.specs.State.{StreamState}
 

@@ -1,11 +1,11 @@
 use Rattle.std.specs.Prelude.{IsOk}
 use Rattle.std.proofs.Common.{◌≡◌, ◌∙◌, ◌<◌, ℕ, List, Ok, Err, Result, ap, sym, subst}
-use Rattle.tr_session.proofs.BookLaws.{due-within}
+use Rattle.tr_session_book.proofs.BookLaws.{due-within}
 use Rattle.tr_session.proofs.ModeLaws.{as-many, same-book}
-use Rattle.tr_session.proofs.SessionLaws.{cut-can, cut-noted, only-memory, ok-not-err}
+use Rattle.tr_session.proofs.SessionLaws.{noted-due, cut-can, cut-noted, only-memory, ok-not-err}
 use Rattle.tr_session.proofs.session.Session.cut_now.Goals as goal
-use Rattle.tr_session.specs.Book.{SessionBookState}
-use Rattle.tr_session.specs.BookSteps.{cut_moment}
+use Rattle.tr_session_book.specs.Book.{SessionBookState}
+use Rattle.tr_session_book.specs.BookSteps.{cut_moment}
 use Rattle.tr_session.specs.Session.{SessionOf}
 use Rattle.tr_session.specs.Steps.{after_cut_step, cut_step}
 use Rattle.tr_session.specs.declared.faults.StepFault.{StepFault}
@@ -23,7 +23,9 @@ cut_at-requires g c =
 
 pub invariant_of-self : goal.invariant_of-self
 invariant_of-self g c =
-    c.cut_at.ensures.modes ∙ same-book c.self.inside.book c.count_cut.new.self c.self.inside.streams.items c.self.invariant (ap (λ (b : SessionBookState). b.threads) c.count_cut.ensures) (ap (λ (b : SessionBookState). b.mode) c.count_cut.ensures)
+    let due : cut_moment c.args.i c.self.inside.book ≡ Ok c.args.moment = ap (λ (t : SessionOf StreamState). cut_moment c.args.i t.book) c.self.view_is ∙ c.requires.due in
+    let counted = c.note_cut.ensures.after ∙ noted-due c.args.i c.args.moment c.self.inside.book due in
+    c.cut_at.ensures.modes ∙ same-book c.self.inside.book c.note_cut.new.self c.self.inside.streams.items c.self.invariant (ap (λ (b : SessionBookState). b.threads) counted) (ap (λ (b : SessionBookState). b.mode) counted)
 
 pub invariant_of-self-in-Err : goal.invariant_of-self-in-Err
 invariant_of-self-in-Err g c = c.cut_at.ensures.modes ∙ c.self.invariant
@@ -33,7 +35,7 @@ returns-in-Ok-clause-value g c = λ _.
     let s : SessionOf StreamState = record { book = c.self.inside.book; streams = c.self.inside.streams.items } in
     let due : cut_moment c.args.i s.book ≡ Ok c.args.moment = ap (λ (t : SessionOf StreamState). cut_moment c.args.i t.book) c.self.view_is ∙ c.requires.due in
     let did = c.in-Ok.ensures.value (λ same. absurd (ok-not-err same)) in
-    let is = cut-noted s c.args.i c.args.moment c.in-Ok.done c.count_cut.new.self c.cut_at.new.streams.items due did.0 did.1 c.count_cut.ensures in
+    let is = cut-noted s c.args.i c.args.moment c.in-Ok.done c.note_cut.new.self c.cut_at.new.streams.items due did.0 did.1 (c.note_cut.ensures.after ∙ noted-due c.args.i c.args.moment c.self.inside.book due) in
     (is.0 ∙ ap (λ (t : SessionOf StreamState). cut_step by_state c.args.i t) c.self.view_is, is.1 ∙ ap (λ (t : SessionOf StreamState). after_cut_step by_state c.args.i t) c.self.view_is)
 
 pub returns-in-Err-clause-value : goal.returns-in-Err-clause-value

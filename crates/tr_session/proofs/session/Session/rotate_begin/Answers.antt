@@ -1,10 +1,10 @@
 use Rattle.std.proofs.Common.{◌∙◌, ap, subst}
 use Rattle.std.specs.Prelude.{IsOk}
 use Rattle.tr_session.proofs.ModeLaws.{same-book}
-use Rattle.tr_session.specs.BookSteps.{rotate_begin_answer}
+use Rattle.tr_session_book.specs.BookSteps.{rotate_begin_answer}
 use Rattle.tr_session.specs.Steps.{begun}
 use Rattle.tr_session.proofs.session.Session.rotate_begin.Goals as goal
-use Rattle.tr_session.specs.Book.{SessionBookState}
+use Rattle.tr_session_book.specs.Book.{SessionBookState}
 use Rattle.tr_session.specs.Session.{SessionOf}
 use Rattle.tr_stream.specs.State.{StreamState}
 

@@ -1,6 +1,6 @@
 use Rattle.std.proofs.Common.{◌∙◌, ap, List}
 use Rattle.std.specs.Prelude.{slice_get}
-use Rattle.tr_session.proofs.ListLaws.{copied-item}
+use Rattle.tr_session_book.proofs.ListLaws.{copied-item}
 use Rattle.tr_session.proofs.session.Session.stream.Goals as goal
 use Rattle.tr_session.specs.Session.{SessionOf}
 use Rattle.tr_stream.specs.State.{StreamState}

@@ -7,12 +7,12 @@ use Rattle.std.specs.Map.{keys_of}
 use Rattle.std.specs.Prelude.{String, nat_le, nat_lt, option_map, position, slice_get}
 use Rattle.std.specs.Str.{bytes_eq}
 use Rattle.std.specs.String.{string_bytes}
-use Rattle.tr_session.specs.Book.{SessionBookState}
-use Rattle.tr_session.specs.BookSteps.{cut_moment, is_new, most_streams, place_free, thread_place, channel_of}
-use Rattle.tr_session.specs.Names.{by_name}
-use Rattle.tr_session.specs.declared.channel.Channel.{Channel}
-use Rattle.tr_session.specs.declared.faults.SessionFault.{SessionFault}
-use Rattle.tr_session.specs.declared.faults.SessionFault.TheVariants.{NoStream, TooMany}
+use Rattle.tr_session_book.specs.Book.{SessionBookState}
+use Rattle.tr_session_book.specs.BookSteps.{cut_moment, is_new, most_streams, place_free, thread_place, channel_of}
+use Rattle.tr_session_book.specs.Names.{by_name}
+use Rattle.tr_session_book.specs.declared.channel.Channel.{Channel}
+use Rattle.tr_session_book.specs.declared.faults.SessionFault.{SessionFault}
+use Rattle.tr_session_book.specs.declared.faults.SessionFault.TheVariants.{NoStream, TooMany}
 
 abbrev names : List (List ℕ × Channel) → List (List ℕ)
 names cs = map (λ (c : List ℕ × Channel). c.0) cs

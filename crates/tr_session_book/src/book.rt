@@ -1,9 +1,9 @@
 //! The book of a session: what it keeps beside its streams.
 
 ghost use Rattle.std.specs.Prelude.{◌≡◌, ◌≢◌, ◌≤◌, ◌<◌, false, Some, Ok, Err, IsOk, IfOk, OnOk, IfErr, OnErr, is_some, length, option_copied, option_map};
-ghost use Rattle.tr_session.specs.Book.{new_book};
-ghost use Rattle.tr_session.specs.BookSteps.{most_channels, most_streams, channel_named, channel_added, with_channel, thread_place, thread_noted, with_thread, channel_of, start_answer, after_start, stop_answer, after_stop, switch_answer, rotate_begin_answer, rotating, after_rotate_begin, cut_moment, with_cut, note_cut_answer, after_note_cut, rotate_finish_answer, after_rotate_finish, snapshot_allowed, snapshot_begin_answer, after_snapshot_begin, snap_allowed, schedule_answer, after_schedule, schedule_in_force};
-ghost use Rattle.tr_session.specs.BookSteps as rules;
+ghost use Rattle.tr_session_book.specs.Book.{new_book};
+ghost use Rattle.tr_session_book.specs.BookSteps.{most_channels, most_streams, channel_named, channel_added, with_channel, thread_place, thread_noted, with_thread, channel_of, start_answer, after_start, stop_answer, after_stop, switch_answer, rotate_begin_answer, rotating, after_rotate_begin, cut_moment, with_cut, note_cut_answer, after_note_cut, rotate_finish_answer, after_rotate_finish, snapshot_allowed, snapshot_begin_answer, after_snapshot_begin, snap_allowed, schedule_answer, after_schedule, schedule_in_force};
+ghost use Rattle.tr_session_book.specs.BookSteps as rules;
 
 use crate::archive::{Archive, Pending};
 use crate::channel::Channel;
@@ -56,8 +56,8 @@ pub struct SessionBook<A: Allocator = Global> {
 }
 
 impl<A: Allocator> Model for SessionBook<A> {
-    ghost use Rattle.tr_session.specs.Book.{SessionBookState};
-    ghost use Rattle.tr_session.specs.Names.{by_name};
+    ghost use Rattle.tr_session_book.specs.Book.{SessionBookState};
+    ghost use Rattle.tr_session_book.specs.Names.{by_name};
 
     ghost Value = { SessionBookState };
 
@@ -77,7 +77,7 @@ impl<A: Allocator> Model for SessionBook<A> {
     } };
 
     ghost use Rattle.std.specs.Prelude.{◌≡◌, ◌<◌, true, is_some, vec_capacity, vec_len};
-    ghost use Rattle.tr_session.specs.BookSteps.{IsWithinLimits};
+    ghost use Rattle.tr_session_book.specs.BookSteps.{IsWithinLimits};
     ghost use Rattle.tr_stream.specs.declared.config.SessionMode.TheVariants.{Local};
 
     // the place of the pending archive is reserved; a snapshot session has none
@@ -176,7 +176,7 @@ impl<A: Allocator + Copy> SessionBook<A> {
     }
 
     /// Puts a thread of the channel at this place behind the others.
-    pub(crate) fn keep_thread(&mut self, place: usize) -> Result<(), AllocError>
+    fn keep_thread(&mut self, place: usize) -> Result<(), AllocError>
         requires { length self.old.threads < most_streams }
         ensures ok { OnOk result (self.new ≡ with_thread place self.old) }
         ensures err { OnErr result (self.new ≡ self.old) }
@@ -260,7 +260,7 @@ impl<A: Allocator> SessionBook<A> {
     }
 
     /// The channel that a thread is to be added to, with its place, or why there is none.
-    pub(crate) fn channel_at(&self, name: &str) -> Result<(usize, Channel), SessionFault>
+    fn channel_at(&self, name: &str) -> Result<(usize, Channel), SessionFault>
         ensures place { IfOk result (λ found. thread_place name.now self.now ≡ Ok found.0) }
         ensures channel { IfOk result (λ found. channel_named name.now self.now ≡ Some found.1) }
         ensures room { OnOk result (length self.now.threads < most_streams) }
@@ -276,6 +276,20 @@ impl<A: Allocator> SessionBook<A> {
             return Err(SessionFault::TooMany);
         }
         Ok((place, *channel))
+    }
+
+    /// The channel that a thread of this name would be added to.
+    ///
+    /// # Errors
+    ///
+    /// `AlreadyStarted`, `NoChannel`, `TooMany`.
+    pub fn thread_channel(&self, name: &str) -> Result<Channel, SessionFault>
+        ensures named { IfOk result (λ channel. channel_named name.now self.now ≡ Some channel) }
+        ensures placed { OnOk result (IsOk (thread_place name.now self.now)) }
+        ensures err { IfErr result (λ fault. thread_place name.now self.now ≡ Err fault) }
+    {
+        let (_, channel) = self.channel_at(name)?;
+        Ok(channel)
     }
 
     /// The number of the chunk that a rotation would archive, or why there can be no rotation.
@@ -411,7 +425,7 @@ impl<A: Allocator> SessionBook<A> {
     }
 
     /// One stream more is cut, that of this number.
-    pub(crate) fn count_cut(&mut self, i: u64)
+    fn count_cut(&mut self, i: u64)
         requires { IsOk (cut_moment i self.old) }
         ensures { self.new ≡ with_cut self.old }
     {

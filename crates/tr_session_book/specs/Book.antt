@@ -1,11 +1,11 @@
 -- What a session keeps beside its streams.
 use Rattle.std.specs.Prelude.{ℕ, ℤ, Bool, false, List, [], Option, None}
 use Rattle.tr_schedule.specs.Schedules.{ScheduleState}
-use Rattle.tr_session.specs.declared.archive.Archive.{Archive}
-use Rattle.tr_session.specs.declared.archive.Pending.{Pending}
-use Rattle.tr_session.specs.declared.channel.Channel.{Channel}
-use Rattle.tr_session.specs.declared.state.State.{State}
-use Rattle.tr_session.specs.declared.state.State.TheVariants.{New}
+use Rattle.tr_session_book.specs.declared.archive.Archive.{Archive}
+use Rattle.tr_session_book.specs.declared.archive.Pending.{Pending}
+use Rattle.tr_session_book.specs.declared.channel.Channel.{Channel}
+use Rattle.tr_session_book.specs.declared.state.State.{State}
+use Rattle.tr_session_book.specs.declared.state.State.TheVariants.{New}
 use Rattle.tr_stream.specs.declared.config.SessionMode.{SessionMode}
 
 pub record SessionBookState : Type 0 where

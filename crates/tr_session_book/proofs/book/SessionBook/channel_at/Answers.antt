@@ -1,9 +1,9 @@
 use Rattle.std.proofs.Common.{◌∙◌, ap, sym, None, Some, true, ◌≡◌, rules}
-use Rattle.tr_session.proofs.BookLaws.{place-full, place-left, thread_place-is}
-use Rattle.tr_session.proofs.NameLaws.{lookup-by_name}
-use Rattle.tr_session.proofs.book.SessionBook.channel_at.Goals as goal
-use Rattle.tr_session.specs.Book.{SessionBookState}
-use Rattle.tr_session.specs.BookSteps.{is_new, channel_named}
+use Rattle.tr_session_book.proofs.BookLaws.{place-full, place-left, thread_place-is}
+use Rattle.tr_session_book.proofs.NameLaws.{lookup-by_name}
+use Rattle.tr_session_book.proofs.book.SessionBook.channel_at.Goals as goal
+use Rattle.tr_session_book.specs.Book.{SessionBookState}
+use Rattle.tr_session_book.specs.BookSteps.{is_new, channel_named}
 
 pub returns-in_default-clause-err : goal.returns-in_default-clause-err
 returns-in_default-clause-err g c =

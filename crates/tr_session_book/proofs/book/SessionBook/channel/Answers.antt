@@ -1,8 +1,8 @@
 use Rattle.std.proofs.Common.{◌∙◌, ap}
-use Rattle.tr_session.proofs.NameLaws.{lookup-by_name}
-use Rattle.tr_session.proofs.book.SessionBook.channel.Goals as goal
-use Rattle.tr_session.specs.Book.{SessionBookState}
-use Rattle.tr_session.specs.BookSteps.{channel_named}
+use Rattle.tr_session_book.proofs.NameLaws.{lookup-by_name}
+use Rattle.tr_session_book.proofs.book.SessionBook.channel.Goals as goal
+use Rattle.tr_session_book.specs.Book.{SessionBookState}
+use Rattle.tr_session_book.specs.BookSteps.{channel_named}
 
 pub returns : goal.returns
 returns g c =

@@ -1,9 +1,9 @@
 use Rattle.std.proofs.Common.{◌∙◌, ap, List, ℕ, is_some}
-use Rattle.tr_session.proofs.NameLaws.{insert_entry-new_name, is_some-by_name}
-use Rattle.tr_session.proofs.book.SessionBook.keep_channel.Goals as goal
-use Rattle.tr_session.specs.Book.{SessionBookState}
-use Rattle.tr_session.specs.BookSteps.{channel_named, with_channel}
-use Rattle.tr_session.specs.declared.channel.Channel.{Channel}
+use Rattle.tr_session_book.proofs.NameLaws.{insert_entry-new_name, is_some-by_name}
+use Rattle.tr_session_book.proofs.book.SessionBook.keep_channel.Goals as goal
+use Rattle.tr_session_book.specs.Book.{SessionBookState}
+use Rattle.tr_session_book.specs.BookSteps.{channel_named, with_channel}
+use Rattle.tr_session_book.specs.declared.channel.Channel.{Channel}
 
 pub returns-clause-ok : goal.returns-clause-ok
 returns-clause-ok g c =

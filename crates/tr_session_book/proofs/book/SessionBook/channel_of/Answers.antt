@@ -1,9 +1,9 @@
 use Rattle.std.proofs.Common.{◌∙◌, ◌≡◌, List, ℕ, Some, ap, sym}
 use Rattle.std.specs.Prelude.{option_copied, slice_get}
-use Rattle.tr_session.proofs.BookLaws.{channel_of-is}
-use Rattle.tr_session.proofs.ListLaws.{copied-item}
-use Rattle.tr_session.proofs.book.SessionBook.channel_of.Goals as goal
-use Rattle.tr_session.specs.Book.{SessionBookState}
+use Rattle.tr_session_book.proofs.BookLaws.{channel_of-is}
+use Rattle.tr_session_book.proofs.ListLaws.{copied-item}
+use Rattle.tr_session_book.proofs.book.SessionBook.channel_of.Goals as goal
+use Rattle.tr_session_book.specs.Book.{SessionBookState}
 
 pub returns : goal.returns
 returns g c =

@@ -9,14 +9,14 @@ use Rattle.tr_book.specs.declared.mode.Mode.TheVariants.{Discard, Overwrite}
 use Rattle.tr_schedule.specs.Due.{due_cause}
 use Rattle.tr_schedule.specs.Schedules.{ScheduleState}
 use Rattle.tr_schedule.specs.declared.cause.Cause.{Cause}
-use Rattle.tr_session.specs.Book.{SessionBookState}
-use Rattle.tr_session.specs.declared.archive.Archive.{Archive}
-use Rattle.tr_session.specs.declared.archive.Pending.{Pending}
-use Rattle.tr_session.specs.declared.channel.Channel.{Channel}
-use Rattle.tr_session.specs.declared.faults.SessionFault.{SessionFault}
-use Rattle.tr_session.specs.declared.faults.SessionFault.TheVariants.{SnapshotMode, NotSnapshotMode, NeverStarted, RotationPending, AlreadyRotated, AlreadyActive, NotActive, NoStream, DiscardInSnapshot, AlreadyStarted, BadGeometry, TooMany, NotPending, CutMissing, NameTaken, NoChannel}
-use Rattle.tr_session.specs.declared.state.State.{State}
-use Rattle.tr_session.specs.declared.state.State.TheVariants.{New, Active, Inactive}
+use Rattle.tr_session_book.specs.Book.{SessionBookState}
+use Rattle.tr_session_book.specs.declared.archive.Archive.{Archive}
+use Rattle.tr_session_book.specs.declared.archive.Pending.{Pending}
+use Rattle.tr_session_book.specs.declared.channel.Channel.{Channel}
+use Rattle.tr_session_book.specs.declared.faults.SessionFault.{SessionFault}
+use Rattle.tr_session_book.specs.declared.faults.SessionFault.TheVariants.{SnapshotMode, NotSnapshotMode, NeverStarted, RotationPending, AlreadyRotated, AlreadyActive, NotActive, NoStream, DiscardInSnapshot, AlreadyStarted, BadGeometry, TooMany, NotPending, CutMissing, NameTaken, NoChannel}
+use Rattle.tr_session_book.specs.declared.state.State.{State}
+use Rattle.tr_session_book.specs.declared.state.State.TheVariants.{New, Active, Inactive}
 use Rattle.tr_stream.specs.Steps.{by_session}
 use Rattle.tr_stream.specs.declared.config.SessionMode.{SessionMode}
 use Rattle.tr_stream.specs.declared.config.SessionMode.TheVariants.{Local, Snapshot}

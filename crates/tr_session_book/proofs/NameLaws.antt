@@ -6,7 +6,7 @@ use Rattle.std.specs.Prelude.{String}
 use Rattle.std.specs.Str.{bytes_eq}
 use Rattle.std.specs.String.{string_bytes, string_eq}
 use Rattle.indexmap.specs.IndexMap.{insert_entry}
-use Rattle.tr_session.specs.Names.{by_name}
+use Rattle.tr_session_book.specs.Names.{by_name}
 
 module _ {Z X : Type 0} where
   pub length-by_name : (es : List (String Z × X)) → length (by_name es) ≡ length es

@@ -1,0 +1,4 @@
+pub mod Book
+pub mod BookSteps
+pub mod Faults
+pub mod Names
