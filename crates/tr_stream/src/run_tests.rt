@@ -12,18 +12,18 @@ use tr_book::Mode;
 
 /// An answer as a test expects it.
 #[derive(Drop)]
-enum Told<'a> {
+enum Told {
     Offer(Result<Offered, OfferFault>),
     Take(Result<Taken, TakeFault>),
     Cut(Result<CutDone, CutFault>),
     /// The offers, the losses and the packets that it shows.
-    Look(u64, u64, &'a [PacketRow]),
+    Look(u64, u64, Vec<PacketRow>),
     Start,
     Stop,
 }
 
 /// Whether an answer is of this kind, and the same in all that it tells.
-fn same_answer(got: &StreamAnswer, wanted: &Told<'_>) -> bool {
+fn same_answer(got: &StreamAnswer, wanted: &Told) -> bool {
     match (got, wanted) {
         (StreamAnswer::Offer(got), Told::Offer(wanted)) => *got == *wanted,
         (StreamAnswer::Take(got), Told::Take(wanted)) => *got == *wanted,
@@ -54,30 +54,34 @@ fn calls(alloc: Global) -> Result<Vec<StreamEvent>, AllocError> {
     Ok(events)
 }
 
-/// What the ring holds after the six offers: the offer at 3 closed the first packet, and record 4 was discarded.
-const RING: [PacketRow; 2] = [
-    PacketRow {
+/// What each answers. The offer at 3 closes the first packet, and record 4 is discarded.
+fn answers_told(alloc: Global) -> Result<[Told; 13], AllocError> {
+    let first = PacketRow {
         seq: 0,
         lost: 0,
         begin: 1,
         end: 3,
         records: &[(0, 1, 50), (1, 2, 50)],
-    },
-    PacketRow {
+    };
+    let second = PacketRow {
         seq: 1,
         lost: 1,
         begin: 3,
         end: 9,
         records: &[(2, 3, 50), (3, 4, 50), (5, 6, 4)],
-    },
-];
-
-#[test]
-fn a_run_answers_each_call(rt: HostRuntime) -> Result<(), Fail> {
-    let alloc = rt.alloc();
-    let events = calls(alloc)?;
-    let (stream, answers) = run_stream(alloc, small(Mode::Discard), events.as_slice())?;
-    let told = [
+    };
+    let ring = vec![in alloc; first, second]?;
+    let taken = Taken {
+        seq: 0,
+        count: 2,
+        chunk: 0,
+    };
+    let done = CutDone {
+        chunk: 0,
+        packets: 1,
+        records: 3,
+    };
+    Ok([
         Told::Start,
         Told::Offer(stored(0, 0)),
         Told::Offer(stored(1, 0)),
@@ -85,21 +89,21 @@ fn a_run_answers_each_call(rt: HostRuntime) -> Result<(), Fail> {
         Told::Offer(stored(3, 1)),
         Told::Offer(Ok(Offered::Discarded { serial: 4 })),
         Told::Offer(stored(5, 1)),
-        Told::Look(6, 1, &RING),
-        Told::Take(Ok(Taken {
-            seq: 0,
-            count: 2,
-            chunk: 0,
-        })),
+        Told::Look(6, 1, ring),
+        Told::Take(Ok(taken)),
         Told::Take(Err(TakeFault::Nothing)),
-        Told::Cut(Ok(CutDone {
-            chunk: 0,
-            packets: 1,
-            records: 3,
-        })),
-        Told::Look(6, 1, &[]),
+        Told::Cut(Ok(done)),
+        Told::Look(6, 1, Vec::new(alloc)),
         Told::Stop,
-    ];
+    ])
+}
+
+#[test]
+fn a_run_answers_each_call(rt: HostRuntime) -> Result<(), Fail> {
+    let alloc = rt.alloc();
+    let events = calls(alloc)?;
+    let (stream, answers) = run_stream(alloc, small(Mode::Discard), events.as_slice())?;
+    let told = answers_told(alloc)?;
     assert_eq!(rt; answers.len(), told.len());
     for (number, (got, wanted)) in answers.iter().zip(told.iter()).enumerate() {
         assert!(rt; same_answer(got, wanted), "answer {number}");
