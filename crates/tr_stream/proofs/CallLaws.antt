@@ -197,6 +197,7 @@ step-cut s new h moment answer is told moved = (told ∙ (cuts s h moment is).0,
 -- in a local session a cut is done
 pub cut-local : (s new : StreamState) (moment end : ℕ) (done : CutDone) → s.config.session ≡ Local → end ≡ max moment s.book.last → done ≡ cut_done end s → new ≡ state_cut_at end s → ((let r : Result CutDone CutFault = Ok done in r) ≡ cut_result moment s) × (new ≡ state_after_cut moment s)
 cut-local s new moment end done local at told moved =
-    let end_is : max moment s.book.last ≡ end = sym at in
-    (ap (λ (d : CutDone). (let r : Result CutDone CutFault = Ok d in r)) (told ∙ ap (λ (m : ℕ). cut_done m s) at) ∙ sym (in-local s.config.session (Ok (cut_done (max moment s.book.last) s)) (Err cut_fault.SnapshotMode) local),
-    moved ∙ ap (λ (m : ℕ). state_cut_at m s) at ∙ sym (in-local s.config.session (state_cut_at (max moment s.book.last) s) s local))
+    let end_is : max moment s.book.last ≡ end = sym at in (
+      ap (λ (d : CutDone). (let r : Result CutDone CutFault = Ok d in r)) (told ∙ ap (λ (m : ℕ). cut_done m s) at) ∙ sym (in-local s.config.session (Ok (cut_done (max moment s.book.last) s)) (Err cut_fault.SnapshotMode) local),
+      moved ∙ ap (λ (m : ℕ). state_cut_at m s) at ∙ sym (in-local s.config.session (state_cut_at (max moment s.book.last) s) s local),
+    )

@@ -22,4 +22,8 @@ pub use run::run_stream;
 pub use stream::Stream;
 
 #[cfg(test)]
+mod peek_tests;
+#[cfg(test)]
+mod run_tests;
+#[cfg(test)]
 mod tests;

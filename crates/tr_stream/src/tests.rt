@@ -2,10 +2,7 @@
 
 use crate::answers::{CutDone, CutFault, OfferFault, Offered, TakeFault, Taken};
 use crate::config::{SessionMode, StreamConfig};
-use crate::events::{StreamAnswer, StreamEvent};
 use crate::fate::Fate;
-use crate::payload::Payload;
-use crate::run::run_stream;
 use crate::stream::Stream;
 use std::alloc::{AllocError, Global};
 use std::test::Fail;
@@ -14,7 +11,7 @@ use tr_packet::Packet;
 use tr_record::Moment;
 use uuid::Uuid;
 
-fn small(mode: Mode) -> StreamConfig {
+pub fn small(mode: Mode) -> StreamConfig {
     let Ok(geometry) = Geometry::new(256, 2) else {
         unreachable!()
     };
@@ -27,7 +24,7 @@ fn small(mode: Mode) -> StreamConfig {
     }
 }
 
-fn small_stream(alloc: Global, mode: Mode) -> Result<Stream, AllocError> {
+pub fn small_stream(alloc: Global, mode: Mode) -> Result<Stream, AllocError> {
     let config = small(mode);
     Stream::new(
         alloc,
@@ -39,11 +36,11 @@ fn small_stream(alloc: Global, mode: Mode) -> Result<Stream, AllocError> {
     )
 }
 
-fn at(nanoseconds: u64) -> Moment {
+pub fn at(nanoseconds: u64) -> Moment {
     Moment::new(nanoseconds).unwrap_or(Moment::zero())
 }
 
-fn stored(serial: u64, seq: u64) -> Result<Offered, OfferFault> {
+pub fn stored(serial: u64, seq: u64) -> Result<Offered, OfferFault> {
     Ok(Offered::Stored { serial, seq })
 }
 
@@ -303,55 +300,15 @@ fn numbers_of_overwritten_packets_are_absent(rt: HostRuntime) -> Result<(), Fail
 }
 
 #[test]
-fn a_run_answers_each_call(rt: HostRuntime) -> Result<(), Fail> {
-    let alloc = rt.alloc();
-    let mut events = Vec::new(alloc);
-    events.push(StreamEvent::Start)?;
-    for moment in 1..6 {
-        events.push(StreamEvent::Offer(at(moment), 7, Payload::copy_of(alloc, &[97; 50])?))?;
-    }
-    events.push(StreamEvent::Offer(at(6), 7, Payload::copy_of(alloc, &[97; 4])?))?;
-    events.push(StreamEvent::Take)?;
-    events.push(StreamEvent::Take)?;
-    events.push(StreamEvent::Cut(at(10)))?;
-    events.push(StreamEvent::Stop)?;
-    let (stream, answers) = run_stream(alloc, small(Mode::Discard), events.as_slice())?;
-    let told = [
-        StreamAnswer::Start,
-        StreamAnswer::Offer(stored(0, 0)),
-        StreamAnswer::Offer(stored(1, 0)),
-        StreamAnswer::Offer(stored(2, 1)),
-        StreamAnswer::Offer(stored(3, 1)),
-        StreamAnswer::Offer(Ok(Offered::Discarded { serial: 4 })),
-        StreamAnswer::Offer(stored(5, 1)),
-        StreamAnswer::Take(Ok(Taken {
-            seq: 0,
-            count: 2,
-            chunk: 0,
-        })),
-        StreamAnswer::Take(Err(TakeFault::Nothing)),
-        StreamAnswer::Cut(Ok(CutDone {
-            chunk: 0,
-            packets: 1,
-            records: 3,
-        })),
-        StreamAnswer::Stop,
-    ];
-    assert_eq!(rt; answers.len(), told.len());
-    for (got, wanted) in answers.iter().zip(told.iter()) {
-        assert!(rt; *got == *wanted);
-    }
-    assert_eq!(rt; stream.counts().in_ring, 0);
-    assert_eq!(rt; stream.counts().consumed, 5);
-    Ok(())
-}
-
-#[test]
 fn faults_have_their_codes_and_names(rt: HostRuntime) -> Result<(), Fail> {
     assert_eq!(rt; OfferFault::Spent.code(), "O3");
     assert_eq!(rt; OfferFault::TooBig.name(), "TooBig");
     assert_eq!(rt; TakeFault::NoMemory.code(), "T3");
     assert_eq!(rt; TakeFault::Nothing.name(), "Nothing");
+    assert_eq!(rt; TakeFault::SnapshotMode.code(), "T2");
+    assert_eq!(rt; TakeFault::SnapshotMode.name(), "SnapshotMode");
+    assert_eq!(rt; CutFault::SnapshotMode.code(), "C1");
+    assert_eq!(rt; CutFault::SnapshotMode.name(), "SnapshotMode");
     assert_eq!(rt; CutFault::NoMemory.code(), "C2");
     assert_eq!(rt; CutFault::NoMemory.name(), "NoMemory");
     Ok(())
