@@ -1,5 +1,5 @@
 -- What a line asks for.
-use Rattle.std.specs.Prelude.{ℕ, ℤ, Bool, pos, neg_ℤ, ◌≤ℤ◌}
+use Rattle.std.specs.Prelude.{ℕ, ℤ, Bool, Option, pos, neg_ℤ, ◌≤ℤ◌}
 use Rattle.clap.specs.Words.{Text}
 use Rattle.tr_book.specs.declared.mode.Mode.{Mode}
 use Rattle.tr_command.specs.declared.requests.Request.{Request}
@@ -20,6 +20,8 @@ pub data Asked : Type 0 where
   Rotate : (session : Text) (moment : ℕ) → Asked
   Snapshot : (session : Text) (moment : ℕ) → Asked
   Fate : (session : Text) (stream serial : ℕ) → Asked
+  Schedule : (session : Text) (every size : Option ℕ) → Asked
+  Tick : (session : Text) (moment : ℕ) → Asked
   Status : (session : Text) → Asked
   Archives : (session : Text) → Asked
 
@@ -37,6 +39,8 @@ asked_by (request.RotateFinish session) = RotateFinish session.now
 asked_by (request.Rotate session moment) = Rotate session.now moment
 asked_by (request.Snapshot session moment) = Snapshot session.now moment
 asked_by (request.Fate session stream serial) = Fate session.now stream serial
+asked_by (request.Schedule session every size) = Schedule session.now every size
+asked_by (request.Tick session moment) = Tick session.now moment
 asked_by (request.Status session) = Status session.now
 asked_by (request.Archives session) = Archives session.now
 
@@ -47,6 +51,7 @@ moment_in (Offer session stream moment id text fill) = moment
 moment_in (RotateBegin session moment) = moment
 moment_in (Rotate session moment) = moment
 moment_in (Snapshot session moment) = moment
+moment_in (Tick session moment) = moment
 moment_in _ = 0
 
 -- the offset of a request, 0 where it has none

@@ -82,6 +82,14 @@ snapshot_app = with_rule (with_rule (new_app (codes "snapshot")) (place (codes "
 abbrev pub fate_app : App
 fate_app = with_rule (with_rule (with_rule (new_app (codes "fate")) (place (codes "session"))) (place (codes "stream"))) (place (codes "serial"))
 
+-- `schedule SESSION [--every NS] [--size BYTES]`
+abbrev pub schedule_app : App
+schedule_app = with_rule (with_rule (with_rule (new_app (codes "schedule")) (place (codes "session"))) (option (codes "every"))) (option (codes "size"))
+
+-- `tick SESSION MOMENT`
+abbrev pub tick_app : App
+tick_app = with_rule (with_rule (new_app (codes "tick")) (place (codes "session"))) (place (codes "moment"))
+
 -- `status SESSION`
 abbrev pub status_app : App
 status_app = with_rule (new_app (codes "status")) (place (codes "session"))
@@ -114,6 +122,10 @@ rotation_app = with_subcommand rotation_steps_app rotate_app.top
 abbrev pub snapshots_app : App
 snapshots_app = with_subcommand rotation_app snapshot_app.top
 
+-- rotations by a schedule
+abbrev pub schedules_app : App
+schedules_app = with_subcommand (with_subcommand snapshots_app schedule_app.top) tick_app.top
+
 -- the whole command line of a script's line, with those that ask
 abbrev pub script_app : App
-script_app = with_subcommand (with_subcommand (with_subcommand snapshots_app fate_app.top) status_app.top) archives_app.top
+script_app = with_subcommand (with_subcommand (with_subcommand schedules_app fate_app.top) status_app.top) archives_app.top

@@ -6,7 +6,7 @@ use Rattle.clap.specs.Words.{Row, Text, first_of, one_of}
 use Rattle.tr_book.specs.declared.mode.Mode.{Mode}
 use Rattle.tr_book.specs.declared.mode.Mode.TheVariants.{Discard, Overwrite}
 use Rattle.tr_record.specs.Records.{last_moment}
-use Rattle.tr_command.specs.Asked.{Asked, Create, Channel, Thread, Start, Stop, Offer, Consume, RotateBegin, RotateNext, RotateFinish, Rotate, Snapshot, Fate, Status, Archives}
+use Rattle.tr_command.specs.Asked.{Asked, Create, Channel, Thread, Start, Stop, Offer, Consume, RotateBegin, RotateNext, RotateFinish, Rotate, Snapshot, Fate, Schedule, Tick, Status, Archives}
 use Rattle.tr_command.specs.Number.{number_of}
 
 -- `option_and_then` and `option_map`, in the order of reading
@@ -38,6 +38,10 @@ number_at id most rows = and_then (first_of id rows) (number_of most)
 -- the number of an option, 0 where it is left out
 abbrev pub number_or_0 : Text → ℕ → List Row → Option ℕ
 number_or_0 id most rows = option_map_or (number_of most) (first_of id rows) (Some 0)
+
+-- the number of an option, none where it is left out
+abbrev pub number_if_given : Text → ℕ → List Row → Option (Option ℕ)
+number_if_given id most rows = option_map_or (λ text. and_last (number_of most text) (λ n. Some n)) (first_of id rows) (Some None)
 
 -- the text of an option, the empty one where it is left out
 abbrev pub text_or_empty : Text → List Row → Text
@@ -139,6 +143,19 @@ fate_of rows =
     and_last (number_at (codes "serial") most_u64 rows) (λ serial.
     Fate session stream serial)))
 
+abbrev pub schedule_of : List Row → Option Asked
+schedule_of rows =
+    and_then (session_of rows) (λ session.
+    and_then (number_if_given (codes "every") most_u64 rows) (λ every.
+    and_last (number_if_given (codes "size") most_u64 rows) (λ size.
+    Schedule session every size)))
+
+abbrev pub tick_of : List Row → Option Asked
+tick_of rows =
+    and_then (session_of rows) (λ session.
+    and_last (number_at (codes "moment") last_moment rows) (λ moment.
+    Tick session moment))
+
 abbrev pub status_of : List Row → Option Asked
 status_of rows = and_last (session_of rows) (λ session. Status session)
 
@@ -161,6 +178,8 @@ asked_as name rows =
     (if bytes_eq name (codes "rotate") then rotate_of rows else
     (if bytes_eq name (codes "snapshot") then snapshot_of rows else
     (if bytes_eq name (codes "fate") then fate_of rows else
+    (if bytes_eq name (codes "schedule") then schedule_of rows else
+    (if bytes_eq name (codes "tick") then tick_of rows else
     (if bytes_eq name (codes "status") then status_of rows else
     (if bytes_eq name (codes "archives") then archives_of rows else
-    None))))))))))))))
+    None))))))))))))))))

@@ -3,7 +3,7 @@
 ghost use Rattle.std.specs.Prelude.{◌≡◌, IfOk, false};
 ghost use Rattle.clap.specs.Words.{app_of};
 ghost use Rattle.clap.specs.declared.builder.command.Command.TheViews.{out-Command as fields_of};
-ghost use Rattle.tr_command.specs.CommandLine.{activity_app, archives_app, channel_app, channel_head, consume_app, create_app, create_head, fate_app, layout_app, offer_app, offer_head, rotate_app, rotate_begin_app, rotate_finish_app, rotate_next_app, rotation_app, rotation_steps_app, running_app, script_app, snapshot_app, snapshots_app, start_app, status_app, stop_app, thread_app};
+ghost use Rattle.tr_command.specs.CommandLine.{activity_app, archives_app, channel_app, channel_head, consume_app, create_app, create_head, fate_app, layout_app, offer_app, offer_head, rotate_app, rotate_begin_app, rotate_finish_app, rotate_next_app, rotation_app, rotation_steps_app, running_app, schedule_app, schedules_app, script_app, snapshot_app, snapshots_app, start_app, status_app, stop_app, thread_app, tick_app};
 
 use crate::arguments::{flag, option, place};
 use clap::Command;
@@ -152,6 +152,25 @@ pub fn fate_command<'a>(alloc: Global) -> Result<Command<'a>, AllocError>
         .arg(place(alloc, "serial"))
 }
 
+pub fn schedule_command<'a>(alloc: Global) -> Result<Command<'a>, AllocError>
+    ensures shape { IfOk result (λ c. app_of c ≡ schedule_app) }
+    ensures local { IfOk result (λ c. (fields_of c).has_globals ≡ false) }
+{
+    Command::new(alloc, "schedule")
+        .arg(place(alloc, "session"))?
+        .arg(option(alloc, "every"))?
+        .arg(option(alloc, "size"))
+}
+
+pub fn tick_command<'a>(alloc: Global) -> Result<Command<'a>, AllocError>
+    ensures shape { IfOk result (λ c. app_of c ≡ tick_app) }
+    ensures local { IfOk result (λ c. (fields_of c).has_globals ≡ false) }
+{
+    Command::new(alloc, "tick")
+        .arg(place(alloc, "session"))?
+        .arg(place(alloc, "moment"))
+}
+
 pub fn status_command<'a>(alloc: Global) -> Result<Command<'a>, AllocError>
     ensures shape { IfOk result (λ c. app_of c ≡ status_app) }
     ensures local { IfOk result (λ c. (fields_of c).has_globals ≡ false) }
@@ -218,11 +237,20 @@ fn snapshots_command<'a>(alloc: Global) -> Result<Command<'a>, AllocError>
     rotation_command(alloc)?.subcommand(snapshot_command(alloc)?)
 }
 
+/// With rotations by a schedule.
+fn schedules_command<'a>(alloc: Global) -> Result<Command<'a>, AllocError>
+    ensures { IfOk result (λ c. app_of c ≡ schedules_app) }
+{
+    snapshots_command(alloc)?
+        .subcommand(schedule_command(alloc)?)?
+        .subcommand(tick_command(alloc)?)
+}
+
 /// The whole command line of a script's line, with those that ask.
 pub fn script_command<'a>(alloc: Global) -> Result<Command<'a>, AllocError>
     ensures { IfOk result (λ c. app_of c ≡ script_app) }
 {
-    snapshots_command(alloc)?
+    schedules_command(alloc)?
         .subcommand(fate_command(alloc)?)?
         .subcommand(status_command(alloc)?)?
         .subcommand(archives_command(alloc)?)

@@ -3,12 +3,12 @@
 ghost use Rattle.std.specs.Prelude.{◌≡◌, option_map};
 ghost use Rattle.clap.specs.Words.{found_of, rows_of};
 ghost use Rattle.tr_command.specs.Asked.{asked_by};
-ghost use Rattle.tr_command.specs.Reading.{archives_of, asked_as, channel_of, consume_of, create_of, fate_of, offer_of, rotate_begin_of, rotate_finish_of, rotate_next_of, rotate_of, snapshot_of, start_of, status_of, stop_of, thread_of};
+ghost use Rattle.tr_command.specs.Reading.{archives_of, asked_as, channel_of, consume_of, create_of, fate_of, offer_of, rotate_begin_of, rotate_finish_of, rotate_next_of, rotate_of, schedule_of, snapshot_of, start_of, status_of, stop_of, thread_of, tick_of};
 
 use crate::Request;
 use crate::values::{
-    has_flag, mode_at, moment_at, number_at, number_u32_at, number_u32_or_zero, offset_at, text_at,
-    text_or_empty,
+    has_flag, mode_at, moment_at, number_at, number_if_given, number_u32_at, number_u32_or_zero,
+    offset_at, text_at, text_or_empty,
 };
 use clap::ArgMatches;
 
@@ -147,6 +147,27 @@ fn fate_request<'a>(matches: &ArgMatches<'a>) -> Option<Request<'a>>
     })
 }
 
+fn schedule_request<'a>(matches: &ArgMatches<'a>) -> Option<Request<'a>>
+    ensures { option_map asked_by result ≡ schedule_of (rows_of (found_of matches.now)) }
+{
+    let session = text_at(matches, "session")?;
+    let every = number_if_given(matches, "every", u64::MAX)?;
+    let size = number_if_given(matches, "size", u64::MAX)?;
+    Some(Request::Schedule {
+        session,
+        every,
+        size,
+    })
+}
+
+fn tick_request<'a>(matches: &ArgMatches<'a>) -> Option<Request<'a>>
+    ensures { option_map asked_by result ≡ tick_of (rows_of (found_of matches.now)) }
+{
+    let session = text_at(matches, "session")?;
+    let moment = moment_at(matches, "moment")?;
+    Some(Request::Tick { session, moment })
+}
+
 fn status_request<'a>(matches: &ArgMatches<'a>) -> Option<Request<'a>>
     ensures { option_map asked_by result ≡ status_of (rows_of (found_of matches.now)) }
 {
@@ -179,6 +200,8 @@ pub fn request_of<'a>(name: &str, matches: &ArgMatches<'a>) -> Option<Request<'a
         "rotate" => rotate_request(matches),
         "snapshot" => snapshot_request(matches),
         "fate" => fate_request(matches),
+        "schedule" => schedule_request(matches),
+        "tick" => tick_request(matches),
         "status" => status_request(matches),
         "archives" => archives_request(matches),
         _ => None,

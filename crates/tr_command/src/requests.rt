@@ -87,6 +87,17 @@ pub enum Request<'a> {
         stream: u64,
         serial: u64,
     },
+    /// `schedule SESSION [--every NS] [--size BYTES]`, the period in nanoseconds; `None` is what was left out
+    Schedule {
+        session: &'a str,
+        every: Option<u64>,
+        size: Option<u64>,
+    },
+    /// `tick SESSION MOMENT`
+    Tick {
+        session: &'a str,
+        moment: u64,
+    },
     /// `status SESSION`
     Status {
         session: &'a str,
