@@ -47,7 +47,7 @@ number_if_given id most rows = option_map_or (λ text. and_last (number_of most 
 abbrev pub text_or_empty : Text → List Row → Text
 text_or_empty id rows = unwrap_or (first_of id rows) []
 
--- whether a flag is given
+-- whether a flag is given, which clap says by the text `true`
 abbrev pub has_flag : Text → List Row → Bool
 has_flag id rows = option_map_or (bytes_eq (codes "true")) (one_of id rows) false
 
