@@ -14,11 +14,13 @@ use tr_book::Mode;
 /// `proofs/dispatch/command_for/Answers.antt`.
 #[derive(Clone, Copy, Debug, PartialEq, Eq)]
 pub enum Request<'a> {
-    /// `create SESSION UUID [--east MIN] [--west MIN]`, the offset in minutes ahead of UTC
+    /// `create SESSION UUID [--east MIN] [--west MIN] [--snapshot]`, the offset in minutes ahead of UTC;
+    /// `snapshot` where it is to be a snapshot session
     Create {
         session: &'a str,
         uuid: &'a str,
         offset: i32,
+        snapshot: bool,
     },
     /// `channel SESSION CHANNEL SIZE COUNT MODE`, the size in bytes
     Channel {
@@ -74,11 +76,27 @@ pub enum Request<'a> {
         session: &'a str,
         moment: u64,
     },
+    /// `snapshot SESSION MOMENT`
+    Snapshot {
+        session: &'a str,
+        moment: u64,
+    },
     /// `fate SESSION STREAM SERIAL`
     Fate {
         session: &'a str,
         stream: u64,
         serial: u64,
+    },
+    /// `schedule SESSION [--every NS] [--size BYTES]`, the period in nanoseconds; `None` is what was left out
+    Schedule {
+        session: &'a str,
+        every: Option<u64>,
+        size: Option<u64>,
+    },
+    /// `tick SESSION MOMENT`
+    Tick {
+        session: &'a str,
+        moment: u64,
     },
     /// `status SESSION`
     Status {

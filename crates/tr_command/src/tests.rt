@@ -6,6 +6,8 @@ mod numbers;
 mod others;
 mod rotation;
 mod running;
+mod schedules;
+mod snapshots;
 
 use crate::{Request, parse};
 use std::alloc::{AllocError, Global};

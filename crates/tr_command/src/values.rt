@@ -3,7 +3,7 @@
 ghost use Rattle.std.specs.Prelude.{◌≡◌, option_map};
 ghost use Rattle.clap.specs.Words.{first_of, found_of, rows_of};
 ghost use Rattle.tr_record.specs.Records.{last_moment};
-ghost use Rattle.tr_command.specs.Reading.{mode_at, mode_named, number_at, number_or_0, offset_at, text_or_empty};
+ghost use Rattle.tr_command.specs.Reading.{has_flag, mode_at, mode_named, number_at, number_if_given, number_or_0, offset_at, text_or_empty};
 
 use crate::numbers::{number, number_u32};
 use clap::ArgMatches;
@@ -24,6 +24,13 @@ pub fn text_or_empty<'a>(matches: &ArgMatches<'a>, id: &str) -> &'a str
     ensures { result.now ≡ text_or_empty id.now (rows_of (found_of matches.now)) }
 {
     text_at(matches, id).unwrap_or("")
+}
+
+/// Whether a flag is given.
+pub fn has_flag(matches: &ArgMatches<'_>, id: &str) -> bool
+    ensures { result ≡ has_flag id.now (rows_of (found_of matches.now)) }
+{
+    matches.get_one::<bool>(id).unwrap_or(false)
 }
 
 /// The number of an argument, where it is one of at most `most`.
@@ -54,6 +61,16 @@ pub fn number_u32_or_zero(matches: &ArgMatches<'_>, id: &str, most: u32) -> Opti
     match text_at(matches, id) {
         Some(text) => number_u32(text, most),
         None => Some(0),
+    }
+}
+
+/// The number of an option, which is none where the option is left out.
+pub fn number_if_given(matches: &ArgMatches<'_>, id: &str, most: u64) -> Option<Option<u64>>
+    ensures { result ≡ number_if_given id.now most (rows_of (found_of matches.now)) }
+{
+    match text_at(matches, id) {
+        Some(text) => Some(Some(number(text, most)?)),
+        None => Some(None),
     }
 }
 

@@ -1,7 +1,7 @@
-use Rattle.std.proofs.Common.{◌≡◌, ◌∙◌, IfOk, ap, codes, option_map, refl, rules, subst, sym, Some}
+use Rattle.std.proofs.Common.{◌≡◌, ◌∙◌, IfOk, ap, codes, option_map, refl, subst, sym, Some}
 use Rattle.clap.specs.Words.{App, Text, app_of}
-use Rattle.tr_command.specs.CommandLine.{script_app}
-use Rattle.tr_command.specs.Dispatch.{app_for, app_named}
+use Rattle.tr_command.specs.CommandLine.{archives_app, script_app}
+use Rattle.tr_command.specs.Dispatch.{alone, app_for, app_named}
 use Rattle.tr_command.proofs.DispatchLemmas.{named_other}
 use Rattle.tr_command.proofs.dispatch.command_for.Goals as goal
 use Rattle.tr_command.proofs.dispatch.command_for.Goals.{in_default-via-in-Some+in_default, in_default-via-in_default}
@@ -23,11 +23,24 @@ returns-in_default c = elim c.in_default.branch [
       (named_other word (codes "rotate-next") _ _ (rw is at w.in_default.not-text-2)
       (named_other word (codes "rotate-finish") _ _ (rw is at w.in_default.not-text-3)
       (named_other word (codes "rotate") _ _ (rw is at w.in_default.not-rotate)
+      (named_other word (codes "snapshot") _ _ (rw is at w.in_default.not-snapshot)
       (named_other word (codes "fate") _ _ (rw is at w.in_default.not-fate)
+      (named_other word (codes "schedule") _ _ (rw is at w.in_default.not-schedule)
+      (named_other word (codes "tick") _ _ (rw is at w.in_default.not-tick)
       (named_other word (codes "status") _ _ (rw is at w.in_default.not-status)
       (named_other word (codes "archives") _ _ (rw is at w.in_default.not-archives)
-      refl))))))))))))) in
+      refl)))))))))))))))) in
       let other : app_for (option_map (λ r. r.now) c.args.word) ≡ script_app = ap (λ o. app_for (option_map (λ r. r.now) o)) is ∙ none in
       subst (λ (a : App). IfOk c.script_command.result (λ r. app_of r ≡ a)) (sym other) c.script_command.ensures
-  | in_default-via-in_default w ↦ search rules
+  | in_default-via-in_default w ↦
+      let other : app_for (option_map (λ r. r.now) c.args.word) ≡ script_app = ap (λ o. app_for (option_map (λ r. r.now) o)) w.in_default.is in
+      subst (λ (a : App). IfOk c.script_command.result (λ r. app_of r ≡ a)) (sym other) c.script_command.ensures
 ]
+
+pub returns-in_ok-archives_command-in-Some-archives : goal.returns-in_ok-archives_command-in-Some-archives
+returns-in_ok-archives_command-in-Some-archives c =
+    let is : c.args.word ≡ Some c.in-Some-archives.field-0 = c.in-Some-archives.is in
+    let name : c.in-Some-archives.field-0.now ≡ codes "archives" = rw is at c.in-Some-archives.is-archives in
+    let built : app_of c.in_ok-archives_command-in-Some-archives.field-0 ≡ archives_app = rw c.in_ok-archives_command-in-Some-archives.was at c.archives_command.ensures.shape in
+    let named : app_for (option_map (λ r. r.now) c.args.word) ≡ alone archives_app = ap (λ o. app_for (option_map (λ r. r.now) o)) is ∙ ap app_named name in
+    subst (λ (a : App). IfOk c.alone-in-Some-archives.result (λ r. app_of r ≡ a)) (ap alone built ∙ sym named) c.alone-in-Some-archives.ensures
