@@ -10,7 +10,7 @@ use Rattle.clap.specs.Kinds.{Kinds, or_else}
 use Rattle.clap.specs.Words.{Row, is_simple, subcommand_of}
 use Rattle.clap.proofs.OnLiterals.{clap_on_literals}
 use Rattle.clap.proofs.WalkLemmas.{walk_stopped}
-use Rattle.tr_command.specs.CommandLine.{archives_app, channel_app, consume_app, create_app, fate_app, offer_app, rotate_app, rotate_begin_app, rotate_finish_app, rotate_next_app, script_app, start_app, status_app, stop_app, thread_app}
+use Rattle.tr_command.specs.CommandLine.{archives_app, channel_app, consume_app, create_app, fate_app, offer_app, rotate_app, rotate_begin_app, rotate_finish_app, rotate_next_app, script_app, snapshot_app, start_app, status_app, stop_app, thread_app}
 use Rattle.tr_command.specs.Dispatch.{alone, app_for, command_word}
 use Rattle.tr_command.specs.Asked.{Asked}
 use Rattle.tr_command.specs.Language.{asked_from, asked_of, is_free_of_faults}
@@ -135,6 +135,14 @@ rotate-reads_same program rest = (
       ∙ sym (ap (λ (w : Walk). entered (built script_app) w.stopped) (walk-first (built script_app) (codes "rotate") rest refl)),
 )
 
+snapshot-reads_same : (program : Text) (rest : List Text) → ReadsSame (alone snapshot_app) script_app (program ∷ codes "snapshot" ∷ rest)
+unfolding clap_on_literals
+snapshot-reads_same program rest = (
+  fault-first (built (alone snapshot_app)) (codes "snapshot") rest refl refl ∙ sym (fault-first (built script_app) (codes "snapshot") rest refl refl),
+  ap (λ (w : Walk). entered (built (alone snapshot_app)) w.stopped) (walk-first (built (alone snapshot_app)) (codes "snapshot") rest refl)
+      ∙ sym (ap (λ (w : Walk). entered (built script_app) w.stopped) (walk-first (built script_app) (codes "snapshot") rest refl)),
+)
+
 fate-reads_same : (program : Text) (rest : List Text) → ReadsSame (alone fate_app) script_app (program ∷ codes "fate" ∷ rest)
 unfolding clap_on_literals
 fate-reads_same program rest = (
@@ -193,10 +201,11 @@ asked_from-app_for (program ∷ word ∷ rest) =
     (choice-same (codes "rotate-next") (alone rotate_next_app) _ program word rest (rotate_next-reads_same program rest)
     (choice-same (codes "rotate-finish") (alone rotate_finish_app) _ program word rest (rotate_finish-reads_same program rest)
     (choice-same (codes "rotate") (alone rotate_app) _ program word rest (rotate-reads_same program rest)
+    (choice-same (codes "snapshot") (alone snapshot_app) _ program word rest (snapshot-reads_same program rest)
     (choice-same (codes "fate") (alone fate_app) _ program word rest (fate-reads_same program rest)
     (choice-same (codes "status") (alone status_app) _ program word rest (status-reads_same program rest)
     (choice-same (codes "archives") (alone archives_app) _ program word rest (archives-reads_same program rest)
-    refl)))))))))))))
+    refl))))))))))))))
 
 -- a word that isn't this name leaves the choice to the others
 pub named_other : (word name : Text) (named others : App) → word ≢ name → others ≡ script_app → cond (bytes_eq word name) named others ≡ script_app
@@ -233,7 +242,8 @@ app_for-simple (Some word) =
     (choice-simple (bytes_eq word (codes "rotate-next")) (alone rotate_next_app) _ (refl, refl)
     (choice-simple (bytes_eq word (codes "rotate-finish")) (alone rotate_finish_app) _ (refl, refl)
     (choice-simple (bytes_eq word (codes "rotate")) (alone rotate_app) _ (refl, refl)
+    (choice-simple (bytes_eq word (codes "snapshot")) (alone snapshot_app) _ (refl, refl)
     (choice-simple (bytes_eq word (codes "fate")) (alone fate_app) _ (refl, refl)
     (choice-simple (bytes_eq word (codes "status")) (alone status_app) _ (refl, refl)
     (choice-simple (bytes_eq word (codes "archives")) (alone archives_app) _ (refl, refl)
-    script-simple)))))))))))))
+    script-simple))))))))))))))

@@ -5,7 +5,7 @@ use Rattle.std.specs.Str.{bytes_eq}
 use Rattle.clap.specs.Words.{Row, Text, first_of}
 use Rattle.tr_record.specs.Records.{last_moment}
 use Rattle.tr_command.specs.Asked.{Asked, IsOffset, asked_by, moment_in, offset_in}
-use Rattle.tr_command.specs.Reading.{and_last, and_then, archives_of, asked_as, channel_of, consume_of, create_of, fate_of, most_fill, most_minutes, most_u32, most_u64, mode_at, number_at, number_or_0, offer_of, offset_at, rotate_begin_of, rotate_finish_of, rotate_next_of, rotate_of, session_of, start_of, status_of, stop_of, thread_of}
+use Rattle.tr_command.specs.Reading.{and_last, and_then, archives_of, asked_as, channel_of, consume_of, create_of, fate_of, most_fill, most_minutes, most_u32, most_u64, mode_at, number_at, number_or_0, offer_of, offset_at, rotate_begin_of, rotate_finish_of, rotate_next_of, rotate_of, session_of, snapshot_of, start_of, status_of, stop_of, thread_of}
 use Rattle.tr_command.specs.declared.requests.Request.{Request}
 use Rattle.tr_command.proofs.ReadingLemmas.{number_at-at_most, number_or_0-at_most}
 
@@ -87,6 +87,9 @@ rotate_finish_of-limits rows = last-limits (session_of rows) _ (λ session _. ne
 rotate_of-limits : (rows : List Row) → HasLimits (rotate_of rows)
 rotate_of-limits rows = then-limits (session_of rows) _ (λ session _. last-limits (number_at (codes "moment") last_moment rows) _ (moment-limits rows))
 
+snapshot_of-limits : (rows : List Row) → HasLimits (snapshot_of rows)
+snapshot_of-limits rows = then-limits (session_of rows) _ (λ session _. last-limits (number_at (codes "moment") last_moment rows) _ (moment-limits rows))
+
 fate_of-limits : (rows : List Row) → HasLimits (fate_of rows)
 fate_of-limits rows = then-limits (session_of rows) _ (λ session _. then-limits (number_at (codes "stream") most_u64 rows) _ (λ stream _.
     last-limits (number_at (codes "serial") most_u64 rows) _ (λ serial _. neither)))
@@ -114,9 +117,10 @@ asked_as-limits name rows =
     (choice-limits (bytes_eq name (codes "rotate-next")) _ _ (rotate_next_of-limits rows)
     (choice-limits (bytes_eq name (codes "rotate-finish")) _ _ (rotate_finish_of-limits rows)
     (choice-limits (bytes_eq name (codes "rotate")) _ _ (rotate_of-limits rows)
+    (choice-limits (bytes_eq name (codes "snapshot")) _ _ (snapshot_of-limits rows)
     (choice-limits (bytes_eq name (codes "fate")) _ _ (fate_of-limits rows)
     (choice-limits (bytes_eq name (codes "status")) _ _ (status_of-limits rows)
-    (choice-limits (bytes_eq name (codes "archives")) _ _ (archives_of-limits rows) tt)))))))))))))
+    (choice-limits (bytes_eq name (codes "archives")) _ _ (archives_of-limits rows) tt))))))))))))))
 
 request-limits : (r : Option Request) (name : Text) (rows : List Row) → option_map asked_by r ≡ asked_as name rows
     → HasLimits (option_map asked_by r)

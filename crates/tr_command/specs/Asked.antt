@@ -1,5 +1,5 @@
 -- What a line asks for.
-use Rattle.std.specs.Prelude.{ℕ, ℤ, pos, neg_ℤ, ◌≤ℤ◌}
+use Rattle.std.specs.Prelude.{ℕ, ℤ, Bool, pos, neg_ℤ, ◌≤ℤ◌}
 use Rattle.clap.specs.Words.{Text}
 use Rattle.tr_book.specs.declared.mode.Mode.{Mode}
 use Rattle.tr_command.specs.declared.requests.Request.{Request}
@@ -7,7 +7,7 @@ use Rattle.tr_command.specs.declared.requests.Request.TheVariants as request
 
 -- a request with its texts in place of references to them
 pub data Asked : Type 0 where
-  Create : (session uuid : Text) (offset : ℤ) → Asked
+  Create : (session uuid : Text) (offset : ℤ) (snapshot : Bool) → Asked
   Channel : (session channel : Text) (size count : ℕ) (mode : Mode) → Asked
   Thread : (session channel : Text) → Asked
   Start : (session : Text) (moment : ℕ) → Asked
@@ -18,12 +18,13 @@ pub data Asked : Type 0 where
   RotateNext : (session : Text) → Asked
   RotateFinish : (session : Text) → Asked
   Rotate : (session : Text) (moment : ℕ) → Asked
+  Snapshot : (session : Text) (moment : ℕ) → Asked
   Fate : (session : Text) (stream serial : ℕ) → Asked
   Status : (session : Text) → Asked
   Archives : (session : Text) → Asked
 
 abbrev pub asked_by : Request → Asked
-asked_by (request.Create session uuid offset) = Create session.now uuid.now offset
+asked_by (request.Create session uuid offset snapshot) = Create session.now uuid.now offset snapshot
 asked_by (request.Channel session channel size count mode) = Channel session.now channel.now size count mode
 asked_by (request.Thread session channel) = Thread session.now channel.now
 asked_by (request.Start session moment) = Start session.now moment
@@ -34,6 +35,7 @@ asked_by (request.RotateBegin session moment) = RotateBegin session.now moment
 asked_by (request.RotateNext session) = RotateNext session.now
 asked_by (request.RotateFinish session) = RotateFinish session.now
 asked_by (request.Rotate session moment) = Rotate session.now moment
+asked_by (request.Snapshot session moment) = Snapshot session.now moment
 asked_by (request.Fate session stream serial) = Fate session.now stream serial
 asked_by (request.Status session) = Status session.now
 asked_by (request.Archives session) = Archives session.now
@@ -44,11 +46,12 @@ moment_in (Start session moment) = moment
 moment_in (Offer session stream moment id text fill) = moment
 moment_in (RotateBegin session moment) = moment
 moment_in (Rotate session moment) = moment
+moment_in (Snapshot session moment) = moment
 moment_in _ = 0
 
 -- the offset of a request, 0 where it has none
 abbrev pub offset_in : Asked → ℤ
-offset_in (Create session uuid offset) = offset
+offset_in (Create session uuid offset snapshot) = offset
 offset_in _ = pos 0
 
 -- so many minutes ahead of UTC, as a clock may be

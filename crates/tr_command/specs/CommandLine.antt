@@ -1,6 +1,7 @@
 -- The commands of a script, as clap sees them.
 use Rattle.std.specs.Prelude.{Some, true, codes}
 use Rattle.clap.specs.Words.{App, Rule, Text, new_app, new_rule, with_rule, with_subcommand}
+use Rattle.clap.specs.declared.builder.action.ArgAction.TheVariants.{SetTrue}
 
 -- a text that has its place
 abbrev pub place : Text → Rule
@@ -10,10 +11,18 @@ place id = record (new_rule id) { required = true }
 abbrev pub option : Text → Rule
 option id = record (new_rule id) { long = Some id }
 
--- `create SESSION UUID [--east MIN] [--west MIN]`
+-- `--id`
+abbrev pub flag : Text → Rule
+flag id = record (new_rule id) { long = Some id; action = Some SetTrue }
+
+-- `create SESSION UUID ..`
+abbrev pub create_head : App
+create_head = with_rule (with_rule (new_app (codes "create")) (place (codes "session"))) (place (codes "uuid"))
+
+-- `create SESSION UUID [--east MIN] [--west MIN] [--snapshot]`
 abbrev pub create_app : App
-create_app = with_rule (with_rule (with_rule (with_rule (new_app (codes "create"))
-    (place (codes "session"))) (place (codes "uuid"))) (option (codes "east"))) (option (codes "west"))
+create_app = with_rule (with_rule (with_rule create_head
+    (option (codes "east"))) (option (codes "west"))) (flag (codes "snapshot"))
 
 -- `channel SESSION CHANNEL ..`
 abbrev pub channel_head : App
@@ -65,6 +74,10 @@ rotate_finish_app = with_rule (new_app (codes "rotate-finish")) (place (codes "s
 abbrev pub rotate_app : App
 rotate_app = with_rule (with_rule (new_app (codes "rotate")) (place (codes "session"))) (place (codes "moment"))
 
+-- `snapshot SESSION MOMENT`
+abbrev pub snapshot_app : App
+snapshot_app = with_rule (with_rule (new_app (codes "snapshot")) (place (codes "session"))) (place (codes "moment"))
+
 -- `fate SESSION STREAM SERIAL`
 abbrev pub fate_app : App
 fate_app = with_rule (with_rule (with_rule (new_app (codes "fate")) (place (codes "session"))) (place (codes "stream"))) (place (codes "serial"))
@@ -93,10 +106,14 @@ running_app = with_subcommand (with_subcommand activity_app offer_app.top) consu
 abbrev pub rotation_steps_app : App
 rotation_steps_app = with_subcommand (with_subcommand (with_subcommand running_app rotate_begin_app.top) rotate_next_app.top) rotate_finish_app.top
 
--- and all of its steps at once
+-- all of its steps at once
 abbrev pub rotation_app : App
 rotation_app = with_subcommand rotation_steps_app rotate_app.top
 
+-- snapshots
+abbrev pub snapshots_app : App
+snapshots_app = with_subcommand rotation_app snapshot_app.top
+
 -- the whole command line of a script's line, with those that ask
 abbrev pub script_app : App
-script_app = with_subcommand (with_subcommand (with_subcommand rotation_app fate_app.top) status_app.top) archives_app.top
+script_app = with_subcommand (with_subcommand (with_subcommand snapshots_app fate_app.top) status_app.top) archives_app.top

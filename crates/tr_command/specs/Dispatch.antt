@@ -3,7 +3,7 @@ use Rattle.std.specs.Prelude.{List, [], ◌∷◌, Option, Some, None, codes, if
 use Rattle.std.specs.Option.{option_map_or}
 use Rattle.std.specs.Str.{bytes_eq}
 use Rattle.clap.specs.Words.{App, Text, new_app, with_subcommand}
-use Rattle.tr_command.specs.CommandLine.{archives_app, channel_app, consume_app, create_app, fate_app, offer_app, rotate_app, rotate_begin_app, rotate_finish_app, rotate_next_app, script_app, start_app, status_app, stop_app, thread_app}
+use Rattle.tr_command.specs.CommandLine.{archives_app, channel_app, consume_app, create_app, fate_app, offer_app, rotate_app, rotate_begin_app, rotate_finish_app, rotate_next_app, script_app, snapshot_app, start_app, status_app, stop_app, thread_app}
 
 -- the word behind the program's name
 abbrev pub command_word : List Text → Option Text
@@ -28,10 +28,11 @@ app_named name =
     (if bytes_eq name (codes "rotate-next") then alone rotate_next_app else
     (if bytes_eq name (codes "rotate-finish") then alone rotate_finish_app else
     (if bytes_eq name (codes "rotate") then alone rotate_app else
+    (if bytes_eq name (codes "snapshot") then alone snapshot_app else
     (if bytes_eq name (codes "fate") then alone fate_app else
     (if bytes_eq name (codes "status") then alone status_app else
     (if bytes_eq name (codes "archives") then alone archives_app else
-    script_app)))))))))))))
+    script_app))))))))))))))
 
 abbrev pub app_for : Option Text → App
 app_for word = option_map_or app_named word script_app

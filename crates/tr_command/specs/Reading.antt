@@ -1,12 +1,12 @@
 -- What the values of a command's arguments ask for. None is a bad line.
-use Rattle.std.specs.Prelude.{ℕ, ℤ, pos, ◌-ℤ◌, List, [], Option, Some, None, option_map, option_and_then, unwrap_or, codes, if◌then◌else◌}
+use Rattle.std.specs.Prelude.{ℕ, ℤ, pos, ◌-ℤ◌, List, [], Bool, false, Option, Some, None, option_map, option_and_then, unwrap_or, codes, if◌then◌else◌}
 use Rattle.std.specs.Option.{option_map_or}
 use Rattle.std.specs.Str.{bytes_eq}
-use Rattle.clap.specs.Words.{Row, Text, first_of}
+use Rattle.clap.specs.Words.{Row, Text, first_of, one_of}
 use Rattle.tr_book.specs.declared.mode.Mode.{Mode}
 use Rattle.tr_book.specs.declared.mode.Mode.TheVariants.{Discard, Overwrite}
 use Rattle.tr_record.specs.Records.{last_moment}
-use Rattle.tr_command.specs.Asked.{Asked, Create, Channel, Thread, Start, Stop, Offer, Consume, RotateBegin, RotateNext, RotateFinish, Rotate, Fate, Status, Archives}
+use Rattle.tr_command.specs.Asked.{Asked, Create, Channel, Thread, Start, Stop, Offer, Consume, RotateBegin, RotateNext, RotateFinish, Rotate, Snapshot, Fate, Status, Archives}
 use Rattle.tr_command.specs.Number.{number_of}
 
 -- `option_and_then` and `option_map`, in the order of reading
@@ -43,6 +43,10 @@ number_or_0 id most rows = option_map_or (number_of most) (first_of id rows) (So
 abbrev pub text_or_empty : Text → List Row → Text
 text_or_empty id rows = unwrap_or (first_of id rows) []
 
+-- whether a flag is given
+abbrev pub has_flag : Text → List Row → Bool
+has_flag id rows = option_map_or (bytes_eq (codes "true")) (one_of id rows) false
+
 abbrev pub mode_named : Text → Option Mode
 mode_named text =
     if bytes_eq text (codes "discard") then Some Discard else
@@ -63,7 +67,7 @@ create_of rows =
     and_then (session_of rows) (λ session.
     and_then (first_of (codes "uuid") rows) (λ uuid.
     and_last (offset_at rows) (λ offset.
-    Create session uuid offset)))
+    Create session uuid offset (has_flag (codes "snapshot") rows))))
 
 abbrev pub channel_of : List Row → Option Asked
 channel_of rows =
@@ -122,6 +126,12 @@ rotate_of rows =
     and_last (number_at (codes "moment") last_moment rows) (λ moment.
     Rotate session moment))
 
+abbrev pub snapshot_of : List Row → Option Asked
+snapshot_of rows =
+    and_then (session_of rows) (λ session.
+    and_last (number_at (codes "moment") last_moment rows) (λ moment.
+    Snapshot session moment))
+
 abbrev pub fate_of : List Row → Option Asked
 fate_of rows =
     and_then (session_of rows) (λ session.
@@ -149,7 +159,8 @@ asked_as name rows =
     (if bytes_eq name (codes "rotate-next") then rotate_next_of rows else
     (if bytes_eq name (codes "rotate-finish") then rotate_finish_of rows else
     (if bytes_eq name (codes "rotate") then rotate_of rows else
+    (if bytes_eq name (codes "snapshot") then snapshot_of rows else
     (if bytes_eq name (codes "fate") then fate_of rows else
     (if bytes_eq name (codes "status") then status_of rows else
     (if bytes_eq name (codes "archives") then archives_of rows else
-    None)))))))))))))
+    None))))))))))))))

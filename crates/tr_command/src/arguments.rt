@@ -1,10 +1,10 @@
-//! The two kinds of argument that a command has.
+//! The three kinds of argument that a command has.
 
 ghost use Rattle.std.specs.Prelude.{◌≡◌, false};
 ghost use Rattle.clap.specs.Words.{rule_of};
-ghost use Rattle.tr_command.specs.CommandLine.{option, place};
+ghost use Rattle.tr_command.specs.CommandLine.{flag, option, place};
 
-use clap::Arg;
+use clap::{Arg, ArgAction};
 use std::alloc::Global;
 
 /// A text that has its place among the words.
@@ -21,4 +21,12 @@ pub fn option<'a>(alloc: Global, id: &'a str) -> Arg<'a>
     ensures local { result.global ≡ false }
 {
     Arg::new(alloc, id).long(id)
+}
+
+/// `--id`.
+pub fn flag<'a>(alloc: Global, id: &'a str) -> Arg<'a>
+    ensures rule { rule_of result ≡ flag id.entry.now }
+    ensures local { result.global ≡ false }
+{
+    Arg::new(alloc, id).action(ArgAction::SetTrue).long(id)
 }

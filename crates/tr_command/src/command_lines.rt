@@ -3,21 +3,29 @@
 ghost use Rattle.std.specs.Prelude.{◌≡◌, IfOk, false};
 ghost use Rattle.clap.specs.Words.{app_of};
 ghost use Rattle.clap.specs.declared.builder.command.Command.TheViews.{out-Command as fields_of};
-ghost use Rattle.tr_command.specs.CommandLine.{activity_app, archives_app, channel_app, channel_head, consume_app, create_app, fate_app, layout_app, offer_app, offer_head, rotate_app, rotate_begin_app, rotate_finish_app, rotate_next_app, rotation_app, rotation_steps_app, running_app, script_app, start_app, status_app, stop_app, thread_app};
+ghost use Rattle.tr_command.specs.CommandLine.{activity_app, archives_app, channel_app, channel_head, consume_app, create_app, create_head, fate_app, layout_app, offer_app, offer_head, rotate_app, rotate_begin_app, rotate_finish_app, rotate_next_app, rotation_app, rotation_steps_app, running_app, script_app, snapshot_app, snapshots_app, start_app, status_app, stop_app, thread_app};
 
-use crate::arguments::{option, place};
+use crate::arguments::{flag, option, place};
 use clap::Command;
 use std::alloc::{AllocError, Global};
+
+fn create_head_command<'a>(alloc: Global) -> Result<Command<'a>, AllocError>
+    ensures shape { IfOk result (λ c. app_of c ≡ create_head) }
+    ensures local { IfOk result (λ c. (fields_of c).has_globals ≡ false) }
+{
+    Command::new(alloc, "create")
+        .arg(place(alloc, "session"))?
+        .arg(place(alloc, "uuid"))
+}
 
 pub fn create_command<'a>(alloc: Global) -> Result<Command<'a>, AllocError>
     ensures shape { IfOk result (λ c. app_of c ≡ create_app) }
     ensures local { IfOk result (λ c. (fields_of c).has_globals ≡ false) }
 {
-    Command::new(alloc, "create")
-        .arg(place(alloc, "session"))?
-        .arg(place(alloc, "uuid"))?
+    create_head_command(alloc)?
         .arg(option(alloc, "east"))?
-        .arg(option(alloc, "west"))
+        .arg(option(alloc, "west"))?
+        .arg(flag(alloc, "snapshot"))
 }
 
 fn channel_head_command<'a>(alloc: Global) -> Result<Command<'a>, AllocError>
@@ -125,6 +133,15 @@ pub fn rotate_command<'a>(alloc: Global) -> Result<Command<'a>, AllocError>
         .arg(place(alloc, "moment"))
 }
 
+pub fn snapshot_command<'a>(alloc: Global) -> Result<Command<'a>, AllocError>
+    ensures shape { IfOk result (λ c. app_of c ≡ snapshot_app) }
+    ensures local { IfOk result (λ c. (fields_of c).has_globals ≡ false) }
+{
+    Command::new(alloc, "snapshot")
+        .arg(place(alloc, "session"))?
+        .arg(place(alloc, "moment"))
+}
+
 pub fn fate_command<'a>(alloc: Global) -> Result<Command<'a>, AllocError>
     ensures shape { IfOk result (λ c. app_of c ≡ fate_app) }
     ensures local { IfOk result (λ c. (fields_of c).has_globals ≡ false) }
@@ -187,18 +204,25 @@ fn rotation_steps_command<'a>(alloc: Global) -> Result<Command<'a>, AllocError>
         .subcommand(rotate_finish_command(alloc)?)
 }
 
-/// And with all of its steps at once.
+/// With all of its steps at once.
 fn rotation_command<'a>(alloc: Global) -> Result<Command<'a>, AllocError>
     ensures { IfOk result (λ c. app_of c ≡ rotation_app) }
 {
     rotation_steps_command(alloc)?.subcommand(rotate_command(alloc)?)
 }
 
+/// With snapshots.
+fn snapshots_command<'a>(alloc: Global) -> Result<Command<'a>, AllocError>
+    ensures { IfOk result (λ c. app_of c ≡ snapshots_app) }
+{
+    rotation_command(alloc)?.subcommand(snapshot_command(alloc)?)
+}
+
 /// The whole command line of a script's line, with those that ask.
 pub fn script_command<'a>(alloc: Global) -> Result<Command<'a>, AllocError>
     ensures { IfOk result (λ c. app_of c ≡ script_app) }
 {
-    rotation_command(alloc)?
+    snapshots_command(alloc)?
         .subcommand(fate_command(alloc)?)?
         .subcommand(status_command(alloc)?)?
         .subcommand(archives_command(alloc)?)

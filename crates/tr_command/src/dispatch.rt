@@ -11,8 +11,8 @@ ghost use Rattle.tr_command.specs.Dispatch.{alone, app_for, command_word};
 use crate::command_lines::{
     archives_command, channel_command, consume_command, create_command, fate_command,
     offer_command, rotate_begin_command, rotate_command, rotate_finish_command,
-    rotate_next_command, script_command, start_command, status_command, stop_command,
-    thread_command,
+    rotate_next_command, script_command, snapshot_command, start_command, status_command,
+    stop_command, thread_command,
 };
 use clap::Command;
 use std::alloc::{AllocError, Global};
@@ -51,6 +51,7 @@ pub fn command_for<'a>(alloc: Global, word: Option<&str>) -> Result<Command<'a>,
         Some("rotate-next") => alone(alloc, rotate_next_command(alloc)?),
         Some("rotate-finish") => alone(alloc, rotate_finish_command(alloc)?),
         Some("rotate") => alone(alloc, rotate_command(alloc)?),
+        Some("snapshot") => alone(alloc, snapshot_command(alloc)?),
         Some("fate") => alone(alloc, fate_command(alloc)?),
         Some("status") => alone(alloc, status_command(alloc)?),
         Some("archives") => alone(alloc, archives_command(alloc)?),

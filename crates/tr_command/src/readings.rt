@@ -3,11 +3,11 @@
 ghost use Rattle.std.specs.Prelude.{◌≡◌, option_map};
 ghost use Rattle.clap.specs.Words.{found_of, rows_of};
 ghost use Rattle.tr_command.specs.Asked.{asked_by};
-ghost use Rattle.tr_command.specs.Reading.{archives_of, asked_as, channel_of, consume_of, create_of, fate_of, offer_of, rotate_begin_of, rotate_finish_of, rotate_next_of, rotate_of, start_of, status_of, stop_of, thread_of};
+ghost use Rattle.tr_command.specs.Reading.{archives_of, asked_as, channel_of, consume_of, create_of, fate_of, offer_of, rotate_begin_of, rotate_finish_of, rotate_next_of, rotate_of, snapshot_of, start_of, status_of, stop_of, thread_of};
 
 use crate::Request;
 use crate::values::{
-    mode_at, moment_at, number_at, number_u32_at, number_u32_or_zero, offset_at, text_at,
+    has_flag, mode_at, moment_at, number_at, number_u32_at, number_u32_or_zero, offset_at, text_at,
     text_or_empty,
 };
 use clap::ArgMatches;
@@ -20,10 +20,12 @@ fn create_request<'a>(matches: &ArgMatches<'a>) -> Option<Request<'a>>
     let session = text_at(matches, "session")?;
     let uuid = text_at(matches, "uuid")?;
     let offset = offset_at(matches)?;
+    let snapshot = has_flag(matches, "snapshot");
     Some(Request::Create {
         session,
         uuid,
         offset,
+        snapshot,
     })
 }
 
@@ -124,6 +126,14 @@ fn rotate_request<'a>(matches: &ArgMatches<'a>) -> Option<Request<'a>>
     Some(Request::Rotate { session, moment })
 }
 
+fn snapshot_request<'a>(matches: &ArgMatches<'a>) -> Option<Request<'a>>
+    ensures { option_map asked_by result ≡ snapshot_of (rows_of (found_of matches.now)) }
+{
+    let session = text_at(matches, "session")?;
+    let moment = moment_at(matches, "moment")?;
+    Some(Request::Snapshot { session, moment })
+}
+
 fn fate_request<'a>(matches: &ArgMatches<'a>) -> Option<Request<'a>>
     ensures { option_map asked_by result ≡ fate_of (rows_of (found_of matches.now)) }
 {
@@ -167,6 +177,7 @@ pub fn request_of<'a>(name: &str, matches: &ArgMatches<'a>) -> Option<Request<'a
         "rotate-next" => rotate_next_request(matches),
         "rotate-finish" => rotate_finish_request(matches),
         "rotate" => rotate_request(matches),
+        "snapshot" => snapshot_request(matches),
         "fate" => fate_request(matches),
         "status" => status_request(matches),
         "archives" => archives_request(matches),

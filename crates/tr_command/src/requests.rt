@@ -14,11 +14,13 @@ use tr_book::Mode;
 /// `proofs/dispatch/command_for/Answers.antt`.
 #[derive(Clone, Copy, Debug, PartialEq, Eq)]
 pub enum Request<'a> {
-    /// `create SESSION UUID [--east MIN] [--west MIN]`, the offset in minutes ahead of UTC
+    /// `create SESSION UUID [--east MIN] [--west MIN] [--snapshot]`, the offset in minutes ahead of UTC;
+    /// `snapshot` where it is to be a snapshot session
     Create {
         session: &'a str,
         uuid: &'a str,
         offset: i32,
+        snapshot: bool,
     },
     /// `channel SESSION CHANNEL SIZE COUNT MODE`, the size in bytes
     Channel {
@@ -71,6 +73,11 @@ pub enum Request<'a> {
     },
     /// `rotate SESSION MOMENT`
     Rotate {
+        session: &'a str,
+        moment: u64,
+    },
+    /// `snapshot SESSION MOMENT`
+    Snapshot {
         session: &'a str,
         moment: u64,
     },

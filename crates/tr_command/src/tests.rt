@@ -6,6 +6,7 @@ mod numbers;
 mod others;
 mod rotation;
 mod running;
+mod snapshots;
 
 use crate::{Request, parse};
 use std::alloc::{AllocError, Global};

@@ -3,7 +3,7 @@
 ghost use Rattle.std.specs.Prelude.{◌≡◌, option_map};
 ghost use Rattle.clap.specs.Words.{first_of, found_of, rows_of};
 ghost use Rattle.tr_record.specs.Records.{last_moment};
-ghost use Rattle.tr_command.specs.Reading.{mode_at, mode_named, number_at, number_or_0, offset_at, text_or_empty};
+ghost use Rattle.tr_command.specs.Reading.{has_flag, mode_at, mode_named, number_at, number_or_0, offset_at, text_or_empty};
 
 use crate::numbers::{number, number_u32};
 use clap::ArgMatches;
@@ -24,6 +24,13 @@ pub fn text_or_empty<'a>(matches: &ArgMatches<'a>, id: &str) -> &'a str
     ensures { result.now ≡ text_or_empty id.now (rows_of (found_of matches.now)) }
 {
     text_at(matches, id).unwrap_or("")
+}
+
+/// Whether a flag is given.
+pub fn has_flag(matches: &ArgMatches<'_>, id: &str) -> bool
+    ensures { result ≡ has_flag id.now (rows_of (found_of matches.now)) }
+{
+    matches.get_one::<bool>(id).unwrap_or(false)
 }
 
 /// The number of an argument, where it is one of at most `most`.

@@ -10,6 +10,16 @@ fn create(offset: i32) -> Request<'static> {
         session: "s",
         uuid: "u",
         offset,
+        snapshot: false,
+    }
+}
+
+fn create_snapshot(offset: i32) -> Request<'static> {
+    Request::Create {
+        session: "s",
+        uuid: "u",
+        offset,
+        snapshot: true,
     }
 }
 
@@ -29,11 +39,13 @@ fn reads_sessions(rt: HostRuntime) -> Result<(), Fail> {
         session: "s",
         uuid: "00000000-0000-0000-0000-000000000001",
         offset: 0,
+        snapshot: false,
     };
     let east = Request::Create {
         session: "s",
         uuid: "00000000-0000-0000-0000-000000000001",
         offset: 60,
+        snapshot: false,
     };
     let cases = [
         ("create s 00000000-0000-0000-0000-000000000001", request),
@@ -78,15 +90,71 @@ fn reads_offsets_anywhere(rt: HostRuntime) -> Result<(), Fail> {
 }
 
 #[test]
+fn reads_snapshot_sessions(rt: HostRuntime) -> Result<(), Fail> {
+    let cases = [
+        ("create s u --snapshot", create_snapshot(0)),
+        ("create --snapshot s u", create_snapshot(0)),
+        ("create s --snapshot u", create_snapshot(0)),
+        ("create --snapshot -- s u", create_snapshot(0)),
+        ("create s u --snapshot --east 60", create_snapshot(60)),
+        ("create --west=5 s --snapshot u", create_snapshot(-5)),
+    ];
+    all_ask(&rt, rt.alloc(), &cases)?;
+    Ok(())
+}
+
+#[test]
+fn reads_snapshot_as_a_name(rt: HostRuntime) -> Result<(), Fail> {
+    let request = Request::Create {
+        session: "snapshot",
+        uuid: "snapshot",
+        offset: 0,
+        snapshot: false,
+    };
+    all_ask(&rt, rt.alloc(), &[("create snapshot snapshot", request)])?;
+    Ok(())
+}
+
+#[test]
+fn refuses_snapshot_flags(rt: HostRuntime) -> Result<(), Fail> {
+    let lines = [
+        "create s u --snapshot=x",
+        "create s u --snapshot=true",
+        "create s u --snapshot=",
+        "create s u --snapshot 3",
+        "create s u --snapshot --snapshot",
+        "create --snapshot s u --snapshot",
+        "create s u --snap",
+        "create s u --snapshots",
+        "create s u --Snapshot",
+        "create s u -s",
+    ];
+    all_bad(&rt, rt.alloc(), &lines)?;
+    Ok(())
+}
+
+#[test]
+fn refuses_misplaced_snapshot_flags(rt: HostRuntime) -> Result<(), Fail> {
+    let lines = [
+        "create s --snapshot",
+        "create --snapshot s",
+        "create s u -- --snapshot",
+        "create s u snapshot",
+        "create s u --east --snapshot",
+        "channel s c 256 2 discard --snapshot",
+        "--snapshot create s u",
+    ];
+    all_bad(&rt, rt.alloc(), &lines)?;
+    Ok(())
+}
+
+#[test]
 fn refuses_sessions(rt: HostRuntime) -> Result<(), Fail> {
     let lines = [
         "create",
         "create s",
         "create s u t",
         "create -x 00000000-0000-0000-0000-000000000001",
-        "create s 00000000-0000-0000-0000-000000000001 --snapshot",
-        "create s u --snapshot",
-        "create s u --snapshot 3",
         "create s u --help",
         "create -h",
     ];

@@ -1,4 +1,4 @@
-use Rattle.std.proofs.Common.{◌≡◌, ◌∙◌, IfOk, ap, codes, option_map, refl, rules, subst, sym, Some}
+use Rattle.std.proofs.Common.{◌≡◌, ◌∙◌, IfOk, ap, codes, option_map, refl, subst, sym, Some}
 use Rattle.clap.specs.Words.{App, Text, app_of}
 use Rattle.tr_command.specs.CommandLine.{script_app}
 use Rattle.tr_command.specs.Dispatch.{app_for, app_named}
@@ -23,11 +23,14 @@ returns-in_default c = elim c.in_default.branch [
       (named_other word (codes "rotate-next") _ _ (rw is at w.in_default.not-text-2)
       (named_other word (codes "rotate-finish") _ _ (rw is at w.in_default.not-text-3)
       (named_other word (codes "rotate") _ _ (rw is at w.in_default.not-rotate)
+      (named_other word (codes "snapshot") _ _ (rw is at w.in_default.not-snapshot)
       (named_other word (codes "fate") _ _ (rw is at w.in_default.not-fate)
       (named_other word (codes "status") _ _ (rw is at w.in_default.not-status)
       (named_other word (codes "archives") _ _ (rw is at w.in_default.not-archives)
-      refl))))))))))))) in
+      refl)))))))))))))) in
       let other : app_for (option_map (λ r. r.now) c.args.word) ≡ script_app = ap (λ o. app_for (option_map (λ r. r.now) o)) is ∙ none in
       subst (λ (a : App). IfOk c.script_command.result (λ r. app_of r ≡ a)) (sym other) c.script_command.ensures
-  | in_default-via-in_default w ↦ search rules
+  | in_default-via-in_default w ↦
+      let other : app_for (option_map (λ r. r.now) c.args.word) ≡ script_app = ap (λ o. app_for (option_map (λ r. r.now) o)) w.in_default.is in
+      subst (λ (a : App). IfOk c.script_command.result (λ r. app_of r ≡ a)) (sym other) c.script_command.ensures
 ]
