@@ -17,7 +17,7 @@ use Rattle.tr_console.specs.declared.faults.LineFault.TheVariants as fault
 use Rattle.tr_console.specs.declared.replies.Reply.{Reply}
 use Rattle.tr_session.specs.Session.{SessionOf, new_session}
 use Rattle.tr_session_book.specs.declared.faults.SessionFault.TheVariants.{TooMany, NameTaken}
-use Rattle.tr_stream.specs.declared.config.SessionMode.TheVariants.{Local}
+use Rattle.tr_stream.specs.declared.config.SessionMode.{SessionMode}
 use Rattle.uuid.specs.Text.{parsed}
 
 module _ {S A : Type 0} where
@@ -34,17 +34,17 @@ module _ {S : Type 0} where
   pub at-some : (w : World S) (name : Text) (f : SessionOf S → Step S) (s : SessionOf S) → session_named name w ≡ Some s → at_session w name f ≡ f s
   at-some w name f s found = rw found refl
 
-  pub create-bad_uuid : (w : World S) (name uuid : Text) (offset : ℤ) → is_name name ≡ true → parsed uuid ≡ None → create_answer w name uuid offset ≡ refused w fault.BadUuid
-  create-bad_uuid w name uuid offset named none = rw (named, none) refl
+  pub create-bad_uuid : (w : World S) (name uuid : Text) (offset : ℤ) (mode : SessionMode) → is_name name ≡ true → parsed uuid ≡ None → create_answer w name uuid offset mode ≡ refused w fault.BadUuid
+  create-bad_uuid w name uuid offset mode named none = rw (named, none) refl
 
-  pub create-taken : (w : World S) (name uuid : Text) (offset : ℤ) (u : List ℕ) → is_name name ≡ true → parsed uuid ≡ Some u → is_some (session_named name w) ≡ true → create_answer w name uuid offset ≡ refused w (fault.Session NameTaken)
-  create-taken w name uuid offset u named good taken = rw (named, good, taken) refl
+  pub create-taken : (w : World S) (name uuid : Text) (offset : ℤ) (mode : SessionMode) (u : List ℕ) → is_name name ≡ true → parsed uuid ≡ Some u → is_some (session_named name w) ≡ true → create_answer w name uuid offset mode ≡ refused w (fault.Session NameTaken)
+  create-taken w name uuid offset mode u named good taken = rw (named, good, taken) refl
 
-  pub create-full : (w : World S) (name uuid : Text) (offset : ℤ) (u : List ℕ) → is_name name ≡ true → parsed uuid ≡ Some u → is_some (session_named name w) ≡ false → nat_le most_sessions (length w) ≡ true → create_answer w name uuid offset ≡ refused w (fault.Session TooMany)
-  create-full w name uuid offset u named good free full = rw (named, good, free, full) refl
+  pub create-full : (w : World S) (name uuid : Text) (offset : ℤ) (mode : SessionMode) (u : List ℕ) → is_name name ≡ true → parsed uuid ≡ Some u → is_some (session_named name w) ≡ false → nat_le most_sessions (length w) ≡ true → create_answer w name uuid offset mode ≡ refused w (fault.Session TooMany)
+  create-full w name uuid offset mode u named good free full = rw (named, good, free, full) refl
 
-  pub create-new : (w : World S) (name uuid : Text) (offset : ℤ) (u : List ℕ) → is_name name ≡ true → parsed uuid ≡ Some u → is_some (session_named name w) ≡ false → nat_le most_sessions (length w) ≡ false → create_answer w name uuid offset ≡ said (w ++ (name, new_session u offset Local) ∷ []) (codes "created " ++ name)
-  create-new w name uuid offset u named good free few = rw (named, good, free, few) refl
+  pub create-new : (w : World S) (name uuid : Text) (offset : ℤ) (mode : SessionMode) (u : List ℕ) → is_name name ≡ true → parsed uuid ≡ Some u → is_some (session_named name w) ≡ false → nat_le most_sessions (length w) ≡ false → create_answer w name uuid offset mode ≡ said (w ++ (name, new_session u offset mode) ∷ []) (codes "created " ++ name)
+  create-new w name uuid offset mode u named good free few = rw (named, good, free, few) refl
 
 pub none_from : {X : Type 0} → (o : Option X) → (((x : X) × (o ≡ Some x)) → ⊥) → o ≡ None
 none_from None h = refl

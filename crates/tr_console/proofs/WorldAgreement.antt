@@ -5,16 +5,16 @@ use Rattle.std.specs.Fmt.{decimal}
 use Rattle.std.specs.Prelude.{nat_le}
 use Rattle.std.specs.Str.{bytes_eq}
 use Rattle.tr_book.specs.declared.mode.Mode.{Mode}
-use Rattle.tr_command.specs.Asked.{Asked, Create, Channel, Thread, Start, Stop, Offer, Consume, RotateBegin, RotateNext, RotateFinish, Rotate, Fate, Status, Archives}
+use Rattle.tr_command.specs.Asked.{Asked, Create, Channel, Thread, Start, Stop, Offer, Consume, RotateBegin, RotateNext, RotateFinish, Rotate, Snapshot, Fate, Status, Archives}
 use Rattle.tr_console.specs.Agreement.{WorldsAgree}
-use Rattle.tr_console.specs.Answers.{most_sessions, created, create_answer, at_session, settled, answered, channel_answer, thread_answer, start_answer, stop_answer, payload_of, offer_answer, consume_answer, rotate_begin_answer, rotate_next_answer, rotate_finish_answer, rotate_answer, fate_answer, status_answer, archives_answer, answer_to}
+use Rattle.tr_console.specs.Answers.{most_sessions, created, create_answer, at_session, settled, answered, channel_answer, thread_answer, start_answer, stop_answer, payload_of, offer_answer, consume_answer, rotate_begin_answer, rotate_next_answer, rotate_finish_answer, rotate_answer, mode_asked, snapshot_answer, fate_answer, status_answer, archives_answer, answer_to}
 use Rattle.tr_console.specs.Calls.{by_session, by_step, named}
 use Rattle.tr_console.specs.Names.{is_name}
-use Rattle.tr_console.specs.Texts.{Text, line_of, started_text, stopped_text, offered_text, taken_text, rotating_text, next_text, archived_text, fate_text, status_line, status_head, status_rows, status_text, status_row, archive_text, archive_line, archive_lines, lines_or_none, archives_text}
+use Rattle.tr_console.specs.Texts.{Text, line_of, started_text, stopped_text, offered_text, taken_text, rotating_text, next_text, archived_text, snapshot_text, fate_text, status_line, status_head, status_rows, status_text, status_row, archive_text, archive_line, archive_lines, lines_or_none, archives_text}
 use Rattle.tr_console.specs.World.{World, Step, refused, session_named, with_session}
 use Rattle.tr_console.specs.declared.faults.LineFault.{LineFault}
 use Rattle.tr_console.specs.declared.faults.LineFault.TheVariants.{BadName}
-use Rattle.tr_session.proofs.Agreement.{ResultsAgree, same-length, agree-channel, agree-thread, agree-started, agree-stopped, same-offer, agree-offer, same-take, agree-take, agree-begun, same-next, agree-next, agree-finished, same-rotate, agree-rotate, same-fate, same-archive_packets, same-archive_bytes}
+use Rattle.tr_session.proofs.Agreement.{ResultsAgree, same-length, agree-channel, agree-thread, agree-started, agree-stopped, same-offer, agree-offer, same-take, agree-take, agree-begun, same-next, agree-next, agree-finished, same-rotate, agree-rotate, same-snapshot, agree-snapshot, same-fate, same-archive_packets, same-archive_bytes}
 use Rattle.tr_session.specs.Agreement.{AllAgree, SessionsAgree}
 use Rattle.tr_session_book.specs.BookSteps as book
 use Rattle.tr_session.specs.Session.{SessionOf, new_session}
@@ -25,7 +25,7 @@ use Rattle.tr_session_book.specs.declared.faults.SessionFault.{SessionFault}
 use Rattle.tr_stream.proofs.RuleLaws.{same-counted}
 use Rattle.tr_stream.specs.Rules.{Traced, by_state, by_history}
 use Rattle.tr_stream.specs.State.{StreamState}
-use Rattle.tr_stream.specs.declared.config.SessionMode.TheVariants.{Local}
+use Rattle.tr_stream.specs.declared.config.SessionMode.{SessionMode}
 use Rattle.uuid.specs.Text.{parsed}
 
 -- the same answer, and worlds that agree
@@ -80,10 +80,10 @@ same-found (Some a) (Some b) is = refl
 
 -- ---- each command
 
-created-agree : (v : World StreamState) (w : World Traced) (name : Text) (offset : ℤ) (uuid : List ℕ) → WorldsAgree v w → StepsAgree (created v name offset uuid) (created w name offset uuid)
-created-agree v w name offset uuid is = go (is_some (session_named name v)) (nat_le most_sessions (length v)) refl refl
+created-agree : (v : World StreamState) (w : World Traced) (name : Text) (offset : ℤ) (mode : SessionMode) (uuid : List ℕ) → WorldsAgree v w → StepsAgree (created v name offset mode uuid) (created w name offset mode uuid)
+created-agree v w name offset mode uuid is = go (is_some (session_named name v)) (nat_le most_sessions (length v)) refl refl
   where
-    go : (taken full : Bool) → is_some (session_named name v) ≡ taken → nat_le most_sessions (length v) ≡ full → StepsAgree (created v name offset uuid) (created w name offset uuid)
+    go : (taken full : Bool) → is_some (session_named name v) ≡ taken → nat_le most_sessions (length v) ≡ full → StepsAgree (created v name offset mode uuid) (created w name offset mode uuid)
     go true full x y =
         let u : is_some (session_named name w) ≡ true = sym (same-found (session_named name v) (session_named name w) (found-agree name v w is)) ∙ x in
         rw (x, u) (record { world = is; text = refl; is_refused = refl })
@@ -94,16 +94,16 @@ created-agree v w name offset uuid is = go (is_some (session_named name v)) (nat
     go false false x y =
         let u : is_some (session_named name w) ≡ false = sym (same-found (session_named name v) (session_named name w) (found-agree name v w is)) ∙ x in
         let z : nat_le most_sessions (length w) ≡ false = ap (nat_le most_sessions) (sym (worlds-length v w is)) ∙ y in
-        let new : SessionsAgree (new_session uuid offset Local) (new_session uuid offset Local) = record { book = refl; streams = tt; made = tt } in
-        rw (x, u, y, z) (record { world = worlds-push v w name (new_session uuid offset Local) (new_session uuid offset Local) is new; text = refl; is_refused = refl })
+        let new : SessionsAgree (new_session uuid offset mode) (new_session uuid offset mode) = record { book = refl; streams = tt; made = tt } in
+        rw (x, u, y, z) (record { world = worlds-push v w name (new_session uuid offset mode) (new_session uuid offset mode) is new; text = refl; is_refused = refl })
 
-create-agree : (v : World StreamState) (w : World Traced) (name uuid : Text) (offset : ℤ) → WorldsAgree v w → StepsAgree (create_answer v name uuid offset) (create_answer w name uuid offset)
-create-agree v w name uuid offset is = go (is_name name) (parsed uuid) refl refl
+create-agree : (v : World StreamState) (w : World Traced) (name uuid : Text) (offset : ℤ) (mode : SessionMode) → WorldsAgree v w → StepsAgree (create_answer v name uuid offset mode) (create_answer w name uuid offset mode)
+create-agree v w name uuid offset mode is = go (is_name name) (parsed uuid) refl refl
   where
-    go : (named : Bool) (id : Option (List ℕ)) → is_name name ≡ named → parsed uuid ≡ id → StepsAgree (create_answer v name uuid offset) (create_answer w name uuid offset)
+    go : (named : Bool) (id : Option (List ℕ)) → is_name name ≡ named → parsed uuid ≡ id → StepsAgree (create_answer v name uuid offset mode) (create_answer w name uuid offset mode)
     go false id x y = rw x (record { world = is; text = refl; is_refused = refl })
     go true None x y = rw (x, y) (record { world = is; text = refl; is_refused = refl })
-    go true (Some u) x y = rw (x, y) (created-agree v w name offset u is)
+    go true (Some u) x y = rw (x, y) (created-agree v w name offset mode u is)
 
 -- what is done with sessions that agree
 at-agree : (v : World StreamState) (w : World Traced) (name : Text) (f : SessionOf StreamState → Step StreamState) (g : SessionOf Traced → Step Traced) → WorldsAgree v w → ((a : SessionOf StreamState) (b : SessionOf Traced) → SessionsAgree a b → StepsAgree (f a) (g b)) → StepsAgree (at_session v name f) (at_session w name g)
@@ -178,6 +178,12 @@ rotate-agree v w name moment is = at-agree v w name _ _ is (λ a b agree.
     answered-agree v w name archived_text _ _ (session.after_rotate by_state moment a) (session.after_rotate by_history moment b) is
     (same-named a b (session.rotate_answer by_state moment a) (session.rotate_answer by_history moment b) agree (same-rotate a b agree moment)) (agree-rotate a b agree moment))
 
+-- ---- snapshots
+
+snapshot-agree : (v : World StreamState) (w : World Traced) (name : Text) (moment : ℕ) → WorldsAgree v w → StepsAgree (snapshot_answer by_state v name moment) (snapshot_answer by_history w name moment)
+snapshot-agree v w name moment is = at-agree v w name _ _ is (λ a b agree.
+    answered-agree v w name snapshot_text _ _ (session.after_snapshot moment a) (session.after_snapshot moment b) is (ap (λ r. by_session r) (same-snapshot a b agree moment)) (agree-snapshot a b agree moment))
+
 -- ---- questions
 
 fate-agree : (v : World StreamState) (w : World Traced) (name : Text) (stream serial : ℕ) → WorldsAgree v w → StepsAgree (fate_answer by_state v name stream serial) (fate_answer by_history w name stream serial)
@@ -226,7 +232,7 @@ archives-agree v w name is = at-agree v w name _ _ is (λ a b agree. record { wo
 
 -- the answer to what a line asks
 pub answers-agree : (asked : Asked) (v : World StreamState) (w : World Traced) → WorldsAgree v w → StepsAgree (answer_to by_state v asked) (answer_to by_history w asked)
-answers-agree (Create session uuid offset) v w is = create-agree v w session uuid offset is
+answers-agree (Create session uuid offset snapshot) v w is = create-agree v w session uuid offset (mode_asked snapshot) is
 answers-agree (Channel session channel size count mode) v w is = channel-agree v w session channel size count mode is
 answers-agree (Thread session channel) v w is = thread-agree v w session channel is
 answers-agree (Start session moment) v w is = start-agree v w session moment is
@@ -237,6 +243,7 @@ answers-agree (RotateBegin session moment) v w is = rotate_begin-agree v w sessi
 answers-agree (RotateNext session) v w is = rotate_next-agree v w session is
 answers-agree (RotateFinish session) v w is = rotate_finish-agree v w session is
 answers-agree (Rotate session moment) v w is = rotate-agree v w session moment is
+answers-agree (Snapshot session moment) v w is = snapshot-agree v w session moment is
 answers-agree (Fate session stream serial) v w is = fate-agree v w session stream serial is
 answers-agree (Status session) v w is = status-agree v w session is
 answers-agree (Archives session) v w is = archives-agree v w session is

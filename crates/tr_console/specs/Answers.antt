@@ -1,12 +1,12 @@
 -- The answer to each command: the first refusal that applies, or what it does.
-use Rattle.std.specs.Prelude.{ℕ, ℤ, List, [], ◌∷◌, ◌++◌, false, nat_le, length, replicate, is_some, is_err, codes, Result, Ok, Err, if◌then◌else◌}
+use Rattle.std.specs.Prelude.{ℕ, ℤ, List, [], ◌∷◌, ◌++◌, Bool, true, false, nat_le, length, replicate, is_some, is_err, codes, Result, Ok, Err, if◌then◌else◌}
 use Rattle.std.specs.Fmt.{decimal}
 use Rattle.std.specs.Option.{option_map_or}
 use Rattle.tr_book.specs.declared.mode.Mode.{Mode}
-use Rattle.tr_command.specs.Asked.{Asked, Create, Channel, Thread, Start, Stop, Offer, Consume, RotateBegin, RotateNext, RotateFinish, Rotate, Fate, Status, Archives}
+use Rattle.tr_command.specs.Asked.{Asked, Create, Channel, Thread, Start, Stop, Offer, Consume, RotateBegin, RotateNext, RotateFinish, Rotate, Snapshot, Fate, Status, Archives}
 use Rattle.tr_console.specs.Calls.{by_session, by_step, named}
 use Rattle.tr_console.specs.Names.{is_name}
-use Rattle.tr_console.specs.Texts.{Text, line_of, started_text, stopped_text, offered_text, taken_text, rotating_text, next_text, archived_text, fate_text, status_text, archives_text}
+use Rattle.tr_console.specs.Texts.{Text, line_of, started_text, stopped_text, offered_text, taken_text, rotating_text, next_text, archived_text, snapshot_text, fate_text, status_text, archives_text}
 use Rattle.tr_console.specs.World.{World, Step, said, refused, session_named, with_session}
 use Rattle.tr_console.specs.declared.faults.LineFault.{LineFault}
 use Rattle.tr_console.specs.declared.faults.LineFault.TheVariants as fault
@@ -16,22 +16,28 @@ use Rattle.tr_session.specs.Steps as session
 use Rattle.tr_session_book.specs.declared.faults.SessionFault.{SessionFault}
 use Rattle.tr_session_book.specs.declared.faults.SessionFault.TheVariants.{TooMany, NameTaken}
 use Rattle.tr_stream.specs.Rules.{StreamRules}
-use Rattle.tr_stream.specs.declared.config.SessionMode.TheVariants.{Local}
+use Rattle.tr_stream.specs.declared.config.SessionMode.{SessionMode}
+use Rattle.tr_stream.specs.declared.config.SessionMode.TheVariants as mode
 use Rattle.uuid.specs.Text.{parsed}
 
 abbrev pub most_sessions : ℕ
 most_sessions = 16
 
--- a session of this identifier is added, in its order, which consumes into chunks
-abbrev pub created : {S : Type 0} → World S → Text → ℤ → List ℕ → Step S
-created w name offset uuid =
+-- whether a session is to be a snapshot session; else it consumes into chunks
+abbrev pub mode_asked : Bool → SessionMode
+mode_asked false = mode.Local
+mode_asked true = mode.Snapshot
+
+-- a session of this identifier is added, in its order
+abbrev pub created : {S : Type 0} → World S → Text → ℤ → SessionMode → List ℕ → Step S
+created w name offset mode uuid =
     if is_some (session_named name w) then refused w (fault.Session NameTaken)
     else (if nat_le most_sessions (length w) then refused w (fault.Session TooMany)
-    else said (w ++ (name, new_session uuid offset Local) ∷ []) (codes "created " ++ name))
+    else said (w ++ (name, new_session uuid offset mode) ∷ []) (codes "created " ++ name))
 
-abbrev pub create_answer : {S : Type 0} → World S → Text → Text → ℤ → Step S
-create_answer w name uuid offset =
-    if is_name name then option_map_or (created w name offset) (parsed uuid) (refused w fault.BadUuid)
+abbrev pub create_answer : {S : Type 0} → World S → Text → Text → ℤ → SessionMode → Step S
+create_answer w name uuid offset mode =
+    if is_name name then option_map_or (created w name offset mode) (parsed uuid) (refused w fault.BadUuid)
     else refused w fault.BadName
 
 -- what is done with the session of a name, if there is one
@@ -94,6 +100,12 @@ abbrev pub rotate_answer : {S : Type 0} → StreamRules S → World S → Text �
 rotate_answer rules w name moment =
     at_session w name (λ s. answered w name archived_text (named s (session.rotate_answer rules moment s)) (session.after_rotate rules moment s))
 
+-- ---- snapshots
+
+abbrev pub snapshot_answer : {S : Type 0} → StreamRules S → World S → Text → ℕ → Step S
+snapshot_answer rules w name moment =
+    at_session w name (λ s. answered w name snapshot_text (by_session (session.snapshot_answer rules moment s)) (session.after_snapshot moment s))
+
 -- ---- questions, which change nothing
 
 abbrev pub fate_answer : {S : Type 0} → StreamRules S → World S → Text → (stream serial : ℕ) → Step S
@@ -109,7 +121,7 @@ abbrev pub archives_answer : {S : Type 0} → StreamRules S → World S → Text
 archives_answer rules w name = at_session w name (λ s. record { world = w; text = archives_text rules s; is_refused = false })
 
 abbrev pub answer_to : {S : Type 0} → StreamRules S → World S → Asked → Step S
-answer_to rules w (Create session uuid offset) = create_answer w session uuid offset
+answer_to rules w (Create session uuid offset snapshot) = create_answer w session uuid offset (mode_asked snapshot)
 answer_to rules w (Channel session channel size count mode) = channel_answer w session channel size count mode
 answer_to rules w (Thread session channel) = thread_answer rules w session channel
 answer_to rules w (Start session moment) = start_answer rules w session moment
@@ -120,6 +132,7 @@ answer_to rules w (RotateBegin session moment) = rotate_begin_answer w session m
 answer_to rules w (RotateNext session) = rotate_next_answer rules w session
 answer_to rules w (RotateFinish session) = rotate_finish_answer w session
 answer_to rules w (Rotate session moment) = rotate_answer rules w session moment
+answer_to rules w (Snapshot session moment) = snapshot_answer rules w session moment
 answer_to rules w (Fate session stream serial) = fate_answer rules w session stream serial
 answer_to rules w (Status session) = status_answer rules w session
 answer_to rules w (Archives session) = archives_answer rules w session

@@ -2,7 +2,7 @@
 use Rattle.std.specs.Prelude.{◌≡◌, ℕ, false, Result, Ok, Err, if◌then◌else◌}
 use Rattle.std.specs.Option.{option_map_or}
 use Rattle.tr_book.specs.declared.mode.Mode.{Mode}
-use Rattle.tr_command.specs.Asked.{Asked, RotateBegin, RotateNext, RotateFinish, Rotate, Fate, Status, Archives}
+use Rattle.tr_command.specs.Asked.{Asked, RotateBegin, RotateNext, RotateFinish, Rotate, Snapshot, Fate, Status, Archives}
 use Rattle.tr_console.specs.Faults.{wants_memory}
 use Rattle.tr_console.specs.Names.{is_name}
 use Rattle.tr_console.specs.Texts.{Text}
@@ -56,12 +56,13 @@ abbrev pub HasMemory : {R : Type 0} → Result R LineFault → Type 0
 HasMemory (Ok r) = Unit {0}
 HasMemory (Err why) = wants_memory why ≡ false
 
--- it asks for a step of a rotation, or asks a question
+-- it asks for a step of a rotation or for a snapshot, or asks a question
 abbrev pub RotatesOrAsks : Asked → Type 0
 RotatesOrAsks (RotateBegin session moment) = Unit {0}
 RotatesOrAsks (RotateNext session) = Unit {0}
 RotatesOrAsks (RotateFinish session) = Unit {0}
 RotatesOrAsks (Rotate session moment) = Unit {0}
+RotatesOrAsks (Snapshot session moment) = Unit {0}
 RotatesOrAsks (Fate session stream serial) = Unit {0}
 RotatesOrAsks (Status session) = Unit {0}
 RotatesOrAsks (Archives session) = Unit {0}

@@ -1,11 +1,14 @@
 -- The texts of answers, without the line feed behind the last line.
-use Rattle.std.specs.Prelude.{ℕ, ℤ, ◌+◌, ◌-◌, List, [], ◌∷◌, ◌++◌, length, replicate, codes, Option, Some, None, Result, Ok, Err}
+use Rattle.std.specs.Prelude.{ℕ, ℤ, ◌+◌, ◌-◌, List, [], ◌∷◌, ◌++◌, length, slice_get, replicate, codes, Option, Some, None, Result, Ok, Err}
 use Rattle.std.specs.Fmt.{decimal}
+use Rattle.tr_book.specs.Snaps.{SnapState}
 use Rattle.tr_book.specs.declared.counts.Counts.{Counts}
 use Rattle.tr_chunk.specs.ArchiveName.{archive_name_text}
 use Rattle.tr_console.specs.Faults.{line_fault_code, line_fault_name}
 use Rattle.tr_console.specs.declared.archives.NamedArchive.{NamedArchive}
 use Rattle.tr_console.specs.declared.faults.LineFault.{LineFault}
+use Rattle.tr_packet.specs.Packets.{Contents}
+use Rattle.tr_record.specs.Records.{Entry}
 use Rattle.tr_session_book.specs.Book.{SessionBookState}
 use Rattle.tr_session.specs.Session.{SessionOf}
 use Rattle.tr_session.specs.Sizes.{archive_packets, archive_bytes}
@@ -15,12 +18,13 @@ use Rattle.tr_session.specs.declared.rotation.Next.{Next}
 use Rattle.tr_session.specs.declared.rotation.Next.TheVariants as next
 use Rattle.tr_session_book.specs.declared.state.State.{State}
 use Rattle.tr_session_book.specs.declared.state.State.TheVariants.{New, Active, Inactive}
+use Rattle.tr_snapshot.specs.Snapshots.{SnapshotState, records_shown}
 use Rattle.tr_stream.specs.Rules.{StreamRules}
 use Rattle.tr_stream.specs.declared.answers.Offered.{Offered}
 use Rattle.tr_stream.specs.declared.answers.Offered.TheVariants.{Stored, StoredOver, Discarded}
 use Rattle.tr_stream.specs.declared.answers.Taken.{Taken}
 use Rattle.tr_stream.specs.declared.config.SessionMode.{SessionMode}
-use Rattle.tr_stream.specs.declared.config.SessionMode.TheVariants.{Local}
+use Rattle.tr_stream.specs.declared.config.SessionMode.TheVariants.{Local, Snapshot}
 use Rattle.tr_stream.specs.declared.fate.Fate.{Fate}
 use Rattle.tr_stream.specs.declared.fate.Fate.TheVariants as fate
 
@@ -78,6 +82,37 @@ archive_text offset archive = decimal archive.id ++ (32 ∷ archive_name_text ar
 abbrev pub archived_text : NamedArchive → Text
 archived_text named = codes "archived " ++ archive_text named.offset named.archive
 
+-- a record's serial; only a packet without records would have no first and no last one
+abbrev pub serial_text : Option Entry → Text
+serial_text None = []
+serial_text (Some e) = decimal e.serial
+
+-- the line of a packet that a snapshot shows: its number, how many records it has, and the serials of the first and the last one
+abbrev pub packet_line : Contents → Text
+packet_line p =
+    codes "packet " ++ (decimal p.head.seq ++ (codes " records " ++ (decimal (length p.records)
+    ++ (codes " first " ++ (serial_text (slice_get p.records 0) ++ (codes " last " ++ serial_text (slice_get p.records (length p.records - 1))))))))
+
+-- the lines of packets, a line feed before each
+abbrev pub packet_lines : List Contents → Text
+packet_lines [] = []
+packet_lines (p ∷ ps) = 10 ∷ (packet_line p ++ packet_lines ps)
+
+-- the line of a stream that a snapshot shows: its number, how many offers it had accepted, and how many packets and records are shown
+abbrev pub stream_line : SnapState → Text
+stream_line s =
+    codes "stream " ++ (decimal s.stream ++ (codes " offered " ++ (decimal s.offered
+    ++ (codes " packets " ++ (decimal (length s.packets) ++ (codes " records " ++ decimal (length (records_shown s))))))))
+
+-- the lines of streams, each with those of its packets behind it, a line feed before each line
+abbrev pub stream_lines : List SnapState → Text
+stream_lines [] = []
+stream_lines (s ∷ ss) = 10 ∷ (stream_line s ++ (packet_lines s.packets ++ stream_lines ss))
+
+-- a snapshot: its moment, and what is shown of each stream
+abbrev pub snapshot_text : SnapshotState → Text
+snapshot_text s = codes "snapshot " ++ (decimal s.moment ++ stream_lines s.streams)
+
 -- a number, right in so many places; a longer one takes the places that it needs
 abbrev pub right : ℕ → ℕ → Text
 right places n = replicate (places - length (decimal n)) 32 ++ decimal n
@@ -99,6 +134,7 @@ status_rows rules i (t ∷ ts) = 10 ∷ (status_row i (rules.counted t) ++ statu
 
 abbrev pub mode_text : SessionMode → Text
 mode_text Local = codes "local"
+mode_text Snapshot = codes "snapshot"
 
 abbrev pub state_text : State → Text
 state_text New = codes "new"

@@ -4,7 +4,7 @@ ghost use Rattle.std.specs.Prelude.{◌≡◌, ◌≤◌, ◌∷◌, ◌++◌, [
 ghost use Rattle.tr_command.specs.Language.{asked_of};
 ghost use Rattle.std.specs.String.{string_bytes};
 ghost use Rattle.tr_command.specs.Asked.{IsOffset, asked_by, moment_in, offset_in};
-ghost use Rattle.tr_console.specs.Answers.{answer_to, create_answer, channel_answer, thread_answer, start_answer, stop_answer, offer_answer, consume_answer, rotate_begin_answer, rotate_next_answer, rotate_finish_answer, rotate_answer, fate_answer, status_answer, archives_answer, payload_of};
+ghost use Rattle.tr_console.specs.Answers.{answer_to, create_answer, channel_answer, thread_answer, start_answer, stop_answer, offer_answer, consume_answer, rotate_begin_answer, rotate_next_answer, rotate_finish_answer, rotate_answer, snapshot_answer, fate_answer, status_answer, archives_answer, payload_of};
 ghost use Rattle.tr_console.specs.Calls.{RotatesOrAsks};
 ghost use Rattle.tr_console.specs.Replies.{Does};
 ghost use Rattle.tr_console.specs.Script.{asked_step, text_step};
@@ -22,9 +22,10 @@ use crate::rotations::{
     rotating_reply,
 };
 use crate::sessions::{
-    ChannelShape, OfferTo, Sessions, add_channel_at, add_thread_at, fate_at, offer_at, shape_of,
-    start_at, stop_at, take_at,
+    ChannelShape, OfferTo, Sessions, add_channel_at, add_thread_at, fate_at, mode_of, offer_at,
+    shape_of, start_at, stop_at, take_at,
 };
+use crate::snapshots::{snapshot_at, snapshot_reply};
 use crate::status::status_of;
 use indexmap::IndexMap;
 use std::alloc::{AllocError, Allocator, Global};
@@ -122,7 +123,8 @@ impl<A: Allocator + Copy> Console<A> {
                 session,
                 uuid,
                 offset,
-            } => self.create(session, uuid, offset),
+                snapshot,
+            } => self.create(session, uuid, offset, mode_of(snapshot)),
             Request::Channel {
                 session,
                 channel,
@@ -146,7 +148,7 @@ impl<A: Allocator + Copy> Console<A> {
         }
     }
 
-    /// Answers a command of rotations, or a question.
+    /// Answers a command of rotations or snapshots, or a question.
     fn rotate_or_ask(&mut self, request: Request<'_>) -> Result<Reply<A>, AllocError>
         requires kind { RotatesOrAsks (asked_by request) }
         requires moment { moment_in (asked_by request) ≤ last_moment }
@@ -157,6 +159,7 @@ impl<A: Allocator + Copy> Console<A> {
             Request::RotateNext { session } => self.rotate_next(session),
             Request::RotateFinish { session } => self.rotate_finish(session),
             Request::Rotate { session, moment } => self.rotate(session, moment),
+            Request::Snapshot { session, moment } => self.snapshot(session, moment),
             Request::Fate {
                 session,
                 stream,
@@ -169,9 +172,15 @@ impl<A: Allocator + Copy> Console<A> {
     }
 
     /// `create`
-    fn create(&mut self, session: &str, uuid: &str, offset: i32) -> Result<Reply<A>, AllocError>
+    fn create(
+        &mut self,
+        session: &str,
+        uuid: &str,
+        offset: i32,
+        mode: SessionMode,
+    ) -> Result<Reply<A>, AllocError>
         requires { IsOffset offset }
-        ensures { IfOk result (Does (create_answer self.old session.now uuid.now offset) self.new) }
+        ensures { IfOk result (Does (create_answer self.old session.now uuid.now offset mode) self.new) }
     {
         let Some(offset) = OffsetMinutes::new(offset) else {
             unreachable!()
@@ -190,7 +199,7 @@ impl<A: Allocator + Copy> Console<A> {
         }
         let text = format!(in self.alloc; "created {session}\n")?;
         let name = String::from_str(self.alloc, session)?;
-        let made = Session::new(self.alloc, uuid, offset, SessionMode::Local);
+        let made = Session::new(self.alloc, uuid, offset, mode);
         self.sessions.insert(name, made)?;
         Ok(Reply::done(text))
     }
@@ -312,6 +321,18 @@ impl<A: Allocator + Copy> Console<A> {
         };
         let answer = rotate_at(&mut self.sessions, session, moment);
         archived_reply(self.alloc, answer)
+    }
+
+    /// `snapshot`
+    fn snapshot(&mut self, session: &str, moment: u64) -> Result<Reply<A>, AllocError>
+        requires { moment ≤ last_moment }
+        ensures { IfOk result (Does (snapshot_answer by_state self.old session.now moment) self.new) }
+    {
+        let Some(moment) = Moment::new(moment) else {
+            unreachable!()
+        };
+        let answer = snapshot_at(&mut self.sessions, session, moment);
+        snapshot_reply(self.alloc, answer)
     }
 
     /// `fate`

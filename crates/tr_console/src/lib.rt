@@ -11,6 +11,7 @@ mod rotations;
 mod script;
 mod script_fault;
 mod sessions;
+mod snapshots;
 mod status;
 
 pub use console::Console;

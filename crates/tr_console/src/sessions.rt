@@ -1,6 +1,7 @@
 //! Calls of the session of a name.
 
 ghost use Rattle.std.specs.Prelude.{◌≡◌, false, Ok, Err, Some, OnOk, OnErr, IfOk, IfErr, length, option_map};
+ghost use Rattle.tr_console.specs.Answers.{mode_asked};
 ghost use Rattle.tr_console.specs.World.{session_named};
 ghost use Rattle.tr_console.specs.Calls.{HasMemory, added, added_channel, after_call, by_session, by_step, call_answer};
 ghost use Rattle.tr_console.specs.Faults.{wants_memory};
@@ -17,7 +18,7 @@ use std::hash::{BuildHasherDefault, FoldHasher};
 use tr_book::Mode;
 use tr_record::Moment;
 use tr_session::Session;
-use tr_stream::{Fate, Offered, Taken};
+use tr_stream::{Fate, Offered, SessionMode, Taken};
 
 /// Sessions by name, in order of creation.
 pub type Sessions<A> = IndexMap<String<A>, Session<A>, BuildHasherDefault<FoldHasher>, A>;
@@ -39,6 +40,17 @@ pub fn shape_of(size: u32, count: u32, mode: Mode) -> ChannelShape
         size: u64::from(size),
         count: u64::from(count),
         mode,
+    }
+}
+
+/// The mode of a session that a command asks for.
+pub fn mode_of(snapshot: bool) -> SessionMode
+    ensures { result ≡ mode_asked snapshot }
+{
+    if snapshot {
+        SessionMode::Snapshot
+    } else {
+        SessionMode::Local
     }
 }
 

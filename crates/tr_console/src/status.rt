@@ -20,6 +20,7 @@ fn mode_word(mode: SessionMode) -> &'static str
 {
     match mode {
         SessionMode::Local => "local",
+        SessionMode::Snapshot => "snapshot",
     }
 }
 

@@ -15,7 +15,6 @@ use Rattle.tr_session_book.proofs.NameLaws.{is_some-by_name, length-by_name, ins
 use Rattle.tr_session_book.specs.Names.{by_name}
 use Rattle.tr_session.specs.Session.{new_session}
 use Rattle.tr_stream.specs.State.{StreamState}
-use Rattle.tr_stream.specs.declared.config.SessionMode.TheVariants.{Local}
 use Rattle.uuid.specs.Text.{parsed}
 
 pub returns-in_default-parse_str : goal.returns-in_default-parse_str
@@ -26,8 +25,8 @@ returns-in_default-parse_str g c =
     let uuid = c.args.uuid.now in
     let named : is_name name ≡ true = search rules in
     let none : parsed uuid ≡ None = none_from (parsed uuid) (λ some. true≢false (sym (c.in_default-parse_str.ensures.ok.1 some))) in
-    subst (λ (v : World StreamState). IfOk c.refusal-in_default-parse_str.result (Does (create_answer v name uuid c.args.offset) v)) c.self.view_is
-    (refuses c.refusal-in_default-parse_str.result w w fault.BadUuid (create_answer w name uuid c.args.offset) (λ _. create-bad_uuid w name uuid c.args.offset named none) refl c.refusal-in_default-parse_str.ensures.text c.refusal-in_default-parse_str.ensures.refused c.refusal-in_default-parse_str.ensures.memory)
+    subst (λ (v : World StreamState). IfOk c.refusal-in_default-parse_str.result (Does (create_answer v name uuid c.args.offset c.args.mode) v)) c.self.view_is
+    (refuses c.refusal-in_default-parse_str.result w w fault.BadUuid (create_answer w name uuid c.args.offset c.args.mode) (λ _. create-bad_uuid w name uuid c.args.offset c.args.mode named none) refl c.refusal-in_default-parse_str.ensures.text c.refusal-in_default-parse_str.ensures.refused c.refusal-in_default-parse_str.ensures.memory)
 
 pub returns-then-contains_key : goal.returns-then-contains_key
 returns-then-contains_key g c =
@@ -38,8 +37,8 @@ returns-then-contains_key g c =
     let named : is_name name ≡ true = search rules in
     let good : parsed uuid ≡ Some c.in-Ok.uuid = sym c.in-Ok.ensures.bytes in
     let taken : is_some (session_named name w) ≡ true = sym (is_some-by_name name es) ∙ sym c.if-contains_key.ensures in
-    subst (λ (v : World StreamState). IfOk c.refusal-then-contains_key.result (Does (create_answer v name uuid c.args.offset) v)) c.self.view_is
-    (refuses c.refusal-then-contains_key.result w w (fault.Session NameTaken) (create_answer w name uuid c.args.offset) (λ _. create-taken w name uuid c.args.offset c.in-Ok.uuid named good taken) refl c.refusal-then-contains_key.ensures.text c.refusal-then-contains_key.ensures.refused c.refusal-then-contains_key.ensures.memory)
+    subst (λ (v : World StreamState). IfOk c.refusal-then-contains_key.result (Does (create_answer v name uuid c.args.offset c.args.mode) v)) c.self.view_is
+    (refuses c.refusal-then-contains_key.result w w (fault.Session NameTaken) (create_answer w name uuid c.args.offset c.args.mode) (λ _. create-taken w name uuid c.args.offset c.args.mode c.in-Ok.uuid named good taken) refl c.refusal-then-contains_key.ensures.text c.refusal-then-contains_key.ensures.refused c.refusal-then-contains_key.ensures.memory)
 
 pub returns-then-len-ge-MOST_SESSIONS : goal.returns-then-len-ge-MOST_SESSIONS
 returns-then-len-ge-MOST_SESSIONS g c =
@@ -51,8 +50,8 @@ returns-then-len-ge-MOST_SESSIONS g c =
     let good : parsed uuid ≡ Some c.in-Ok.uuid = sym c.in-Ok.ensures.bytes in
     let free : is_some (session_named name w) ≡ false = sym (is_some-by_name name es) ∙ sym c.if-contains_key.ensures in
     let full : nat_le most_sessions (length w) ≡ true = grind (arith, nat_tests, length-by_name es, c.len.ensures, c.if-len-ge-MOST_SESSIONS.true) in
-    subst (λ (v : World StreamState). IfOk c.refusal-then-len-ge-MOST_SESSIONS.result (Does (create_answer v name uuid c.args.offset) v)) c.self.view_is
-    (refuses c.refusal-then-len-ge-MOST_SESSIONS.result w w (fault.Session TooMany) (create_answer w name uuid c.args.offset) (λ _. create-full w name uuid c.args.offset c.in-Ok.uuid named good free full) refl c.refusal-then-len-ge-MOST_SESSIONS.ensures.text c.refusal-then-len-ge-MOST_SESSIONS.ensures.refused c.refusal-then-len-ge-MOST_SESSIONS.ensures.memory)
+    subst (λ (v : World StreamState). IfOk c.refusal-then-len-ge-MOST_SESSIONS.result (Does (create_answer v name uuid c.args.offset c.args.mode) v)) c.self.view_is
+    (refuses c.refusal-then-len-ge-MOST_SESSIONS.result w w (fault.Session TooMany) (create_answer w name uuid c.args.offset c.args.mode) (λ _. create-full w name uuid c.args.offset c.args.mode c.in-Ok.uuid named good free full) refl c.refusal-then-len-ge-MOST_SESSIONS.ensures.text c.refusal-then-len-ge-MOST_SESSIONS.ensures.refused c.refusal-then-len-ge-MOST_SESSIONS.ensures.memory)
 
 pub returns : goal.returns
 returns g c =
@@ -64,9 +63,9 @@ returns g c =
     let good : parsed uuid ≡ Some c.in-Ok.uuid = sym c.in-Ok.ensures.bytes in
     let free : is_some (session_named name w) ≡ false = sym (is_some-by_name name es) ∙ sym c.if-contains_key.ensures in
     let few : nat_le most_sessions (length w) ≡ false = grind (arith, nat_tests, length-by_name es, c.len.ensures, c.if-len-ge-MOST_SESSIONS.false) in
-    let step = create-new w name uuid c.args.offset c.in-Ok.uuid named good free few in
+    let step = create-new w name uuid c.args.offset c.args.mode c.in-Ok.uuid named good free few in
     let after = by_name c.insert.new.self.entries in
     let offset : c.in-Some.offset ≡ c.args.offset = c.in-Some.ensures.value ∙ to_z-of_z w32 c.args.offset c.ranges.offset in
     let world = insert_entry-new_name name es c.insert.new.self.entries c.in_ok-name.name c.new-made.result (rw c.in_ok-name.was at c.from_str.ensures.ok) (sym c.if-contains_key.ensures) (rw c.in_ok-insert.was at c.insert.ensures.entries) in
-    subst (λ (v : World StreamState). (string_bytes c.done.result.text ≡ (create_answer v name uuid c.args.offset).text) × (c.done.result.is_refused ≡ (create_answer v name uuid c.args.offset).is_refused) × (after ≡ (create_answer v name uuid c.args.offset).world)) c.self.view_is
-    (rw step (c.done.ensures.text ∙ c.in_ok-text.ensures.ok, c.done.ensures.done, world ∙ ap (λ s. w ++ (name, s) ∷ []) (c.new-made.ensures ∙ ap (λ o. new_session c.in-Ok.uuid o Local) offset)))
+    subst (λ (v : World StreamState). (string_bytes c.done.result.text ≡ (create_answer v name uuid c.args.offset c.args.mode).text) × (c.done.result.is_refused ≡ (create_answer v name uuid c.args.offset c.args.mode).is_refused) × (after ≡ (create_answer v name uuid c.args.offset c.args.mode).world)) c.self.view_is
+    (rw step (c.done.ensures.text ∙ c.in_ok-text.ensures.ok, c.done.ensures.done, world ∙ ap (λ s. w ++ (name, s) ∷ []) (c.new-made.ensures ∙ ap (λ o. new_session c.in-Ok.uuid o c.args.mode) offset)))
