@@ -16,7 +16,8 @@ use Rattle.tr_console.specs.declared.archives.NamedArchive.{NamedArchive}
 use Rattle.tr_console.specs.declared.faults.LineFault.{LineFault}
 use Rattle.tr_console.specs.declared.faults.LineFault.TheVariants as fault
 use Rattle.tr_session_book.proofs.NameLaws.{lookup-by_name, set_value-by_name}
-use Rattle.tr_session.specs.Faults.{session_wants_memory, step_wants_memory}
+use Rattle.tr_session.specs.Faults.{step_wants_memory}
+use Rattle.tr_session_book.specs.Faults.{session_wants_memory}
 use Rattle.tr_session_book.specs.Names.{by_name}
 use Rattle.tr_session.specs.Session.{SessionOf}
 use Rattle.tr_session.specs.Steps.{session_channel_added}

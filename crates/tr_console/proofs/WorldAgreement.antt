@@ -5,19 +5,26 @@ use Rattle.std.specs.Fmt.{decimal}
 use Rattle.std.specs.Prelude.{nat_le}
 use Rattle.std.specs.Str.{bytes_eq}
 use Rattle.tr_book.specs.declared.mode.Mode.{Mode}
-use Rattle.tr_command.specs.Asked.{Asked, Create, Channel, Thread, Start, Stop, Offer, Consume, RotateBegin, RotateNext, RotateFinish, Rotate, Snapshot, Fate, Status, Archives}
+use Rattle.tr_command.specs.Asked.{Asked, Create, Channel, Thread, Start, Stop, Offer, Consume, RotateBegin, RotateNext, RotateFinish, Rotate, Snapshot, Schedule, Tick, Fate, Status, Archives}
 use Rattle.tr_console.specs.Agreement.{WorldsAgree}
-use Rattle.tr_console.specs.Answers.{most_sessions, created, create_answer, at_session, settled, answered, channel_answer, thread_answer, start_answer, stop_answer, payload_of, offer_answer, consume_answer, rotate_begin_answer, rotate_next_answer, rotate_finish_answer, rotate_answer, mode_asked, snapshot_answer, fate_answer, status_answer, archives_answer, answer_to}
-use Rattle.tr_console.specs.Calls.{by_session, by_step, named}
+use Rattle.tr_console.specs.Answers.{most_sessions, created, create_answer, at_session, settled, answered, channel_answer, thread_answer, start_answer, stop_answer, payload_of, offer_answer, consume_answer, rotate_begin_answer, rotate_next_answer, rotate_finish_answer, rotate_answer, mode_asked, snapshot_answer, schedule_answer, tick_answer, fate_answer, status_answer, archives_answer, answer_to}
+use Rattle.tr_console.specs.Calls.{by_session, by_step, named, schedule_asked, schedule_set, after_asked, tick_named}
 use Rattle.tr_console.specs.Names.{is_name}
-use Rattle.tr_console.specs.Texts.{Text, line_of, started_text, stopped_text, offered_text, taken_text, rotating_text, next_text, archived_text, snapshot_text, fate_text, status_line, status_head, status_rows, status_text, status_row, archive_text, archive_line, archive_lines, lines_or_none, archives_text}
+use Rattle.tr_console.specs.Texts.{Text, line_of, started_text, stopped_text, offered_text, taken_text, rotating_text, next_text, archived_text, snapshot_text, schedule_text, tick_text, fate_text, status_line, status_head, status_rows, status_text, status_row, archive_text, archive_line, archive_lines, lines_or_none, archives_text}
 use Rattle.tr_console.specs.World.{World, Step, refused, session_named, with_session}
 use Rattle.tr_console.specs.declared.faults.LineFault.{LineFault}
 use Rattle.tr_console.specs.declared.faults.LineFault.TheVariants.{BadName}
-use Rattle.tr_session.proofs.Agreement.{ResultsAgree, same-length, agree-channel, agree-thread, agree-started, agree-stopped, same-offer, agree-offer, same-take, agree-take, agree-begun, same-next, agree-next, agree-finished, same-rotate, agree-rotate, same-snapshot, agree-snapshot, same-fate, same-archive_packets, same-archive_bytes}
+use Rattle.tr_console.specs.declared.schedules.TickTold.{TickTold}
+use Rattle.tr_console.specs.declared.schedules.TickTold.TheVariants as told
+use Rattle.tr_schedule.specs.Schedules.{ScheduleState}
+use Rattle.tr_schedule.specs.declared.faults.ScheduleFault.{ScheduleFault}
+use Rattle.tr_session.specs.declared.ticks.Ticked.{Ticked}
+use Rattle.tr_session.specs.declared.ticks.Ticked.TheVariants as ticked
+use Rattle.tr_session.proofs.Agreement.{ResultsAgree, same-length, agree-channel, agree-thread, agree-started, agree-stopped, same-offer, agree-offer, same-take, agree-take, agree-begun, same-next, agree-next, agree-finished, same-rotate, agree-rotate, same-snapshot, agree-snapshot, agree-scheduled, same-tick, agree-tick, same-fate, same-archive_packets, same-archive_bytes}
 use Rattle.tr_session.specs.Agreement.{AllAgree, SessionsAgree}
 use Rattle.tr_session_book.specs.BookSteps as book
 use Rattle.tr_session.specs.Session.{SessionOf, new_session}
+use Rattle.tr_session_book.specs.Book.{SessionBookState}
 use Rattle.tr_session.specs.Sizes.{archive_packets, archive_bytes}
 use Rattle.tr_session.specs.Steps as session
 use Rattle.tr_session_book.specs.declared.archive.Archive.{Archive}
@@ -184,6 +191,30 @@ snapshot-agree : (v : World StreamState) (w : World Traced) (name : Text) (momen
 snapshot-agree v w name moment is = at-agree v w name _ _ is (λ a b agree.
     answered-agree v w name snapshot_text _ _ (session.after_snapshot moment a) (session.after_snapshot moment b) is (ap (λ r. by_session r) (same-snapshot a b agree moment)) (agree-snapshot a b agree moment))
 
+-- ---- schedules
+
+schedule-agree : (v : World StreamState) (w : World Traced) (name : Text) (every size : Option ℕ) → WorldsAgree v w → StepsAgree (schedule_answer v name every size) (schedule_answer w name every size)
+schedule-agree v w name every size is = at-agree v w name _ _ is (λ a b agree.
+    answered-agree v w name schedule_text _ _ (after_asked (schedule_asked every size) a) (after_asked (schedule_asked every size) b) is
+    (ap (λ (c : SessionBookState). schedule_set (book.schedule_answer c) (schedule_asked every size)) agree.book) (agree-asked (schedule_asked every size) a b agree))
+  where
+    agree-asked : (asked : Result (Option ScheduleState) ScheduleFault) (a : SessionOf StreamState) (b : SessionOf Traced) → SessionsAgree a b → SessionsAgree (after_asked asked a) (after_asked asked b)
+    agree-asked (Err why) a b agree = agree
+    agree-asked (Ok schedule) a b agree = agree-scheduled a b agree schedule
+
+tick-agree : (v : World StreamState) (w : World Traced) (name : Text) (moment : ℕ) → WorldsAgree v w → StepsAgree (tick_answer by_state v name moment) (tick_answer by_history w name moment)
+tick-agree v w name moment is = at-agree v w name _ _ is (λ a b agree.
+    answered-agree v w name tick_text _ _ (session.after_tick by_state moment a) (session.after_tick by_history moment b) is
+    (same-told a b (session.tick_answer by_state moment a) (session.tick_answer by_history moment b) agree (same-tick a b agree moment)) (agree-tick a b agree moment))
+  where
+    told-alike : (a : SessionOf StreamState) (b : SessionOf Traced) (r : Result Ticked SessionFault) → a.book ≡ b.book → tick_named a r ≡ tick_named b r
+    told-alike a b (Ok ticked.Idle) same = refl
+    told-alike a b (Ok (ticked.Rotated cause archive)) same = ap (λ (c : SessionBookState). (let r : Result TickTold LineFault = Ok (told.Rotated cause (record { archive = archive; offset = c.offset })) in r)) same
+    told-alike a b (Err why) same = refl
+
+    same-told : (a : SessionOf StreamState) (b : SessionOf Traced) (r q : Result Ticked SessionFault) → SessionsAgree a b → r ≡ q → tick_named a r ≡ tick_named b q
+    same-told a b r q agree same = told-alike a b r agree.book ∙ ap (tick_named b) same
+
 -- ---- questions
 
 fate-agree : (v : World StreamState) (w : World Traced) (name : Text) (stream serial : ℕ) → WorldsAgree v w → StepsAgree (fate_answer by_state v name stream serial) (fate_answer by_history w name stream serial)
@@ -244,6 +275,8 @@ answers-agree (RotateNext session) v w is = rotate_next-agree v w session is
 answers-agree (RotateFinish session) v w is = rotate_finish-agree v w session is
 answers-agree (Rotate session moment) v w is = rotate-agree v w session moment is
 answers-agree (Snapshot session moment) v w is = snapshot-agree v w session moment is
+answers-agree (Schedule session every size) v w is = schedule-agree v w session every size is
+answers-agree (Tick session moment) v w is = tick-agree v w session moment is
 answers-agree (Fate session stream serial) v w is = fate-agree v w session stream serial is
 answers-agree (Status session) v w is = status-agree v w session is
 answers-agree (Archives session) v w is = archives-agree v w session is

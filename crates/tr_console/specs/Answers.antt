@@ -1,12 +1,12 @@
 -- The answer to each command: the first refusal that applies, or what it does.
-use Rattle.std.specs.Prelude.{ℕ, ℤ, List, [], ◌∷◌, ◌++◌, Bool, true, false, nat_le, length, replicate, is_some, is_err, codes, Result, Ok, Err, if◌then◌else◌}
+use Rattle.std.specs.Prelude.{ℕ, ℤ, List, [], ◌∷◌, ◌++◌, Bool, true, false, nat_le, length, replicate, is_some, is_err, codes, Option, Result, Ok, Err, if◌then◌else◌}
 use Rattle.std.specs.Fmt.{decimal}
 use Rattle.std.specs.Option.{option_map_or}
 use Rattle.tr_book.specs.declared.mode.Mode.{Mode}
-use Rattle.tr_command.specs.Asked.{Asked, Create, Channel, Thread, Start, Stop, Offer, Consume, RotateBegin, RotateNext, RotateFinish, Rotate, Snapshot, Fate, Status, Archives}
-use Rattle.tr_console.specs.Calls.{by_session, by_step, named}
+use Rattle.tr_command.specs.Asked.{Asked, Create, Channel, Thread, Start, Stop, Offer, Consume, RotateBegin, RotateNext, RotateFinish, Rotate, Snapshot, Schedule, Tick, Fate, Status, Archives}
+use Rattle.tr_console.specs.Calls.{by_session, by_step, named, schedule_asked, schedule_set, after_asked, tick_named}
 use Rattle.tr_console.specs.Names.{is_name}
-use Rattle.tr_console.specs.Texts.{Text, line_of, started_text, stopped_text, offered_text, taken_text, rotating_text, next_text, archived_text, snapshot_text, fate_text, status_text, archives_text}
+use Rattle.tr_console.specs.Texts.{Text, line_of, started_text, stopped_text, offered_text, taken_text, rotating_text, next_text, archived_text, snapshot_text, schedule_text, tick_text, fate_text, status_text, archives_text}
 use Rattle.tr_console.specs.World.{World, Step, said, refused, session_named, with_session}
 use Rattle.tr_console.specs.declared.faults.LineFault.{LineFault}
 use Rattle.tr_console.specs.declared.faults.LineFault.TheVariants as fault
@@ -106,6 +106,18 @@ abbrev pub snapshot_answer : {S : Type 0} → StreamRules S → World S → Text
 snapshot_answer rules w name moment =
     at_session w name (λ s. answered w name snapshot_text (by_session (session.snapshot_answer rules moment s)) (session.after_snapshot moment s))
 
+-- ---- schedules
+
+abbrev pub schedule_answer : {S : Type 0} → World S → Text → Option ℕ → Option ℕ → Step S
+schedule_answer w name every size =
+    at_session w name (λ s.
+    let asked = schedule_asked every size in
+    answered w name schedule_text (schedule_set (book.schedule_answer s.book) asked) (after_asked asked s))
+
+abbrev pub tick_answer : {S : Type 0} → StreamRules S → World S → Text → ℕ → Step S
+tick_answer rules w name moment =
+    at_session w name (λ s. answered w name tick_text (tick_named s (session.tick_answer rules moment s)) (session.after_tick rules moment s))
+
 -- ---- questions, which change nothing
 
 abbrev pub fate_answer : {S : Type 0} → StreamRules S → World S → Text → (stream serial : ℕ) → Step S
@@ -133,6 +145,8 @@ answer_to rules w (RotateNext session) = rotate_next_answer rules w session
 answer_to rules w (RotateFinish session) = rotate_finish_answer w session
 answer_to rules w (Rotate session moment) = rotate_answer rules w session moment
 answer_to rules w (Snapshot session moment) = snapshot_answer rules w session moment
+answer_to rules w (Schedule session every size) = schedule_answer w session every size
+answer_to rules w (Tick session moment) = tick_answer rules w session moment
 answer_to rules w (Fate session stream serial) = fate_answer rules w session stream serial
 answer_to rules w (Status session) = status_answer rules w session
 answer_to rules w (Archives session) = archives_answer rules w session

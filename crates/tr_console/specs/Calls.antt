@@ -1,16 +1,24 @@
 -- What the calls of a console's sessions come to.
-use Rattle.std.specs.Prelude.{◌≡◌, ℕ, false, Result, Ok, Err, if◌then◌else◌}
+use Rattle.std.specs.Prelude.{◌≡◌, ℕ, false, Option, Some, None, Result, Ok, Err, if◌then◌else◌}
 use Rattle.std.specs.Option.{option_map_or}
 use Rattle.tr_book.specs.declared.mode.Mode.{Mode}
-use Rattle.tr_command.specs.Asked.{Asked, RotateBegin, RotateNext, RotateFinish, Rotate, Snapshot, Fate, Status, Archives}
+use Rattle.tr_command.specs.Asked.{Asked, RotateBegin, RotateNext, RotateFinish, Rotate, Snapshot, Tick, Fate, Status, Archives}
+use Rattle.tr_command.specs.Asked as asked
 use Rattle.tr_console.specs.Faults.{wants_memory}
 use Rattle.tr_console.specs.Names.{is_name}
 use Rattle.tr_console.specs.Texts.{Text}
 use Rattle.tr_console.specs.World.{World, session_named, with_session}
 use Rattle.tr_console.specs.declared.archives.NamedArchive.{NamedArchive}
 use Rattle.tr_console.specs.declared.faults.LineFault.{LineFault}
-use Rattle.tr_console.specs.declared.faults.LineFault.TheVariants.{NoSession, BadName, Session, Step}
+use Rattle.tr_console.specs.declared.faults.LineFault.TheVariants.{NoSession, BadName, Schedule, Session, Step}
+use Rattle.tr_console.specs.declared.schedules.TickTold.{TickTold}
+use Rattle.tr_console.specs.declared.schedules.TickTold.TheVariants as told
+use Rattle.tr_schedule.specs.Schedules.{ScheduleState, schedule_of}
+use Rattle.tr_schedule.specs.declared.faults.ScheduleFault.{ScheduleFault}
 use Rattle.tr_session.specs.Session.{SessionOf}
+use Rattle.tr_session.specs.declared.ticks.Ticked.{Ticked}
+use Rattle.tr_session.specs.declared.ticks.Ticked.TheVariants as ticked
+use Rattle.tr_session_book.specs.BookSteps.{after_schedule}
 use Rattle.tr_session.specs.Steps.{session_channel_added}
 use Rattle.tr_session_book.specs.declared.archive.Archive.{Archive}
 use Rattle.tr_session_book.specs.declared.faults.SessionFault.{SessionFault}
@@ -29,6 +37,32 @@ by_step (Err why) = Err (Step why)
 abbrev pub named : {S : Type 0} → SessionOf S → Result Archive SessionFault → Result NamedArchive LineFault
 named s (Ok archive) = Ok (record { archive = archive; offset = s.book.offset })
 named s (Err why) = Err (Session why)
+
+-- the schedule that a line asks for, or why there is none such: no schedule, where the line says neither
+abbrev pub as_schedule : Result ScheduleState ScheduleFault → Result (Option ScheduleState) ScheduleFault
+as_schedule (Ok schedule) = Ok (Some schedule)
+as_schedule (Err why) = Err why
+
+abbrev pub schedule_asked : Option ℕ → Option ℕ → Result (Option ScheduleState) ScheduleFault
+schedule_asked None None = Ok None
+schedule_asked None (Some size) = as_schedule (schedule_of None (Some size))
+schedule_asked (Some every) size = as_schedule (schedule_of (Some every) size)
+
+-- a schedule is set, unless the session refuses that, which comes first, or there is none such
+abbrev pub schedule_set : Result Unit SessionFault → Result (Option ScheduleState) ScheduleFault → Result (Option ScheduleState) LineFault
+schedule_set (Err why) asked = Err (Session why)
+schedule_set (Ok done) (Err why) = Err (Schedule why)
+schedule_set (Ok done) (Ok schedule) = Ok schedule
+
+abbrev pub after_asked : {S : Type 0} → Result (Option ScheduleState) ScheduleFault → SessionOf S → SessionOf S
+after_asked (Err why) s = s
+after_asked (Ok schedule) s = record s { book = after_schedule schedule s.book }
+
+-- what a tick did, with what the name of its archive needs
+abbrev pub tick_named : {S : Type 0} → SessionOf S → Result Ticked SessionFault → Result TickTold LineFault
+tick_named s (Ok ticked.Idle) = Ok told.Idle
+tick_named s (Ok (ticked.Rotated cause archive)) = Ok (told.Rotated cause (record { archive = archive; offset = s.book.offset }))
+tick_named s (Err why) = Err (Session why)
 
 -- what a call of the session of this name answers
 abbrev pub call_answer : {S R : Type 0} → Text → (SessionOf S → Result R LineFault) → World S → Result R LineFault
@@ -56,13 +90,15 @@ abbrev pub HasMemory : {R : Type 0} → Result R LineFault → Type 0
 HasMemory (Ok r) = Unit {0}
 HasMemory (Err why) = wants_memory why ≡ false
 
--- it asks for a step of a rotation or for a snapshot, or asks a question
+-- it asks for a step of a rotation, for a snapshot or for what a schedule does, or asks a question
 abbrev pub RotatesOrAsks : Asked → Type 0
 RotatesOrAsks (RotateBegin session moment) = Unit {0}
 RotatesOrAsks (RotateNext session) = Unit {0}
 RotatesOrAsks (RotateFinish session) = Unit {0}
 RotatesOrAsks (Rotate session moment) = Unit {0}
 RotatesOrAsks (Snapshot session moment) = Unit {0}
+RotatesOrAsks (asked.Schedule session every size) = Unit {0}
+RotatesOrAsks (Tick session moment) = Unit {0}
 RotatesOrAsks (Fate session stream serial) = Unit {0}
 RotatesOrAsks (Status session) = Unit {0}
 RotatesOrAsks (Archives session) = Unit {0}

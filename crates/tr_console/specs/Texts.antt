@@ -7,9 +7,13 @@ use Rattle.tr_chunk.specs.ArchiveName.{archive_name_text}
 use Rattle.tr_console.specs.Faults.{line_fault_code, line_fault_name}
 use Rattle.tr_console.specs.declared.archives.NamedArchive.{NamedArchive}
 use Rattle.tr_console.specs.declared.faults.LineFault.{LineFault}
+use Rattle.tr_console.specs.declared.schedules.TickTold.{TickTold}
+use Rattle.tr_console.specs.declared.schedules.TickTold.TheVariants as told
 use Rattle.tr_packet.specs.Packets.{Contents}
 use Rattle.tr_record.specs.Records.{Entry}
 use Rattle.tr_session_book.specs.Book.{SessionBookState}
+use Rattle.tr_schedule.specs.Due.{cause_word}
+use Rattle.tr_schedule.specs.Schedules.{ScheduleState}
 use Rattle.tr_session.specs.Session.{SessionOf}
 use Rattle.tr_session.specs.Sizes.{archive_packets, archive_bytes}
 use Rattle.tr_session_book.specs.declared.archive.Archive.{Archive}
@@ -112,6 +116,15 @@ stream_lines (s ∷ ss) = 10 ∷ (stream_line s ++ (packet_lines s.packets ++ st
 -- a snapshot: its moment, and what is shown of each stream
 abbrev pub snapshot_text : SnapshotState → Text
 snapshot_text s = codes "snapshot " ++ (decimal s.moment ++ stream_lines s.streams)
+
+-- what is said of the schedule that was set, or that there is none now
+abbrev pub schedule_text : Option ScheduleState → Text
+schedule_text None = codes "schedule off"
+schedule_text (Some schedule) = codes "schedule set"
+
+abbrev pub tick_text : TickTold → Text
+tick_text told.Idle = codes "idle"
+tick_text (told.Rotated cause named) = codes "rotated " ++ (cause_word cause ++ (32 ∷ archive_text named.offset named.archive))
 
 -- a number, right in so many places; a longer one takes the places that it needs
 abbrev pub right : ℕ → ℕ → Text

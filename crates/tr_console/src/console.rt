@@ -4,7 +4,7 @@ ghost use Rattle.std.specs.Prelude.{◌≡◌, ◌≤◌, ◌∷◌, ◌++◌, [
 ghost use Rattle.tr_command.specs.Language.{asked_of};
 ghost use Rattle.std.specs.String.{string_bytes};
 ghost use Rattle.tr_command.specs.Asked.{IsOffset, asked_by, moment_in, offset_in};
-ghost use Rattle.tr_console.specs.Answers.{answer_to, create_answer, channel_answer, thread_answer, start_answer, stop_answer, offer_answer, consume_answer, rotate_begin_answer, rotate_next_answer, rotate_finish_answer, rotate_answer, snapshot_answer, fate_answer, status_answer, archives_answer, payload_of};
+ghost use Rattle.tr_console.specs.Answers.{answer_to, create_answer, channel_answer, thread_answer, start_answer, stop_answer, offer_answer, consume_answer, rotate_begin_answer, rotate_next_answer, rotate_finish_answer, rotate_answer, snapshot_answer, schedule_answer, tick_answer, fate_answer, status_answer, archives_answer, payload_of};
 ghost use Rattle.tr_console.specs.Calls.{RotatesOrAsks};
 ghost use Rattle.tr_console.specs.Replies.{Does};
 ghost use Rattle.tr_console.specs.Script.{asked_step, text_step};
@@ -21,6 +21,7 @@ use crate::rotations::{
     archived_reply, next_reply, rotate_at, rotate_begin_at, rotate_finish_at, rotate_next_at,
     rotating_reply,
 };
+use crate::schedules::{schedule_at, schedule_reply, tick_at, tick_reply};
 use crate::sessions::{
     ChannelShape, OfferTo, Sessions, add_channel_at, add_thread_at, fate_at, mode_of, offer_at,
     shape_of, start_at, stop_at, take_at,
@@ -148,7 +149,7 @@ impl<A: Allocator + Copy> Console<A> {
         }
     }
 
-    /// Answers a command of rotations or snapshots, or a question.
+    /// Answers a command of rotations, snapshots or schedules, or a question.
     fn rotate_or_ask(&mut self, request: Request<'_>) -> Result<Reply<A>, AllocError>
         requires kind { RotatesOrAsks (asked_by request) }
         requires moment { moment_in (asked_by request) ≤ last_moment }
@@ -160,6 +161,12 @@ impl<A: Allocator + Copy> Console<A> {
             Request::RotateFinish { session } => self.rotate_finish(session),
             Request::Rotate { session, moment } => self.rotate(session, moment),
             Request::Snapshot { session, moment } => self.snapshot(session, moment),
+            Request::Schedule {
+                session,
+                every,
+                size,
+            } => self.schedule(session, every, size),
+            Request::Tick { session, moment } => self.tick(session, moment),
             Request::Fate {
                 session,
                 stream,
@@ -333,6 +340,31 @@ impl<A: Allocator + Copy> Console<A> {
         };
         let answer = snapshot_at(&mut self.sessions, session, moment);
         snapshot_reply(self.alloc, answer)
+    }
+
+    /// `schedule`
+    fn schedule(
+        &mut self,
+        session: &str,
+        every: Option<u64>,
+        size: Option<u64>,
+    ) -> Result<Reply<A>, AllocError>
+        ensures { IfOk result (Does (schedule_answer self.old session.now every size) self.new) }
+    {
+        let answer = schedule_at(&mut self.sessions, session, every, size);
+        schedule_reply(self.alloc, answer)
+    }
+
+    /// `tick`
+    fn tick(&mut self, session: &str, moment: u64) -> Result<Reply<A>, AllocError>
+        requires { moment ≤ last_moment }
+        ensures { IfOk result (Does (tick_answer by_state self.old session.now moment) self.new) }
+    {
+        let Some(moment) = Moment::new(moment) else {
+            unreachable!()
+        };
+        let answer = tick_at(&mut self.sessions, session, moment);
+        tick_reply(self.alloc, answer)
     }
 
     /// `fate`

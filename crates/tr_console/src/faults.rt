@@ -4,6 +4,7 @@ ghost use Rattle.std.specs.Prelude.{◌≡◌};
 ghost use Rattle.tr_console.specs.Faults.{line_fault_code, line_fault_name, wants_memory};
 
 use thiserror::Error;
+use tr_schedule::ScheduleFault;
 use tr_session::StepFault;
 use tr_session_book::SessionFault;
 
@@ -19,6 +20,9 @@ pub enum LineFault {
     /// What is to be created can't have this name.
     #[error("K3 BadName")]
     BadName,
+    /// There is no such schedule.
+    #[error("{0}")]
+    Schedule(ScheduleFault),
     /// By the session, or by the console in a session's words.
     #[error("{0}")]
     Session(SessionFault),
@@ -36,6 +40,7 @@ impl LineFault {
             LineFault::NoSession => "K1",
             LineFault::BadUuid => "K2",
             LineFault::BadName => "K3",
+            LineFault::Schedule(fault) => fault.code(),
             LineFault::Session(fault) => fault.code(),
             LineFault::Step(fault) => fault.code(),
         }
@@ -49,6 +54,7 @@ impl LineFault {
             LineFault::NoSession => "NoSession",
             LineFault::BadUuid => "BadUuid",
             LineFault::BadName => "BadName",
+            LineFault::Schedule(fault) => fault.name(),
             LineFault::Session(fault) => fault.name(),
             LineFault::Step(fault) => fault.name(),
         }

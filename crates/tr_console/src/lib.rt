@@ -8,6 +8,7 @@ mod faults;
 mod names;
 mod replies;
 mod rotations;
+mod schedules;
 mod script;
 mod script_fault;
 mod sessions;

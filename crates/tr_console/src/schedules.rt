@@ -1,0 +1,165 @@
+//! Schedules and ticks of the session of a name, and what is answered to them.
+
+ghost use Rattle.std.specs.Prelude.{◌≡◌, ◌∷◌, ◌++◌, [], IfOk, OnOk, is_err};
+ghost use Rattle.std.specs.String.{string_bytes};
+ghost use Rattle.tr_console.specs.Calls.{HasMemory, after_asked, after_call, call_answer, schedule_asked, schedule_set, tick_named};
+ghost use Rattle.tr_console.specs.Texts.{line_of, schedule_text, tick_text};
+ghost use Rattle.tr_session.specs.Steps.{after_tick, tick_answer};
+ghost use Rattle.tr_session_book.specs.BookSteps.{schedule_answer};
+ghost use Rattle.tr_session_book.specs.Names.{by_name};
+ghost use Rattle.tr_stream.specs.Rules.{by_state};
+
+use crate::archives::NamedArchive;
+use crate::faults::LineFault;
+use crate::replies::{Reply, refusal};
+use crate::sessions::Sessions;
+use std::alloc::{AllocError, Allocator};
+use tr_chunk::archive_name;
+use tr_record::Moment;
+use tr_schedule::{Cause, Schedule, ScheduleFault};
+use tr_session::{Session, Ticked};
+use tr_session_book::SessionFault;
+use tr_stream::SessionMode;
+
+/// What a tick did, as its answer tells it.
+#[derive(Clone, Copy, Debug, PartialEq, Eq)]
+pub enum TickTold {
+    /// Nothing.
+    Idle,
+    /// It rotated the session.
+    Rotated {
+        /// Why that was due.
+        cause: Cause,
+        /// The archive that the rotation made.
+        named: NamedArchive,
+    },
+}
+
+/// The schedule that a line asks for: none where it says neither.
+fn schedule_for(every: Option<u64>, size: Option<u64>) -> Result<Option<Schedule>, ScheduleFault>
+    ensures { result ≡ schedule_asked every size }
+{
+    if every.is_none() && size.is_none() {
+        return Ok(None);
+    }
+    match Schedule::new(every, size) {
+        Ok(schedule) => Ok(Some(schedule)),
+        Err(fault) => Err(fault),
+    }
+}
+
+/// Sets the schedule of a session. Where there is none such, the session may refuse it first.
+fn set_schedule<A: Allocator>(
+    session: &mut Session<A>,
+    asked: Result<Option<Schedule>, ScheduleFault>,
+) -> Result<Option<Schedule>, LineFault>
+    ensures answer { result ≡ schedule_set (schedule_answer session.old.book) asked }
+    ensures after { session.new ≡ after_asked asked session.old }
+{
+    match asked {
+        Ok(schedule) => match session.set_schedule(schedule) {
+            Ok(()) => Ok(session.book().schedule()),
+            Err(fault) => Err(LineFault::Session(fault)),
+        },
+        Err(fault) => match session.book().mode() {
+            SessionMode::Local => Err(LineFault::Schedule(fault)),
+            SessionMode::Snapshot => Err(LineFault::Session(SessionFault::SnapshotMode)),
+        },
+    }
+}
+
+/// Sets the schedule of the session of a name.
+pub fn schedule_at<A: Allocator>(
+    sessions: &mut Sessions<A>,
+    session: &str,
+    every: Option<u64>,
+    size: Option<u64>,
+) -> Result<Option<Schedule>, LineFault>
+    ensures { HasMemory result →
+        (result ≡ call_answer session.now (λ s. schedule_set (schedule_answer s.book) (schedule_asked every size)) (by_name sessions.old.entries))
+        × (by_name sessions.new.entries ≡ after_call session.now (after_asked (schedule_asked every size)) (by_name sessions.old.entries)) }
+{
+    let asked = schedule_for(every, size);
+    let Some(found) = sessions.get_mut(session) else {
+        return Err(LineFault::NoSession);
+    };
+    set_schedule(found, asked)
+}
+
+/// Ticks a session.
+fn tick<A: Allocator + Copy>(
+    session: &mut Session<A>,
+    moment: Moment,
+) -> Result<TickTold, LineFault>
+    ensures { HasMemory result →
+        (result ≡ tick_named session.old (tick_answer by_state moment session.old)) × (session.new ≡ after_tick by_state moment session.old) }
+{
+    let offset = session.book().offset();
+    match session.tick(moment) {
+        Ok(Ticked::Idle) => Ok(TickTold::Idle),
+        Ok(Ticked::Rotated { cause, archive }) => {
+            let named = NamedArchive { archive, offset };
+            Ok(TickTold::Rotated { cause, named })
+        }
+        Err(fault) => Err(LineFault::Session(fault)),
+    }
+}
+
+/// Ticks the session of a name.
+pub fn tick_at<A: Allocator + Copy>(
+    sessions: &mut Sessions<A>,
+    session: &str,
+    moment: Moment,
+) -> Result<TickTold, LineFault>
+    ensures { HasMemory result →
+        (result ≡ call_answer session.now (λ s. tick_named s (tick_answer by_state moment s)) (by_name sessions.old.entries))
+        × (by_name sessions.new.entries ≡ after_call session.now (after_tick by_state moment) (by_name sessions.old.entries)) }
+{
+    let Some(found) = sessions.get_mut(session) else {
+        return Err(LineFault::NoSession);
+    };
+    tick(found, moment)
+}
+
+/// The answer to a schedule. Where memory was refused there is none.
+pub fn schedule_reply<A: Allocator + Copy>(
+    alloc: A,
+    answer: Result<Option<Schedule>, LineFault>,
+) -> Result<Reply<A>, AllocError>
+    ensures text { IfOk result (λ r. string_bytes r.text ≡ line_of schedule_text answer ++ 10 ∷ []) }
+    ensures refused { IfOk result (λ r. r.is_refused ≡ is_err answer) }
+    ensures memory { OnOk result (HasMemory answer) }
+{
+    let text = match answer {
+        Ok(Some(_)) => String::from_str(alloc, "schedule set\n")?,
+        Ok(None) => String::from_str(alloc, "schedule off\n")?,
+        Err(fault) => return refusal(alloc, fault),
+    };
+    Ok(Reply::done(text))
+}
+
+/// The answer to a tick. Where memory was refused there is none.
+pub fn tick_reply<A: Allocator + Copy>(
+    alloc: A,
+    answer: Result<TickTold, LineFault>,
+) -> Result<Reply<A>, AllocError>
+    ensures text { IfOk result (λ r. string_bytes r.text ≡ line_of tick_text answer ++ 10 ∷ []) }
+    ensures refused { IfOk result (λ r. r.is_refused ≡ is_err answer) }
+    ensures memory { OnOk result (HasMemory answer) }
+{
+    match answer {
+        Ok(TickTold::Idle) => {
+            let text = String::from_str(alloc, "idle\n")?;
+            Ok(Reply::done(text))
+        }
+        Ok(TickTold::Rotated { cause, named }) => {
+            let NamedArchive { archive, offset } = named;
+            let id = archive.id;
+            let name = archive_name(alloc, archive.begin, archive.end, offset, id)?;
+            let cause = cause.word();
+            let text = format!(in alloc; "rotated {cause} {id} {name}\n")?;
+            Ok(Reply::done(text))
+        }
+        Err(fault) => refusal(alloc, fault),
+    }
+}
