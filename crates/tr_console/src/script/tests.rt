@@ -5,6 +5,7 @@ mod lines;
 mod rotations;
 mod runs;
 mod sessions;
+mod snapshots;
 
 use crate::{ScriptFault, run_script, run_text};
 use std::alloc::Global;
@@ -71,6 +72,17 @@ stored 4 in 2 over 0 2
 stored 5 in 2
 ";
 
+/// A snapshot session with one stream, not started.
+pub const SHOWN: &str = "create z 00000000-0000-0000-0000-000000000001 --snapshot
+channel z c 256 2 overwrite
+thread z c
+";
+
+pub const SHOWN_ANSWERS: &str = "created z
+channel c
+stream 0
+";
+
 /// The texts, one after another.
 pub fn joined(alloc: Global, texts: &[&str]) -> Result<Vec<u8>, ScriptFault> {
     let mut all = Vec::new(alloc);
@@ -107,6 +119,18 @@ pub fn goes_on(
 ) -> Result<bool, ScriptFault> {
     let script = joined(alloc, &[OPENING, lines])?;
     let text = joined(alloc, &[OPENED, answer])?;
+    is_answered(alloc, script.as_slice(), text.as_slice(), refused)
+}
+
+/// The same of lines where a snapshot session has one stream and isn't started.
+pub fn goes_on_shown(
+    alloc: Global,
+    lines: &str,
+    answer: &str,
+    refused: u64,
+) -> Result<bool, ScriptFault> {
+    let script = joined(alloc, &[SHOWN, lines])?;
+    let text = joined(alloc, &[SHOWN_ANSWERS, answer])?;
     is_answered(alloc, script.as_slice(), text.as_slice(), refused)
 }
 
