@@ -20,6 +20,9 @@ use tr_schedule::Schedule;
 use tr_stream::SessionMode;
 use uuid::Uuid;
 
+#[cfg(test)]
+mod tests;
+
 /// How many channels a session has at most.
 const MOST_CHANNELS: usize = 8;
 

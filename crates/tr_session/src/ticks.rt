@@ -12,6 +12,9 @@ use std::alloc::Allocator;
 use tr_record::Moment;
 use tr_schedule::Cause;
 
+#[cfg(test)]
+mod tests;
+
 /// What a tick did.
 #[derive(Clone, Copy, Debug, PartialEq, Eq)]
 pub enum Ticked {

@@ -5,6 +5,7 @@ use std::test::Fail;
 use tr_book::Mode;
 use tr_chunk::OffsetMinutes;
 use tr_record::Moment;
+use tr_snapshot::{count, oldest_serial};
 use tr_stream::{CutDone, Fate, Offered, Payload, SessionMode, Taken};
 use uuid::Uuid;
 
@@ -29,6 +30,16 @@ fn config(alloc: Global, size: u64, threads: u64) -> Result<Config, Fail> {
         mode: SessionMode::Local,
         channels,
     })
+}
+
+/// The same of a snapshot session, with one thread.
+fn snapshot_config(alloc: Global) -> Result<Config, Fail> {
+    let mut config = config(alloc, 256, 1)?;
+    config.mode = SessionMode::Snapshot;
+    for channel in config.channels.iter_mut() {
+        channel.mode = Mode::Overwrite;
+    }
+    Ok(config)
 }
 
 /// An offer of 50 bytes: two of them fit a sub-buffer of 256 bytes, and no third.
@@ -208,18 +219,77 @@ fn a_rotation_ends(rt: HostRuntime) -> Result<(), Fail> {
     events.push(Event::Start(0))?;
     events.push(Event::Stop(1))?;
     let (session, answers) = run_session(rt.alloc(), &config, events.as_slice())?;
-    let archive = archive(10)?;
     let wanted = [
         cut(1, 1),
         Answer::Cut(Err(StepFault::Session(SessionFault::NoStream))),
-        Answer::RotateFinish(Ok(archive)),
+        Answer::RotateFinish(Ok(archive(10)?)),
         Answer::SessionStop(Ok(())),
         Answer::Start(Err(SessionFault::NotActive)),
         Answer::Stop(Ok(())),
     ];
     let answers = answers.as_slice().get(7..).ok_or("answers")?;
     assert_eq!(rt; first_difference(answers, wanted.as_slice()), None);
-    assert_eq!(rt; session.book().archives(), [archive].as_slice());
+    assert_eq!(rt; session.book().archives(), [archive(10)?].as_slice());
+    Ok(())
+}
+
+/// What an answer shows of the first stream: its offers, its losses, the oldest serial, and how many records.
+fn shown(answer: Option<&Answer>) -> Option<(u64, u64, Option<u64>, u64)> {
+    match answer? {
+        Answer::Snap(Ok(snap)) if snap.stream() == 0 => {
+            Some((
+                snap.offered(),
+                snap.lost(),
+                oldest_serial(snap),
+                count(snap),
+            ))
+        }
+        _ => None,
+    }
+}
+
+/// Why a look was refused.
+fn refused(answer: Option<&Answer>) -> Option<SessionFault> {
+    match answer? {
+        Answer::Snap(Err(fault)) => Some(*fault),
+        _ => None,
+    }
+}
+
+#[test]
+fn a_stream_is_seen_twice(rt: HostRuntime) -> Result<(), Fail> {
+    let config = snapshot_config(rt.alloc())?;
+    let mut events = Vec::new(rt.alloc());
+    events.push(Event::SessionStart(moment(0)?))?;
+    events.push(Event::Start(0))?;
+    for at in 1..7 {
+        events.push(offer(rt.alloc(), 0, at)?)?;
+    }
+    events.push(Event::Snap(0, moment(10)?))?;
+    events.push(offer(rt.alloc(), 0, 11)?)?;
+    events.push(Event::Snap(0, moment(12)?))?;
+    let (session, answers) = run_session(rt.alloc(), &config, events.as_slice())?;
+    let answers = answers.as_slice();
+    assert_eq!(rt; shown(answers.get(8)), Some((6, 0, Some(2), 4)));
+    assert_eq!(rt; shown(answers.get(10)), Some((7, 0, Some(4), 3)));
+    assert_eq!(rt; session.book().last().get(), 0);
+    Ok(())
+}
+
+#[test]
+fn looks_that_are_refused(rt: HostRuntime) -> Result<(), Fail> {
+    let config = snapshot_config(rt.alloc())?;
+    let events = vec![in rt.alloc();
+        Event::Snap(0, moment(5)?),
+        Event::SessionStart(moment(0)?),
+        Event::Snap(1, moment(5)?),
+        Event::Snap(0, moment(5)?),
+    ]?;
+    let (_, answers) = run_session(rt.alloc(), &config, events.as_slice())?;
+    let answers = answers.as_slice();
+    assert_eq!(rt; refused(answers.get(0)), Some(SessionFault::NeverStarted));
+    assert_eq!(rt; refused(answers.get(2)), Some(SessionFault::NoStream));
+    assert_eq!(rt; shown(answers.get(3)), Some((0, 0, None, 0)));
     Ok(())
 }
 
