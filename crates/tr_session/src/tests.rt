@@ -5,6 +5,7 @@ use std::test::Fail;
 use tr_book::Mode;
 use tr_chunk::OffsetMinutes;
 use tr_record::Moment;
+use tr_session_book::{SessionFault, State};
 use tr_stream::{CutFault, Fate, OfferFault, Offered, SessionMode, TakeFault, Taken};
 use uuid::Uuid;
 
@@ -209,12 +210,15 @@ fn streams_are_refused_in_order(rt: HostRuntime) -> Result<(), Fail> {
 #[test]
 fn faults_are_printed_by_code_and_name(rt: HostRuntime) -> Result<(), Fail> {
     let wanted = [
+        (SessionFault::SnapshotMode, "S1 SnapshotMode"),
+        (SessionFault::NotSnapshotMode, "S2 NotSnapshotMode"),
         (SessionFault::NeverStarted, "S3 NeverStarted"),
         (SessionFault::RotationPending, "S4 RotationPending"),
         (SessionFault::AlreadyRotated, "S5 AlreadyRotated"),
         (SessionFault::AlreadyActive, "S6 AlreadyActive"),
         (SessionFault::NotActive, "S7 NotActive"),
         (SessionFault::NoStream, "S8 NoStream"),
+        (SessionFault::DiscardInSnapshot, "S9 DiscardInSnapshot"),
         (SessionFault::AlreadyStarted, "S10 AlreadyStarted"),
         (SessionFault::BadGeometry, "S11 BadGeometry"),
         (SessionFault::TooMany, "S12 TooMany"),

@@ -7,6 +7,8 @@ mod book;
 mod channel;
 mod faults;
 mod state;
+#[cfg(test)]
+mod tests;
 
 pub use archive::{Archive, Pending};
 pub use book::SessionBook;

@@ -4,6 +4,7 @@ use std::test::Fail;
 use tr_book::Mode;
 use tr_chunk::OffsetMinutes;
 use tr_record::Moment;
+use tr_session_book::{Archive, SessionFault};
 use tr_stream::{CutDone, Fate, OfferFault, Offered, SessionMode, Taken};
 use uuid::Uuid;
 
@@ -220,19 +221,5 @@ fn the_book_tells_each_stream_s_channel(rt: HostRuntime) -> Result<(), Fail> {
     assert_eq!(rt; session.book().channel_of(0), Some("d"));
     assert_eq!(rt; session.book().channel_of(1), Some("c"));
     assert_eq!(rt; session.book().channel_of(2), None);
-    Ok(())
-}
-
-#[test]
-fn a_book_alone_notes_a_rotation(rt: HostRuntime) -> Result<(), Fail> {
-    let offset = OffsetMinutes::new(60).ok_or("an offset")?;
-    let mut book = SessionBook::new(rt.alloc(), Uuid::nil(), offset, SessionMode::Local);
-    book.add_channel("c", 256, 2, Mode::Discard)?;
-    assert_eq!(rt; book.add_thread("c")?, 0);
-    book.start(moment(1)?)?;
-    assert_eq!(rt; book.rotate_begin(moment(2)?), Ok(0));
-    assert_eq!(rt; book.note_cut(0), Ok(()));
-    assert_eq!(rt; book.note_cut(0), Err(SessionFault::NotPending));
-    assert_eq!(rt; book.rotate_finish(), Ok(archive(0, 1, 2)?));
     Ok(())
 }
