@@ -1,48 +1,11 @@
 //! Worked examples: a stream of sub-buffers of 256 bytes, two to a ring.
 
 use crate::answers::{CutDone, CutFault, OfferFault, Offered, TakeFault, Taken};
-use crate::config::{SessionMode, StreamConfig};
 use crate::fate::Fate;
-use crate::stream::Stream;
-use std::alloc::{AllocError, Global};
+use crate::worked::{PacketRow, at, is_row, small_stream, stored};
 use std::test::Fail;
-use tr_book::{Counts, Geometry, Mode};
+use tr_book::{Counts, Mode};
 use tr_packet::Packet;
-use tr_record::Moment;
-use uuid::Uuid;
-
-pub fn small(mode: Mode) -> StreamConfig {
-    let Ok(geometry) = Geometry::new(256, 2) else {
-        unreachable!()
-    };
-    StreamConfig {
-        uuid: Uuid::from_u128(1),
-        number: 0,
-        geometry,
-        mode,
-        session: SessionMode::Local,
-    }
-}
-
-pub fn small_stream(alloc: Global, mode: Mode) -> Result<Stream, AllocError> {
-    let config = small(mode);
-    Stream::new(
-        alloc,
-        config.uuid,
-        config.number,
-        config.geometry,
-        config.mode,
-        config.session,
-    )
-}
-
-pub fn at(nanoseconds: u64) -> Moment {
-    Moment::new(nanoseconds).unwrap_or(Moment::zero())
-}
-
-pub fn stored(serial: u64, seq: u64) -> Result<Offered, OfferFault> {
-    Ok(Offered::Stored { serial, seq })
-}
 
 #[test]
 fn a_record_fills_a_sub_buffer(rt: HostRuntime) -> Result<(), Fail> {
@@ -117,32 +80,21 @@ fn a_take_makes_a_packet_of_the_current_part(rt: HostRuntime) -> Result<(), Fail
         })
     );
     assert!(rt; stream.part(1).is_none());
-    let Some(part) = stream.part(0) else {
-        assert!(rt; false);
-        return Ok(());
-    };
-    assert_eq!(rt; part.id(), 0);
-    assert_eq!(rt; part.bytes(), 204);
+    let part = stream.part(0).ok_or("a part")?;
+    assert_eq!(rt; (part.id(), part.bytes()), (0, 204));
     assert_eq!(rt; part.records(), 1);
     let [packet] = part.packets() else {
-        assert!(rt; false);
-        return Ok(());
+        panic!(rt; "one packet")
     };
-    let head = packet.head();
-    assert_eq!(rt; head.uuid, Uuid::from_u128(1));
-    assert_eq!(rt; head.stream, 0);
-    assert_eq!(rt; head.begin.get(), 3);
     // The second record's own moment was before the first one's.
-    assert_eq!(rt; head.end.get(), 3);
-    assert_eq!(rt; head.seq, 0);
-    assert_eq!(rt; head.lost, 0);
-    let [only] = packet.records() else {
-        assert!(rt; false);
-        return Ok(());
+    let row = PacketRow {
+        seq: 0,
+        lost: 0,
+        begin: 3,
+        end: 3,
+        records: &[(0, 3, 100)],
     };
-    assert_eq!(rt; only.serial(), 0);
-    assert_eq!(rt; only.id(), 7);
-    assert_eq!(rt; only.payload(), [97; 100].as_slice());
+    assert!(rt; is_row(packet, &row));
     Ok(())
 }
 
