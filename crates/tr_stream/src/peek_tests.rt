@@ -1,9 +1,9 @@
 //! Looks at a stream, worked by hand: sub-buffers of 256 bytes, two to a ring.
 
-use crate::answers::{CutFault, OfferFault, Offered, TakeFault};
+use crate::answers::{CutFault, TakeFault};
 use crate::config::SessionMode;
 use crate::stream::Stream;
-use crate::worked::{PacketRow, at, is_look, small, small_stream, stored};
+use crate::worked::{PacketRow, at, is_look, small, small_stream, stored, stored_over};
 use std::alloc::{AllocError, Global};
 use std::test::Fail;
 use tr_book::{Counts, Mode};
@@ -65,16 +65,6 @@ fn packet_2(end: u64) -> PacketRow {
         end,
         records: &[(4, 5, 64), (5, 6, 64)],
     }
-}
-
-/// The answer to an offer that goes over two records.
-fn stored_over(serial: u64, seq: u64, gone_seq: u64) -> Result<Offered, OfferFault> {
-    Ok(Offered::StoredOver {
-        serial,
-        seq,
-        gone_seq,
-        gone_count: 2,
-    })
 }
 
 #[test]

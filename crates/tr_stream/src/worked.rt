@@ -46,6 +46,16 @@ pub fn stored(serial: u64, seq: u64) -> Result<Offered, OfferFault> {
     Ok(Offered::Stored { serial, seq })
 }
 
+/// The answer to an offer that goes over two records.
+pub fn stored_over(serial: u64, seq: u64, gone_seq: u64) -> Result<Offered, OfferFault> {
+    Ok(Offered::StoredOver {
+        serial,
+        seq,
+        gone_seq,
+        gone_count: 2,
+    })
+}
+
 /// A packet of stream 0 as a test expects it: each record of it has id 7, and a payload of so many bytes, all 97.
 #[derive(Clone, Copy)]
 pub struct PacketRow {
