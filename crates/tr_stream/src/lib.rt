@@ -27,3 +27,5 @@ mod peek_tests;
 mod run_tests;
 #[cfg(test)]
 mod tests;
+#[cfg(test)]
+mod worked;

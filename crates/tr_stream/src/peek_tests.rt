@@ -1,65 +1,14 @@
 //! Looks at a stream, worked by hand: sub-buffers of 256 bytes, two to a ring.
 
-use crate::answers::{CutFault, Offered, TakeFault};
+use crate::answers::{CutFault, TakeFault};
 use crate::config::SessionMode;
 use crate::stream::Stream;
-use crate::tests::{at, small, small_stream, stored};
+use crate::worked::{PacketRow, at, is_look, small, small_stream, stored, stored_over};
 use std::alloc::{AllocError, Global};
 use std::test::Fail;
-use tr_book::{Counts, Mode, StreamSnap};
-use tr_packet::{Head, Packet, decode_packet, encode_packet};
+use tr_book::{Counts, Mode};
+use tr_packet::{Packet, PacketView, decode_packet, encode_packet};
 use tr_record::{Rec, RecView};
-use uuid::Uuid;
-
-/// A packet of stream 0 as a test expects it: each record of it has id 7, and a payload of so many bytes, all 97.
-#[derive(Clone, Copy)]
-pub struct PacketRow {
-    pub seq: u64,
-    pub lost: u64,
-    pub begin: u64,
-    pub end: u64,
-    /// The serial, the moment and the length of each record.
-    pub records: &'static [(u64, u64, usize)],
-}
-
-/// Whether a record has this serial, this moment, id 7 and a payload of so many bytes, all 97.
-fn is_record(record: &Rec, (serial, moment, len): (u64, u64, usize)) -> bool {
-    record.serial() == serial
-        && record.moment().get() == moment
-        && record.id() == 7
-        && record.payload().len() == len
-        && record.payload().iter().all(|byte| *byte == 97)
-}
-
-/// Whether a packet is this one in its whole head and in each record.
-fn is_row(packet: &Packet, row: &PacketRow) -> bool {
-    let head = Head {
-        uuid: Uuid::from_u128(1),
-        stream: 0,
-        begin: at(row.begin),
-        end: at(row.end),
-        seq: row.seq,
-        lost: row.lost,
-    };
-    let records = packet.records();
-    packet.head() == head
-        && records.len() == row.records.len()
-        && records
-            .iter()
-            .zip(row.records.iter())
-            .all(|(record, wanted)| is_record(record, *wanted))
-}
-
-/// Whether a look at stream 0 shows so many offers and losses, and these packets.
-pub fn is_look(snap: &StreamSnap, offered: u64, lost: u64, rows: &[PacketRow]) -> bool {
-    let packets = snap.packets();
-    (snap.stream(), snap.offered(), snap.lost()) == (0, offered, lost)
-        && packets.len() == rows.len()
-        && packets
-            .iter()
-            .zip(rows.iter())
-            .all(|(packet, row)| is_row(packet, row))
-}
 
 /// A stream of a snapshot session that takes offers.
 fn snapshot_stream(alloc: Global) -> Result<Stream, AllocError> {
@@ -121,24 +70,18 @@ fn packet_2(end: u64) -> PacketRow {
 #[test]
 fn offers_in_a_snapshot_session(rt: HostRuntime) -> Result<(), Fail> {
     let mut stream = snapshot_stream(rt.alloc())?;
-    let over = Offered::StoredOver {
-        serial: 4,
-        seq: 2,
-        gone_seq: 0,
-        gone_count: 2,
-    };
-    let told = [
-        stored(0, 0),
-        stored(1, 0),
-        stored(2, 1),
-        stored(3, 1),
-        Ok(over),
-        stored(5, 2),
+    let rows = [
+        (1, stored(0, 0)),
+        (2, stored(1, 0)),
+        (3, stored(2, 1)),
+        (4, stored(3, 1)),
+        (5, stored_over(4, 2, 0)),
+        (6, stored(5, 2)),
+        (11, stored_over(6, 3, 1)),
     ];
-    for (answer, moment) in told.iter().zip(1..7) {
-        assert_eq!(rt; stream.offer(at(moment), 7, &[97; 64]), *answer);
+    for (moment, answer) in rows {
+        assert_eq!(rt; stream.offer(at(moment), 7, &[97; 64]), answer);
     }
-    assert_eq!(rt; stream.counts(), SIX_OFFERED);
     Ok(())
 }
 
@@ -168,26 +111,27 @@ fn a_look_shows_the_ring_and_changes_nothing(rt: HostRuntime) -> Result<(), Fail
     Ok(())
 }
 
-#[test]
-fn a_later_look_shows_later_packets(rt: HostRuntime) -> Result<(), Fail> {
-    let mut stream = filled_stream(rt.alloc())?;
-    let over = Offered::StoredOver {
-        serial: 6,
-        seq: 3,
-        gone_seq: 1,
-        gone_count: 2,
-    };
-    assert_eq!(rt; stream.offer(at(11), 7, &[97; 64]), Ok(over));
-    let packet_3 = |end| PacketRow {
+/// Packet 3 of that stream, which the offer at 11 began, with this end.
+fn packet_3(end: u64) -> PacketRow {
+    PacketRow {
         seq: 3,
         lost: 0,
         begin: 11,
         end,
         records: &[(6, 11, 64)],
-    };
-    assert!(rt; is_look(&stream.peek(at(12))?, 7, 0, &[packet_2(11), packet_3(12)]));
+    }
+}
+
+#[test]
+fn a_later_look_shows_later_packets(rt: HostRuntime) -> Result<(), Fail> {
+    let mut stream = filled_stream(rt.alloc())?;
+    let _ = stream.offer(at(11), 7, &[97; 64]);
     // A look before the last moment that was stored is at that moment.
-    assert!(rt; is_look(&stream.peek(at(3))?, 7, 0, &[packet_2(11), packet_3(11)]));
+    for (moment, end) in [(12, 12), (3, 11)] {
+        let snap = stream.peek(at(moment))?;
+        let rows = [packet_2(11), packet_3(end)];
+        assert!(rt; is_look(&snap, 7, 0, &rows), "at {moment}");
+    }
     Ok(())
 }
 
@@ -226,19 +170,27 @@ fn is_read(view: &RecView<'_>, record: &Rec) -> bool {
         && view.payload() == record.payload()
 }
 
+/// Whether two packets are the same, one of them read from bytes.
+fn is_packet_read(view: &PacketView<'_>, packet: &Packet) -> bool {
+    let records = packet.records();
+    view.head() == packet.head()
+        && view.count() == records.len()
+        && view
+            .records()
+            .zip(records.iter())
+            .all(|(view, record)| is_read(&view, record))
+}
+
 #[test]
 fn packets_of_a_look_are_read_as_they_are(rt: HostRuntime) -> Result<(), Fail> {
     let stream = filled_stream(rt.alloc())?;
     let snap = stream.peek(at(10))?;
+    assert!(rt; snap.packets().len() == 2);
     for packet in snap.packets() {
         let bytes = encode_packet(rt.alloc(), packet)?;
-        let (read, size) = decode_packet(&bytes)?;
+        let (view, size) = decode_packet(&bytes)?;
         assert_eq!(rt; (bytes.len(), size), (256, 256));
-        assert_eq!(rt; read.head(), packet.head());
-        assert_eq!(rt; read.count(), packet.records().len());
-        for (view, record) in read.records().zip(packet.records().iter()) {
-            assert!(rt; is_read(&view, record), "record {}", record.serial());
-        }
+        assert!(rt; is_packet_read(&view, packet));
     }
     Ok(())
 }

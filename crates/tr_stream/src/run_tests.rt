@@ -3,9 +3,8 @@
 use crate::answers::{CutDone, CutFault, OfferFault, Offered, TakeFault, Taken};
 use crate::events::{StreamAnswer, StreamEvent};
 use crate::payload::Payload;
-use crate::peek_tests::{PacketRow, is_look};
 use crate::run::run_stream;
-use crate::tests::{at, small, stored};
+use crate::worked::{PacketRow, at, is_look, small, stored};
 use std::alloc::{AllocError, Global};
 use std::test::Fail;
 use tr_book::Mode;

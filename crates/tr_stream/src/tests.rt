@@ -1,48 +1,11 @@
 //! Worked examples: a stream of sub-buffers of 256 bytes, two to a ring.
 
 use crate::answers::{CutDone, CutFault, OfferFault, Offered, TakeFault, Taken};
-use crate::config::{SessionMode, StreamConfig};
 use crate::fate::Fate;
-use crate::stream::Stream;
-use std::alloc::{AllocError, Global};
+use crate::worked::{PacketRow, at, is_row, small_stream, stored, stored_over};
 use std::test::Fail;
-use tr_book::{Counts, Geometry, Mode};
+use tr_book::{Counts, Mode};
 use tr_packet::Packet;
-use tr_record::Moment;
-use uuid::Uuid;
-
-pub fn small(mode: Mode) -> StreamConfig {
-    let Ok(geometry) = Geometry::new(256, 2) else {
-        unreachable!()
-    };
-    StreamConfig {
-        uuid: Uuid::from_u128(1),
-        number: 0,
-        geometry,
-        mode,
-        session: SessionMode::Local,
-    }
-}
-
-pub fn small_stream(alloc: Global, mode: Mode) -> Result<Stream, AllocError> {
-    let config = small(mode);
-    Stream::new(
-        alloc,
-        config.uuid,
-        config.number,
-        config.geometry,
-        config.mode,
-        config.session,
-    )
-}
-
-pub fn at(nanoseconds: u64) -> Moment {
-    Moment::new(nanoseconds).unwrap_or(Moment::zero())
-}
-
-pub fn stored(serial: u64, seq: u64) -> Result<Offered, OfferFault> {
-    Ok(Offered::Stored { serial, seq })
-}
 
 #[test]
 fn a_record_fills_a_sub_buffer(rt: HostRuntime) -> Result<(), Fail> {
@@ -64,15 +27,16 @@ fn a_record_fills_a_sub_buffer(rt: HostRuntime) -> Result<(), Fail> {
 fn a_longer_record_is_discarded_and_a_shorter_one_is_stored(rt: HostRuntime) -> Result<(), Fail> {
     let mut stream = small_stream(rt.alloc(), Mode::Discard)?;
     stream.set_active(true);
-    let long = [97; 50];
-    assert_eq!(rt; stream.offer(at(1), 7, &long), stored(0, 0));
-    assert_eq!(rt; stream.offer(at(2), 7, &long), stored(1, 0));
-    assert_eq!(rt; stream.offer(at(3), 7, &long), stored(2, 1));
-    assert_eq!(rt; stream.offer(at(4), 7, &long), stored(3, 1));
-    assert_eq!(rt;
-        stream.offer(at(5), 7, &long),
-        Ok(Offered::Discarded { serial: 4 })
-    );
+    let rows = [
+        (1, stored(0, 0)),
+        (2, stored(1, 0)),
+        (3, stored(2, 1)),
+        (4, stored(3, 1)),
+        (5, Ok(Offered::Discarded { serial: 4 })),
+    ];
+    for (moment, answer) in rows {
+        assert_eq!(rt; stream.offer(at(moment), 7, &[97; 50]), answer);
+    }
     assert_eq!(rt; stream.offer(at(6), 7, &[97; 4]), stored(5, 1));
     assert_eq!(rt;
         stream.take(),
@@ -117,32 +81,21 @@ fn a_take_makes_a_packet_of_the_current_part(rt: HostRuntime) -> Result<(), Fail
         })
     );
     assert!(rt; stream.part(1).is_none());
-    let Some(part) = stream.part(0) else {
-        assert!(rt; false);
-        return Ok(());
-    };
-    assert_eq!(rt; part.id(), 0);
-    assert_eq!(rt; part.bytes(), 204);
+    let part = stream.part(0).ok_or("a part")?;
+    assert_eq!(rt; (part.id(), part.bytes()), (0, 204));
     assert_eq!(rt; part.records(), 1);
     let [packet] = part.packets() else {
-        assert!(rt; false);
-        return Ok(());
+        panic!(rt; "one packet")
     };
-    let head = packet.head();
-    assert_eq!(rt; head.uuid, Uuid::from_u128(1));
-    assert_eq!(rt; head.stream, 0);
-    assert_eq!(rt; head.begin.get(), 3);
     // The second record's own moment was before the first one's.
-    assert_eq!(rt; head.end.get(), 3);
-    assert_eq!(rt; head.seq, 0);
-    assert_eq!(rt; head.lost, 0);
-    let [only] = packet.records() else {
-        assert!(rt; false);
-        return Ok(());
+    let row = PacketRow {
+        seq: 0,
+        lost: 0,
+        begin: 3,
+        end: 3,
+        records: &[(0, 3, 100)],
     };
-    assert_eq!(rt; only.serial(), 0);
-    assert_eq!(rt; only.id(), 7);
-    assert_eq!(rt; only.payload(), [97; 100].as_slice());
+    assert!(rt; is_row(packet, &row));
     Ok(())
 }
 
@@ -150,25 +103,26 @@ fn a_take_makes_a_packet_of_the_current_part(rt: HostRuntime) -> Result<(), Fail
 fn the_oldest_sub_buffer_gives_way(rt: HostRuntime) -> Result<(), Fail> {
     let mut stream = small_stream(rt.alloc(), Mode::Overwrite)?;
     stream.set_active(true);
-    let half = [97; 64];
-    assert_eq!(rt; stream.offer(at(1), 7, &half), stored(0, 0));
-    assert_eq!(rt; stream.offer(at(2), 7, &half), stored(1, 0));
-    assert_eq!(rt; stream.offer(at(3), 7, &half), stored(2, 1));
-    assert_eq!(rt; stream.offer(at(4), 7, &half), stored(3, 1));
-    assert_eq!(rt;
-        stream.offer(at(5), 7, &half),
-        Ok(Offered::StoredOver {
-            serial: 4,
-            seq: 2,
-            gone_seq: 0,
-            gone_count: 2
-        })
-    );
-    assert_eq!(rt; stream.offer(at(6), 7, &half), stored(5, 2));
-    assert_eq!(rt; stream.fate_of(1), Some(Fate::Overwritten));
-    assert_eq!(rt; stream.fate_of(2), Some(Fate::InRing { seq: 1 }));
-    assert_eq!(rt; stream.fate_of(5), Some(Fate::InRing { seq: 2 }));
-    assert_eq!(rt; stream.fate_of(6), None);
+    let rows = [
+        (1, stored(0, 0)),
+        (2, stored(1, 0)),
+        (3, stored(2, 1)),
+        (4, stored(3, 1)),
+        (5, stored_over(4, 2, 0)),
+        (6, stored(5, 2)),
+    ];
+    for (moment, answer) in rows {
+        assert_eq!(rt; stream.offer(at(moment), 7, &[97; 64]), answer);
+    }
+    let fates = [
+        (1, Some(Fate::Overwritten)),
+        (2, Some(Fate::InRing { seq: 1 })),
+        (5, Some(Fate::InRing { seq: 2 })),
+        (6, None),
+    ];
+    for (serial, fate) in fates {
+        assert_eq!(rt; stream.fate_of(serial), fate);
+    }
     assert_eq!(rt;
         stream.take(),
         Ok(Taken {
@@ -263,23 +217,19 @@ fn a_cut_of_an_empty_ring_closes_an_empty_part(rt: HostRuntime) -> Result<(), Fa
 fn numbers_of_overwritten_packets_are_absent(rt: HostRuntime) -> Result<(), Fail> {
     let mut stream = small_stream(rt.alloc(), Mode::Overwrite)?;
     stream.set_active(true);
-    let half = [97; 64];
     for moment in 1..7 {
-        let _ = stream.offer(at(moment), 7, &half);
+        let _ = stream.offer(at(moment), 7, &[97; 64]);
     }
     assert!(rt; stream.take().is_ok());
-    assert_eq!(rt; stream.offer(at(7), 7, &half), stored(6, 3));
-    assert_eq!(rt; stream.offer(at(8), 7, &half), stored(7, 3));
-    assert_eq!(rt;
-        stream.offer(at(9), 7, &half),
-        Ok(Offered::StoredOver {
-            serial: 8,
-            seq: 4,
-            gone_seq: 2,
-            gone_count: 2
-        })
-    );
-    assert_eq!(rt; stream.offer(at(10), 7, &half), stored(9, 4));
+    let rows = [
+        (7, stored(6, 3)),
+        (8, stored(7, 3)),
+        (9, stored_over(8, 4, 2)),
+        (10, stored(9, 4)),
+    ];
+    for (moment, answer) in rows {
+        assert_eq!(rt; stream.offer(at(moment), 7, &[97; 64]), answer);
+    }
     let done = CutDone {
         chunk: 0,
         packets: 2,
