@@ -4,6 +4,7 @@ mod fates;
 mod lines;
 mod rotations;
 mod runs;
+mod schedules;
 mod sessions;
 mod snapshots;
 
