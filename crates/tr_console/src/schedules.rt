@@ -18,8 +18,6 @@ use tr_chunk::archive_name;
 use tr_record::Moment;
 use tr_schedule::{Cause, Schedule, ScheduleFault};
 use tr_session::{Session, Ticked};
-use tr_session_book::SessionFault;
-use tr_stream::SessionMode;
 
 /// What a tick did, as its answer tells it.
 #[derive(Clone, Copy, Debug, PartialEq, Eq)]
@@ -61,9 +59,9 @@ fn set_schedule<A: Allocator>(
             Ok(()) => Ok(session.book().schedule()),
             Err(fault) => Err(LineFault::Session(fault)),
         },
-        Err(fault) => match session.book().mode() {
-            SessionMode::Local => Err(LineFault::Schedule(fault)),
-            SessionMode::Snapshot => Err(LineFault::Session(SessionFault::SnapshotMode)),
+        Err(fault) => match session.book().can_schedule() {
+            Ok(()) => Err(LineFault::Schedule(fault)),
+            Err(refusal) => Err(LineFault::Session(refusal)),
         },
     }
 }

@@ -1,8 +1,8 @@
 //! Ticks of a session's schedule.
 
-ghost use Rattle.std.specs.Prelude.{◌≡◌, ◌≢◌, true, Err, is_some};
+ghost use Rattle.std.specs.Prelude.{◌≡◌, ◌≢◌, true, None, Err, is_some};
 ghost use Rattle.tr_session_book.specs.BookSteps.{schedule_in_force};
-ghost use Rattle.tr_session.specs.Steps.{tick_answer, after_tick, IsHeldUp};
+ghost use Rattle.tr_session.specs.Steps.{tick_answer, after_tick, tick_cause, IsHeldUp};
 ghost use Rattle.tr_stream.specs.Rules.{by_state};
 
 use crate::session::Session;
@@ -33,11 +33,12 @@ impl<A: Allocator + Copy> Session<A> {
     ///
     /// # Errors
     ///
-    /// `NoMemory`: nothing changed, or the rotation is pending with the cuts that were made, and `rotate_next` goes on.
+    /// `NoMemory`: nothing changed, or a rotation was due and is pending with the cuts that were made, and `rotate_next` goes on.
     pub fn tick(&mut self, now: Moment) -> Result<Ticked, SessionFault>
         ensures value { result ≢ Err SessionFault.NoMemory →
             (result ≡ tick_answer by_state now self.old) × (self.new ≡ after_tick by_state now self.old) }
         ensures no_memory { result ≡ Err SessionFault.NoMemory → IsHeldUp by_state now self.old self.new }
+        ensures idle { tick_cause by_state now self.old ≡ None → self.new ≡ self.old }
         ensures memory { result ≡ Err SessionFault.NoMemory → is_some (schedule_in_force self.old.book) ≡ true }
     {
         let Some(schedule) = self.book().schedule_in_force() else {

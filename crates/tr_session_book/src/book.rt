@@ -2,7 +2,7 @@
 
 ghost use Rattle.std.specs.Prelude.{◌≡◌, ◌≢◌, ◌≤◌, ◌<◌, false, Some, Ok, Err, IsOk, IfOk, OnOk, IfErr, OnErr, is_some, length, option_copied, option_map};
 ghost use Rattle.tr_session_book.specs.Book.{new_book};
-ghost use Rattle.tr_session_book.specs.BookSteps.{most_channels, most_streams, channel_named, channel_added, with_channel, thread_place, thread_noted, with_thread, channel_of, start_answer, after_start, stop_answer, after_stop, switch_answer, rotate_begin_answer, rotating, after_rotate_begin, cut_moment, with_cut, note_cut_answer, after_note_cut, rotate_finish_answer, after_rotate_finish, snapshot_allowed, snapshot_begin_answer, after_snapshot_begin, snap_allowed, schedule_answer, after_schedule, schedule_in_force};
+ghost use Rattle.tr_session_book.specs.BookSteps.{most_channels, most_streams, channel_named, channel_added, with_channel, thread_place, thread_noted, with_thread, start_answer, after_start, stop_answer, after_stop, switch_answer, rotate_begin_answer, rotating, after_rotate_begin, cut_moment, with_cut, note_cut_answer, after_note_cut, rotate_finish_answer, after_rotate_finish};
 ghost use Rattle.tr_session_book.specs.BookSteps as rules;
 
 use crate::archive::{Archive, Pending};
@@ -19,6 +19,10 @@ use tr_record::Moment;
 use tr_schedule::Schedule;
 use tr_stream::SessionMode;
 use uuid::Uuid;
+
+mod readers;
+mod schedules;
+mod snapshots;
 
 /// How many channels a session has at most.
 const MOST_CHANNELS: usize = 8;
@@ -454,189 +458,5 @@ impl<A: Allocator> SessionBook<A> {
         self.pending = None;
         self.archives.push_reserved(pending.archive);
         Ok(pending.archive)
-    }
-
-    /// Begins a snapshot: stores its moment, or keeps the last one if that is later, and answers with what is stored. It
-    /// takes no memory.
-    ///
-    /// # Errors
-    ///
-    /// `NotSnapshotMode`, `NeverStarted`: nothing changed.
-    pub fn snapshot_begin(&mut self, moment: Moment) -> Result<Moment, SessionFault>
-        ensures answer { result ≡ snapshot_begin_answer moment self.old }
-        ensures after { self.new ≡ after_snapshot_begin moment self.old }
-        ensures streams { self.new.threads ≡ self.old.threads }
-        ensures mode { self.new.mode ≡ self.old.mode }
-    {
-        let stored = self.snapshot_moment(moment)?;
-        self.last = stored;
-        Ok(stored)
-    }
-
-    /// The moment that a snapshot which begins now would store.
-    ///
-    /// # Errors
-    ///
-    /// `NotSnapshotMode`, `NeverStarted`.
-    pub fn snapshot_moment(&self, moment: Moment) -> Result<Moment, SessionFault>
-        ensures { result ≡ snapshot_begin_answer moment self.now }
-    {
-        self.can_snapshot()?;
-        Ok(moment.later(self.last))
-    }
-
-    /// Whether a snapshot can begin.
-    fn can_snapshot(&self) -> Result<(), SessionFault>
-        ensures { result ≡ snapshot_allowed self.now }
-    {
-        match self.mode {
-            SessionMode::Local => return Err(SessionFault::NotSnapshotMode),
-            SessionMode::Snapshot => {}
-        }
-        if self.state == State::New {
-            return Err(SessionFault::NeverStarted);
-        }
-        Ok(())
-    }
-
-    /// Whether the stream of this number can be seen.
-    ///
-    /// # Errors
-    ///
-    /// `NoStream`, `NotSnapshotMode`, `NeverStarted`.
-    pub fn can_snap(&self, i: u64) -> Result<(), SessionFault>
-        ensures { result ≡ snap_allowed i self.now }
-    {
-        if i >= self.threads.len() as u64 {
-            return Err(SessionFault::NoStream);
-        }
-        self.can_snapshot()
-    }
-
-    /// Sets when rotations are due: by this schedule, or never. It takes no memory.
-    ///
-    /// # Errors
-    ///
-    /// `SnapshotMode`: nothing changed.
-    pub fn set_schedule(&mut self, schedule: Option<Schedule>) -> Result<(), SessionFault>
-        ensures answer { result ≡ schedule_answer self.old }
-        ensures after { self.new ≡ after_schedule schedule self.old }
-        ensures streams { self.new.threads ≡ self.old.threads }
-        ensures mode { self.new.mode ≡ self.old.mode }
-    {
-        match self.mode {
-            SessionMode::Snapshot => return Err(SessionFault::SnapshotMode),
-            SessionMode::Local => {}
-        }
-        self.schedule = schedule;
-        Ok(())
-    }
-
-    /// When rotations are due, if ever.
-    pub fn schedule(&self) -> Option<Schedule>
-        ensures { result ≡ self.now.schedule }
-    {
-        self.schedule
-    }
-
-    /// The schedule by which the session rotates now: none unless it is active and no rotation is pending.
-    pub fn schedule_in_force(&self) -> Option<Schedule>
-        ensures { result ≡ schedule_in_force self.now }
-    {
-        if self.state != State::Active || self.pending.is_some() {
-            return None;
-        }
-        match self.mode {
-            SessionMode::Local => self.schedule,
-            SessionMode::Snapshot => None,
-        }
-    }
-
-    /// The identifier of the trace.
-    pub fn uuid(&self) -> Uuid
-        ensures { result ≡ self.now.uuid }
-    {
-        self.uuid
-    }
-
-    /// How many minutes the clock of archives' names is ahead of UTC.
-    pub fn offset(&self) -> OffsetMinutes
-        ensures { result ≡ self.now.offset }
-    {
-        self.offset
-    }
-
-    /// What becomes of packets.
-    pub fn mode(&self) -> SessionMode
-        ensures { result ≡ self.now.mode }
-    {
-        self.mode
-    }
-
-    /// What the session allows.
-    pub fn state(&self) -> State
-        ensures { result ≡ self.now.state }
-    {
-        self.state
-    }
-
-    /// The last moment that was stored: 0 before the first start.
-    pub fn last(&self) -> Moment
-        ensures { result ≡ self.now.last }
-    {
-        self.last
-    }
-
-    /// The moment at which the current chunk began: 0 before the first start.
-    pub fn begin(&self) -> Moment
-        ensures { result ≡ self.now.begin }
-    {
-        self.begin
-    }
-
-    /// How many channels there are.
-    pub fn channels(&self) -> usize
-        ensures value { result ≡ length self.now.channels }
-        ensures within { result ≤ most_channels }
-    {
-        self.channels.len()
-    }
-
-    /// The channel of this name.
-    pub fn channel(&self, name: &str) -> Option<&Channel>
-        ensures { option_copied result ≡ channel_named name.now self.now }
-    {
-        self.channels.get(name)
-    }
-
-    /// How many streams there are.
-    pub fn streams(&self) -> usize
-        ensures value { result ≡ length self.now.threads }
-        ensures within { result ≤ most_streams }
-    {
-        self.threads.len()
-    }
-
-    /// The name of the channel of the stream of this number.
-    pub fn channel_of(&self, i: u64) -> Option<&str>
-        ensures { option_map (λ n. n.now) result ≡ channel_of i self.now }
-    {
-        let place = self.threads.get(i as usize)?;
-        let (name, _) = self.channels.get_index(*place)?;
-        Some(name.as_str())
-    }
-
-    /// The archives that were made, in order.
-    pub fn archives(&self) -> &[Archive]
-        ensures { result.now ≡ self.now.archives }
-    {
-        self.archives.as_slice()
-    }
-
-    /// The rotation that has begun and isn't finished.
-    pub fn pending(&self) -> Option<Pending>
-        ensures { result ≡ self.now.pending }
-    {
-        self.pending
     }
 }

@@ -1,0 +1,104 @@
+//! What a session's book tells.
+
+ghost use Rattle.std.specs.Prelude.{◌≡◌, ◌≤◌, length, option_copied, option_map};
+ghost use Rattle.tr_session_book.specs.BookSteps.{most_channels, most_streams, channel_named, channel_of};
+
+use super::SessionBook;
+use crate::archive::{Archive, Pending};
+use crate::channel::Channel;
+use crate::state::State;
+use std::alloc::Allocator;
+use tr_chunk::OffsetMinutes;
+use tr_record::Moment;
+use tr_stream::SessionMode;
+use uuid::Uuid;
+
+impl<A: Allocator> SessionBook<A> {
+    /// The identifier of the trace.
+    pub fn uuid(&self) -> Uuid
+        ensures { result ≡ self.now.uuid }
+    {
+        self.uuid
+    }
+
+    /// How many minutes the clock of archives' names is ahead of UTC.
+    pub fn offset(&self) -> OffsetMinutes
+        ensures { result ≡ self.now.offset }
+    {
+        self.offset
+    }
+
+    /// What becomes of packets.
+    pub fn mode(&self) -> SessionMode
+        ensures { result ≡ self.now.mode }
+    {
+        self.mode
+    }
+
+    /// What the session allows.
+    pub fn state(&self) -> State
+        ensures { result ≡ self.now.state }
+    {
+        self.state
+    }
+
+    /// The last moment that was stored: 0 before the first start.
+    pub fn last(&self) -> Moment
+        ensures { result ≡ self.now.last }
+    {
+        self.last
+    }
+
+    /// The moment at which the current chunk began: 0 before the first start.
+    pub fn begin(&self) -> Moment
+        ensures { result ≡ self.now.begin }
+    {
+        self.begin
+    }
+
+    /// How many channels there are.
+    pub fn channels(&self) -> usize
+        ensures value { result ≡ length self.now.channels }
+        ensures within { result ≤ most_channels }
+    {
+        self.channels.len()
+    }
+
+    /// The channel of this name.
+    pub fn channel(&self, name: &str) -> Option<&Channel>
+        ensures { option_copied result ≡ channel_named name.now self.now }
+    {
+        self.channels.get(name)
+    }
+
+    /// How many streams there are.
+    pub fn streams(&self) -> usize
+        ensures value { result ≡ length self.now.threads }
+        ensures within { result ≤ most_streams }
+    {
+        self.threads.len()
+    }
+
+    /// The name of the channel of the stream of this number.
+    pub fn channel_of(&self, i: u64) -> Option<&str>
+        ensures { option_map (λ n. n.now) result ≡ channel_of i self.now }
+    {
+        let place = self.threads.get(i as usize)?;
+        let (name, _) = self.channels.get_index(*place)?;
+        Some(name.as_str())
+    }
+
+    /// The archives that were made, in order.
+    pub fn archives(&self) -> &[Archive]
+        ensures { result.now ≡ self.now.archives }
+    {
+        self.archives.as_slice()
+    }
+
+    /// The rotation that has begun and isn't finished.
+    pub fn pending(&self) -> Option<Pending>
+        ensures { result ≡ self.now.pending }
+    {
+        self.pending
+    }
+}
