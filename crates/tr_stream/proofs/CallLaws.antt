@@ -3,22 +3,21 @@ use Rattle.std.proofs.Common.{◌≡◌, ◌≢◌, ℕ, ◌+◌, ◌^◌, ◌�
 use Rattle.std.proofs.lemmas.Grind.{common_steps}
 use Rattle.std.proofs.lemmas.List.{append-nil, map-append, length-map, take_more}
 use Rattle.std.proofs.lemmas.Option.{slice_get_within, get_or_from_slice_get}
-use Rattle.std.specs.Prelude.{IsOk, slice_get}
+use Rattle.std.specs.Prelude.{slice_get}
 use Rattle.tr_book.specs.Book as noted
 use Rattle.tr_book.specs.Book.{BookState}
 use Rattle.tr_book.specs.Parts.{PartsState, records_of, no_parts, with_packet, with_packets, closed_part}
-use Rattle.tr_book.specs.Snaps.{SnapState}
 use Rattle.tr_packet.specs.Packets.{Contents, IsPacket}
 use Rattle.tr_record.specs.Records.{Entry, last_moment}
 use Rattle.tr_ring.specs.ClosedBuffer.{ClosedBuffer}
 use Rattle.tr_ring.specs.Ring.{RingState, after_push, closing, emptied, empty_ring, push_answer, without_first}
 use Rattle.tr_ring.specs.declared.pushed.Pushed.{Pushed}
 use Rattle.tr_ring.specs.declared.pushed.Pushed.TheVariants as pushed
-use Rattle.tr_stream.proofs.CutLaws.{cuts, snaps, records_in-ring}
+use Rattle.tr_stream.proofs.CutLaws.{cuts, records_in-ring}
 use Rattle.tr_stream.proofs.KeptLaws.{IsOffer, kept-offered, kept-oldest, kept-cut}
 use Rattle.tr_stream.proofs.OfferLaws.{offers}
 use Rattle.tr_stream.proofs.Refinement.{with_moved}
-use Rattle.tr_stream.proofs.SessionLaws.{in-local, in-snapshot}
+use Rattle.tr_stream.proofs.SessionLaws.{in-local}
 use Rattle.tr_stream.proofs.SoundLaws.{records_of-packets}
 use Rattle.tr_stream.proofs.TakeLaws.{takes}
 use Rattle.tr_stream.specs.Chunks.{packet_of, closing_if_any, ring_buffers}
@@ -27,8 +26,8 @@ use Rattle.tr_stream.specs.Kept.{IsKept}
 use Rattle.tr_stream.specs.Sound.{IsMade, ArePackets}
 use Rattle.tr_stream.specs.StandsFor.{StandsFor}
 use Rattle.tr_stream.specs.State.{StreamState, in_ring}
-use Rattle.tr_stream.specs.StateSteps.{new_state, overwrites, booked, entered, refusal_of, offer_unless, state_unless, with_offer, offered_as, offer_result, state_after_offer, TakesMemory, moved_oldest, take_result, state_after_take, state_cut_at, cut_done, cut_result, state_after_cut, state_snap}
-use Rattle.tr_stream.specs.Steps.{offer_answer, after_offer, take_answer, after_take, cut_answer, after_cut, snap_of, taken_from}
+use Rattle.tr_stream.specs.StateSteps.{new_state, overwrites, booked, entered, refusal_of, offer_unless, state_unless, with_offer, offered_as, offer_result, state_after_offer, TakesMemory, moved_oldest, take_result, state_after_take, state_cut_at, cut_done, cut_result, state_after_cut}
+use Rattle.tr_stream.specs.Steps.{offer_answer, after_offer, take_answer, after_take, cut_answer, after_cut, taken_from}
 use Rattle.tr_stream.specs.declared.answers.CutDone.{CutDone}
 use Rattle.tr_stream.specs.declared.answers.CutFault.{CutFault}
 use Rattle.tr_stream.specs.declared.answers.CutFault.TheVariants as cut_fault
@@ -38,7 +37,7 @@ use Rattle.tr_stream.specs.declared.answers.TakeFault.{TakeFault}
 use Rattle.tr_stream.specs.declared.answers.TakeFault.TheVariants as take_fault
 use Rattle.tr_stream.specs.declared.answers.TakeFault.TheVariants.{Nothing}
 use Rattle.tr_stream.specs.declared.answers.Taken.{Taken}
-use Rattle.tr_stream.specs.declared.config.SessionMode.TheVariants.{Local, Snapshot}
+use Rattle.tr_stream.specs.declared.config.SessionMode.TheVariants.{Local}
 use Rattle.tr_stream.specs.declared.config.StreamConfig.{StreamConfig}
 
 -- what is left of an offer once the ring has it

@@ -1,5 +1,5 @@
 -- A stream that stands for a history is consistent.
-use Rattle.std.proofs.Common.{◌≡◌, ◌≢◌, ℕ, ◌+◌, ◌-◌, ◌≤◌, ◌<◌, zero, suc, Bool, true, false, cond, List, [], ◌∷◌, ◌++◌, length, map, refl, sym, ◌∙◌, ap, subst, append_assoc, arith, length-append}
+use Rattle.std.proofs.Common.{◌≡◌, ◌≢◌, ℕ, ◌+◌, ◌≤◌, ◌<◌, zero, suc, Bool, true, false, cond, List, [], ◌∷◌, ◌++◌, length, map, refl, sym, ◌∙◌, ap, subst, append_assoc, arith, length-append}
 use Rattle.std.proofs.lemmas.Grind.{common_steps, flat_map-append}
 use Rattle.std.proofs.lemmas.List.{append-nil}
 use Rattle.std.proofs.lemmas.List.Sums.{sum_by-cons}
@@ -220,8 +220,8 @@ next_serial-used low low' (r ∷ rs) used = refl
 abbrev Behind : (number serial place low : ℕ) → Type 0
 Behind number serial place low = (number ≤ place) × (serial ≤ low) × (place ≡ number → low ≡ serial) × (low ≡ serial → place ≡ number)
 
-gap_step : (wanted : Bool) (number serial place low : ℕ) (c : Closed) (ps : List ClosedBuffer) (next : ℕ) → c.block.number ≡ place → Covers low c.block → c.block.missed ≡ [] → c.block.records ≢ [] → Behind number serial place low → GapsAgree (place + 1) (low + offers_in c.block) ps next → (wanted ≡ false → Behind number serial (place + 1) (low + offers_in c.block) → GapsAgree number serial ps next) → GapsAgree number serial (cond wanted (buffer_of 0 c ∷ ps) ps) next
-gap_step true number serial place low c ps next here covers never used behind held dropped =
+gap_step : (wanted : Bool) (number serial place low : ℕ) (c : Closed) (ps : List ClosedBuffer) (next_seq next : ℕ) → c.block.number ≡ place → Covers low c.block → c.block.missed ≡ [] → c.block.records ≢ [] → Behind number serial place low → GapsAgree (place + 1) (low + offers_in c.block) ps next_seq next → (wanted ≡ false → Behind number serial (place + 1) (low + offers_in c.block) → GapsAgree number serial ps next_seq next) → GapsAgree number serial (cond wanted (buffer_of 0 c ∷ ps) ps) next_seq next
+gap_step true number serial place low c ps next_seq next here covers never used behind held dropped =
     let none : length c.block.missed ≡ 0 = ap length never in
     let first : first_in c.block.records next ≡ low = first-starts low next c.block.records c.block.missed used covers.starts in
     let high = next_serial-high low c.block.records covers.rise in
@@ -229,9 +229,9 @@ gap_step true number serial place low c ps next here covers never used behind he
       omega (arith, none),
       subst (λ (n : ℕ). SerialsFollow n c.block.records) (sym first) (serials_follow low c.block.records covers.rise (omega (arith, covers.within, none))),
       ((λ e. first ∙ behind.2 (sym here ∙ e)), (λ e. here ∙ behind.3 (sym first ∙ e))),
-      subst (λ (m : ℕ). GapsAgree (c.block.number + 1) m ps next) (sym next') (subst (λ (n : ℕ). GapsAgree (n + 1) (low + offers_in c.block) ps next) (sym here) held),
+      subst (λ (m : ℕ). GapsAgree (c.block.number + 1) m ps next_seq next) (sym next') (subst (λ (n : ℕ). GapsAgree (n + 1) (low + offers_in c.block) ps next_seq next) (sym here) held),
     )
-gap_step false number serial place low c ps next here covers never used behind held dropped =
+gap_step false number serial place low c ps next_seq next here covers never used behind held dropped =
     let some : 0 < length c.block.records = positive c.block.records used in
     dropped refl (omega (arith, behind.0), omega (arith, behind.1), (λ e. absurd (omega (arith, e, behind.0))), (λ e. absurd (omega (arith, e, behind.1, some))))
   where
@@ -243,20 +243,20 @@ no_missed : {X : Type 0} (xs : List X) → length xs ≡ 0 → xs ≡ []
 no_missed [] e = refl
 no_missed (x ∷ xs) e = absurd (let f : length (x ∷ xs) ≡ length xs + 1 = grind (arith, common_steps) in omega (arith, e, f))
 
-gaps_held : (number serial place low : ℕ) (cs : List Closed) (qs : List ClosedBuffer) (next : ℕ) → missed_in cs ≡ 0 → NumberedFrom place cs → AllUsed cs → CoversFrom low cs → Behind number serial place low → ((n m : ℕ) → Behind n m (place + length cs) (low + offers_before cs) → GapsAgree n m qs next) → GapsAgree number serial (buffers_where is_held 0 cs ++ qs) next
-gaps_held number serial place low [] qs next never numbers used covers behind rest = rest number serial (subst (λ (p : ℕ × ℕ). Behind number serial p.0 p.1) (pair (omega arith) (omega arith)) behind)
+gaps_held : (number serial place low : ℕ) (cs : List Closed) (qs : List ClosedBuffer) (next_seq next : ℕ) → missed_in cs ≡ 0 → NumberedFrom place cs → AllUsed cs → CoversFrom low cs → Behind number serial place low → ((n m : ℕ) → Behind n m (place + length cs) (low + offers_before cs) → GapsAgree n m qs next_seq next) → GapsAgree number serial (buffers_where is_held 0 cs ++ qs) next_seq next
+gaps_held number serial place low [] qs next_seq next never numbers used covers behind rest = rest number serial (subst (λ (p : ℕ × ℕ). Behind number serial p.0 p.1) (pair (omega arith) (omega arith)) behind)
   where
     pair : {a b c d : ℕ} → a ≡ b → c ≡ d → (let p : ℕ × ℕ = (a, c) in p) ≡ (b, d)
     pair e f = cc
-gaps_held number serial place low (c ∷ cs) qs next never numbers used covers behind rest =
+gaps_held number serial place low (c ∷ cs) qs next_seq next never numbers used covers behind rest =
     let misses = missed_in-cons c cs in
     let never' : c.block.missed ≡ [] = no_missed c.block.missed (omega (arith, never, misses)) in
     let none : length c.block.missed ≡ 0 = omega (arith, never, misses) in
     let count : place + length (c ∷ cs) ≡ place + 1 + length cs = grind (arith, common_steps) in
     let sum : low + offers_before (c ∷ cs) ≡ low + offers_in c.block + offers_before cs = omega (arith, offers_before-cons c cs) in
     let rest' = λ (n m : ℕ) (b : Behind n m (place + 1 + length cs) (low + offers_in c.block + offers_before cs)). rest n m (subst (λ (k : ℕ). Behind n m k (low + offers_before (c ∷ cs))) (sym count) (subst (λ (k : ℕ). Behind n m (place + 1 + length cs) k) (sym sum) b)) in
-    let more = λ (n m : ℕ) (b : Behind n m (place + 1) (low + offers_in c.block)). gaps_held n m (place + 1) (low + offers_in c.block) cs qs next (omega (arith, never, misses)) numbers.1 used.1 covers.1 b rest' in
-    let step = gap_step (is_held c.status) number serial place low c (buffers_where is_held 0 cs ++ qs) next numbers.0 covers.0 never' used.0 behind
+    let more = λ (n m : ℕ) (b : Behind n m (place + 1) (low + offers_in c.block)). gaps_held n m (place + 1) (low + offers_in c.block) cs qs next_seq next (omega (arith, never, misses)) numbers.1 used.1 covers.1 b rest' in
+    let step = gap_step (is_held c.status) number serial place low c (buffers_where is_held 0 cs ++ qs) next_seq next numbers.0 covers.0 never' used.0 behind
     (more (place + 1) (low + offers_in c.block) (omega arith, omega arith, (λ e. refl), (λ e. refl)))
     (λ e b. more number serial b) in
     grind (arith, none, step)
@@ -267,15 +267,16 @@ held-not_dropped Dropped e = refl
 held-not_dropped (Kept k) e = cc
 
 -- where nothing is filling, nothing is absent behind the last
-gaps_ended : (number serial place low : ℕ) (cs : List Closed) (next : ℕ) → missed_in cs ≡ 0 → NumberedFrom place cs → AllUsed cs → CoversFrom low cs → LastHeld cs → Behind number serial place low → (cs ≡ [] → serial ≡ low) → next ≡ low + offers_before cs → GapsAgree number serial (buffers_where is_held 0 cs) next
-gaps_ended number serial place low [] next never numbers used covers ends behind at sum = at refl ∙ omega (arith, sum)
-gaps_ended number serial place low (c ∷ cs) next never numbers used covers ends behind at sum =
+gaps_ended : (number serial place low : ℕ) (cs : List Closed) (next_seq next : ℕ) → missed_in cs ≡ 0 → NumberedFrom place cs → AllUsed cs → CoversFrom low cs → LastHeld cs → Behind number serial place low → (cs ≡ [] → serial ≡ low) → next_seq ≡ place + length cs → next ≡ low + offers_before cs → GapsAgree number serial (buffers_where is_held 0 cs) next_seq next
+gaps_ended number serial place low [] next_seq next never numbers used covers ends behind at places sum = (omega (arith, behind.3 (sym (at refl)), places), at refl ∙ omega (arith, sum))
+gaps_ended number serial place low (c ∷ cs) next_seq next never numbers used covers ends behind at places sum =
+    let count : place + length (c ∷ cs) ≡ place + 1 + length cs = grind (arith, common_steps) in
     let misses = missed_in-cons c cs in
     let never' : c.block.missed ≡ [] = no_missed c.block.missed (omega (arith, never, misses)) in
     let none : length c.block.missed ≡ 0 = omega (arith, never, misses) in
     let sum' : next ≡ low + offers_in c.block + offers_before cs = omega (arith, sum, offers_before-cons c cs) in
-    let more = λ (n m : ℕ) (b : Behind n m (place + 1) (low + offers_in c.block)) (at' : cs ≡ [] → m ≡ low + offers_in c.block). gaps_ended n m (place + 1) (low + offers_in c.block) cs next (omega (arith, never, misses)) numbers.1 used.1 covers.1 (tail_held c cs ends) b at' sum' in
-    let step = gap_step (is_held c.status) number serial place low c (buffers_where is_held 0 cs) next numbers.0 covers.0 never' used.0 behind
+    let more = λ (n m : ℕ) (b : Behind n m (place + 1) (low + offers_in c.block)) (at' : cs ≡ [] → m ≡ low + offers_in c.block). gaps_ended n m (place + 1) (low + offers_in c.block) cs next_seq next (omega (arith, never, misses)) numbers.1 used.1 covers.1 (tail_held c cs ends) b at' (places ∙ count) sum' in
+    let step = gap_step (is_held c.status) number serial place low c (buffers_where is_held 0 cs) next_seq next numbers.0 covers.0 never' used.0 behind
     (more (place + 1) (low + offers_in c.block) (omega arith, omega arith, (λ e. refl), (λ e. refl)) (λ e. refl))
     (λ e b. more number serial b (λ f. absurd (only_held c cs f ends (held-not_dropped c.status e)))) in
     grind (arith, none, step)
@@ -291,13 +292,13 @@ gaps_ended number serial place low (c ∷ cs) next never numbers used covers end
 not_nil : {X : Type 0} (x : X) (xs : List X) → x ∷ xs ≢ []
 not_nil x xs f = cc
 
-overwrite-held : (h : History) (end : ℕ) → IsWellFormed h → discarded_of h ≡ 0 → GapsAgree 0 0 (held_of end h) (offered_of h)
+overwrite-held : (h : History) (end : ℕ) → IsWellFormed h → discarded_of h ≡ 0 → GapsAgree 0 0 (held_of end h) (seq_after h.filling.number h.filling.records) (offered_of h)
 overwrite-held h end is never = last_gaps h.filling.records refl
   where
     start : Behind 0 0 0 0
     start = (omega arith, omega arith, (λ e. refl), (λ e. refl))
 
-    behind_last : (n m : ℕ) (rs : List Entry) → h.filling.records ≡ rs → Behind n m (0 + length h.closed) (0 + offers_before h.closed) → rs ≢ [] → GapsAgree n m (closing_if_any h.filling.number end (discarded_of h) rs) (offered_of h)
+    behind_last : (n m : ℕ) (rs : List Entry) → h.filling.records ≡ rs → Behind n m (0 + length h.closed) (0 + offers_before h.closed) → rs ≢ [] → GapsAgree n m (closing_if_any h.filling.number end (discarded_of h) rs) (seq_after h.filling.number rs) (offered_of h)
     behind_last n m [] e b some = absurd (some refl)
     behind_last n m (r ∷ rs) e b some =
         let covers : Covers (offers_before h.closed) (record h.filling { records = r ∷ rs }) = subst (λ (q : List Entry). Covers (offers_before h.closed) (record h.filling { records = q })) e is.covers_filling in
@@ -309,25 +310,25 @@ overwrite-held h end is never = last_gaps h.filling.records refl
           never,
           (refl, subst (λ (k : ℕ). SerialsFollow (k + 1) rs) (sym first) follow.1),
           ((λ e. first ∙ omega (arith, b.2 (omega (arith, e, is.filling)))), (λ e. omega (arith, is.filling, b.3 (omega (arith, e, first))))),
-          omega (arith, high, few, count, never),
+          (refl, omega (arith, high, few, count, never)),
         )
 
-    last_gaps : (rs : List Entry) → h.filling.records ≡ rs → GapsAgree 0 0 (buffers_where is_held 0 h.closed ++ closing_if_any h.filling.number end (discarded_of h) rs) (offered_of h)
+    last_gaps : (rs : List Entry) → h.filling.records ≡ rs → GapsAgree 0 0 (buffers_where is_held 0 h.closed ++ closing_if_any h.filling.number end (discarded_of h) rs) (seq_after h.filling.number rs) (offered_of h)
     last_gaps [] e =
         let none : length h.filling.records ≡ 0 = ap length e in
-        subst (λ (ps : List ClosedBuffer). GapsAgree 0 0 ps (offered_of h)) (sym (append-nil (buffers_where is_held 0 h.closed)))
-        (gaps_ended 0 0 0 0 h.closed (offered_of h) (omega (arith, never)) is.numbers is.used is.covers (is.room e) start (λ f. refl) (omega (arith, none, never)))
-    last_gaps (r ∷ rs) e = gaps_held 0 0 0 0 h.closed (closing_if_any h.filling.number end (discarded_of h) (r ∷ rs)) (offered_of h) (omega (arith, never)) is.numbers is.used is.covers start (λ n m b. behind_last n m (r ∷ rs) e b (not_nil r rs))
+        subst (λ (ps : List ClosedBuffer). GapsAgree 0 0 ps (seq_after h.filling.number []) (offered_of h)) (sym (append-nil (buffers_where is_held 0 h.closed)))
+        (gaps_ended 0 0 0 0 h.closed (seq_after h.filling.number []) (offered_of h) (omega (arith, never)) is.numbers is.used is.covers (is.room e) start (λ f. refl) (omega (arith, is.filling)) (omega (arith, none, never)))
+    last_gaps (r ∷ rs) e = gaps_held 0 0 0 0 h.closed (closing_if_any h.filling.number end (discarded_of h) (r ∷ rs)) (seq_after h.filling.number (r ∷ rs)) (offered_of h) (omega (arith, never)) is.numbers is.used is.covers start (λ n m b. behind_last n m (r ∷ rs) e b (not_nil r rs))
 
 -- a stream that stands for a model is consistent
 pub consistent : (s : StreamState) (h : History) → LosesByMode s → StandsFor s h → IsConsistent s
 consistent s h losses is = record {
   rising = subst (λ (ps : List ClosedBuffer). Rising 0 0 ps (seq_after s.ring.seq s.ring.current) s.book.offered) (sym same) (rw (is.number, is.filling, is.offered) (rising-held h s.book.last is.model));
   parts = subst (λ (ps : List PartState). PartsFrom 0 ps) (sym (parts-are s h is)) (parts_from s.config (suc h.cuts) h);
-  ring = subst (λ (ps : List ClosedBuffer). CountUp (s.ring.seq - length ps) ps) (sym is.waiting) (subst (λ (n : ℕ). CountUp n (waiting_of h)) (omega (arith, ends.ends, is.number, is.model.filling)) ends.counts);
+  ring = (ends.from, omega (arith, ap length is.waiting, ends.ends, is.number, is.model.filling), subst (λ (ps : List ClosedBuffer). CountUp ends.from ps) (sym is.waiting) ends.counts);
   absent = omega (arith, lengths, is.overwritten_packets, held_or_dropped 0 h.closed, last, is.number, is.model.filling);
   discards = λ e. subst (λ (ps : List ClosedBuffer). CountUp 0 ps × LostAgrees 0 ps s.book.offered) (sym same) (subst (λ (n : ℕ). CountUp 0 (held_of s.book.last h) × LostAgrees 0 (held_of s.book.last h) n) (sym is.offered) (discard-held h s.book.last is.model (sym is.overwritten_packets ∙ (losses.discarding e).1)));
-  overwrites = λ e. subst (λ (ps : List ClosedBuffer). GapsAgree 0 0 ps s.book.offered) (sym same) (subst (λ (n : ℕ). GapsAgree 0 0 (held_of s.book.last h) n) (sym is.offered) (overwrite-held h s.book.last is.model (sym is.discarded ∙ losses.overwriting e)));
+  overwrites = λ e. subst (λ (ps : List ClosedBuffer). GapsAgree 0 0 ps (seq_after s.ring.seq s.ring.current) s.book.offered) (sym same) (rw (is.number, is.filling, is.offered) (overwrite-held h s.book.last is.model (sym is.discarded ∙ losses.overwriting e)));
 }
   where
     same : held_buffers s ≡ held_of s.book.last h

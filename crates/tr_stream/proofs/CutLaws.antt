@@ -1,5 +1,5 @@
 -- A cut of a stream is the history's cut.
-use Rattle.std.proofs.Common.{◌≡◌, ◌≢◌, ℕ, ◌+◌, ◌<◌, suc, List, [], ◌∷◌, ◌++◌, length, map, max, Result, Ok, Err, refl, sym, ◌∙◌, ap, subst, append_assoc, arith}
+use Rattle.std.proofs.Common.{◌≡◌, ◌≢◌, ℕ, ◌+◌, ◌<◌, suc, List, [], ◌∷◌, ◌++◌, length, map, max, Ok, Err, refl, sym, ◌∙◌, ap, subst, append_assoc, arith}
 use Rattle.std.proofs.lemmas.Grind.{common_steps}
 use Rattle.std.proofs.lemmas.List.{append-nil, map-append}
 use Rattle.std.proofs.lemmas.List.Sums.{sum_by_push}
@@ -18,8 +18,6 @@ use Rattle.tr_stream.specs.State.{StreamState, records_in, in_ring}
 use Rattle.tr_stream.specs.StateSteps.{cut_done, state_cut_at, cut_result, state_after_cut, state_snap}
 use Rattle.tr_stream.specs.Steps.{by_session, done_with, flushed_with, keep_waiting, all_kept, cut_at, after_cut, cut_answer, snap_of}
 use Rattle.tr_stream.specs.WellFormed.{Covers, chunks_below}
-use Rattle.tr_stream.specs.declared.answers.CutDone.{CutDone}
-use Rattle.tr_stream.specs.declared.answers.CutFault.{CutFault}
 use Rattle.tr_stream.specs.declared.answers.CutFault.TheVariants.{SnapshotMode}
 use Rattle.tr_stream.specs.declared.config.SessionMode.{SessionMode}
 use Rattle.tr_stream.specs.declared.config.SessionMode.TheVariants.{Local, Snapshot}

@@ -1,5 +1,5 @@
 -- What a stream value shows by itself: each offer is in one place, and what is absent is what was lost.
-use Rattle.std.specs.Prelude.{◌≡◌, ℕ, ◌+◌, ◌-◌, ◌≤◌, ◌↔◌, List, [], ◌∷◌, ◌++◌, length, map}
+use Rattle.std.specs.Prelude.{◌≡◌, ℕ, ◌+◌, ◌≤◌, ◌↔◌, List, [], ◌∷◌, ◌++◌, length, map}
 use Rattle.std.specs.List.{flat_map}
 use Rattle.tr_book.specs.Parts.{PartState}
 use Rattle.tr_book.specs.declared.mode.Mode.TheVariants.{Discard, Overwrite}
@@ -59,23 +59,23 @@ abbrev pub SerialsFollow : ℕ → List Entry → Type 0
 SerialsFollow n [] = Unit {0}
 SerialsFollow n (e ∷ es) = (e.serial ≡ n) × SerialsFollow (n + 1) es
 
--- nothing is lost within a sub-buffer, serials are absent before it exactly where numbers are, and none behind the last
-abbrev pub GapsAgree : ℕ → ℕ → List ClosedBuffer → ℕ → Type 0
-GapsAgree seq serial [] next = serial ≡ next
-GapsAgree seq serial (b ∷ bs) next =
+-- nothing is lost within a sub-buffer, serials are absent before it exactly where numbers are, and neither behind the last
+abbrev pub GapsAgree : ℕ → ℕ → List ClosedBuffer → ℕ → ℕ → Type 0
+GapsAgree seq serial [] next_seq next = (seq ≡ next_seq) × (serial ≡ next)
+GapsAgree seq serial (b ∷ bs) next_seq next =
     (b.lost ≡ 0) × SerialsFollow (first_in b.records next) b.records
     × ((b.seq ≡ seq) ↔ (first_in b.records next ≡ serial))
-    × GapsAgree (b.seq + 1) (next_serial serial b.records) bs next
+    × GapsAgree (b.seq + 1) (next_serial serial b.records) bs next_seq next
 
 pub record IsConsistent (s : StreamState) : Type 0 where
   -- numbers and serials rise strictly, below the next of each
   pub rising : Rising 0 0 (held_buffers s) (seq_after s.ring.seq s.ring.current) s.book.offered
   pub parts : PartsFrom 0 (all_parts s.parts)
   -- the numbers of the ring follow each other up to the current one
-  pub ring : CountUp (s.ring.seq - length s.ring.waiting) s.ring.waiting
+  pub ring : (first : ℕ) × (first + length s.ring.waiting ≡ s.ring.seq) × CountUp first s.ring.waiting
   -- as many numbers are absent as sub-buffers were overwritten
   pub absent : length (held_buffers s) + s.book.overwritten_packets ≡ seq_after s.ring.seq s.ring.current
   -- in discard mode no number is absent, and each `lost` tells how many serials are
   pub discards : s.config.mode ≡ Discard → CountUp 0 (held_buffers s) × LostAgrees 0 (held_buffers s) s.book.offered
   -- in overwrite mode serials are absent only between sub-buffers, exactly where numbers are
-  pub overwrites : s.config.mode ≡ Overwrite → GapsAgree 0 0 (held_buffers s) s.book.offered
+  pub overwrites : s.config.mode ≡ Overwrite → GapsAgree 0 0 (held_buffers s) (seq_after s.ring.seq s.ring.current) s.book.offered

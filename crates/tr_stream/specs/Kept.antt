@@ -4,7 +4,7 @@ use Rattle.tr_stream.specs.Sound.{IsSound}
 use Rattle.tr_stream.specs.StandsFor.{StandsFor}
 use Rattle.tr_stream.specs.State.{StreamState}
 
--- it is sound, and some history led to it
+-- it is sound, and it stands for some well-formed history
 pub record IsKept (s : StreamState) : Type 0 where
   pub sound : IsSound s
   pub history : (h : History) × StandsFor s h

@@ -15,7 +15,7 @@ use Rattle.tr_stream.specs.StateSteps.{overwrites}
 use Rattle.tr_stream.specs.declared.config.SessionMode.TheVariants.{Snapshot}
 use Rattle.tr_stream.specs.declared.config.StreamConfig.{StreamConfig}
 
--- what a stream is made with
+-- a stream can be made with this
 pub record IsConfig (c : StreamConfig) : Type 0 where
   pub uuid : length c.uuid ≡ 16
   pub number : c.number < 2 ^ 64
@@ -62,7 +62,7 @@ pub record IsSound (s : StreamState) : Type 0 where
   -- each offer is in one place
   pub total : s.ring.refused + s.book.overwritten + in_ring s.ring + s.book.consumed ≡ s.book.offered
   pub consumed : s.book.consumed ≡ in_parts s.parts
-  -- a number is used once its sub-buffer has a record
+  -- no more numbers are used than offers were accepted, and none is both overwritten and in the ring
   pub numbers : s.ring.seq + min 1 (length s.ring.current) ≤ s.book.offered
   pub dropped : s.book.overwritten_packets + length s.ring.waiting ≤ s.ring.seq
   pub room : length s.ring.waiting + 1 ≤ s.config.geometry.count

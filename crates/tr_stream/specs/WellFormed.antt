@@ -44,7 +44,7 @@ abbrev pub StartsAt : ℕ → List Entry → List ℕ → Type 0
 StartsAt low [] missed = missed ≡ []
 StartsAt low (e ∷ es) missed = e.serial ≡ low
 
--- a block has serials from this one on, as many as it accounts for
+-- a block's records have serials from this one on, within as many as it accounts for, and its first one that very serial
 pub record Covers (low : ℕ) (b : Block) : Type 0 where
   pub starts : StartsAt low b.records b.missed
   pub rise : RecordsRise low b.records
@@ -79,7 +79,7 @@ pub record IsWellFormed (h : History) : Type 0 where
   pub used : AllUsed h.closed
   -- what was dropped made room for a record
   pub room : h.filling.records ≡ [] → LastHeld h.closed
-  -- a block's serials lie between those of its neighbours
+  -- the serials of a block's records lie between those of its neighbours
   pub covers : CoversFrom 0 h.closed
   pub covers_filling : Covers (offers_before h.closed) h.filling
   -- the chunks in order have the kept blocks in order

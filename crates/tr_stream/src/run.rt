@@ -66,6 +66,7 @@ pub fn run_stream<A: Allocator + Copy>(
     config: StreamConfig,
     events: &[StreamEvent<A>],
 ) -> Result<(Stream<A>, Vec<StreamAnswer<A>, A>), AllocError>
+    ensures config { IfOk result (λ r. r.0.config ≡ config) }
     ensures stream { IfOk result (λ r. StandsFor r.0 (after_events config events.now start)) }
     ensures answers { IfOk result (λ r. r.1.items ≡ answers_to config events.now start) }
 {

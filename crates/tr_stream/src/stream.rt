@@ -6,6 +6,7 @@ ghost use Rattle.tr_stream.specs.Chunks.{part_in};
 ghost use Rattle.tr_stream.specs.Consistent.{IsConsistent};
 ghost use Rattle.tr_stream.specs.Fates.{fate_of, state_fate, held_fate};
 ghost use Rattle.tr_stream.specs.History.{History};
+ghost use Rattle.tr_stream.specs.Kept.{IsKept};
 ghost use Rattle.tr_stream.specs.Sound.{IsSound};
 ghost use Rattle.tr_stream.specs.StandsFor.{StandsFor};
 ghost use Rattle.tr_stream.specs.State.{in_ring};
@@ -292,7 +293,7 @@ impl<A: Allocator> Stream<A> {
         }
     }
 
-    /// The part of trace chunk `k`: a closed one, or the current one behind them. None: there was no such cut yet.
+    /// The part of trace chunk `k`: a closed one, or the current one behind them. None: no such chunk was begun.
     pub fn part(&self, k: u64) -> Option<&Part<A>>
         ensures value { option_copied result ≡ part_at k self.now.parts }
         ensures step { (h : History) → StandsFor self.now h → option_copied result ≡ part_in self.now.config k h }
@@ -334,7 +335,8 @@ impl<A: Allocator> Stream<A> {
     /// What the stream was made with.
     pub fn config(&self) -> StreamConfig
         ensures value { result ≡ self.now.config }
-        ensures sound { IsSound self.now }
+        ensures kept { IsKept self.now }
+        ensures consistent { IsConsistent self.now }
     {
         self.config
     }
