@@ -1,5 +1,5 @@
 -- What the calls of a session's book answer, and what they do: the first refusal that applies, or else the step.
-use Rattle.std.specs.Prelude.{ℕ, ◌+◌, ◌≤◌, max, Bool, true, false, not, ◌&&◌, nat_le, nat_lt, List, [], ◌∷◌, ◌++◌, length, map, is_some, Option, Some, None, option_map, option_and_then, position, Result, Ok, Err, slice_get, if◌then◌else◌}
+use Rattle.std.specs.Prelude.{◌≡◌, ℕ, ◌+◌, ◌≤◌, max, Bool, true, false, not, ◌&&◌, nat_le, nat_lt, List, [], ◌∷◌, ◌++◌, length, map, is_some, Option, Some, None, option_map, option_and_then, position, Result, Ok, Err, slice_get, if◌then◌else◌}
 use Rattle.std.specs.Map.{lookup}
 use Rattle.std.specs.Str.{bytes_eq}
 use Rattle.tr_book.specs.Geometry.{GeometryState, geometry_of}
@@ -52,6 +52,10 @@ most_streams = 256
 -- as many as there may be
 abbrev pub IsWithinLimits : SessionBookState → Type 0
 IsWithinLimits b = (length b.channels ≤ most_channels) × (length b.threads ≤ most_streams)
+
+-- before the first start nothing was archived, and no rotation is pending
+abbrev pub BeginsBare : SessionBookState → Type 0
+BeginsBare b = is_new b.state ≡ true → (b.pending ≡ None) × (b.archives ≡ [])
 
 abbrev pub channel_named : List ℕ → SessionBookState → Option Channel
 channel_named name b = lookup (bytes_eq name) b.channels
@@ -209,6 +213,15 @@ archived (Err fault) b = b
 
 abbrev pub after_rotate_finish : SessionBookState → SessionBookState
 after_rotate_finish b = archived (rotate_finish_answer b) b
+
+-- the pending rotation has cut stream i
+abbrev pub is_cut : ℕ → Option Pending → Bool
+is_cut i None = false
+is_cut i (Some p) = nat_lt i p.cut
+
+-- how many chunks of stream i are closed: one for each archive, and the pending one where it is cut
+abbrev pub chunks_closed : ℕ → SessionBookState → ℕ
+chunks_closed i b = length b.archives + (if is_cut i b.pending then 1 else 0)
 
 -- ---- snapshots
 

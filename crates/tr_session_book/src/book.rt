@@ -1,8 +1,8 @@
 //! The book of a session: what it keeps beside its streams.
 
-ghost use Rattle.std.specs.Prelude.{◌≡◌, ◌≢◌, ◌≤◌, ◌<◌, false, Some, Ok, Err, IsOk, IfOk, OnOk, IfErr, OnErr, is_some, length, option_copied, option_map};
+ghost use Rattle.std.specs.Prelude.{◌≡◌, ◌≢◌, ◌≤◌, ◌<◌, [], false, None, Some, Ok, Err, IsOk, IfOk, OnOk, IfErr, OnErr, is_some, length, option_copied, option_map};
 ghost use Rattle.tr_session_book.specs.Book.{new_book};
-ghost use Rattle.tr_session_book.specs.BookSteps.{most_channels, most_streams, channel_named, channel_added, with_channel, thread_place, thread_noted, with_thread, start_answer, after_start, stop_answer, after_stop, switch_answer, rotate_begin_answer, rotating, after_rotate_begin, cut_moment, with_cut, note_cut_answer, after_note_cut, rotate_finish_answer, after_rotate_finish};
+ghost use Rattle.tr_session_book.specs.BookSteps.{is_new, most_channels, most_streams, channel_named, channel_added, with_channel, thread_place, thread_noted, with_thread, start_answer, after_start, stop_answer, after_stop, switch_answer, rotate_begin_answer, rotating, after_rotate_begin, cut_moment, with_cut, note_cut_answer, after_note_cut, rotate_finish_answer, after_rotate_finish};
 ghost use Rattle.tr_session_book.specs.BookSteps as rules;
 
 use crate::archive::{Archive, Pending};
@@ -81,10 +81,11 @@ impl<A: Allocator> Model for SessionBook<A> {
     } };
 
     ghost use Rattle.std.specs.Prelude.{◌≡◌, ◌<◌, true, is_some, vec_capacity, vec_len};
-    ghost use Rattle.tr_session_book.specs.BookSteps.{IsWithinLimits};
+    ghost use Rattle.tr_session_book.specs.BookSteps.{IsWithinLimits, BeginsBare};
     ghost use Rattle.tr_stream.specs.declared.config.SessionMode.TheVariants.{Local};
 
-    // the place of the pending archive is reserved; a snapshot session has none
+    // the place of the pending archive is reserved; a snapshot session has none; before the first start there is nothing
+    // to archive
     ghost invariant = { λ b.
         IsWithinLimits (record {
           uuid = b.uuid;
@@ -101,7 +102,21 @@ impl<A: Allocator> Model for SessionBook<A> {
           schedule = b.schedule;
         })
         × (is_some b.pending ≡ true → vec_len b.archives < vec_capacity b.archives)
-        × (is_some b.pending ≡ true → b.mode ≡ Local) };
+        × (is_some b.pending ≡ true → b.mode ≡ Local)
+        × BeginsBare (record {
+          uuid = b.uuid;
+          offset = b.offset;
+          mode = b.mode;
+          state = b.state;
+          rotated = b.rotated;
+          last = b.last;
+          begin = b.begin;
+          channels = by_name b.channels.entries;
+          threads = b.threads.items;
+          pending = b.pending;
+          archives = b.archives.items;
+          schedule = b.schedule;
+        }) };
 }
 
 impl<A: Allocator + Copy> SessionBook<A> {
@@ -212,6 +227,7 @@ impl<A: Allocator + Copy> SessionBook<A> {
     fn begin_rotation(&mut self, id: u64, moment: Moment) -> Result<(), AllocError>
         requires id { id ≡ length self.old.archives }
         requires local { self.old.mode ≡ SessionMode.Local }
+        requires started { is_new self.old.state ≡ false }
         ensures ok { OnOk result (self.new ≡ rotating moment self.old) }
         ensures err { OnErr result (self.new ≡ self.old) }
     {
@@ -268,6 +284,7 @@ impl<A: Allocator> SessionBook<A> {
         ensures place { IfOk result (λ found. thread_place name.now self.now ≡ Ok found.0) }
         ensures channel { IfOk result (λ found. channel_named name.now self.now ≡ Some found.1) }
         ensures room { OnOk result (length self.now.threads < most_streams) }
+        ensures bare { OnOk result ((self.now.pending ≡ None) × (self.now.archives ≡ [])) }
         ensures err { IfErr result (λ fault. thread_place name.now self.now ≡ Err fault) }
     {
         if self.state != State::New {
@@ -290,6 +307,7 @@ impl<A: Allocator> SessionBook<A> {
     pub fn thread_channel(&self, name: &str) -> Result<Channel, SessionFault>
         ensures named { IfOk result (λ channel. channel_named name.now self.now ≡ Some channel) }
         ensures placed { OnOk result (IsOk (thread_place name.now self.now)) }
+        ensures bare { OnOk result ((self.now.pending ≡ None) × (self.now.archives ≡ [])) }
         ensures err { IfErr result (λ fault. thread_place name.now self.now ≡ Err fault) }
     {
         let (_, channel) = self.channel_at(name)?;
@@ -300,6 +318,7 @@ impl<A: Allocator> SessionBook<A> {
     fn next_chunk(&self) -> Result<u64, SessionFault>
         ensures value { result ≡ rotate_begin_answer self.now }
         ensures local { OnOk result (self.now.mode ≡ SessionMode.Local) }
+        ensures started { OnOk result (is_new self.now.state ≡ false) }
     {
         match self.mode {
             SessionMode::Snapshot => return Err(SessionFault::SnapshotMode),
