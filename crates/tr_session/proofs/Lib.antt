@@ -2,10 +2,10 @@ pub mod Agreement
 pub mod AuditLaws
 pub mod GapLaws
 pub mod ListLaws
-pub mod ModeLaws
 pub mod OwnSteps
 pub mod ResultLaws
 pub mod RunAgreement
 pub mod RunLaws
 pub mod SessionLaws
 pub mod SizeLaws
+pub mod StreamLaws

@@ -4,7 +4,7 @@ use Rattle.std.proofs.lemmas.Bool.Decides.{nat_tests}
 use Rattle.std.specs.Option.{option_map_or}
 use Rattle.std.specs.Prelude.{IsOk, if◌then◌else◌, nat_lt, option_map, slice_get}
 use Rattle.tr_session_book.proofs.BookLaws.{due-within}
-use Rattle.tr_session.proofs.ModeLaws.{as-many, mode-at, noted-is}
+use Rattle.tr_session.proofs.StreamLaws.{mode-at, noted-is}
 use Rattle.tr_session_book.specs.Book.{SessionBookState}
 use Rattle.tr_session_book.specs.BookSteps.{channel_named, noted_at, thread_noted, thread_place, unless_refused, cut_moment, with_cut, after_note_cut}
 use Rattle.tr_session.specs.Session.{SessionOf, HasItsStreams}
@@ -44,7 +44,7 @@ only-memory s i moment CutFault.SnapshotMode is local given = absurd (go (slice_
     go : (o : Option StreamState) → slice_get s.streams i ≡ o → option_map (cut_result moment) o ≡ Some (Err CutFault.SnapshotMode) → ⊥
     go None at refused = cc
     go (Some t) at refused =
-        let mode : t.config.session ≡ Local = mode-at s.streams s.book.threads s.book.mode i t is at ∙ local in
+        let mode : t.config.session ≡ Local = mode-at s i t is at ∙ local in
         let cuts : cut_result moment t ≡ Ok (cut_done (max moment t.book.last) t) = in-local t.config.session (Ok (cut_done (max moment t.book.last) t)) (Err CutFault.SnapshotMode) mode in
         cc
 
@@ -92,7 +92,7 @@ pub thread-made : (s t : SessionOf StreamState) (name uuid : List ℕ) (number :
     → stream ≡ new_state (record { uuid = uuid; number = number; geometry = channel.geometry; mode = channel.mode; session = mode }) → t.streams ≡ s.streams ++ stream ∷ [] → thread_noted name s.book ≡ Ok t.book
     → thread_added by_state name s ≡ Ok t
 thread-made s t name uuid number channel mode stream is named uuid_is number_is mode_is stream_is pushed noted =
-    let count : number ≡ length s.book.threads = number_is ∙ as-many s is in
+    let count : number ≡ length s.book.threads = number_is ∙ is.as_many in
     let config : (let c : StreamConfig = record { uuid = uuid; number = number; geometry = channel.geometry; mode = channel.mode; session = mode } in c) ≡ next_config channel s.book = cc in
     let kept = noted-is name s.book t.book noted in
     let made : t.streams ≡ s.streams ++ new_state (next_config channel s.book) ∷ [] = pushed ∙ ap (λ (u : StreamState). s.streams ++ u ∷ []) (stream_is ∙ ap new_state config) in
@@ -139,9 +139,9 @@ at-there (suc i) (t ∷ ts) within = at-there i ts (omega (arith, within))
 -- in a local session a cut that is due can be done
 pub cut-can : (s : SessionOf StreamState) (i moment : ℕ) → HasItsStreams s → s.book.mode ≡ Local → cut_moment i s.book ≡ Ok moment → IsOk (cut_step by_state i s)
 cut-can s i moment is local due =
-    let within : i < length s.streams = subst (λ (n : ℕ). i < n) (sym (as-many s is)) (due-within i moment s.book due) in
+    let within : i < length s.streams = subst (λ (n : ℕ). i < n) (sym (is.as_many)) (due-within i moment s.book due) in
     let there = at-there i s.streams within in
     let t = there.0 in
-    let mode : t.config.session ≡ Local = mode-at s.streams s.book.threads s.book.mode i t is there.1 ∙ local in
+    let mode : t.config.session ≡ Local = mode-at s i t is there.1 ∙ local in
     let cuts : cut_result moment t ≡ Ok (cut_done (max moment t.book.last) t) = in-local t.config.session (Ok (cut_done (max moment t.book.last) t)) (Err CutFault.SnapshotMode) mode in
     rw (due, there.1, cuts) refl

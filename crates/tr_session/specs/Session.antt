@@ -1,6 +1,8 @@
 -- A session over whatever stands for its streams.
-use Rattle.std.specs.Prelude.{◌≡◌, ℕ, ℤ, List, [], map}
+use Rattle.std.specs.Prelude.{◌≡◌, ℕ, ℤ, List, [], length, Some, slice_get}
 use Rattle.tr_session_book.specs.Book.{SessionBookState, new_book}
+use Rattle.tr_session_book.specs.BookSteps.{chunks_closed}
+use Rattle.tr_session_book.specs.declared.channel.Channel.{Channel}
 use Rattle.tr_stream.specs.State.{StreamState}
 use Rattle.tr_stream.specs.declared.config.SessionMode.{SessionMode}
 
@@ -9,13 +11,21 @@ pub record SessionOf (S : Type 0) : Type 0 where
   pub book : SessionBookState
   pub streams : List S
 
--- of each of a session's streams, what becomes of its packets
-abbrev pub modes_of : List StreamState → List SessionMode
-modes_of streams = map (λ (s : StreamState). s.config.session) streams
+-- the stream of number i
+pub record IsStreamOf (b : SessionBookState) (i : ℕ) (t : StreamState) : Type 0 where
+  pub place : ℕ
+  pub channel : List ℕ × Channel
+  pub has_place : slice_get b.threads i ≡ Some place
+  pub has_channel : slice_get b.channels place ≡ Some channel
+  -- it was made for this channel, in this session
+  pub config : t.config ≡ record { uuid = b.uuid; number = i; geometry = channel.1.geometry; mode = channel.1.mode; session = b.mode }
+  -- it has closed a part for each archive, and one more where the pending rotation has cut it
+  pub closed : length t.parts.closed ≡ chunks_closed i b
 
--- each thread of the book has its stream, of the session's mode
-abbrev pub HasItsStreams : SessionOf StreamState → Type 0
-HasItsStreams s = modes_of s.streams ≡ map (λ (place : ℕ). s.book.mode) s.book.threads
+-- each thread of the book has its stream
+pub record HasItsStreams (s : SessionOf StreamState) : Type 0 where
+  pub as_many : length s.streams ≡ length s.book.threads
+  pub are : (i : ℕ) (t : StreamState) → slice_get s.streams i ≡ Some t → IsStreamOf s.book i t
 
 -- a session without channels and streams
 abbrev pub new_session : {S : Type 0} → List ℕ → ℤ → SessionMode → SessionOf S

@@ -1,8 +1,8 @@
 //! A session, and its rules.
 
-ghost use Rattle.std.specs.Prelude.{◌≡◌, ◌≢◌, ◌≤◌, ◌<◌, ◌∷◌, ◌++◌, [], true, false, Some, Ok, Err, IsOk, IsSome, IfOk, OnOk, IfErr, OnErr, length, map, option_copied, slice_get};
+ghost use Rattle.std.specs.Prelude.{◌≡◌, ◌≢◌, ◌≤◌, ◌<◌, ◌∷◌, ◌++◌, [], true, false, None, Some, Ok, Err, IsOk, IsSome, IfSome, IfOk, OnOk, IfErr, OnErr, length, map, option_copied, slice_get};
 ghost use Rattle.tr_session_book.specs.BookSteps.{most_streams, channel_named, thread_place, start_answer, after_start, stop_answer, after_stop, switch_answer, rotate_begin_answer, cut_moment, rotate_finish_answer, snapshot_begin_answer, after_snapshot_begin, schedule_answer, after_schedule};
-ghost use Rattle.tr_session.specs.Session.{new_session};
+ghost use Rattle.tr_session.specs.Session.{IsStreamOf, new_session};
 ghost use Rattle.tr_session.specs.Steps.{session_channel_added, thread_added, StepTakesMemory, offer_step, after_offer_step, take_step, after_take_step, cut_step, after_cut_step, snap_step, after_switch_step, all_started, all_stopped, begun, finished, current_sizes, fate_asked};
 ghost use Rattle.tr_stream.specs.Rules.{by_state};
 ghost use Rattle.tr_stream.specs.StateSteps.{new_state, state_snap};
@@ -37,11 +37,10 @@ impl<A: Allocator> Model for Session<A> {
 
     ghost view = { λ s. record { book = s.book; streams = s.streams.items } };
 
-    ghost use Rattle.std.specs.Prelude.{◌≡◌, map};
-    ghost use Rattle.tr_session.specs.Session.{modes_of};
+    ghost use Rattle.tr_session.specs.Session.{HasItsStreams};
 
-    // each thread of the book has its stream, of the session's mode
-    ghost invariant = { λ s. modes_of s.streams.items ≡ map (λ place. s.book.mode) s.book.threads };
+    // each thread of the book has its stream
+    ghost invariant = { λ s. HasItsStreams (record { book = s.book; streams = s.streams.items }) };
 }
 
 impl<A: Allocator + Copy> Session<A> {
@@ -96,6 +95,7 @@ impl<A: Allocator + Copy> Session<A> {
     fn keep_stream(&mut self, name: &str, channel: Channel) -> Result<u64, SessionFault>
         requires named { channel_named name.now self.old.book ≡ Some channel }
         requires placed { IsOk (thread_place name.now self.old.book) }
+        requires bare { (self.old.book.pending ≡ None) × (self.old.book.archives ≡ []) }
         ensures number { IfOk result (λ number. number ≡ length self.old.streams) }
         ensures ok { OnOk result (thread_added by_state name.now self.old ≡ Ok self.new) }
         ensures reason { IfErr result (λ fault. fault ≡ SessionFault.NoMemory) }
@@ -371,6 +371,7 @@ impl<A: Allocator> Session<A> {
     /// How many streams there are.
     pub fn streams(&self) -> u64
         ensures value { result ≡ length self.now.streams }
+        ensures threads { result ≡ length self.now.book.threads }
         ensures within { result ≤ most_streams }
     {
         self.book.streams() as u64
@@ -378,7 +379,8 @@ impl<A: Allocator> Session<A> {
 
     /// The stream of this number.
     pub fn stream(&self, i: u64) -> Option<&Stream<A>>
-        ensures { option_copied result ≡ slice_get self.now.streams i }
+        ensures value { option_copied result ≡ slice_get self.now.streams i }
+        ensures is { IfSome result (λ t. IsStreamOf self.now.book i t.now) }
     {
         self.streams.get(i as usize)
     }

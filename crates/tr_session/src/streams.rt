@@ -2,7 +2,6 @@
 
 ghost use Rattle.std.specs.Prelude.{◌≡◌, ◌≢◌, ◌<◌, Some, Err, IfOk, IsOk, length, map, option_map, slice_get};
 ghost use Rattle.std.specs.Option.{option_map_or};
-ghost use Rattle.tr_session.specs.Session.{modes_of};
 ghost use Rattle.tr_session.specs.Steps.{changed_at, offer_as_step, take_as_step, StepTakesMemory};
 ghost use Rattle.tr_stream.specs.StateSteps.{offer_result, state_after_offer, take_result, state_after_take, cut_result, state_after_cut, state_snap, state_switched, state_counts};
 
@@ -16,16 +15,14 @@ use tr_stream::{CutDone, CutFault, OfferFault, Offered, Stream, TakeFault, Taken
 /// Lets the stream of this number take offers, or lets it refuse them.
 pub fn switch_at<A: Allocator>(streams: &mut Vec<Stream<A>, A>, active: bool, i: usize)
     requires { i < length streams.old.items }
-    ensures value { streams.new.items ≡ changed_at i (state_switched active) streams.old.items }
-    ensures modes { modes_of streams.new.items ≡ modes_of streams.old.items }
+    ensures { streams.new.items ≡ changed_at i (state_switched active) streams.old.items }
 {
     streams[i].set_active(active);
 }
 
 /// Lets each stream take offers, or lets each refuse them.
 pub fn switch<A: Allocator>(streams: &mut Vec<Stream<A>, A>, active: bool)
-    ensures value { streams.new.items ≡ map (state_switched active) streams.old.items }
-    ensures modes { modes_of streams.new.items ≡ modes_of streams.old.items }
+    ensures { streams.new.items ≡ map (state_switched active) streams.old.items }
 {
     'each: for i in 0..streams.len() {
         switch_at(streams, active, i);
@@ -44,7 +41,6 @@ fn offer_to<A: Allocator + Copy>(
         × (stream.new ≡ state_after_offer moment id payload.now stream.old) }
     ensures no_memory { result ≡ Err (StepFault.Offer OfferFault.NoMemory) → stream.new ≡ stream.old }
     ensures memory { result ≡ Err (StepFault.Offer OfferFault.NoMemory) → StepTakesMemory (offer_as_step (offer_result moment id payload.now stream.old)) }
-    ensures config { stream.new.config ≡ stream.old.config }
 {
     Ok(stream.offer(moment, id, payload)?)
 }
@@ -63,7 +59,6 @@ pub fn offer_at<A: Allocator + Copy>(
     ensures no_memory { result ≡ Err (StepFault.Offer OfferFault.NoMemory) → streams.new.items ≡ streams.old.items }
     ensures memory { result ≡ Err (StepFault.Offer OfferFault.NoMemory) →
         StepTakesMemory (option_map_or (λ s. offer_as_step (offer_result moment id payload.now s)) (slice_get streams.old.items i) (Err (StepFault.Session SessionFault.NoStream))) }
-    ensures modes { modes_of streams.new.items ≡ modes_of streams.old.items }
 {
     let Some(stream) = streams.get_mut(i as usize) else {
         return Err(StepFault::Session(SessionFault::NoStream));
@@ -77,7 +72,6 @@ fn take_from<A: Allocator + Copy>(stream: &mut Stream<A>) -> Result<Taken, StepF
         (result ≡ take_as_step (take_result stream.old)) × (stream.new ≡ state_after_take stream.old) }
     ensures no_memory { result ≡ Err (StepFault.Take TakeFault.NoMemory) → stream.new ≡ stream.old }
     ensures memory { result ≡ Err (StepFault.Take TakeFault.NoMemory) → IsOk (take_as_step (take_result stream.old)) }
-    ensures config { stream.new.config ≡ stream.old.config }
 {
     Ok(stream.take()?)
 }
@@ -93,7 +87,6 @@ pub fn take_at<A: Allocator + Copy>(
     ensures no_memory { result ≡ Err (StepFault.Take TakeFault.NoMemory) → streams.new.items ≡ streams.old.items }
     ensures memory { result ≡ Err (StepFault.Take TakeFault.NoMemory) →
         IsOk (option_map_or (λ s. take_as_step (take_result s)) (slice_get streams.old.items i) (Err (StepFault.Session SessionFault.NoStream))) }
-    ensures modes { modes_of streams.new.items ≡ modes_of streams.old.items }
 {
     let Some(stream) = streams.get_mut(i as usize) else {
         return Err(StepFault::Session(SessionFault::NoStream));
@@ -112,7 +105,6 @@ pub fn cut_at<A: Allocator + Copy>(
         (option_map (cut_result moment) (slice_get streams.old.items i) ≡ Some result)
         × (streams.new.items ≡ changed_at i (state_after_cut moment) streams.old.items) }
     ensures no_memory { result ≡ Err CutFault.NoMemory → streams.new.items ≡ streams.old.items }
-    ensures modes { modes_of streams.new.items ≡ modes_of streams.old.items }
 {
     streams[i as usize].cut(moment)
 }

@@ -4,7 +4,6 @@ use Rattle.std.specs.Prelude.{option_map}
 use Rattle.tr_session.proofs.ListLaws.{changed_at-set}
 use Rattle.tr_session.proofs.streams.cut_at.Goals as goal
 use Rattle.tr_stream.specs.StateSteps.{cut_result, state_after_cut}
-use Rattle.tr_session.proofs.ModeLaws.{modes-set}
 
 pub returns-clause-value : goal.returns-clause-value
 returns-clause-value g c = λ not_memory.
@@ -12,9 +11,3 @@ returns-clause-value g c = λ not_memory.
     let at = slice_get_read xs (length xs) c.args.i c.index_mut.result.now refl c.requires c.index_mut.ensures.value in
     let did = c.cut.ensures.value not_memory in
     (ap (option_map (cut_result c.args.moment)) at ∙ ap (λ r. Some r) (sym did.0), changed_at-set (state_after_cut c.args.moment) c.args.i xs c.index_mut.result.now c.cut.new.self at did.1)
-
-pub returns-clause-modes : goal.returns-clause-modes
-returns-clause-modes g c =
-    let xs = c.args.streams.now.items in
-    let at = slice_get_read xs (length xs) c.args.i c.index_mut.result.now refl c.requires c.index_mut.ensures.value in
-    modes-set xs c.args.i c.index_mut.result.now c.cut.new.self at c.cut.ensures.config

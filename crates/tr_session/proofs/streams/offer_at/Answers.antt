@@ -2,7 +2,6 @@ use Rattle.std.proofs.Common.{refl}
 use Rattle.tr_session.proofs.ListLaws.{changed_at-set, changed_at-past, lent-none, lent-some, set-same}
 use Rattle.tr_session.proofs.streams.offer_at.Goals as goal
 use Rattle.tr_stream.specs.StateSteps.{state_after_offer}
-use Rattle.tr_session.proofs.ModeLaws.{modes-set}
 
 pub returns-in_default-clause-value : goal.returns-in_default-clause-value
 returns-in_default-clause-value g c = λ _.
@@ -20,8 +19,3 @@ pub returns-clause-no_memory : goal.returns-clause-no_memory
 returns-clause-no_memory g c = λ memory.
     let xs = c.args.streams.now.items in
     set-same c.args.i xs c.in-Some.stream.now c.offer_to.new.stream (lent-some xs c.args.i c.in-Some.stream c.in-Some.ensures.item) (c.offer_to.ensures.no_memory memory)
-
-pub returns-clause-modes : goal.returns-clause-modes
-returns-clause-modes g c =
-    let xs = c.args.streams.now.items in
-    modes-set xs c.args.i c.in-Some.stream.now c.offer_to.new.stream (lent-some xs c.args.i c.in-Some.stream c.in-Some.ensures.item) c.offer_to.ensures.config

@@ -7,10 +7,7 @@ use Rattle.tr_stream.specs.StateSteps.{state_switched}
 pub each-preserved : goal.each-preserved
 each-preserved g c =
     let on : StreamState → StreamState = state_switched c.args.active in
-    record {
-      items = changed_before-more on c.each.i c.args.streams.now.items c.each.streams.items _ (omega arith) c.each.invariant.items c.switch_at.ensures.value;
-      modes = c.switch_at.ensures.modes ∙ c.each.invariant.modes;
-    }
+    changed_before-more on c.each.i c.args.streams.now.items c.each.streams.items _ (omega arith) c.each.invariant c.switch_at.ensures
 
-pub returns-clause-value : goal.returns-clause-value
-returns-clause-value g c = c.each.invariant.items ∙ changed_before-all (state_switched c.args.active) c.each.i c.args.streams.now.items (omega arith)
+pub returns : goal.returns
+returns g c = c.each.invariant ∙ changed_before-all (state_switched c.args.active) c.each.i c.args.streams.now.items (omega arith)

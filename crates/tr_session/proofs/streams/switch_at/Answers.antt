@@ -3,17 +3,10 @@ use Rattle.std.proofs.lemmas.Option.{slice_get_read}
 use Rattle.tr_session.proofs.ListLaws.{changed_at-set}
 use Rattle.tr_session.proofs.streams.switch_at.Goals as goal
 use Rattle.tr_stream.specs.StateSteps.{state_switched}
-use Rattle.tr_session.proofs.ModeLaws.{modes-set}
 use Rattle.tr_stream.specs.State.{StreamState}
 
-pub returns-clause-value : goal.returns-clause-value
-returns-clause-value g c =
+pub returns : goal.returns
+returns g c =
     let xs = c.args.streams.now.items in
     let at = slice_get_read xs (length xs) c.args.i c.index_mut.result.now refl c.requires c.index_mut.ensures.value in
     changed_at-set (state_switched c.args.active) c.args.i xs c.index_mut.result.now c.set_active.new.self at c.set_active.ensures.value
-
-pub returns-clause-modes : goal.returns-clause-modes
-returns-clause-modes g c =
-    let xs = c.args.streams.now.items in
-    let at = slice_get_read xs (length xs) c.args.i c.index_mut.result.now refl c.requires c.index_mut.ensures.value in
-    modes-set xs c.args.i c.index_mut.result.now c.set_active.new.self at (ap (λ (s : StreamState). s.config) c.set_active.ensures.value)

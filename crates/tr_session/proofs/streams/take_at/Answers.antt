@@ -2,7 +2,6 @@ use Rattle.std.proofs.Common.{refl}
 use Rattle.tr_session.proofs.ListLaws.{changed_at-set, changed_at-past, lent-none, lent-some}
 use Rattle.tr_session.proofs.streams.take_at.Goals as goal
 use Rattle.tr_stream.specs.StateSteps.{state_after_take}
-use Rattle.tr_session.proofs.ModeLaws.{modes-set}
 
 pub returns-in_default-clause-value : goal.returns-in_default-clause-value
 returns-in_default-clause-value g c = λ _.
@@ -15,8 +14,3 @@ returns-clause-value g c = λ not_memory.
     let at = lent-some xs c.args.i c.in-Some.stream c.in-Some.ensures.item in
     let did = c.take_from.ensures.value not_memory in
     (rw at did.0, changed_at-set state_after_take c.args.i xs c.in-Some.stream.now c.take_from.new.stream at did.1)
-
-pub returns-clause-modes : goal.returns-clause-modes
-returns-clause-modes g c =
-    let xs = c.args.streams.now.items in
-    modes-set xs c.args.i c.in-Some.stream.now c.take_from.new.stream (lent-some xs c.args.i c.in-Some.stream c.in-Some.ensures.item) c.take_from.ensures.config

@@ -1,6 +1,6 @@
 use Rattle.std.proofs.Common.{◌∙◌, ap, sym, subst}
 use Rattle.std.specs.Prelude.{IsOk}
-use Rattle.tr_session.proofs.ModeLaws.{same-book}
+use Rattle.tr_session.proofs.StreamLaws.{channel-step, other-book}
 use Rattle.tr_session.proofs.ResultLaws.{on-ok, on-err, if-err}
 use Rattle.tr_session.proofs.SessionLaws.{added-ok}
 use Rattle.tr_session.specs.Steps.{session_channel_added, with_book}
@@ -10,7 +10,9 @@ use Rattle.tr_session.specs.Session.{SessionOf}
 use Rattle.tr_stream.specs.State.{StreamState}
 
 pub invariant_of-self : goal.invariant_of-self
-invariant_of-self g c = same-book c.self.inside.book c.add_channel.new.self c.self.inside.streams.items c.self.invariant c.add_channel.ensures.streams c.add_channel.ensures.mode
+invariant_of-self g c =
+    other-book c.self.inside.book c.add_channel.new.self c.self.inside.streams.items
+    (channel-step c.add_channel.result c.args.name.now c.args.size c.args.count c.args.mode c.self.inside.book c.add_channel.new.self c.add_channel.ensures.ok c.add_channel.ensures.unchanged) c.self.invariant
 
 pub returns-clause-ok : goal.returns-clause-ok
 returns-clause-ok g c =

@@ -22,7 +22,7 @@ overflow_add-size-in-streams-2 g c = let fits = fits-bytes c.streams.i c.streams
 
 pub streams-preserved : goal.streams-preserved
 streams-preserved g c =
-    let at : slice_get c.args.self.now.streams c.streams.i ≡ Some c.in-Some.stream.now = sym c.in-Some.ensures in
+    let at : slice_get c.args.self.now.streams c.streams.i ≡ Some c.in-Some.stream.now = sym c.in-Some.ensures.value in
     tallies-more c.streams.i c.args.id c.args.self.now c.streams.size c.part_size-part.result c.in-Some.stream.now c.streams.invariant at
     c.part_size-part.ensures.packets c.part_size-part.ensures.records c.part_size-part.ensures.bytes c.part_size-part.ensures.few
 

@@ -1,11 +1,11 @@
 use Rattle.std.specs.Prelude.{IsOk}
-use Rattle.std.proofs.Common.{◌≡◌, ◌∙◌, ◌<◌, ℕ, List, Ok, Err, Result, ap, sym, subst}
+use Rattle.std.proofs.Common.{◌≡◌, ◌∙◌, ◌<◌, ℕ, List, Ok, Err, Result, ap, refl, sym, subst}
 use Rattle.tr_session_book.proofs.BookLaws.{due-within}
-use Rattle.tr_session.proofs.ModeLaws.{as-many, same-book}
+use Rattle.tr_session.proofs.StreamLaws.{after-cut, same-session}
 use Rattle.tr_session.proofs.SessionLaws.{noted-due, cut-can, cut-noted, only-memory, ok-not-err}
 use Rattle.tr_session.proofs.session.Session.cut_now.Goals as goal
 use Rattle.tr_session_book.specs.Book.{SessionBookState}
-use Rattle.tr_session_book.specs.BookSteps.{cut_moment}
+use Rattle.tr_session_book.specs.BookSteps.{cut_moment, with_cut}
 use Rattle.tr_session.specs.Session.{SessionOf}
 use Rattle.tr_session.specs.Steps.{after_cut_step, cut_step}
 use Rattle.tr_session.specs.declared.faults.StepFault.{StepFault}
@@ -18,17 +18,23 @@ use Rattle.tr_stream.specs.declared.answers.CutFault.{CutFault}
 pub cut_at-requires : goal.cut_at-requires
 cut_at-requires g c =
     let s : SessionOf StreamState = record { book = c.self.inside.book; streams = c.self.inside.streams.items } in
-    subst (λ (n : ℕ). c.args.i < n) (sym (as-many s c.self.invariant))
+    subst (λ (n : ℕ). c.args.i < n) (sym c.self.invariant.as_many)
     (due-within c.args.i c.args.moment c.self.inside.book (ap (λ (s : SessionOf StreamState). cut_moment c.args.i s.book) c.self.view_is ∙ c.requires.due))
 
 pub invariant_of-self : goal.invariant_of-self
 invariant_of-self g c =
     let due : cut_moment c.args.i c.self.inside.book ≡ Ok c.args.moment = ap (λ (t : SessionOf StreamState). cut_moment c.args.i t.book) c.self.view_is ∙ c.requires.due in
-    let counted = c.note_cut.ensures.after ∙ noted-due c.args.i c.args.moment c.self.inside.book due in
-    c.cut_at.ensures.modes ∙ same-book c.self.inside.book c.note_cut.new.self c.self.inside.streams.items c.self.invariant (ap (λ (b : SessionBookState). b.threads) counted) (ap (λ (b : SessionBookState). b.mode) counted)
+    let local = ap (λ (t : SessionOf StreamState). t.book.mode) c.self.view_is ∙ c.requires.local in
+    let did = c.in-Ok.ensures.value (λ same. absurd (ok-not-err same)) in
+    same-session (with_cut c.self.inside.book) c.note_cut.new.self _ c.cut_at.new.streams.items (c.note_cut.ensures.after ∙ noted-due c.args.i c.args.moment c.self.inside.book due) did.1
+    (after-cut c.self.inside.book c.self.inside.streams.items c.args.i c.args.moment c.args.moment due local c.self.invariant)
 
 pub invariant_of-self-in-Err : goal.invariant_of-self-in-Err
-invariant_of-self-in-Err g c = c.cut_at.ensures.modes ∙ c.self.invariant
+invariant_of-self-in-Err g c =
+    let s : SessionOf StreamState = record { book = c.self.inside.book; streams = c.self.inside.streams.items } in
+    let memory = only-memory s c.args.i c.args.moment c.in-Err.fault c.self.invariant (ap (λ (t : SessionOf StreamState). t.book.mode) c.self.view_is ∙ c.requires.local) (λ other. (c.in-Err.ensures.value other).0) in
+    same-session c.self.inside.book c.self.inside.book c.self.inside.streams.items c.cut_at.new.streams.items refl
+    (c.cut_at.ensures.no_memory (c.in-Err.is ∙ ap (λ (f : CutFault). (let r : Result CutDone CutFault = Err f in r)) memory)) c.self.invariant
 
 pub returns-in-Ok-clause-value : goal.returns-in-Ok-clause-value
 returns-in-Ok-clause-value g c = λ _.

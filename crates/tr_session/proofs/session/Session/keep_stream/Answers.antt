@@ -1,32 +1,38 @@
 use Rattle.std.proofs.Common.{◌≡◌, ◌∙◌, ◌++◌, ◌∷◌, [], Ok, Result, List, ap, length, rules, sym}
-use Rattle.tr_session.proofs.ModeLaws.{as-many, one-more, same-book}
+use Rattle.tr_session.proofs.StreamLaws.{one-more, same-session}
 use Rattle.tr_session.proofs.SessionLaws.{thread-made, thread-wants}
 use Rattle.tr_session.proofs.session.Session.keep_stream.Goals as goal
-use Rattle.tr_session.specs.Session.{SessionOf, modes_of}
+use Rattle.tr_session.specs.Session.{SessionOf}
 use Rattle.tr_session.specs.Steps.{thread_added}
 use Rattle.tr_session_book.specs.Book.{SessionBookState}
 use Rattle.tr_session_book.specs.BookSteps.{channel_named, thread_noted}
 use Rattle.tr_stream.specs.Rules.{by_state}
 use Rattle.tr_stream.specs.State.{StreamState}
+use Rattle.tr_stream.specs.StateSteps.{new_state}
 use Rattle.tr_stream.specs.declared.config.StreamConfig.{StreamConfig}
 
 pub invariant_of-self-in-Ok : goal.invariant_of-self-in-Ok
 invariant_of-self-in-Ok g c =
-    let config : StreamConfig = record { uuid = c.uuid.result; number = c.len.result; geometry = c.args.channel.geometry; mode = c.args.channel.mode; session = c.mode.result } in
-    one-more c.self.inside.book c.add_thread.new.self c.self.inside.streams.items c.push_reserved.new.self.items c.args.name.now config c.in_ok-stream.stream c.self.invariant
-    c.mode.ensures c.in_ok-stream.ensures.value
-    (c.push_reserved.ensures.items ∙ ap (λ (ts : List StreamState). ts ++ c.in_ok-stream.stream ∷ []) c.reserve.ensures.items) c.in-Ok.ensures.ok
+    let book : SessionBookState = c.self.inside.book in
+    let old = c.self.view_is in
+    let named = ap (λ (u : SessionOf StreamState). channel_named c.args.name.now u.book) old ∙ c.requires.named in
+    one-more book c.add_thread.new.self c.self.inside.streams.items c.push_reserved.new.self.items c.args.name.now c.args.channel c.in_ok-stream.stream c.self.invariant
+    (ap (λ (u : SessionOf StreamState). u.book.pending) old ∙ c.requires.bare.0) (ap (λ (u : SessionOf StreamState). u.book.archives) old ∙ c.requires.bare.1)
+    named c.in-Ok.ensures.ok (c.in_ok-stream.ensures.value ∙ ap new_state made)
+    (c.push_reserved.ensures.items ∙ ap (λ (ts : List StreamState). ts ++ c.in_ok-stream.stream ∷ []) c.reserve.ensures.items)
+  where
+    made : (let k : StreamConfig = record { uuid = c.uuid.result; number = c.len.result; geometry = c.args.channel.geometry; mode = c.args.channel.mode; session = c.mode.result } in k)
+        ≡ record { uuid = c.self.inside.book.uuid; number = length c.self.inside.streams.items; geometry = c.args.channel.geometry; mode = c.args.channel.mode; session = c.self.inside.book.mode }
+    made = let uuid = c.uuid.ensures in let mode = c.mode.ensures in let len : c.len.result ≡ length c.self.inside.streams.items = search rules in cc
 
 pub invariant_of-self-in-Err-1 : goal.invariant_of-self-in-Err-1
 invariant_of-self-in-Err-1 g c =
-    let same = c.in-Err.ensures.unchanged in
-    ap modes_of c.reserve.ensures.items
-    ∙ same-book c.self.inside.book c.add_thread.new.self c.self.inside.streams.items c.self.invariant (ap (λ (b : SessionBookState). b.threads) same) (ap (λ (b : SessionBookState). b.mode) same)
+    same-session c.self.inside.book c.add_thread.new.self c.self.inside.streams.items _ c.in-Err.ensures.unchanged c.reserve.ensures.items c.self.invariant
 
 pub returns-in-Ok-clause-number : goal.returns-in-Ok-clause-number
 returns-in-Ok-clause-number g c =
     let s : SessionOf StreamState = record { book = c.self.inside.book; streams = c.self.inside.streams.items } in
-    c.in-Ok.ensures.number ∙ sym (as-many s c.self.invariant) ∙ ap (λ (t : SessionOf StreamState). length t.streams) c.self.view_is
+    c.in-Ok.ensures.number ∙ sym c.self.invariant.as_many ∙ ap (λ (t : SessionOf StreamState). length t.streams) c.self.view_is
 
 pub returns-in-Ok-clause-ok : goal.returns-in-Ok-clause-ok
 returns-in-Ok-clause-ok g c =

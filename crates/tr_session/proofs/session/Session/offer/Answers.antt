@@ -4,6 +4,11 @@ use Rattle.tr_session.specs.Session.{SessionOf}
 use Rattle.tr_session.specs.Steps.{StepTakesMemory, offer_step, after_offer_step}
 use Rattle.tr_stream.specs.Rules.{by_state}
 use Rattle.tr_stream.specs.State.{StreamState}
+use Rattle.tr_session.proofs.StreamLaws.{offer-step}
+
+pub invariant_of-self : goal.invariant_of-self
+invariant_of-self g c =
+    offer-step c.offer_at.result c.self.inside.book c.self.inside.streams.items c.offer_at.new.streams.items c.args.i c.args.moment c.args.id c.args.payload.now c.offer_at.ensures.value c.offer_at.ensures.no_memory c.self.invariant
 
 pub returns-clause-value : goal.returns-clause-value
 returns-clause-value g c = λ not_memory.

@@ -1,6 +1,6 @@
 use Rattle.std.proofs.Common.{◌∙◌, ap, subst}
 use Rattle.std.specs.Prelude.{IsOk}
-use Rattle.tr_session.proofs.ModeLaws.{same-book}
+use Rattle.tr_session.proofs.StreamLaws.{begin-step, other-book}
 use Rattle.tr_session_book.specs.BookSteps.{rotate_begin_answer}
 use Rattle.tr_session.specs.Steps.{begun}
 use Rattle.tr_session.proofs.session.Session.rotate_begin.Goals as goal
@@ -9,7 +9,9 @@ use Rattle.tr_session.specs.Session.{SessionOf}
 use Rattle.tr_stream.specs.State.{StreamState}
 
 pub invariant_of-self : goal.invariant_of-self
-invariant_of-self g c = same-book c.self.inside.book c.rotate_begin.new.self c.self.inside.streams.items c.self.invariant c.rotate_begin.ensures.streams c.rotate_begin.ensures.mode
+invariant_of-self g c =
+    other-book c.self.inside.book c.rotate_begin.new.self c.self.inside.streams.items
+    (begin-step c.rotate_begin.result c.args.moment c.self.inside.book c.rotate_begin.new.self c.rotate_begin.ensures.value c.rotate_begin.ensures.no_memory) c.self.invariant
 
 pub returns-clause-value : goal.returns-clause-value
 returns-clause-value g c = λ not_memory.

@@ -5,6 +5,11 @@ use Rattle.tr_session.specs.Session.{SessionOf}
 use Rattle.tr_session.specs.Steps.{take_step, after_take_step}
 use Rattle.tr_stream.specs.Rules.{by_state}
 use Rattle.tr_stream.specs.State.{StreamState}
+use Rattle.tr_session.proofs.StreamLaws.{take-step}
+
+pub invariant_of-self : goal.invariant_of-self
+invariant_of-self g c =
+    take-step c.take_at.result c.self.inside.book c.self.inside.streams.items c.take_at.new.streams.items c.args.i c.take_at.ensures.value c.take_at.ensures.no_memory c.self.invariant
 
 pub returns-clause-value : goal.returns-clause-value
 returns-clause-value g c = λ not_memory.
