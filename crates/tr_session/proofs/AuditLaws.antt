@@ -7,14 +7,14 @@ use Rattle.std.specs.List.{AllByRecursion, flat_map, last_or}
 use Rattle.std.specs.Cmp.Lexicographic.{pointwise}
 use Rattle.std.specs.Prelude.{IsTrue, ◌&&◌, nat_eq, unwrap_or}
 use Rattle.tr_book.specs.Parts.{PartState}
-use Rattle.tr_chunk.specs.Audit.{numbers_of, serials_of, records_in, belongs, BelongsTo, rise_from, all_of, AreAudited, audit_of}
+use Rattle.tr_chunk.specs.Audit.{numbers_of, serials_of, records_in, belongs, BelongsTo, rise_from, all_of, AreAudited, audit_of, is_in_runs}
 use Rattle.tr_packet.specs.Order.{follows, rise_after}
 use Rattle.tr_packet.specs.Packets.{Contents, IsPacket}
 use Rattle.tr_record.proofs.RecordLemmas.{all_append}
 use Rattle.tr_record.specs.Records.{Entry}
 use Rattle.tr_ring.specs.ClosedBuffer.{ClosedBuffer}
 use Rattle.tr_session.proofs.GapLaws.{low, gaps-are, numbers-packets}
-use Rattle.tr_session.specs.Audits.{packets_by_part, packets_in, files_of, LastIs, in_runs, was_dropped, kept_above}
+use Rattle.tr_session.specs.Audits.{packets_by_part, packets_in, files_of, LastIs, was_dropped, kept_above}
 use Rattle.tr_stream.proofs.Consistency.{rising-where}
 use Rattle.tr_stream.proofs.FateLaws.{parts-are}
 use Rattle.tr_stream.proofs.ModelLaws.{well_run}
@@ -129,10 +129,13 @@ passes s h sound is =
       };
     }
 
+-- the gaps are what was dropped below the last kept block
+pub gaps-within : (A : Type 0) (c : StreamConfig) (h : History) (n : ℕ) → IsWellFormed h → is_in_runs n (audit_of {A = A} (map (packet_of c) (consumed_of h))).gaps ≡ (was_dropped n h.closed && kept_above n h.closed)
+gaps-within A c h n well = gaps-are c n h.closed well.numbers well.order
+
 module _ {A : Type 0} where
-  -- the gaps are what was dropped below the last kept block
-  pub gaps-dropped : (c : StreamConfig) (events : List (StreamEvent A)) (n : ℕ) → IsUsable c → (let h = after_events c events start in in_runs n (audit_of {A = A} (map (packet_of c) (consumed_of h))).gaps ≡ (was_dropped n h.closed && kept_above n h.closed))
+  -- in every run
+  pub gaps-dropped : (c : StreamConfig) (events : List (StreamEvent A)) (n : ℕ) → IsUsable c → (let h = after_events c events start in is_in_runs n (audit_of {A = A} (map (packet_of c) (consumed_of h))).gaps ≡ (was_dropped n h.closed && kept_above n h.closed))
   gaps-dropped c events n usable =
       let h = after_events c events start in
-      let well = well_run c events usable in
-      gaps-are c n h.closed well.numbers well.order
+      gaps-within A c h n (well_run c events usable)

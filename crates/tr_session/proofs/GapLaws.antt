@@ -4,9 +4,9 @@ use Rattle.std.proofs.lemmas.Bool.Decides.{nat_tests}
 use Rattle.std.proofs.lemmas.Grind.{common_steps}
 use Rattle.std.proofs.lemmas.List.Folds.{list_any-append}
 use Rattle.std.specs.Prelude.{nat_lt, nat_le, nat_eq, ◌&&◌, ◌||◌}
-use Rattle.tr_chunk.specs.Audit.{numbers_of, gap_before, gaps_behind}
+use Rattle.tr_chunk.specs.Audit.{numbers_of, gap_before, gaps_behind, is_in_runs}
 use Rattle.tr_ring.specs.ClosedBuffer.{ClosedBuffer}
-use Rattle.tr_session.specs.Audits.{in_runs, was_dropped, kept_above}
+use Rattle.tr_session.specs.Audits.{was_dropped, kept_above}
 use Rattle.tr_stream.proofs.ChunkLaws.{none_wait}
 use Rattle.tr_stream.specs.Chunks.{buffers_where, packet_of}
 use Rattle.tr_stream.specs.History.{Status, Waiting, Dropped, Kept, Closed, is_waiting, is_kept}
@@ -21,7 +21,7 @@ abbrev pub low : Option ℕ → ℕ
 low None = 0
 low (Some before) = before + 1
 
-in_gap : (before : Option ℕ) (q n : ℕ) → in_runs n (gap_before before q) ≡ (nat_le (low before) n && nat_lt n q)
+in_gap : (before : Option ℕ) (q n : ℕ) → is_in_runs n (gap_before before q) ≡ (nat_le (low before) n && nat_lt n q)
 in_gap None q n = grind (arith, nat_tests, common_steps)
 in_gap (Some before) q n = grind (arith, nat_tests, common_steps)
 
@@ -51,14 +51,14 @@ bool_kept : (lo n place : ℕ) (d k l g : Bool) → lo ≤ place → (n < place 
 bool_kept lo n place d k l g le none gap is = grind (arith, nat_tests, le, none, gap, is)
 
 gap_step : (n place lost : ℕ) (before : Option ℕ) (c : Closed) (cs : List Closed) (st : Status) → c.status ≡ st → NumberedFrom place (c ∷ cs) → WaitLast (c ∷ cs) → low before ≤ place
-    → in_runs n (gaps_behind (Some place) (seqs (buffers_where is_kept (lost + length c.block.missed) cs))) ≡ (((nat_le (place + 1) n && nat_lt n (place + 1)) || was_dropped n cs) && kept_above n cs)
-    → in_runs n (gaps_behind before (seqs (buffers_where is_kept (lost + length c.block.missed) cs))) ≡ (((nat_le (low before) n && nat_lt n (place + 1)) || was_dropped n cs) && kept_above n cs)
-    → in_runs n (gaps_behind before (seqs (buffers_where is_kept lost (c ∷ cs)))) ≡ (((nat_le (low before) n && nat_lt n place) || was_dropped n (c ∷ cs)) && kept_above n (c ∷ cs))
+    → is_in_runs n (gaps_behind (Some place) (seqs (buffers_where is_kept (lost + length c.block.missed) cs))) ≡ (((nat_le (place + 1) n && nat_lt n (place + 1)) || was_dropped n cs) && kept_above n cs)
+    → is_in_runs n (gaps_behind before (seqs (buffers_where is_kept (lost + length c.block.missed) cs))) ≡ (((nat_le (low before) n && nat_lt n (place + 1)) || was_dropped n cs) && kept_above n cs)
+    → is_in_runs n (gaps_behind before (seqs (buffers_where is_kept lost (c ∷ cs)))) ≡ (((nat_le (low before) n && nat_lt n place) || was_dropped n (c ∷ cs)) && kept_above n (c ∷ cs))
 gap_step n place lost before c cs Waiting e numbers order le kept dropped =
     let waits : is_waiting c.status ≡ true = ap is_waiting e in
     let nothing : buffers_where is_kept lost (c ∷ cs) ≡ [] = none_wait is_kept lost (c ∷ cs) refl (waits, order.0 waits) in
     let above : kept_above n (c ∷ cs) ≡ false = none-kept n (c ∷ cs) (waits, order.0 waits) in
-    ap (λ (bs : List ClosedBuffer). in_runs n (gaps_behind before (seqs bs))) nothing
+    ap (λ (bs : List ClosedBuffer). is_in_runs n (gaps_behind before (seqs bs))) nothing
     ∙ bool_waiting ((nat_le (low before) n && nat_lt n place) || was_dropped n (c ∷ cs))
     ∙ ap (λ (k : Bool). ((nat_le (low before) n && nat_lt n place) || was_dropped n (c ∷ cs)) && k) (sym above)
 gap_step n place lost before c cs Dropped e numbers order le kept dropped =
@@ -70,7 +70,7 @@ gap_step n place lost before c cs (Kept k) e numbers order le kept dropped =
     )
 
 -- the runs of absent numbers are the dropped blocks below a kept one
-gaps-closed : (n place lost : ℕ) (before : Option ℕ) (cs : List Closed) → NumberedFrom place cs → WaitLast cs → low before ≤ place → in_runs n (gaps_behind before (seqs (buffers_where is_kept lost cs))) ≡ (((nat_le (low before) n && nat_lt n place) || was_dropped n cs) && kept_above n cs)
+gaps-closed : (n place lost : ℕ) (before : Option ℕ) (cs : List Closed) → NumberedFrom place cs → WaitLast cs → low before ≤ place → is_in_runs n (gaps_behind before (seqs (buffers_where is_kept lost cs))) ≡ (((nat_le (low before) n && nat_lt n place) || was_dropped n cs) && kept_above n cs)
 gaps-closed n place lost before [] numbers order le = bool_waiting ((nat_le (low before) n && nat_lt n place) || false)
 gaps-closed n place lost before (c ∷ cs) numbers order le =
     gap_step n place lost before c cs c.status refl numbers order le
@@ -83,5 +83,5 @@ numbers-packets c [] = refl
 numbers-packets c (b ∷ bs) = ap (λ (ns : List ℕ). b.seq ∷ ns) (numbers-packets c bs)
 
 -- from the start on
-pub gaps-are : (c : StreamConfig) (n : ℕ) (cs : List Closed) → NumberedFrom 0 cs → WaitLast cs → in_runs n (gaps_behind None (numbers_of (map (packet_of c) (buffers_where is_kept 0 cs)))) ≡ (was_dropped n cs && kept_above n cs)
-gaps-are c n cs numbers order = ap (λ (ns : List ℕ). in_runs n (gaps_behind None ns)) (numbers-packets c (buffers_where is_kept 0 cs)) ∙ gaps-closed n 0 0 None cs numbers order (omega arith) ∙ grind (arith, nat_tests)
+pub gaps-are : (c : StreamConfig) (n : ℕ) (cs : List Closed) → NumberedFrom 0 cs → WaitLast cs → is_in_runs n (gaps_behind None (numbers_of (map (packet_of c) (buffers_where is_kept 0 cs)))) ≡ (was_dropped n cs && kept_above n cs)
+gaps-are c n cs numbers order = ap (λ (ns : List ℕ). is_in_runs n (gaps_behind None ns)) (numbers-packets c (buffers_where is_kept 0 cs)) ∙ gaps-closed n 0 0 None cs numbers order (omega arith) ∙ grind (arith, nat_tests)

@@ -4,6 +4,7 @@ pub mod GapLaws
 pub mod ListLaws
 pub mod OwnSteps
 pub mod ResultLaws
+pub mod RotationLaws
 pub mod RunAgreement
 pub mod RunLaws
 pub mod SessionLaws

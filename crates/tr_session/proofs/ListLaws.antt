@@ -1,11 +1,10 @@
 -- Lists in which one element is changed, or one after another.
-use Rattle.std.proofs.Common.{◌≡◌, ℕ, ◌+◌, ◌≤◌, ◌<◌, get_or, zero, suc, List, [], ◌∷◌, ◌++◌, length, map, set, take, drop, Option, Some, None, refl, sym, ◌∙◌, ap, arith}
+use Rattle.std.proofs.Common.{◌≡◌, ℕ, ◌+◌, ◌≤◌, ◌<◌, get_or, zero, suc, List, [], ◌∷◌, ◌++◌, length, map, set, take, drop, Some, None, refl, sym, ◌∙◌, ap, arith}
 use Rattle.std.proofs.lemmas.List.{map-append, take_all, take_more}
 use Rattle.std.proofs.lemmas.Option.{slice_get_past, slice_get_read}
-use Rattle.std.specs.Borrow.{Bor, MutBor}
+use Rattle.std.specs.Borrow.{MutBor}
 use Rattle.std.specs.List.{IsItemAtMut}
-use Rattle.std.specs.Prelude.{option_copied, slice_get}
-use Rattle.std.specs.Slice.{IsItemAt}
+use Rattle.std.specs.Prelude.{slice_get}
 use Rattle.tr_session.specs.Steps.{changed_at}
 
 module _ {X : Type 0} where

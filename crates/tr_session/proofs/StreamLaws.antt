@@ -14,25 +14,23 @@ use Rattle.tr_session.specs.Steps.{changed_at}
 use Rattle.tr_session.specs.declared.faults.StepFault.{StepFault}
 use Rattle.tr_session.specs.declared.faults.StepFault.TheVariants as step
 use Rattle.tr_session_book.specs.Book.{SessionBookState}
-use Rattle.tr_session_book.specs.BookSteps.{archived, after_rotate_begin, after_rotate_finish, after_snapshot_begin, after_schedule, after_start, after_stop, channel_made, channel_added, channel_named, chunks_closed, cut_in, cut_moment, finished_of, is_allowed, is_cut, is_inactive, is_new, local_rotation, most_channels, most_streams, noted_at, place_free, rotate_begin_answer, rotate_finish_answer, rotating, schedule_answer, snapshot_allowed, start_answer, started, stop_answer, stopped, thread_noted, thread_place, unless_refused, with_channel, with_cut, with_thread}
+use Rattle.tr_session_book.specs.BookSteps.{archived, after_rotate_begin, after_rotate_finish, after_snapshot_begin, after_schedule, after_start, after_stop, channel_made, channel_added, channel_named, chunks_closed, cut_in, cut_moment, finished_of, is_allowed, is_new, local_rotation, most_channels, most_streams, noted_at, place_free, rotate_begin_answer, rotating, schedule_answer, snapshot_allowed, start_answer, started, stop_answer, stopped, thread_noted, thread_place, unless_refused, with_channel, with_cut, with_thread}
 use Rattle.tr_session_book.specs.declared.archive.Archive.{Archive}
 use Rattle.tr_session_book.specs.declared.archive.Pending.{Pending}
 use Rattle.tr_session_book.specs.declared.channel.Channel.{Channel}
 use Rattle.tr_session_book.specs.declared.faults.SessionFault.{SessionFault}
-use Rattle.tr_session_book.specs.declared.faults.SessionFault.TheVariants.{AlreadyRotated, AlreadyStarted, BadGeometry, CutMissing, DiscardInSnapshot, NameTaken, NeverStarted, NoChannel, NoStream, NotPending, RotationPending, SnapshotMode, TooMany}
+use Rattle.tr_session_book.specs.declared.faults.SessionFault.TheVariants.{AlreadyStarted, CutMissing, DiscardInSnapshot, NameTaken, NeverStarted, NoStream, NotPending, RotationPending, SnapshotMode, TooMany}
 use Rattle.tr_schedule.specs.Schedules.{ScheduleState}
 use Rattle.tr_book.specs.Geometry.{GeometryState, geometry_of}
 use Rattle.tr_book.specs.declared.geometry.GeometryFault.{GeometryFault}
 use Rattle.tr_book.specs.declared.mode.Mode.{Mode}
 use Rattle.tr_ring.specs.ClosedBuffer.{ClosedBuffer}
-use Rattle.tr_stream.proofs.SessionLaws.{in-local}
 use Rattle.tr_stream.specs.State.{StreamState}
-use Rattle.tr_stream.specs.StateSteps.{entered, moved_oldest, new_state, refusal_of, state_after_cut, state_after_offer, state_after_take, state_cut_at, state_switched, state_unless}
+use Rattle.tr_stream.specs.StateSteps.{entered, moved_oldest, new_state, refusal_of, state_after_cut, state_after_offer, state_after_take, state_switched, state_unless}
 use Rattle.tr_stream.specs.Steps.{by_session}
 use Rattle.tr_stream.specs.declared.answers.OfferFault.{OfferFault}
 use Rattle.tr_stream.specs.declared.answers.OfferFault.TheVariants as offer_fault
 use Rattle.tr_stream.specs.declared.answers.Offered.{Offered}
-use Rattle.tr_stream.specs.declared.answers.TakeFault.{TakeFault}
 use Rattle.tr_stream.specs.declared.answers.TakeFault.TheVariants as take_fault
 use Rattle.tr_stream.specs.declared.answers.Taken.{Taken}
 use Rattle.tr_stream.specs.declared.config.SessionMode.{SessionMode}

@@ -1,5 +1,5 @@
 -- What an audit of a stream's files tells of its history.
-use Rattle.std.specs.Prelude.{◌≡◌, ℕ, ◌+◌, Bool, ◌&&◌, nat_eq, nat_le, nat_lt, List, map, None, unwrap_or}
+use Rattle.std.specs.Prelude.{◌≡◌, ℕ, Bool, ◌&&◌, nat_eq, nat_lt, List, map, None, unwrap_or}
 use Rattle.std.specs.List.{flat_map, last_or, list_any}
 use Rattle.tr_book.specs.Parts.{PartState}
 use Rattle.tr_chunk.specs.Audit.{all_of}
@@ -28,10 +28,6 @@ pub record LastIs {A : Type 0} (a : StreamAudit A) (bs : List ClosedBuffer) : Ty
   pub seq : a.last_seq ≡ last_or None (map (λ (b : ClosedBuffer). b.seq) bs)
   pub serial : a.last_serial ≡ last_or None (map (λ (e : Entry). e.serial) (flat_map (λ (b : ClosedBuffer). b.records) bs))
   pub lost : a.last_lost ≡ unwrap_or (last_or None (map (λ (b : ClosedBuffer). b.lost) bs)) 0
-
--- a number lies in one of these runs, each its first number and how many they are
-abbrev pub in_runs : ℕ → List (ℕ × ℕ) → Bool
-in_runs n runs = list_any (λ (run : ℕ × ℕ). nat_le run.0 n && nat_lt n (run.0 + run.1)) runs
 
 -- the block of this number was dropped
 abbrev pub was_dropped : ℕ → List Closed → Bool

@@ -1,5 +1,5 @@
 -- The events of a session: what each answers, and what it does to the book and to the streams.
-use Rattle.std.specs.Prelude.{ℕ, Bool, true, false, IsOk, List, [], ◌∷◌, ◌++◌, Result, Ok, Err, if◌then◌else◌, ◌==◌}
+use Rattle.std.specs.Prelude.{◌≡◌, ℕ, Bool, true, false, IsOk, List, [], ◌∷◌, ◌++◌, Result, Ok, Err, if◌then◌else◌, ◌==◌}
 use Rattle.tr_session_book.specs.Book.{SessionBookState}
 use Rattle.tr_session_book.specs.BookSteps.{unless_refused, start_answer, after_start, stop_answer, after_stop, switch_answer, rotate_begin_answer, after_rotate_begin, cut_moment, after_note_cut, rotate_finish_answer, after_rotate_finish, snap_allowed}
 use Rattle.tr_session.specs.Session.{SessionOf}
@@ -9,7 +9,12 @@ use Rattle.tr_session.specs.declared.events.Answer.TheVariants as answer
 use Rattle.tr_session.specs.declared.events.Event.{Event}
 use Rattle.tr_session.specs.declared.events.Event.TheVariants.{Offer, Take, Cut, Snap, Start, Stop, SessionStart, SessionStop, RotateBegin, RotateFinish}
 use Rattle.tr_session_book.specs.declared.faults.SessionFault.{SessionFault}
+use Rattle.tr_session_book.specs.declared.faults.SessionFault.TheVariants.{NoMemory}
+use Rattle.tr_session.specs.declared.faults.StepFault.TheVariants as step
 use Rattle.tr_stream.specs.Rules.{StreamRules}
+use Rattle.tr_stream.specs.declared.answers.CutFault.TheVariants as cut_fault
+use Rattle.tr_stream.specs.declared.answers.OfferFault.TheVariants as offer_fault
+use Rattle.tr_stream.specs.declared.answers.TakeFault.TheVariants as take_fault
 use Rattle.tr_stream.specs.declared.events.StreamEvent.{StreamEvent}
 use Rattle.tr_stream.specs.declared.events.StreamEvent.TheVariants as stream
 
@@ -26,14 +31,14 @@ answer_to rules SessionStop s = answer.SessionStop (stop_answer s.book)
 answer_to rules (RotateBegin moment) s = answer.RotateBegin (rotate_begin_answer s.book)
 answer_to rules RotateFinish s = answer.RotateFinish (rotate_finish_answer s.book)
 
--- an answer that memory was refused, to an event whose rule is this other one: it is of the same kind, and the rule
--- doesn't refuse
+-- an answer that memory was refused, to an event whose rule is this other one: it is of the same kind, with the fault of
+-- that call, and the rule doesn't refuse
 abbrev pub MayWantMemory : {A : Type 0} → Answer A → Answer A → Type 0
-MayWantMemory (answer.Offer wanting) (answer.Offer rule) = StepTakesMemory rule
-MayWantMemory (answer.Take wanting) (answer.Take rule) = IsOk rule
-MayWantMemory (answer.Cut wanting) (answer.Cut rule) = IsOk rule
-MayWantMemory (answer.Snap wanting) (answer.Snap rule) = IsOk rule
-MayWantMemory (answer.RotateBegin wanting) (answer.RotateBegin rule) = IsOk rule
+MayWantMemory (answer.Offer wanting) (answer.Offer rule) = (wanting ≡ Err (step.Offer offer_fault.NoMemory)) × StepTakesMemory rule
+MayWantMemory (answer.Take wanting) (answer.Take rule) = (wanting ≡ Err (step.Take take_fault.NoMemory)) × IsOk rule
+MayWantMemory (answer.Cut wanting) (answer.Cut rule) = (wanting ≡ Err (step.Cut cut_fault.NoMemory)) × IsOk rule
+MayWantMemory (answer.Snap wanting) (answer.Snap rule) = (wanting ≡ Err NoMemory) × IsOk rule
+MayWantMemory (answer.RotateBegin wanting) (answer.RotateBegin rule) = (wanting ≡ Err NoMemory) × IsOk rule
 MayWantMemory _ _ = ⊥
 
 -- the session after it

@@ -1,5 +1,5 @@
 -- Why calls are refused, as answers print it.
-use Rattle.std.specs.Prelude.{ℕ, Bool, true, false, List, Result, Ok, Err, codes}
+use Rattle.std.specs.Prelude.{ℕ, Bool, true, false, List, Result, Ok, Err}
 use Rattle.tr_session.specs.declared.events.Answer.{Answer}
 use Rattle.tr_session.specs.declared.events.Answer.TheVariants as answer
 use Rattle.tr_session_book.specs.declared.faults.SessionFault.{SessionFault}

@@ -1,11 +1,11 @@
 -- What the calls of a session answer, and what they do to its book and its streams.
-use Rattle.std.specs.Prelude.{◌≡◌, ◌≤◌, ◌⊎◌, ℕ, Bool, true, false, nat_lt, List, [], ◌∷◌, ◌++◌, zero, suc, length, map, Option, Some, None, Result, Ok, Err, slice_get, if◌then◌else◌}
+use Rattle.std.specs.Prelude.{◌≡◌, ◌<◌, ◌⊎◌, ℕ, max, Bool, true, false, nat_lt, List, [], ◌∷◌, ◌++◌, zero, suc, length, map, Option, Some, None, Result, Ok, Err, slice_get, if◌then◌else◌}
 use Rattle.std.specs.Option.{option_map_or}
 use Rattle.tr_book.specs.Snaps.{SnapState}
 use Rattle.tr_book.specs.declared.mode.Mode.{Mode}
 use Rattle.tr_schedule.specs.declared.cause.Cause.{Cause}
 use Rattle.tr_session_book.specs.Book.{SessionBookState}
-use Rattle.tr_session_book.specs.BookSteps.{unless_refused, channel_named, channel_added, thread_place, with_thread, start_answer, after_start, stop_answer, after_stop, switch_answer, rotate_begin_answer, after_rotate_begin, cut_moment, with_cut, rotate_finish_answer, after_rotate_finish, snapshot_begin_answer, after_snapshot_begin, snap_allowed, due_now}
+use Rattle.tr_session_book.specs.BookSteps.{unless_refused, channel_named, channel_added, thread_place, with_thread, start_answer, after_start, stop_answer, after_stop, switch_answer, rotate_begin_answer, archive_at, rotating, after_rotate_begin, cut_moment, with_cut, rotate_finish_answer, after_rotate_finish, snapshot_begin_answer, after_snapshot_begin, snap_allowed, due_now}
 use Rattle.tr_session.specs.Session.{SessionOf}
 use Rattle.tr_session_book.specs.declared.archive.Archive.{Archive}
 use Rattle.tr_session_book.specs.declared.archive.Pending.{Pending}
@@ -184,10 +184,17 @@ rotate_answer rules moment s = rotated_answer (rotate_begin_answer s.book) (rota
 abbrev pub after_rotate : {S : Type 0} → StreamRules S → ℕ → SessionOf S → SessionOf S
 after_rotate rules moment s = unless_refused (rotate_begin_answer s.book) (finished (all_cut rules moment s)) s
 
--- some of the streams are cut, the first ones
+-- what a whole rotation comes to: each stream is cut at its moment, and its archive is added
+abbrev pub rotated : {S : Type 0} → StreamRules S → ℕ → SessionOf S → SessionOf S
+rotated rules moment s = record {
+  book = record (rotating moment s.book) { pending = None; archives = s.book.archives ++ archive_at moment s.book ∷ [] };
+  streams = map (rules.after_cut (max moment s.book.last)) s.streams;
+}
+
+-- some of the streams are cut, the first ones, and not all
 pub record IsCutSome {S : Type 0} (rules : StreamRules S) (s t : SessionOf S) : Type 0 where
   pub cuts : ℕ
-  pub within : cuts ≤ length s.streams
+  pub within : cuts < length s.streams
   pub is : t ≡ cut_first rules cuts s
 
 -- what a rotation leaves that memory was refused to: what was before, or itself pending with some of its cuts

@@ -1,9 +1,9 @@
 //! What an audit of a stream's files tells of its history.
 
 ghost use Rattle.std.specs.Prelude.{◌≡◌, ◌&&◌, ℕ, List, map};
-ghost use Rattle.tr_chunk.specs.Audit.{AreAudited, audit_of};
+ghost use Rattle.tr_chunk.specs.Audit.{AreAudited, audit_of, is_in_runs};
 ghost use Rattle.tr_ring.specs.ClosedBuffer.{ClosedBuffer};
-ghost use Rattle.tr_session.specs.Audits.{packets_by_part, packets_in, files_of, LastIs, in_runs, was_dropped, kept_above};
+ghost use Rattle.tr_session.specs.Audits.{packets_by_part, packets_in, files_of, LastIs, was_dropped, kept_above};
 ghost use Rattle.tr_stream.specs.Chunks.{consumed_of, packet_of};
 ghost use Rattle.tr_stream.specs.History.{History};
 ghost use Rattle.tr_stream.specs.Runs.{after_events};
@@ -11,6 +11,7 @@ ghost use Rattle.tr_stream.specs.Sound.{IsSound, IsUsable};
 ghost use Rattle.tr_stream.specs.StandsFor.{StandsFor};
 ghost use Rattle.tr_stream.specs.State.{StreamState};
 ghost use Rattle.tr_stream.specs.Steps.{start};
+ghost use Rattle.tr_stream.specs.WellFormed.{IsWellFormed};
 ghost use Rattle.tr_stream.specs.declared.config.StreamConfig.{StreamConfig};
 ghost use Rattle.tr_stream.specs.declared.events.StreamEvent.{StreamEvent};
 
@@ -20,13 +21,16 @@ use std::alloc::Allocator;
 mod tests;
 
 /// The files of every stream pass their audit; they hold the packets of the blocks that were kept, in order; and in every
-/// run the gaps that the audit finds are exactly the blocks that were dropped below the last kept one. Does nothing.
+/// well-formed history, and so in every run, the gaps that the audit finds are exactly the blocks that were dropped below
+/// the last kept one. Does nothing.
 pub fn every_audit<A: Allocator>()
     ensures passes { (s : StreamState) (h : History) → IsSound s → StandsFor s h
         → AreAudited s.config.uuid s.config.number (files_of s) (packets_by_part s) }
     ensures packets { (s : StreamState) (h : History) → StandsFor s h → packets_in s ≡ map (packet_of s.config) (consumed_of h) }
     ensures last { (c : StreamConfig) (bs : List ClosedBuffer) → LastIs (audit_of {A = A} (map (packet_of c) bs)) bs }
+    ensures gaps_of_histories { (c : StreamConfig) (h : History) (n : ℕ) → IsWellFormed h
+        → is_in_runs n (audit_of {A = A} (map (packet_of c) (consumed_of h))).gaps ≡ (was_dropped n h.closed && kept_above n h.closed) }
     ensures gaps { (c : StreamConfig) (events : List (StreamEvent A)) (n : ℕ) → IsUsable c
         → (let h = after_events c events start in
-        in_runs n (audit_of {A = A} (map (packet_of c) (consumed_of h))).gaps ≡ (was_dropped n h.closed && kept_above n h.closed)) }
+        is_in_runs n (audit_of {A = A} (map (packet_of c) (consumed_of h))).gaps ≡ (was_dropped n h.closed && kept_above n h.closed)) }
 {}

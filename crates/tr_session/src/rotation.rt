@@ -1,8 +1,8 @@
 //! A whole rotation of a session, and each of its cuts.
 
-ghost use Rattle.std.specs.Prelude.{◌≡◌, ◌≢◌, Err, IsOk, OnOk, OnErr, length};
-ghost use Rattle.tr_session_book.specs.BookSteps.{rotate_begin_answer};
-ghost use Rattle.tr_session.specs.Steps.{NextTakesMemory, next_answer, after_next, rotate_answer, after_rotate, cut_first, IsCutSome, IsHeldUp};
+ghost use Rattle.std.specs.Prelude.{◌≡◌, ◌≢◌, Err, IsOk, IfOk, IfErr, OnOk, OnErr, length};
+ghost use Rattle.tr_session_book.specs.BookSteps.{archive_at, rotate_begin_answer};
+ghost use Rattle.tr_session.specs.Steps.{NextTakesMemory, next_answer, after_next, rotate_answer, after_rotate, rotated, cut_first, IsCutSome, IsHeldUp};
 ghost use Rattle.tr_stream.specs.Rules.{by_state};
 
 use crate::faults::StepFault;
@@ -60,13 +60,15 @@ impl<A: Allocator + Copy> Session<A> {
     ///
     /// # Errors
     ///
-    /// `NeverStarted`, `RotationPending`, `AlreadyRotated`: nothing changed. `NoMemory`: nothing changed, or the rotation is
-    /// pending with the cuts that were made, and `rotate_next` goes on.
+    /// `SnapshotMode`, `NeverStarted`, `RotationPending`, `AlreadyRotated`: nothing changed. `NoMemory`: nothing changed, or
+    /// the rotation is pending with the cuts that were made, and `rotate_next` goes on.
     pub fn rotate(&mut self, moment: Moment) -> Result<Archive, SessionFault>
         ensures value { result ≢ Err SessionFault.NoMemory →
             (result ≡ rotate_answer by_state moment self.old) × (self.new ≡ after_rotate by_state moment self.old) }
         ensures no_memory { result ≡ Err SessionFault.NoMemory → IsHeldUp by_state moment self.old self.new }
         ensures memory { result ≡ Err SessionFault.NoMemory → IsOk (rotate_begin_answer self.old.book) }
+        ensures refused { IfErr result (λ fault. fault ≢ SessionFault.NoMemory → rotate_begin_answer self.old.book ≡ Err fault) }
+        ensures whole { IfOk result (λ archive. (archive ≡ archive_at moment self.old.book) × (self.new ≡ rotated by_state moment self.old)) }
     {
         if let Err(fault) = self.rotate_begin(moment) {
             return Err(fault);
@@ -80,6 +82,7 @@ impl<A: Allocator + Copy> Session<A> {
     /// Cuts each stream in the rotation that has just begun.
     fn cut_all(&mut self) -> Result<(), AllocError>
         ensures ok { OnOk result (self.new ≡ cut_first by_state (length self.old.streams) self.old) }
+        ensures as_many { length self.old.streams ≡ length self.old.book.threads }
         ensures err { OnErr result (IsCutSome by_state self.old self.new) }
     {
         'cuts: for i in 0..self.streams() {

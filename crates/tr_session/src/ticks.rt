@@ -1,6 +1,6 @@
 //! Ticks of a session's schedule.
 
-ghost use Rattle.std.specs.Prelude.{◌≡◌, ◌≢◌, true, None, Err, is_some};
+ghost use Rattle.std.specs.Prelude.{◌≡◌, ◌≢◌, true, None, Err, is_some, IfErr};
 ghost use Rattle.tr_session_book.specs.BookSteps.{schedule_in_force};
 ghost use Rattle.tr_session.specs.Steps.{tick_answer, after_tick, tick_cause, IsHeldUp};
 ghost use Rattle.tr_stream.specs.Rules.{by_state};
@@ -38,6 +38,7 @@ impl<A: Allocator + Copy> Session<A> {
         ensures value { result ≢ Err SessionFault.NoMemory →
             (result ≡ tick_answer by_state now self.old) × (self.new ≡ after_tick by_state now self.old) }
         ensures no_memory { result ≡ Err SessionFault.NoMemory → IsHeldUp by_state now self.old self.new }
+        ensures refused { IfErr result (λ fault. fault ≡ SessionFault.NoMemory) }
         ensures idle { tick_cause by_state now self.old ≡ None → self.new ≡ self.old }
         ensures memory { result ≡ Err SessionFault.NoMemory → is_some (schedule_in_force self.old.book) ≡ true }
     {

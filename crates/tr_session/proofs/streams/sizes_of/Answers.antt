@@ -1,4 +1,4 @@
-use Rattle.std.proofs.Common.{rules, ap, ◌≡◌}
+use Rattle.std.proofs.Common.{rules, ap}
 use Rattle.tr_book.specs.declared.counts.Counts.{Counts}
 use Rattle.tr_session.proofs.ListLaws.{mapped-all, mapped-more}
 use Rattle.tr_session.proofs.streams.sizes_of.Goals as goal

@@ -1,4 +1,4 @@
-use Rattle.std.proofs.Common.{◌≡◌, ◌≢◌, ◌∙◌, ◌≤◌, ℕ, Err, ap, arith, refl, rules, subst}
+use Rattle.std.proofs.Common.{◌≡◌, ◌≢◌, ◌∙◌, ◌<◌, ℕ, Err, ap, arith, refl, rules, subst}
 use Rattle.tr_session.proofs.SessionLaws.{cut_first-more}
 use Rattle.tr_session.proofs.session.Session.cut_all.Goals as goal
 use Rattle.tr_session.specs.Steps.{cut_first}
@@ -12,7 +12,7 @@ cuts-init g c = refl
 pub returns-then-eq-clause-err : goal.returns-then-eq-clause-err
 returns-then-eq-clause-err g c =
     let memory : c.cut.result ≡ Err (Cut NoMemory) = search rules in
-    record { cuts = c.cuts.i; within = subst (λ (n : ℕ). c.cuts.i ≤ n) c.streams-i-end.ensures.value c.cuts.auto.i-end; is = c.cut.ensures.no_memory memory ∙ c.cuts.invariant }
+    record { cuts = c.cuts.i; within = subst (λ (n : ℕ). c.cuts.i < n) c.streams-i-end.ensures.value c.cuts-test.true; is = c.cut.ensures.no_memory memory ∙ c.cuts.invariant }
 
 pub cuts-preserved : goal.cuts-preserved
 cuts-preserved g c =

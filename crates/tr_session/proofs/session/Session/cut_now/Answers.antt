@@ -4,7 +4,6 @@ use Rattle.tr_session_book.proofs.BookLaws.{due-within}
 use Rattle.tr_session.proofs.StreamLaws.{after-cut, same-session}
 use Rattle.tr_session.proofs.SessionLaws.{noted-due, cut-can, cut-noted, only-memory, ok-not-err}
 use Rattle.tr_session.proofs.session.Session.cut_now.Goals as goal
-use Rattle.tr_session_book.specs.Book.{SessionBookState}
 use Rattle.tr_session_book.specs.BookSteps.{cut_moment, with_cut}
 use Rattle.tr_session.specs.Session.{SessionOf}
 use Rattle.tr_session.specs.Steps.{after_cut_step, cut_step}

@@ -1,4 +1,4 @@
-use Rattle.std.proofs.Common.{false, map, refl, true}
+use Rattle.std.proofs.Common.{false, map, refl}
 use Rattle.tr_session.proofs.StreamLaws.{after-each, stepped, switch-keeps, stopped-same}
 use Rattle.tr_session.proofs.session.Session.stop.Goals as goal
 use Rattle.tr_stream.specs.StateSteps.{state_switched}
