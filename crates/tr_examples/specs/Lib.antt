@@ -1,0 +1,5 @@
+pub mod Files
+pub mod Offers
+pub mod Rotations
+pub mod Snapshots
+pub mod Tour
