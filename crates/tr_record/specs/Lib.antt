@@ -2,5 +2,6 @@ pub mod Bytes
 pub mod Raw
 pub mod Reading
 pub mod Records
+pub mod Streams
 pub mod Weight
 pub mod Whole

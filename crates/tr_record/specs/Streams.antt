@@ -1,0 +1,11 @@
+-- What stands behind a source and a sink over std's streams.
+use Rattle.tr_record.specs.declared.streams.ReaderSource.{ReaderSource}
+use Rattle.tr_record.specs.declared.streams.WriterSink.{WriterSink}
+
+-- the reader that a source reads from
+abbrev pub reader_of : {R : Type 0} → ReaderSource R → R
+reader_of s = s.reader
+
+-- the writer that a sink writes to
+abbrev pub writer_of : {W : Type 0} → WriterSink W → W
+writer_of s = s.writer
