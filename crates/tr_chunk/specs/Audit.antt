@@ -21,14 +21,14 @@ abbrev pub serials_of : List Entry → List ℕ
 serials_of = map (λ (e : Entry). e.serial)
 
 -- the records of packets, in order
-abbrev pub records_in : List Contents → List Entry
-records_in = flat_map (λ (p : Contents). p.records)
+abbrev pub records_of_packets : List Contents → List Entry
+records_of_packets = flat_map (λ (p : Contents). p.records)
 
 abbrev pub last_number : List Contents → Option ℕ
 last_number ps = last_or None (numbers_of ps)
 
 abbrev pub last_serial : List Contents → Option ℕ
-last_serial ps = last_or None (serials_of (records_in ps))
+last_serial ps = last_or None (serials_of (records_of_packets ps))
 
 -- the numbers that are absent between two numbers, or below the first one: the first of them, and how many
 abbrev pub gap_before : Option ℕ → ℕ → List (ℕ × ℕ)
@@ -66,7 +66,7 @@ counted n = min n (2 ^ 64 - 1)
 abbrev pub audit_of : {A : Type 0} → List Contents → StreamAudit A
 audit_of ps = record {
   packets = counted (length ps);
-  records = counted (length (records_in ps));
+  records = counted (length (records_of_packets ps));
   gaps = gaps_behind None (numbers_of ps);
   last_seq = last_number ps;
   last_serial = last_serial ps;
@@ -92,7 +92,7 @@ pub record AreOfStream (uuid : List ℕ) (stream : ℕ) (ps : List Contents) : T
   pub packets : AllByRecursion IsPacket ps
   pub belong : AllByRecursion (BelongsTo uuid stream) ps
   pub numbers : IsTrue (rise_from None (numbers_of ps))
-  pub serials : IsTrue (serials_rise (records_in ps))
+  pub serials : IsTrue (serials_rise (records_of_packets ps))
 
 -- ---- the first fault
 
