@@ -110,6 +110,21 @@ fn the_metadata_is_written(rt: HostRuntime) -> Result<(), Fail> {
 }
 
 #[test]
+fn packets_are_written_one_after_another(rt: HostRuntime) -> Result<(), Fail> {
+    let alloc = rt.alloc();
+    let parts = parts(alloc)?;
+    let mut sink = MemorySink::new(alloc, 100);
+    write_packets(alloc, &mut sink, parts.current().packets())?;
+    let mut texts = Vec::new(alloc);
+    for packet in parts.current().packets() {
+        texts.extend_from_slice(&encode_packet(alloc, packet)?)?;
+    }
+    assert_eq!(rt; texts.len(), 484);
+    assert_eq!(rt; sink.into_bytes().as_slice(), texts.as_slice());
+    Ok(())
+}
+
+#[test]
 fn a_part_without_packets_is_no_byte(rt: HostRuntime) -> Result<(), Fail> {
     let parts: Parts = Parts::new(rt.alloc());
     let mut sink = MemorySink::new(rt.alloc(), 100);
