@@ -14,7 +14,7 @@ use Rattle.tr_packet.specs.Packets.{Contents, IsPacket, packet_text, packet_size
 use Rattle.tr_packet.proofs.OrderLemmas.{both, first_holds, second_holds}
 use Rattle.tr_packet.proofs.TextLemmas.{length-packet_text}
 use Rattle.tr_chunk.specs.Files.{packets_text}
-use Rattle.tr_chunk.specs.Audit.{numbers_of, serials_of, records_in, last_number, last_serial, gap_before, gaps_behind, counted, audit_of, belongs, BelongsTo, rise_from, AreOfStream, starts_above, packet_cause, after_packet, Tells, StopsIn, StopsAt, AreAudited, all_of}
+use Rattle.tr_chunk.specs.Audit.{numbers_of, serials_of, records_of_packets, last_number, last_serial, gap_before, gaps_behind, counted, audit_of, belongs, BelongsTo, rise_from, AreOfStream, starts_above, packet_cause, after_packet, Tells, StopsIn, StopsAt, AreAudited, all_of}
 use Rattle.tr_chunk.specs.declared.audit_fault.AuditCause.{AuditCause}
 use Rattle.tr_chunk.specs.declared.audit_fault.AuditCause.TheVariants.{NumberRepeat, SerialRepeat, Foreign}
 use Rattle.tr_chunk.specs.declared.stream_audit.StreamAudit.{StreamAudit}
@@ -48,8 +48,8 @@ gaps_behind-push before (m ∷ ms) n =
     ap (λ (l : List (ℕ × ℕ)). gap_before before m ++ l) (gaps_behind-push (Some m) ms n)
     ∙ sym (append_assoc (gap_before before m) (gaps_behind (Some m) ms) (gap_before (last_or (Some m) ms) n))
 
-records_in-push : (ps : List Contents) (p : Contents) → records_in (ps ++ p ∷ []) ≡ records_in ps ++ p.records
-records_in-push ps p = flat_map-append (λ (q : Contents). q.records) ps (p ∷ []) ∙ ap (λ (l : List Entry). records_in ps ++ l) (append-nil p.records)
+records_of_packets-push : (ps : List Contents) (p : Contents) → records_of_packets (ps ++ p ∷ []) ≡ records_of_packets ps ++ p.records
+records_of_packets-push ps p = flat_map-append (λ (q : Contents). q.records) ps (p ∷ []) ∙ ap (λ (l : List Entry). records_of_packets ps ++ l) (append-nil p.records)
 
 -- ---- one packet more
 
@@ -72,8 +72,8 @@ counted-more n m = omega arith
 audit_of-push : {A : Type 0} (ps : List Contents) (p : Contents) → audit_of {A = A} (ps ++ p ∷ []) ≡ after_packet (audit_of ps) p
 audit_of-push ps p =
     let ns = numbers_of ps in
-    let es = records_in ps in
-    let push_records = records_in-push ps p in
+    let es = records_of_packets ps in
+    let push_records = records_of_packets-push ps p in
     let push_numbers : numbers_of (ps ++ p ∷ []) ≡ ns ++ p.head.seq ∷ [] = map-append (λ (q : Contents). q.head.seq) ps (p ∷ []) in
     same_audit _ _ _ _ _ _ _ _ _ _ _ _
     (ap counted (length-append ps (p ∷ [])) ∙ counted-more (length ps) 1)
@@ -100,8 +100,8 @@ of_stream-push uuid stream ps p sound packet none =
           subst (λ (l : List ℕ). IsTrue (rise_from None l)) (sym (map-append (λ (q : Contents). q.head.seq) ps (p ∷ [])))
           (rise_from-push None (numbers_of ps) p.head.seq sound.numbers b.0);
       serials =
-          subst (λ (l : List Entry). IsTrue (serials_rise l)) (sym (records_in-push ps p))
-          (rise_after-append None (records_in ps) p.records sound.serials (rise_above (last_serial ps) p.records c.0 packet.records.serials));
+          subst (λ (l : List Entry). IsTrue (serials_rise l)) (sym (records_of_packets-push ps p))
+          (rise_after-append None (records_of_packets ps) p.records sound.serials (rise_above (last_serial ps) p.records c.0 packet.records.serials));
     }
 
 -- an audit of packets and one more, which is not at fault

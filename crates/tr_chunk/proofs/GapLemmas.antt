@@ -84,8 +84,26 @@ absent_by before (n ∷ ns) last k rise is start below =
           ]
     ]
 
-pub absent_numbers : (ns : List ℕ) (last k : ℕ) → IsTrue (rise_from None ns) → last_or None ns ≡ Some last → k < last → is_in_runs k (gaps_behind None ns) ≡ not (is_one_of k ns)
-absent_numbers ns last k rise is below = absent_by None ns last k rise is (omega arith) below
+up_to_last : (n : ℕ) (ns : List ℕ) (last : ℕ) → IsTrue (rise_from (Some n) ns) → last_or (Some n) ns ≡ Some last → n ≤ last
+up_to_last n [] last rise is = omega (arith, some_same n last is)
+up_to_last n (m ∷ ms) last rise is =
+    omega (arith, ltb-true n m (first_holds (ltb n m) (rise_from (Some m) ms) rise), up_to_last m ms last (second_holds (ltb n m) (rise_from (Some m) ms) rise) is)
+
+none_past : (before : Option ℕ) (ns : List ℕ) (last k : ℕ) → IsTrue (rise_from before ns) → last_or before ns ≡ Some last → last ≤ k → is_in_runs k (gaps_behind before ns) ≡ false
+none_past before [] last k rise is past = refl
+none_past before (n ∷ ns) last k rise is past =
+    let others = second_holds (follows before n) (rise_from (Some n) ns) rise in
+    list_any-append (is_in_run k) (gap_before before n) (gaps_behind (Some n) ns)
+    ∙ ap (λ (t : Bool). t || is_in_runs k (gaps_behind (Some n) ns))
+    (in_gap before n k ∙ ap (λ (t : Bool). leb (first_absent before) k && t) (le-ltb k n (omega (arith, past, up_to_last n ns last others is))) ∙ and_false (leb (first_absent before) k))
+    ∙ none_past (Some n) ns last k others is past
+
+pub absent_numbers : (ns : List ℕ) (last k : ℕ) → IsTrue (rise_from None ns) → last_or None ns ≡ Some last → is_in_runs k (gaps_behind None ns) ≡ (ltb k last && not (is_one_of k ns))
+absent_numbers ns last k rise is =
+    elim (cases_lt k last) [
+      | inl below ↦ absent_by None ns last k rise is (omega arith) below ∙ ap (λ (t : Bool). t && not (is_one_of k ns)) (sym (lt-ltb k last below))
+      | inr past ↦ none_past None ns last k rise is past ∙ ap (λ (t : Bool). t && not (is_one_of k ns)) (sym (le-ltb k last past))
+    ]
 
 -- ---- runs are as long as they can be
 

@@ -13,7 +13,7 @@ use Rattle.tr_packet.proofs.LawLemmas.{one_in_front}
 use Rattle.tr_packet.proofs.OrderLemmas.{first_holds, second_holds}
 use Rattle.tr_packet.proofs.TextLemmas.{length-packet_text}
 use Rattle.tr_chunk.specs.Files.{packets_text}
-use Rattle.tr_chunk.specs.Audit.{numbers_of, serials_of, records_in, last_number, last_serial, audit_of, belongs, BelongsTo, rise_from, AreOfStream, starts_above, packet_cause, IsCause, StopsAt, AreAudited, all_of}
+use Rattle.tr_chunk.specs.Audit.{numbers_of, serials_of, records_of_packets, last_number, last_serial, audit_of, belongs, BelongsTo, rise_from, AreOfStream, starts_above, packet_cause, IsCause, StopsAt, AreAudited, all_of}
 use Rattle.tr_chunk.specs.declared.audit_fault.AuditCause.{AuditCause}
 use Rattle.tr_chunk.specs.declared.audit_fault.AuditCause.TheVariants.{Packet, NumberRepeat, SerialRepeat, Foreign, NoMemory}
 use Rattle.tr_chunk.specs.declared.audit_fault.AuditFault.{AuditFault}
@@ -98,9 +98,9 @@ pub none_at_fault : (uuid : List ℕ) (stream : ℕ) (xs : List Contents) (p : C
 none_at_fault uuid stream xs p ys sound =
     let number = rise_from-at None (numbers_of xs) p.head.seq (numbers_of ys) (subst (λ (l : List ℕ). IsTrue (rise_from None l)) (map-append (λ (q : Contents). q.head.seq) xs (p ∷ ys)) sound.numbers) in
     let serial =
-    rise_after-at None (records_in xs) (p.records ++ records_in ys) (subst (λ (l : List Entry). IsTrue (serials_rise l)) (flat_map-append (λ (q : Contents). q.records) xs (p ∷ ys)) sound.serials) in
+    rise_after-at None (records_of_packets xs) (p.records ++ records_of_packets ys) (subst (λ (l : List Entry). IsTrue (serials_rise l)) (flat_map-append (λ (q : Contents). q.records) xs (p ∷ ys)) sound.serials) in
     cause_none (belongs uuid stream p) (follows (last_number xs) p.head.seq) (starts_above (last_serial xs) p.records)
-    (all_back (BelongsTo uuid stream) xs (p ∷ ys) sound.belong).0 number (starts_above-from (last_serial xs) p.records (records_in ys) serial)
+    (all_back (BelongsTo uuid stream) xs (p ∷ ys) sound.belong).0 number (starts_above-from (last_serial xs) p.records (records_of_packets ys) serial)
 
 none_is_some : {X : Type 0} (x : X) → None ≡ Some x → ⊥
 none_is_some x e = cc

@@ -1,5 +1,5 @@
 -- The audit of one stream's packets.
-use Rattle.std.specs.Prelude.{◌≡◌, ℕ, ◌+◌, ◌-◌, ◌^◌, ◌<◌, Bool, true, ◌&&◌, not, nat_eq, nat_le, nat_lt, IsTrue, List, [], ◌∷◌, ◌++◌, length, map, take, drop, min, slice_get, Option, Some, None, unwrap_or, if◌then◌else◌}
+use Rattle.std.specs.Prelude.{◌≡◌, ◌≢◌, ℕ, ◌+◌, ◌-◌, ◌^◌, ◌<◌, Bool, true, ◌&&◌, not, nat_eq, nat_le, nat_lt, IsTrue, List, [], ◌∷◌, ◌++◌, length, map, take, drop, min, slice_get, Option, Some, None, unwrap_or, if◌then◌else◌}
 use Rattle.std.specs.List.{AllByRecursion, flat_map, last_or, list_any}
 use Rattle.std.specs.Cmp.Lexicographic.{pointwise}
 use Rattle.tr_record.specs.Records.{Entry}
@@ -21,14 +21,14 @@ abbrev pub serials_of : List Entry → List ℕ
 serials_of = map (λ (e : Entry). e.serial)
 
 -- the records of packets, in order
-abbrev pub records_in : List Contents → List Entry
-records_in = flat_map (λ (p : Contents). p.records)
+abbrev pub records_of_packets : List Contents → List Entry
+records_of_packets = flat_map (λ (p : Contents). p.records)
 
 abbrev pub last_number : List Contents → Option ℕ
 last_number ps = last_or None (numbers_of ps)
 
 abbrev pub last_serial : List Contents → Option ℕ
-last_serial ps = last_or None (serials_of (records_in ps))
+last_serial ps = last_or None (serials_of (records_of_packets ps))
 
 -- the numbers that are absent between two numbers, or below the first one: the first of them, and how many
 abbrev pub gap_before : Option ℕ → ℕ → List (ℕ × ℕ)
@@ -66,7 +66,7 @@ counted n = min n (2 ^ 64 - 1)
 abbrev pub audit_of : {A : Type 0} → List Contents → StreamAudit A
 audit_of ps = record {
   packets = counted (length ps);
-  records = counted (length (records_in ps));
+  records = counted (length (records_of_packets ps));
   gaps = gaps_behind None (numbers_of ps);
   last_seq = last_number ps;
   last_serial = last_serial ps;
@@ -92,7 +92,7 @@ pub record AreOfStream (uuid : List ℕ) (stream : ℕ) (ps : List Contents) : T
   pub packets : AllByRecursion IsPacket ps
   pub belong : AllByRecursion (BelongsTo uuid stream) ps
   pub numbers : IsTrue (rise_from None (numbers_of ps))
-  pub serials : IsTrue (serials_rise (records_in ps))
+  pub serials : IsTrue (serials_rise (records_of_packets ps))
 
 -- ---- the first fault
 
@@ -109,9 +109,17 @@ packet_cause uuid stream number serial p =
     else if not (starts_above serial p.records) then Some SerialRepeat
     else None
 
--- why no packet of the stream stands in front of these bytes: none stands there, or it is at fault; want of memory has no cause in them
+-- a packet of the stream stands in front, and right before its number some are absent: an audit takes memory for such runs alone
+pub record TakesMemory (uuid : List ℕ) (stream : ℕ) (number serial : Option ℕ) (bytes : List ℕ) : Type 0 where
+  pub packet : Contents
+  pub rest : List ℕ
+  pub begins : Begins packet rest bytes
+  pub right : packet_cause uuid stream number serial packet ≡ None
+  pub absent : gap_before number packet.head.seq ≢ []
+
+-- why an audit stops in front of these bytes: no packet stands there, or it is at fault; and, where neither is so, for want of memory
 abbrev pub IsCause : List ℕ → ℕ → Option ℕ → Option ℕ → AuditCause → List ℕ → Type 0
-IsCause uuid stream number serial NoMemory bytes = Unit {0}
+IsCause uuid stream number serial NoMemory bytes = TakesMemory uuid stream number serial bytes
 IsCause uuid stream number serial (Packet f) bytes = first_fault bytes ≡ Some f
 IsCause uuid stream number serial cause bytes = (p : Contents) × (rest : List ℕ) × Begins p rest bytes × (packet_cause uuid stream number serial p ≡ Some cause)
 

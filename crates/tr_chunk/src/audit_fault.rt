@@ -18,7 +18,7 @@ pub struct AuditFault {
 }
 
 /// What is wrong with a packet. Of several causes an audit tells `Packet`, `Foreign`, `NumberRepeat`, `SerialRepeat`, in
-/// this order.
+/// this order, and `NoMemory` last: of a packet with nothing wrong, right before whose number some are absent.
 #[derive(Clone, Copy, Debug, PartialEq, Eq, Error)]
 pub enum AuditCause {
     /// No packet's text stands there.

@@ -1,6 +1,6 @@
 //! What an audit finds.
 
-ghost use Rattle.std.specs.Prelude.{◌≡◌, ◌++◌, [], OnOk, OnErr};
+ghost use Rattle.std.specs.Prelude.{◌≡◌, ◌≢◌, ◌++◌, [], OnOk, OnErr};
 ghost use Rattle.tr_chunk.specs.Audit.{audit_of, after_packet, gap_before};
 
 use std::alloc::{AllocError, Allocator, Global};
@@ -43,10 +43,11 @@ impl<A: Allocator> Gaps<A> {
         self.runs
     }
 
-    /// Adds the numbers that are absent between two numbers, or below the first one.
+    /// Adds the numbers that are absent between two numbers, or below the first one. It takes memory where there are some.
     fn add(&mut self, before: Option<u64>, number: u64) -> Result<(), AllocError>
         ensures ok { OnOk result (self.new ≡ self.old ++ gap_before before number) }
         ensures err { OnErr result (self.new ≡ self.old) }
+        ensures some { OnErr result (gap_before before number ≢ []) }
     {
         let first = match before {
             None => 0,
@@ -96,6 +97,7 @@ impl<A: Allocator> StreamAudit<A> {
     pub(crate) fn add(&mut self, packet: &PacketView<'_>) -> Result<(), AllocError>
         ensures ok { OnOk result (self.new ≡ after_packet self.old packet.now) }
         ensures err { OnErr result (self.new ≡ self.old) }
+        ensures some { OnErr result (gap_before self.old.last_seq packet.now.head.seq ≢ []) }
     {
         let head = packet.head();
         self.gaps.add(self.last_seq, head.seq)?;

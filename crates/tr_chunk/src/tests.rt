@@ -110,6 +110,21 @@ fn the_metadata_is_written(rt: HostRuntime) -> Result<(), Fail> {
 }
 
 #[test]
+fn packets_are_written_one_after_another(rt: HostRuntime) -> Result<(), Fail> {
+    let alloc = rt.alloc();
+    let parts = parts(alloc)?;
+    let mut sink = MemorySink::new(alloc, 100);
+    write_packets(alloc, &mut sink, parts.current().packets())?;
+    let mut texts = Vec::new(alloc);
+    for packet in parts.current().packets() {
+        texts.extend_from_slice(&encode_packet(alloc, packet)?)?;
+    }
+    assert_eq!(rt; texts.len(), 484);
+    assert_eq!(rt; sink.into_bytes().as_slice(), texts.as_slice());
+    Ok(())
+}
+
+#[test]
 fn a_part_without_packets_is_no_byte(rt: HostRuntime) -> Result<(), Fail> {
     let parts: Parts = Parts::new(rt.alloc());
     let mut sink = MemorySink::new(rt.alloc(), 100);
@@ -244,22 +259,38 @@ fn a_damaged_byte(rt: HostRuntime) -> Result<(), Fail> {
 }
 
 #[test]
-fn faults_have_codes_and_names(rt: HostRuntime) {
-    for (cause, code, name) in [
-        (AuditCause::Packet(PacketFault::Short), "A1", "Packet"),
-        (AuditCause::NumberRepeat, "A2", "NumberRepeat"),
-        (AuditCause::SerialRepeat, "A3", "SerialRepeat"),
-        (AuditCause::Foreign, "A4", "Foreign"),
-        (AuditCause::NoMemory, "A5", "NoMemory"),
+fn faults_have_codes_and_names(rt: HostRuntime) -> Result<(), Fail> {
+    for (cause, code, name, text) in [
+        (
+            AuditCause::Packet(PacketFault::Short),
+            "A1",
+            "Packet",
+            "A1 Packet",
+        ),
+        (
+            AuditCause::NumberRepeat,
+            "A2",
+            "NumberRepeat",
+            "A2 NumberRepeat",
+        ),
+        (
+            AuditCause::SerialRepeat,
+            "A3",
+            "SerialRepeat",
+            "A3 SerialRepeat",
+        ),
+        (AuditCause::Foreign, "A4", "Foreign", "A4 Foreign"),
+        (AuditCause::NoMemory, "A5", "NoMemory", "A5 NoMemory"),
     ] {
         assert_eq!(rt; (cause.code(), cause.name()), (code, name));
+        assert_eq!(rt; format!(in rt.alloc(); "{cause}")?.as_str(), text);
     }
-    assert_eq!(rt;
-        (WriteFault::Write.code(), WriteFault::Write.name()),
-        ("W1", "Write")
-    );
-    assert_eq!(rt;
-        (WriteFault::NoMemory.code(), WriteFault::NoMemory.name()),
-        ("W2", "NoMemory")
-    );
+    for (fault, code, name, text) in [
+        (WriteFault::Write, "W1", "Write", "W1 Write"),
+        (WriteFault::NoMemory, "W2", "NoMemory", "W2 NoMemory"),
+    ] {
+        assert_eq!(rt; (fault.code(), fault.name()), (code, name));
+        assert_eq!(rt; format!(in rt.alloc(); "{fault}")?.as_str(), text);
+    }
+    Ok(())
 }

@@ -1,10 +1,10 @@
 //! Writing the files of a trace chunk.
 
-ghost use Rattle.std.specs.Prelude.{◌≡◌, OnOk, OnErr, IfErr};
+ghost use Rattle.std.specs.Prelude.{◌≡◌, ◌≢◌, [], OnOk, OnErr, IfErr};
 ghost use Rattle.tr_record.specs.Bytes.{and_then_bytes, once_more};
 ghost use Rattle.tr_packet.specs.Metadata.{metadata_of};
 ghost use Rattle.tr_packet.specs.Packets.{packet_text};
-ghost use Rattle.tr_chunk.specs.Files.{packets_text, WentOut};
+ghost use Rattle.tr_chunk.specs.Files.{packets_text, WentOut, WentOutWhole};
 ghost use Rattle.tr_chunk.specs.declared.faults.WriteFault.TheVariants.{Write, NoMemory};
 
 use crate::faults::WriteFault;
@@ -22,6 +22,7 @@ fn write_packet<A: Allocator, B: Allocator, K: ByteSink>(
 ) -> Result<(), WriteFault>
     ensures ok { OnOk result (K.taken sink.new ≡ and_then_bytes (K.taken sink.old) (packet_text packet.now)) }
     ensures err { OnErr result (WentOut (K.taken sink.old) (K.taken sink.new) (packet_text packet.now)) }
+    ensures nothing { IfErr result (λ f. f ≡ NoMemory → K.taken sink.new ≡ K.taken sink.old) }
     ensures no_failure { OnOk result (K.failures sink.new ≡ K.failures sink.old) }
     ensures failed { IfErr result (λ f. f ≡ Write → K.failures sink.new ≡ once_more (K.failures sink.old)) }
     ensures no_memory { IfErr result (λ f. f ≡ NoMemory → K.failures sink.new ≡ K.failures sink.old) }
@@ -31,7 +32,7 @@ fn write_packet<A: Allocator, B: Allocator, K: ByteSink>(
     Ok(())
 }
 
-/// Writes packets, one after another. After a refusal a front part of them went out.
+/// Writes packets, one after another. After a refusal a front part of them went out, and of whole packets where it is W2.
 pub fn write_packets<A: Allocator, B: Allocator + Copy, K: ByteSink>(
     alloc: B,
     sink: &mut K,
@@ -39,6 +40,8 @@ pub fn write_packets<A: Allocator, B: Allocator + Copy, K: ByteSink>(
 ) -> Result<(), WriteFault>
     ensures ok { OnOk result (K.taken sink.new ≡ and_then_bytes (K.taken sink.old) (packets_text packets.now)) }
     ensures err { OnErr result (WentOut (K.taken sink.old) (K.taken sink.new) (packets_text packets.now)) }
+    ensures some { OnErr result (packets.now ≢ []) }
+    ensures whole { IfErr result (λ f. f ≡ NoMemory → WentOutWhole (K.taken sink.old) (K.taken sink.new) packets.now) }
     ensures no_failure { OnOk result (K.failures sink.new ≡ K.failures sink.old) }
     ensures failed { IfErr result (λ f. f ≡ Write → K.failures sink.new ≡ once_more (K.failures sink.old)) }
     ensures no_memory { IfErr result (λ f. f ≡ NoMemory → K.failures sink.new ≡ K.failures sink.old) }
@@ -49,7 +52,8 @@ pub fn write_packets<A: Allocator, B: Allocator + Copy, K: ByteSink>(
     Ok(())
 }
 
-/// Writes the packets of a part, one after another. After a refusal a front part of them went out.
+/// Writes the packets of a part, one after another. After a refusal a front part of them went out, and of whole packets
+/// where it is W2.
 pub fn write_part<A: Allocator, B: Allocator + Copy, K: ByteSink>(
     alloc: B,
     sink: &mut K,
@@ -57,6 +61,8 @@ pub fn write_part<A: Allocator, B: Allocator + Copy, K: ByteSink>(
 ) -> Result<(), WriteFault>
     ensures ok { OnOk result (K.taken sink.new ≡ and_then_bytes (K.taken sink.old) (packets_text part.now.packets)) }
     ensures err { OnErr result (WentOut (K.taken sink.old) (K.taken sink.new) (packets_text part.now.packets)) }
+    ensures some { OnErr result (part.now.packets ≢ []) }
+    ensures whole { IfErr result (λ f. f ≡ NoMemory → WentOutWhole (K.taken sink.old) (K.taken sink.new) part.now.packets) }
     ensures no_failure { OnOk result (K.failures sink.new ≡ K.failures sink.old) }
     ensures failed { IfErr result (λ f. f ≡ Write → K.failures sink.new ≡ once_more (K.failures sink.old)) }
     ensures no_memory { IfErr result (λ f. f ≡ NoMemory → K.failures sink.new ≡ K.failures sink.old) }
@@ -64,7 +70,7 @@ pub fn write_part<A: Allocator, B: Allocator + Copy, K: ByteSink>(
     write_packets(alloc, sink, part.packets())
 }
 
-/// Writes the metadata text of a trace. After a refusal a front part of it went out.
+/// Writes the metadata text of a trace. After a refusal a front part of it went out, and none of it where it is W2.
 pub fn write_metadata<B: Allocator, K: ByteSink>(
     alloc: B,
     sink: &mut K,
@@ -72,6 +78,7 @@ pub fn write_metadata<B: Allocator, K: ByteSink>(
 ) -> Result<(), WriteFault>
     ensures ok { OnOk result (K.taken sink.new ≡ and_then_bytes (K.taken sink.old) (metadata_of uuid.now)) }
     ensures err { OnErr result (WentOut (K.taken sink.old) (K.taken sink.new) (metadata_of uuid.now)) }
+    ensures nothing { IfErr result (λ f. f ≡ NoMemory → K.taken sink.new ≡ K.taken sink.old) }
     ensures no_failure { OnOk result (K.failures sink.new ≡ K.failures sink.old) }
     ensures failed { IfErr result (λ f. f ≡ Write → K.failures sink.new ≡ once_more (K.failures sink.old)) }
     ensures no_memory { IfErr result (λ f. f ≡ NoMemory → K.failures sink.new ≡ K.failures sink.old) }

@@ -7,7 +7,7 @@ use Rattle.std.specs.List.{AllByRecursion, flat_map, last_or}
 use Rattle.std.specs.Cmp.Lexicographic.{pointwise}
 use Rattle.std.specs.Prelude.{IsTrue, ◌&&◌, nat_eq, unwrap_or}
 use Rattle.tr_book.specs.Parts.{PartState}
-use Rattle.tr_chunk.specs.Audit.{numbers_of, serials_of, records_in, belongs, BelongsTo, rise_from, all_of, AreAudited, audit_of, is_in_runs}
+use Rattle.tr_chunk.specs.Audit.{numbers_of, serials_of, records_of_packets, belongs, BelongsTo, rise_from, all_of, AreAudited, audit_of, is_in_runs}
 use Rattle.tr_packet.specs.Order.{follows, rise_after}
 use Rattle.tr_packet.specs.Packets.{Contents, IsPacket}
 use Rattle.tr_record.proofs.RecordLemmas.{all_append}
@@ -39,7 +39,7 @@ lost-packets : (c : StreamConfig) (bs : List ClosedBuffer) → map (λ (p : Cont
 lost-packets c [] = refl
 lost-packets c (b ∷ bs) = ap (λ (ns : List ℕ). b.lost ∷ ns) (lost-packets c bs)
 
-records-packets : (c : StreamConfig) (bs : List ClosedBuffer) → records_in (map (packet_of c) bs) ≡ records_behind bs
+records-packets : (c : StreamConfig) (bs : List ClosedBuffer) → records_of_packets (map (packet_of c) bs) ≡ records_behind bs
 records-packets c [] = refl
 records-packets c (b ∷ bs) = ap (λ (es : List Entry). b.records ++ es) (records-packets c bs)
 
@@ -125,7 +125,7 @@ passes s h sound is =
         packets = all-sent (all_parts s.parts) (all_append CanBeSent s.parts.closed (s.parts.current ∷ []) sound.closed_sent (sound.current_sent, tt));
         belong = subst (λ (ps : List Contents). AllByRecursion (BelongsTo s.config.uuid s.config.number) ps) (sym same) (all-own s.config (consumed_of h));
         numbers = subst (λ (ps : List Contents). IsTrue (rise_from None (numbers_of ps))) (sym same) (subst (λ (ns : List ℕ). IsTrue (rise_from None ns)) (sym (numbers-packets s.config (consumed_of h))) (rise-numbers None 0 0 (consumed_of h) h.filling.number (offered_of h) (omega arith) rise));
-        serials = subst (λ (ps : List Contents). IsTrue (rise_after None (records_in ps))) (sym same) (subst (λ (es : List Entry). IsTrue (rise_after None es)) (sym (records-packets s.config (consumed_of h))) (rise-records None 0 0 (consumed_of h) h.filling.number (offered_of h) (omega arith) rise));
+        serials = subst (λ (ps : List Contents). IsTrue (rise_after None (records_of_packets ps))) (sym same) (subst (λ (es : List Entry). IsTrue (rise_after None es)) (sym (records-packets s.config (consumed_of h))) (rise-records None 0 0 (consumed_of h) h.filling.number (offered_of h) (omega arith) rise));
       };
     }
 

@@ -1,8 +1,8 @@
 //! Writing what a snapshot shows.
 
-ghost use Rattle.std.specs.Prelude.{◌≡◌, OnOk, OnErr, IfErr};
+ghost use Rattle.std.specs.Prelude.{◌≡◌, ◌≢◌, [], OnOk, OnErr, IfErr};
 ghost use Rattle.tr_record.specs.Bytes.{and_then_bytes, once_more};
-ghost use Rattle.tr_chunk.specs.Files.{packets_text, WentOut};
+ghost use Rattle.tr_chunk.specs.Files.{packets_text, WentOut, WentOutWhole};
 ghost use Rattle.tr_chunk.specs.declared.faults.WriteFault.TheVariants.{Write, NoMemory};
 
 use std::alloc::Allocator;
@@ -11,7 +11,7 @@ use tr_chunk::{WriteFault, write_packets};
 use tr_record::ByteSink;
 
 /// Writes the packets that are shown of a stream, the oldest first, as its file would have them. W1 Write: the sink
-/// failed. W2 NoMemory: memory was refused. After a refusal a front part of them went out.
+/// failed, and a front part of them went out. W2 NoMemory: memory was refused, and a number of whole packets went out.
 pub fn write_snap<A: Allocator, B: Allocator + Copy, K: ByteSink>(
     alloc: B,
     sink: &mut K,
@@ -19,6 +19,8 @@ pub fn write_snap<A: Allocator, B: Allocator + Copy, K: ByteSink>(
 ) -> Result<(), WriteFault>
     ensures ok { OnOk result (K.taken sink.new ≡ and_then_bytes (K.taken sink.old) (packets_text snap.now.packets)) }
     ensures err { OnErr result (WentOut (K.taken sink.old) (K.taken sink.new) (packets_text snap.now.packets)) }
+    ensures some { OnErr result (snap.now.packets ≢ []) }
+    ensures whole { IfErr result (λ f. f ≡ NoMemory → WentOutWhole (K.taken sink.old) (K.taken sink.new) snap.now.packets) }
     ensures no_failure { OnOk result (K.failures sink.new ≡ K.failures sink.old) }
     ensures failed { IfErr result (λ f. f ≡ Write → K.failures sink.new ≡ once_more (K.failures sink.old)) }
     ensures no_memory { IfErr result (λ f. f ≡ NoMemory → K.failures sink.new ≡ K.failures sink.old) }
