@@ -10,8 +10,8 @@ use Rattle.tr_console.specs.Runs.{AnsweredSome, BrokeOff, Ran, WentTooFar, Wrote
 use Rattle.tr_console.specs.Script.{answers, line_step, refused_in, script_text, text_step, world_after}
 use Rattle.tr_console.specs.Texts.{Text}
 use Rattle.tr_console.specs.World.{Step, World}
-use Rattle.tr_lines.proofs.LineLemmas.{AreLines, AreLines-push, joined-push, lines_of-joined, lines_of-last, whole_lines_of-joined, whole_lines_of-last}
-use Rattle.tr_lines.specs.Lines.{HasNoFeed, joined, lines_of, text_of_line, whole_lines_of, with_last}
+use Rattle.tr_lines.proofs.LineLemmas.{AreLines, AreLines-push, joined, joined-push, lines_of-joined, lines_of-last, whole_lines_of-joined, whole_lines_of-last}
+use Rattle.tr_lines.specs.Lines.{HasNoFeed, lines_of, text_of_line, whole_lines_of, with_last}
 use Rattle.tr_lines.specs.Reading.{GoesTooFar, Reading, ReadsAll, ReadsLine, ReadsOn, budget, longest_script}
 use Rattle.tr_lines.specs.declared.reader.Found.{Found}
 use Rattle.tr_lines.specs.declared.reader.Found.TheVariants.{Last, Whole}
@@ -51,6 +51,12 @@ module _ (given now taken wrote_now : Option (List ℕ)) (reader : Reading) (wor
   more_read after more bytes came is =
       came ∙ ap (λ k. and_then_bytes k more) g.read ∙ and_then_bytes-append given (joined g.seen ++ reader.held) more
       ∙ ap (and_then_bytes given) (append_assoc (joined g.seen) reader.held more ∙ ap (λ bs. joined g.seen ++ bs) is)
+
+  -- what came so far, and then more, is no longer than a script may be, where the reader counted no more than that
+  within_limit : (reader' : Reading) (more bytes : List ℕ) → reader.held ++ more ≡ bytes → reader'.total ≡ reader.total + length more → reader'.total ≤ longest_script
+      → length (joined g.seen ++ bytes) ≤ longest_script
+  within_limit reader' more bytes is total most =
+      omega (arith, most, total, g.total, length-append (joined g.seen) reader.held, length-append reader.held more, ap length is, length-append (joined g.seen) bytes)
 
   -- the bytes up to a line feed make one line more
   joined-line : (raw rest : List ℕ) → joined g.seen ++ (raw ++ 10 ∷ rest) ≡ joined (g.seen ++ raw ∷ []) ++ rest
@@ -125,21 +131,11 @@ module _ (given now taken wrote_now : Option (List ℕ)) (reader : Reading) (wor
     pub Going-last : ReadsOn now after reader reader' → reader'.held ≡ [] → reader'.total ≤ longest_script → Ran given after taken wrote' world' refused'
     Going-last r none most =
         let lines = lines_of-joined g.seen r.raw g.are_lines ∙ ap (λ ls. g.seen ++ ls) (lines_of-last r.raw r.no_feed) in
+        let all : reader.held ++ r.more ≡ r.raw = r.bytes ∙ ap (λ bs. r.raw ++ bs) none ∙ append-nil r.raw in
         record {
           script = joined g.seen ++ r.raw;
-          fits = omega (
-            arith,
-            most,
-            r.total,
-            g.total,
-            length-append (joined g.seen) reader.held,
-            ap length r.bytes,
-            length-append r.raw reader'.held,
-            ap length none,
-            length-append reader.held r.more,
-            length-append (joined g.seen) r.raw,
-          );
-          read = more_read after r.more _ r.came (r.bytes ∙ ap (λ bs. r.raw ++ bs) none ∙ append-nil r.raw);
+          fits = within_limit reader' r.more r.raw all r.total most;
+          read = more_read after r.more _ r.came all;
           wrote = wrote_more r.raw r.text ∙ ap (and_then_bytes taken) (answers-append by_history [] g.seen (r.raw ∷ [])
               ∙ ap (λ t. answers_to g.seen ++ t) (answers-last by_history (world_after by_history [] g.seen) r.raw)
               ∙ sym (answers-append by_history [] g.seen (with_last r.raw)) ∙ ap answers_to (sym lines));
@@ -156,12 +152,15 @@ module _ (given now taken wrote_now : Option (List ℕ)) (reader : Reading) (wor
   whole_so_far raw none = whole_seen raw ∙ ap (λ ls. g.seen ++ ls) (whole_lines_of-last raw none) ∙ append-nil g.seen
 
   -- the source failed: the line that broke off isn't answered
-  pub Going-breaks : (after : Option (List ℕ)) (reader' : Reading) → ReadsAll now after reader reader' → BrokeOff given after taken wrote_now
-  Going-breaks after reader' r = record {
-    script = joined g.seen ++ r.on.raw;
-    read = more_read after r.on.more _ r.on.came (r.on.bytes ∙ ap (λ bs. r.on.raw ++ bs) r.nothing_held ∙ append-nil r.on.raw);
-    wrote = g.wrote ∙ ap (λ ls. and_then_bytes taken (answers_to ls)) (sym (whole_so_far r.on.raw r.on.no_feed));
-  }
+  pub Going-breaks : (after : Option (List ℕ)) (reader' : Reading) → reader'.total ≤ longest_script → ReadsAll now after reader reader' → BrokeOff given after taken wrote_now
+  Going-breaks after reader' most r =
+      let all : reader.held ++ r.on.more ≡ r.on.raw = r.on.bytes ∙ ap (λ bs. r.on.raw ++ bs) r.nothing_held ∙ append-nil r.on.raw in
+      record {
+        script = joined g.seen ++ r.on.raw;
+        fits = within_limit reader' r.on.more r.on.raw all r.on.total most;
+        read = more_read after r.on.more _ r.on.came all;
+        wrote = g.wrote ∙ ap (λ ls. and_then_bytes taken (answers_to ls)) (sym (whole_so_far r.on.raw r.on.no_feed));
+      }
 
   -- the script is too long
   pub Going-too_far : (after : Option (List ℕ)) (reader' : Reading) → GoesTooFar now after reader reader' → WentTooFar given after taken wrote_now
@@ -192,10 +191,11 @@ module _ (given now taken wrote_now : Option (List ℕ)) (reader : Reading) (wor
   first_seen rest = take-append_seam g.seen rest
 
   -- memory was refused while a line was read
-  pub Going-memory : (after : Option (List ℕ)) (reader' : Reading) → ReadsOn now after reader reader' → AnsweredSome given after taken wrote_now
-  Going-memory after reader' r = record {
+  pub Going-memory : (after : Option (List ℕ)) (reader' : Reading) → reader'.total ≤ longest_script → ReadsOn now after reader reader' → AnsweredSome given after taken wrote_now
+  Going-memory after reader' most r = record {
     script = joined g.seen ++ (r.raw ++ reader'.held);
     count = length g.seen;
+    fits = within_limit reader' r.more (r.raw ++ reader'.held) r.bytes r.total most;
     read = more_read after r.more _ r.came r.bytes;
     wrote = g.wrote ∙ ap (λ ls. and_then_bytes taken (answers_to ls)) (sym (ap (take (length g.seen)) (whole_seen (r.raw ++ reader'.held)) ∙ first_seen (whole_lines_of (r.raw ++ reader'.held))));
   }
@@ -208,14 +208,15 @@ module _ (given now taken wrote_now : Option (List ℕ)) (reader : Reading) (wor
     pub script : List ℕ
     pub more : Text
     pub lines : List (List ℕ)
+    pub fits : length script ≤ longest_script
     pub text : reader'.line ≡ text_of_line raw
     pub read : after ≡ and_then_bytes given script
     pub answer : script_text script ≡ answers_to (g.seen ++ raw ∷ []) ++ more
     pub whole : whole_lines_of script ≡ g.seen ++ lines
     pub within : (length (answers_to (g.seen ++ raw ∷ [])) ≤ length (answers_to (whole_lines_of script))) ⊎ (after ≡ content)
 
-  Comes-whole : (content after : Option (List ℕ)) (reader' : Reading) → ReadsLine now after reader reader' → Comes content after reader'
-  Comes-whole content after reader' r =
+  Comes-whole : (content after : Option (List ℕ)) (reader' : Reading) → reader'.total ≤ longest_script → ReadsLine now after reader reader' → Comes content after reader'
+  Comes-whole content after reader' most r =
       let are = AreLines-push g.seen r.raw g.are_lines r.no_feed in
       let lines = lines_of-joined (g.seen ++ r.raw ∷ []) reader'.held are in
       let whole = whole_lines_of-joined (g.seen ++ r.raw ∷ []) reader'.held are in
@@ -225,6 +226,7 @@ module _ (given now taken wrote_now : Option (List ℕ)) (reader : Reading) (wor
         script = joined (g.seen ++ r.raw ∷ []) ++ reader'.held;
         more = answers by_history (world_after by_history [] (g.seen ++ r.raw ∷ [])) (lines_of reader'.held);
         lines = r.raw ∷ whole_lines_of reader'.held;
+        fits = subst (λ (bs : List ℕ). length bs ≤ longest_script) (joined-line r.raw reader'.held) (within_limit reader' r.more (r.raw ++ 10 ∷ reader'.held) r.bytes r.total most);
         text = r.text;
         read = more_read after r.more _ r.came r.bytes ∙ ap (and_then_bytes given) (joined-line r.raw reader'.held);
         answer = ap answers_to lines ∙ answers-append by_history [] (g.seen ++ r.raw ∷ []) (lines_of reader'.held);
@@ -232,17 +234,19 @@ module _ (given now taken wrote_now : Option (List ℕ)) (reader : Reading) (wor
         within = inl (omega (arith, ap length reached, length-append (answers_to (g.seen ++ r.raw ∷ [])) (answers by_history (world_after by_history [] (g.seen ++ r.raw ∷ [])) (whole_lines_of reader'.held))));
       }
 
-  Comes-last : (content after : Option (List ℕ)) (reader' : Reading) → ReadsAll now after reader reader' → after ≡ content → Comes content after reader'
-  Comes-last content after reader' r end =
+  Comes-last : (content after : Option (List ℕ)) (reader' : Reading) → reader'.total ≤ longest_script → ReadsAll now after reader reader' → after ≡ content → Comes content after reader'
+  Comes-last content after reader' most r end =
       let on = r.on in
+      let all : reader.held ++ on.more ≡ on.raw = on.bytes ∙ ap (λ bs. on.raw ++ bs) r.nothing_held ∙ append-nil on.raw in
       let lines = lines_of-joined g.seen on.raw g.are_lines ∙ ap (λ ls. g.seen ++ ls) (lines_of-last on.raw on.no_feed) in
       record {
         raw = on.raw;
         script = joined g.seen ++ on.raw;
         more = [];
         lines = [];
+        fits = within_limit reader' on.more on.raw all on.total most;
         text = on.text;
-        read = more_read after on.more _ on.came (on.bytes ∙ ap (λ bs. on.raw ++ bs) r.nothing_held ∙ append-nil on.raw);
+        read = more_read after on.more _ on.came all;
         answer = ap answers_to lines ∙ answers-append by_history [] g.seen (with_last on.raw)
             ∙ ap (λ t. answers_to g.seen ++ t) (sym (answers-last by_history (world_after by_history [] g.seen) on.raw))
             ∙ sym (answers-append by_history [] g.seen (on.raw ∷ [])) ∙ sym (append-nil (answers_to (g.seen ++ on.raw ∷ [])));
@@ -250,10 +254,10 @@ module _ (given now taken wrote_now : Option (List ℕ)) (reader : Reading) (wor
         within = inr end;
       }
 
-  pub Comes-found : (content : Option (List ℕ)) (found : Found) (after : Option (List ℕ)) (reader' : Reading) → (found ≡ Whole → ReadsLine now after reader reader')
-      → (found ≡ Last → ReadsAll now after reader reader' × (after ≡ content)) → Comes content after reader'
-  Comes-found content Whole after reader' whole last = Comes-whole content after reader' (whole refl)
-  Comes-found content Last after reader' whole last = Comes-last content after reader' (last refl).0 (last refl).1
+  pub Comes-found : (content : Option (List ℕ)) (found : Found) (after : Option (List ℕ)) (reader' : Reading) → reader'.total ≤ longest_script
+      → (found ≡ Whole → ReadsLine now after reader reader') → (found ≡ Last → ReadsAll now after reader reader' × (after ≡ content)) → Comes content after reader'
+  Comes-found content Whole after reader' most whole last = Comes-whole content after reader' most (whole refl)
+  Comes-found content Last after reader' most whole last = Comes-last content after reader' most (last refl).0 (last refl).1
 
   -- the sink failed: a front part of the answer went out
   pub Comes-wrote : (content after wrote' : Option (List ℕ)) (reader' : Reading) (text : Option (List ℕ)) (k : ℕ) → text ≡ reader'.line → k ≤ length (text_step by_state world text).text
@@ -271,6 +275,7 @@ module _ (given now taken wrote_now : Option (List ℕ)) (reader : Reading) (wor
       record {
         script = c.script;
         count = length (answers_to g.seen) + k;
+        fits = c.fits;
         read = c.read;
         wrote = wrote ∙ ap₂ (λ o t. and_then_bytes o (take k t)) g.wrote step ∙ and_then_bytes-append taken (answers_to g.seen) (take k line)
             ∙ ap (and_then_bytes taken) (sym some);
@@ -285,6 +290,7 @@ module _ (given now taken wrote_now : Option (List ℕ)) (reader : Reading) (wor
   Comes-memory content after wrote' reader' same c = record {
     script = c.script;
     count = length g.seen;
+    fits = c.fits;
     read = c.read;
     wrote = same ∙ g.wrote ∙ ap (λ ls. and_then_bytes taken (answers_to ls)) (sym (ap (take (length g.seen)) c.whole ∙ first_seen c.lines));
   }

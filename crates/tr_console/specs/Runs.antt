@@ -42,6 +42,7 @@ module _ (given given_now taken taken_now : Option (List ℕ)) where
   -- this was read before the source failed, and its whole lines answered
   pub record BrokeOff : Type 0 where
     pub script : List ℕ
+    pub fits : length script ≤ longest_script
     pub read : given_now ≡ and_then_bytes given script
     pub wrote : taken_now ≡ and_then_bytes taken (answers_to (whole_lines_of script))
 
@@ -58,6 +59,7 @@ module _ (given given_now taken taken_now : Option (List ℕ)) where
   pub record WroteSome (content : Option (List ℕ)) : Type 0 where
     pub script : List ℕ
     pub count : ℕ
+    pub fits : length script ≤ longest_script
     pub read : given_now ≡ and_then_bytes given script
     pub wrote : taken_now ≡ and_then_bytes taken (take count (script_text script))
     pub within : (count ≤ length (answers_to (whole_lines_of script))) ⊎ (given_now ≡ content)
@@ -66,5 +68,6 @@ module _ (given given_now taken taken_now : Option (List ℕ)) where
   pub record AnsweredSome : Type 0 where
     pub script : List ℕ
     pub count : ℕ
+    pub fits : length script ≤ longest_script
     pub read : given_now ≡ and_then_bytes given script
     pub wrote : taken_now ≡ and_then_bytes taken (answers_to (take count (whole_lines_of script)))

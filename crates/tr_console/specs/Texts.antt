@@ -1,4 +1,4 @@
--- The texts of answers, without the line feed behind the last line.
+-- The texts of answers: without the line feed behind the last line, but for `archives_text`, in which each line has its own.
 use Rattle.std.specs.Prelude.{ℕ, ℤ, ◌+◌, ◌-◌, List, [], ◌∷◌, ◌++◌, length, slice_get, replicate, codes, Option, Some, None, Result, Ok, Err}
 use Rattle.std.specs.Fmt.{decimal}
 use Rattle.tr_book.specs.Snaps.{SnapState}

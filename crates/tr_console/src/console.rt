@@ -84,7 +84,13 @@ impl<A: Allocator + Copy> Console<A> {
     }
 
     /// Answers a line; `None` is a bad one. The words of the line are read with memory of `clap`.
-    pub fn answer(&mut self, clap: Global, line: Option<&str>) -> Result<Reply<A>, AllocError>
+    ///
+    /// Where memory is refused the line may have been done, or not, without its answer: the console is then to be dropped.
+    pub(crate) fn answer(
+        &mut self,
+        clap: Global,
+        line: Option<&str>,
+    ) -> Result<Reply<A>, AllocError>
         ensures { IfOk result (Does (text_step by_state self.old (option_map (λ t. t.now) line.entry)) self.new) }
     {
         let Some(text) = line else {

@@ -54,7 +54,7 @@ pub fn mode_of(snapshot: bool) -> SessionMode
     }
 }
 
-/// An offer: its moment, its id and its payload.
+/// What an offer gives beside its payload: the stream that it is for, its moment and its id.
 #[derive(Clone, Copy, Debug)]
 pub struct OfferTo {
     pub stream: u64,

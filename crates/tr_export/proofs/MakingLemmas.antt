@@ -4,6 +4,9 @@ use Rattle.std.proofs.lemmas.List.{take_more, take-append-drop}
 use Rattle.std.proofs.lemmas.List.Concat.{flat_map-append}
 use Rattle.std.specs.List.{flat_map}
 use Rattle.std.specs.Prelude.{Result, Ok, Err, OnErr}
+use Rattle.tr_export.specs.Failures.{FailedByWrite, HasNotFailed}
+use Rattle.tr_export.specs.declared.faults.ExportFault.{ExportFault}
+use Rattle.tr_export.specs.declared.faults.ExportFault.TheVariants.{Write, NoMemory}
 use Rattle.tr_export.specs.Making.{Makings, and_then_made, MadeFront}
 
 and_then_made-none : (known : Option Makings) → and_then_made known [] ≡ known
@@ -65,3 +68,9 @@ module _ {X : Type 0} (f : X → Makings) where
 pub OnErr-always : {T E : Type 0} {P : Type 0} (r : Result T E) → P → OnErr r P
 OnErr-always (Ok t) p = tt
 OnErr-always (Err e) p = p
+
+-- no failure before, and then what a call did
+pub failed_since : (start now after : Option ℕ) (r : Result (Unit {0}) ExportFault) → HasNotFailed start now → FailedByWrite now after r → FailedByWrite start after r
+failed_since start now after (Ok done) none then = λ n e. then n (none n e)
+failed_since start now after (Err Write) none then = λ n e. then n (none n e)
+failed_since start now after (Err NoMemory) none then = λ n e. then n (none n e)

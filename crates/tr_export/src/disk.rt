@@ -1,8 +1,10 @@
 //! Where folders and files are made, for code that must not know whether it is a file system.
 
-ghost use Rattle.std.specs.Prelude.{◌≡◌, ℕ, List, [], ◌∷◌, Option, IsSome, IfOk, OnOk, OnErr};
+ghost use Rattle.std.specs.Prelude.{◌≡◌, ℕ, List, [], ◌∷◌, Option, Some, None, IsSome, IfOk, OnOk, OnErr, option_map};
+ghost use Rattle.tr_export.specs.Failures.{HasFailed, HasNotFailed};
 ghost use Rattle.tr_export.specs.Making.{Makings, and_then_made, with_file, nothing_in};
 ghost use Rattle.tr_export.specs.declared.made.Made.TheVariants.{Folder};
+ghost use Rattle.tr_record.specs.Bytes.{once_more};
 
 use tr_record::{ByteSink, Failed};
 
@@ -15,20 +17,34 @@ pub trait Disk {
     ghost made: { Self → Option Makings };
     /// The path of the file that was opened last.
     ghost opened: { Self → List ℕ };
+    /// How often it and its files failed, modulo 2^64. None while a file is open, which counts on from there.
+    ghost failures: { Self → Option ℕ };
 
     /// Makes a folder, and those above it, where they aren't there.
     fn make_folder(&mut self, path: &str) -> Result<(), Failed>
         ensures ok { OnOk result (made self.new ≡ and_then_made (made self.old) (Folder path.now ∷ [])) }
-        ensures err { OnErr result (made self.new ≡ made self.old) };
+        ensures err { OnErr result (made self.new ≡ made self.old) }
+        ensures no_failure { OnOk result (HasNotFailed (failures self.old) (failures self.new)) }
+        ensures failed { OnErr result (HasFailed (failures self.old) (failures self.new)) };
 
     /// Opens a file to be written. One that is there loses what it had.
     fn open_file(&mut self, path: &str) -> Result<Self::File, Failed>
         ensures made { made self.new ≡ made self.old }
         ensures path { OnOk result (IsSome (made self.old) → opened self.new ≡ path.now) }
-        ensures empty { IfOk result (λ file. Self.File.taken file ≡ nothing_in (made self.old)) };
+        ensures empty { IfOk result (λ file. Self.File.taken file ≡ nothing_in (made self.old)) }
+        ensures counts_on { IfOk result (λ file. (n : ℕ) → failures self.old ≡ Some n → Self.File.failures file ≡ n) }
+        ensures open { OnOk result (failures self.new ≡ None) }
+        ensures failed { OnErr result (HasFailed (failures self.old) (failures self.new)) };
 
     /// Ends the file that was opened last, which has all its bytes now.
     fn close_file(&mut self, file: Self::File) -> Result<(), Failed>
         ensures ok { OnOk result (made self.new ≡ with_file (made self.old) (opened self.old) (Self.File.taken file)) }
-        ensures err { OnErr result (made self.new ≡ made self.old) };
+        ensures err { OnErr result (made self.new ≡ made self.old) }
+        ensures no_failure { OnOk result (failures self.new ≡ Some (Self.File.failures file)) }
+        ensures failed { OnErr result (failures self.new ≡ Some (once_more (Self.File.failures file))) };
+
+    /// Gives up the file that was opened last, which may have a front part of its bytes.
+    fn give_up(&mut self, file: Self::File)
+        ensures made { made self.new ≡ made self.old }
+        ensures failures { failures self.new ≡ Some (Self.File.failures file) };
 }

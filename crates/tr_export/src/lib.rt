@@ -1,6 +1,7 @@
 //! A session's archives on disk: the folder of each, with the metadata text and a file for each stream.
 #![tactic(auto)]
 
+mod counting;
 mod disk;
 mod faults;
 mod made;
@@ -11,6 +12,7 @@ mod system;
 mod tests;
 mod writing;
 
+pub use counting::CountingFile;
 pub use disk::Disk;
 pub use faults::ExportFault;
 pub use made::Made;

@@ -3,6 +3,7 @@
 ghost use Rattle.std.specs.Prelude.{◌≡◌, Some, []};
 ghost use Rattle.tr_export.specs.Kept.{by_text};
 
+use crate::counting::{CountingFile, one_more};
 use crate::disk::Disk;
 use crate::made::Made;
 use std::alloc::{Allocator, Global};
@@ -16,18 +17,21 @@ pub struct MemoryDisk<A: Allocator = Global> {
     made: Vec<Made<String<A>, Vec<u8, A>>, A>,
     open_path: String<A>,
     piece: usize,
+    failures: Option<u64>,
 }
 
 impl<A: Allocator + Copy> MemoryDisk<A> {
     /// A disk on which nothing is made. Its files take at most `piece` bytes at a time, and one where it is 0.
     pub fn new(alloc: A, piece: usize) -> Self
-        ensures { ⟦<MemoryDisk<A> as Disk>⟧.made result ≡ Some [] }
+        ensures made { ⟦<MemoryDisk<A> as Disk>⟧.made result ≡ Some [] }
+        ensures failures { ⟦<MemoryDisk<A> as Disk>⟧.failures result ≡ Some 0 }
     {
         MemoryDisk {
             alloc,
             made: Vec::new(alloc),
             open_path: String::new(alloc),
             piece,
+            failures: Some(0),
         }
     }
 
@@ -43,37 +47,60 @@ impl<A: Allocator + Copy> Disk for MemoryDisk<A> {
     ghost use Rattle.std.specs.Prelude.{Some, string_bytes};
     ghost use Rattle.tr_export.specs.Kept.{by_text};
 
-    type File = MemorySink<A>;
+    type File = CountingFile<MemorySink<A>>;
 
     ghost made = { λ s. Some (by_text s.made.items) };
 
     ghost opened = { λ s. string_bytes s.open_path };
 
+    ghost failures = { λ s. s.failures };
+
     fn make_folder(&mut self, path: &str) -> Result<(), Failed> {
         let Ok(path) = String::from_str(self.alloc, path) else {
+            self.failures = one_more(self.failures);
             return Err(Failed);
         };
         match self.made.push(Made::Folder(path)) {
             Ok(()) => Ok(()),
-            Err(_) => Err(Failed),
+            Err(_) => {
+                self.failures = one_more(self.failures);
+                Err(Failed)
+            }
         }
     }
 
-    fn open_file(&mut self, path: &str) -> Result<MemorySink<A>, Failed> {
+    fn open_file(&mut self, path: &str) -> Result<CountingFile<MemorySink<A>>, Failed> {
         match String::from_str(self.alloc, path) {
             Ok(path) => {
                 self.open_path = path;
-                Ok(MemorySink::new(self.alloc, self.piece))
+                let failures = self.failures.take().unwrap_or(0);
+                let sink = MemorySink::new(self.alloc, self.piece);
+                Ok(CountingFile::new(sink, failures))
             }
-            Err(_) => Err(Failed),
+            Err(_) => {
+                self.failures = one_more(self.failures);
+                Err(Failed)
+            }
         }
     }
 
-    fn close_file(&mut self, file: MemorySink<A>) -> Result<(), Failed> {
+    fn close_file(&mut self, file: CountingFile<MemorySink<A>>) -> Result<(), Failed> {
+        let failures = file.failures();
         let path = mem::replace(&mut self.open_path, String::new(self.alloc));
-        match self.made.push(Made::File(path, file.into_bytes())) {
-            Ok(()) => Ok(()),
-            Err(_) => Err(Failed),
+        let bytes = file.into_sink().into_bytes();
+        match self.made.push(Made::File(path, bytes)) {
+            Ok(()) => {
+                self.failures = Some(failures);
+                Ok(())
+            }
+            Err(_) => {
+                self.failures = Some(failures.wrapping_add(1));
+                Err(Failed)
+            }
         }
+    }
+
+    fn give_up(&mut self, file: CountingFile<MemorySink<A>>) {
+        self.failures = Some(file.failures());
     }
 }

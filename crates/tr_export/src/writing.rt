@@ -3,6 +3,7 @@
 ghost use Rattle.std.specs.Prelude.{◌≡◌, ◌∷◌, [], length, OnOk, OnErr};
 ghost use Rattle.tr_chunk.specs.Files.{packets_text};
 ghost use Rattle.tr_export.specs.Archives.{stream_file, stream_files, chunk_made, archive_made, archives_made};
+ghost use Rattle.tr_export.specs.Failures.{FailedByWrite};
 ghost use Rattle.tr_export.specs.Making.{and_then_made, MadeFront};
 ghost use Rattle.tr_export.specs.declared.made.Made.TheVariants.{File};
 ghost use Rattle.tr_packet.specs.Metadata.{metadata_of};
@@ -26,9 +27,13 @@ fn write_metadata_file<B: Allocator, D: Disk>(
 ) -> Result<(), ExportFault>
     ensures ok { OnOk result (D.made disk.new ≡ and_then_made (D.made disk.old) (File path.now (metadata_of uuid.now) ∷ [])) }
     ensures err { OnErr result (D.made disk.new ≡ D.made disk.old) }
+    ensures failures { FailedByWrite (D.failures disk.old) (D.failures disk.new) result }
 {
     let mut file = disk.open_file(path)?;
-    write_metadata(alloc, &mut file, uuid)?;
+    if let Err(fault) = write_metadata(alloc, &mut file, uuid) {
+        disk.give_up(file);
+        return Err(ExportFault::from(fault));
+    }
     disk.close_file(file)?;
     Ok(())
 }
@@ -42,9 +47,13 @@ fn write_part_file<A: Allocator, B: Allocator + Copy, D: Disk>(
 ) -> Result<(), ExportFault>
     ensures ok { OnOk result (D.made disk.new ≡ and_then_made (D.made disk.old) (File path.now (packets_text part.now.packets) ∷ [])) }
     ensures err { OnErr result (D.made disk.new ≡ D.made disk.old) }
+    ensures failures { FailedByWrite (D.failures disk.old) (D.failures disk.new) result }
 {
     let mut file = disk.open_file(path)?;
-    write_part(alloc, &mut file, part)?;
+    if let Err(fault) = write_part(alloc, &mut file, part) {
+        disk.give_up(file);
+        return Err(ExportFault::from(fault));
+    }
     disk.close_file(file)?;
     Ok(())
 }
@@ -60,6 +69,7 @@ fn write_stream<A: Allocator, B: Allocator + Copy, D: Disk>(
 ) -> Result<(), ExportFault>
     ensures ok { OnOk result (D.made disk.new ≡ and_then_made (D.made disk.old) (stream_file folder.now id session.now i)) }
     ensures err { OnErr result (D.made disk.new ≡ D.made disk.old) }
+    ensures failures { FailedByWrite (D.failures disk.old) (D.failures disk.new) result }
 {
     let Some(channel) = session.book().channel_of(i) else {
         return Ok(());
@@ -85,6 +95,7 @@ fn write_streams<A: Allocator, B: Allocator + Copy, D: Disk>(
 ) -> Result<(), ExportFault>
     ensures ok { OnOk result (D.made disk.new ≡ and_then_made (D.made disk.old) (stream_files folder.now id session.now (length session.now.streams))) }
     ensures err { OnErr result (MadeFront (D.made disk.old) (D.made disk.new) (stream_files folder.now id session.now (length session.now.streams))) }
+    ensures failures { FailedByWrite (D.failures disk.old) (D.failures disk.new) result }
 {
     'streams: for i in 0..session.streams() {
         write_stream(alloc, disk, folder, id, session, i)?;
@@ -102,6 +113,7 @@ fn write_chunk<A: Allocator, B: Allocator + Copy, D: Disk>(
 ) -> Result<(), ExportFault>
     ensures ok { OnOk result (D.made disk.new ≡ and_then_made (D.made disk.old) (chunk_made folder.now id session.now)) }
     ensures err { OnErr result (MadeFront (D.made disk.old) (D.made disk.new) (chunk_made folder.now id session.now)) }
+    ensures failures { FailedByWrite (D.failures disk.old) (D.failures disk.new) result }
 {
     let metadata = file_path(alloc, folder, "metadata")?;
     disk.make_folder(folder)?;
@@ -120,6 +132,7 @@ fn write_archive<A: Allocator, B: Allocator + Copy, D: Disk>(
 ) -> Result<(), ExportFault>
     ensures ok { OnOk result (D.made disk.new ≡ and_then_made (D.made disk.old) (archive_made dir.now name.now session.now archive)) }
     ensures err { OnErr result (MadeFront (D.made disk.old) (D.made disk.new) (archive_made dir.now name.now session.now archive)) }
+    ensures failures { FailedByWrite (D.failures disk.old) (D.failures disk.new) result }
 {
     let offset = session.book().offset();
     let own_name = archive_name(alloc, archive.begin, archive.end, offset, archive.id)?;
@@ -145,6 +158,7 @@ pub fn write_archives<A: Allocator, B: Allocator + Copy, D: Disk>(
 ) -> Result<(), ExportFault>
     ensures ok { OnOk result (D.made disk.new ≡ and_then_made (D.made disk.old) (archives_made dir.now name.now session.now)) }
     ensures err { OnErr result (MadeFront (D.made disk.old) (D.made disk.new) (archives_made dir.now name.now session.now)) }
+    ensures failures { FailedByWrite (D.failures disk.old) (D.failures disk.new) result }
 {
     'archives: for archive in session.book().archives() {
         write_archive(alloc, disk, dir, name, session, *archive)?;

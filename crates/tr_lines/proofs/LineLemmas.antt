@@ -1,6 +1,6 @@
 -- Lines, and how they stand in a script.
 use Rattle.std.proofs.Common.{◌≡◌, ◌∙◌, ◌<◌, ◌+◌, ◌&&◌, ℕ, Bool, zero, suc, cond, true, false, refl, sym, ap, ap₂, inl, inr, length-append, arith, List, [], ◌∷◌, ◌++◌, Some, None, length, take, get_or, nat_le, true≢false, lit<, lt-ltb, append_assoc, append-nil, add-one, drop-cons}
-use Rattle.std.specs.List.{list_all, onto_first, position, position_or_len}
+use Rattle.std.specs.List.{flat_map, list_all, onto_first, position, position_or_len}
 use Rattle.std.specs.Str.{IsAscii}
 use Rattle.std.proofs.Math.ListN.{drop}
 use Rattle.std.proofs.lemmas.List.{take-append-drop}
@@ -12,7 +12,7 @@ use Rattle.std.proofs.lemmas.Bool.{cases_lt, false_from_ne_true}
 use Rattle.std.proofs.lemmas.List.Sums.{fails_before_first}
 use Rattle.std.proofs.lemmas.Bool.Decides.{Decides-eqb}
 use Rattle.std.proofs.lemmas.Grind.{common_steps}
-use Rattle.tr_lines.specs.Lines.{HasNoFeed, all_but_last, is_feed, is_printable, joined, keep_more, lines_of, lines_of_parts, parts_of, text_of_line, whole_lines_of, with_last}
+use Rattle.tr_lines.specs.Lines.{HasNoFeed, all_but_last, is_feed, is_printable, keep_more, lines_of, lines_of_parts, parts_of, text_of_line, whole_lines_of, with_last}
 
 pub both : (a b : Bool) → (a && b) ≡ true → (a ≡ true) × (b ≡ true)
 both true b e = (refl, e)
@@ -103,6 +103,10 @@ whole_lines_of-last line none = ap all_but_last (slice_split_none is_feed line n
 abbrev pub AreLines : List (List ℕ) → Type 0
 AreLines [] = Unit {0}
 AreLines (line ∷ lines) = HasNoFeed line × AreLines lines
+
+-- the lines, each with its line feed
+abbrev pub joined : List (List ℕ) → List ℕ
+joined lines = flat_map (λ line. line ++ 10 ∷ []) lines
 
 -- the lines that came, and then those of the rest
 pub lines_of-joined : (lines : List (List ℕ)) (rest : List ℕ) → AreLines lines → lines_of (joined lines ++ rest) ≡ lines ++ lines_of rest

@@ -1,6 +1,6 @@
 -- The lines of a script.
 use Rattle.std.specs.Prelude.{◌≡◌, ℕ, List, [], ◌∷◌, ◌++◌, ◌==◌, ◌&&◌, Bool, false, Option, Some, None, length, nat_le, All, if◌then◌else◌}
-use Rattle.std.specs.List.{flat_map, list_all, slice_split}
+use Rattle.std.specs.List.{list_all, slice_split}
 
 abbrev pub is_feed : ℕ → Bool
 is_feed b = b == 10
@@ -51,7 +51,3 @@ keep_more (Some text) part = text_of_line (text ++ part)
 -- no line feed is among the bytes
 abbrev pub HasNoFeed : List ℕ → Type 0
 HasNoFeed bytes = All (λ b. is_feed b ≡ false) bytes
-
--- the lines, each with its line feed
-abbrev pub joined : List (List ℕ) → List ℕ
-joined lines = flat_map (λ line. line ++ 10 ∷ []) lines

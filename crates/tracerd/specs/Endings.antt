@@ -1,5 +1,7 @@
 -- How runs of the program end.
 use Rattle.std.specs.Prelude.{ℕ, zero, suc}
+use Rattle.std.specs.declared.io.ErrorKind.{ErrorKind}
+use Rattle.std.specs.declared.io.ErrorKind.TheVariants.{OutOfMemory}
 use Rattle.tr_console.specs.declared.script_fault.ScriptFault.{ScriptFault}
 use Rattle.tr_console.specs.declared.script_fault.ScriptFault.TheVariants as fault
 use Rattle.tr_export.specs.declared.faults.ExportFault.{ExportFault}
@@ -19,6 +21,11 @@ ending_of fault.Read = ReadOrWrite
 ending_of fault.TooLong = ReadOrWrite
 ending_of fault.Write = ReadOrWrite
 ending_of fault.NoMemory = NoMemory
+
+-- the arguments couldn't be taken: for want of memory, or because one isn't UTF-8
+abbrev pub ending_of_arguments : ErrorKind → Ending
+ending_of_arguments OutOfMemory = NoMemory
+ending_of_arguments _ = BadCommandLine
 
 abbrev pub ending_of_export : ExportFault → Ending
 ending_of_export export.Write = ReadOrWrite

@@ -3,6 +3,7 @@
 use clap::error::ErrorKind;
 use clap::{Arg, Command};
 use std::alloc::{AllocError, Global};
+use std::env::Args;
 
 /// What the program is asked to do.
 #[derive(Clone, Copy, Debug, PartialEq, Eq)]
@@ -18,6 +19,24 @@ fn command_line<'a>(alloc: Global) -> Result<Command<'a>, AllocError> {
     let out = Arg::new(alloc, "out").long("out");
     let script = Command::new(alloc, "script").arg(out)?;
     Command::new(alloc, "tracerd").subcommand(script)
+}
+
+/// The arguments as a list.
+pub fn collected(alloc: Global, given: Args) -> Result<Vec<String>, AllocError> {
+    let mut all = Vec::new(alloc);
+    for word in given {
+        all.push(word)?;
+    }
+    Ok(all)
+}
+
+/// The words behind the program's name, which stands first.
+pub fn words_behind<'a>(alloc: Global, given: &'a [String]) -> Result<Vec<&'a str>, AllocError> {
+    let mut words = Vec::new(alloc);
+    for word in given.iter().skip(1) {
+        words.push(word.as_str())?;
+    }
+    Ok(words)
 }
 
 /// The program's name, and then these words.

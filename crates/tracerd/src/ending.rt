@@ -1,8 +1,9 @@
 //! How a run of the program ends.
 
 ghost use Rattle.std.specs.Prelude.{◌≡◌};
-ghost use Rattle.tracerd.specs.Endings.{ending_of, ending_of_export, ending_of_refused, status_of};
+ghost use Rattle.tracerd.specs.Endings.{ending_of, ending_of_arguments, ending_of_export, ending_of_refused, status_of};
 
+use std::io::ErrorKind;
 use tr_console::ScriptFault;
 use tr_export::ExportFault;
 
@@ -53,6 +54,16 @@ impl Ending {
             Ending::Done
         } else {
             Ending::Refused
+        }
+    }
+
+    /// How arguments that can't be taken end the program: where it isn't for want of memory, one of them isn't UTF-8.
+    pub fn of_arguments(kind: ErrorKind) -> Ending
+        ensures { result ≡ ending_of_arguments kind }
+    {
+        match kind {
+            ErrorKind::OutOfMemory => Ending::NoMemory,
+            _ => Ending::BadCommandLine,
         }
     }
 

@@ -1,8 +1,10 @@
 //! A run of the program, over any input, output and disk.
 
-use crate::command_line::{Job, job_of, with_program};
+use crate::command_line::{Job, collected, job_of, with_program, words_behind};
 use crate::ending::Ending;
 use std::alloc::Global;
+use std::env::Args;
+use std::io;
 use tr_console::{Console, run_script};
 use tr_export::{Disk, ExportFault, write_archives};
 use tr_record::{ByteSink, ByteSource, put_all};
@@ -60,6 +62,15 @@ fn end<S: ByteSource, K: ByteSink, D: Disk>(
     }
 }
 
+/// Says on standard error what kept the program from its end, if anything did, and answers the exit status.
+fn tell<E: ByteSink>(ending: Ending, err: &mut E) -> u8 {
+    if let Some(message) = ending.message() {
+        // Where this can't be written either, the status still tells.
+        let _ = put_all(err, message.as_bytes());
+    }
+    ending.status()
+}
+
 /// Runs the program: `words` are those behind its name. The answer is the exit status: 0 where all was done, 1 where a
 /// line was refused, 2 for a bad command line, 3 for a fault of input, output or a file, or a script that is too long,
 /// 4 for want of memory. From 2 on `err` gets one line.
@@ -72,9 +83,39 @@ pub fn run<S: ByteSource, K: ByteSink, E: ByteSink, D: Disk>(
     disk: &mut D,
 ) -> u8 {
     let ending = end(alloc, words, input, out, disk);
-    if let Some(message) = ending.message() {
-        // Where this can't be written either, the status still tells.
-        let _ = put_all(err, message.as_bytes());
+    tell(ending, err)
+}
+
+/// Does what the arguments ask for, the program's name first.
+fn end_given<S: ByteSource, K: ByteSink, D: Disk>(
+    alloc: Global,
+    given: Args,
+    input: &mut S,
+    out: &mut K,
+    disk: &mut D,
+) -> Ending {
+    let Ok(given) = collected(alloc, given) else {
+        return Ending::NoMemory;
+    };
+    match words_behind(alloc, given.as_slice()) {
+        Ok(words) => end(alloc, words.as_slice(), input, out, disk),
+        Err(_) => Ending::NoMemory,
     }
-    ending.status()
+}
+
+/// Runs the program as `run` does, by the arguments that it got, its name first. One that isn't UTF-8 makes a bad
+/// command line.
+pub fn run_given<S: ByteSource, K: ByteSink, E: ByteSink, D: Disk>(
+    alloc: Global,
+    given: io::Result<Args>,
+    input: &mut S,
+    out: &mut K,
+    err: &mut E,
+    disk: &mut D,
+) -> u8 {
+    let ending = match given {
+        Ok(given) => end_given(alloc, given, input, out, disk),
+        Err(error) => Ending::of_arguments(error.kind()),
+    };
+    tell(ending, err)
 }

@@ -2,8 +2,9 @@
 
 mod exporting;
 
-use crate::running::run;
+use crate::running::{run, run_given};
 use std::alloc::Global;
+use std::io;
 use std::test::Fail;
 use tr_export::MemoryDisk;
 use tr_record::{MemorySink, MemorySource};
@@ -159,5 +160,29 @@ fn a_bad_folder_is_told(rt: HostRuntime) -> Result<(), Fail> {
         ends_with(rt.alloc(), &["--out", "d", "script"], b"", b"", fault),
         (2, true)
     );
+    Ok(())
+}
+
+/// The status where the arguments can't be taken, and whether nothing went out but this line to standard error.
+fn ends_without_arguments(alloc: Global, kind: io::ErrorKind, fault: &[u8]) -> (u8, bool) {
+    let mut input = MemorySource::new(b"", 4096);
+    let mut out = MemorySink::new(alloc, 4096);
+    let mut err = MemorySink::new(alloc, 4096);
+    let mut disk = MemoryDisk::new(alloc, 4096);
+    let given = Err(io::Error::from(kind));
+    let status = run_given(alloc, given, &mut input, &mut out, &mut err, &mut disk);
+    let out = out.into_bytes();
+    let err = err.into_bytes();
+    (status, out.is_empty() && err.as_slice() == fault)
+}
+
+#[test]
+fn arguments_that_cannot_be_taken_are_told(rt: HostRuntime) -> Result<(), Fail> {
+    let kind = io::ErrorKind::InvalidData;
+    let fault = b"tracerd: bad command line\n";
+    assert_eq!(rt; ends_without_arguments(rt.alloc(), kind, fault), (2, true));
+    let kind = io::ErrorKind::OutOfMemory;
+    let fault = b"tracerd: no memory\n";
+    assert_eq!(rt; ends_without_arguments(rt.alloc(), kind, fault), (4, true));
     Ok(())
 }

@@ -1,6 +1,9 @@
 //! A disk that fails, at each of its calls and at each byte.
 
+ghost use Rattle.std.specs.Prelude.{◌≡◌};
+
 use super::rotated;
+use crate::counting::one_more;
 use crate::disk::Disk;
 use crate::faults::ExportFault;
 use crate::writing::write_archives;
@@ -39,16 +42,19 @@ struct FailingDisk {
     calls: usize,
     first: usize,
     later: usize,
+    failures: Option<u64>,
 }
 
 impl FailingDisk {
-    /// Counts one call.
-    fn call(&mut self) -> Result<(), Failed> {
+    /// Counts one call, and answers whether it is one too many.
+    fn is_spent(&mut self) -> bool
+        ensures { self.new.failures ≡ self.old.failures }
+    {
         if self.calls == 0 {
-            return Err(Failed);
+            return true;
         }
         self.calls -= 1;
-        Ok(())
+        false
     }
 }
 
@@ -61,18 +67,37 @@ impl Disk for FailingDisk {
 
     ghost opened = { λ _. [] };
 
+    ghost failures = { λ s. s.failures };
+
     fn make_folder(&mut self, _path: &str) -> Result<(), Failed> {
-        self.call()
+        if self.is_spent() {
+            self.failures = one_more(self.failures);
+            return Err(Failed);
+        }
+        Ok(())
     }
 
     fn open_file(&mut self, _path: &str) -> Result<ShortFile, Failed> {
-        self.call()?;
+        if self.is_spent() {
+            self.failures = one_more(self.failures);
+            return Err(Failed);
+        }
         let room = mem::replace(&mut self.first, self.later);
-        Ok(ShortFile { room, failures: 0 })
+        let failures = self.failures.take().unwrap_or(0);
+        Ok(ShortFile { room, failures })
     }
 
-    fn close_file(&mut self, _file: ShortFile) -> Result<(), Failed> {
-        self.call()
+    fn close_file(&mut self, file: ShortFile) -> Result<(), Failed> {
+        self.failures = Some(file.failures);
+        if self.is_spent() {
+            self.failures = one_more(self.failures);
+            return Err(Failed);
+        }
+        Ok(())
+    }
+
+    fn give_up(&mut self, file: ShortFile) {
+        self.failures = Some(file.failures);
     }
 }
 
@@ -81,6 +106,7 @@ fn disk(calls: usize, first: usize, later: usize) -> FailingDisk {
         calls,
         first,
         later,
+        failures: Some(0),
     }
 }
 
@@ -94,8 +120,10 @@ fn each_failed_call_is_told(rt: HostRuntime) -> Result<(), Fail> {
         } else {
             Ok(())
         };
-        let answer = write_archives(rt.alloc(), &mut disk(calls, 4096, 4096), "d", "s", &session);
+        let mut disk = disk(calls, 4096, 4096);
+        let answer = write_archives(rt.alloc(), &mut disk, "d", "s", &session);
         assert_eq!(rt; answer, wanted, "after {calls} calls");
+        assert_eq!(rt; disk.failures, Some(u64::from(calls < 5)));
     }
     Ok(())
 }
@@ -106,12 +134,14 @@ fn a_file_that_is_cut_short_is_told(rt: HostRuntime) -> Result<(), Fail> {
     let session = rotated(rt.alloc())?;
     let short = [(0, 4096), (1081, 4096), (4096, 0), (4096, 228), (4096, 483)];
     for (first, later) in short {
-        let answer = write_archives(rt.alloc(), &mut disk(9, first, later), "d", "s", &session);
+        let mut disk = disk(9, first, later);
+        let answer = write_archives(rt.alloc(), &mut disk, "d", "s", &session);
         assert_eq!(rt;
             answer,
             Err(ExportFault::Write),
             "at {first} and {later} bytes"
         );
+        assert_eq!(rt; disk.failures, Some(1));
     }
     let answer = write_archives(rt.alloc(), &mut disk(9, 1082, 484), "d", "s", &session);
     assert_eq!(rt; answer, Ok(()));

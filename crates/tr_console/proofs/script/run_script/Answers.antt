@@ -16,6 +16,7 @@ pub returns-in_err-reader-clause-memory : goal.returns-in_err-reader-clause-memo
 returns-in_err-reader-clause-memory g c _ = record {
   script = [];
   count = 0;
+  fits = omega arith;
   read = sym (and_then_bytes-none _);
   wrote = sym (and_then_bytes-none _);
 }
@@ -49,7 +50,8 @@ pub returns-in_err-found-clause-read : goal.returns-in_err-found-clause-read
 returns-in_err-found-clause-read g c e =
     let is = reading_fault-Read c.in_err-found.field-0.0 (made c.from_residual-in_err-found.result _ fault.Read c.from_residual-in_err-found.ensures.1 e) in
     let broke = c.read_line.ensures.read (c.in_err-found.was ∙ ap Err is) in
-    Going-breaks _ _ _ _ c.lines.reader _ _ c.lines.invariant.going _ _ broke.0
+    let most : c.read_line.new.self.total ≤ longest_script = omega (arith, c.reader.invariant.3, ap (λ (r : Reading). r.total) c.reader.view_is) in
+    Going-breaks _ _ _ _ c.lines.reader _ _ c.lines.invariant.going _ _ most broke.0
 
 pub returns-in_err-found-clause-too_long : goal.returns-in_err-found-clause-too_long
 returns-in_err-found-clause-too_long g c e =
@@ -59,14 +61,16 @@ returns-in_err-found-clause-too_long g c e =
 pub returns-in_err-found-clause-memory : goal.returns-in_err-found-clause-memory
 returns-in_err-found-clause-memory g c e =
     let is = reading_fault-NoMemory c.in_err-found.field-0.0 (made c.from_residual-in_err-found.result _ fault.NoMemory c.from_residual-in_err-found.ensures.1 e) in
-    Going-memory _ _ _ _ c.lines.reader _ _ c.lines.invariant.going _ _ (c.read_line.ensures.memory (c.in_err-found.was ∙ ap Err is))
+    let most : c.read_line.new.self.total ≤ longest_script = omega (arith, c.reader.invariant.3, ap (λ (r : Reading). r.total) c.reader.view_is) in
+    Going-memory _ _ _ _ c.lines.reader _ _ c.lines.invariant.going _ _ most (c.read_line.ensures.memory (c.in_err-found.was ∙ ap Err is))
 
 pub returns-in_err-is_refused-clause-write : goal.returns-in_err-is_refused-clause-write
 returns-in_err-is_refused-clause-write g c e =
     let is = made c.from_residual-in_err-is_refused.result _ fault.Write c.from_residual-in_err-is_refused.ensures.1 e in
     let some = c.answer_line.ensures.write (c.in_err-is_refused.was ∙ ap Err is) in
     let same = c.read_line.ensures.content ∙ c.lines.invariant.content in
-    let comes = Comes-found _ _ _ _ c.lines.reader _ _ c.lines.invariant.going (g.S.ByteSource.content c.args.source.now) c.in_ok-found.found _ c.read_line.new.self
+    let most : c.read_line.new.self.total ≤ longest_script = omega (arith, c.reader.invariant.3, ap (λ (r : Reading). r.total) c.reader.view_is) in
+    let comes = Comes-found _ _ _ _ c.lines.reader _ _ c.lines.invariant.going (g.S.ByteSource.content c.args.source.now) c.in_ok-found.found _ c.read_line.new.self most
     (λ w. c.read_line.ensures.whole (c.in_ok-found.was ∙ ap Ok w)) (λ l. let last = c.read_line.ensures.last (c.in_ok-found.was ∙ ap Ok l) in (last.0, last.1 ∙ same)) in
     Comes-wrote _ _ _ _ c.lines.reader _ _ c.lines.invariant.going _ _ _ c.read_line.new.self _ some.0 c.text.ensures some.1 some.2 comes
 
@@ -75,7 +79,8 @@ returns-in_err-is_refused-clause-memory g c e =
     let is = made c.from_residual-in_err-is_refused.result _ fault.NoMemory c.from_residual-in_err-is_refused.ensures.1 e in
     let kept = c.answer_line.ensures.memory (c.in_err-is_refused.was ∙ ap Err is) in
     let same = c.read_line.ensures.content ∙ c.lines.invariant.content in
-    let comes = Comes-found _ _ _ _ c.lines.reader _ _ c.lines.invariant.going (g.S.ByteSource.content c.args.source.now) c.in_ok-found.found _ c.read_line.new.self
+    let most : c.read_line.new.self.total ≤ longest_script = omega (arith, c.reader.invariant.3, ap (λ (r : Reading). r.total) c.reader.view_is) in
+    let comes = Comes-found _ _ _ _ c.lines.reader _ _ c.lines.invariant.going (g.S.ByteSource.content c.args.source.now) c.in_ok-found.found _ c.read_line.new.self most
     (λ w. c.read_line.ensures.whole (c.in_ok-found.was ∙ ap Ok w)) (λ l. let last = c.read_line.ensures.last (c.in_ok-found.was ∙ ap Ok l) in (last.0, last.1 ∙ same)) in
     Comes-memory _ _ _ _ c.lines.reader _ _ c.lines.invariant.going _ _ _ c.read_line.new.self kept comes
 
