@@ -1,7 +1,7 @@
 -- What the decoder answers, by what it read.
 use Rattle.std.proofs.Common.{◌≡◌, ℕ, ◌/◌, List, drop, Some, None, sym, ap, subst, ◌∙◌, ◌↔◌}
 use Rattle.std.specs.Prelude.{Result, Ok, Err, IfOk, IfErr}
-use Rattle.tr_record.proofs.Fields.{AreBytes}
+use Rattle.tr_record.specs.Whole.{AreBytes}
 use Rattle.tr_packet.specs.Packets.{Contents, packet_size}
 use Rattle.tr_packet.specs.Decoding.{Begins, packet_size_in, contents_in, first_fault}
 use Rattle.tr_packet.specs.declared.fault.PacketFault.{PacketFault}

@@ -4,8 +4,8 @@ use Rattle.std.specs.Prelude.{Err}
 use Rattle.std.proofs.lemmas.Bool.{le-leb, eqb-true}
 use Rattle.tr_record.specs.Records.{Entry, record_text, records_text}
 use Rattle.tr_record.specs.Reading.{◌>>=◌, entry_at, Begins}
-use Rattle.tr_record.specs.Whole.{entries_at, AreRecords}
-use Rattle.tr_record.proofs.Fields.{AreBytes, some_is, entry_takes}
+use Rattle.tr_record.specs.Whole.{AreBytes, AreRecords, entries_at}
+use Rattle.tr_record.proofs.Fields.{some_is, entry_takes}
 use Rattle.tr_record.proofs.ReadingLemmas.{read_begins, begins_read}
 use Rattle.tr_record.proofs.RecordLemmas.{length-record_text}
 use Rattle.tr_record.proofs.WholeLemmas.{at_records, records_at, are_none, are_first}

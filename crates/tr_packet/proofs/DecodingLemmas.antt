@@ -10,8 +10,8 @@ use Rattle.std.proofs.lemmas.List.{take_at, drop-take, drop-append-le, take-appe
 use Rattle.std.proofs.lemmas.List.Sums.{sum_by-cons}
 use Rattle.tr_record.specs.Records.{Entry, records_text, last_moment, HasText, Fits}
 use Rattle.tr_record.specs.Weight.{record_weight, weight_of}
-use Rattle.tr_record.specs.Whole.{entries_at, entries_of, AreRecords, AreWhole}
-use Rattle.tr_record.proofs.Fields.{AreBytes, AreBytes-take, AreBytes-drop, numeral_64}
+use Rattle.tr_record.specs.Whole.{AreBytes, AreRecords, AreWhole, entries_at, entries_of}
+use Rattle.tr_record.proofs.Fields.{AreBytes-take, AreBytes-drop, numeral_64}
 use Rattle.tr_record.proofs.RecordLemmas.{all_weaken, fits_has_text, weight_of-records_text}
 use Rattle.tr_record.proofs.WholeLemmas.{at_records, records_at, records_of}
 use Rattle.tr_packet.specs.Order.{serials_rise, last_serial_after, starts_at, in_order, moments_hold}

@@ -3,7 +3,8 @@ use Rattle.std.proofs.Common.{◌≡◌, ℕ, ◌+◌, ◌*◌, ◌^◌, ◌<◌
 use Rattle.std.specs.Int.{Width, w32, w64, byte_len, from_le_bytes, to_le_bytes}
 use Rattle.std.proofs.lemmas.List.{take_at, drop_at, drop-drop, take-append-drop, length-take, length-drop}
 use Rattle.tr_record.specs.Records.{records_text}
-use Rattle.tr_record.proofs.Fields.{AreBytes, AreBytes-take, AreBytes-drop, IsNumeral, numeral_32, numeral_64}
+use Rattle.tr_record.proofs.Fields.{AreBytes-take, AreBytes-drop, IsNumeral, numeral_32, numeral_64}
+use Rattle.tr_record.specs.Whole.{AreBytes}
 use Rattle.tr_packet.specs.declared.head.Head.{Head}
 use Rattle.tr_packet.specs.Packets.{Contents, magic, header_text, context_text, packet_text, packet_size}
 use Rattle.tr_packet.specs.Decoding.{number_from, bytes_from, stream_id_in, begin_in, end_in, content_size_in, packet_size_in, contents_in}

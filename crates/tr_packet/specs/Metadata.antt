@@ -7,7 +7,7 @@ use Rattle.uuid.specs.Text.{lower, hyphenated_text}
 abbrev pub lines : List (List ℕ) → List ℕ
 lines = flat_map (λ line. line ++ 10 ∷ [])
 
--- the words for numbers
+-- the types of numbers
 abbrev pub preface_text : List ℕ
 preface_text =
     lines (
@@ -20,7 +20,7 @@ preface_text =
     ∷ []
     )
 
--- the bytes of numbers, and the packet header
+-- the order of bytes, and the packet header
 abbrev pub packet_header_text : List ℕ
 packet_header_text =
     lines (
@@ -42,7 +42,7 @@ trace_text uuid =
     lines (codes "trace {" ∷ codes "  major = 1;" ∷ codes "  minor = 8;" ∷ [])
     ++ (codes "  uuid = \"" ++ (hyphenated_text lower uuid ++ (codes "\";\n" ++ packet_header_text)))
 
--- the clock, and the word for moments
+-- the clock, and the type of moments
 abbrev pub clock_text : List ℕ
 clock_text =
     lines (
@@ -60,7 +60,7 @@ clock_text =
     ∷ []
     )
 
--- the one class of streams: the packet context, and what stands before each record's fields
+-- the one class of streams: the packet context, and the event header
 abbrev pub stream_text : List ℕ
 stream_text =
     lines (

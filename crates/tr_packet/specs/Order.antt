@@ -3,10 +3,10 @@ use Rattle.std.specs.Prelude.{ℕ, ◌<◌, Bool, true, false, ◌&&◌, nat_eq,
 use Rattle.std.specs.List.{last_or}
 use Rattle.tr_record.specs.Records.{Entry, last_moment}
 
--- a serial may come after the one before it, if any
+-- a number may come after the one before it, if any
 abbrev pub follows : Option ℕ → ℕ → Bool
-follows None serial = true
-follows (Some before) serial = nat_lt before serial
+follows None n = true
+follows (Some before) n = nat_lt before n
 
 -- the serials rise strictly, the first one from above the one before it
 abbrev pub rise_after : Option ℕ → List Entry → Bool

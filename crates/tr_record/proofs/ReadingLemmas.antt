@@ -5,7 +5,8 @@ use Rattle.tr_record.specs.Records.{Entry, record_text, last_moment, Stands}
 use Rattle.tr_record.specs.Reading.{entry_at, Gives, Begins}
 use Rattle.tr_record.specs.Raw.{entry_of}
 use Rattle.tr_record.specs.declared.raw.RawRec.{RawRec}
-use Rattle.tr_record.proofs.Fields.{AreBytes, some_is, entry_takes, entry_again}
+use Rattle.tr_record.proofs.Fields.{some_is, entry_takes, entry_again}
+use Rattle.tr_record.specs.Whole.{AreBytes}
 use Rattle.tr_record.proofs.RecordLemmas.{length-record_text, fits_has_text}
 
 pub read_begins : (bytes : List ℕ) (e : Entry) (rest : List ℕ) → AreBytes bytes → entry_at bytes ≡ Some (e, rest) → Begins e rest bytes

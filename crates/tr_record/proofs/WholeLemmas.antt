@@ -6,8 +6,8 @@ use Rattle.std.proofs.lemmas.Bool.{eqb-true, ne_eqb}
 use Rattle.std.proofs.lemmas.List.{nil_from_length}
 use Rattle.tr_record.specs.Records.{Entry, record_text, records_text, HasText, Fits, Stands}
 use Rattle.tr_record.specs.Reading.{◌>>=◌, entry_at, Begins}
-use Rattle.tr_record.specs.Whole.{entries_up_to, entries_at, entries_of, AreRecords, AreWhole}
-use Rattle.tr_record.proofs.Fields.{AreBytes, some_step, some_is, entry_takes, entry_again}
+use Rattle.tr_record.specs.Whole.{AreBytes, AreRecords, AreWhole, entries_at, entries_of, entries_up_to}
+use Rattle.tr_record.proofs.Fields.{some_step, some_is, entry_takes, entry_again}
 use Rattle.tr_record.proofs.ReadingLemmas.{begins_read, begins_stands, stands_begins}
 use Rattle.tr_record.proofs.RecordLemmas.{all_push, fits_has_text, length-record_text, records_text-push}
 

@@ -1,5 +1,5 @@
 -- Bytes that are the texts of records, end to end.
-use Rattle.std.specs.Prelude.{◌≡◌, ℕ, zero, suc, List, [], ◌∷◌, length, Option, Some, None, unwrap_or, ◌==◌, if◌then◌else◌}
+use Rattle.std.specs.Prelude.{◌≡◌, ◌<◌, ℕ, zero, suc, List, [], ◌∷◌, length, get_or, Option, Some, None, unwrap_or, ◌==◌, if◌then◌else◌}
 use Rattle.std.specs.List.{AllByRecursion}
 use Rattle.tr_record.specs.Records.{Entry, records_text, HasText, Fits}
 use Rattle.tr_record.specs.Reading.{◌>>=◌, entry_at}
@@ -17,6 +17,10 @@ entries_at bytes = entries_up_to (length bytes) bytes
 
 unfoldable pub entries_of : List ℕ → List Entry
 entries_of bytes = unwrap_or (entries_at bytes) []
+
+-- each of these is a byte
+abbrev pub AreBytes : List ℕ → Type 0
+AreBytes bytes = (i : ℕ) → get_or bytes i 0 < 256
 
 -- the bytes are the texts of these records, end to end
 pub record AreRecords (es : List Entry) (bytes : List ℕ) : Type 0 where

@@ -3,6 +3,7 @@
 #![tactic(auto)]
 
 mod bytes;
+pub mod laws;
 mod memory;
 mod moment;
 mod raw;
