@@ -16,7 +16,5 @@ mod snapshots;
 mod status;
 
 pub use console::Console;
-pub use faults::LineFault;
-pub use replies::Reply;
 pub use script::{ScriptDone, run_script, run_text};
 pub use script_fault::ScriptFault;

@@ -24,7 +24,7 @@ pub struct CountingFile<K: ByteSink + Drop> {
 
 impl<K: ByteSink + Drop> CountingFile<K> {
     /// A file over this sink, after so many failures of its disk.
-    pub fn new(sink: K, failures: u64) -> Self
+    pub(crate) fn new(sink: K, failures: u64) -> Self
         ensures taken { ⟦<CountingFile<K> as ByteSink>⟧.taken result ≡ K.taken sink }
         ensures failures { ⟦<CountingFile<K> as ByteSink>⟧.failures result ≡ failures }
     {
@@ -32,14 +32,14 @@ impl<K: ByteSink + Drop> CountingFile<K> {
     }
 
     /// The failures of its disk and its own.
-    pub fn failures(&self) -> u64
+    pub(crate) fn failures(&self) -> u64
         ensures { result ≡ ⟦<CountingFile<K> as ByteSink>⟧.failures self.now }
     {
         self.failures
     }
 
     /// The sink, with what the file took.
-    pub fn into_sink(self) -> K
+    pub(crate) fn into_sink(self) -> K
         ensures { K.taken result ≡ ⟦<CountingFile<K> as ByteSink>⟧.taken self }
     {
         self.sink
