@@ -1,5 +1,5 @@
 -- How runs of the program end.
-use Rattle.std.specs.Prelude.{ℕ, zero, suc}
+use Rattle.std.specs.Prelude.{ℕ, zero, suc, List, [], ◌∷◌, ◌++◌, Option, Some, None, codes}
 use Rattle.std.specs.declared.io.ErrorKind.{ErrorKind}
 use Rattle.std.specs.declared.io.ErrorKind.TheVariants.{OutOfMemory}
 use Rattle.tr_console.specs.declared.script_fault.ScriptFault.{ScriptFault}
@@ -15,6 +15,14 @@ status_of Refused = 1
 status_of BadCommandLine = 2
 status_of ReadOrWrite = 3
 status_of NoMemory = 4
+
+-- the line that standard error gets, if any
+abbrev pub message_of : Ending → Option (List ℕ)
+message_of Done = None
+message_of Refused = None
+message_of BadCommandLine = Some (codes "tracerd: bad command line" ++ 10 ∷ [])
+message_of ReadOrWrite = Some (codes "tracerd: read or write fault" ++ 10 ∷ [])
+message_of NoMemory = Some (codes "tracerd: no memory" ++ 10 ∷ [])
 
 abbrev pub ending_of : ScriptFault → Ending
 ending_of fault.Read = ReadOrWrite

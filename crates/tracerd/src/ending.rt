@@ -1,7 +1,7 @@
 //! How a run of the program ends.
 
-ghost use Rattle.std.specs.Prelude.{◌≡◌};
-ghost use Rattle.tracerd.specs.Endings.{ending_of, ending_of_arguments, ending_of_export, ending_of_refused, status_of};
+ghost use Rattle.std.specs.Prelude.{◌≡◌, option_map};
+ghost use Rattle.tracerd.specs.Endings.{ending_of, ending_of_arguments, ending_of_export, ending_of_refused, message_of, status_of};
 
 use std::io::ErrorKind;
 use tr_console::ScriptFault;
@@ -37,7 +37,9 @@ impl Ending {
     }
 
     /// The line that standard error gets, if any.
-    pub fn message(self) -> Option<&'static str> {
+    pub fn message(self) -> Option<&'static str>
+        ensures { option_map (λ t. t.now) result ≡ message_of self }
+    {
         match self {
             Ending::Done | Ending::Refused => None,
             Ending::BadCommandLine => Some("tracerd: bad command line\n"),

@@ -1,5 +1,9 @@
 //! A run of the program, over any input, output and disk.
 
+ghost use Rattle.std.specs.Prelude.{◌≡◌};
+ghost use Rattle.tracerd.specs.Endings.{status_of};
+ghost use Rattle.tracerd.specs.Runs.{EndsAs, HasEnded, IsTold};
+
 use crate::command_line::{Job, collected, job_of, with_program, words_behind};
 use crate::ending::Ending;
 use std::alloc::Global;
@@ -31,7 +35,9 @@ fn end_script<S: ByteSource, K: ByteSink, D: Disk>(
     out: &mut K,
     disk: &mut D,
     dir: Option<&str>,
-) -> Ending {
+) -> Ending
+    ensures { EndsAs (S.given input.old) (S.given input.new) (K.taken out.old) (K.taken out.new) result }
+{
     let done = match run_script(alloc, alloc, input, out) {
         Ok(done) => done,
         Err(fault) => return Ending::of_fault(fault),
@@ -51,7 +57,9 @@ fn end<S: ByteSource, K: ByteSink, D: Disk>(
     input: &mut S,
     out: &mut K,
     disk: &mut D,
-) -> Ending {
+) -> Ending
+    ensures { EndsAs (S.given input.old) (S.given input.new) (K.taken out.old) (K.taken out.new) result }
+{
     let Ok(words) = with_program(alloc, words) else {
         return Ending::NoMemory;
     };
@@ -63,7 +71,10 @@ fn end<S: ByteSource, K: ByteSink, D: Disk>(
 }
 
 /// Says on standard error what kept the program from its end, if anything did, and answers the exit status.
-fn tell<E: ByteSink>(ending: Ending, err: &mut E) -> u8 {
+fn tell<E: ByteSink>(ending: Ending, err: &mut E) -> u8
+    ensures status { result ≡ status_of ending }
+    ensures told { IsTold ending (E.taken err.old) (E.taken err.new) (E.failures err.old) (E.failures err.new) }
+{
     if let Some(message) = ending.message() {
         // Where this can't be written either, the status still tells.
         let _ = put_all(err, message.as_bytes());
@@ -81,7 +92,9 @@ pub fn run<S: ByteSource, K: ByteSink, E: ByteSink, D: Disk>(
     out: &mut K,
     err: &mut E,
     disk: &mut D,
-) -> u8 {
+) -> u8
+    ensures { HasEnded (S.given input.old) (S.given input.new) (K.taken out.old) (K.taken out.new) (E.taken err.old) (E.taken err.new) (E.failures err.old) (E.failures err.new) result }
+{
     let ending = end(alloc, words, input, out, disk);
     tell(ending, err)
 }
@@ -93,7 +106,9 @@ fn end_given<S: ByteSource, K: ByteSink, D: Disk>(
     input: &mut S,
     out: &mut K,
     disk: &mut D,
-) -> Ending {
+) -> Ending
+    ensures { EndsAs (S.given input.old) (S.given input.new) (K.taken out.old) (K.taken out.new) result }
+{
     let Ok(given) = collected(alloc, given) else {
         return Ending::NoMemory;
     };
@@ -112,7 +127,9 @@ pub fn run_given<S: ByteSource, K: ByteSink, E: ByteSink, D: Disk>(
     out: &mut K,
     err: &mut E,
     disk: &mut D,
-) -> u8 {
+) -> u8
+    ensures { HasEnded (S.given input.old) (S.given input.new) (K.taken out.old) (K.taken out.new) (E.taken err.old) (E.taken err.new) (E.failures err.old) (E.failures err.new) result }
+{
     let ending = match given {
         Ok(given) => end_given(alloc, given, input, out, disk),
         Err(error) => Ending::of_arguments(error.kind()),
