@@ -73,10 +73,18 @@ fn geometries_outside_the_limits_are_refused(rt: HostRuntime) {
     for (size, count) in [(256, 3), (256, 128), (256, 0), (256, 1), (65_536, 65)] {
         assert_eq!(rt; Geometry::new(size, count), Err(GeometryFault::BadCount));
     }
-    assert_eq!(rt; GeometryFault::BadSize.code(), "G1");
-    assert_eq!(rt; GeometryFault::BadSize.name(), "BadSize");
-    assert_eq!(rt; GeometryFault::BadCount.code(), "G2");
-    assert_eq!(rt; GeometryFault::BadCount.name(), "BadCount");
+}
+
+#[test]
+fn faults_have_codes_and_names(rt: HostRuntime) -> Result<(), Fail> {
+    for (fault, code, name, words) in [
+        (GeometryFault::BadSize, "G1", "BadSize", "G1 BadSize"),
+        (GeometryFault::BadCount, "G2", "BadCount", "G2 BadCount"),
+    ] {
+        assert_eq!(rt; (fault.code(), fault.name()), (code, name));
+        assert_eq!(rt; format!(in rt.alloc(); "{fault}")?.as_str(), words);
+    }
+    Ok(())
 }
 
 #[test]

@@ -247,7 +247,7 @@ fn the_first_fault_is_answered(rt: HostRuntime) -> Result<(), Fail> {
 }
 
 #[test]
-fn faults_have_codes_and_names(rt: HostRuntime) {
+fn faults_have_codes_and_names(rt: HostRuntime) -> Result<(), Fail> {
     for (fault, code, name) in [
         (PacketFault::Short, "P1", "Short"),
         (PacketFault::BadMagic, "P2", "BadMagic"),
@@ -258,7 +258,10 @@ fn faults_have_codes_and_names(rt: HostRuntime) {
         (PacketFault::MomentOrder, "P7", "MomentOrder"),
     ] {
         assert_eq!(rt; (fault.code(), fault.name()), (code, name));
+        let words = format!(in rt.alloc(); "{code} {name}")?;
+        assert_eq!(rt; format!(in rt.alloc(); "{fault}")?.as_str(), words.as_str());
     }
+    Ok(())
 }
 
 /// The metadata of the trace 67e55044-10b1-426f-9247-bb680e5fe0c8, as readers of the standard take it.
