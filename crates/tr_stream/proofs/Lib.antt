@@ -7,6 +7,7 @@ pub mod CutLaws
 pub mod FateLaws
 pub mod FormLaws
 pub mod KeptLaws
+pub mod LookLaws
 pub mod ModelLaws
 pub mod OfferLaws
 pub mod OpenLaws

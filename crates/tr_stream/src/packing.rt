@@ -1,6 +1,6 @@
 //! The packets that sub-buffers become.
 
-ghost use Rattle.std.specs.Prelude.{◌≡◌, ◌≢◌, [], map, IfOk};
+ghost use Rattle.std.specs.Prelude.{◌≡◌, ◌≢◌, [], map, IfOk, OnErr};
 ghost use Rattle.tr_packet.specs.Packets.{IsPacket};
 ghost use Rattle.tr_ring.specs.Ring.{closing};
 ghost use Rattle.tr_stream.specs.Chunks.{begin_of, packet_of, ring_buffers};
@@ -103,7 +103,7 @@ fn waiting_packets<A: Allocator + Copy>(
 }
 
 /// The packets of a ring, the oldest first: of those that wait, and of the current sub-buffer, as if it were closed at
-/// this moment, where it has a record.
+/// this moment, where it has a record. It takes memory only where there are some.
 pub fn ring_packets<A: Allocator + Copy>(
     alloc: A,
     config: StreamConfig,
@@ -112,8 +112,12 @@ pub fn ring_packets<A: Allocator + Copy>(
 ) -> Result<Vec<Packet<A>, A>, AllocError>
     requires waiting { ArePackets config ring.now.waiting }
     requires current { ring.now.current ≢ [] → IsPacket (packet_of config (closing end ring.now)) }
-    ensures { IfOk result (λ v. v.items ≡ map (packet_of config) (ring_buffers end ring.now)) }
+    ensures packets { IfOk result (λ v. v.items ≡ map (packet_of config) (ring_buffers end ring.now)) }
+    ensures memory { OnErr result (ring_buffers end ring.now ≢ []) }
 {
+    if ring.waiting() == 0 && ring.current().is_empty() {
+        return Ok(Vec::new(alloc));
+    }
     let mut packets = waiting_packets(alloc, config, ring)?;
     if ring.current().is_empty() {
         return Ok(packets);

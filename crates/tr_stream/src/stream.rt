@@ -1,6 +1,6 @@
 //! One stream: a ring of sub-buffers, and the parts that it is consumed into.
 
-ghost use Rattle.std.specs.Prelude.{◌≡◌, ◌≢◌, ◌+◌, ◌-◌, ◌^◌, ◌≤◌, ◌<◌, max, Some, Ok, Err, IsOk, IfOk, OnOk, OnErr, length, option_copied};
+ghost use Rattle.std.specs.Prelude.{◌≡◌, ◌≢◌, ◌+◌, ◌-◌, ◌^◌, ◌≤◌, ◌<◌, max, [], Some, Ok, Err, IsOk, IfOk, OnOk, OnErr, length, option_copied};
 ghost use Rattle.tr_record.specs.Records.{last_moment};
 ghost use Rattle.tr_stream.specs.Chunks.{part_in};
 ghost use Rattle.tr_stream.specs.Consistent.{IsConsistent};
@@ -229,10 +229,12 @@ impl<A: Allocator + Copy> Stream<A> {
     }
 
     /// What the stream has now: its offers, its losses, and copies of the packets that its ring holds, the current
-    /// sub-buffer's too, as if it were closed at this moment, or at the last one if that is later. Nothing changes.
+    /// sub-buffer's too, as if it were closed at this moment, or at the last one if that is later. Nothing changes. It takes
+    /// memory only where there are packets.
     pub fn peek(&self, moment: Moment) -> Result<StreamSnap<A>, AllocError>
         ensures value { IfOk result (λ snap. snap ≡ state_snap moment self.now) }
         ensures step { (h : History) → StandsFor self.now h → IfOk result (λ snap. snap ≡ snap_of self.now.config moment h) }
+        ensures memory { OnErr result ((state_snap moment self.now).packets ≢ []) }
     {
         let end = self.book.stored_moment(moment);
         let packets = ring_packets(self.alloc, self.config, &self.ring, end)?;

@@ -263,3 +263,29 @@ fn faults_have_their_codes_and_names(rt: HostRuntime) -> Result<(), Fail> {
     assert_eq!(rt; CutFault::NoMemory.name(), "NoMemory");
     Ok(())
 }
+
+#[test]
+fn faults_are_printed_with_code_and_name(rt: HostRuntime) -> Result<(), Fail> {
+    for (fault, text) in [
+        (OfferFault::Inactive, "O1 Inactive"),
+        (OfferFault::TooBig, "O2 TooBig"),
+        (OfferFault::Spent, "O3 Spent"),
+        (OfferFault::NoMemory, "O4 NoMemory"),
+    ] {
+        assert_eq!(rt; format!(in rt.alloc(); "{fault}")?.as_str(), text);
+    }
+    for (fault, text) in [
+        (TakeFault::Nothing, "T1 Nothing"),
+        (TakeFault::SnapshotMode, "T2 SnapshotMode"),
+        (TakeFault::NoMemory, "T3 NoMemory"),
+    ] {
+        assert_eq!(rt; format!(in rt.alloc(); "{fault}")?.as_str(), text);
+    }
+    for (fault, text) in [
+        (CutFault::SnapshotMode, "C1 SnapshotMode"),
+        (CutFault::NoMemory, "C2 NoMemory"),
+    ] {
+        assert_eq!(rt; format!(in rt.alloc(); "{fault}")?.as_str(), text);
+    }
+    Ok(())
+}

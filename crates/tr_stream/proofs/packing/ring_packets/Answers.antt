@@ -2,12 +2,12 @@ use Rattle.std.proofs.Common.{rules, ◌≡◌, ◌≢◌, length}
 use Rattle.tr_stream.proofs.CallLaws.{packed-waiting, packed-all}
 use Rattle.tr_stream.proofs.packing.ring_packets.Goals as goal
 
-pub returns-then-is_empty : goal.returns-then-is_empty
-returns-then-is_empty g c =
+pub returns-then-is_empty-2-clause-packets : goal.returns-then-is_empty-2-clause-packets
+returns-then-is_empty-2-clause-packets g c =
     let none : length c.args.ring.now.current ≡ 0 = search rules in
     packed-waiting c.args.config c.args.ring.now c.args.end c.in_ok-packets.packets.items c.in_ok-packets.ensures none
 
-pub returns : goal.returns
-returns g c =
+pub returns-clause-packets : goal.returns-clause-packets
+returns-clause-packets g c =
     let some : length c.args.ring.now.current ≢ 0 = search rules in
     packed-all c.args.config c.args.ring.now c.args.end c.in_ok-packets.packets.items c.push.new.self.items c.in_ok-packet_of_current.field-0 c.in_ok-packets.ensures some c.in_ok-packet_of_current.ensures (search rules)

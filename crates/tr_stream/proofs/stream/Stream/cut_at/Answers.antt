@@ -14,20 +14,20 @@ ring_packets-requires-clause-current g c = λ used.
 pub cut-requires : goal.cut-requires
 cut-requires g c =
     let s : StreamState = record { config = c.self.inside.config; ring = c.self.inside.ring; parts = c.self.inside.parts; book = c.self.inside.book; active = c.self.inside.active } in
-    cut-fits s c.args.end c.in_ok-packets.packets.items c.self.invariant c.in_ok-packets.ensures
+    cut-fits s c.args.end c.in_ok-packets.packets.items c.self.invariant c.in_ok-packets.ensures.packets
 
 pub invariant_of-self-2 : goal.invariant_of-self-2
 invariant_of-self-2 g c =
     let s : StreamState = record { config = c.self.inside.config; ring = c.self.inside.ring; parts = c.self.inside.parts; book = c.self.inside.book; active = c.self.inside.active } in
     let later : s.book.last ≤ c.args.end = search rules in
-    kept-cut_now s c.args.end c.in_ring.result c.in_ok-packets.packets.items c.empty.new.self c.cut.new.self c.note_consumed.new.self c.note_moment.new.self (search rules) c.self.invariant later (omega arith) c.in_ok-packets.ensures (search rules) (search rules) (search rules) (search rules) (search rules)
+    kept-cut_now s c.args.end c.in_ring.result c.in_ok-packets.packets.items c.empty.new.self c.cut.new.self c.note_consumed.new.self c.note_moment.new.self (search rules) c.self.invariant later (omega arith) c.in_ok-packets.ensures.packets (search rules) (search rules) (search rules) (search rules) (search rules)
 
 pub returns-clause-answer : goal.returns-clause-answer
 returns-clause-answer g c =
     let s : StreamState = record { config = c.self.inside.config; ring = c.self.inside.ring; parts = c.self.inside.parts; book = c.self.inside.book; active = c.self.inside.active } in
-    cut-told s c.args.end c.id.result c.len.result c.in_ring.result c.in_ok-packets.packets.items c.in_ok-packets.ensures (search rules) (search rules) (search rules) ∙ ap (cut_done c.args.end) c.self.view_is
+    cut-told s c.args.end c.id.result c.len.result c.in_ring.result c.in_ok-packets.packets.items c.in_ok-packets.ensures.packets (search rules) (search rules) (search rules) ∙ ap (cut_done c.args.end) c.self.view_is
 
 pub returns-clause-ok : goal.returns-clause-ok
 returns-clause-ok g c =
     let s : StreamState = record { config = c.self.inside.config; ring = c.self.inside.ring; parts = c.self.inside.parts; book = c.self.inside.book; active = c.self.inside.active } in
-    cut-is s c.args.end c.in_ring.result c.in_ok-packets.packets.items c.empty.new.self c.cut.new.self c.note_consumed.new.self c.note_moment.new.self c.in_ok-packets.ensures (search rules) (search rules) (search rules) (search rules) (search rules) ∙ ap (state_cut_at c.args.end) c.self.view_is
+    cut-is s c.args.end c.in_ring.result c.in_ok-packets.packets.items c.empty.new.self c.cut.new.self c.note_consumed.new.self c.note_moment.new.self c.in_ok-packets.ensures.packets (search rules) (search rules) (search rules) (search rules) (search rules) ∙ ap (state_cut_at c.args.end) c.self.view_is
