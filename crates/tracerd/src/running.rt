@@ -1,7 +1,10 @@
 //! A run of the program, over any input, output and disk.
 
-ghost use Rattle.std.specs.Prelude.{◌≡◌};
+ghost use Rattle.std.specs.Prelude.{◌≡◌, OnOk, OnErr};
+ghost use Rattle.tr_export.specs.Failures.{FailedByWrite};
+ghost use Rattle.tr_export.specs.Making.{MadeFront, and_then_made};
 ghost use Rattle.tracerd.specs.Endings.{status_of};
+ghost use Rattle.tracerd.specs.Exports.{all_made};
 ghost use Rattle.tracerd.specs.Runs.{EndsAs, HasEnded, IsTold};
 
 use crate::command_line::{Job, collected, job_of, with_program, words_behind};
@@ -19,11 +22,16 @@ fn write_all<D: Disk>(
     disk: &mut D,
     dir: &str,
     console: &Console,
-) -> Result<(), ExportFault> {
-    for k in 0..console.sessions() {
-        if let Some((name, session)) = console.session(k) {
-            write_archives(alloc, disk, dir, name, session)?;
-        }
+) -> Result<(), ExportFault>
+    ensures ok { OnOk result (D.made disk.new ≡ and_then_made (D.made disk.old) (all_made dir.now console.now)) }
+    ensures err { OnErr result (MadeFront (D.made disk.old) (D.made disk.new) (all_made dir.now console.now)) }
+    ensures failures { FailedByWrite (D.failures disk.old) (D.failures disk.new) result }
+{
+    'sessions: for k in 0..console.sessions() {
+        let Some((name, session)) = console.session(k) else {
+            unreachable!()
+        };
+        write_archives(alloc, disk, dir, name, session)?;
     }
     Ok(())
 }
