@@ -1,8 +1,11 @@
 //! A run of the program, over any input, output and disk.
 
-ghost use Rattle.std.specs.Prelude.{◌≡◌};
+ghost use Rattle.std.specs.Prelude.{◌≡◌, OnOk, OnErr, option_map};
+ghost use Rattle.tr_export.specs.Failures.{FailedByWrite};
+ghost use Rattle.tr_export.specs.Making.{MadeFront, and_then_made};
 ghost use Rattle.tracerd.specs.Endings.{status_of};
-ghost use Rattle.tracerd.specs.Runs.{EndsAs, HasEnded, IsTold};
+ghost use Rattle.tracerd.specs.Exports.{all_made};
+ghost use Rattle.tracerd.specs.Runs.{EndsAs, EndsSo, HasEnded, IsTold};
 
 use crate::command_line::{Job, collected, job_of, with_program, words_behind};
 use crate::ending::Ending;
@@ -19,11 +22,16 @@ fn write_all<D: Disk>(
     disk: &mut D,
     dir: &str,
     console: &Console,
-) -> Result<(), ExportFault> {
-    for k in 0..console.sessions() {
-        if let Some((name, session)) = console.session(k) {
-            write_archives(alloc, disk, dir, name, session)?;
-        }
+) -> Result<(), ExportFault>
+    ensures ok { OnOk result (D.made disk.new ≡ and_then_made (D.made disk.old) (all_made dir.now console.now)) }
+    ensures err { OnErr result (MadeFront (D.made disk.old) (D.made disk.new) (all_made dir.now console.now)) }
+    ensures failures { FailedByWrite (D.failures disk.old) (D.failures disk.new) result }
+{
+    'sessions: for k in 0..console.sessions() {
+        let Some((name, session)) = console.session(k) else {
+            unreachable!()
+        };
+        write_archives(alloc, disk, dir, name, session)?;
     }
     Ok(())
 }
@@ -36,7 +44,7 @@ fn end_script<S: ByteSource, K: ByteSink, D: Disk>(
     disk: &mut D,
     dir: Option<&str>,
 ) -> Ending
-    ensures { EndsAs (S.given input.old) (S.given input.new) (K.taken out.old) (K.taken out.new) result }
+    ensures { EndsAs (S.given input.old) (S.given input.new) (K.taken out.old) (K.taken out.new) (D.made disk.old) (D.made disk.new) (option_map (λ d. d.now) dir.entry) result }
 {
     let done = match run_script(alloc, alloc, input, out) {
         Ok(done) => done,
@@ -58,7 +66,7 @@ fn end<S: ByteSource, K: ByteSink, D: Disk>(
     out: &mut K,
     disk: &mut D,
 ) -> Ending
-    ensures { EndsAs (S.given input.old) (S.given input.new) (K.taken out.old) (K.taken out.new) result }
+    ensures { EndsSo (S.given input.old) (S.given input.new) (K.taken out.old) (K.taken out.new) (D.made disk.old) (D.made disk.new) result }
 {
     let Ok(words) = with_program(alloc, words) else {
         return Ending::NoMemory;
@@ -93,7 +101,7 @@ pub fn run<S: ByteSource, K: ByteSink, E: ByteSink, D: Disk>(
     err: &mut E,
     disk: &mut D,
 ) -> u8
-    ensures { HasEnded (S.given input.old) (S.given input.new) (K.taken out.old) (K.taken out.new) (E.taken err.old) (E.taken err.new) (E.failures err.old) (E.failures err.new) result }
+    ensures { HasEnded (S.given input.old) (S.given input.new) (K.taken out.old) (K.taken out.new) (E.taken err.old) (E.taken err.new) (D.made disk.old) (D.made disk.new) (E.failures err.old) (E.failures err.new) result }
 {
     let ending = end(alloc, words, input, out, disk);
     tell(ending, err)
@@ -107,7 +115,7 @@ fn end_given<S: ByteSource, K: ByteSink, D: Disk>(
     out: &mut K,
     disk: &mut D,
 ) -> Ending
-    ensures { EndsAs (S.given input.old) (S.given input.new) (K.taken out.old) (K.taken out.new) result }
+    ensures { EndsSo (S.given input.old) (S.given input.new) (K.taken out.old) (K.taken out.new) (D.made disk.old) (D.made disk.new) result }
 {
     let Ok(given) = collected(alloc, given) else {
         return Ending::NoMemory;
@@ -128,7 +136,7 @@ pub fn run_given<S: ByteSource, K: ByteSink, E: ByteSink, D: Disk>(
     err: &mut E,
     disk: &mut D,
 ) -> u8
-    ensures { HasEnded (S.given input.old) (S.given input.new) (K.taken out.old) (K.taken out.new) (E.taken err.old) (E.taken err.new) (E.failures err.old) (E.failures err.new) result }
+    ensures { HasEnded (S.given input.old) (S.given input.new) (K.taken out.old) (K.taken out.new) (E.taken err.old) (E.taken err.new) (D.made disk.old) (D.made disk.new) (E.failures err.old) (E.failures err.new) result }
 {
     let ending = match given {
         Ok(given) => end_given(alloc, given, input, out, disk),

@@ -1,0 +1,12 @@
+use Rattle.std.proofs.Common.{◌≡◌, take}
+use Rattle.tr_export.specs.Failures.{HasNotFailed}
+use Rattle.tr_export.specs.Making.{and_then_made}
+use Rattle.tracerd.specs.Exports.{all_made}
+use Rattle.tracerd.proofs.running.write_all.Given as goal
+
+-- what the sessions before have is made
+abbrev pub invariant-sessions : goal.invariant-sessions
+invariant-sessions g l = record {
+  made : g.D.Disk.made l.disk ≡ and_then_made (g.D.Disk.made l.initial.disk) (all_made l.dir (take l.k l.console));
+  works : HasNotFailed (g.D.Disk.failures l.initial.disk) (g.D.Disk.failures l.disk);
+}
