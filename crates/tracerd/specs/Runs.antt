@@ -2,6 +2,7 @@
 use Rattle.std.specs.Prelude.{◌≡◌, ◌⊎◌, ℕ, List, Option, Some, None}
 use Rattle.tr_console.specs.Runs.{Ran}
 use Rattle.tr_console.specs.World.{World}
+use Rattle.tr_export.specs.Failures.{HasFailed, HasNotFailed}
 use Rattle.tr_export.specs.Making.{Makings}
 use Rattle.tr_record.specs.Bytes.{and_then_bytes, once_more}
 use Rattle.tr_stream.specs.State.{StreamState}
@@ -37,6 +38,16 @@ module _ (given given_now taken taken_now : Option (List ℕ)) (made made_now : 
   -- so it is for the folder that the words name, if they name one
   abbrev pub EndsSo : Ending → Type 0
   EndsSo ending = (dir : Option (List ℕ)) × EndsAs dir ending
+
+-- how often the input, the output and the disk had failed, before the run and after it: one of them failed in it, or the
+-- script was too long
+abbrev pub HasCause : (input input_now output output_now : ℕ) → (disk disk_now : Option ℕ) → Type 0 → Type 0
+HasCause input input_now output output_now disk disk_now too_long =
+    ((input_now ≡ once_more input) ⊎ (output_now ≡ once_more output)) ⊎ (HasFailed disk disk_now ⊎ too_long)
+
+-- none of them failed
+abbrev pub HasNoFault : (input input_now output output_now : ℕ) → (disk disk_now : Option ℕ) → Type 0
+HasNoFault input input_now output output_now disk disk_now = (input_now ≡ input) × (output_now ≡ output) × HasNotFailed disk disk_now
 
 -- what standard error had taken and how often it had failed, before the run and after it: it got the ending's line, if it
 -- didn't fail

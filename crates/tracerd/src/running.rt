@@ -1,11 +1,12 @@
 //! A run of the program, over any input, output and disk.
 
 ghost use Rattle.std.specs.Prelude.{◌≡◌, OnOk, OnErr, option_map};
+ghost use Rattle.tr_console.specs.Runs.{WentTooFar};
 ghost use Rattle.tr_export.specs.Failures.{FailedByWrite};
 ghost use Rattle.tr_export.specs.Making.{MadeFront, and_then_made};
 ghost use Rattle.tracerd.specs.Endings.{status_of};
 ghost use Rattle.tracerd.specs.Exports.{all_made};
-ghost use Rattle.tracerd.specs.Runs.{EndsAs, EndsSo, HasEnded, IsTold};
+ghost use Rattle.tracerd.specs.Runs.{EndsAs, EndsSo, HasCause, HasEnded, HasNoFault, IsTold};
 
 use crate::command_line::{Job, collected, job_of, with_program, words_behind};
 use crate::ending::Ending;
@@ -44,7 +45,9 @@ fn end_script<S: ByteSource, K: ByteSink, D: Disk>(
     disk: &mut D,
     dir: Option<&str>,
 ) -> Ending
-    ensures { EndsAs (S.given input.old) (S.given input.new) (K.taken out.old) (K.taken out.new) (D.made disk.old) (D.made disk.new) (option_map (λ d. d.now) dir.entry) result }
+    ensures ends { EndsAs (S.given input.old) (S.given input.new) (K.taken out.old) (K.taken out.new) (D.made disk.old) (D.made disk.new) (option_map (λ d. d.now) dir.entry) result }
+    ensures fault { result ≡ Ending.ReadOrWrite → HasCause (S.failures input.old) (S.failures input.new) (K.failures out.old) (K.failures out.new) (D.failures disk.old) (D.failures disk.new) (WentTooFar (S.given input.old) (S.given input.new) (K.taken out.old) (K.taken out.new)) }
+    ensures no_fault { (result ≡ Ending.ReadOrWrite → ⊥) → HasNoFault (S.failures input.old) (S.failures input.new) (K.failures out.old) (K.failures out.new) (D.failures disk.old) (D.failures disk.new) }
 {
     let done = match run_script(alloc, alloc, input, out) {
         Ok(done) => done,
@@ -66,7 +69,9 @@ fn end<S: ByteSource, K: ByteSink, D: Disk>(
     out: &mut K,
     disk: &mut D,
 ) -> Ending
-    ensures { EndsSo (S.given input.old) (S.given input.new) (K.taken out.old) (K.taken out.new) (D.made disk.old) (D.made disk.new) result }
+    ensures ends { EndsSo (S.given input.old) (S.given input.new) (K.taken out.old) (K.taken out.new) (D.made disk.old) (D.made disk.new) result }
+    ensures fault { result ≡ Ending.ReadOrWrite → HasCause (S.failures input.old) (S.failures input.new) (K.failures out.old) (K.failures out.new) (D.failures disk.old) (D.failures disk.new) (WentTooFar (S.given input.old) (S.given input.new) (K.taken out.old) (K.taken out.new)) }
+    ensures no_fault { (result ≡ Ending.ReadOrWrite → ⊥) → HasNoFault (S.failures input.old) (S.failures input.new) (K.failures out.old) (K.failures out.new) (D.failures disk.old) (D.failures disk.new) }
 {
     let Ok(words) = with_program(alloc, words) else {
         return Ending::NoMemory;
@@ -101,7 +106,9 @@ pub fn run<S: ByteSource, K: ByteSink, E: ByteSink, D: Disk>(
     err: &mut E,
     disk: &mut D,
 ) -> u8
-    ensures { HasEnded (S.given input.old) (S.given input.new) (K.taken out.old) (K.taken out.new) (E.taken err.old) (E.taken err.new) (D.made disk.old) (D.made disk.new) (E.failures err.old) (E.failures err.new) result }
+    ensures ends { HasEnded (S.given input.old) (S.given input.new) (K.taken out.old) (K.taken out.new) (E.taken err.old) (E.taken err.new) (D.made disk.old) (D.made disk.new) (E.failures err.old) (E.failures err.new) result }
+    ensures fault { result ≡ 3 → HasCause (S.failures input.old) (S.failures input.new) (K.failures out.old) (K.failures out.new) (D.failures disk.old) (D.failures disk.new) (WentTooFar (S.given input.old) (S.given input.new) (K.taken out.old) (K.taken out.new)) }
+    ensures no_fault { (result ≡ 3 → ⊥) → HasNoFault (S.failures input.old) (S.failures input.new) (K.failures out.old) (K.failures out.new) (D.failures disk.old) (D.failures disk.new) }
 {
     let ending = end(alloc, words, input, out, disk);
     tell(ending, err)
@@ -115,7 +122,9 @@ fn end_given<S: ByteSource, K: ByteSink, D: Disk>(
     out: &mut K,
     disk: &mut D,
 ) -> Ending
-    ensures { EndsSo (S.given input.old) (S.given input.new) (K.taken out.old) (K.taken out.new) (D.made disk.old) (D.made disk.new) result }
+    ensures ends { EndsSo (S.given input.old) (S.given input.new) (K.taken out.old) (K.taken out.new) (D.made disk.old) (D.made disk.new) result }
+    ensures fault { result ≡ Ending.ReadOrWrite → HasCause (S.failures input.old) (S.failures input.new) (K.failures out.old) (K.failures out.new) (D.failures disk.old) (D.failures disk.new) (WentTooFar (S.given input.old) (S.given input.new) (K.taken out.old) (K.taken out.new)) }
+    ensures no_fault { (result ≡ Ending.ReadOrWrite → ⊥) → HasNoFault (S.failures input.old) (S.failures input.new) (K.failures out.old) (K.failures out.new) (D.failures disk.old) (D.failures disk.new) }
 {
     let Ok(given) = collected(alloc, given) else {
         return Ending::NoMemory;
@@ -136,7 +145,9 @@ pub fn run_given<S: ByteSource, K: ByteSink, E: ByteSink, D: Disk>(
     err: &mut E,
     disk: &mut D,
 ) -> u8
-    ensures { HasEnded (S.given input.old) (S.given input.new) (K.taken out.old) (K.taken out.new) (E.taken err.old) (E.taken err.new) (D.made disk.old) (D.made disk.new) (E.failures err.old) (E.failures err.new) result }
+    ensures ends { HasEnded (S.given input.old) (S.given input.new) (K.taken out.old) (K.taken out.new) (E.taken err.old) (E.taken err.new) (D.made disk.old) (D.made disk.new) (E.failures err.old) (E.failures err.new) result }
+    ensures fault { result ≡ 3 → HasCause (S.failures input.old) (S.failures input.new) (K.failures out.old) (K.failures out.new) (D.failures disk.old) (D.failures disk.new) (WentTooFar (S.given input.old) (S.given input.new) (K.taken out.old) (K.taken out.new)) }
+    ensures no_fault { (result ≡ 3 → ⊥) → HasNoFault (S.failures input.old) (S.failures input.new) (K.failures out.old) (K.failures out.new) (D.failures disk.old) (D.failures disk.new) }
 {
     let ending = match given {
         Ok(given) => end_given(alloc, given, input, out, disk),
