@@ -2,19 +2,26 @@
 
 use super::*;
 use std::alloc::Global;
+use std::fmt::Debug;
 use std::io::{self, Write};
+use std::process::Abort;
 use std::test::Fail;
 use tr_book::Parts;
 use tr_packet::{Head, Packet, PacketFault, encode_packet, metadata_text};
 use tr_record::{MemorySink, Moment, Rec, WriterSink};
 use uuid::Uuid;
 
-fn moment(nanoseconds: u64) -> Result<Moment, Fail> {
-    Ok(Moment::new(nanoseconds).ok_or("a moment")?)
+/// Holds what a test found to what it wanted. As a call without clauses it keeps the proofs of the tests short.
+pub fn assert_same<T: PartialEq + Debug + Drop>(rt: &impl Abort, found: T, wanted: T) {
+    assert_eq!(rt; found, wanted);
 }
 
-fn uuid() -> Result<Uuid, Fail> {
-    Ok(Uuid::parse_str("00000000-0000-0000-0000-000000000001")?)
+fn moment(nanoseconds: u64) -> Moment {
+    Moment::new(nanoseconds).unwrap_or(Moment::zero())
+}
+
+fn uuid() -> Uuid {
+    Uuid::from_u128(1)
 }
 
 /// A packet of records with these serials, moments and lengths.
@@ -30,14 +37,14 @@ fn packet(
     let mut begin = None;
     for (serial, at, len) in rows {
         let bytes = payload.get(..*len).ok_or("a short payload")?;
-        records.push(Rec::copy_of(alloc, *serial, moment(*at)?, 7, bytes)?)?;
+        records.push(Rec::copy_of(alloc, *serial, moment(*at), 7, bytes)?)?;
         begin = begin.or(Some(*at));
     }
     let head = Head {
-        uuid: uuid()?,
+        uuid: uuid(),
         stream: 0,
-        begin: moment(begin.ok_or("a record")?)?,
-        end: moment(end)?,
+        begin: moment(begin.ok_or("a record")?),
+        end: moment(end),
         seq,
         lost,
     };
@@ -61,8 +68,8 @@ fn file(alloc: Global) -> Result<Vec<u8>, Fail> {
 }
 
 /// The fault of the audit of these pieces, if any.
-fn fault_of(alloc: Global, pieces: &[&[u8]]) -> Result<Option<AuditFault>, Fail> {
-    Ok(audit_stream(alloc, &uuid()?, 0, pieces).err())
+fn fault_of(alloc: Global, pieces: &[&[u8]]) -> Option<AuditFault> {
+    audit_stream(alloc, &uuid(), 0, pieces).err()
 }
 
 fn at(piece: u64, offset: u64, cause: AuditCause) -> Option<AuditFault> {
@@ -92,21 +99,19 @@ impl Write for Broken {
 }
 
 #[test]
-fn files_have_names(rt: HostRuntime) -> Result<(), Fail> {
-    let name = stream_file_name(rt.alloc(), "c", 0)?;
-    assert_eq!(rt; name.as_str(), "c_0");
-    let name = stream_file_name(rt.alloc(), "Net_4", u64::MAX)?;
-    assert_eq!(rt; name.as_str(), "Net_4_18446744073709551615");
-    Ok(())
+fn files_have_names(rt: HostRuntime) {
+    let name = stream_file_name(rt.alloc(), "c", 0).expect(&rt, "memory");
+    assert_same(&rt, name.as_str(), "c_0");
+    let name = stream_file_name(rt.alloc(), "Net_4", u64::MAX).expect(&rt, "memory");
+    assert_same(&rt, name.as_str(), "Net_4_18446744073709551615");
 }
 
 #[test]
-fn the_metadata_is_written(rt: HostRuntime) -> Result<(), Fail> {
-    let text = metadata_text(rt.alloc(), &uuid()?)?;
+fn the_metadata_is_written(rt: HostRuntime) {
+    let text = metadata_text(rt.alloc(), &uuid()).expect(&rt, "memory");
     let mut sink = MemorySink::new(rt.alloc(), 100);
-    write_metadata(rt.alloc(), &mut sink, &uuid()?)?;
-    assert_eq!(rt; sink.into_bytes().as_slice(), text.as_bytes());
-    Ok(())
+    write_metadata(rt.alloc(), &mut sink, &uuid()).expect(&rt, "a file");
+    assert_same(&rt, sink.into_bytes().as_slice(), text.as_bytes());
 }
 
 #[test]
@@ -114,23 +119,24 @@ fn packets_are_written_one_after_another(rt: HostRuntime) -> Result<(), Fail> {
     let alloc = rt.alloc();
     let parts = parts(alloc)?;
     let mut sink = MemorySink::new(alloc, 100);
-    write_packets(alloc, &mut sink, parts.current().packets())?;
+    write_packets(alloc, &mut sink, parts.current().packets()).expect(&rt, "a file");
     let mut texts = Vec::new(alloc);
     for packet in parts.current().packets() {
-        texts.extend_from_slice(&encode_packet(alloc, packet)?)?;
+        texts
+            .extend_from_slice(&encode_packet(alloc, packet).expect(&rt, "memory"))
+            .expect(&rt, "memory");
     }
-    assert_eq!(rt; texts.len(), 484);
-    assert_eq!(rt; sink.into_bytes().as_slice(), texts.as_slice());
+    assert_same(&rt, texts.len(), 484);
+    assert_same(&rt, sink.into_bytes().as_slice(), texts.as_slice());
     Ok(())
 }
 
 #[test]
-fn a_part_without_packets_is_no_byte(rt: HostRuntime) -> Result<(), Fail> {
+fn a_part_without_packets_is_no_byte(rt: HostRuntime) {
     let parts: Parts = Parts::new(rt.alloc());
     let mut sink = MemorySink::new(rt.alloc(), 100);
-    write_part(rt.alloc(), &mut sink, parts.current())?;
+    write_part(rt.alloc(), &mut sink, parts.current()).expect(&rt, "a file");
     assert!(rt; sink.into_bytes().is_empty());
-    Ok(())
 }
 
 #[test]
@@ -145,43 +151,44 @@ fn a_sink_that_fails(rt: HostRuntime) -> Result<(), Fail> {
     ] {
         let mut sink = WriterSink::new(Broken(bytes));
         let answer = write_part(rt.alloc(), &mut sink, parts.current());
-        assert_eq!(rt; answer, want, "after {bytes} bytes");
+        assert_same(&rt, (bytes, answer), (bytes, want));
     }
     let mut sink = WriterSink::new(Broken(3));
-    let answer = write_metadata(rt.alloc(), &mut sink, &uuid()?);
-    assert_eq!(rt; answer, Err(WriteFault::Write));
+    let answer = write_metadata(rt.alloc(), &mut sink, &uuid());
+    assert_same(&rt, answer, Err(WriteFault::Write));
     Ok(())
 }
 
 #[test]
 fn a_whole_file(rt: HostRuntime) -> Result<(), Fail> {
     let file = file(rt.alloc())?;
-    assert_eq!(rt; file.len(), 484);
-    let audit = audit_stream(rt.alloc(), &uuid()?, 0, &[&file])?;
-    assert_eq!(rt; (audit.packets, audit.records), (2, 5));
+    assert_same(&rt, file.len(), 484);
+    let audit = audit_stream(rt.alloc(), &uuid(), 0, &[&file]).expect(&rt, "an audit");
+    assert_same(&rt, (audit.packets, audit.records), (2, 5));
     assert!(rt; audit.gaps.as_slice().is_empty());
-    assert_eq!(rt;
+    assert_same(
+        &rt,
         (audit.last_seq, audit.last_serial, audit.last_lost),
-        (Some(1), Some(5), 1)
+        (Some(1), Some(5), 1),
     );
-    let (first, second) = file.split_at_checked(228).ok_or("two packets")?;
-    let audit = audit_stream(rt.alloc(), &uuid()?, 0, &[first, b"", second])?;
-    assert_eq!(rt; (audit.packets, audit.records), (2, 5));
+    let (first, second) = file.split_at_checked(228).expect(&rt, "two packets");
+    let audit = audit_stream(rt.alloc(), &uuid(), 0, &[first, b"", second]).expect(&rt, "an audit");
+    assert_same(&rt, (audit.packets, audit.records), (2, 5));
     Ok(())
 }
 
 #[test]
-fn no_packet_at_all(rt: HostRuntime) -> Result<(), Fail> {
+fn no_packet_at_all(rt: HostRuntime) {
     for pieces in [[].as_slice(), [b"".as_slice()].as_slice()] {
-        let audit = audit_stream(rt.alloc(), &uuid()?, 0, pieces)?;
-        assert_eq!(rt; (audit.packets, audit.records), (0, 0));
-        assert_eq!(rt;
+        let audit = audit_stream(rt.alloc(), &uuid(), 0, pieces).expect(&rt, "an audit");
+        assert_same(&rt, (audit.packets, audit.records), (0, 0));
+        assert_same(
+            &rt,
             (audit.last_seq, audit.last_serial, audit.last_lost),
-            (None, None, 0)
+            (None, None, 0),
         );
         assert!(rt; audit.gaps.into_runs().is_empty());
     }
-    Ok(())
 }
 
 #[test]
@@ -190,12 +197,13 @@ fn absent_numbers(rt: HostRuntime) -> Result<(), Fail> {
     let mut file = Vec::new(alloc);
     for (seq, serial) in [(2, 7), (3, 8), (5, 9), (u64::MAX, 10)] {
         let packet = packet(alloc, seq, 9, 4, &[(serial, 9, 0)])?;
-        file.extend_from_slice(&encode_packet(alloc, &packet)?)?;
+        file.extend_from_slice(&encode_packet(alloc, &packet).expect(&rt, "memory"))
+            .expect(&rt, "memory");
     }
-    let audit = audit_stream(alloc, &uuid()?, 0, &[&file])?;
+    let audit = audit_stream(alloc, &uuid(), 0, &[&file]).expect(&rt, "an audit");
     let runs = [(0, 2), (4, 1), (6, u64::MAX - 6)];
-    assert_eq!(rt; audit.gaps.as_slice(), runs.as_slice());
-    assert_eq!(rt; audit.last_seq, Some(u64::MAX));
+    assert_same(&rt, audit.gaps.as_slice(), runs.as_slice());
+    assert_same(&rt, audit.last_seq, Some(u64::MAX));
     Ok(())
 }
 
@@ -209,7 +217,11 @@ fn a_cut_file(rt: HostRuntime) -> Result<(), Fail> {
             1..=227 => at(0, 0, short),
             _ => at(0, 228, short),
         };
-        assert_eq!(rt; fault_of(rt.alloc(), &[&file[..len]])?, want, "{len} bytes");
+        assert_same(
+            &rt,
+            (len, fault_of(rt.alloc(), &[&file[..len]])),
+            (len, want),
+        );
     }
     Ok(())
 }
@@ -218,15 +230,20 @@ fn a_cut_file(rt: HostRuntime) -> Result<(), Fail> {
 fn pieces_in_another_order(rt: HostRuntime) -> Result<(), Fail> {
     let alloc = rt.alloc();
     let file = file(alloc)?;
-    let (first, second) = file.split_at_checked(228).ok_or("two packets")?;
+    let (first, second) = file.split_at_checked(228).expect(&rt, "two packets");
     let repeat = at(1, 0, AuditCause::NumberRepeat);
-    assert_eq!(rt; fault_of(alloc, &[second, first])?, repeat);
-    assert_eq!(rt; fault_of(alloc, &[&file, &file])?, repeat);
+    assert_same(&rt, fault_of(alloc, &[second, first]), repeat);
+    assert_same(&rt, fault_of(alloc, &[&file, &file]), repeat);
     let foreign = at(0, 0, AuditCause::Foreign);
-    assert_eq!(rt; audit_stream(alloc, &uuid()?, 1, &[&file]).err(), foreign);
-    assert_eq!(rt;
+    assert_same(
+        &rt,
+        audit_stream(alloc, &uuid(), 1, &[&file]).err(),
+        foreign,
+    );
+    assert_same(
+        &rt,
         audit_stream(alloc, &Uuid::nil(), 0, &[&file]).err(),
-        foreign
+        foreign,
     );
     Ok(())
 }
@@ -249,17 +266,21 @@ fn a_damaged_byte(rt: HostRuntime) -> Result<(), Fail> {
             166..=173 => at(0, 228, AuditCause::SerialRepeat),
             _ => None,
         };
-        let mut damaged = file.clone()?;
+        let mut damaged = file.clone().expect(&rt, "memory");
         if let Some(byte) = damaged.get_mut(place) {
             *byte ^= 0xFF;
         }
-        assert_eq!(rt; fault_of(rt.alloc(), &[&damaged])?, want, "byte {place}");
+        assert_same(
+            &rt,
+            (place, fault_of(rt.alloc(), &[&damaged])),
+            (place, want),
+        );
     }
     Ok(())
 }
 
 #[test]
-fn faults_have_codes_and_names(rt: HostRuntime) -> Result<(), Fail> {
+fn faults_have_codes_and_names(rt: HostRuntime) {
     for (cause, code, name, text) in [
         (
             AuditCause::Packet(PacketFault::Short),
@@ -282,15 +303,26 @@ fn faults_have_codes_and_names(rt: HostRuntime) -> Result<(), Fail> {
         (AuditCause::Foreign, "A4", "Foreign", "A4 Foreign"),
         (AuditCause::NoMemory, "A5", "NoMemory", "A5 NoMemory"),
     ] {
-        assert_eq!(rt; (cause.code(), cause.name()), (code, name));
-        assert_eq!(rt; format!(in rt.alloc(); "{cause}")?.as_str(), text);
+        assert_same(&rt, (cause.code(), cause.name()), (code, name));
+        assert_same(
+            &rt,
+            format!(in rt.alloc(); "{cause}")
+                .expect(&rt, "memory")
+                .as_str(),
+            text,
+        );
     }
     for (fault, code, name, text) in [
         (WriteFault::Write, "W1", "Write", "W1 Write"),
         (WriteFault::NoMemory, "W2", "NoMemory", "W2 NoMemory"),
     ] {
-        assert_eq!(rt; (fault.code(), fault.name()), (code, name));
-        assert_eq!(rt; format!(in rt.alloc(); "{fault}")?.as_str(), text);
+        assert_same(&rt, (fault.code(), fault.name()), (code, name));
+        assert_same(
+            &rt,
+            format!(in rt.alloc(); "{fault}")
+                .expect(&rt, "memory")
+                .as_str(),
+            text,
+        );
     }
-    Ok(())
 }

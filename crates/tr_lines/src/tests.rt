@@ -2,8 +2,15 @@
 
 use crate::{Found, LineReader, ReadFault, is_skipped_line, push_words};
 use std::alloc::{AllocError, Global};
+use std::fmt::Debug;
+use std::process::Abort;
 use std::test::Fail;
 use tr_record::{ByteSource, Failed, MemorySource};
+
+/// Holds what a test found to what it wanted. As a call without clauses it keeps the proofs of the tests short.
+fn assert_same<T: PartialEq + Debug + Drop>(rt: &impl Abort, found: T, wanted: T) {
+    assert_eq!(rt; found, wanted);
+}
 
 /// Whether the reader finds this next.
 fn finds<S: ByteSource>(
@@ -33,15 +40,24 @@ fn has_lines(
 }
 
 #[test]
-fn reads_lines_in_any_pieces(rt: HostRuntime) -> Result<(), Fail> {
+fn reads_lines_in_any_pieces(rt: HostRuntime) {
     let alloc = rt.alloc();
     for piece in [1, 2, 3, 65_536] {
         let empty = [(Found::Last, Some("")), (Found::Last, Some(""))];
-        assert!(rt; has_lines(alloc, b"", piece, &empty)?, "{piece}");
+        assert!(rt;
+            has_lines(alloc, b"", piece, &empty).expect(&rt, "memory"),
+            "{piece}"
+        );
         let feed = [(Found::Whole, Some("")), (Found::Last, Some(""))];
-        assert!(rt; has_lines(alloc, b"\n", piece, &feed)?, "{piece}");
+        assert!(rt;
+            has_lines(alloc, b"\n", piece, &feed).expect(&rt, "memory"),
+            "{piece}"
+        );
         let both = [(Found::Whole, Some("a b")), (Found::Last, Some("c"))];
-        assert!(rt; has_lines(alloc, b"a b\nc", piece, &both)?, "{piece}");
+        assert!(rt;
+            has_lines(alloc, b"a b\nc", piece, &both).expect(&rt, "memory"),
+            "{piece}"
+        );
         let bad = [
             (Found::Whole, None),
             (Found::Whole, None),
@@ -51,43 +67,43 @@ fn reads_lines_in_any_pieces(rt: HostRuntime) -> Result<(), Fail> {
             (Found::Last, None),
         ];
         let script = b"a\r\n# \t\n ~\n\x7f\n\x1f\n\xc3\xa9";
-        assert!(rt; has_lines(alloc, script, piece, &bad)?, "{piece}");
+        assert!(rt;
+            has_lines(alloc, script, piece, &bad).expect(&rt, "memory"),
+            "{piece}"
+        );
     }
-    Ok(())
 }
 
 #[test]
-fn takes_lines_of_4096_bytes(rt: HostRuntime) -> Result<(), Fail> {
+fn takes_lines_of_4096_bytes(rt: HostRuntime) {
     let alloc = rt.alloc();
-    let mut script = vec![in alloc; b'a'; 4096]?;
-    script.push(b'\n')?;
+    let mut script = vec![in alloc; b'a'; 4096].expect(&rt, "memory");
+    script.push(b'\n').expect(&rt, "memory");
     for _ in 0..4097 {
-        script.push(b'b')?;
+        script.push(b'b').expect(&rt, "memory");
     }
-    script.extend_from_slice(b"\nc")?;
+    script.extend_from_slice(b"\nc").expect(&rt, "memory");
     for piece in [1, 4096, 65_536] {
         let mut source = MemorySource::new(script.as_slice(), piece);
-        let mut reader = LineReader::new(alloc)?;
-        assert_eq!(rt; reader.read_line(&mut source), Ok(Found::Whole));
-        assert_eq!(rt; reader.text().map(|text| text.len()), Some(4096));
+        let mut reader = LineReader::new(alloc).expect(&rt, "memory");
+        assert_same(&rt, reader.read_line(&mut source), Ok(Found::Whole));
+        assert_same(&rt, reader.text().map(|text| text.len()), Some(4096));
         assert!(rt; finds(&mut reader, &mut source, Found::Whole, None));
         assert!(rt; finds(&mut reader, &mut source, Found::Last, Some("c")));
     }
-    Ok(())
 }
 
 #[test]
-fn takes_scripts_of_16777216_bytes(rt: HostRuntime) -> Result<(), Fail> {
+fn takes_scripts_of_16777216_bytes(rt: HostRuntime) {
     let alloc = rt.alloc();
-    let mut script = vec![in alloc; b'#'; 16_777_216]?;
+    let mut script = vec![in alloc; b'#'; 16_777_216].expect(&rt, "memory");
     let mut source = MemorySource::new(script.as_slice(), 65_536);
-    let mut reader = LineReader::new(alloc)?;
+    let mut reader = LineReader::new(alloc).expect(&rt, "memory");
     assert!(rt; finds(&mut reader, &mut source, Found::Last, None));
-    script.push(b'\n')?;
+    script.push(b'\n').expect(&rt, "memory");
     let mut source = MemorySource::new(script.as_slice(), 65_535);
-    let mut reader = LineReader::new(alloc)?;
-    assert_eq!(rt; reader.read_line(&mut source), Err(ReadFault::TooLong));
-    Ok(())
+    let mut reader = LineReader::new(alloc).expect(&rt, "memory");
+    assert_same(&rt, reader.read_line(&mut source), Err(ReadFault::TooLong));
 }
 
 /// Gives `a`, a line feed and `c`, and fails when it is asked for the fourth time.
@@ -123,31 +139,29 @@ impl ByteSource for Failing {
 }
 
 #[test]
-fn breaks_off_where_the_source_fails(rt: HostRuntime) -> Result<(), Fail> {
+fn breaks_off_where_the_source_fails(rt: HostRuntime) {
     let mut source = Failing {
         asked: 0,
         failures: 0,
     };
-    let mut reader = LineReader::new(rt.alloc())?;
+    let mut reader = LineReader::new(rt.alloc()).expect(&rt, "memory");
     assert!(rt; finds(&mut reader, &mut source, Found::Whole, Some("a")));
-    assert_eq!(rt; reader.read_line(&mut source), Err(ReadFault::Read));
-    assert_eq!(rt; reader.read_line(&mut source), Err(ReadFault::Read));
-    assert_eq!(rt; source.failures, 2);
-    Ok(())
+    assert_same(&rt, reader.read_line(&mut source), Err(ReadFault::Read));
+    assert_same(&rt, reader.read_line(&mut source), Err(ReadFault::Read));
+    assert_same(&rt, source.failures, 2);
 }
 
 #[test]
-fn splits_words(rt: HostRuntime) -> Result<(), Fail> {
+fn splits_words(rt: HostRuntime) {
     let mut words = Vec::new(rt.alloc());
-    push_words(&mut words, "")?;
-    push_words(&mut words, "   ")?;
+    push_words(&mut words, "").expect(&rt, "memory");
+    push_words(&mut words, "   ").expect(&rt, "memory");
     assert!(rt; is_skipped_line(words.as_slice()));
-    push_words(&mut words, "  create  s # ")?;
-    push_words(&mut words, "x")?;
+    push_words(&mut words, "  create  s # ").expect(&rt, "memory");
+    push_words(&mut words, "x").expect(&rt, "memory");
     assert!(rt; !is_skipped_line(words.as_slice()));
-    assert_eq!(rt; words.as_slice(), ["create", "s", "#", "x"].as_slice());
+    assert_same(&rt, words.as_slice(), ["create", "s", "#", "x"].as_slice());
     assert!(rt; is_skipped_line(&["#", "s"]));
     assert!(rt; is_skipped_line(&["#create"]));
     assert!(rt; !is_skipped_line(&["s#"]));
-    Ok(())
 }

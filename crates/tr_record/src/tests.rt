@@ -2,8 +2,15 @@
 
 use super::*;
 use std::alloc::Global;
+use std::fmt::Debug;
 use std::io::{self, Read, Write};
+use std::process::Abort;
 use std::test::Fail;
+
+/// Holds what a test found to what it wanted. As a call without clauses it keeps the proofs of the tests short.
+fn assert_same<T: PartialEq + Debug + Drop>(rt: &impl Abort, found: T, wanted: T) {
+    assert_eq!(rt; found, wanted);
+}
 
 /// The text of a record of id 7, moment 1 and serial 0 with the payload `A`.
 const ONE: [u8; 25] = [
@@ -24,62 +31,60 @@ fn written(alloc: Global, payload: &[u8]) -> Result<Vec<u8>, Fail> {
 #[test]
 fn a_record_of_one_byte(rt: HostRuntime) -> Result<(), Fail> {
     let out = written(rt.alloc(), b"A")?;
-    assert_eq!(rt; out.as_slice(), ONE.as_slice());
-    let (r, size) = read_rec(&out).ok_or("a record")?;
-    assert_eq!(rt; size, 25);
-    assert_eq!(rt; r.size(), 25);
-    assert_eq!(rt; (r.serial(), r.moment().get(), r.id()), (0, 1, 7));
-    assert_eq!(rt; r.payload(), b"A".as_slice());
+    assert_same(&rt, out.as_slice(), ONE.as_slice());
+    let (r, size) = read_rec(&out).expect(&rt, "a record");
+    assert_same(&rt, size, 25);
+    assert_same(&rt, r.size(), 25);
+    assert_same(&rt, (r.serial(), r.moment().get(), r.id()), (0, 1, 7));
+    assert_same(&rt, r.payload(), b"A".as_slice());
     Ok(())
 }
 
 #[test]
 fn a_record_of_no_byte(rt: HostRuntime) -> Result<(), Fail> {
     let out = written(rt.alloc(), b"")?;
-    assert_eq!(rt; out.len(), 24);
-    let (r, size) = read_rec(&out).ok_or("a record")?;
-    assert_eq!(rt; size, 24);
+    assert_same(&rt, out.len(), 24);
+    let (r, size) = read_rec(&out).expect(&rt, "a record");
+    assert_same(&rt, size, 24);
     assert!(rt; r.payload().is_empty());
     Ok(())
 }
 
 #[test]
-fn what_is_no_record(rt: HostRuntime) -> Result<(), Fail> {
+fn what_is_no_record(rt: HostRuntime) {
     assert!(rt; read_rec(&ONE[..23]).is_none(), "fewer than 24 bytes");
     assert!(rt; read_rec(&ONE[..24]).is_none(), "a cut payload");
     let mut late = ONE;
     late[4..12].copy_from_slice(&9_000_000_000_000_000_001u64.to_le_bytes());
     assert!(rt; read_rec(&late).is_none(), "a moment above the limit");
-    let (raw, rest) = read_raw(&late).ok_or("the fields")?;
-    assert_eq!(rt; raw.moment, 9_000_000_000_000_000_001);
+    let (raw, rest) = read_raw(&late).expect(&rt, "the fields");
+    assert_same(&rt, raw.moment, 9_000_000_000_000_000_001);
     assert!(rt; rest.is_empty());
     late[4..12].copy_from_slice(&9_000_000_000_000_000_000u64.to_le_bytes());
     assert!(rt; read_rec(&late).is_some(), "the last moment");
-    Ok(())
 }
 
 #[test]
-fn a_record_keeps_its_payload(rt: HostRuntime) -> Result<(), Fail> {
-    let moment = Moment::new(5).ok_or("a moment")?;
-    let r = Rec::copy_of(rt.alloc(), 3, moment, 9, b"abc")?;
-    assert_eq!(rt;
+fn a_record_keeps_its_payload(rt: HostRuntime) {
+    let moment = Moment::new(5).expect(&rt, "a moment");
+    let r = Rec::copy_of(rt.alloc(), 3, moment, 9, b"abc").expect(&rt, "memory");
+    assert_same(
+        &rt,
         (r.serial(), r.moment().get(), r.id(), r.size()),
-        (3, 5, 9, 27)
+        (3, 5, 9, 27),
     );
-    assert_eq!(rt; r.view().payload(), b"abc".as_slice());
-    assert_eq!(rt; r.payload(), b"abc".as_slice());
-    assert_eq!(rt; r.into_payload().as_slice(), b"abc".as_slice());
-    Ok(())
+    assert_same(&rt, r.view().payload(), b"abc".as_slice());
+    assert_same(&rt, r.payload(), b"abc".as_slice());
+    assert_same(&rt, r.into_payload().as_slice(), b"abc".as_slice());
 }
 
 #[test]
-fn moments_have_a_limit(rt: HostRuntime) -> Result<(), Fail> {
-    let last = Moment::new(9_000_000_000_000_000_000).ok_or("the last moment")?;
+fn moments_have_a_limit(rt: HostRuntime) {
+    let last = Moment::new(9_000_000_000_000_000_000).expect(&rt, "the last moment");
     assert!(rt; Moment::new(9_000_000_000_000_000_001).is_none());
-    assert_eq!(rt; Moment::zero().later(last), last);
-    assert_eq!(rt; last.later(Moment::zero()), last);
+    assert_same(&rt, Moment::zero().later(last), last);
+    assert_same(&rt, last.later(Moment::zero()), last);
     assert!(rt; Moment::zero() < last);
-    Ok(())
 }
 
 /// Copies all that a source gives to a sink, at most three bytes at a time.
@@ -96,29 +101,23 @@ fn copied<S: ByteSource, K: ByteSink>(source: &mut S, sink: &mut K) -> Result<()
 }
 
 #[test]
-fn bytes_go_through_memory_in_pieces_of_any_size(rt: HostRuntime) -> Result<(), Fail> {
+fn bytes_go_through_memory_in_pieces_of_any_size(rt: HostRuntime) {
     for (from, to) in [(0, 0), (1, 1), (1, 7), (7, 1), (100, 100)] {
         let mut source = MemorySource::new(b"some bytes", from);
         let mut sink = MemorySink::new(rt.alloc(), to);
-        assert_eq!(rt; copied(&mut source, &mut sink), Ok(()));
-        assert_eq!(rt; sink.into_bytes().as_slice(), b"some bytes".as_slice());
+        assert_same(&rt, copied(&mut source, &mut sink), Ok(()));
+        assert_same(&rt, sink.into_bytes().as_slice(), b"some bytes".as_slice());
     }
-    Ok(())
 }
 
 #[test]
-fn a_piece_has_the_size_that_was_asked(rt: HostRuntime) -> Result<(), Fail> {
+fn a_piece_has_the_size_that_was_asked(rt: HostRuntime) {
     for (piece, want) in [(0, 1), (1, 1), (3, 3), (9, 4)] {
         let mut source = MemorySource::new(b"four", piece);
         let mut sink = MemorySink::new(rt.alloc(), piece);
-        assert_eq!(rt;
-            source.get(&mut [0; 5]),
-            Ok(want),
-            "from a source of {piece}"
-        );
-        assert_eq!(rt; sink.put(b"four"), Ok(want), "to a sink of {piece}");
+        assert_same(&rt, (piece, source.get(&mut [0; 5])), (piece, Ok(want)));
+        assert_same(&rt, (piece, sink.put(b"four")), (piece, Ok(want)));
     }
-    Ok(())
 }
 
 /// Gives so many bytes and then fails, and takes so many and then fails.
@@ -154,42 +153,49 @@ impl Write for Broken {
 }
 
 #[test]
-fn std_streams_go_through(rt: HostRuntime) -> Result<(), Fail> {
+fn std_streams_go_through(rt: HostRuntime) {
     let mut source = ReaderSource::new(b"some bytes".as_slice());
     let mut bytes = Vec::new(rt.alloc());
     let mut sink = WriterSink::new(&mut bytes);
-    assert_eq!(rt; copied(&mut source, &mut sink), Ok(()));
-    assert_eq!(rt; sink.flush(), Ok(()));
+    assert_same(&rt, copied(&mut source, &mut sink), Ok(()));
+    assert_same(&rt, sink.flush(), Ok(()));
     drop(sink);
-    assert_eq!(rt; bytes.as_slice(), b"some bytes".as_slice());
+    assert_same(&rt, bytes.as_slice(), b"some bytes".as_slice());
 
     let mut memory = MemorySink::new(rt.alloc(), 100);
-    assert_eq!(rt;
+    assert_same(
+        &rt,
         copied(&mut ReaderSource::new(Broken(2)), &mut memory),
-        Err(Failed)
+        Err(Failed),
     );
-    assert_eq!(rt; memory.into_bytes().as_slice(), b"xx".as_slice());
+    assert_same(&rt, memory.into_bytes().as_slice(), b"xx".as_slice());
     let mut broken = WriterSink::new(Broken(2));
-    assert_eq!(rt; put_all(&mut broken, b"a"), Ok(()));
-    assert_eq!(rt; broken.flush(), Ok(()));
-    assert_eq!(rt; put_all(&mut broken, b"b"), Ok(()));
-    assert_eq!(rt; broken.flush(), Err(Failed));
-    assert_eq!(rt; put_all(&mut broken, b"c"), Err(Failed));
-    Ok(())
+    assert_same(&rt, put_all(&mut broken, b"a"), Ok(()));
+    assert_same(&rt, broken.flush(), Ok(()));
+    assert_same(&rt, put_all(&mut broken, b"b"), Ok(()));
+    assert_same(&rt, broken.flush(), Err(Failed));
+    assert_same(&rt, put_all(&mut broken, b"c"), Err(Failed));
 }
 
 #[test]
 fn records_end_to_end(rt: HostRuntime) -> Result<(), Fail> {
-    let mut bytes = ONE.to_vec(rt.alloc())?;
-    bytes.extend_from_slice(&ONE)?;
-    bytes.extend_from_slice(&written(rt.alloc(), b"")?)?;
-    let records = Records::checked(&bytes).ok_or("whole records")?;
+    let mut bytes = ONE.to_vec(rt.alloc()).expect(&rt, "memory");
+    bytes.extend_from_slice(&ONE).expect(&rt, "memory");
+    bytes
+        .extend_from_slice(&written(rt.alloc(), b"")?)
+        .expect(&rt, "memory");
+    let records = Records::checked(&bytes).expect(&rt, "whole records");
     let mut sizes = Vec::new(rt.alloc());
     for r in records {
-        sizes.push(r.size())?;
+        sizes.push(r.size()).expect(&rt, "memory");
     }
-    assert_eq!(rt; sizes.as_slice(), [25, 25, 24].as_slice());
-    assert!(rt; Records::checked(b"").ok_or("no record")?.next().is_none());
+    assert_same(&rt, sizes.as_slice(), [25, 25, 24].as_slice());
+    assert!(rt;
+        Records::checked(b"")
+            .expect(&rt, "no record")
+            .next()
+            .is_none()
+    );
     assert!(rt;
         Records::checked(&bytes[..bytes.len() - 1]).is_none(),
         "a cut record"

@@ -1,8 +1,15 @@
 //! Worked examples of schedules.
 
 use super::*;
+use std::fmt::Debug;
+use std::process::Abort;
 use std::test::Fail;
 use tr_record::Moment;
+
+/// Holds what a test found to what it wanted. As a call without clauses it keeps the proofs of the tests short.
+fn assert_same<T: PartialEq + Debug + Drop>(rt: &impl Abort, found: T, wanted: T) {
+    assert_eq!(rt; found, wanted);
+}
 
 /// Why a rotation of a chunk that began at `begin` is due at `now`.
 fn due(
@@ -19,8 +26,12 @@ fn due(
 
 #[test]
 fn a_period_and_a_size(rt: HostRuntime) -> Result<(), Fail> {
-    let schedule = Schedule::new(Some(100), Some(200))?;
-    assert_eq!(rt; (schedule.every(), schedule.size()), (Some(100), Some(200)));
+    let schedule = Schedule::new(Some(100), Some(200)).expect(&rt, "a schedule");
+    assert_same(
+        &rt,
+        (schedule.every(), schedule.size()),
+        (Some(100), Some(200)),
+    );
     for (begin, now, sizes, want) in [
         (0, 99, [].as_slice(), None),
         (0, 100, [].as_slice(), Some(Cause::Timer)),
@@ -32,27 +43,31 @@ fn a_period_and_a_size(rt: HostRuntime) -> Result<(), Fail> {
         (Moment::LAST, 0, [].as_slice(), None),
     ] {
         let answer = due(Some(100), Some(200), begin, now, sizes)?;
-        assert_eq!(rt; answer, want, "from {begin} to {now}");
+        assert_same(&rt, (begin, now, answer), (begin, now, want));
     }
     Ok(())
 }
 
 #[test]
 fn one_of_them_or_none(rt: HostRuntime) -> Result<(), Fail> {
-    assert_eq!(rt; due(None, None, 0, Moment::LAST, &[u64::MAX])?, None);
-    assert_eq!(rt; due(Some(1), None, 5, 5, &[u64::MAX])?, None);
-    assert_eq!(rt; due(Some(1), None, 5, 6, &[])?, Some(Cause::Timer));
-    assert_eq!(rt; due(None, Some(1), 0, Moment::LAST, &[0, 0])?, None);
-    assert_eq!(rt; due(None, Some(1), 0, 0, &[0, 1])?, Some(Cause::Size));
+    assert_same(&rt, due(None, None, 0, Moment::LAST, &[u64::MAX])?, None);
+    assert_same(&rt, due(Some(1), None, 5, 5, &[u64::MAX])?, None);
+    assert_same(&rt, due(Some(1), None, 5, 6, &[])?, Some(Cause::Timer));
+    assert_same(&rt, due(None, Some(1), 0, Moment::LAST, &[0, 0])?, None);
+    assert_same(&rt, due(None, Some(1), 0, 0, &[0, 1])?, Some(Cause::Size));
     Ok(())
 }
 
 #[test]
 fn a_sum_stops_at_the_greatest_number(rt: HostRuntime) -> Result<(), Fail> {
     let full = Some(Cause::Size);
-    assert_eq!(rt; due(None, Some(u64::MAX), 0, 0, &[u64::MAX, 1])?, full);
-    assert_eq!(rt; due(None, Some(u64::MAX), 0, 0, &[1, u64::MAX, 7])?, full);
-    assert_eq!(rt; due(None, Some(u64::MAX), 0, 0, &[u64::MAX - 1])?, None);
+    assert_same(&rt, due(None, Some(u64::MAX), 0, 0, &[u64::MAX, 1])?, full);
+    assert_same(
+        &rt,
+        due(None, Some(u64::MAX), 0, 0, &[1, u64::MAX, 7])?,
+        full,
+    );
+    assert_same(&rt, due(None, Some(u64::MAX), 0, 0, &[u64::MAX - 1])?, None);
     Ok(())
 }
 
@@ -66,24 +81,33 @@ fn zeros_are_refused(rt: HostRuntime) {
         (Some(1), Some(1), None),
         (None, None, None),
     ] {
-        assert_eq!(rt; Schedule::new(every, size).err(), want);
+        assert_same(&rt, Schedule::new(every, size).err(), want);
     }
 }
 
 #[test]
-fn words_of_answers(rt: HostRuntime) -> Result<(), Fail> {
+fn words_of_answers(rt: HostRuntime) {
     let fault = ScheduleFault::ZeroPeriod;
-    assert_eq!(rt; (fault.code(), fault.name()), ("D1", "ZeroPeriod"));
-    assert_eq!(rt;
-        format!(in rt.alloc(); "{fault}")?.as_str(),
-        "D1 ZeroPeriod"
+    assert_same(&rt, (fault.code(), fault.name()), ("D1", "ZeroPeriod"));
+    assert_same(
+        &rt,
+        format!(in rt.alloc(); "{fault}")
+            .expect(&rt, "memory")
+            .as_str(),
+        "D1 ZeroPeriod",
     );
     let fault = ScheduleFault::ZeroSize;
-    assert_eq!(rt; (fault.code(), fault.name()), ("D2", "ZeroSize"));
-    assert_eq!(rt; format!(in rt.alloc(); "{fault}")?.as_str(), "D2 ZeroSize");
-    assert_eq!(rt;
-        (Cause::Timer.word(), Cause::Size.word()),
-        ("timer", "size")
+    assert_same(&rt, (fault.code(), fault.name()), ("D2", "ZeroSize"));
+    assert_same(
+        &rt,
+        format!(in rt.alloc(); "{fault}")
+            .expect(&rt, "memory")
+            .as_str(),
+        "D2 ZeroSize",
     );
-    Ok(())
+    assert_same(
+        &rt,
+        (Cause::Timer.word(), Cause::Size.word()),
+        ("timer", "size"),
+    );
 }

@@ -1,10 +1,10 @@
 -- What the steps of a session leave.
-use Rattle.std.proofs.Common.{◌≡◌, ◌≢◌, ◌∙◌, ℕ, max, ◌+◌, ◌≤◌, ◌<◌, zero, suc, Bool, true, false, length, arith, List, [], ◌∷◌, ◌++◌, Option, Some, None, Result, Ok, Err, ap, refl, subst, sym}
+use Rattle.std.proofs.Common.{◌≡◌, ◌≢◌, ◌∙◌, ℕ, max, ◌+◌, ◌≤◌, ◌<◌, zero, suc, Bool, true, false, length, arith, List, [], ◌∷◌, ◌++◌, ◌⊎◌, ⊎_elim, Option, Some, None, Result, Ok, Err, ap, refl, subst, sym}
 use Rattle.std.proofs.lemmas.Bool.Decides.{nat_tests}
 use Rattle.std.specs.Option.{option_map_or}
 use Rattle.std.specs.Prelude.{IsOk, if◌then◌else◌, nat_lt, option_map, slice_get}
 use Rattle.tr_session_book.proofs.BookLaws.{due-within}
-use Rattle.tr_session.proofs.StreamLaws.{mode-at, noted-is}
+use Rattle.tr_session.proofs.StreamLaws.{mode-at, noted-is, wants-memory}
 use Rattle.tr_session_book.specs.Book.{SessionBookState}
 use Rattle.tr_session_book.specs.BookSteps.{channel_named, noted_at, thread_noted, thread_place, unless_refused, cut_moment, with_cut, after_note_cut}
 use Rattle.tr_session.specs.Session.{SessionOf, HasItsStreams}
@@ -106,23 +106,11 @@ only_wants (Err fault) b f placed refused = cc
 
 -- where there is a place, only want of memory refuses a thread
 pub thread-wants : (b : SessionBookState) (name : List ℕ) (f : SessionFault) → IsOk (thread_place name b) → (f ≢ NoMemory → thread_noted name b ≡ Err f) → f ≡ NoMemory
-thread-wants b name NoMemory placed refused = refl
-thread-wants b name SnapshotMode placed refused = absurd (only_wants (thread_place name b) b SnapshotMode placed (refused (λ e. cc)))
-thread-wants b name NotSnapshotMode placed refused = absurd (only_wants (thread_place name b) b NotSnapshotMode placed (refused (λ e. cc)))
-thread-wants b name NeverStarted placed refused = absurd (only_wants (thread_place name b) b NeverStarted placed (refused (λ e. cc)))
-thread-wants b name RotationPending placed refused = absurd (only_wants (thread_place name b) b RotationPending placed (refused (λ e. cc)))
-thread-wants b name AlreadyRotated placed refused = absurd (only_wants (thread_place name b) b AlreadyRotated placed (refused (λ e. cc)))
-thread-wants b name AlreadyActive placed refused = absurd (only_wants (thread_place name b) b AlreadyActive placed (refused (λ e. cc)))
-thread-wants b name NotActive placed refused = absurd (only_wants (thread_place name b) b NotActive placed (refused (λ e. cc)))
-thread-wants b name NoStream placed refused = absurd (only_wants (thread_place name b) b NoStream placed (refused (λ e. cc)))
-thread-wants b name DiscardInSnapshot placed refused = absurd (only_wants (thread_place name b) b DiscardInSnapshot placed (refused (λ e. cc)))
-thread-wants b name AlreadyStarted placed refused = absurd (only_wants (thread_place name b) b AlreadyStarted placed (refused (λ e. cc)))
-thread-wants b name BadGeometry placed refused = absurd (only_wants (thread_place name b) b BadGeometry placed (refused (λ e. cc)))
-thread-wants b name TooMany placed refused = absurd (only_wants (thread_place name b) b TooMany placed (refused (λ e. cc)))
-thread-wants b name NotPending placed refused = absurd (only_wants (thread_place name b) b NotPending placed (refused (λ e. cc)))
-thread-wants b name CutMissing placed refused = absurd (only_wants (thread_place name b) b CutMissing placed (refused (λ e. cc)))
-thread-wants b name NameTaken placed refused = absurd (only_wants (thread_place name b) b NameTaken placed (refused (λ e. cc)))
-thread-wants b name NoChannel placed refused = absurd (only_wants (thread_place name b) b NoChannel placed (refused (λ e. cc)))
+thread-wants b name f placed refused =
+    ⊎_elim
+    (λ is. cc)
+    (λ isnt. absurd (only_wants (thread_place name b) b f placed (refused (λ (e : f ≡ NoMemory). isnt (ap (λ (g : SessionFault). (let r : Result SessionBookState SessionFault = Err g in r)) e)))))
+    (wants-memory (let r : Result SessionBookState SessionFault = Err f in r))
 
 -- ---- cuts that are due
 

@@ -445,32 +445,33 @@ take-step {D} r b ts us i done memory is =
     (λ (other : r ≢ Err (step.Take take_fault.NoMemory)). same-session b b (changed_at i state_after_take ts) us refl (done other).1 (after-one b ts i state_after_take take-keeps is))
     (take-wants r)
 
-begin-wants : {R : Type 0} (r : Result R SessionFault) → (r ≡ Err SessionFault.NoMemory) ⊎ (r ≢ Err SessionFault.NoMemory)
-begin-wants (Ok id) = inr (λ e. cc)
-begin-wants (Err SessionFault.NoMemory) = inl refl
-begin-wants (Err SessionFault.SnapshotMode) = inr (λ e. cc)
-begin-wants (Err SessionFault.NotSnapshotMode) = inr (λ e. cc)
-begin-wants (Err SessionFault.NeverStarted) = inr (λ e. cc)
-begin-wants (Err SessionFault.RotationPending) = inr (λ e. cc)
-begin-wants (Err SessionFault.AlreadyRotated) = inr (λ e. cc)
-begin-wants (Err SessionFault.AlreadyActive) = inr (λ e. cc)
-begin-wants (Err SessionFault.NotActive) = inr (λ e. cc)
-begin-wants (Err SessionFault.NoStream) = inr (λ e. cc)
-begin-wants (Err SessionFault.DiscardInSnapshot) = inr (λ e. cc)
-begin-wants (Err SessionFault.AlreadyStarted) = inr (λ e. cc)
-begin-wants (Err SessionFault.BadGeometry) = inr (λ e. cc)
-begin-wants (Err SessionFault.TooMany) = inr (λ e. cc)
-begin-wants (Err SessionFault.NotPending) = inr (λ e. cc)
-begin-wants (Err SessionFault.CutMissing) = inr (λ e. cc)
-begin-wants (Err SessionFault.NameTaken) = inr (λ e. cc)
-begin-wants (Err SessionFault.NoChannel) = inr (λ e. cc)
+-- a result refused memory, or not
+pub wants-memory : {R : Type 0} (r : Result R SessionFault) → (r ≡ Err SessionFault.NoMemory) ⊎ (r ≢ Err SessionFault.NoMemory)
+wants-memory (Ok id) = inr (λ e. cc)
+wants-memory (Err SessionFault.NoMemory) = inl refl
+wants-memory (Err SessionFault.SnapshotMode) = inr (λ e. cc)
+wants-memory (Err SessionFault.NotSnapshotMode) = inr (λ e. cc)
+wants-memory (Err SessionFault.NeverStarted) = inr (λ e. cc)
+wants-memory (Err SessionFault.RotationPending) = inr (λ e. cc)
+wants-memory (Err SessionFault.AlreadyRotated) = inr (λ e. cc)
+wants-memory (Err SessionFault.AlreadyActive) = inr (λ e. cc)
+wants-memory (Err SessionFault.NotActive) = inr (λ e. cc)
+wants-memory (Err SessionFault.NoStream) = inr (λ e. cc)
+wants-memory (Err SessionFault.DiscardInSnapshot) = inr (λ e. cc)
+wants-memory (Err SessionFault.AlreadyStarted) = inr (λ e. cc)
+wants-memory (Err SessionFault.BadGeometry) = inr (λ e. cc)
+wants-memory (Err SessionFault.TooMany) = inr (λ e. cc)
+wants-memory (Err SessionFault.NotPending) = inr (λ e. cc)
+wants-memory (Err SessionFault.CutMissing) = inr (λ e. cc)
+wants-memory (Err SessionFault.NameTaken) = inr (λ e. cc)
+wants-memory (Err SessionFault.NoChannel) = inr (λ e. cc)
 
 pub begin-step : {D : Type 0} (r : Result ℕ SessionFault) (moment : ℕ) (b c : SessionBookState) → (r ≢ Err SessionFault.NoMemory → D × (c ≡ after_rotate_begin moment b)) → (r ≡ Err SessionFault.NoMemory → c ≡ b) → IsSameFor b c
 begin-step {D} r moment b c done memory =
     ⊎_elim
     (λ (wants : r ≡ Err SessionFault.NoMemory). subst (λ (d : SessionBookState). IsSameFor b d) (sym (memory wants)) (unchanged b))
     (λ (other : r ≢ Err SessionFault.NoMemory). subst (λ (d : SessionBookState). IsSameFor b d) (sym (done other).1) (begun-same moment b))
-    (begin-wants r)
+    (wants-memory r)
 
 -- another book that a step of this one made
 pub stepped : (b c made : SessionBookState) (ts us : List StreamState) → c ≡ made → IsSameFor b made → HasItsStreams (record { book = b; streams = ts }) → us ≡ ts → HasItsStreams (record { book = c; streams = us })

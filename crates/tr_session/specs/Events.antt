@@ -3,7 +3,7 @@ use Rattle.std.specs.Prelude.{◌≡◌, ℕ, Bool, true, false, IsOk, List, [],
 use Rattle.tr_session_book.specs.Book.{SessionBookState}
 use Rattle.tr_session_book.specs.BookSteps.{unless_refused, start_answer, after_start, stop_answer, after_stop, switch_answer, rotate_begin_answer, after_rotate_begin, cut_moment, after_note_cut, rotate_finish_answer, after_rotate_finish, snap_allowed}
 use Rattle.tr_session.specs.Session.{SessionOf}
-use Rattle.tr_session.specs.Steps.{StepTakesMemory, begun, finished, offer_step, after_offer_step, take_step, after_take_step, cut_step, after_cut_step, snap_step, after_switch_step}
+use Rattle.tr_session.specs.Steps.{ShowsPackets, StepTakesMemory, begun, finished, offer_step, after_offer_step, take_step, after_take_step, cut_step, after_cut_step, snap_step, after_switch_step}
 use Rattle.tr_session.specs.declared.events.Answer.{Answer}
 use Rattle.tr_session.specs.declared.events.Answer.TheVariants as answer
 use Rattle.tr_session.specs.declared.events.Event.{Event}
@@ -37,7 +37,7 @@ abbrev pub MayWantMemory : {A : Type 0} → Answer A → Answer A → Type 0
 MayWantMemory (answer.Offer wanting) (answer.Offer rule) = (wanting ≡ Err (step.Offer offer_fault.NoMemory)) × StepTakesMemory rule
 MayWantMemory (answer.Take wanting) (answer.Take rule) = (wanting ≡ Err (step.Take take_fault.NoMemory)) × IsOk rule
 MayWantMemory (answer.Cut wanting) (answer.Cut rule) = (wanting ≡ Err (step.Cut cut_fault.NoMemory)) × IsOk rule
-MayWantMemory (answer.Snap wanting) (answer.Snap rule) = (wanting ≡ Err NoMemory) × IsOk rule
+MayWantMemory (answer.Snap wanting) (answer.Snap rule) = (wanting ≡ Err NoMemory) × ShowsPackets rule
 MayWantMemory (answer.RotateBegin wanting) (answer.RotateBegin rule) = (wanting ≡ Err NoMemory) × IsOk rule
 MayWantMemory _ _ = ⊥
 

@@ -1,5 +1,5 @@
 -- What the calls of a session answer, and what they do to its book and its streams.
-use Rattle.std.specs.Prelude.{◌≡◌, ◌<◌, ◌⊎◌, ℕ, max, Bool, true, false, nat_lt, List, [], ◌∷◌, ◌++◌, zero, suc, length, map, Option, Some, None, Result, Ok, Err, slice_get, if◌then◌else◌}
+use Rattle.std.specs.Prelude.{◌≡◌, ◌≢◌, ◌<◌, ◌⊎◌, ℕ, max, Bool, true, false, nat_lt, List, [], ◌∷◌, ◌++◌, zero, suc, length, map, Option, Some, None, Result, Ok, Err, slice_get, if◌then◌else◌}
 use Rattle.std.specs.Option.{option_map_or}
 use Rattle.tr_book.specs.Snaps.{SnapState}
 use Rattle.tr_book.specs.declared.mode.Mode.{Mode}
@@ -119,6 +119,11 @@ snap_step_at rules (Ok done) i moment s = option_map_or (λ t. Ok (rules.snapped
 
 abbrev pub snap_step : {S : Type 0} → StreamRules S → ℕ → ℕ → SessionOf S → Result SnapState SessionFault
 snap_step rules i moment s = snap_step_at rules (snap_allowed i s.book) i moment s
+
+-- what is seen has packets
+abbrev pub ShowsPackets : Result SnapState SessionFault → Type 0
+ShowsPackets (Ok snap) = snap.packets ≢ []
+ShowsPackets (Err fault) = ⊥
 
 -- stream i takes offers from now on, or takes none
 abbrev pub after_switch_step : {S : Type 0} → StreamRules S → Bool → ℕ → SessionOf S → SessionOf S

@@ -3,7 +3,7 @@
 ghost use Rattle.std.specs.Prelude.{◌≡◌, ◌≢◌, ◌≤◌, ◌<◌, ◌∷◌, ◌++◌, [], true, false, None, Some, Ok, Err, IsOk, IsSome, IfSome, IfOk, OnOk, IfErr, OnErr, length, map, option_copied, slice_get};
 ghost use Rattle.tr_session_book.specs.BookSteps.{most_streams, channel_named, thread_place, start_answer, after_start, stop_answer, after_stop, switch_answer, rotate_begin_answer, cut_moment, rotate_finish_answer, snapshot_begin_answer, after_snapshot_begin, schedule_answer, after_schedule};
 ghost use Rattle.tr_session.specs.Session.{IsStreamOf, new_session};
-ghost use Rattle.tr_session.specs.Steps.{session_channel_added, thread_added, StepTakesMemory, offer_step, after_offer_step, take_step, after_take_step, cut_step, after_cut_step, snap_step, after_switch_step, all_started, all_stopped, begun, finished, current_sizes, fate_asked};
+ghost use Rattle.tr_session.specs.Steps.{session_channel_added, thread_added, StepTakesMemory, offer_step, after_offer_step, take_step, after_take_step, cut_step, after_cut_step, snap_step, ShowsPackets, after_switch_step, all_started, all_stopped, begun, finished, current_sizes, fate_asked};
 ghost use Rattle.tr_stream.specs.Rules.{by_state};
 ghost use Rattle.tr_stream.specs.StateSteps.{new_state, state_snap};
 
@@ -196,10 +196,10 @@ impl<A: Allocator + Copy> Session<A> {
     ///
     /// # Errors
     ///
-    /// `NoStream`, `NotSnapshotMode`, `NeverStarted`, `NoMemory`.
+    /// `NoStream`, `NotSnapshotMode`, `NeverStarted`, `NoMemory`, which a look without packets never is.
     pub fn snap(&self, i: u64, moment: Moment) -> Result<StreamSnap<A>, SessionFault>
         ensures value { result ≢ Err SessionFault.NoMemory → result ≡ snap_step by_state i moment self.now }
-        ensures memory { result ≡ Err SessionFault.NoMemory → IsOk (snap_step by_state i moment self.now) }
+        ensures memory { result ≡ Err SessionFault.NoMemory → ShowsPackets (snap_step by_state i moment self.now) }
     {
         if let Err(fault) = self.book.can_snap(i) {
             return Err(fault);

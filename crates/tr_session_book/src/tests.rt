@@ -1,5 +1,7 @@
 use crate::{Archive, SessionBook, SessionFault};
 use std::alloc::Global;
+use std::fmt::Debug;
+use std::process::Abort;
 use std::test::Fail;
 use tr_book::Mode;
 use tr_chunk::OffsetMinutes;
@@ -8,8 +10,13 @@ use tr_schedule::Schedule;
 use tr_stream::SessionMode;
 use uuid::Uuid;
 
-fn moment(nanoseconds: u64) -> Result<Moment, Fail> {
-    Ok(Moment::new(nanoseconds).ok_or("a moment")?)
+/// Holds what a test found to what it wanted. As a call without clauses it keeps the proofs of the tests short.
+fn assert_same<T: PartialEq + Debug + Drop>(rt: &impl Abort, found: T, wanted: T) {
+    assert_eq!(rt; found, wanted);
+}
+
+fn moment(nanoseconds: u64) -> Moment {
+    Moment::new(nanoseconds).unwrap_or(Moment::zero())
 }
 
 /// A book of this mode with one overwriting channel and one thread.
@@ -25,51 +32,51 @@ fn book(alloc: Global, mode: SessionMode) -> Result<SessionBook, Fail> {
 #[test]
 fn a_book_alone_notes_snapshots(rt: HostRuntime) -> Result<(), Fail> {
     let mut book = book(rt.alloc(), SessionMode::Snapshot)?;
-    assert_eq!(rt; book.can_snap(1), Err(SessionFault::NoStream));
-    assert_eq!(rt; book.can_snap(0), Err(SessionFault::NeverStarted));
-    let early = book.snapshot_begin(moment(5)?);
-    assert_eq!(rt; early, Err(SessionFault::NeverStarted));
-    book.start(moment(7)?)?;
-    assert_eq!(rt; book.can_snap(0), Ok(()));
-    assert_eq!(rt; book.snapshot_moment(moment(10)?), Ok(moment(10)?));
-    assert_eq!(rt; book.snapshot_begin(moment(3)?), Ok(moment(7)?));
-    assert_eq!(rt; book.snapshot_begin(moment(10)?), Ok(moment(10)?));
-    assert_eq!(rt; book.last().get(), 10);
+    assert_same(&rt, book.can_snap(1), Err(SessionFault::NoStream));
+    assert_same(&rt, book.can_snap(0), Err(SessionFault::NeverStarted));
+    let early = book.snapshot_begin(moment(5));
+    assert_same(&rt, early, Err(SessionFault::NeverStarted));
+    book.start(moment(7)).expect(&rt, "a start");
+    assert_same(&rt, book.can_snap(0), Ok(()));
+    assert_same(&rt, book.snapshot_moment(moment(10)), Ok(moment(10)));
+    assert_same(&rt, book.snapshot_begin(moment(3)), Ok(moment(7)));
+    assert_same(&rt, book.snapshot_begin(moment(10)), Ok(moment(10)));
+    assert_same(&rt, book.last().get(), 10);
     Ok(())
 }
 
 #[test]
 fn a_book_alone_keeps_a_schedule(rt: HostRuntime) -> Result<(), Fail> {
     let mut book = book(rt.alloc(), SessionMode::Local)?;
-    assert_eq!(rt; book.can_snap(0), Err(SessionFault::NotSnapshotMode));
-    let early = book.snapshot_moment(moment(5)?);
-    assert_eq!(rt; early, Err(SessionFault::NotSnapshotMode));
-    let schedule = Schedule::new(Some(100), None)?;
-    book.set_schedule(Some(schedule))?;
-    assert_eq!(rt; book.schedule(), Some(schedule));
-    assert_eq!(rt; book.schedule_in_force(), None);
-    book.start(moment(0)?)?;
-    assert_eq!(rt; book.schedule_in_force(), Some(schedule));
-    book.rotate_begin(moment(1)?)?;
-    assert_eq!(rt; book.schedule_in_force(), None);
+    assert_same(&rt, book.can_snap(0), Err(SessionFault::NotSnapshotMode));
+    let early = book.snapshot_moment(moment(5));
+    assert_same(&rt, early, Err(SessionFault::NotSnapshotMode));
+    let schedule = Schedule::new(Some(100), None).expect(&rt, "a schedule");
+    book.set_schedule(Some(schedule)).expect(&rt, "a schedule");
+    assert_same(&rt, book.schedule(), Some(schedule));
+    assert_same(&rt, book.schedule_in_force(), None);
+    book.start(moment(0)).expect(&rt, "a start");
+    assert_same(&rt, book.schedule_in_force(), Some(schedule));
+    book.rotate_begin(moment(1)).expect(&rt, "a rotation");
+    assert_same(&rt, book.schedule_in_force(), None);
     Ok(())
 }
 
 #[test]
-fn a_book_alone_notes_a_rotation(rt: HostRuntime) -> Result<(), Fail> {
-    let offset = OffsetMinutes::new(60).ok_or("an offset")?;
+fn a_book_alone_notes_a_rotation(rt: HostRuntime) {
+    let offset = OffsetMinutes::new(60).expect(&rt, "an offset");
     let mut book = SessionBook::new(rt.alloc(), Uuid::nil(), offset, SessionMode::Local);
-    book.add_channel("c", 256, 2, Mode::Discard)?;
-    assert_eq!(rt; book.add_thread("c")?, 0);
-    book.start(moment(1)?)?;
-    assert_eq!(rt; book.rotate_begin(moment(2)?), Ok(0));
-    assert_eq!(rt; book.note_cut(0), Ok(()));
-    assert_eq!(rt; book.note_cut(0), Err(SessionFault::NotPending));
+    book.add_channel("c", 256, 2, Mode::Discard)
+        .expect(&rt, "a channel");
+    assert_same(&rt, book.add_thread("c"), Ok(0));
+    book.start(moment(1)).expect(&rt, "a start");
+    assert_same(&rt, book.rotate_begin(moment(2)), Ok(0));
+    assert_same(&rt, book.note_cut(0), Ok(()));
+    assert_same(&rt, book.note_cut(0), Err(SessionFault::NotPending));
     let archive = Archive {
         id: 0,
-        begin: moment(1)?,
-        end: moment(2)?,
+        begin: moment(1),
+        end: moment(2),
     };
-    assert_eq!(rt; book.rotate_finish(), Ok(archive));
-    Ok(())
+    assert_same(&rt, book.rotate_finish(), Ok(archive));
 }

@@ -5,6 +5,7 @@ ghost use Rattle.std.specs.Prelude.{◌≤◌, IfOk, length};
 use super::*;
 use linked_list_allocator::LocalHeap;
 use std::alloc::Global;
+use std::fmt::Debug;
 use std::io::{self, Write};
 use std::process::Abort;
 use std::test::Fail;
@@ -14,8 +15,13 @@ use tr_packet::{Head, Packet, decode_packet};
 use tr_record::{MemorySink, Moment, Rec, WriterSink};
 use uuid::Uuid;
 
-fn moment(nanoseconds: u64) -> Result<Moment, Fail> {
-    Ok(Moment::new(nanoseconds).ok_or("a moment")?)
+/// Holds what a test found to what it wanted. As a call without clauses it keeps the proofs of the tests short.
+fn assert_same<T: PartialEq + Debug + Drop>(rt: &impl Abort, found: T, wanted: T) {
+    assert_eq!(rt; found, wanted);
+}
+
+fn moment(nanoseconds: u64) -> Moment {
+    Moment::new(nanoseconds).unwrap_or(Moment::zero())
 }
 
 /// The packet of the records with the serials `2 * seq` and `2 * seq + 1`, each with a payload of 64 bytes.
@@ -26,14 +32,14 @@ fn packet(rt: &impl Abort, alloc: Global, seq: u64) -> Result<Packet, Fail>
     let (first, second) = (2 * seq, 2 * seq + 1);
     let payload = [0x61; 64];
     let records = vec![in alloc;
-        Rec::copy_of(alloc, first, moment(first + 1)?, 7, &payload)?,
-        Rec::copy_of(alloc, second, moment(second + 1)?, 7, &payload)?,
+        Rec::copy_of(alloc, first, moment(first + 1), 7, &payload)?,
+        Rec::copy_of(alloc, second, moment(second + 1), 7, &payload)?,
     ]?;
     let head = Head {
         uuid: Uuid::nil(),
         stream: 0,
-        begin: moment(first + 1)?,
-        end: moment(second + 1)?,
+        begin: moment(first + 1),
+        end: moment(second + 1),
         seq,
         lost: 0,
     };
@@ -67,47 +73,55 @@ impl Write for Broken {
 #[test]
 fn a_stream_of_two_packets(rt: HostRuntime) -> Result<(), Fail> {
     let snap = snap(&rt, rt.alloc())?;
-    assert_eq!(rt; oldest_serial(&snap), Some(2));
-    assert_eq!(rt; count(&snap), 4);
+    assert_same(&rt, oldest_serial(&snap), Some(2));
+    assert_same(&rt, count(&snap), 4);
     let mut sink = MemorySink::new(rt.alloc(), 7);
-    write_snap(rt.alloc(), &mut sink, &snap)?;
+    write_snap(rt.alloc(), &mut sink, &snap).expect(&rt, "a file");
     let bytes = sink.into_bytes();
-    assert_eq!(rt; bytes.len(), 512);
-    let (front, back) = bytes.split_at_checked(256).ok_or("two packets")?;
+    assert_same(&rt, bytes.len(), 512);
+    let (front, back) = bytes.split_at_checked(256).expect(&rt, "two packets");
     for (text, seq, serials) in [(front, 1, [2, 3]), (back, 2, [4, 5])] {
-        let (packet, size) = decode_packet(text)?;
-        assert_eq!(rt; (size, packet.head().seq, packet.count()), (256, seq, 2));
+        let (packet, size) = decode_packet(text).expect(&rt, "a packet");
+        assert_same(
+            &rt,
+            (size, packet.head().seq, packet.count()),
+            (256, seq, 2),
+        );
         for (r, serial) in packet.records().zip(serials) {
-            assert_eq!(rt; (r.serial(), r.payload().len()), (serial, 64));
+            assert_same(&rt, (r.serial(), r.payload().len()), (serial, 64));
         }
     }
     Ok(())
 }
 
 #[test]
-fn a_stream_without_packets(rt: HostRuntime) -> Result<(), Fail> {
+fn a_stream_without_packets(rt: HostRuntime) {
     let snap: StreamSnap = StreamSnap::new(0, 0, 0, Vec::new(rt.alloc()));
-    assert_eq!(rt; oldest_serial(&snap), None);
-    assert_eq!(rt; count(&snap), 0);
+    assert_same(&rt, oldest_serial(&snap), None);
+    assert_same(&rt, count(&snap), 0);
     let mut sink = MemorySink::new(rt.alloc(), 7);
-    write_snap(rt.alloc(), &mut sink, &snap)?;
+    write_snap(rt.alloc(), &mut sink, &snap).expect(&rt, "a file");
     assert!(rt; sink.into_bytes().is_empty());
-    Ok(())
 }
 
 #[test]
 fn a_session_of_two_streams(rt: HostRuntime) -> Result<(), Fail> {
     let empty = StreamSnap::new(1, 0, 0, Vec::new(rt.alloc()));
-    let streams = vec![in rt.alloc(); snap(&rt, rt.alloc())?, empty]?;
-    let snapshot = Snapshot::new(moment(10)?, streams);
-    assert_eq!(rt; snapshot.moment().get(), 10);
+    let streams = vec![in rt.alloc(); snap(&rt, rt.alloc())?, empty].expect(&rt, "memory");
+    let snapshot = Snapshot::new(moment(10), streams);
+    assert_same(&rt, snapshot.moment().get(), 10);
     let [first, second] = snapshot.streams() else {
         panic!(rt; "two streams")
     };
-    assert_eq!(rt; (first.stream(), first.offered(), count(first)), (0, 6, 4));
-    assert_eq!(rt;
+    assert_same(
+        &rt,
+        (first.stream(), first.offered(), count(first)),
+        (0, 6, 4),
+    );
+    assert_same(
+        &rt,
         (second.stream(), second.offered(), count(second)),
-        (1, 0, 0)
+        (1, 0, 0),
     );
     Ok(())
 }
@@ -124,7 +138,7 @@ fn a_sink_that_fails(rt: HostRuntime) -> Result<(), Fail> {
     ] {
         let mut sink = WriterSink::new(Broken(bytes));
         let answer = write_snap(rt.alloc(), &mut sink, &snap);
-        assert_eq!(rt; answer, want, "after {bytes} bytes");
+        assert_same(&rt, (bytes, answer), (bytes, want));
     }
     Ok(())
 }
@@ -132,10 +146,10 @@ fn a_sink_that_fails(rt: HostRuntime) -> Result<(), Fail> {
 #[test]
 fn memory_is_refused(rt: HostRuntime) -> Result<(), Fail> {
     let snap = snap(&rt, rt.alloc())?;
-    let heap = LocalHeap::new(rt.alloc(), 64)?;
+    let heap = LocalHeap::new(rt.alloc(), 64).expect(&rt, "memory");
     let mut sink = MemorySink::new(rt.alloc(), 7);
     let answer = write_snap(&heap, &mut sink, &snap);
-    assert_eq!(rt; answer, Err(WriteFault::NoMemory));
+    assert_same(&rt, answer, Err(WriteFault::NoMemory));
     assert!(rt; sink.into_bytes().is_empty());
     Ok(())
 }

@@ -3,9 +3,10 @@
 use crate::answers::{CutFault, TakeFault};
 use crate::config::SessionMode;
 use crate::stream::Stream;
-use crate::worked::{PacketRow, at, is_look, small, small_stream, stored, stored_over};
+use crate::worked::{
+    PacketRow, assert_same, at, is_look, small, small_stream, stored, stored_over,
+};
 use std::alloc::{AllocError, Global};
-use std::test::Fail;
 use tr_book::{Counts, Mode};
 use tr_packet::{Packet, PacketView, decode_packet, encode_packet};
 use tr_record::{Rec, RecView};
@@ -68,8 +69,8 @@ fn packet_2(end: u64) -> PacketRow {
 }
 
 #[test]
-fn offers_in_a_snapshot_session(rt: HostRuntime) -> Result<(), Fail> {
-    let mut stream = snapshot_stream(rt.alloc())?;
+fn offers_in_a_snapshot_session(rt: HostRuntime) {
+    let mut stream = snapshot_stream(rt.alloc()).expect(&rt, "memory");
     let rows = [
         (1, stored(0, 0)),
         (2, stored(1, 0)),
@@ -80,35 +81,39 @@ fn offers_in_a_snapshot_session(rt: HostRuntime) -> Result<(), Fail> {
         (11, stored_over(6, 3, 1)),
     ];
     for (moment, answer) in rows {
-        assert_eq!(rt; stream.offer(at(moment), 7, &[97; 64]), answer);
+        assert_same(&rt, stream.offer(at(moment), 7, &[97; 64]), answer);
     }
-    Ok(())
 }
 
 #[test]
-fn nothing_is_consumed_in_a_snapshot_session(rt: HostRuntime) -> Result<(), Fail> {
-    let mut stream = filled_stream(rt.alloc())?;
-    assert_eq!(rt; stream.take(), Err(TakeFault::SnapshotMode));
-    assert_eq!(rt; stream.counts(), SIX_OFFERED);
-    assert_eq!(rt; stream.cut(at(8)), Err(CutFault::SnapshotMode));
-    assert_eq!(rt; stream.counts(), SIX_OFFERED);
+fn nothing_is_consumed_in_a_snapshot_session(rt: HostRuntime) {
+    let mut stream = filled_stream(rt.alloc()).expect(&rt, "memory");
+    assert_same(&rt, stream.take(), Err(TakeFault::SnapshotMode));
+    assert_same(&rt, stream.counts(), SIX_OFFERED);
+    assert_same(&rt, stream.cut(at(8)), Err(CutFault::SnapshotMode));
+    assert_same(&rt, stream.counts(), SIX_OFFERED);
     // The refused cut's moment wasn't stored, and it closed nothing.
-    assert!(rt; is_look(&stream.peek(at(7))?, 6, 0, &[CLOSED, packet_2(7)]));
-    Ok(())
+    assert!(rt;
+        is_look(
+            &stream.peek(at(7)).expect(&rt, "a look"),
+            6,
+            0,
+            &[CLOSED, packet_2(7)]
+        )
+    );
 }
 
 #[test]
-fn a_look_shows_the_ring_and_changes_nothing(rt: HostRuntime) -> Result<(), Fail> {
-    let stream = filled_stream(rt.alloc())?;
+fn a_look_shows_the_ring_and_changes_nothing(rt: HostRuntime) {
+    let stream = filled_stream(rt.alloc()).expect(&rt, "memory");
     for number in 1..3 {
-        let snap = stream.peek(at(10))?;
+        let snap = stream.peek(at(10)).expect(&rt, "a look");
         assert!(rt;
             is_look(&snap, 6, 0, &[CLOSED, packet_2(10)]),
             "look {number}"
         );
     }
-    assert_eq!(rt; stream.counts(), SIX_OFFERED);
-    Ok(())
+    assert_same(&rt, stream.counts(), SIX_OFFERED);
 }
 
 /// Packet 3 of that stream, which the offer at 11 began, with this end.
@@ -123,24 +128,23 @@ fn packet_3(end: u64) -> PacketRow {
 }
 
 #[test]
-fn a_later_look_shows_later_packets(rt: HostRuntime) -> Result<(), Fail> {
-    let mut stream = filled_stream(rt.alloc())?;
+fn a_later_look_shows_later_packets(rt: HostRuntime) {
+    let mut stream = filled_stream(rt.alloc()).expect(&rt, "memory");
     let _ = stream.offer(at(11), 7, &[97; 64]);
     // A look before the last moment that was stored is at that moment.
     for (moment, end) in [(12, 12), (3, 11)] {
-        let snap = stream.peek(at(moment))?;
+        let snap = stream.peek(at(moment)).expect(&rt, "a look");
         let rows = [packet_2(11), packet_3(end)];
         assert!(rt; is_look(&snap, 7, 0, &rows), "at {moment}");
     }
-    Ok(())
 }
 
 #[test]
-fn looks_at_a_stream_that_discards(rt: HostRuntime) -> Result<(), Fail> {
-    let mut stream = small_stream(rt.alloc(), Mode::Discard)?;
-    assert!(rt; is_look(&stream.peek(at(5))?, 0, 0, &[]));
+fn looks_at_a_stream_that_discards(rt: HostRuntime) {
+    let mut stream = small_stream(rt.alloc(), Mode::Discard).expect(&rt, "memory");
+    assert!(rt; is_look(&stream.peek(at(5)).expect(&rt, "a look"), 0, 0, &[]));
     stream.set_active(true);
-    assert!(rt; is_look(&stream.peek(at(5))?, 0, 0, &[]));
+    assert!(rt; is_look(&stream.peek(at(5)).expect(&rt, "a look"), 0, 0, &[]));
     for moment in 1..6 {
         let _ = stream.offer(at(moment), 7, &[97; 64]);
     }
@@ -158,8 +162,14 @@ fn looks_at_a_stream_that_discards(rt: HostRuntime) -> Result<(), Fail> {
         end: 8,
         records: &[(2, 3, 64), (3, 4, 64)],
     };
-    assert!(rt; is_look(&stream.peek(at(8))?, 5, 1, &[first, second]));
-    Ok(())
+    assert!(rt;
+        is_look(
+            &stream.peek(at(8)).expect(&rt, "a look"),
+            5,
+            1,
+            &[first, second]
+        )
+    );
 }
 
 /// Whether two records are the same, one of them read from bytes.
@@ -182,15 +192,14 @@ fn is_packet_read(view: &PacketView<'_>, packet: &Packet) -> bool {
 }
 
 #[test]
-fn packets_of_a_look_are_read_as_they_are(rt: HostRuntime) -> Result<(), Fail> {
-    let stream = filled_stream(rt.alloc())?;
-    let snap = stream.peek(at(10))?;
+fn packets_of_a_look_are_read_as_they_are(rt: HostRuntime) {
+    let stream = filled_stream(rt.alloc()).expect(&rt, "memory");
+    let snap = stream.peek(at(10)).expect(&rt, "a look");
     assert!(rt; snap.packets().len() == 2);
     for packet in snap.packets() {
-        let bytes = encode_packet(rt.alloc(), packet)?;
-        let (view, size) = decode_packet(&bytes)?;
-        assert_eq!(rt; (bytes.len(), size), (256, 256));
+        let bytes = encode_packet(rt.alloc(), packet).expect(&rt, "memory");
+        let (view, size) = decode_packet(&bytes).expect(&rt, "a packet");
+        assert_same(&rt, (bytes.len(), size), (256, 256));
         assert!(rt; is_packet_read(&view, packet));
     }
-    Ok(())
 }

@@ -4,9 +4,8 @@ use crate::answers::{CutDone, CutFault, OfferFault, Offered, TakeFault, Taken};
 use crate::events::{StreamAnswer, StreamEvent};
 use crate::payload::Payload;
 use crate::run::run_stream;
-use crate::worked::{PacketRow, at, is_look, small, stored};
+use crate::worked::{PacketRow, assert_same, at, is_look, small, stored};
 use std::alloc::{AllocError, Global};
-use std::test::Fail;
 use tr_book::Mode;
 
 /// An answer as a test expects it.
@@ -98,16 +97,17 @@ fn answers_told(alloc: Global) -> Result<[Told; 13], AllocError> {
 }
 
 #[test]
-fn a_run_answers_each_call(rt: HostRuntime) -> Result<(), Fail> {
+fn a_run_answers_each_call(rt: HostRuntime) {
     let alloc = rt.alloc();
-    let events = calls(alloc)?;
-    let (stream, answers) = run_stream(alloc, small(Mode::Discard), events.as_slice())?;
-    let told = answers_told(alloc)?;
-    assert_eq!(rt; answers.len(), told.len());
+    let events = calls(alloc).expect(&rt, "memory");
+    let (stream, answers) = run_stream(alloc, small(Mode::Discard), events.as_slice()).expect(
+        &rt, "a run",
+    );
+    let told = answers_told(alloc).expect(&rt, "answers");
+    assert_same(&rt, answers.len(), told.len());
     for (number, (got, wanted)) in answers.iter().zip(told.iter()).enumerate() {
         assert!(rt; same_answer(got, wanted), "answer {number}");
     }
-    assert_eq!(rt; stream.counts().in_ring, 0);
-    assert_eq!(rt; stream.counts().consumed, 5);
-    Ok(())
+    assert_same(&rt, stream.counts().in_ring, 0);
+    assert_same(&rt, stream.counts().consumed, 5);
 }

@@ -4,10 +4,17 @@ use crate::answers::{OfferFault, Offered};
 use crate::config::{SessionMode, StreamConfig};
 use crate::stream::Stream;
 use std::alloc::{AllocError, Global};
+use std::fmt::Debug;
+use std::process::Abort;
 use tr_book::{Geometry, Mode, StreamSnap};
 use tr_packet::{Head, Packet};
 use tr_record::{Moment, Rec};
 use uuid::Uuid;
+
+/// Holds what a test found to what it wanted. As a call without clauses it keeps the proofs of the tests short.
+pub fn assert_same<T: PartialEq + Debug + Drop>(rt: &impl Abort, found: T, wanted: T) {
+    assert_eq!(rt; found, wanted);
+}
 
 /// What a local session's stream 0 is made with.
 pub fn small(mode: Mode) -> StreamConfig {

@@ -11,10 +11,10 @@ use Rattle.tracerd.specs.Exports.{IsMadeBelow}
 use Rattle.tracerd.specs.declared.ending.Ending.{Ending}
 use Rattle.tracerd.specs.declared.ending.Ending.TheVariants.{Done, Refused, BadCommandLine, ReadOrWrite, NoMemory}
 
--- this went out, if it is anything
-abbrev pub WentOut : Option (List ℕ) → Option (List ℕ) → Option (List ℕ) → Type 0
-WentOut before after None = after ≡ before
-WentOut before after (Some line) = after ≡ and_then_bytes before line
+-- the line went out, if there is one
+abbrev pub GotLine : Option (List ℕ) → Option (List ℕ) → Option (List ℕ) → Type 0
+GotLine before after None = after ≡ before
+GotLine before after (Some line) = after ≡ and_then_bytes before line
 
 -- what the input had given, the output taken and the disk made before the run, and after it
 module _ (given given_now taken taken_now : Option (List ℕ)) (made made_now : Option Makings) where
@@ -52,7 +52,7 @@ HasNoFault input input_now output output_now disk disk_now = (input_now ≡ inpu
 -- what standard error had taken and how often it had failed, before the run and after it: it got the ending's line, if it
 -- didn't fail
 abbrev pub IsTold : Ending → (told told_now : Option (List ℕ)) → (failures failures_now : ℕ) → Type 0
-IsTold ending told told_now failures failures_now = WentOut told told_now (message_of ending) ⊎ (failures_now ≡ once_more failures)
+IsTold ending told told_now failures failures_now = GotLine told told_now (message_of ending) ⊎ (failures_now ≡ once_more failures)
 
 -- the run ended so: its status and its line say how
 pub record HasEnded (given given_now taken taken_now told told_now : Option (List ℕ)) (made made_now : Option Makings) (failures failures_now status : ℕ) : Type 0 where

@@ -4,10 +4,16 @@ mod exporting;
 
 use crate::running::{run, run_given};
 use std::alloc::Global;
+use std::fmt::Debug;
 use std::io;
-use std::test::Fail;
+use std::process::Abort;
 use tr_export::MemoryDisk;
 use tr_record::{MemorySink, MemorySource};
+
+/// Holds what a test found to what it wanted. As a call without clauses it keeps the proofs of the tests short.
+fn assert_same<T: PartialEq + Debug + Drop>(rt: &impl Abort, found: T, wanted: T) {
+    assert_eq!(rt; found, wanted);
+}
 
 /// The status, and whether these bytes went out and these to standard error, and no file was made.
 fn ends_with(
@@ -32,19 +38,19 @@ fn ends_with(
 }
 
 #[test]
-fn a_script_is_answered(rt: HostRuntime) -> Result<(), Fail> {
+fn a_script_is_answered(rt: HostRuntime) {
     let script =
         b"create s 00000000-0000-0000-0000-000000000001\nchannel s c 256 2 discard\nthread s c\nstart s 0";
     let answer = b"created s\nchannel c\nstream 0\nstarted\n";
-    assert_eq!(rt;
+    assert_same(
+        &rt,
         ends_with(rt.alloc(), &["script"], script, answer, b""),
-        (0, true)
+        (0, true),
     );
-    Ok(())
 }
 
 #[test]
-fn an_overwriting_ring_is_answered(rt: HostRuntime) -> Result<(), Fail> {
+fn an_overwriting_ring_is_answered(rt: HostRuntime) {
     let script = b"create s 00000000-0000-0000-0000-000000000001
 channel s c 256 2 overwrite
 thread s c
@@ -71,96 +77,108 @@ stored 5 in 2
 overwritten
 in ring 1
 ";
-    assert_eq!(rt;
+    assert_same(
+        &rt,
         ends_with(rt.alloc(), &["script"], script, answer, b""),
-        (0, true)
+        (0, true),
     );
-    Ok(())
 }
 
 #[test]
-fn nothing_gets_no_answer(rt: HostRuntime) -> Result<(), Fail> {
-    assert_eq!(rt;
+fn nothing_gets_no_answer(rt: HostRuntime) {
+    assert_same(
+        &rt,
         ends_with(rt.alloc(), &["script"], b"", b"", b""),
-        (0, true)
+        (0, true),
     );
-    assert_eq!(rt;
+    assert_same(
+        &rt,
         ends_with(rt.alloc(), &["script"], b"# x\n\n", b"", b""),
-        (0, true)
+        (0, true),
     );
-    Ok(())
 }
 
 #[test]
-fn a_refused_line_shows_in_the_status(rt: HostRuntime) -> Result<(), Fail> {
+fn a_refused_line_shows_in_the_status(rt: HostRuntime) {
     let answer = b"refused K1 NoSession\n";
-    assert_eq!(rt;
+    assert_same(
+        &rt,
         ends_with(
             rt.alloc(),
             &["script"],
             b"offer nobody 0 1 1\n",
             answer,
-            b""
+            b"",
         ),
-        (1, true)
+        (1, true),
     );
-    assert_eq!(rt;
+    assert_same(
+        &rt,
         ends_with(rt.alloc(), &["script"], b"nonsense\n", b"bad line\n", b""),
-        (1, true)
+        (1, true),
     );
-    Ok(())
 }
 
 #[test]
-fn a_bad_command_line_is_told(rt: HostRuntime) -> Result<(), Fail> {
+fn a_bad_command_line_is_told(rt: HostRuntime) {
     let fault = b"tracerd: bad command line\n";
     let script = b"offer nobody 0 1 1\n";
-    assert_eq!(rt; ends_with(rt.alloc(), &[], script, b"", fault), (2, true));
-    assert_eq!(rt;
+    assert_same(
+        &rt,
+        ends_with(rt.alloc(), &[], script, b"", fault),
+        (2, true),
+    );
+    assert_same(
+        &rt,
         ends_with(rt.alloc(), &["scripts"], script, b"", fault),
-        (2, true)
+        (2, true),
     );
-    assert_eq!(rt;
+    assert_same(
+        &rt,
         ends_with(rt.alloc(), &["script", "x"], script, b"", fault),
-        (2, true)
+        (2, true),
     );
-    assert_eq!(rt;
+    assert_same(
+        &rt,
         ends_with(rt.alloc(), &["--help"], script, b"", fault),
-        (2, true)
+        (2, true),
     );
-    assert_eq!(rt;
+    assert_same(
+        &rt,
         ends_with(rt.alloc(), &["help", "script"], script, b"", fault),
-        (2, true)
+        (2, true),
     );
-    Ok(())
 }
 
 #[test]
-fn a_bad_folder_is_told(rt: HostRuntime) -> Result<(), Fail> {
+fn a_bad_folder_is_told(rt: HostRuntime) {
     let fault = b"tracerd: bad command line\n";
-    assert_eq!(rt;
+    assert_same(
+        &rt,
         ends_with(rt.alloc(), &["script", "--out"], b"", b"", fault),
-        (2, true)
+        (2, true),
     );
-    assert_eq!(rt;
+    assert_same(
+        &rt,
         ends_with(rt.alloc(), &["script", "--out", ""], b"", b"", fault),
-        (2, true)
+        (2, true),
     );
-    assert_eq!(rt;
+    assert_same(
+        &rt,
         ends_with(
             rt.alloc(),
             &["script", "--out", "d", "--out", "e"],
             b"",
             b"",
-            fault
+            fault,
         ),
-        (2, true)
+        (2, true),
     );
-    assert_eq!(rt;
+    assert_same(
+        &rt,
         ends_with(rt.alloc(), &["--out", "d", "script"], b"", b"", fault),
-        (2, true)
+        (2, true),
     );
-    Ok(())
 }
 
 /// The status where the arguments can't be taken, and whether nothing went out but this line to standard error.
@@ -177,12 +195,19 @@ fn ends_without_arguments(alloc: Global, kind: io::ErrorKind, fault: &[u8]) -> (
 }
 
 #[test]
-fn arguments_that_cannot_be_taken_are_told(rt: HostRuntime) -> Result<(), Fail> {
+fn arguments_that_cannot_be_taken_are_told(rt: HostRuntime) {
     let kind = io::ErrorKind::InvalidData;
     let fault = b"tracerd: bad command line\n";
-    assert_eq!(rt; ends_without_arguments(rt.alloc(), kind, fault), (2, true));
+    assert_same(
+        &rt,
+        ends_without_arguments(rt.alloc(), kind, fault),
+        (2, true),
+    );
     let kind = io::ErrorKind::OutOfMemory;
     let fault = b"tracerd: no memory\n";
-    assert_eq!(rt; ends_without_arguments(rt.alloc(), kind, fault), (4, true));
-    Ok(())
+    assert_same(
+        &rt,
+        ends_without_arguments(rt.alloc(), kind, fault),
+        (4, true),
+    );
 }

@@ -1,6 +1,7 @@
 //! Names of archives, against the calendars of Python and of `date`.
 
 use super::*;
+use crate::tests::assert_same;
 use std::alloc::Global;
 use std::test::Fail;
 
@@ -16,13 +17,15 @@ fn name(alloc: Global, begin: u64, end: u64, minutes: i32, id: u64) -> Result<St
 #[test]
 fn worked_examples(rt: HostRuntime) -> Result<(), Fail> {
     let begin = 1_700_000_000 * SECOND;
-    assert_eq!(rt;
+    assert_same(
+        &rt,
         name(rt.alloc(), begin, begin + 60 * SECOND, -300, 0)?.as_str(),
-        "20231114T171320-0500-20231114T171420-0500-0"
+        "20231114T171320-0500-20231114T171420-0500-0",
     );
-    assert_eq!(rt;
+    assert_same(
+        &rt,
         name(rt.alloc(), 0, 0, -30, 3)?.as_str(),
-        "19691231T233000-0030-19691231T233000-0030-3"
+        "19691231T233000-0030-19691231T233000-0030-3",
     );
     Ok(())
 }
@@ -49,16 +52,18 @@ fn ends_of_the_range(rt: HostRuntime) -> Result<(), Fail> {
         (last, 1439, 1, "22550315T155900+2359-22550315T155900+2359-1"),
     ];
     for (moment, minutes, id, want) in rows {
-        assert_eq!(rt;
+        assert_same(
+            &rt,
             name(rt.alloc(), moment, moment, minutes, id)?.as_str(),
-            want
+            want,
         );
     }
     assert!(rt; OffsetMinutes::new(-1_440).is_none());
     assert!(rt; OffsetMinutes::new(1_440).is_none());
-    assert_eq!(rt;
-        OffsetMinutes::new(-1_439).ok_or("an offset")?.get(),
-        -1_439
+    assert_same(
+        &rt,
+        OffsetMinutes::new(-1_439).expect(&rt, "an offset").get(),
+        -1_439,
     );
     Ok(())
 }
@@ -118,7 +123,7 @@ fn leap_days_and_years(rt: HostRuntime) -> Result<(), Fail> {
             minutes,
             9,
         )?;
-        assert_eq!(rt; name.as_str(), want);
+        assert_same(&rt, name.as_str(), want);
     }
     Ok(())
 }

@@ -2,7 +2,7 @@
 
 ghost use Rattle.std.specs.Prelude.{◌≡◌};
 
-use super::rotated;
+use super::{assert_same, rotated};
 use crate::counting::one_more;
 use crate::disk::Disk;
 use crate::faults::ExportFault;
@@ -122,8 +122,8 @@ fn each_failed_call_is_told(rt: HostRuntime) -> Result<(), Fail> {
         };
         let mut disk = disk(calls, 4096, 4096);
         let answer = write_archives(rt.alloc(), &mut disk, "d", "s", &session);
-        assert_eq!(rt; answer, wanted, "after {calls} calls");
-        assert_eq!(rt; disk.failures, Some(u64::from(calls < 5)));
+        assert_same(&rt, (calls, answer), (calls, wanted));
+        assert_same(&rt, disk.failures, Some(u64::from(calls < 5)));
     }
     Ok(())
 }
@@ -136,14 +136,14 @@ fn a_file_that_is_cut_short_is_told(rt: HostRuntime) -> Result<(), Fail> {
     for (first, later) in short {
         let mut disk = disk(9, first, later);
         let answer = write_archives(rt.alloc(), &mut disk, "d", "s", &session);
-        assert_eq!(rt;
-            answer,
-            Err(ExportFault::Write),
-            "at {first} and {later} bytes"
+        assert_same(
+            &rt,
+            (first, later, answer),
+            (first, later, Err(ExportFault::Write)),
         );
-        assert_eq!(rt; disk.failures, Some(1));
+        assert_same(&rt, disk.failures, Some(1));
     }
     let answer = write_archives(rt.alloc(), &mut disk(9, 1082, 484), "d", "s", &session);
-    assert_eq!(rt; answer, Ok(()));
+    assert_same(&rt, answer, Ok(()));
     Ok(())
 }

@@ -1,6 +1,6 @@
 //! Archives in the file system.
 
-use super::{rotated, session_of, uuid};
+use super::{assert_same, rotated, session_of, uuid};
 use crate::faults::ExportFault;
 use crate::system::SystemDisk;
 use crate::writing::write_archives;
@@ -34,7 +34,7 @@ fn read(rt: &HostRuntime, dir: &str, file: &str) -> Result<Vec<u8>, Fail> {
 
 /// Whether the files of the archive of `rotated` are there, each with all its bytes.
 fn has_files(rt: &HostRuntime, dir: &str) -> Result<bool, Fail> {
-    let text = metadata_text(rt.alloc(), &uuid()?)?;
+    let text = metadata_text(rt.alloc(), &uuid())?;
     let metadata = read(rt, dir, "metadata")?;
     let stream = read(rt, dir, "c_0")?;
     let second = stream.get(228..232);
@@ -50,13 +50,13 @@ fn files_are_written_and_replaced(rt: HostRuntime) -> Result<(), Fail> {
     let dir = free_path(&rt, "files")?;
     let session = rotated(rt.alloc())?;
     let mut disk = SystemDisk::new(&rt);
-    write_archives(rt.alloc(), &mut disk, dir.as_str(), "s", &session)?;
+    write_archives(rt.alloc(), &mut disk, dir.as_str(), "s", &session).expect(&rt, "archives");
     assert!(rt; has_files(&rt, dir.as_str())?);
     let path = path_in(&rt, dir.as_str(), "c_0")?;
-    fs::write(&rt, path.as_str(), [0x62; 600].as_slice())?;
-    write_archives(rt.alloc(), &mut disk, dir.as_str(), "s", &session)?;
+    fs::write(&rt, path.as_str(), [0x62; 600].as_slice()).expect(&rt, "the file system");
+    write_archives(rt.alloc(), &mut disk, dir.as_str(), "s", &session).expect(&rt, "archives");
     assert!(rt; has_files(&rt, dir.as_str())?);
-    fs::remove_dir_all(&rt, dir.as_str())?;
+    fs::remove_dir_all(&rt, dir.as_str()).expect(&rt, "the file system");
     Ok(())
 }
 
@@ -65,23 +65,24 @@ fn without_an_archive_there_is_no_folder(rt: HostRuntime) -> Result<(), Fail> {
     let dir = free_path(&rt, "nothing")?;
     let session = session_of(rt.alloc())?;
     let mut disk = SystemDisk::new(&rt);
-    write_archives(rt.alloc(), &mut disk, dir.as_str(), "s", &session)?;
-    assert!(rt; !fs::exists(&rt, dir.as_str())?);
+    write_archives(rt.alloc(), &mut disk, dir.as_str(), "s", &session).expect(&rt, "archives");
+    assert!(rt; !fs::exists(&rt, dir.as_str()).expect(&rt, "the file system"));
     Ok(())
 }
 
 #[test]
 fn a_file_in_the_folder_s_place_is_told(rt: HostRuntime) -> Result<(), Fail> {
     let dir = free_path(&rt, "taken")?;
-    fs::create_dir_all(&rt, dir.as_str())?;
-    let taken = format!(in rt.alloc(); "{dir}/s")?;
-    fs::write(&rt, taken.as_str(), "here")?;
+    fs::create_dir_all(&rt, dir.as_str()).expect(&rt, "the file system");
+    let taken = format!(in rt.alloc(); "{dir}/s").expect(&rt, "memory");
+    fs::write(&rt, taken.as_str(), "here").expect(&rt, "the file system");
     let session = rotated(rt.alloc())?;
     let mut disk = SystemDisk::new(&rt);
-    assert_eq!(rt;
+    assert_same(
+        &rt,
         write_archives(rt.alloc(), &mut disk, dir.as_str(), "s", &session),
-        Err(ExportFault::Write)
+        Err(ExportFault::Write),
     );
-    fs::remove_dir_all(&rt, dir.as_str())?;
+    fs::remove_dir_all(&rt, dir.as_str()).expect(&rt, "the file system");
     Ok(())
 }

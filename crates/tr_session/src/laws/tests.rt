@@ -1,5 +1,6 @@
 //! The audit of the files that streams leave.
 
+use crate::tests::assert_same;
 use std::alloc::{AllocError, Global};
 use std::test::Fail;
 use tr_book::{Geometry, Mode};
@@ -58,21 +59,21 @@ fn audit(alloc: Global, pieces: &[&[u8]]) -> Result<StreamAudit, AuditFault> {
 fn the_audit_finds_what_was_discarded(rt: HostRuntime) -> Result<(), Fail> {
     let alloc = rt.alloc();
     let bytes = discarding_file(alloc)?;
-    assert_eq!(rt; bytes.len(), 484);
+    assert_same(&rt, bytes.len(), 484);
     let Ok(found) = audit(alloc, &[&bytes]) else {
         panic!(rt; "an audit")
     };
-    assert_eq!(rt; (found.packets, found.records), (2, 5));
+    assert_same(&rt, (found.packets, found.records), (2, 5));
     assert!(rt; found.gaps.as_slice().is_empty());
-    assert_eq!(rt; (found.last_seq, found.last_serial), (Some(1), Some(5)));
-    assert_eq!(rt; found.last_lost, 1);
+    assert_same(&rt, (found.last_seq, found.last_serial), (Some(1), Some(5)));
+    assert_same(&rt, found.last_lost, 1);
     Ok(())
 }
 
 #[test]
 fn the_audit_finds_what_was_overwritten(rt: HostRuntime) -> Result<(), Fail> {
     let alloc = rt.alloc();
-    let mut stream = small_stream(alloc, Mode::Overwrite)?;
+    let mut stream = small_stream(alloc, Mode::Overwrite).expect(&rt, "memory");
     for moment in 1..7 {
         let _ = stream.offer(at(moment), 7, &[97; 64]);
     }
@@ -82,14 +83,14 @@ fn the_audit_finds_what_was_overwritten(rt: HostRuntime) -> Result<(), Fail> {
     }
     let _ = stream.cut(at(20));
     let bytes = file(alloc, &stream)?;
-    assert_eq!(rt; bytes.len(), 768);
+    assert_same(&rt, bytes.len(), 768);
     let Ok(found) = audit(alloc, &[&bytes]) else {
         panic!(rt; "an audit")
     };
-    assert_eq!(rt; (found.packets, found.records), (3, 6));
+    assert_same(&rt, (found.packets, found.records), (3, 6));
     assert!(rt; *found.gaps.as_slice() == *[(0, 1), (2, 1)].as_slice());
-    assert_eq!(rt; (found.last_seq, found.last_serial), (Some(4), Some(9)));
-    assert_eq!(rt; found.last_lost, 0);
+    assert_same(&rt, (found.last_seq, found.last_serial), (Some(4), Some(9)));
+    assert_same(&rt, found.last_lost, 0);
     Ok(())
 }
 
@@ -105,7 +106,7 @@ fn the_audit_names_the_packet_at_fault(rt: HostRuntime) -> Result<(), Fail> {
         })
     };
     let short = fault(0, 228, AuditCause::Packet(PacketFault::Short));
-    let cut = bytes.get(..483).ok_or("483 bytes")?;
+    let cut = bytes.get(..483).expect(&rt, "483 bytes");
     assert!(rt; audit(alloc, &[cut]).err() == short);
     let again = fault(1, 0, AuditCause::NumberRepeat);
     assert!(rt; audit(alloc, &[&bytes, &bytes]).err() == again);

@@ -1,3 +1,4 @@
+use crate::tests::{assert_same, moment};
 use crate::*;
 use std::alloc::Global;
 use std::test::Fail;
@@ -10,10 +11,6 @@ use uuid::Uuid;
 
 const PAYLOAD: [u8; 64] = [0x61; 64];
 
-fn moment(nanoseconds: u64) -> Result<Moment, Fail> {
-    Ok(Moment::new(nanoseconds).ok_or("a moment")?)
-}
-
 /// A session of so many streams with two sub-buffers of 256 bytes each, that was started at moment 0.
 fn started(alloc: Global, streams: u64, mode: Mode) -> Result<Session, Fail> {
     let offset = OffsetMinutes::new(0).ok_or("an offset")?;
@@ -22,36 +19,37 @@ fn started(alloc: Global, streams: u64, mode: Mode) -> Result<Session, Fail> {
     for _ in 0..streams {
         session.add_thread("c")?;
     }
-    session.start(moment(0)?)?;
+    session.start(moment(0))?;
     Ok(session)
 }
 
 /// Offers a payload of 64 bytes with the id 7: two of them fill a sub-buffer.
-fn offer(session: &mut Session, i: u64, at: u64) -> Result<Offered, Fail> {
-    Ok(session.offer(i, moment(at)?, 7, &PAYLOAD)?)
+fn offer(session: &mut Session, i: u64, at: u64) -> Result<Offered, StepFault> {
+    session.offer(i, moment(at), 7, &PAYLOAD)
 }
 
-fn archive(id: u64, begin: u64, end: u64) -> Result<Archive, Fail> {
-    Ok(Archive {
+fn archive(id: u64, begin: u64, end: u64) -> Archive {
+    Archive {
         id,
-        begin: moment(begin)?,
-        end: moment(end)?,
-    })
+        begin: moment(begin),
+        end: moment(end),
+    }
 }
 
 #[test]
 fn an_empty_session_rotates(rt: HostRuntime) -> Result<(), Fail> {
     let mut session = started(rt.alloc(), 0, Mode::Discard)?;
-    assert_eq!(rt; session.rotate_begin(moment(5)?), Ok(0));
-    assert_eq!(rt; session.rotate_next(), Ok(Next::AllCut));
-    assert_eq!(rt; session.rotate_finish(), Ok(archive(0, 0, 5)?));
-    assert_eq!(rt; session.rotate(moment(7)?), Ok(archive(1, 5, 7)?));
-    assert_eq!(rt;
+    assert_same(&rt, session.rotate_begin(moment(5)), Ok(0));
+    assert_same(&rt, session.rotate_next(), Ok(Next::AllCut));
+    assert_same(&rt, session.rotate_finish(), Ok(archive(0, 0, 5)));
+    assert_same(&rt, session.rotate(moment(7)), Ok(archive(1, 5, 7)));
+    assert_same(
+        &rt,
         session.book().archives(),
-        [archive(0, 0, 5)?, archive(1, 5, 7)?].as_slice()
+        [archive(0, 0, 5), archive(1, 5, 7)].as_slice(),
     );
     let size = session.archive_size(0);
-    assert_eq!(rt; (size.packets, size.records, size.bytes), (0, 0, 0));
+    assert_same(&rt, (size.packets, size.records, size.bytes), (0, 0, 0));
     Ok(())
 }
 
@@ -59,25 +57,28 @@ fn an_empty_session_rotates(rt: HostRuntime) -> Result<(), Fail> {
 #[test]
 fn chunks_follow_each_other(rt: HostRuntime) -> Result<(), Fail> {
     let mut session = started(rt.alloc(), 1, Mode::Discard)?;
-    assert_eq!(rt; session.rotate(moment(9)?), Ok(archive(0, 0, 9)?));
-    assert_eq!(rt; session.rotate(moment(4)?), Ok(archive(1, 9, 9)?));
-    assert_eq!(rt;
+    assert_same(&rt, session.rotate(moment(9)), Ok(archive(0, 0, 9)));
+    assert_same(&rt, session.rotate(moment(4)), Ok(archive(1, 9, 9)));
+    assert_same(
+        &rt,
         (session.book().begin().get(), session.book().last().get()),
-        (9, 9)
+        (9, 9),
     );
-    assert_eq!(rt;
+    assert_same(
+        &rt,
         offer(&mut session, 0, 10)?,
-        Offered::Stored { serial: 0, seq: 0 }
+        Offered::Stored { serial: 0, seq: 0 },
     );
-    assert_eq!(rt; session.rotate(moment(12)?), Ok(archive(2, 9, 12)?));
-    let stream = session.stream(0).ok_or("a stream")?;
-    let packets = stream.part(2).ok_or("a part")?.packets();
+    assert_same(&rt, session.rotate(moment(12)), Ok(archive(2, 9, 12)));
+    let stream = session.stream(0).expect(&rt, "a stream");
+    let packets = stream.part(2).expect(&rt, "a part").packets();
     let [packet] = packets else {
         return Err("one packet".into());
     };
-    assert_eq!(rt;
+    assert_same(
+        &rt,
         (packet.head().begin.get(), packet.head().end.get()),
-        (10, 12)
+        (10, 12),
     );
     Ok(())
 }
@@ -86,63 +87,71 @@ fn chunks_follow_each_other(rt: HostRuntime) -> Result<(), Fail> {
 fn refusals_of_a_rotation(rt: HostRuntime) -> Result<(), Fail> {
     let mut session = started(rt.alloc(), 1, Mode::Discard)?;
     let none = StepFault::Session(SessionFault::NotPending);
-    assert_eq!(rt; session.rotate_next(), Err(none));
-    assert_eq!(rt; session.cut(0), Err(none));
-    assert_eq!(rt; session.rotate_finish(), Err(SessionFault::NotPending));
-    assert_eq!(rt; session.rotate_begin(moment(10)?), Ok(0));
-    assert_eq!(rt;
-        session.rotate_begin(moment(11)?),
-        Err(SessionFault::RotationPending)
+    assert_same(&rt, session.rotate_next(), Err(none));
+    assert_same(&rt, session.cut(0), Err(none));
+    assert_same(&rt, session.rotate_finish(), Err(SessionFault::NotPending));
+    assert_same(&rt, session.rotate_begin(moment(10)), Ok(0));
+    assert_same(
+        &rt,
+        session.rotate_begin(moment(11)),
+        Err(SessionFault::RotationPending),
     );
-    assert_eq!(rt;
-        session.rotate(moment(11)?),
-        Err(SessionFault::RotationPending)
+    assert_same(
+        &rt,
+        session.rotate(moment(11)),
+        Err(SessionFault::RotationPending),
     );
-    assert_eq!(rt;
-        session.start(moment(11)?),
-        Err(SessionFault::RotationPending)
+    assert_same(
+        &rt,
+        session.start(moment(11)),
+        Err(SessionFault::RotationPending),
     );
-    assert_eq!(rt; session.stop(), Err(SessionFault::RotationPending));
-    assert_eq!(rt; session.rotate_finish(), Err(SessionFault::CutMissing));
-    assert_eq!(rt;
+    assert_same(&rt, session.stop(), Err(SessionFault::RotationPending));
+    assert_same(&rt, session.rotate_finish(), Err(SessionFault::CutMissing));
+    assert_same(
+        &rt,
         session.rotate_next(),
         Ok(Next::Cut {
             stream: 0,
-            records: 0
-        })
+            records: 0,
+        }),
     );
-    assert_eq!(rt; session.rotate_next(), Ok(Next::AllCut));
-    assert_eq!(rt; session.rotate_finish(), Ok(archive(0, 0, 10)?));
-    assert_eq!(rt; session.rotate_finish(), Err(SessionFault::NotPending));
+    assert_same(&rt, session.rotate_next(), Ok(Next::AllCut));
+    assert_same(&rt, session.rotate_finish(), Ok(archive(0, 0, 10)));
+    assert_same(&rt, session.rotate_finish(), Err(SessionFault::NotPending));
     Ok(())
 }
 
 #[test]
 fn streams_are_cut_in_order(rt: HostRuntime) -> Result<(), Fail> {
     let mut session = started(rt.alloc(), 2, Mode::Discard)?;
-    session.rotate_begin(moment(10)?)?;
-    assert_eq!(rt;
+    session.rotate_begin(moment(10)).expect(&rt, "a rotation");
+    assert_same(
+        &rt,
         session.cut(2),
-        Err(StepFault::Session(SessionFault::NoStream))
+        Err(StepFault::Session(SessionFault::NoStream)),
     );
-    assert_eq!(rt;
+    assert_same(
+        &rt,
         session.cut(1),
-        Err(StepFault::Session(SessionFault::CutMissing))
+        Err(StepFault::Session(SessionFault::CutMissing)),
     );
     let nothing = CutDone {
         chunk: 0,
         packets: 0,
         records: 0,
     };
-    assert_eq!(rt; session.cut(0), Ok(nothing));
-    assert_eq!(rt;
+    assert_same(&rt, session.cut(0), Ok(nothing));
+    assert_same(
+        &rt,
         session.cut(0),
-        Err(StepFault::Session(SessionFault::NotPending))
+        Err(StepFault::Session(SessionFault::NotPending)),
     );
-    assert_eq!(rt; session.cut(1), Ok(nothing));
-    assert_eq!(rt;
+    assert_same(&rt, session.cut(1), Ok(nothing));
+    assert_same(
+        &rt,
         session.cut(2),
-        Err(StepFault::Session(SessionFault::NoStream))
+        Err(StepFault::Session(SessionFault::NoStream)),
     );
     Ok(())
 }
@@ -150,36 +159,40 @@ fn streams_are_cut_in_order(rt: HostRuntime) -> Result<(), Fail> {
 #[test]
 fn a_stopped_session_rotates_once(rt: HostRuntime) -> Result<(), Fail> {
     let mut session = started(rt.alloc(), 1, Mode::Discard)?;
-    assert_eq!(rt; session.stop(), Ok(()));
-    assert_eq!(rt; session.stop(), Err(SessionFault::NotActive));
+    assert_same(&rt, session.stop(), Ok(()));
+    assert_same(&rt, session.stop(), Err(SessionFault::NotActive));
     let inactive = StepFault::Offer(OfferFault::Inactive);
-    assert_eq!(rt; session.offer(0, moment(1)?, 1, &PAYLOAD), Err(inactive));
-    assert_eq!(rt; session.rotate(moment(1)?), Ok(archive(0, 0, 1)?));
-    assert_eq!(rt;
-        session.rotate(moment(2)?),
-        Err(SessionFault::AlreadyRotated)
+    assert_same(&rt, session.offer(0, moment(1), 1, &PAYLOAD), Err(inactive));
+    assert_same(&rt, session.rotate(moment(1)), Ok(archive(0, 0, 1)));
+    assert_same(
+        &rt,
+        session.rotate(moment(2)),
+        Err(SessionFault::AlreadyRotated),
     );
-    assert_eq!(rt; session.start(moment(3)?), Ok(()));
-    assert_eq!(rt; session.rotate(moment(4)?), Ok(archive(1, 1, 4)?));
-    session.stop()?;
-    assert_eq!(rt; session.rotate(moment(5)?), Ok(archive(2, 4, 5)?));
+    assert_same(&rt, session.start(moment(3)), Ok(()));
+    assert_same(&rt, session.rotate(moment(4)), Ok(archive(1, 1, 4)));
+    session.stop().expect(&rt, "a stop");
+    assert_same(&rt, session.rotate(moment(5)), Ok(archive(2, 4, 5)));
     Ok(())
 }
 
 #[test]
-fn a_new_session_has_no_chunk(rt: HostRuntime) -> Result<(), Fail> {
-    let offset = OffsetMinutes::new(-30).ok_or("an offset")?;
+fn a_new_session_has_no_chunk(rt: HostRuntime) {
+    let offset = OffsetMinutes::new(-30).expect(&rt, "an offset");
     let mut session = Session::new(rt.alloc(), Uuid::nil(), offset, SessionMode::Local);
-    assert_eq!(rt; session.rotate(moment(1)?), Err(SessionFault::NeverStarted));
-    assert_eq!(rt; session.stop(), Err(SessionFault::NotActive));
-    assert_eq!(rt; session.book().offset().get(), -30);
-    assert_eq!(rt; session.book().pending(), None);
-    session.start(moment(20)?)?;
-    session.stop()?;
-    session.start(moment(30)?)?;
-    assert_eq!(rt; session.book().begin().get(), 20);
-    assert_eq!(rt; session.rotate(moment(40)?), Ok(archive(0, 20, 40)?));
-    Ok(())
+    assert_same(
+        &rt,
+        session.rotate(moment(1)),
+        Err(SessionFault::NeverStarted),
+    );
+    assert_same(&rt, session.stop(), Err(SessionFault::NotActive));
+    assert_same(&rt, session.book().offset().get(), -30);
+    assert_same(&rt, session.book().pending(), None);
+    session.start(moment(20)).expect(&rt, "a start");
+    session.stop().expect(&rt, "a stop");
+    session.start(moment(30)).expect(&rt, "a start");
+    assert_same(&rt, session.book().begin().get(), 20);
+    assert_same(&rt, session.rotate(moment(40)), Ok(archive(0, 20, 40)));
 }
 
 // of six records of 88 bytes the first two gave way; two of the next four push out two others
@@ -194,32 +207,36 @@ fn an_overwritten_packet_is_in_no_archive(rt: HostRuntime) -> Result<(), Fail> {
         count: 2,
         chunk: 0,
     };
-    assert_eq!(rt; session.take(0), Ok(taken));
+    assert_same(&rt, session.take(0), Ok(taken));
     for at in 7..11 {
         let _ = offer(&mut session, 0, at)?;
     }
-    assert_eq!(rt; session.rotate(moment(20)?), Ok(archive(0, 0, 20)?));
+    assert_same(&rt, session.rotate(moment(20)), Ok(archive(0, 0, 20)));
     let size = session.archive_size(0);
-    assert_eq!(rt; (size.packets, size.records, size.bytes), (3, 6, 768));
-    assert_eq!(rt; session.archive_size(1).packets, 0);
-    assert_eq!(rt; session.fate_of(0, 4), Ok(Some(Fate::Overwritten)));
-    assert_eq!(rt;
+    assert_same(&rt, (size.packets, size.records, size.bytes), (3, 6, 768));
+    assert_same(&rt, session.archive_size(1).packets, 0);
+    assert_same(&rt, session.fate_of(0, 4), Ok(Some(Fate::Overwritten)));
+    assert_same(
+        &rt,
         session.fate_of(0, 9),
-        Ok(Some(Fate::InChunk { chunk: 0, seq: 4 }))
+        Ok(Some(Fate::InChunk { chunk: 0, seq: 4 })),
     );
     Ok(())
 }
 
 #[test]
-fn the_book_tells_each_stream_s_channel(rt: HostRuntime) -> Result<(), Fail> {
-    let offset = OffsetMinutes::new(0).ok_or("an offset")?;
+fn the_book_tells_each_stream_s_channel(rt: HostRuntime) {
+    let offset = OffsetMinutes::new(0).expect(&rt, "an offset");
     let mut session = Session::new(rt.alloc(), Uuid::nil(), offset, SessionMode::Local);
-    session.add_channel("c", 256, 2, Mode::Discard)?;
-    session.add_channel("d", 512, 2, Mode::Overwrite)?;
-    assert_eq!(rt; session.add_thread("d")?, 0);
-    assert_eq!(rt; session.add_thread("c")?, 1);
-    assert_eq!(rt; session.book().channel_of(0), Some("d"));
-    assert_eq!(rt; session.book().channel_of(1), Some("c"));
-    assert_eq!(rt; session.book().channel_of(2), None);
-    Ok(())
+    session
+        .add_channel("c", 256, 2, Mode::Discard)
+        .expect(&rt, "a channel");
+    session
+        .add_channel("d", 512, 2, Mode::Overwrite)
+        .expect(&rt, "a channel");
+    assert_same(&rt, session.add_thread("d"), Ok(0));
+    assert_same(&rt, session.add_thread("c"), Ok(1));
+    assert_same(&rt, session.book().channel_of(0), Some("d"));
+    assert_same(&rt, session.book().channel_of(1), Some("c"));
+    assert_same(&rt, session.book().channel_of(2), None);
 }

@@ -1,5 +1,6 @@
 use super::*;
 use crate::StepFault;
+use crate::tests::{assert_same, moment};
 use std::alloc::Global;
 use std::test::Fail;
 use tr_book::Mode;
@@ -9,10 +10,6 @@ use tr_session_book::Archive;
 use tr_snapshot::{count, oldest_serial};
 use tr_stream::{CutDone, Fate, Offered, Payload, SessionMode, Taken};
 use uuid::Uuid;
-
-fn moment(nanoseconds: u64) -> Result<Moment, Fail> {
-    Ok(Moment::new(nanoseconds).ok_or("a moment")?)
-}
 
 /// One channel, of a sub-buffer's size and so many threads.
 fn config(alloc: Global, size: u64, threads: u64) -> Result<Config, Fail> {
@@ -49,7 +46,7 @@ fn offer(alloc: Global, i: u64, at: u64) -> Result<Event, Fail> {
     for _ in 0..50 {
         bytes.push(b'a')?;
     }
-    Ok(Event::Offer(i, moment(at)?, 1, Payload::new(bytes)))
+    Ok(Event::Offer(i, moment(at), 1, Payload::new(bytes)))
 }
 
 fn stored(serial: u64, seq: u64) -> Answer {
@@ -73,12 +70,12 @@ fn cut(packets: u64, records: u64) -> Answer {
 }
 
 /// The archive of the first rotation, which ends at this moment.
-fn archive(end: u64) -> Result<Archive, Fail> {
-    Ok(Archive {
+fn archive(end: u64) -> Archive {
+    Archive {
         id: 0,
-        begin: moment(0)?,
-        end: moment(end)?,
-    })
+        begin: moment(0),
+        end: moment(end),
+    }
 }
 
 /// Whether an answer is the wanted one. Answers that show a stream aren't compared here.
@@ -114,12 +111,12 @@ fn first_difference(answers: &[Answer], wanted: &[Answer]) -> Option<usize> {
 /// Two streams, up to the cut of the first one.
 fn until_the_first_cut(alloc: Global) -> Result<Vec<Event>, Fail> {
     let mut events = Vec::new(alloc);
-    events.push(Event::SessionStart(moment(0)?))?;
+    events.push(Event::SessionStart(moment(0)))?;
     events.push(Event::Start(0))?;
     events.push(Event::Start(1))?;
     events.push(offer(alloc, 0, 1)?)?;
     events.push(offer(alloc, 1, 1)?)?;
-    events.push(Event::RotateBegin(moment(10)?))?;
+    events.push(Event::RotateBegin(moment(10)))?;
     events.push(Event::Cut(0))?;
     Ok(events)
 }
@@ -128,7 +125,9 @@ fn until_the_first_cut(alloc: Global) -> Result<Vec<Event>, Fail> {
 fn a_rotation_begins(rt: HostRuntime) -> Result<(), Fail> {
     let config = config(rt.alloc(), 256, 2)?;
     let events = until_the_first_cut(rt.alloc())?;
-    let (session, answers) = run_session(rt.alloc(), &config, events.as_slice())?;
+    let (session, answers) = run_session(rt.alloc(), &config, events.as_slice()).expect(
+        &rt, "a run",
+    );
     let wanted = [
         Answer::SessionStart(Ok(())),
         Answer::Start(Ok(())),
@@ -138,11 +137,16 @@ fn a_rotation_begins(rt: HostRuntime) -> Result<(), Fail> {
         Answer::RotateBegin(Ok(0)),
         cut(1, 1),
     ];
-    assert_eq!(rt;
+    assert_same(
+        &rt,
         first_difference(answers.as_slice(), wanted.as_slice()),
-        None
+        None,
     );
-    assert_eq!(rt; session.book().pending().ok_or("a rotation")?.cut, 1);
+    assert_same(
+        &rt,
+        session.book().pending().expect(&rt, "a rotation").cut,
+        1,
+    );
     Ok(())
 }
 
@@ -165,7 +169,9 @@ fn until_the_second_cut(alloc: Global) -> Result<Vec<Event>, Fail> {
 fn takes_during_a_rotation(rt: HostRuntime) -> Result<(), Fail> {
     let config = config(rt.alloc(), 256, 2)?;
     let events = until_the_second_cut(rt.alloc())?;
-    let (session, answers) = run_session(rt.alloc(), &config, events.as_slice())?;
+    let (session, answers) = run_session(rt.alloc(), &config, events.as_slice()).expect(
+        &rt, "a run",
+    );
     let wanted = [
         stored(1, 1),
         stored(2, 1),
@@ -176,14 +182,18 @@ fn takes_during_a_rotation(rt: HostRuntime) -> Result<(), Fail> {
         taken(0, 0),
         Answer::RotateFinish(Err(SessionFault::CutMissing)),
     ];
-    let answers = answers.as_slice().get(7..).ok_or("answers")?;
-    assert_eq!(rt; first_difference(answers, wanted.as_slice()), None);
+    let answers = answers.as_slice().get(7..).expect(&rt, "answers");
+    assert_same(&rt, first_difference(answers, wanted.as_slice()), None);
     for (i, serial, want) in [
         (0, 1, Fate::InChunk { chunk: 1, seq: 1 }),
         (0, 3, Fate::InRing { seq: 2 }),
         (1, 2, Fate::InRing { seq: 1 }),
     ] {
-        assert_eq!(rt; session.fate_of(i, serial), Ok(Some(want)), "{i} {serial}");
+        assert_same(
+            &rt,
+            (i, serial, session.fate_of(i, serial)),
+            (i, serial, Ok(Some(want))),
+        );
     }
     Ok(())
 }
@@ -193,18 +203,24 @@ fn takes_during_a_rotation(rt: HostRuntime) -> Result<(), Fail> {
 fn a_rotation_with_takes_ends(rt: HostRuntime) -> Result<(), Fail> {
     let config = config(rt.alloc(), 256, 2)?;
     let mut events = until_the_second_cut(rt.alloc())?;
-    events.push(Event::Cut(1))?;
-    events.push(Event::RotateFinish)?;
-    let (session, answers) = run_session(rt.alloc(), &config, events.as_slice())?;
-    let wanted = [cut(1, 1), Answer::RotateFinish(Ok(archive(10)?))];
-    let answers = answers.as_slice().get(15..).ok_or("answers")?;
-    assert_eq!(rt; first_difference(answers, wanted.as_slice()), None);
+    events.push(Event::Cut(1)).expect(&rt, "memory");
+    events.push(Event::RotateFinish).expect(&rt, "memory");
+    let (session, answers) = run_session(rt.alloc(), &config, events.as_slice()).expect(
+        &rt, "a run",
+    );
+    let wanted = [cut(1, 1), Answer::RotateFinish(Ok(archive(10)))];
+    let answers = answers.as_slice().get(15..).expect(&rt, "answers");
+    assert_same(&rt, first_difference(answers, wanted.as_slice()), None);
     for (i, serial, want) in [
         (0, 1, Fate::InChunk { chunk: 1, seq: 1 }),
         (0, 3, Fate::InRing { seq: 2 }),
         (1, 2, Fate::InChunk { chunk: 0, seq: 1 }),
     ] {
-        assert_eq!(rt; session.fate_of(i, serial), Ok(Some(want)), "{i} {serial}");
+        assert_same(
+            &rt,
+            (i, serial, session.fate_of(i, serial)),
+            (i, serial, Ok(Some(want))),
+        );
     }
     Ok(())
 }
@@ -213,24 +229,26 @@ fn a_rotation_with_takes_ends(rt: HostRuntime) -> Result<(), Fail> {
 fn a_rotation_ends(rt: HostRuntime) -> Result<(), Fail> {
     let config = config(rt.alloc(), 256, 2)?;
     let mut events = until_the_first_cut(rt.alloc())?;
-    events.push(Event::Cut(1))?;
-    events.push(Event::Cut(2))?;
-    events.push(Event::RotateFinish)?;
-    events.push(Event::SessionStop)?;
-    events.push(Event::Start(0))?;
-    events.push(Event::Stop(1))?;
-    let (session, answers) = run_session(rt.alloc(), &config, events.as_slice())?;
+    events.push(Event::Cut(1)).expect(&rt, "memory");
+    events.push(Event::Cut(2)).expect(&rt, "memory");
+    events.push(Event::RotateFinish).expect(&rt, "memory");
+    events.push(Event::SessionStop).expect(&rt, "memory");
+    events.push(Event::Start(0)).expect(&rt, "memory");
+    events.push(Event::Stop(1)).expect(&rt, "memory");
+    let (session, answers) = run_session(rt.alloc(), &config, events.as_slice()).expect(
+        &rt, "a run",
+    );
     let wanted = [
         cut(1, 1),
         Answer::Cut(Err(StepFault::Session(SessionFault::NoStream))),
-        Answer::RotateFinish(Ok(archive(10)?)),
+        Answer::RotateFinish(Ok(archive(10))),
         Answer::SessionStop(Ok(())),
         Answer::Start(Err(SessionFault::NotActive)),
         Answer::Stop(Ok(())),
     ];
-    let answers = answers.as_slice().get(7..).ok_or("answers")?;
-    assert_eq!(rt; first_difference(answers, wanted.as_slice()), None);
-    assert_eq!(rt; session.book().archives(), [archive(10)?].as_slice());
+    let answers = answers.as_slice().get(7..).expect(&rt, "answers");
+    assert_same(&rt, first_difference(answers, wanted.as_slice()), None);
+    assert_same(&rt, session.book().archives(), [archive(10)].as_slice());
     Ok(())
 }
 
@@ -261,19 +279,27 @@ fn refused(answer: Option<&Answer>) -> Option<SessionFault> {
 fn a_stream_is_seen_twice(rt: HostRuntime) -> Result<(), Fail> {
     let config = snapshot_config(rt.alloc())?;
     let mut events = Vec::new(rt.alloc());
-    events.push(Event::SessionStart(moment(0)?))?;
-    events.push(Event::Start(0))?;
+    events
+        .push(Event::SessionStart(moment(0)))
+        .expect(&rt, "memory");
+    events.push(Event::Start(0)).expect(&rt, "memory");
     for at in 1..7 {
-        events.push(offer(rt.alloc(), 0, at)?)?;
+        events.push(offer(rt.alloc(), 0, at)?).expect(&rt, "memory");
     }
-    events.push(Event::Snap(0, moment(10)?))?;
-    events.push(offer(rt.alloc(), 0, 11)?)?;
-    events.push(Event::Snap(0, moment(12)?))?;
-    let (session, answers) = run_session(rt.alloc(), &config, events.as_slice())?;
+    events
+        .push(Event::Snap(0, moment(10)))
+        .expect(&rt, "memory");
+    events.push(offer(rt.alloc(), 0, 11)?).expect(&rt, "memory");
+    events
+        .push(Event::Snap(0, moment(12)))
+        .expect(&rt, "memory");
+    let (session, answers) = run_session(rt.alloc(), &config, events.as_slice()).expect(
+        &rt, "a run",
+    );
     let answers = answers.as_slice();
-    assert_eq!(rt; shown(answers.get(8)), Some((6, 0, Some(2), 4)));
-    assert_eq!(rt; shown(answers.get(10)), Some((7, 0, Some(4), 3)));
-    assert_eq!(rt; session.book().last().get(), 0);
+    assert_same(&rt, shown(answers.get(8)), Some((6, 0, Some(2), 4)));
+    assert_same(&rt, shown(answers.get(10)), Some((7, 0, Some(4), 3)));
+    assert_same(&rt, session.book().last().get(), 0);
     Ok(())
 }
 
@@ -281,16 +307,21 @@ fn a_stream_is_seen_twice(rt: HostRuntime) -> Result<(), Fail> {
 fn looks_that_are_refused(rt: HostRuntime) -> Result<(), Fail> {
     let config = snapshot_config(rt.alloc())?;
     let events = vec![in rt.alloc();
-        Event::Snap(0, moment(5)?),
-        Event::SessionStart(moment(0)?),
-        Event::Snap(1, moment(5)?),
-        Event::Snap(0, moment(5)?),
-    ]?;
-    let (_, answers) = run_session(rt.alloc(), &config, events.as_slice())?;
+        Event::Snap(0, moment(5)),
+        Event::SessionStart(moment(0)),
+        Event::Snap(1, moment(5)),
+        Event::Snap(0, moment(5)),
+    ]
+    .expect(&rt, "memory");
+    let (_, answers) = run_session(rt.alloc(), &config, events.as_slice()).expect(&rt, "a run");
     let answers = answers.as_slice();
-    assert_eq!(rt; refused(answers.get(0)), Some(SessionFault::NeverStarted));
-    assert_eq!(rt; refused(answers.get(2)), Some(SessionFault::NoStream));
-    assert_eq!(rt; shown(answers.get(3)), Some((0, 0, None, 0)));
+    assert_same(
+        &rt,
+        refused(answers.get(0)),
+        Some(SessionFault::NeverStarted),
+    );
+    assert_same(&rt, refused(answers.get(2)), Some(SessionFault::NoStream));
+    assert_same(&rt, shown(answers.get(3)), Some((0, 0, None, 0)));
     Ok(())
 }
 
@@ -305,7 +336,7 @@ fn a_configuration_is_refused(rt: HostRuntime) -> Result<(), Fail> {
         run_session(rt.alloc(), &many, &[]).is_err_and(|fault| fault == SessionFault::TooMany)
     );
     let most = config(rt.alloc(), 256, 256)?;
-    let (session, answers) = run_session(rt.alloc(), &most, &[])?;
-    assert_eq!(rt; (session.streams(), answers.len()), (256, 0));
+    let (session, answers) = run_session(rt.alloc(), &most, &[]).expect(&rt, "a run");
+    assert_same(&rt, (session.streams(), answers.len()), (256, 0));
     Ok(())
 }

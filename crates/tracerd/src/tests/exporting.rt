@@ -1,5 +1,6 @@
 //! Runs that write archives.
 
+use super::assert_same;
 use crate::running::run;
 use std::alloc::Global;
 use std::test::Fail;
@@ -50,7 +51,7 @@ fn exported(alloc: Global, script: &[u8]) -> (u8, MemoryDisk) {
 #[test]
 fn an_archive_is_written(rt: HostRuntime) -> Result<(), Fail> {
     let (status, disk) = exported(rt.alloc(), SCRIPT);
-    assert_eq!(rt; status, 0);
+    assert_same(&rt, status, 0);
     let [
         Made::Folder(folder),
         Made::File(first, text),
@@ -59,30 +60,28 @@ fn an_archive_is_written(rt: HostRuntime) -> Result<(), Fail> {
     else {
         return Err("a folder and two files".into());
     };
-    assert_eq!(rt; folder.as_str(), FOLDER);
-    assert_eq!(rt; (first.as_str(), second.as_str()), (METADATA, STREAM));
-    let uuid = Uuid::parse_str("00000000-0000-0000-0000-000000000001")?;
-    let wanted = metadata_text(rt.alloc(), &uuid)?;
-    assert_eq!(rt; text.as_slice(), wanted.as_bytes());
-    assert_eq!(rt; packets.len(), 484);
+    assert_same(&rt, folder.as_str(), FOLDER);
+    assert_same(&rt, (first.as_str(), second.as_str()), (METADATA, STREAM));
+    let uuid = Uuid::parse_str("00000000-0000-0000-0000-000000000001").expect(&rt, "an identifier");
+    let wanted = metadata_text(rt.alloc(), &uuid).expect(&rt, "memory");
+    assert_same(&rt, text.as_slice(), wanted.as_bytes());
+    assert_same(&rt, packets.len(), 484);
     Ok(())
 }
 
 #[test]
-fn nothing_archived_makes_nothing(rt: HostRuntime) -> Result<(), Fail> {
+fn nothing_archived_makes_nothing(rt: HostRuntime) {
     let script = b"create s 00000000-0000-0000-0000-000000000001\nstart s 0\nrotate-begin s 1\n";
     let (status, disk) = exported(rt.alloc(), script);
-    assert_eq!(rt; (status, disk.made().len()), (0, 0));
-    Ok(())
+    assert_same(&rt, (status, disk.made().len()), (0, 0));
 }
 
 // a refused line doesn't keep archives from being written
 #[test]
-fn archives_are_written_at_status_1(rt: HostRuntime) -> Result<(), Fail> {
+fn archives_are_written_at_status_1(rt: HostRuntime) {
     let script =
         b"create s 00000000-0000-0000-0000-000000000001\nstart s 0\nrotate s 1\nnonsense\n";
     let (status, disk) = exported(rt.alloc(), script);
-    assert_eq!(rt; status, 1);
+    assert_same(&rt, status, 1);
     assert!(rt; matches!(disk.made(), [Made::Folder(_), Made::File(_, _)]));
-    Ok(())
 }
