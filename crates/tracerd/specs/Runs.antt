@@ -6,6 +6,7 @@ use Rattle.tr_export.specs.Failures.{HasFailed, HasNotFailed}
 use Rattle.tr_export.specs.Making.{Makings}
 use Rattle.tr_record.specs.Bytes.{and_then_bytes, once_more}
 use Rattle.tr_stream.specs.State.{StreamState}
+use Rattle.tracerd.specs.CommandLine.{Folder}
 use Rattle.tracerd.specs.Endings.{ending_of_refused, message_of, status_of}
 use Rattle.tracerd.specs.Exports.{IsMadeBelow}
 use Rattle.tracerd.specs.declared.ending.Ending.{Ending}
@@ -20,24 +21,29 @@ GotLine before after (Some line) = after ≡ and_then_bytes before line
 module _ (given given_now taken taken_now : Option (List ℕ)) (made made_now : Option Makings) where
   -- the script was read whole and answered whole, the archives of its sessions were made below the folder, if one is named,
   -- and the ending tells whether lines were refused
-  pub record CameToEnd (dir : Option (List ℕ)) (ending : Ending) : Type 0 where
+  pub record CameToEnd (dir : Folder) (ending : Ending) : Type 0 where
     pub world : World StreamState
     pub refused : ℕ
     pub ran : Ran given given_now taken taken_now world refused
     pub archived : IsMadeBelow dir world made made_now
     pub tells : ending ≡ ending_of_refused refused
 
-  -- a run without a fault came to the script's end; a bad command line reads, answers and makes nothing
-  abbrev pub EndsAs : Option (List ℕ) → Ending → Type 0
+  -- a run of a script without a fault came to the script's end
+  abbrev pub EndsAs : Folder → Ending → Type 0
   EndsAs dir Done = CameToEnd dir Done
   EndsAs dir Refused = CameToEnd dir Refused
-  EndsAs dir BadCommandLine = (given_now ≡ given) × (taken_now ≡ taken) × (made_now ≡ made)
+  EndsAs dir BadCommandLine = ⊥
   EndsAs dir ReadOrWrite = Unit {0}
   EndsAs dir NoMemory = Unit {0}
 
-  -- so it is for the folder that the words name, if they name one
-  abbrev pub EndsSo : Ending → Type 0
-  EndsSo ending = (dir : Option (List ℕ)) × EndsAs dir ending
+  -- no run of a script is asked for: nothing is read, answered and made
+  abbrev pub IsNoRun : Ending → Type 0
+  IsNoRun ending = ((ending ≡ BadCommandLine) ⊎ (ending ≡ NoMemory)) × (given_now ≡ given) × (taken_now ≡ taken) × (made_now ≡ made)
+
+  -- the run ended as what was asked for does
+  abbrev pub EndsSo : Option Folder → Ending → Type 0
+  EndsSo None ending = IsNoRun ending
+  EndsSo (Some dir) ending = EndsAs dir ending
 
 -- how often the input, the output and the disk had failed, before the run and after it: one of them failed in it, or the
 -- script was too long
@@ -54,9 +60,9 @@ HasNoFault input input_now output output_now disk disk_now = (input_now ≡ inpu
 abbrev pub IsTold : Ending → (told told_now : Option (List ℕ)) → (failures failures_now : ℕ) → Type 0
 IsTold ending told told_now failures failures_now = GotLine told told_now (message_of ending) ⊎ (failures_now ≡ once_more failures)
 
--- the run ended so: its status and its line say how
-pub record HasEnded (given given_now taken taken_now told told_now : Option (List ℕ)) (made made_now : Option Makings) (failures failures_now status : ℕ) : Type 0 where
+-- the run ended as what was asked for does: its status and its line say how
+pub record HasEnded (asked : Option Folder) (given given_now taken taken_now told told_now : Option (List ℕ)) (made made_now : Option Makings) (failures failures_now status : ℕ) : Type 0 where
   pub ending : Ending
   pub says : status ≡ status_of ending
   pub line : IsTold ending told told_now failures failures_now
-  pub ends : EndsSo given given_now taken taken_now made made_now ending
+  pub ends : EndsSo given given_now taken taken_now made made_now asked ending

@@ -1,10 +1,14 @@
 //! A run of the program, over any input, output and disk.
 
-ghost use Rattle.std.specs.Prelude.{◌≡◌, OnOk, OnErr, option_map};
+ghost use Rattle.std.specs.Prelude.{◌≡◌, OnOk, OnErr, IfErr, map, option_and_then, option_map};
+ghost use Rattle.std.specs.IoError.{error_kind};
+ghost use Rattle.std.specs.Result.{result_ok};
+ghost use Rattle.std.specs.Vec.Iter.{into_iter_items};
 ghost use Rattle.tr_console.specs.Runs.{WentTooFar};
 ghost use Rattle.tr_export.specs.Failures.{FailedByWrite};
 ghost use Rattle.tr_export.specs.Making.{MadeFront, and_then_made};
-ghost use Rattle.tracerd.specs.Endings.{status_of};
+ghost use Rattle.tracerd.specs.CommandLine.{job_asked, words_of};
+ghost use Rattle.tracerd.specs.Endings.{ending_of_arguments, status_of};
 ghost use Rattle.tracerd.specs.Exports.{all_made};
 ghost use Rattle.tracerd.specs.Runs.{EndsAs, EndsSo, HasCause, HasEnded, HasNoFault, IsTold};
 
@@ -69,7 +73,7 @@ fn end<S: ByteSource, K: ByteSink, D: Disk>(
     out: &mut K,
     disk: &mut D,
 ) -> Ending
-    ensures ends { EndsSo (S.given input.old) (S.given input.new) (K.taken out.old) (K.taken out.new) (D.made disk.old) (D.made disk.new) result }
+    ensures ends { EndsSo (S.given input.old) (S.given input.new) (K.taken out.old) (K.taken out.new) (D.made disk.old) (D.made disk.new) (job_asked (map (λ w. w.now) words.now)) result }
     ensures fault { result ≡ Ending.ReadOrWrite → HasCause (S.failures input.old) (S.failures input.new) (K.failures out.old) (K.failures out.new) (D.failures disk.old) (D.failures disk.new) (WentTooFar (S.given input.old) (S.given input.new) (K.taken out.old) (K.taken out.new)) }
     ensures no_fault { (result ≡ Ending.ReadOrWrite → ⊥) → HasNoFault (S.failures input.old) (S.failures input.new) (K.failures out.old) (K.failures out.new) (D.failures disk.old) (D.failures disk.new) }
 {
@@ -106,7 +110,7 @@ pub fn run<S: ByteSource, K: ByteSink, E: ByteSink, D: Disk>(
     err: &mut E,
     disk: &mut D,
 ) -> u8
-    ensures ends { HasEnded (S.given input.old) (S.given input.new) (K.taken out.old) (K.taken out.new) (E.taken err.old) (E.taken err.new) (D.made disk.old) (D.made disk.new) (E.failures err.old) (E.failures err.new) result }
+    ensures ends { HasEnded (job_asked (map (λ w. w.now) words.now)) (S.given input.old) (S.given input.new) (K.taken out.old) (K.taken out.new) (E.taken err.old) (E.taken err.new) (D.made disk.old) (D.made disk.new) (E.failures err.old) (E.failures err.new) result }
     ensures fault { result ≡ 3 → HasCause (S.failures input.old) (S.failures input.new) (K.failures out.old) (K.failures out.new) (D.failures disk.old) (D.failures disk.new) (WentTooFar (S.given input.old) (S.given input.new) (K.taken out.old) (K.taken out.new)) }
     ensures no_fault { (result ≡ 3 → ⊥) → HasNoFault (S.failures input.old) (S.failures input.new) (K.failures out.old) (K.failures out.new) (D.failures disk.old) (D.failures disk.new) }
 {
@@ -122,7 +126,7 @@ fn end_given<S: ByteSource, K: ByteSink, D: Disk>(
     out: &mut K,
     disk: &mut D,
 ) -> Ending
-    ensures ends { EndsSo (S.given input.old) (S.given input.new) (K.taken out.old) (K.taken out.new) (D.made disk.old) (D.made disk.new) result }
+    ensures ends { EndsSo (S.given input.old) (S.given input.new) (K.taken out.old) (K.taken out.new) (D.made disk.old) (D.made disk.new) (job_asked (words_of (into_iter_items given))) result }
     ensures fault { result ≡ Ending.ReadOrWrite → HasCause (S.failures input.old) (S.failures input.new) (K.failures out.old) (K.failures out.new) (D.failures disk.old) (D.failures disk.new) (WentTooFar (S.given input.old) (S.given input.new) (K.taken out.old) (K.taken out.new)) }
     ensures no_fault { (result ≡ Ending.ReadOrWrite → ⊥) → HasNoFault (S.failures input.old) (S.failures input.new) (K.failures out.old) (K.failures out.new) (D.failures disk.old) (D.failures disk.new) }
 {
@@ -145,7 +149,8 @@ pub fn run_given<S: ByteSource, K: ByteSink, E: ByteSink, D: Disk>(
     err: &mut E,
     disk: &mut D,
 ) -> u8
-    ensures ends { HasEnded (S.given input.old) (S.given input.new) (K.taken out.old) (K.taken out.new) (E.taken err.old) (E.taken err.new) (D.made disk.old) (D.made disk.new) (E.failures err.old) (E.failures err.new) result }
+    ensures ends { HasEnded (option_and_then (λ arguments. job_asked (words_of (into_iter_items arguments))) (result_ok given)) (S.given input.old) (S.given input.new) (K.taken out.old) (K.taken out.new) (E.taken err.old) (E.taken err.new) (D.made disk.old) (D.made disk.new) (E.failures err.old) (E.failures err.new) result }
+    ensures arguments { IfErr given (λ error. result ≡ status_of (ending_of_arguments (error_kind error))) }
     ensures fault { result ≡ 3 → HasCause (S.failures input.old) (S.failures input.new) (K.failures out.old) (K.failures out.new) (D.failures disk.old) (D.failures disk.new) (WentTooFar (S.given input.old) (S.given input.new) (K.taken out.old) (K.taken out.new)) }
     ensures no_fault { (result ≡ 3 → ⊥) → HasNoFault (S.failures input.old) (S.failures input.new) (K.failures out.old) (K.failures out.new) (D.failures disk.old) (D.failures disk.new) }
 {
