@@ -9,12 +9,12 @@ use Rattle.std.proofs.Math.Seq.{take-add}
 use Rattle.tr_record.specs.Records.{Entry}
 use Rattle.tr_record.proofs.RecordLemmas.{all_push}
 use Rattle.tr_packet.specs.Decoding.{Begins}
-use Rattle.tr_packet.specs.Order.{follows, rise_after, serials_rise}
+use Rattle.tr_packet.specs.Order.{follows, serials_rise_after, serials_rise}
 use Rattle.tr_packet.specs.Packets.{Contents, IsPacket, packet_text, packet_size}
 use Rattle.tr_packet.proofs.OrderLemmas.{both, first_holds, second_holds}
 use Rattle.tr_packet.proofs.TextLemmas.{length-packet_text}
 use Rattle.tr_chunk.specs.Files.{packets_text}
-use Rattle.tr_chunk.specs.Audit.{numbers_of, serials_of, records_of_packets, last_number, last_serial, gap_before, gaps_behind, counted, audit_of, belongs, BelongsTo, rise_from, AreOfStream, starts_above, packet_cause, after_packet, Tells, StopsIn, StopsAt, AreAudited, all_of}
+use Rattle.tr_chunk.specs.Audit.{numbers_of, serials_of, records_of_packets, last_number, last_serial, gap_before, gaps_behind, counted, audit_of, belongs, BelongsTo, numbers_rise_after, AreOfStream, starts_above, packet_cause, after_packet, Tells, StopsIn, StopsAt, AreAudited, all_of}
 use Rattle.tr_chunk.specs.declared.audit_fault.AuditCause.{AuditCause}
 use Rattle.tr_chunk.specs.declared.audit_fault.AuditCause.TheVariants.{NumberRepeat, SerialRepeat, Foreign}
 use Rattle.tr_chunk.specs.declared.stream_audit.StreamAudit.{StreamAudit}
@@ -26,21 +26,21 @@ last_or-append : {X : Type 0} (o : Option X) (xs ys : List X) → last_or o (xs 
 last_or-append o [] ys = refl
 last_or-append o (x ∷ xs) ys = last_or-append (Some x) xs ys
 
-rise_from-push : (before : Option ℕ) (ns : List ℕ) (n : ℕ) → IsTrue (rise_from before ns) → IsTrue (follows (last_or before ns) n) → IsTrue (rise_from before (ns ++ n ∷ []))
-rise_from-push before [] n rise after = both (follows before n) true after refl
-rise_from-push before (m ∷ ms) n rise after =
-    both (follows before m) (rise_from (Some m) (ms ++ n ∷ [])) (first_holds (follows before m) (rise_from (Some m) ms) rise)
-    (rise_from-push (Some m) ms n (second_holds (follows before m) (rise_from (Some m) ms) rise) after)
+numbers_rise_after-push : (before : Option ℕ) (ns : List ℕ) (n : ℕ) → IsTrue (numbers_rise_after before ns) → IsTrue (follows (last_or before ns) n) → IsTrue (numbers_rise_after before (ns ++ n ∷ []))
+numbers_rise_after-push before [] n rise after = both (follows before n) true after refl
+numbers_rise_after-push before (m ∷ ms) n rise after =
+    both (follows before m) (numbers_rise_after (Some m) (ms ++ n ∷ [])) (first_holds (follows before m) (numbers_rise_after (Some m) ms) rise)
+    (numbers_rise_after-push (Some m) ms n (second_holds (follows before m) (numbers_rise_after (Some m) ms) rise) after)
 
-rise_after-append : (before : Option ℕ) (es fs : List Entry) → IsTrue (rise_after before es) → IsTrue (rise_after (last_or before (serials_of es)) fs) → IsTrue (rise_after before (es ++ fs))
-rise_after-append before [] fs rise after = after
-rise_after-append before (e ∷ es) fs rise after =
-    both (follows before e.serial) (rise_after (Some e.serial) (es ++ fs)) (first_holds (follows before e.serial) (rise_after (Some e.serial) es) rise)
-    (rise_after-append (Some e.serial) es fs (second_holds (follows before e.serial) (rise_after (Some e.serial) es) rise) after)
+serials_rise_after-append : (before : Option ℕ) (es fs : List Entry) → IsTrue (serials_rise_after before es) → IsTrue (serials_rise_after (last_or before (serials_of es)) fs) → IsTrue (serials_rise_after before (es ++ fs))
+serials_rise_after-append before [] fs rise after = after
+serials_rise_after-append before (e ∷ es) fs rise after =
+    both (follows before e.serial) (serials_rise_after (Some e.serial) (es ++ fs)) (first_holds (follows before e.serial) (serials_rise_after (Some e.serial) es) rise)
+    (serials_rise_after-append (Some e.serial) es fs (second_holds (follows before e.serial) (serials_rise_after (Some e.serial) es) rise) after)
 
-rise_above : (before : Option ℕ) (es : List Entry) → IsTrue (starts_above before es) → IsTrue (serials_rise es) → IsTrue (rise_after before es)
+rise_above : (before : Option ℕ) (es : List Entry) → IsTrue (starts_above before es) → IsTrue (serials_rise es) → IsTrue (serials_rise_after before es)
 rise_above before [] above rise = refl
-rise_above before (e ∷ es) above rise = both (follows before e.serial) (rise_after (Some e.serial) es) above rise
+rise_above before (e ∷ es) above rise = both (follows before e.serial) (serials_rise_after (Some e.serial) es) above rise
 
 gaps_behind-push : (before : Option ℕ) (ns : List ℕ) (n : ℕ) → gaps_behind before (ns ++ n ∷ []) ≡ gaps_behind before ns ++ gap_before (last_or before ns) n
 gaps_behind-push before [] n = append-nil (gap_before before n)
@@ -97,11 +97,11 @@ of_stream-push uuid stream ps p sound packet none =
       packets = all_push IsPacket ps p sound.packets packet;
       belong = all_push (BelongsTo uuid stream) ps p sound.belong a.0;
       numbers =
-          subst (λ (l : List ℕ). IsTrue (rise_from None l)) (sym (map-append (λ (q : Contents). q.head.seq) ps (p ∷ [])))
-          (rise_from-push None (numbers_of ps) p.head.seq sound.numbers b.0);
+          subst (λ (l : List ℕ). IsTrue (numbers_rise_after None l)) (sym (map-append (λ (q : Contents). q.head.seq) ps (p ∷ [])))
+          (numbers_rise_after-push None (numbers_of ps) p.head.seq sound.numbers b.0);
       serials =
           subst (λ (l : List Entry). IsTrue (serials_rise l)) (sym (records_of_packets-push ps p))
-          (rise_after-append None (records_of_packets ps) p.records sound.serials (rise_above (last_serial ps) p.records c.0 packet.records.serials));
+          (serials_rise_after-append None (records_of_packets ps) p.records sound.serials (rise_above (last_serial ps) p.records c.0 packet.records.serials));
     }
 
 -- an audit of packets and one more, which is not at fault

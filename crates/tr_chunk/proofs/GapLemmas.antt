@@ -7,7 +7,7 @@ use Rattle.std.proofs.lemmas.List.Folds.{list_any-append}
 use Rattle.tr_packet.specs.Order.{follows}
 use Rattle.tr_packet.proofs.OrderLemmas.{first_holds, second_holds}
 use Rattle.tr_record.proofs.RecordLemmas.{all_append}
-use Rattle.tr_chunk.specs.Audit.{gap_before, gaps_behind, rise_from, is_in_run, is_in_runs, is_one_of, IsLongest}
+use Rattle.tr_chunk.specs.Audit.{gap_before, gaps_behind, numbers_rise_after, is_in_run, is_in_runs, is_one_of, IsLongest}
 
 -- ---- one run
 
@@ -45,19 +45,19 @@ in_gap (Some b) n k = in_run k (b + 1) n (n - (b + 1)) (ltb (b + 1) n) (λ lt. o
 
 -- ---- numbers that rise
 
-not_one_of : (b : ℕ) (ns : List ℕ) (k : ℕ) → IsTrue (rise_from (Some b) ns) → k ≤ b → is_one_of k ns ≡ false
+not_one_of : (b : ℕ) (ns : List ℕ) (k : ℕ) → IsTrue (numbers_rise_after (Some b) ns) → k ≤ b → is_one_of k ns ≡ false
 not_one_of b [] k rise le = refl
 not_one_of b (n ∷ ns) k rise le =
-    let lt = ltb-true b n (first_holds (ltb b n) (rise_from (Some n) ns) rise) in
-    rw (ne_eqb k n (λ same. omega (arith, lt, le, same)), not_one_of n ns k (second_holds (ltb b n) (rise_from (Some n) ns) rise) (omega (arith, lt, le))) refl
+    let lt = ltb-true b n (first_holds (ltb b n) (numbers_rise_after (Some n) ns) rise) in
+    rw (ne_eqb k n (λ same. omega (arith, lt, le, same)), not_one_of n ns k (second_holds (ltb b n) (numbers_rise_after (Some n) ns) rise) (omega (arith, lt, le))) refl
 
-not_in_runs : (b : ℕ) (ns : List ℕ) (k : ℕ) → IsTrue (rise_from (Some b) ns) → k ≤ b → is_in_runs k (gaps_behind (Some b) ns) ≡ false
+not_in_runs : (b : ℕ) (ns : List ℕ) (k : ℕ) → IsTrue (numbers_rise_after (Some b) ns) → k ≤ b → is_in_runs k (gaps_behind (Some b) ns) ≡ false
 not_in_runs b [] k rise le = refl
 not_in_runs b (n ∷ ns) k rise le =
-    let lt = ltb-true b n (first_holds (ltb b n) (rise_from (Some n) ns) rise) in
+    let lt = ltb-true b n (first_holds (ltb b n) (numbers_rise_after (Some n) ns) rise) in
     list_any-append (is_in_run k) (gap_before (Some b) n) (gaps_behind (Some n) ns)
     ∙ ap (λ (t : Bool). t || is_in_runs k (gaps_behind (Some n) ns)) (in_gap (Some b) n k ∙ ap (λ (t : Bool). t && ltb k n) (lt-leb (b + 1) k (omega (arith, le))))
-    ∙ not_in_runs n ns k (second_holds (ltb b n) (rise_from (Some n) ns) rise) (omega (arith, lt, le))
+    ∙ not_in_runs n ns k (second_holds (ltb b n) (numbers_rise_after (Some n) ns) rise) (omega (arith, lt, le))
 
 none_is_some : (n : ℕ) → None ≡ Some n → ⊥
 none_is_some n e = cc
@@ -65,12 +65,12 @@ none_is_some n e = cc
 some_same : (m n : ℕ) → Some m ≡ Some n → m ≡ n
 some_same m n e = cc
 
-absent_by : (before : Option ℕ) (ns : List ℕ) (last k : ℕ) → IsTrue (rise_from before ns) → last_or before ns ≡ Some last → first_absent before ≤ k → k < last
+absent_by : (before : Option ℕ) (ns : List ℕ) (last k : ℕ) → IsTrue (numbers_rise_after before ns) → last_or before ns ≡ Some last → first_absent before ≤ k → k < last
     → is_in_runs k (gaps_behind before ns) ≡ not (is_one_of k ns)
 absent_by None [] last k rise is start below = absurd (none_is_some last is)
 absent_by (Some b) [] last k rise is start below = let same = some_same b last is in absurd (omega (arith, same, start, below))
 absent_by before (n ∷ ns) last k rise is start below =
-    let others = second_holds (follows before n) (rise_from (Some n) ns) rise in
+    let others = second_holds (follows before n) (numbers_rise_after (Some n) ns) rise in
     let parts =
     list_any-append (is_in_run k) (gap_before before n) (gaps_behind (Some n) ns)
     ∙ ap (λ (t : Bool). t || is_in_runs k (gaps_behind (Some n) ns)) (in_gap before n k ∙ ap (λ (t : Bool). t && ltb k n) (le-leb (first_absent before) k start)) in
@@ -84,21 +84,21 @@ absent_by before (n ∷ ns) last k rise is start below =
           ]
     ]
 
-up_to_last : (n : ℕ) (ns : List ℕ) (last : ℕ) → IsTrue (rise_from (Some n) ns) → last_or (Some n) ns ≡ Some last → n ≤ last
+up_to_last : (n : ℕ) (ns : List ℕ) (last : ℕ) → IsTrue (numbers_rise_after (Some n) ns) → last_or (Some n) ns ≡ Some last → n ≤ last
 up_to_last n [] last rise is = omega (arith, some_same n last is)
 up_to_last n (m ∷ ms) last rise is =
-    omega (arith, ltb-true n m (first_holds (ltb n m) (rise_from (Some m) ms) rise), up_to_last m ms last (second_holds (ltb n m) (rise_from (Some m) ms) rise) is)
+    omega (arith, ltb-true n m (first_holds (ltb n m) (numbers_rise_after (Some m) ms) rise), up_to_last m ms last (second_holds (ltb n m) (numbers_rise_after (Some m) ms) rise) is)
 
-none_past : (before : Option ℕ) (ns : List ℕ) (last k : ℕ) → IsTrue (rise_from before ns) → last_or before ns ≡ Some last → last ≤ k → is_in_runs k (gaps_behind before ns) ≡ false
+none_past : (before : Option ℕ) (ns : List ℕ) (last k : ℕ) → IsTrue (numbers_rise_after before ns) → last_or before ns ≡ Some last → last ≤ k → is_in_runs k (gaps_behind before ns) ≡ false
 none_past before [] last k rise is past = refl
 none_past before (n ∷ ns) last k rise is past =
-    let others = second_holds (follows before n) (rise_from (Some n) ns) rise in
+    let others = second_holds (follows before n) (numbers_rise_after (Some n) ns) rise in
     list_any-append (is_in_run k) (gap_before before n) (gaps_behind (Some n) ns)
     ∙ ap (λ (t : Bool). t || is_in_runs k (gaps_behind (Some n) ns))
     (in_gap before n k ∙ ap (λ (t : Bool). leb (first_absent before) k && t) (le-ltb k n (omega (arith, past, up_to_last n ns last others is))) ∙ and_false (leb (first_absent before) k))
     ∙ none_past (Some n) ns last k others is past
 
-pub absent_numbers : (ns : List ℕ) (last k : ℕ) → IsTrue (rise_from None ns) → last_or None ns ≡ Some last → is_in_runs k (gaps_behind None ns) ≡ (ltb k last && not (is_one_of k ns))
+pub absent_numbers : (ns : List ℕ) (last k : ℕ) → IsTrue (numbers_rise_after None ns) → last_or None ns ≡ Some last → is_in_runs k (gaps_behind None ns) ≡ (ltb k last && not (is_one_of k ns))
 absent_numbers ns last k rise is =
     elim (cases_lt k last) [
       | inl below ↦ absent_by None ns last k rise is (omega arith) below ∙ ap (λ (t : Bool). t && not (is_one_of k ns)) (sym (lt-ltb k last below))

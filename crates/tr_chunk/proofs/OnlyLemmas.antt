@@ -6,14 +6,14 @@ use Rattle.std.proofs.lemmas.List.Concat.{flat_map-append}
 use Rattle.std.proofs.lemmas.List.{map-append, take-append-drop, length-drop, take-map}
 use Rattle.tr_record.specs.Records.{Entry}
 use Rattle.tr_packet.specs.Decoding.{Begins}
-use Rattle.tr_packet.specs.Order.{follows, rise_after, serials_rise}
+use Rattle.tr_packet.specs.Order.{follows, serials_rise_after, serials_rise}
 use Rattle.tr_packet.specs.Packets.{Contents, IsPacket, packet_text}
 use Rattle.tr_packet.proofs.DecodingLemmas.{packet_read}
 use Rattle.tr_packet.proofs.LawLemmas.{one_in_front}
 use Rattle.tr_packet.proofs.OrderLemmas.{first_holds, second_holds}
 use Rattle.tr_packet.proofs.TextLemmas.{length-packet_text}
 use Rattle.tr_chunk.specs.Files.{packets_text}
-use Rattle.tr_chunk.specs.Audit.{numbers_of, serials_of, records_of_packets, last_number, last_serial, audit_of, belongs, BelongsTo, rise_from, AreOfStream, starts_above, packet_cause, IsCause, StopsAt, AreAudited, all_of}
+use Rattle.tr_chunk.specs.Audit.{numbers_of, serials_of, records_of_packets, last_number, last_serial, audit_of, belongs, BelongsTo, numbers_rise_after, AreOfStream, starts_above, packet_cause, IsCause, StopsAt, AreAudited, all_of}
 use Rattle.tr_chunk.specs.declared.audit_fault.AuditCause.{AuditCause}
 use Rattle.tr_chunk.specs.declared.audit_fault.AuditCause.TheVariants.{Packet, NumberRepeat, SerialRepeat, Foreign, NoMemory}
 use Rattle.tr_chunk.specs.declared.audit_fault.AuditFault.{AuditFault}
@@ -79,26 +79,26 @@ same_pieces (ps ∷ pss) (qs ∷ qss) first second e =
 
 -- ---- no packet of the stream is at fault
 
-rise_from-at : (before : Option ℕ) (ns : List ℕ) (n : ℕ) (ms : List ℕ) → IsTrue (rise_from before (ns ++ n ∷ ms)) → IsTrue (follows (last_or before ns) n)
-rise_from-at before [] n ms rise = first_holds (follows before n) (rise_from (Some n) ms) rise
-rise_from-at before (k ∷ ks) n ms rise = rise_from-at (Some k) ks n ms (second_holds (follows before k) (rise_from (Some k) (ks ++ n ∷ ms)) rise)
+numbers_rise_after-at : (before : Option ℕ) (ns : List ℕ) (n : ℕ) (ms : List ℕ) → IsTrue (numbers_rise_after before (ns ++ n ∷ ms)) → IsTrue (follows (last_or before ns) n)
+numbers_rise_after-at before [] n ms rise = first_holds (follows before n) (numbers_rise_after (Some n) ms) rise
+numbers_rise_after-at before (k ∷ ks) n ms rise = numbers_rise_after-at (Some k) ks n ms (second_holds (follows before k) (numbers_rise_after (Some k) (ks ++ n ∷ ms)) rise)
 
-rise_after-at : (before : Option ℕ) (es fs : List Entry) → IsTrue (rise_after before (es ++ fs)) → IsTrue (rise_after (last_or before (serials_of es)) fs)
-rise_after-at before [] fs rise = rise
-rise_after-at before (e ∷ es) fs rise = rise_after-at (Some e.serial) es fs (second_holds (follows before e.serial) (rise_after (Some e.serial) (es ++ fs)) rise)
+serials_rise_after-at : (before : Option ℕ) (es fs : List Entry) → IsTrue (serials_rise_after before (es ++ fs)) → IsTrue (serials_rise_after (last_or before (serials_of es)) fs)
+serials_rise_after-at before [] fs rise = rise
+serials_rise_after-at before (e ∷ es) fs rise = serials_rise_after-at (Some e.serial) es fs (second_holds (follows before e.serial) (serials_rise_after (Some e.serial) (es ++ fs)) rise)
 
-starts_above-from : (before : Option ℕ) (es fs : List Entry) → IsTrue (rise_after before (es ++ fs)) → IsTrue (starts_above before es)
+starts_above-from : (before : Option ℕ) (es fs : List Entry) → IsTrue (serials_rise_after before (es ++ fs)) → IsTrue (starts_above before es)
 starts_above-from before [] fs rise = refl
-starts_above-from before (e ∷ es) fs rise = first_holds (follows before e.serial) (rise_after (Some e.serial) (es ++ fs)) rise
+starts_above-from before (e ∷ es) fs rise = first_holds (follows before e.serial) (serials_rise_after (Some e.serial) (es ++ fs)) rise
 
 cause_none : (a b c : Bool) → a ≡ true → b ≡ true → c ≡ true → cond (not a) (Some Foreign) (cond (not b) (Some NumberRepeat) (cond (not c) (Some SerialRepeat) None)) ≡ None
 cause_none a b c first second third = rw (first, second, third) refl
 
 pub none_at_fault : (uuid : List ℕ) (stream : ℕ) (xs : List Contents) (p : Contents) (ys : List Contents) → AreOfStream uuid stream (xs ++ p ∷ ys) → packet_cause uuid stream (last_number xs) (last_serial xs) p ≡ None
 none_at_fault uuid stream xs p ys sound =
-    let number = rise_from-at None (numbers_of xs) p.head.seq (numbers_of ys) (subst (λ (l : List ℕ). IsTrue (rise_from None l)) (map-append (λ (q : Contents). q.head.seq) xs (p ∷ ys)) sound.numbers) in
+    let number = numbers_rise_after-at None (numbers_of xs) p.head.seq (numbers_of ys) (subst (λ (l : List ℕ). IsTrue (numbers_rise_after None l)) (map-append (λ (q : Contents). q.head.seq) xs (p ∷ ys)) sound.numbers) in
     let serial =
-    rise_after-at None (records_of_packets xs) (p.records ++ records_of_packets ys) (subst (λ (l : List Entry). IsTrue (serials_rise l)) (flat_map-append (λ (q : Contents). q.records) xs (p ∷ ys)) sound.serials) in
+    serials_rise_after-at None (records_of_packets xs) (p.records ++ records_of_packets ys) (subst (λ (l : List Entry). IsTrue (serials_rise l)) (flat_map-append (λ (q : Contents). q.records) xs (p ∷ ys)) sound.serials) in
     cause_none (belongs uuid stream p) (follows (last_number xs) p.head.seq) (starts_above (last_serial xs) p.records)
     (all_back (BelongsTo uuid stream) xs (p ∷ ys) sound.belong).0 number (starts_above-from (last_serial xs) p.records (records_of_packets ys) serial)
 

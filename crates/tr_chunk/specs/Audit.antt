@@ -83,15 +83,15 @@ abbrev pub BelongsTo : List ℕ → ℕ → Contents → Type 0
 BelongsTo uuid stream p = IsTrue (belongs uuid stream p)
 
 -- numbers rise strictly, the first one from above the one before it, if any
-abbrev pub rise_from : Option ℕ → List ℕ → Bool
-rise_from before [] = true
-rise_from before (n ∷ ns) = follows before n && rise_from (Some n) ns
+abbrev pub numbers_rise_after : Option ℕ → List ℕ → Bool
+numbers_rise_after before [] = true
+numbers_rise_after before (n ∷ ns) = follows before n && numbers_rise_after (Some n) ns
 
 -- packets of one stream, with rising numbers and rising serials
 pub record AreOfStream (uuid : List ℕ) (stream : ℕ) (ps : List Contents) : Type 0 where
   pub packets : AllByRecursion IsPacket ps
   pub belong : AllByRecursion (BelongsTo uuid stream) ps
-  pub numbers : IsTrue (rise_from None (numbers_of ps))
+  pub numbers : IsTrue (numbers_rise_after None (numbers_of ps))
   pub serials : IsTrue (serials_rise (records_of_packets ps))
 
 -- ---- the first fault

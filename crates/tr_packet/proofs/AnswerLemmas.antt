@@ -3,7 +3,7 @@ use Rattle.std.proofs.Common.{◌≡◌, ℕ, ◌/◌, List, drop, Some, None, s
 use Rattle.std.specs.Prelude.{Result, Ok, Err, IfOk, IfErr}
 use Rattle.tr_record.specs.Whole.{AreBytes}
 use Rattle.tr_packet.specs.Packets.{Contents, packet_size}
-use Rattle.tr_packet.specs.Decoding.{Begins, packet_size_in, contents_in, first_fault}
+use Rattle.tr_packet.specs.Decoding.{Begins, packet_bits_in, contents_in, first_fault}
 use Rattle.tr_packet.specs.declared.fault.PacketFault.{PacketFault}
 use Rattle.tr_packet.proofs.DecodingLemmas.{packet_decoded, packet_read}
 
@@ -19,7 +19,7 @@ refused f = Err f
 abbrev IsFound : List ℕ → Contents → ℕ → Type 0
 IsFound bytes p n = Begins p (drop n bytes) bytes × (n ≡ packet_size p)
 
-pub answer_found : (bytes : List ℕ) (answer : Answer) → AreBytes bytes → IfOk answer (λ _. first_fault bytes ≡ None) → IfOk answer (λ x. x.0 ≡ contents_in bytes) → IfOk answer (λ x. x.1 ≡ packet_size_in bytes / 8)
+pub answer_found : (bytes : List ℕ) (answer : Answer) → AreBytes bytes → IfOk answer (λ _. first_fault bytes ≡ None) → IfOk answer (λ x. x.0 ≡ contents_in bytes) → IfOk answer (λ x. x.1 ≡ packet_bits_in bytes / 8)
     → IfOk answer (λ x. Begins x.0 (drop x.1 bytes) bytes × (x.1 ≡ packet_size x.0))
 answer_found bytes (Err f) small sound packet size = tt
 answer_found bytes (Ok x) small sound packet size =
@@ -30,7 +30,7 @@ answer_found bytes (Ok x) small sound packet size =
 none_is_some : (f : PacketFault) → None ≡ Some f → ⊥
 none_is_some f e = cc
 
-pub answer_only : (bytes : List ℕ) (answer : Answer) → IfOk answer (λ x. x.0 ≡ contents_in bytes) → IfOk answer (λ x. x.1 ≡ packet_size_in bytes / 8) → IfErr answer (λ f. first_fault bytes ≡ Some f)
+pub answer_only : (bytes : List ℕ) (answer : Answer) → IfOk answer (λ x. x.0 ≡ contents_in bytes) → IfOk answer (λ x. x.1 ≡ packet_bits_in bytes / 8) → IfErr answer (λ f. first_fault bytes ≡ Some f)
     → (p : Contents) (rest : List ℕ) → Begins p rest bytes → answer ≡ Ok (p, packet_size p)
 answer_only bytes (Ok x) packet size fault p rest begins =
     let r = packet_read p rest bytes begins in

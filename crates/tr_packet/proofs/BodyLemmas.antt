@@ -9,7 +9,7 @@ use Rattle.tr_record.proofs.Fields.{some_is, entry_takes}
 use Rattle.tr_record.proofs.ReadingLemmas.{read_begins, begins_read}
 use Rattle.tr_record.proofs.RecordLemmas.{length-record_text}
 use Rattle.tr_record.proofs.WholeLemmas.{at_records, records_at, are_none, are_first}
-use Rattle.tr_packet.specs.Order.{rise_after, last_serial_after, in_order}
+use Rattle.tr_packet.specs.Order.{serials_rise_after, last_serial_after, in_order}
 use Rattle.tr_packet.specs.Seen.{seen_first, seen_next, verdict, judged_after, judged}
 use Rattle.tr_packet.specs.declared.fault.PacketFault.TheVariants.{BadRecord}
 use Rattle.tr_packet.specs.declared.seen.Seen.{Seen}
@@ -78,16 +78,16 @@ equal_is_enough n m false rest is = refl
 pub judged_first : (begin end : ℕ) (e : Entry) (o : Option (List Entry)) → judged begin end (with_first e o) ≡ judged_after (seen_first begin e) end o
 judged_first begin end e None = refl
 judged_first begin end e (Some es) =
-    same_verdict (rise_after (Some e.serial) es) (rise_after (Some e.serial) es) (eqb e.moment begin && (leb begin e.moment && in_order e.moment end es)) (eqb e.moment begin && in_order e.moment end es)
+    same_verdict (serials_rise_after (Some e.serial) es) (serials_rise_after (Some e.serial) es) (eqb e.moment begin && (leb begin e.moment && in_order e.moment end es)) (eqb e.moment begin && in_order e.moment end es)
     (length (e ∷ es)) (1 + length es) (last_serial_after (Some e.serial) es) refl (equal_is_enough e.moment begin (eqb e.moment begin) (in_order e.moment end es) refl) (omega arith)
 
 pub judged_next : (s : Seen) (end : ℕ) (e : Entry) (o : Option (List Entry)) → judged_after s end (with_first e o) ≡ judged_after (seen_next s e) end o
 judged_next s end e None = refl
 judged_next s end e (Some es) =
-    same_verdict (s.serials_rise && (ltb s.serial e.serial && rise_after (Some e.serial) es)) ((s.serials_rise && ltb s.serial e.serial) && rise_after (Some e.serial) es)
+    same_verdict (s.serials_rise && (ltb s.serial e.serial && serials_rise_after (Some e.serial) es)) ((s.serials_rise && ltb s.serial e.serial) && serials_rise_after (Some e.serial) es)
     (s.moments_hold && (leb s.moment e.moment && in_order e.moment end es)) ((s.moments_hold && leb s.moment e.moment) && in_order e.moment end es)
     (s.count + length (e ∷ es)) ((s.count + 1) + length es) (last_serial_after (Some e.serial) es)
-    (and_assoc s.serials_rise (ltb s.serial e.serial) (rise_after (Some e.serial) es)) (and_assoc s.moments_hold (leb s.moment e.moment) (in_order e.moment end es)) (omega arith)
+    (and_assoc s.serials_rise (ltb s.serial e.serial) (serials_rise_after (Some e.serial) es)) (and_assoc s.moments_hold (leb s.moment e.moment) (in_order e.moment end es)) (omega arith)
 
 -- ---- what the code's loop knows
 

@@ -16,7 +16,7 @@ use Rattle.tr_record.proofs.RecordLemmas.{all_weaken, fits_has_text, weight_of-r
 use Rattle.tr_record.proofs.WholeLemmas.{at_records, records_at, records_of}
 use Rattle.tr_packet.specs.Order.{serials_rise, last_serial_after, starts_at, in_order, moments_hold}
 use Rattle.tr_packet.specs.Packets.{Contents, magic, header_text, context_text, packet_text, packet_size, IsPacket}
-use Rattle.tr_packet.specs.Decoding.{Begins, number_from, bytes_from, stream_id_in, begin_in, end_in, content_size_in, packet_size_in, body_in, contents_in, sizes_hold, front_fault, records_fault, first_fault}
+use Rattle.tr_packet.specs.Decoding.{Begins, number_from, bytes_from, stream_id_in, begin_in, end_in, content_bits_in, packet_bits_in, body_in, contents_in, sizes_hold, front_fault, records_fault, first_fault}
 use Rattle.tr_packet.specs.Seen.{verdict, judged}
 use Rattle.tr_packet.specs.declared.fault.PacketFault.{PacketFault}
 use Rattle.tr_packet.specs.declared.fault.PacketFault.TheVariants.{Short, BadMagic, BadStreamId, BadSize, BadRecord, SerialOrder, MomentOrder}
@@ -32,11 +32,11 @@ pub record Passes (bytes : List ℕ) : Type 0 where
   pub long : 80 ≤ length bytes
   pub front : take 4 bytes ≡ magic
   pub id : stream_id_in bytes ≡ 0
-  pub sizes : content_size_in bytes ≡ packet_size_in bytes
-  pub whole : packet_size_in bytes % 8 ≡ 0
-  pub low : 8 * 104 ≤ packet_size_in bytes
-  pub high : packet_size_in bytes ≤ 8 * 65536
-  pub there : packet_size_in bytes / 8 ≤ length bytes
+  pub sizes : content_bits_in bytes ≡ packet_bits_in bytes
+  pub whole : packet_bits_in bytes % 8 ≡ 0
+  pub low : 8 * 104 ≤ packet_bits_in bytes
+  pub high : packet_bits_in bytes ≤ 8 * 65536
+  pub there : packet_bits_in bytes / 8 ≤ length bytes
 
 some_is_none : {A : Type 0} (x : A) → Some x ≡ None → ⊥
 some_is_none x e = cc
@@ -77,16 +77,16 @@ sizes_from content size s =
 pub front_passes : (bytes : List ℕ) → front_fault bytes ≡ None → Passes bytes
 unfolding front_fault
 front_passes bytes none =
-    let there = cond (ltb (length bytes) (packet_size_in bytes / 8)) (Some Short) None in
-    let sizes = cond (not (sizes_hold (content_size_in bytes) (packet_size_in bytes))) (Some BadSize) there in
+    let there = cond (ltb (length bytes) (packet_bits_in bytes / 8)) (Some Short) None in
+    let sizes = cond (not (sizes_hold (content_bits_in bytes) (packet_bits_in bytes))) (Some BadSize) there in
     let id = cond (not (eqb (stream_id_in bytes) 0)) (Some BadStreamId) sizes in
     let front = cond (not (starts_with eqb bytes magic)) (Some BadMagic) id in
     let a = no_fault (ltb (length bytes) 80) Short front none in
     let b = no_fault (not (starts_with eqb bytes magic)) BadMagic id a.1 in
     let c = no_fault (not (eqb (stream_id_in bytes) 0)) BadStreamId sizes b.1 in
-    let d = no_fault (not (sizes_hold (content_size_in bytes) (packet_size_in bytes))) BadSize there c.1 in
-    let e = no_fault (ltb (length bytes) (packet_size_in bytes / 8)) Short None d.1 in
-    let s = sizes_say (content_size_in bytes) (packet_size_in bytes) (holds (sizes_hold (content_size_in bytes) (packet_size_in bytes)) d.0) in
+    let d = no_fault (not (sizes_hold (content_bits_in bytes) (packet_bits_in bytes))) BadSize there c.1 in
+    let e = no_fault (ltb (length bytes) (packet_bits_in bytes / 8)) Short None d.1 in
+    let s = sizes_say (content_bits_in bytes) (packet_bits_in bytes) (holds (sizes_hold (content_bits_in bytes) (packet_bits_in bytes)) d.0) in
     record {
       long = ltb-false (length bytes) 80 a.0;
       front = sym (same_text magic (take 4 bytes) (sym (holds (starts_with eqb bytes magic) b.0)));
@@ -95,19 +95,19 @@ front_passes bytes none =
       whole = s.whole;
       low = s.low;
       high = s.high;
-      there = ltb-false (length bytes) (packet_size_in bytes / 8) e.0;
+      there = ltb-false (length bytes) (packet_bits_in bytes / 8) e.0;
     }
 
 passed_front : (bytes : List ℕ) → ltb (length bytes) 80 ≡ false → starts_with eqb bytes magic ≡ true → eqb (stream_id_in bytes) 0 ≡ true
-    → sizes_hold (content_size_in bytes) (packet_size_in bytes) ≡ true → ltb (length bytes) (packet_size_in bytes / 8) ≡ false → front_fault bytes ≡ None
+    → sizes_hold (content_bits_in bytes) (packet_bits_in bytes) ≡ true → ltb (length bytes) (packet_bits_in bytes / 8) ≡ false → front_fault bytes ≡ None
 unfolding front_fault
 passed_front bytes long front id sizes there = rw (long, front, id, sizes, there) refl
 
 pub passes_front : (bytes : List ℕ) → Passes bytes → front_fault bytes ≡ None
 passes_front bytes p =
     passed_front bytes (le-ltb (length bytes) 80 p.long) (ap (λ (t : List ℕ). starts_with eqb t magic) (sym (take-append-drop 4 bytes) ∙ ap (λ (t : List ℕ). t ++ drop 4 bytes) p.front))
-    (eq-eqb (stream_id_in bytes) 0 p.id) (sizes_from (content_size_in bytes) (packet_size_in bytes) (record { same = p.sizes; whole = p.whole; low = p.low; high = p.high }))
-    (le-ltb (length bytes) (packet_size_in bytes / 8) p.there)
+    (eq-eqb (stream_id_in bytes) 0 p.id) (sizes_from (content_bits_in bytes) (packet_bits_in bytes) (record { same = p.sizes; whole = p.whole; low = p.low; high = p.high }))
+    (le-ltb (length bytes) (packet_bits_in bytes / 8) p.there)
 
 -- ---- the records
 
@@ -210,24 +210,24 @@ first_none : (f g : Option PacketFault) → option_or f g ≡ None → (f ≡ No
 first_none None g e = (refl, e)
 first_none (Some f) g e = absurd (some_is_none f e)
 
-body_length : (bytes : List ℕ) → Passes bytes → 80 + length (body_in bytes) ≡ packet_size_in bytes / 8
+body_length : (bytes : List ℕ) → Passes bytes → 80 + length (body_in bytes) ≡ packet_bits_in bytes / 8
 body_length bytes p =
-    let size = packet_size_in bytes / 8 in
+    let size = packet_bits_in bytes / 8 in
     omega (arith, p.low, p.there, length-drop 80 (take size bytes), length-take size bytes)
 
 -- a packet in front: what it obeys, and that the bytes of its records are whole
 pub record Decoded (bytes : List ℕ) : Type 0 where
   pub packet : IsPacket (contents_in bytes)
   pub whole : AreWhole (body_in bytes)
-  pub size : packet_size_in bytes / 8 ≡ packet_size (contents_in bytes)
-  pub parts : bytes ≡ packet_text (contents_in bytes) ++ drop (packet_size_in bytes / 8) bytes
+  pub size : packet_bits_in bytes / 8 ≡ packet_size (contents_in bytes)
+  pub parts : bytes ≡ packet_text (contents_in bytes) ++ drop (packet_bits_in bytes / 8) bytes
 
 pub packet_decoded : (bytes : List ℕ) → AreBytes bytes → first_fault bytes ≡ None → Decoded bytes
 packet_decoded bytes small none =
-    let size = packet_size_in bytes / 8 in
+    let size = packet_bits_in bytes / 8 in
     let body = body_in bytes in
     let p = contents_in bytes in
-    let bits = packet_size_in bytes in
+    let bits = packet_bits_in bytes in
     let rest = drop size bytes in
     let faults = first_none (front_fault bytes) (records_fault (begin_in bytes) (end_in bytes) (entries_at body)) none in
     let passes = front_passes bytes faults.0 in
@@ -268,7 +268,7 @@ nonempty begin end (e ∷ es) h = omega (arith, sum_by-cons record_weight e es)
 pub record IsRead (p : Contents) (bytes : List ℕ) : Type 0 where
   pub sound : first_fault bytes ≡ None
   pub contents : contents_in bytes ≡ p
-  pub size : packet_size_in bytes / 8 ≡ packet_size p
+  pub size : packet_bits_in bytes / 8 ≡ packet_size p
 
 abbrev made : List ℕ → ℕ → ℕ → ℕ → ℕ → ℕ → List Entry → Contents
 made uuid stream begin end seq lost es = record { head = record { uuid = uuid; stream = stream; begin = begin; end = end; seq = seq; lost = lost }; records = es }
@@ -292,7 +292,7 @@ packet_read p rest bytes b =
     } in
     let bits = 8 * packet_size p in
     let f = fields_read p rest bytes b.parts fits (omega (arith, made.small)) in
-    let size : packet_size_in bytes / 8 ≡ packet_size p = omega (arith, f.size) in
+    let size : packet_bits_in bytes / 8 ≡ packet_size p = omega (arith, f.size) in
     let text = records_text p.records in
     let len : packet_size p ≡ 80 + length text = weight_of-records_text p.records in
     let long : length bytes ≡ packet_size p + length rest = ap length b.parts ∙ length-append (packet_text p) rest ∙ ap (λ (n : ℕ). n + length rest) (length-packet_text p b.packet.uuid) in
@@ -329,7 +329,7 @@ packet_read p rest bytes b =
 -- ---- what the decoder knows
 
 -- the bytes of the records, as they were cut out
-pub body_is : (bytes text body : List ℕ) (size : ℕ) → size ≡ packet_size_in bytes / 8 → text ≡ take size bytes → body ≡ drop 80 text → body ≡ body_in bytes
+pub body_is : (bytes text body : List ℕ) (size : ℕ) → size ≡ packet_bits_in bytes / 8 → text ≡ take size bytes → body ≡ drop 80 text → body ≡ body_in bytes
 body_is bytes text body size size-is text-is is = is ∙ ap (drop 80) (text-is ∙ ap (λ (n : ℕ). take n bytes) size-is)
 
 judged_in : (bytes body : List ℕ) (begin end : ℕ) → body ≡ body_in bytes → begin ≡ begin_in bytes → end ≡ end_in bytes → judged begin end (entries_at body) ≡ judged (begin_in bytes) (end_in bytes) (entries_at (body_in bytes))

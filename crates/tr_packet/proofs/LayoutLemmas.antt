@@ -7,7 +7,7 @@ use Rattle.tr_record.proofs.Fields.{AreBytes-take, AreBytes-drop, IsNumeral, num
 use Rattle.tr_record.specs.Whole.{AreBytes}
 use Rattle.tr_packet.specs.declared.head.Head.{Head}
 use Rattle.tr_packet.specs.Packets.{Contents, magic, header_text, context_text, packet_text, packet_size}
-use Rattle.tr_packet.specs.Decoding.{number_from, bytes_from, stream_id_in, begin_in, end_in, content_size_in, packet_size_in, contents_in}
+use Rattle.tr_packet.specs.Decoding.{number_from, bytes_from, stream_id_in, begin_in, end_in, content_bits_in, packet_bits_in, contents_in}
 
 -- ---- what is read where a text stands
 
@@ -39,8 +39,8 @@ pub record Fields (p : Contents) (bits : ℕ) (back bytes : List ℕ) : Type 0 w
   pub stream : number_from w64 24 bytes ≡ p.head.stream
   pub begin : begin_in bytes ≡ p.head.begin
   pub end : end_in bytes ≡ p.head.end
-  pub content : content_size_in bytes ≡ bits
-  pub size : packet_size_in bytes ≡ bits
+  pub content : content_bits_in bytes ≡ bits
+  pub size : packet_bits_in bytes ≡ bits
   pub seq : number_from w64 64 bytes ≡ p.head.seq
   pub lost : number_from w64 72 bytes ≡ p.head.lost
   pub tail : drop 80 bytes ≡ back
@@ -110,11 +110,11 @@ stands w limit numeral k j bytes small j-is long =
     cut k (byte_len w) j bytes j-is ∙ ap (λ (t : List ℕ). t ++ drop j bytes) (sym text)
 
 -- bytes with the magic, the stream_id 0 and equal sizes begin with a header and a context
-pub fields_stand : (bytes : List ℕ) → AreBytes bytes → 80 ≤ length bytes → take 4 bytes ≡ magic → stream_id_in bytes ≡ 0 → content_size_in bytes ≡ packet_size_in bytes
-    → bytes ≡ header_text (contents_in bytes).head ++ (context_text (contents_in bytes).head (packet_size_in bytes) ++ drop 80 bytes)
+pub fields_stand : (bytes : List ℕ) → AreBytes bytes → 80 ≤ length bytes → take 4 bytes ≡ magic → stream_id_in bytes ≡ 0 → content_bits_in bytes ≡ packet_bits_in bytes
+    → bytes ≡ header_text (contents_in bytes).head ++ (context_text (contents_in bytes).head (packet_bits_in bytes) ++ drop 80 bytes)
 fields_stand bytes small long front id sizes =
     let h = (contents_in bytes).head in
-    let bits = packet_size_in bytes in
+    let bits = packet_bits_in bytes in
     let at72 = stands w64 (2 ^ 64) numeral_64 72 80 bytes small refl (omega arith) in
     let at64 = stands w64 (2 ^ 64) numeral_64 64 72 bytes small refl (omega arith) in
     let at56 = stands w64 (2 ^ 64) numeral_64 56 64 bytes small refl (omega arith) in

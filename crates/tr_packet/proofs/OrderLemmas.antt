@@ -6,7 +6,7 @@ use Rattle.std.proofs.lemmas.Bool.{leb-true, le-leb, lt-ltb, eq-eqb}
 use Rattle.tr_record.specs.Records.{Entry, last_moment, Fits}
 use Rattle.tr_record.specs.Weight.{record_weight, weight_of}
 use Rattle.tr_record.proofs.RecordLemmas.{all_push, all_weaken, weight_of-push}
-use Rattle.tr_packet.specs.Order.{follows, rise_after, serials_rise, in_order, starts_at, moments_hold, IsBelow}
+use Rattle.tr_packet.specs.Order.{follows, serials_rise_after, serials_rise, in_order, starts_at, moments_hold, IsBelow}
 use Rattle.tr_packet.specs.Packets.{MakePacket}
 
 pub both : (a b : Bool) → a ≡ true → b ≡ true → (a && b) ≡ true
@@ -26,16 +26,16 @@ second_holds false b h = absurd cc
 pub below_more : (n m : ℕ) (es : List Entry) → n ≤ m → AllByRecursion (IsBelow n) es → AllByRecursion (IsBelow m) es
 below_more n m es le = all_weaken (IsBelow n) (IsBelow m) (λ e below. let h : e.serial < n = below in omega arith) es
 
-rise_after-push : (before : Option ℕ) (es : List Entry) (e : Entry) → IsTrue (rise_after before es) → follows before e.serial ≡ true → AllByRecursion (IsBelow e.serial) es
-    → IsTrue (rise_after before (es ++ e ∷ []))
-rise_after-push before [] e rise after below = both (follows before e.serial) true after refl
-rise_after-push before (x ∷ xs) e rise after below =
-    both (follows before x.serial) (rise_after (Some x.serial) (xs ++ e ∷ [])) (first_holds (follows before x.serial) (rise_after (Some x.serial) xs) rise)
-    (rise_after-push (Some x.serial) xs e (second_holds (follows before x.serial) (rise_after (Some x.serial) xs) rise) (lt-ltb x.serial e.serial below.0) below.1)
+serials_rise_after-push : (before : Option ℕ) (es : List Entry) (e : Entry) → IsTrue (serials_rise_after before es) → follows before e.serial ≡ true → AllByRecursion (IsBelow e.serial) es
+    → IsTrue (serials_rise_after before (es ++ e ∷ []))
+serials_rise_after-push before [] e rise after below = both (follows before e.serial) true after refl
+serials_rise_after-push before (x ∷ xs) e rise after below =
+    both (follows before x.serial) (serials_rise_after (Some x.serial) (xs ++ e ∷ [])) (first_holds (follows before x.serial) (serials_rise_after (Some x.serial) xs) rise)
+    (serials_rise_after-push (Some x.serial) xs e (second_holds (follows before x.serial) (serials_rise_after (Some x.serial) xs) rise) (lt-ltb x.serial e.serial below.0) below.1)
 
 -- a record with a greater serial may come behind
 pub serials_rise-push : (es : List Entry) (e : Entry) → IsTrue (serials_rise es) → AllByRecursion (IsBelow e.serial) es → IsTrue (serials_rise (es ++ e ∷ []))
-serials_rise-push es e rise below = rise_after-push None es e rise refl below
+serials_rise-push es e rise below = serials_rise_after-push None es e rise refl below
 
 -- ---- moments
 

@@ -36,15 +36,15 @@ begin_in = number_from w64 32
 abbrev pub end_in : List ℕ → ℕ
 end_in = number_from w64 40
 
-abbrev pub content_size_in : List ℕ → ℕ
-content_size_in = number_from w64 48
+abbrev pub content_bits_in : List ℕ → ℕ
+content_bits_in = number_from w64 48
 
-abbrev pub packet_size_in : List ℕ → ℕ
-packet_size_in = number_from w64 56
+abbrev pub packet_bits_in : List ℕ → ℕ
+packet_bits_in = number_from w64 56
 
 -- the bytes of the records: from 80 to the packet's end
 abbrev pub body_in : List ℕ → List ℕ
-body_in bytes = drop 80 (take (packet_size_in bytes / 8) bytes)
+body_in bytes = drop 80 (take (packet_bits_in bytes / 8) bytes)
 
 -- what the fields say, and the records
 abbrev pub contents_in : List ℕ → Contents
@@ -72,8 +72,8 @@ front_fault bytes =
     if nat_lt (length bytes) 80 then Some Short
     else if not (starts_with nat_eq bytes magic) then Some BadMagic
     else if not (nat_eq (stream_id_in bytes) 0) then Some BadStreamId
-    else if not (sizes_hold (content_size_in bytes) (packet_size_in bytes)) then Some BadSize
-    else if nat_lt (length bytes) (packet_size_in bytes / 8) then Some Short
+    else if not (sizes_hold (content_bits_in bytes) (packet_bits_in bytes)) then Some BadSize
+    else if nat_lt (length bytes) (packet_bits_in bytes / 8) then Some Short
     else None
 
 -- the first fault of the records of a packet that begins and ends at these moments; None: the bytes aren't whole records

@@ -9,12 +9,12 @@ follows None n = true
 follows (Some before) n = nat_lt before n
 
 -- the serials rise strictly, the first one from above the one before it
-abbrev pub rise_after : Option ℕ → List Entry → Bool
-rise_after before [] = true
-rise_after before (e ∷ es) = follows before e.serial && rise_after (Some e.serial) es
+abbrev pub serials_rise_after : Option ℕ → List Entry → Bool
+serials_rise_after before [] = true
+serials_rise_after before (e ∷ es) = follows before e.serial && serials_rise_after (Some e.serial) es
 
 abbrev pub serials_rise : List Entry → Bool
-serials_rise es = rise_after None es
+serials_rise es = serials_rise_after None es
 
 -- the last record's serial, or else the one before, if any
 abbrev pub last_serial_after : Option ℕ → List Entry → Option ℕ

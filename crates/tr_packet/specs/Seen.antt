@@ -1,7 +1,7 @@
 -- The records of a packet, one after another.
 use Rattle.std.specs.Prelude.{ℕ, ◌+◌, Bool, true, ◌&&◌, not, nat_eq, nat_le, nat_lt, List, length, Option, Some, None, unwrap_or, Result, Ok, Err, if◌then◌else◌}
 use Rattle.tr_record.specs.Records.{Entry}
-use Rattle.tr_packet.specs.Order.{serials_rise, rise_after, last_serial_after, starts_at, in_order}
+use Rattle.tr_packet.specs.Order.{serials_rise, serials_rise_after, last_serial_after, starts_at, in_order}
 use Rattle.tr_packet.specs.declared.fault.PacketFault.{PacketFault}
 use Rattle.tr_packet.specs.declared.fault.PacketFault.TheVariants.{BadRecord, SerialOrder, MomentOrder}
 use Rattle.tr_packet.specs.declared.seen.Seen.{Seen}
@@ -28,7 +28,7 @@ verdict serials_rise moments_hold count last = if not serials_rise then Err Seri
 abbrev pub judged_after : Seen → ℕ → Option (List Entry) → Result (ℕ × ℕ) PacketFault
 judged_after s end None = Err BadRecord
 judged_after s end (Some es) =
-    verdict (s.serials_rise && rise_after (Some s.serial) es) (s.moments_hold && in_order s.moment end es) (s.count + length es) (last_serial_after (Some s.serial) es)
+    verdict (s.serials_rise && serials_rise_after (Some s.serial) es) (s.moments_hold && in_order s.moment end es) (s.count + length es) (last_serial_after (Some s.serial) es)
 
 -- of all records of a packet that begins and ends at these moments
 abbrev pub judged : ℕ → ℕ → Option (List Entry) → Result (ℕ × ℕ) PacketFault

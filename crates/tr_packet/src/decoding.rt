@@ -1,7 +1,7 @@
 //! Reading a packet from the front of bytes.
 
 ghost use Rattle.std.specs.Prelude.{◌≡◌, ◌/◌, ◌↔◌, ℕ, List, Ok, Err, Some, None, IfOk, IfErr, drop};
-ghost use Rattle.tr_packet.specs.Decoding.{Begins, packet_size_in, contents_in, first_fault};
+ghost use Rattle.tr_packet.specs.Decoding.{Begins, packet_bits_in, contents_in, first_fault};
 ghost use Rattle.tr_packet.specs.Packets.{Contents, packet_size};
 
 use crate::fault::PacketFault;
@@ -13,7 +13,7 @@ use crate::view::PacketView;
 fn packet_in(bytes: &[u8]) -> Result<(PacketView<'_>, usize), PacketFault>
     ensures sound { IfOk result (λ _. first_fault bytes.now ≡ None) }
     ensures packet { IfOk result (λ x. x.0 ≡ contents_in bytes.now) }
-    ensures size { IfOk result (λ x. x.1 ≡ packet_size_in bytes.now / 8) }
+    ensures size { IfOk result (λ x. x.1 ≡ packet_bits_in bytes.now / 8) }
     ensures fault { IfErr result (λ f. first_fault bytes.now ≡ Some f) }
 {
     let size = size_of_front(bytes)?;

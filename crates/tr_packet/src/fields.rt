@@ -3,7 +3,7 @@
 ghost use Rattle.std.specs.Prelude.{◌≡◌, ◌+◌, ◌≤◌, ◌/◌, ◌<◌, ◌⊎◌, length, IfSome, IfNone, IfOk, IfErr, Some, None, true, false};
 ghost use Rattle.std.specs.Int.{w32, w64};
 ghost use Rattle.tr_record.specs.Records.{last_moment};
-ghost use Rattle.tr_packet.specs.Decoding.{number_from, bytes_from, packet_size_in, sizes_hold, front_fault, begin_in, end_in, contents_in};
+ghost use Rattle.tr_packet.specs.Decoding.{number_from, bytes_from, packet_bits_in, sizes_hold, front_fault, begin_in, end_in, contents_in};
 
 use crate::fault::PacketFault;
 use crate::head::Head;
@@ -71,7 +71,7 @@ fn bytes_of(content: u64, size: u64) -> Option<usize>
 /// How many bytes the packet in front has, by its fields, or the first fault of these.
 #[tactic(auto, unfolding(crate::specs::Decoding::front_fault))]
 pub(crate) fn size_of_front(bytes: &[u8]) -> Result<usize, PacketFault>
-    ensures size { IfOk result (λ n. (front_fault bytes.now ≡ None) × (n ≡ packet_size_in bytes.now / 8)) }
+    ensures size { IfOk result (λ n. (front_fault bytes.now ≡ None) × (n ≡ packet_bits_in bytes.now / 8)) }
     ensures fault { IfErr result (λ f. front_fault bytes.now ≡ Some f) }
 {
     if bytes.len() < FRONT {

@@ -7,8 +7,8 @@ use Rattle.std.specs.List.{AllByRecursion, flat_map, last_or}
 use Rattle.std.specs.Cmp.Lexicographic.{pointwise}
 use Rattle.std.specs.Prelude.{IsTrue, ◌&&◌, nat_eq, unwrap_or}
 use Rattle.tr_book.specs.Parts.{PartState}
-use Rattle.tr_chunk.specs.Audit.{numbers_of, serials_of, records_of_packets, belongs, BelongsTo, rise_from, all_of, AreAudited, audit_of, is_in_runs}
-use Rattle.tr_packet.specs.Order.{follows, rise_after}
+use Rattle.tr_chunk.specs.Audit.{numbers_of, serials_of, records_of_packets, belongs, BelongsTo, numbers_rise_after, all_of, AreAudited, audit_of, is_in_runs}
+use Rattle.tr_packet.specs.Order.{follows, serials_rise_after}
 use Rattle.tr_packet.specs.Packets.{Contents, IsPacket}
 use Rattle.tr_record.proofs.RecordLemmas.{all_append}
 use Rattle.tr_record.specs.Records.{Entry}
@@ -74,7 +74,7 @@ may-follow None least n le more = refl
 may-follow (Some b) least n le more = grind (arith, nat_tests, le, more)
 
 -- numbers that rise
-rise-numbers : (before : Option ℕ) (seq serial : ℕ) (bs : List ClosedBuffer) (next_seq next : ℕ) → low before ≤ seq → Rising seq serial bs next_seq next → rise_from before (map (λ (b : ClosedBuffer). b.seq) bs) ≡ true
+rise-numbers : (before : Option ℕ) (seq serial : ℕ) (bs : List ClosedBuffer) (next_seq next : ℕ) → low before ≤ seq → Rising seq serial bs next_seq next → numbers_rise_after before (map (λ (b : ClosedBuffer). b.seq) bs) ≡ true
 rise-numbers before seq serial [] next_seq next le rise = refl
 rise-numbers before seq serial (b ∷ bs) next_seq next le rise =
     let here = may-follow before seq b.seq le rise.0 in
@@ -82,14 +82,14 @@ rise-numbers before seq serial (b ∷ bs) next_seq next le rise =
     rw (here, rest)
 
 -- serials that rise, in a packet and behind it
-rise-entries : (before : Option ℕ) (serial : ℕ) (es rest : List Entry) → low before ≤ serial → RecordsRise serial es → ((after : Option ℕ) → low after ≤ next_serial serial es → rise_after after rest ≡ true) → rise_after before (es ++ rest) ≡ true
+rise-entries : (before : Option ℕ) (serial : ℕ) (es rest : List Entry) → low before ≤ serial → RecordsRise serial es → ((after : Option ℕ) → low after ≤ next_serial serial es → serials_rise_after after rest ≡ true) → serials_rise_after before (es ++ rest) ≡ true
 rise-entries before serial [] rest le rise then = then before le
 rise-entries before serial (e ∷ es) rest le rise then =
     let here = may-follow before serial e.serial le rise.0 in
     let more = rise-entries (Some e.serial) (e.serial + 1) es rest (omega arith) rise.1 then in
     rw (here, more)
 
-rise-records : (before : Option ℕ) (seq serial : ℕ) (bs : List ClosedBuffer) (next_seq next : ℕ) → low before ≤ serial → Rising seq serial bs next_seq next → rise_after before (records_behind bs) ≡ true
+rise-records : (before : Option ℕ) (seq serial : ℕ) (bs : List ClosedBuffer) (next_seq next : ℕ) → low before ≤ serial → Rising seq serial bs next_seq next → serials_rise_after before (records_behind bs) ≡ true
 rise-records before seq serial [] next_seq next le rise = refl
 rise-records before seq serial (b ∷ bs) next_seq next le rise =
     rise-entries before serial b.records (records_behind bs) le rise.1
@@ -124,8 +124,8 @@ passes s h sound is =
       sound = record {
         packets = all-sent (all_parts s.parts) (all_append CanBeSent s.parts.closed (s.parts.current ∷ []) sound.closed_sent (sound.current_sent, tt));
         belong = subst (λ (ps : List Contents). AllByRecursion (BelongsTo s.config.uuid s.config.number) ps) (sym same) (all-own s.config (consumed_of h));
-        numbers = subst (λ (ps : List Contents). IsTrue (rise_from None (numbers_of ps))) (sym same) (subst (λ (ns : List ℕ). IsTrue (rise_from None ns)) (sym (numbers-packets s.config (consumed_of h))) (rise-numbers None 0 0 (consumed_of h) h.filling.number (offered_of h) (omega arith) rise));
-        serials = subst (λ (ps : List Contents). IsTrue (rise_after None (records_of_packets ps))) (sym same) (subst (λ (es : List Entry). IsTrue (rise_after None es)) (sym (records-packets s.config (consumed_of h))) (rise-records None 0 0 (consumed_of h) h.filling.number (offered_of h) (omega arith) rise));
+        numbers = subst (λ (ps : List Contents). IsTrue (numbers_rise_after None (numbers_of ps))) (sym same) (subst (λ (ns : List ℕ). IsTrue (numbers_rise_after None ns)) (sym (numbers-packets s.config (consumed_of h))) (rise-numbers None 0 0 (consumed_of h) h.filling.number (offered_of h) (omega arith) rise));
+        serials = subst (λ (ps : List Contents). IsTrue (serials_rise_after None (records_of_packets ps))) (sym same) (subst (λ (es : List Entry). IsTrue (serials_rise_after None es)) (sym (records-packets s.config (consumed_of h))) (rise-records None 0 0 (consumed_of h) h.filling.number (offered_of h) (omega arith) rise));
       };
     }
 
