@@ -1,5 +1,5 @@
 -- A line whose first word names a command is read as by a command line with that command alone.
-use Rattle.std.proofs.Common.{◌≡◌, ◌≢◌, ◌∙◌, refl, sym, ap, ap₂, codes, Bool, true, false, List, [], ◌∷◌, ◌++◌, Some, None, Option, is_some, cond, subst, option_and_then}
+use Rattle.std.proofs.Common.{◌≡◌, ◌∙◌, refl, sym, ap, ap₂, codes, Bool, true, false, List, [], ◌∷◌, ◌++◌, Some, None, Option, is_some, cond, subst, option_and_then}
 use Rattle.std.specs.Prelude.{fold}
 use Rattle.std.specs.Str.{bytes_eq}
 use Rattle.std.proofs.lemmas.Slice.Eq.{bytes_eq-Decides}
@@ -11,7 +11,7 @@ use Rattle.clap.specs.Words.{Row, is_simple, subcommand_of}
 use Rattle.clap.proofs.OnLiterals.{clap_on_literals}
 use Rattle.clap.proofs.WalkLemmas.{walk_stopped}
 use Rattle.tr_command.specs.CommandLine.{archives_app, channel_app, consume_app, create_app, fate_app, offer_app, rotate_app, rotate_begin_app, rotate_finish_app, rotate_next_app, schedule_app, script_app, snapshot_app, start_app, status_app, stop_app, thread_app, tick_app}
-use Rattle.tr_command.specs.Dispatch.{alone, app_for, command_word}
+use Rattle.tr_command.specs.Dispatch.{alone, alone_or_whole, app_for, command_word}
 use Rattle.tr_command.specs.Asked.{Asked}
 use Rattle.tr_command.specs.Language.{asked_from, asked_of, is_free_of_faults}
 use Rattle.tr_command.specs.Reading.{asked_as}
@@ -192,52 +192,44 @@ unfolding asked_from
 asked_from-same a b words same = ap₂ asks same.0 same.1
 
 -- a choice by the word keeps that
-choice-same : (name : Text) (a other : App) (program word : Text) (rest : List Text) → ReadsSame a script_app (program ∷ name ∷ rest)
-    → asked_from other (program ∷ word ∷ rest) ≡ asked_of (program ∷ word ∷ rest)
-    → asked_from (cond (bytes_eq word name) a other) (program ∷ word ∷ rest) ≡ asked_of (program ∷ word ∷ rest)
+choice-same : (name : Text) (a : App) (other : Option App) (program word : Text) (rest : List Text) → ReadsSame (alone a) script_app (program ∷ name ∷ rest)
+    → asked_from (alone_or_whole other) (program ∷ word ∷ rest) ≡ asked_of (program ∷ word ∷ rest)
+    → asked_from (alone_or_whole (cond (bytes_eq word name) (Some a) other)) (program ∷ word ∷ rest) ≡ asked_of (program ∷ word ∷ rest)
 choice-same name a other program word rest named others = go (bytes_eq word name) refl
   where
-    go : (b : Bool) → bytes_eq word name ≡ b → asked_from (cond b a other) (program ∷ word ∷ rest) ≡ asked_of (program ∷ word ∷ rest)
+    go : (b : Bool) → bytes_eq word name ≡ b → asked_from (alone_or_whole (cond b (Some a) other)) (program ∷ word ∷ rest) ≡ asked_of (program ∷ word ∷ rest)
     go false e = others
-    go true e = subst (λ w. asked_from a (program ∷ w ∷ rest) ≡ asked_of (program ∷ w ∷ rest)) (sym ((bytes_eq-Decides word name).0 e)) (asked_from-same a script_app _ named)
+    go true e = subst (λ w. asked_from (alone a) (program ∷ w ∷ rest) ≡ asked_of (program ∷ w ∷ rest)) (sym ((bytes_eq-Decides word name).0 e)) (asked_from-same (alone a) script_app _ named)
 
 -- a line asks the same by the command line that is built for it
 pub asked_from-app_for : (words : List Text) → asked_from (app_for (command_word words)) words ≡ asked_of words
 asked_from-app_for [] = refl
 asked_from-app_for (program ∷ []) = refl
 asked_from-app_for (program ∷ word ∷ rest) =
-    choice-same (codes "create") (alone create_app) _ program word rest (create-reads_same program rest)
-    (choice-same (codes "channel") (alone channel_app) _ program word rest (channel-reads_same program rest)
-    (choice-same (codes "thread") (alone thread_app) _ program word rest (thread-reads_same program rest)
-    (choice-same (codes "start") (alone start_app) _ program word rest (start-reads_same program rest)
-    (choice-same (codes "stop") (alone stop_app) _ program word rest (stop-reads_same program rest)
-    (choice-same (codes "offer") (alone offer_app) _ program word rest (offer-reads_same program rest)
-    (choice-same (codes "consume") (alone consume_app) _ program word rest (consume-reads_same program rest)
-    (choice-same (codes "rotate-begin") (alone rotate_begin_app) _ program word rest (rotate_begin-reads_same program rest)
-    (choice-same (codes "rotate-next") (alone rotate_next_app) _ program word rest (rotate_next-reads_same program rest)
-    (choice-same (codes "rotate-finish") (alone rotate_finish_app) _ program word rest (rotate_finish-reads_same program rest)
-    (choice-same (codes "rotate") (alone rotate_app) _ program word rest (rotate-reads_same program rest)
-    (choice-same (codes "snapshot") (alone snapshot_app) _ program word rest (snapshot-reads_same program rest)
-    (choice-same (codes "fate") (alone fate_app) _ program word rest (fate-reads_same program rest)
-    (choice-same (codes "schedule") (alone schedule_app) _ program word rest (schedule-reads_same program rest)
-    (choice-same (codes "tick") (alone tick_app) _ program word rest (tick-reads_same program rest)
-    (choice-same (codes "status") (alone status_app) _ program word rest (status-reads_same program rest)
-    (choice-same (codes "archives") (alone archives_app) _ program word rest (archives-reads_same program rest)
+    choice-same (codes "create") create_app _ program word rest (create-reads_same program rest)
+    (choice-same (codes "channel") channel_app _ program word rest (channel-reads_same program rest)
+    (choice-same (codes "thread") thread_app _ program word rest (thread-reads_same program rest)
+    (choice-same (codes "start") start_app _ program word rest (start-reads_same program rest)
+    (choice-same (codes "stop") stop_app _ program word rest (stop-reads_same program rest)
+    (choice-same (codes "offer") offer_app _ program word rest (offer-reads_same program rest)
+    (choice-same (codes "consume") consume_app _ program word rest (consume-reads_same program rest)
+    (choice-same (codes "rotate-begin") rotate_begin_app _ program word rest (rotate_begin-reads_same program rest)
+    (choice-same (codes "rotate-next") rotate_next_app _ program word rest (rotate_next-reads_same program rest)
+    (choice-same (codes "rotate-finish") rotate_finish_app _ program word rest (rotate_finish-reads_same program rest)
+    (choice-same (codes "rotate") rotate_app _ program word rest (rotate-reads_same program rest)
+    (choice-same (codes "snapshot") snapshot_app _ program word rest (snapshot-reads_same program rest)
+    (choice-same (codes "fate") fate_app _ program word rest (fate-reads_same program rest)
+    (choice-same (codes "schedule") schedule_app _ program word rest (schedule-reads_same program rest)
+    (choice-same (codes "tick") tick_app _ program word rest (tick-reads_same program rest)
+    (choice-same (codes "status") status_app _ program word rest (status-reads_same program rest)
+    (choice-same (codes "archives") archives_app _ program word rest (archives-reads_same program rest)
     refl))))))))))))))))
-
--- a word that isn't this name leaves the choice to the others
-pub named_other : (word name : Text) (named others : App) → word ≢ name → others ≡ script_app → cond (bytes_eq word name) named others ≡ script_app
-named_other word name named others differs rest = go (bytes_eq word name) refl
-  where
-    go : (b : Bool) → bytes_eq word name ≡ b → cond b named others ≡ script_app
-    go false e = rest
-    go true e = absurd (differs ((bytes_eq-Decides word name).0 e))
 
 -- clap's definition speaks of these command lines
 abbrev pub IsSimple : App → Type 0
 IsSimple a = (is_simple a ≡ true) × (is_simple_and_free a ≡ true)
 
-choice-simple : (b : Bool) (a other : App) → IsSimple a → IsSimple other → IsSimple (cond b a other)
+choice-simple : (b : Bool) (a : App) (other : Option App) → IsSimple (alone a) → IsSimple (alone_or_whole other) → IsSimple (alone_or_whole (cond b (Some a) other))
 choice-simple true a other x y = x
 choice-simple false a other x y = y
 
@@ -249,21 +241,21 @@ pub app_for-simple : (word : Option Text) → IsSimple (app_for word)
 unfolding clap_on_literals
 app_for-simple None = script-simple
 app_for-simple (Some word) =
-    choice-simple (bytes_eq word (codes "create")) (alone create_app) _ (refl, refl)
-    (choice-simple (bytes_eq word (codes "channel")) (alone channel_app) _ (refl, refl)
-    (choice-simple (bytes_eq word (codes "thread")) (alone thread_app) _ (refl, refl)
-    (choice-simple (bytes_eq word (codes "start")) (alone start_app) _ (refl, refl)
-    (choice-simple (bytes_eq word (codes "stop")) (alone stop_app) _ (refl, refl)
-    (choice-simple (bytes_eq word (codes "offer")) (alone offer_app) _ (refl, refl)
-    (choice-simple (bytes_eq word (codes "consume")) (alone consume_app) _ (refl, refl)
-    (choice-simple (bytes_eq word (codes "rotate-begin")) (alone rotate_begin_app) _ (refl, refl)
-    (choice-simple (bytes_eq word (codes "rotate-next")) (alone rotate_next_app) _ (refl, refl)
-    (choice-simple (bytes_eq word (codes "rotate-finish")) (alone rotate_finish_app) _ (refl, refl)
-    (choice-simple (bytes_eq word (codes "rotate")) (alone rotate_app) _ (refl, refl)
-    (choice-simple (bytes_eq word (codes "snapshot")) (alone snapshot_app) _ (refl, refl)
-    (choice-simple (bytes_eq word (codes "fate")) (alone fate_app) _ (refl, refl)
-    (choice-simple (bytes_eq word (codes "schedule")) (alone schedule_app) _ (refl, refl)
-    (choice-simple (bytes_eq word (codes "tick")) (alone tick_app) _ (refl, refl)
-    (choice-simple (bytes_eq word (codes "status")) (alone status_app) _ (refl, refl)
-    (choice-simple (bytes_eq word (codes "archives")) (alone archives_app) _ (refl, refl)
+    choice-simple (bytes_eq word (codes "create")) create_app _ (refl, refl)
+    (choice-simple (bytes_eq word (codes "channel")) channel_app _ (refl, refl)
+    (choice-simple (bytes_eq word (codes "thread")) thread_app _ (refl, refl)
+    (choice-simple (bytes_eq word (codes "start")) start_app _ (refl, refl)
+    (choice-simple (bytes_eq word (codes "stop")) stop_app _ (refl, refl)
+    (choice-simple (bytes_eq word (codes "offer")) offer_app _ (refl, refl)
+    (choice-simple (bytes_eq word (codes "consume")) consume_app _ (refl, refl)
+    (choice-simple (bytes_eq word (codes "rotate-begin")) rotate_begin_app _ (refl, refl)
+    (choice-simple (bytes_eq word (codes "rotate-next")) rotate_next_app _ (refl, refl)
+    (choice-simple (bytes_eq word (codes "rotate-finish")) rotate_finish_app _ (refl, refl)
+    (choice-simple (bytes_eq word (codes "rotate")) rotate_app _ (refl, refl)
+    (choice-simple (bytes_eq word (codes "snapshot")) snapshot_app _ (refl, refl)
+    (choice-simple (bytes_eq word (codes "fate")) fate_app _ (refl, refl)
+    (choice-simple (bytes_eq word (codes "schedule")) schedule_app _ (refl, refl)
+    (choice-simple (bytes_eq word (codes "tick")) tick_app _ (refl, refl)
+    (choice-simple (bytes_eq word (codes "status")) status_app _ (refl, refl)
+    (choice-simple (bytes_eq word (codes "archives")) archives_app _ (refl, refl)
     script-simple))))))))))))))))

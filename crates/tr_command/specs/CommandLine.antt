@@ -15,88 +15,105 @@ option id = record (new_rule id) { long = Some id }
 abbrev pub flag : Text → Rule
 flag id = record (new_rule id) { long = Some id; action = Some SetTrue }
 
+-- `NAME SESSION ..`
+abbrev pub session_app : Text → App
+session_app name = with_rule (new_app name) (place (codes "session"))
+
+-- `NAME SESSION MOMENT`
+abbrev pub moment_app : Text → App
+moment_app name = with_rule (session_app name) (place (codes "moment"))
+
+-- `NAME SESSION STREAM ..`
+abbrev pub stream_app : Text → App
+stream_app name = with_rule (session_app name) (place (codes "stream"))
+
 -- `create SESSION UUID ..`
 abbrev pub create_head : App
-create_head = with_rule (with_rule (new_app (codes "create")) (place (codes "session"))) (place (codes "uuid"))
+create_head = with_rule (session_app (codes "create")) (place (codes "uuid"))
+
+-- `create SESSION UUID [--east MIN] [--west MIN] ..`
+abbrev pub create_offset : App
+create_offset = with_rule (with_rule create_head (option (codes "east"))) (option (codes "west"))
 
 -- `create SESSION UUID [--east MIN] [--west MIN] [--snapshot]`
 abbrev pub create_app : App
-create_app = with_rule (with_rule (with_rule create_head
-    (option (codes "east"))) (option (codes "west"))) (flag (codes "snapshot"))
+create_app = with_rule create_offset (flag (codes "snapshot"))
 
 -- `channel SESSION CHANNEL ..`
 abbrev pub channel_head : App
-channel_head = with_rule (with_rule (new_app (codes "channel")) (place (codes "session"))) (place (codes "channel"))
+channel_head = with_rule (session_app (codes "channel")) (place (codes "channel"))
+
+-- `channel SESSION CHANNEL SIZE COUNT ..`
+abbrev pub channel_sizes : App
+channel_sizes = with_rule (with_rule channel_head (place (codes "size"))) (place (codes "count"))
 
 -- `channel SESSION CHANNEL SIZE COUNT MODE`
 abbrev pub channel_app : App
-channel_app = with_rule (with_rule (with_rule channel_head
-    (place (codes "size"))) (place (codes "count"))) (place (codes "mode"))
+channel_app = with_rule channel_sizes (place (codes "mode"))
 
 -- `thread SESSION CHANNEL`
 abbrev pub thread_app : App
-thread_app = with_rule (with_rule (new_app (codes "thread")) (place (codes "session"))) (place (codes "channel"))
+thread_app = with_rule (session_app (codes "thread")) (place (codes "channel"))
 
 -- `start SESSION MOMENT`
 abbrev pub start_app : App
-start_app = with_rule (with_rule (new_app (codes "start")) (place (codes "session"))) (place (codes "moment"))
+start_app = moment_app (codes "start")
 
 -- `stop SESSION`
 abbrev pub stop_app : App
-stop_app = with_rule (new_app (codes "stop")) (place (codes "session"))
+stop_app = session_app (codes "stop")
 
--- `offer SESSION STREAM ..`
+-- `offer SESSION STREAM MOMENT ID ..`
 abbrev pub offer_head : App
-offer_head = with_rule (with_rule (new_app (codes "offer")) (place (codes "session"))) (place (codes "stream"))
+offer_head = with_rule (with_rule (stream_app (codes "offer")) (place (codes "moment"))) (place (codes "id"))
 
 -- `offer SESSION STREAM MOMENT ID [--text TEXT] [--fill LEN]`
 abbrev pub offer_app : App
-offer_app = with_rule (with_rule (with_rule (with_rule offer_head
-    (place (codes "moment"))) (place (codes "id"))) (option (codes "text"))) (option (codes "fill"))
+offer_app = with_rule (with_rule offer_head (option (codes "text"))) (option (codes "fill"))
 
 -- `consume SESSION STREAM`
 abbrev pub consume_app : App
-consume_app = with_rule (with_rule (new_app (codes "consume")) (place (codes "session"))) (place (codes "stream"))
+consume_app = stream_app (codes "consume")
 
 -- `rotate-begin SESSION MOMENT`
 abbrev pub rotate_begin_app : App
-rotate_begin_app = with_rule (with_rule (new_app (codes "rotate-begin")) (place (codes "session"))) (place (codes "moment"))
+rotate_begin_app = moment_app (codes "rotate-begin")
 
 -- `rotate-next SESSION`
 abbrev pub rotate_next_app : App
-rotate_next_app = with_rule (new_app (codes "rotate-next")) (place (codes "session"))
+rotate_next_app = session_app (codes "rotate-next")
 
 -- `rotate-finish SESSION`
 abbrev pub rotate_finish_app : App
-rotate_finish_app = with_rule (new_app (codes "rotate-finish")) (place (codes "session"))
+rotate_finish_app = session_app (codes "rotate-finish")
 
 -- `rotate SESSION MOMENT`
 abbrev pub rotate_app : App
-rotate_app = with_rule (with_rule (new_app (codes "rotate")) (place (codes "session"))) (place (codes "moment"))
+rotate_app = moment_app (codes "rotate")
 
 -- `snapshot SESSION MOMENT`
 abbrev pub snapshot_app : App
-snapshot_app = with_rule (with_rule (new_app (codes "snapshot")) (place (codes "session"))) (place (codes "moment"))
+snapshot_app = moment_app (codes "snapshot")
 
 -- `fate SESSION STREAM SERIAL`
 abbrev pub fate_app : App
-fate_app = with_rule (with_rule (with_rule (new_app (codes "fate")) (place (codes "session"))) (place (codes "stream"))) (place (codes "serial"))
+fate_app = with_rule (stream_app (codes "fate")) (place (codes "serial"))
 
 -- `schedule SESSION [--every NS] [--size BYTES]`
 abbrev pub schedule_app : App
-schedule_app = with_rule (with_rule (with_rule (new_app (codes "schedule")) (place (codes "session"))) (option (codes "every"))) (option (codes "size"))
+schedule_app = with_rule (with_rule (session_app (codes "schedule")) (option (codes "every"))) (option (codes "size"))
 
 -- `tick SESSION MOMENT`
 abbrev pub tick_app : App
-tick_app = with_rule (with_rule (new_app (codes "tick")) (place (codes "session"))) (place (codes "moment"))
+tick_app = moment_app (codes "tick")
 
 -- `status SESSION`
 abbrev pub status_app : App
-status_app = with_rule (new_app (codes "status")) (place (codes "session"))
+status_app = session_app (codes "status")
 
 -- `archives SESSION`
 abbrev pub archives_app : App
-archives_app = with_rule (new_app (codes "archives")) (place (codes "session"))
+archives_app = session_app (codes "archives")
 
 -- the commands that lay a session out
 abbrev pub layout_app : App

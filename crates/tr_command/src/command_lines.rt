@@ -3,82 +3,115 @@
 ghost use Rattle.std.specs.Prelude.{◌≡◌, IfOk, false};
 ghost use Rattle.clap.specs.Words.{app_of};
 ghost use Rattle.clap.specs.declared.builder.command.Command.TheViews.{out-Command as fields_of};
-ghost use Rattle.tr_command.specs.CommandLine.{activity_app, archives_app, channel_app, channel_head, consume_app, create_app, create_head, fate_app, layout_app, offer_app, offer_head, rotate_app, rotate_begin_app, rotate_finish_app, rotate_next_app, rotation_app, rotation_steps_app, running_app, schedule_app, schedules_app, script_app, snapshot_app, snapshots_app, start_app, status_app, stop_app, thread_app, tick_app};
+ghost use Rattle.tr_command.specs.CommandLine.{activity_app, archives_app, channel_app, channel_head, channel_sizes, consume_app, create_app, create_head, create_offset, fate_app, layout_app, moment_app, offer_app, offer_head, rotate_app, rotate_begin_app, rotate_finish_app, rotate_next_app, rotation_app, rotation_steps_app, running_app, schedule_app, schedules_app, script_app, session_app, snapshot_app, snapshots_app, start_app, status_app, stop_app, stream_app, thread_app, tick_app};
 
 use crate::arguments::{flag, option, place};
 use clap::Command;
 use std::alloc::{AllocError, Global};
 
+/// A command of a session: `NAME SESSION ..`.
+fn of_session<'a>(alloc: Global, name: &'a str) -> Result<Command<'a>, AllocError>
+    ensures shape { IfOk result (λ c. app_of c ≡ session_app name.entry.now) }
+    ensures local { IfOk result (λ c. (fields_of c).has_globals ≡ false) }
+{
+    Command::new(alloc, name).arg(place(alloc, "session"))
+}
+
+/// `NAME SESSION MOMENT`.
+fn at_moment<'a>(alloc: Global, name: &'a str) -> Result<Command<'a>, AllocError>
+    ensures shape { IfOk result (λ c. app_of c ≡ moment_app name.entry.now) }
+    ensures local { IfOk result (λ c. (fields_of c).has_globals ≡ false) }
+{
+    of_session(alloc, name)?.arg(place(alloc, "moment"))
+}
+
+/// `NAME SESSION STREAM ..`.
+fn of_stream<'a>(alloc: Global, name: &'a str) -> Result<Command<'a>, AllocError>
+    ensures shape { IfOk result (λ c. app_of c ≡ stream_app name.entry.now) }
+    ensures local { IfOk result (λ c. (fields_of c).has_globals ≡ false) }
+{
+    of_session(alloc, name)?.arg(place(alloc, "stream"))
+}
+
+/// `create SESSION UUID ..`.
 fn create_head_command<'a>(alloc: Global) -> Result<Command<'a>, AllocError>
     ensures shape { IfOk result (λ c. app_of c ≡ create_head) }
     ensures local { IfOk result (λ c. (fields_of c).has_globals ≡ false) }
 {
-    Command::new(alloc, "create")
-        .arg(place(alloc, "session"))?
-        .arg(place(alloc, "uuid"))
+    of_session(alloc, "create")?.arg(place(alloc, "uuid"))
+}
+
+/// With `[--east MIN] [--west MIN]`.
+fn create_offset_command<'a>(alloc: Global) -> Result<Command<'a>, AllocError>
+    ensures shape { IfOk result (λ c. app_of c ≡ create_offset) }
+    ensures local { IfOk result (λ c. (fields_of c).has_globals ≡ false) }
+{
+    create_head_command(alloc)?
+        .arg(option(alloc, "east"))?
+        .arg(option(alloc, "west"))
 }
 
 pub fn create_command<'a>(alloc: Global) -> Result<Command<'a>, AllocError>
     ensures shape { IfOk result (λ c. app_of c ≡ create_app) }
     ensures local { IfOk result (λ c. (fields_of c).has_globals ≡ false) }
 {
-    create_head_command(alloc)?
-        .arg(option(alloc, "east"))?
-        .arg(option(alloc, "west"))?
-        .arg(flag(alloc, "snapshot"))
+    create_offset_command(alloc)?.arg(flag(alloc, "snapshot"))
 }
 
+/// `channel SESSION CHANNEL ..`.
 fn channel_head_command<'a>(alloc: Global) -> Result<Command<'a>, AllocError>
     ensures shape { IfOk result (λ c. app_of c ≡ channel_head) }
     ensures local { IfOk result (λ c. (fields_of c).has_globals ≡ false) }
 {
-    Command::new(alloc, "channel")
-        .arg(place(alloc, "session"))?
-        .arg(place(alloc, "channel"))
+    of_session(alloc, "channel")?.arg(place(alloc, "channel"))
+}
+
+/// With `SIZE COUNT ..`.
+fn channel_sizes_command<'a>(alloc: Global) -> Result<Command<'a>, AllocError>
+    ensures shape { IfOk result (λ c. app_of c ≡ channel_sizes) }
+    ensures local { IfOk result (λ c. (fields_of c).has_globals ≡ false) }
+{
+    channel_head_command(alloc)?
+        .arg(place(alloc, "size"))?
+        .arg(place(alloc, "count"))
 }
 
 pub fn channel_command<'a>(alloc: Global) -> Result<Command<'a>, AllocError>
     ensures shape { IfOk result (λ c. app_of c ≡ channel_app) }
     ensures local { IfOk result (λ c. (fields_of c).has_globals ≡ false) }
 {
-    channel_head_command(alloc)?
-        .arg(place(alloc, "size"))?
-        .arg(place(alloc, "count"))?
-        .arg(place(alloc, "mode"))
+    channel_sizes_command(alloc)?.arg(place(alloc, "mode"))
 }
 
 pub fn thread_command<'a>(alloc: Global) -> Result<Command<'a>, AllocError>
     ensures shape { IfOk result (λ c. app_of c ≡ thread_app) }
     ensures local { IfOk result (λ c. (fields_of c).has_globals ≡ false) }
 {
-    Command::new(alloc, "thread")
-        .arg(place(alloc, "session"))?
-        .arg(place(alloc, "channel"))
+    of_session(alloc, "thread")?.arg(place(alloc, "channel"))
 }
 
 pub fn start_command<'a>(alloc: Global) -> Result<Command<'a>, AllocError>
     ensures shape { IfOk result (λ c. app_of c ≡ start_app) }
     ensures local { IfOk result (λ c. (fields_of c).has_globals ≡ false) }
 {
-    Command::new(alloc, "start")
-        .arg(place(alloc, "session"))?
-        .arg(place(alloc, "moment"))
+    at_moment(alloc, "start")
 }
 
 pub fn stop_command<'a>(alloc: Global) -> Result<Command<'a>, AllocError>
     ensures shape { IfOk result (λ c. app_of c ≡ stop_app) }
     ensures local { IfOk result (λ c. (fields_of c).has_globals ≡ false) }
 {
-    Command::new(alloc, "stop").arg(place(alloc, "session"))
+    of_session(alloc, "stop")
 }
 
+/// `offer SESSION STREAM MOMENT ID ..`.
 fn offer_head_command<'a>(alloc: Global) -> Result<Command<'a>, AllocError>
     ensures shape { IfOk result (λ c. app_of c ≡ offer_head) }
     ensures local { IfOk result (λ c. (fields_of c).has_globals ≡ false) }
 {
-    Command::new(alloc, "offer")
-        .arg(place(alloc, "session"))?
-        .arg(place(alloc, "stream"))
+    of_stream(alloc, "offer")?
+        .arg(place(alloc, "moment"))?
+        .arg(place(alloc, "id"))
 }
 
 pub fn offer_command<'a>(alloc: Global) -> Result<Command<'a>, AllocError>
@@ -86,8 +119,6 @@ pub fn offer_command<'a>(alloc: Global) -> Result<Command<'a>, AllocError>
     ensures local { IfOk result (λ c. (fields_of c).has_globals ≡ false) }
 {
     offer_head_command(alloc)?
-        .arg(place(alloc, "moment"))?
-        .arg(place(alloc, "id"))?
         .arg(option(alloc, "text"))?
         .arg(option(alloc, "fill"))
 }
@@ -96,68 +127,56 @@ pub fn consume_command<'a>(alloc: Global) -> Result<Command<'a>, AllocError>
     ensures shape { IfOk result (λ c. app_of c ≡ consume_app) }
     ensures local { IfOk result (λ c. (fields_of c).has_globals ≡ false) }
 {
-    Command::new(alloc, "consume")
-        .arg(place(alloc, "session"))?
-        .arg(place(alloc, "stream"))
+    of_stream(alloc, "consume")
 }
 
 pub fn rotate_begin_command<'a>(alloc: Global) -> Result<Command<'a>, AllocError>
     ensures shape { IfOk result (λ c. app_of c ≡ rotate_begin_app) }
     ensures local { IfOk result (λ c. (fields_of c).has_globals ≡ false) }
 {
-    Command::new(alloc, "rotate-begin")
-        .arg(place(alloc, "session"))?
-        .arg(place(alloc, "moment"))
+    at_moment(alloc, "rotate-begin")
 }
 
 pub fn rotate_next_command<'a>(alloc: Global) -> Result<Command<'a>, AllocError>
     ensures shape { IfOk result (λ c. app_of c ≡ rotate_next_app) }
     ensures local { IfOk result (λ c. (fields_of c).has_globals ≡ false) }
 {
-    Command::new(alloc, "rotate-next").arg(place(alloc, "session"))
+    of_session(alloc, "rotate-next")
 }
 
 pub fn rotate_finish_command<'a>(alloc: Global) -> Result<Command<'a>, AllocError>
     ensures shape { IfOk result (λ c. app_of c ≡ rotate_finish_app) }
     ensures local { IfOk result (λ c. (fields_of c).has_globals ≡ false) }
 {
-    Command::new(alloc, "rotate-finish").arg(place(alloc, "session"))
+    of_session(alloc, "rotate-finish")
 }
 
 pub fn rotate_command<'a>(alloc: Global) -> Result<Command<'a>, AllocError>
     ensures shape { IfOk result (λ c. app_of c ≡ rotate_app) }
     ensures local { IfOk result (λ c. (fields_of c).has_globals ≡ false) }
 {
-    Command::new(alloc, "rotate")
-        .arg(place(alloc, "session"))?
-        .arg(place(alloc, "moment"))
+    at_moment(alloc, "rotate")
 }
 
 pub fn snapshot_command<'a>(alloc: Global) -> Result<Command<'a>, AllocError>
     ensures shape { IfOk result (λ c. app_of c ≡ snapshot_app) }
     ensures local { IfOk result (λ c. (fields_of c).has_globals ≡ false) }
 {
-    Command::new(alloc, "snapshot")
-        .arg(place(alloc, "session"))?
-        .arg(place(alloc, "moment"))
+    at_moment(alloc, "snapshot")
 }
 
 pub fn fate_command<'a>(alloc: Global) -> Result<Command<'a>, AllocError>
     ensures shape { IfOk result (λ c. app_of c ≡ fate_app) }
     ensures local { IfOk result (λ c. (fields_of c).has_globals ≡ false) }
 {
-    Command::new(alloc, "fate")
-        .arg(place(alloc, "session"))?
-        .arg(place(alloc, "stream"))?
-        .arg(place(alloc, "serial"))
+    of_stream(alloc, "fate")?.arg(place(alloc, "serial"))
 }
 
 pub fn schedule_command<'a>(alloc: Global) -> Result<Command<'a>, AllocError>
     ensures shape { IfOk result (λ c. app_of c ≡ schedule_app) }
     ensures local { IfOk result (λ c. (fields_of c).has_globals ≡ false) }
 {
-    Command::new(alloc, "schedule")
-        .arg(place(alloc, "session"))?
+    of_session(alloc, "schedule")?
         .arg(option(alloc, "every"))?
         .arg(option(alloc, "size"))
 }
@@ -166,23 +185,21 @@ pub fn tick_command<'a>(alloc: Global) -> Result<Command<'a>, AllocError>
     ensures shape { IfOk result (λ c. app_of c ≡ tick_app) }
     ensures local { IfOk result (λ c. (fields_of c).has_globals ≡ false) }
 {
-    Command::new(alloc, "tick")
-        .arg(place(alloc, "session"))?
-        .arg(place(alloc, "moment"))
+    at_moment(alloc, "tick")
 }
 
 pub fn status_command<'a>(alloc: Global) -> Result<Command<'a>, AllocError>
     ensures shape { IfOk result (λ c. app_of c ≡ status_app) }
     ensures local { IfOk result (λ c. (fields_of c).has_globals ≡ false) }
 {
-    Command::new(alloc, "status").arg(place(alloc, "session"))
+    of_session(alloc, "status")
 }
 
 pub fn archives_command<'a>(alloc: Global) -> Result<Command<'a>, AllocError>
     ensures shape { IfOk result (λ c. app_of c ≡ archives_app) }
     ensures local { IfOk result (λ c. (fields_of c).has_globals ≡ false) }
 {
-    Command::new(alloc, "archives").arg(place(alloc, "session"))
+    of_session(alloc, "archives")
 }
 
 /// The commands that lay a session out.

@@ -6,7 +6,7 @@
 ghost use Rattle.std.specs.Prelude.{◌≡◌, IfOk, false, map, option_map};
 ghost use Rattle.clap.specs.Words.{app_of};
 ghost use Rattle.clap.specs.declared.builder.command.Command.TheViews.{out-Command as fields_of};
-ghost use Rattle.tr_command.specs.Dispatch.{alone, app_for, command_word};
+ghost use Rattle.tr_command.specs.Dispatch.{IsBuilt, alone, app_for, command_of, command_word};
 
 use crate::command_lines::{
     archives_command, channel_command, consume_command, create_command, fate_command,
@@ -35,28 +35,41 @@ fn alone<'a>(alloc: Global, command: Command<'a>) -> Result<Command<'a>, AllocEr
     Command::new(alloc, "tracerd").subcommand(command)
 }
 
+/// The command of this name. `None` where no command has it.
+fn command_named<'a>(alloc: Global, name: &str) -> Option<Result<Command<'a>, AllocError>>
+    ensures { IsBuilt result (command_of name.now) }
+{
+    match name {
+        "create" => Some(create_command(alloc)),
+        "channel" => Some(channel_command(alloc)),
+        "thread" => Some(thread_command(alloc)),
+        "start" => Some(start_command(alloc)),
+        "stop" => Some(stop_command(alloc)),
+        "offer" => Some(offer_command(alloc)),
+        "consume" => Some(consume_command(alloc)),
+        "rotate-begin" => Some(rotate_begin_command(alloc)),
+        "rotate-next" => Some(rotate_next_command(alloc)),
+        "rotate-finish" => Some(rotate_finish_command(alloc)),
+        "rotate" => Some(rotate_command(alloc)),
+        "snapshot" => Some(snapshot_command(alloc)),
+        "fate" => Some(fate_command(alloc)),
+        "schedule" => Some(schedule_command(alloc)),
+        "tick" => Some(tick_command(alloc)),
+        "status" => Some(status_command(alloc)),
+        "archives" => Some(archives_command(alloc)),
+        _ => None,
+    }
+}
+
 /// The command line of a line whose command word is this one.
 pub fn command_for<'a>(alloc: Global, word: Option<&str>) -> Result<Command<'a>, AllocError>
     ensures { IfOk result (λ c. app_of c ≡ app_for (option_map (λ w. w.now) word.entry)) }
 {
-    match word {
-        Some("create") => alone(alloc, create_command(alloc)?),
-        Some("channel") => alone(alloc, channel_command(alloc)?),
-        Some("thread") => alone(alloc, thread_command(alloc)?),
-        Some("start") => alone(alloc, start_command(alloc)?),
-        Some("stop") => alone(alloc, stop_command(alloc)?),
-        Some("offer") => alone(alloc, offer_command(alloc)?),
-        Some("consume") => alone(alloc, consume_command(alloc)?),
-        Some("rotate-begin") => alone(alloc, rotate_begin_command(alloc)?),
-        Some("rotate-next") => alone(alloc, rotate_next_command(alloc)?),
-        Some("rotate-finish") => alone(alloc, rotate_finish_command(alloc)?),
-        Some("rotate") => alone(alloc, rotate_command(alloc)?),
-        Some("snapshot") => alone(alloc, snapshot_command(alloc)?),
-        Some("fate") => alone(alloc, fate_command(alloc)?),
-        Some("schedule") => alone(alloc, schedule_command(alloc)?),
-        Some("tick") => alone(alloc, tick_command(alloc)?),
-        Some("status") => alone(alloc, status_command(alloc)?),
-        Some("archives") => alone(alloc, archives_command(alloc)?),
-        _ => script_command(alloc),
+    let Some(name) = word else {
+        return script_command(alloc);
+    };
+    match command_named(alloc, name) {
+        Some(command) => alone(alloc, command?),
+        None => script_command(alloc),
     }
 }
