@@ -1,21 +1,27 @@
 -- What the console's answers are, case by case.
-use Rattle.std.proofs.Common.{◌≡◌, ◌∙◌, ℕ, ◌+◌, zero, suc, true, false, List, [], ◌∷◌, ◌++◌, length, Option, Some, None, is_some, Result, Ok, Err, IfOk, OnOk, codes, refl, sym, ap, subst, append_assoc, arith, to_z, of_z, w32}
+use Rattle.std.proofs.Common.{◌≡◌, ◌∙◌, ℕ, ◌+◌, zero, suc, Bool, cond, true, false, List, [], ◌∷◌, ◌++◌, length, Option, Some, None, is_some, Result, Ok, Err, IfOk, OnOk, codes, refl, sym, ap, subst, append_assoc, arith, to_z, of_z, w32}
 use Rattle.std.proofs.lemmas.Grind.{common_steps}
 use Rattle.std.proofs.lemmas.Int.{ints}
 use Rattle.std.specs.Prelude.{ℤ, nat_le, replicate}
 use Rattle.std.specs.String.{string_bytes}
 use Rattle.std.specs.declared.alloc.AllocError.{AllocError}
+use Rattle.tr_book.specs.declared.mode.Mode.{Mode}
+use Rattle.tr_calls.specs.Calls.{added_channel, world_with}
+use Rattle.tr_calls.specs.World.{World, session_named, with_session}
 use Rattle.tr_command.specs.Asked.{IsOffset}
-use Rattle.tr_console.specs.Answers.{at_session, create_answer, most_sessions, payload_of}
-use Rattle.tr_console.specs.Faults.{wants_memory}
-use Rattle.tr_console.specs.Names.{is_name}
+use Rattle.tr_console.specs.Answers.{at_session, channel_answer, create_answer, most_sessions, payload_of, settled}
 use Rattle.tr_console.specs.Replies.{Does}
-use Rattle.tr_console.specs.Texts.{Text, refusal_text}
-use Rattle.tr_console.specs.World.{World, Step, said, refused, session_named}
-use Rattle.tr_console.specs.declared.faults.LineFault.{LineFault}
-use Rattle.tr_console.specs.declared.faults.LineFault.TheVariants as fault
-use Rattle.tr_console.specs.declared.replies.Reply.{Reply}
+use Rattle.tr_console.specs.Steps.{Step, said, refused}
+use Rattle.tr_outcome.specs.Faults.{wants_memory}
+use Rattle.tr_outcome.specs.Names.{is_name}
+use Rattle.tr_outcome.specs.Text.{Text}
+use Rattle.tr_outcome.specs.declared.faults.LineFault.{LineFault}
+use Rattle.tr_outcome.specs.declared.faults.LineFault.TheVariants as fault
+use Rattle.tr_replies.specs.Texts.{refusal_text}
+use Rattle.tr_replies.specs.declared.replies.Reply.{Reply}
 use Rattle.tr_session.specs.Session.{SessionOf, new_session}
+use Rattle.tr_session.specs.Steps.{session_channel_added}
+use Rattle.tr_session_book.specs.declared.faults.SessionFault.{SessionFault}
 use Rattle.tr_session_book.specs.declared.faults.SessionFault.TheVariants.{TooMany, NameTaken}
 use Rattle.tr_stream.specs.declared.config.SessionMode.{SessionMode}
 use Rattle.uuid.specs.Text.{parsed}
@@ -45,6 +51,31 @@ module _ {S : Type 0} where
 
   pub create-new : (w : World S) (name uuid : Text) (offset : ℤ) (mode : SessionMode) (u : List ℕ) → is_name name ≡ true → parsed uuid ≡ Some u → is_some (session_named name w) ≡ false → nat_le most_sessions (length w) ≡ false → create_answer w name uuid offset mode ≡ said (w ++ (name, new_session u offset mode) ∷ []) (codes "created " ++ name)
   create-new w name uuid offset mode u named good free few = rw (named, good, free, few) refl
+
+  -- what is answered where a channel was added, or not
+  pub channel_answered-ok : (name channel : Text) (size count : ℕ) (mode : Mode) (w after : World S) → added_channel name channel size count mode w ≡ Ok after → channel_answer w name channel size count mode ≡ said after (codes "channel " ++ channel)
+  channel_answered-ok name channel size count mode w after is = go (session_named name w) refl
+    where
+      of : (s : SessionOf S) (good : Bool) (r : Result (SessionOf S) SessionFault) → cond good (world_with name w r) (Err fault.BadName) ≡ Ok after → cond good (settled w name (codes "channel " ++ channel) r) (refused w fault.BadName) ≡ said after (codes "channel " ++ channel)
+      of s true (Ok t) e = let f : with_session name w t ≡ after = cc in ap (λ (v : World S). said v (codes "channel " ++ channel)) f
+      of s true (Err why) e = absurd cc
+      of s false r e = absurd cc
+
+      go : (o : Option (SessionOf S)) → session_named name w ≡ o → channel_answer w name channel size count mode ≡ said after (codes "channel " ++ channel)
+      go None e = let f : (let r : Result (World S) LineFault = Err fault.NoSession in r) ≡ Ok after = rw e at is in absurd cc
+      go (Some s) e = rw e (of s (is_name channel) (session_channel_added channel size count mode s) (rw e at is))
+
+  pub channel_answered-err : (name channel : Text) (size count : ℕ) (mode : Mode) (w : World S) (why : LineFault) → added_channel name channel size count mode w ≡ Err why → channel_answer w name channel size count mode ≡ refused w why
+  channel_answered-err name channel size count mode w why is = go (session_named name w) refl
+    where
+      of : (s : SessionOf S) (good : Bool) (r : Result (SessionOf S) SessionFault) → cond good (world_with name w r) (Err fault.BadName) ≡ Err why → cond good (settled w name (codes "channel " ++ channel) r) (refused w fault.BadName) ≡ refused w why
+      of s true (Ok t) e = absurd cc
+      of s true (Err g) e = let f : fault.Session g ≡ why = cc in ap (refused w) f
+      of s false r e = let f : fault.BadName ≡ why = cc in ap (refused w) f
+
+      go : (o : Option (SessionOf S)) → session_named name w ≡ o → channel_answer w name channel size count mode ≡ refused w why
+      go None e = let f : (let r : Result (World S) LineFault = Err fault.NoSession in r) ≡ Err why = rw e at is in let g : fault.NoSession ≡ why = cc in rw e (ap (refused w) g)
+      go (Some s) e = rw e (of s (is_name channel) (session_channel_added channel size count mode s) (rw e at is))
 
 pub none_from : {X : Type 0} → (o : Option X) → (((x : X) × (o ≡ Some x)) → ⊥) → o ≡ None
 none_from None h = refl

@@ -1,11 +1,6 @@
 pub mod AnswerLaws
-pub mod ArchiveLaws
-pub mod CallLaws
-pub mod ColumnLaws
-pub mod DropLaws
 pub mod FaultLemmas
 pub mod LineSteps
 pub mod RunLemmas
 pub mod ScriptAgreement
-pub mod StatusLaws
 pub mod WorldAgreement

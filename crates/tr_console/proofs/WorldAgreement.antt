@@ -5,28 +5,30 @@ use Rattle.std.specs.Fmt.{decimal}
 use Rattle.std.specs.Prelude.{nat_le}
 use Rattle.std.specs.Str.{bytes_eq}
 use Rattle.tr_book.specs.declared.mode.Mode.{Mode}
+use Rattle.tr_calls.specs.Calls.{mode_asked, by_session, by_step, named, schedule_asked, schedule_set, after_asked, tick_named}
+use Rattle.tr_calls.specs.World.{World, session_named, with_session}
 use Rattle.tr_command.specs.Asked.{Asked, Create, Channel, Thread, Start, Stop, Offer, Consume, RotateBegin, RotateNext, RotateFinish, Rotate, Snapshot, Schedule, Tick, Fate, Status, Archives}
 use Rattle.tr_console.specs.Agreement.{WorldsAgree}
-use Rattle.tr_console.specs.Answers.{most_sessions, created, create_answer, at_session, settled, answered, channel_answer, thread_answer, start_answer, stop_answer, payload_of, offer_answer, consume_answer, rotate_begin_answer, rotate_next_answer, rotate_finish_answer, rotate_answer, mode_asked, snapshot_answer, schedule_answer, tick_answer, fate_answer, status_answer, archives_answer, answer_to}
-use Rattle.tr_console.specs.Calls.{by_session, by_step, named, schedule_asked, schedule_set, after_asked, tick_named}
-use Rattle.tr_console.specs.Names.{is_name}
-use Rattle.tr_console.specs.Texts.{Text, line_of, started_text, stopped_text, offered_text, taken_text, rotating_text, next_text, archived_text, snapshot_text, schedule_text, tick_text, fate_text, status_line, status_head, status_rows, status_text, status_row, archive_text, archive_line, archive_lines, lines_or_none, archives_text}
-use Rattle.tr_console.specs.World.{World, Step, refused, session_named, with_session}
-use Rattle.tr_console.specs.declared.faults.LineFault.{LineFault}
-use Rattle.tr_console.specs.declared.faults.LineFault.TheVariants.{BadName}
-use Rattle.tr_console.specs.declared.schedules.TickTold.{TickTold}
-use Rattle.tr_console.specs.declared.schedules.TickTold.TheVariants as told
+use Rattle.tr_console.specs.Answers.{most_sessions, created, create_answer, at_session, settled, answered, channel_answer, thread_answer, start_answer, stop_answer, payload_of, offer_answer, consume_answer, rotate_begin_answer, rotate_next_answer, rotate_finish_answer, rotate_answer, snapshot_answer, schedule_answer, tick_answer, fate_answer, status_answer, archives_answer, answer_to}
+use Rattle.tr_console.specs.Steps.{Step, refused}
+use Rattle.tr_outcome.specs.Names.{is_name}
+use Rattle.tr_outcome.specs.Text.{Text}
+use Rattle.tr_outcome.specs.declared.faults.LineFault.{LineFault}
+use Rattle.tr_outcome.specs.declared.faults.LineFault.TheVariants.{BadName}
+use Rattle.tr_outcome.specs.declared.ticks.TickTold.{TickTold}
+use Rattle.tr_outcome.specs.declared.ticks.TickTold.TheVariants as told
+use Rattle.tr_replies.specs.Texts.{line_of, started_text, stopped_text, offered_text, taken_text, rotating_text, next_text, archived_text, snapshot_text, schedule_text, tick_text, fate_text, status_line, status_head, status_rows, status_text, status_row, archive_text, archive_line, archive_lines, lines_or_none, archives_text}
 use Rattle.tr_schedule.specs.Schedules.{ScheduleState}
 use Rattle.tr_schedule.specs.declared.faults.ScheduleFault.{ScheduleFault}
-use Rattle.tr_session.specs.declared.ticks.Ticked.{Ticked}
-use Rattle.tr_session.specs.declared.ticks.Ticked.TheVariants as ticked
 use Rattle.tr_session.proofs.Agreement.{ResultsAgree, same-length, agree-channel, agree-thread, agree-started, agree-stopped, same-offer, agree-offer, same-take, agree-take, agree-begun, same-next, agree-next, agree-finished, same-rotate, agree-rotate, same-snapshot, agree-snapshot, agree-scheduled, same-tick, agree-tick, same-fate, same-archive_packets, same-archive_bytes}
 use Rattle.tr_session.specs.Agreement.{AllAgree, SessionsAgree}
-use Rattle.tr_session_book.specs.BookSteps as book
 use Rattle.tr_session.specs.Session.{SessionOf, new_session}
-use Rattle.tr_session_book.specs.Book.{SessionBookState}
 use Rattle.tr_session.specs.Sizes.{archive_packets, archive_bytes}
 use Rattle.tr_session.specs.Steps as session
+use Rattle.tr_session.specs.declared.ticks.Ticked.{Ticked}
+use Rattle.tr_session.specs.declared.ticks.Ticked.TheVariants as ticked
+use Rattle.tr_session_book.specs.Book.{SessionBookState}
+use Rattle.tr_session_book.specs.BookSteps as book
 use Rattle.tr_session_book.specs.declared.archive.Archive.{Archive}
 use Rattle.tr_session_book.specs.declared.faults.SessionFault.{SessionFault}
 use Rattle.tr_stream.proofs.RuleLaws.{same-counted}

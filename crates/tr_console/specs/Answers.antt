@@ -1,32 +1,28 @@
 -- The answer to each command: the first refusal that applies, or what it does.
-use Rattle.std.specs.Prelude.{ℕ, ℤ, List, [], ◌∷◌, ◌++◌, Bool, true, false, nat_le, length, replicate, is_some, is_err, codes, Option, Result, Ok, Err, if◌then◌else◌}
 use Rattle.std.specs.Fmt.{decimal}
 use Rattle.std.specs.Option.{option_map_or}
+use Rattle.std.specs.Prelude.{ℕ, ℤ, List, [], ◌∷◌, ◌++◌, Bool, true, false, nat_le, length, replicate, is_some, is_err, codes, Option, Result, Ok, Err, if◌then◌else◌}
 use Rattle.tr_book.specs.declared.mode.Mode.{Mode}
+use Rattle.tr_calls.specs.Calls.{mode_asked, by_session, by_step, named, schedule_asked, schedule_set, after_asked, tick_named}
+use Rattle.tr_calls.specs.World.{World, session_named, with_session}
 use Rattle.tr_command.specs.Asked.{Asked, Create, Channel, Thread, Start, Stop, Offer, Consume, RotateBegin, RotateNext, RotateFinish, Rotate, Snapshot, Schedule, Tick, Fate, Status, Archives}
-use Rattle.tr_console.specs.Calls.{by_session, by_step, named, schedule_asked, schedule_set, after_asked, tick_named}
-use Rattle.tr_console.specs.Names.{is_name}
-use Rattle.tr_console.specs.Texts.{Text, line_of, started_text, stopped_text, offered_text, taken_text, rotating_text, next_text, archived_text, snapshot_text, schedule_text, tick_text, fate_text, status_text, archives_text}
-use Rattle.tr_console.specs.World.{World, Step, said, refused, session_named, with_session}
-use Rattle.tr_console.specs.declared.faults.LineFault.{LineFault}
-use Rattle.tr_console.specs.declared.faults.LineFault.TheVariants as fault
-use Rattle.tr_session_book.specs.BookSteps as book
+use Rattle.tr_console.specs.Steps.{Step, said, refused}
+use Rattle.tr_outcome.specs.Names.{is_name}
+use Rattle.tr_outcome.specs.Text.{Text}
+use Rattle.tr_outcome.specs.declared.faults.LineFault.{LineFault}
+use Rattle.tr_outcome.specs.declared.faults.LineFault.TheVariants as fault
+use Rattle.tr_replies.specs.Texts.{line_of, started_text, stopped_text, offered_text, taken_text, rotating_text, next_text, archived_text, snapshot_text, schedule_text, tick_text, fate_text, status_text, archives_text}
 use Rattle.tr_session.specs.Session.{SessionOf, new_session}
 use Rattle.tr_session.specs.Steps as session
+use Rattle.tr_session_book.specs.BookSteps as book
 use Rattle.tr_session_book.specs.declared.faults.SessionFault.{SessionFault}
 use Rattle.tr_session_book.specs.declared.faults.SessionFault.TheVariants.{TooMany, NameTaken}
 use Rattle.tr_stream.specs.Rules.{StreamRules}
 use Rattle.tr_stream.specs.declared.config.SessionMode.{SessionMode}
-use Rattle.tr_stream.specs.declared.config.SessionMode.TheVariants as mode
 use Rattle.uuid.specs.Text.{parsed}
 
 abbrev pub most_sessions : ℕ
 most_sessions = 16
-
--- whether a session is to be a snapshot session; else it consumes into chunks
-abbrev pub mode_asked : Bool → SessionMode
-mode_asked false = mode.Local
-mode_asked true = mode.Snapshot
 
 -- a session of this identifier is added, in its order
 abbrev pub created : {S : Type 0} → World S → Text → ℤ → SessionMode → List ℕ → Step S
@@ -131,6 +127,22 @@ status_answer rules w name = at_session w name (λ s. said w (status_text rules 
 
 abbrev pub archives_answer : {S : Type 0} → StreamRules S → World S → Text → Step S
 archives_answer rules w name = at_session w name (λ s. record { world = w; text = archives_text rules s; is_refused = false })
+
+-- ---- every command
+
+-- it asks for a step of a rotation, for a snapshot or for what a schedule does, or asks a question
+abbrev pub RotatesOrAsks : Asked → Type 0
+RotatesOrAsks (RotateBegin session moment) = Unit {0}
+RotatesOrAsks (RotateNext session) = Unit {0}
+RotatesOrAsks (RotateFinish session) = Unit {0}
+RotatesOrAsks (Rotate session moment) = Unit {0}
+RotatesOrAsks (Snapshot session moment) = Unit {0}
+RotatesOrAsks (Schedule session every size) = Unit {0}
+RotatesOrAsks (Tick session moment) = Unit {0}
+RotatesOrAsks (Fate session stream serial) = Unit {0}
+RotatesOrAsks (Status session) = Unit {0}
+RotatesOrAsks (Archives session) = Unit {0}
+RotatesOrAsks _ = ⊥
 
 abbrev pub answer_to : {S : Type 0} → StreamRules S → World S → Asked → Step S
 answer_to rules w (Create session uuid offset snapshot) = create_answer w session uuid offset (mode_asked snapshot)

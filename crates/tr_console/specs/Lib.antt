@@ -1,11 +1,7 @@
 pub mod Agreement
 pub mod Answers
-pub mod Calls
-pub mod Faults
-pub mod Names
 pub mod Replies
 pub mod Runs
 pub mod Script
 pub mod ScriptFaults
-pub mod Texts
-pub mod World
+pub mod Steps

@@ -1,40 +1,33 @@
 //! The sessions of a script, and the answer to each line.
 
 ghost use Rattle.std.specs.Prelude.{◌≡◌, ◌≤◌, ◌∷◌, ◌++◌, [], IfOk, codes, map, option_map, length, slice_get};
-ghost use Rattle.tr_command.specs.Language.{asked_of};
 ghost use Rattle.std.specs.String.{string_bytes};
 ghost use Rattle.tr_command.specs.Asked.{IsOffset, asked_by, moment_in, offset_in};
-ghost use Rattle.tr_console.specs.Answers.{answer_to, create_answer, channel_answer, thread_answer, start_answer, stop_answer, offer_answer, consume_answer, rotate_begin_answer, rotate_next_answer, rotate_finish_answer, rotate_answer, snapshot_answer, schedule_answer, tick_answer, fate_answer, status_answer, archives_answer, payload_of};
-ghost use Rattle.tr_console.specs.Calls.{RotatesOrAsks};
+ghost use Rattle.tr_command.specs.Language.{asked_of};
+ghost use Rattle.tr_console.specs.Answers.{RotatesOrAsks, answer_to, create_answer, channel_answer, thread_answer, start_answer, stop_answer, offer_answer, consume_answer, rotate_begin_answer, rotate_next_answer, rotate_finish_answer, rotate_answer, snapshot_answer, schedule_answer, tick_answer, fate_answer, status_answer, archives_answer, payload_of};
 ghost use Rattle.tr_console.specs.Replies.{Does};
 ghost use Rattle.tr_console.specs.Script.{asked_step, text_step};
 ghost use Rattle.tr_record.specs.Records.{last_moment};
 ghost use Rattle.tr_stream.specs.Rules.{by_state};
 
-use crate::archives::archives_of;
-use crate::faults::LineFault;
-use crate::names::is_valid_name;
-use crate::replies::{
-    Reply, bad_line, done_reply, fate_reply, offered_reply, refusal, skipped, taken_reply,
-};
-use crate::rotations::{
-    archived_reply, next_reply, rotate_at, rotate_begin_at, rotate_finish_at, rotate_next_at,
-    rotating_reply,
-};
-use crate::schedules::{schedule_at, schedule_reply, tick_at, tick_reply};
-use crate::sessions::{
-    ChannelShape, OfferTo, Sessions, add_channel_at, add_thread_at, fate_at, mode_of, offer_at,
-    shape_of, start_at, stop_at, take_at,
-};
-use crate::snapshots::{snapshot_at, snapshot_reply};
-use crate::status::status_of;
 use indexmap::IndexMap;
 use std::alloc::{AllocError, Allocator, Global};
 use std::marker::Model;
+use tr_calls::{
+    ChannelShape, OfferTo, Sessions, add_channel_at, add_thread_at, fate_at, mode_of, offer_at,
+    rotate_at, rotate_begin_at, rotate_finish_at, rotate_next_at, schedule_at, shape_of,
+    snapshot_at, start_at, stop_at, take_at, tick_at,
+};
 use tr_chunk::OffsetMinutes;
 use tr_command::{Request, parse};
 use tr_lines::{is_skipped_line, push_words};
+use tr_outcome::{LineFault, is_valid_name};
 use tr_record::Moment;
+use tr_replies::{
+    Reply, archived_reply, archives_of, bad_line, done_reply, fate_reply, next_reply,
+    offered_reply, refusal, rotating_reply, schedule_reply, skipped, snapshot_reply, status_of,
+    taken_reply, tick_reply,
+};
 use tr_session::Session;
 use tr_session_book::SessionFault;
 use tr_stream::SessionMode;
@@ -51,7 +44,7 @@ pub struct Console<A: Allocator = Global> {
 }
 
 impl<A: Allocator> Model for Console<A> {
-    ghost use Rattle.tr_console.specs.World.{World};
+    ghost use Rattle.tr_calls.specs.World.{World};
     ghost use Rattle.tr_session_book.specs.Names.{by_name};
     ghost use Rattle.tr_stream.specs.State.{StreamState};
 

@@ -12,9 +12,6 @@ use std::alloc::{Allocator, Global};
 use tr_lines::{Found, LineReader};
 use tr_record::{ByteSink, ByteSource, MemorySink, MemorySource, put_all};
 
-#[cfg(test)]
-mod tests;
-
 /// How many bytes are moved at once where a script or its answer is in memory.
 const PIECE: usize = 65_536;
 

@@ -1,7 +1,7 @@
 -- What a run of the program does.
 use Rattle.std.specs.Prelude.{◌≡◌, ◌⊎◌, ℕ, List, Option, Some, None}
+use Rattle.tr_calls.specs.World.{World}
 use Rattle.tr_console.specs.Runs.{Ran}
-use Rattle.tr_console.specs.World.{World}
 use Rattle.tr_export.specs.Failures.{HasFailed, HasNotFailed}
 use Rattle.tr_export.specs.Making.{Makings}
 use Rattle.tr_record.specs.Bytes.{and_then_bytes, once_more}

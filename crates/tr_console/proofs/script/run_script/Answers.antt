@@ -5,8 +5,8 @@ use Rattle.tr_console.proofs.LineSteps.{one_if}
 use Rattle.tr_console.proofs.RunLemmas.{Comes-found, Comes-memory, Comes-wrote, Going-breaks, Going-first, Going-last, Going-line, Going-memory, Going-too_far}
 use Rattle.tr_console.proofs.script.run_script.Goals as goal
 use Rattle.tr_console.specs.Script.{text_step}
-use Rattle.tr_console.specs.declared.script_fault.ScriptFault.TheVariants as fault
 use Rattle.tr_console.specs.ScriptFaults.{reading_fault}
+use Rattle.tr_console.specs.declared.script_fault.ScriptFault.TheVariants as fault
 use Rattle.tr_lines.specs.Reading.{Reading, longest_script}
 use Rattle.tr_lines.specs.declared.reader.ReadFault.TheVariants as read
 use Rattle.tr_record.proofs.ByteLemmas.{and_then_bytes-none}

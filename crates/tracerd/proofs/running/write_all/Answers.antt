@@ -1,9 +1,9 @@
 use Rattle.std.proofs.Common.{◌≡◌, ◌<◌, Some, length, refl, sym, arith}
 use Rattle.std.proofs.lemmas.Option.{get_or_from_slice_get}
 use Rattle.std.specs.Prelude.{slice_get}
-use Rattle.tr_console.specs.Texts.{Text}
 use Rattle.tr_export.proofs.MakingLemmas.{OnErr-always, each_cut, each_more}
 use Rattle.tr_export.specs.Archives.{archives_made}
+use Rattle.tr_outcome.specs.Text.{Text}
 use Rattle.tr_session.specs.Session.{SessionOf}
 use Rattle.tr_stream.specs.State.{StreamState}
 use Rattle.tracerd.proofs.running.write_all.Goals as goal

@@ -1,11 +1,10 @@
 use Rattle.std.proofs.Common.{◌≡◌, ◌∙◌, subst, refl, IfOk}
 use Rattle.std.specs.String.{string_bytes}
-use Rattle.tr_console.proofs.AnswerLaws.{refuses}
-use Rattle.tr_console.proofs.CallLaws.{channel_answered-ok, channel_answered-err}
+use Rattle.tr_calls.specs.World.{World}
+use Rattle.tr_console.proofs.AnswerLaws.{refuses, channel_answered-ok, channel_answered-err}
 use Rattle.tr_console.proofs.console.Console.add_channel.Goals as goal
 use Rattle.tr_console.specs.Answers.{channel_answer}
 use Rattle.tr_console.specs.Replies.{Does}
-use Rattle.tr_console.specs.World.{World}
 use Rattle.tr_session_book.specs.Names.{by_name}
 use Rattle.tr_stream.specs.State.{StreamState}
 

@@ -1,9 +1,10 @@
 use Rattle.std.proofs.Common.{IfOk}
+use Rattle.std.specs.Prelude.{ℤ}
+use Rattle.tr_calls.specs.Calls.{mode_asked}
+use Rattle.tr_command.specs.Asked.{IsOffset}
 use Rattle.tr_console.proofs.AnswerLaws.{as_passed}
 use Rattle.tr_console.proofs.console.Console.answer_request.Goals as goal
-use Rattle.std.specs.Prelude.{ℤ}
-use Rattle.tr_command.specs.Asked.{IsOffset}
-use Rattle.tr_console.specs.Answers.{create_answer, mode_asked}
+use Rattle.tr_console.specs.Answers.{create_answer}
 use Rattle.tr_console.specs.Replies.{Does}
 
 pub returns-in-Create : goal.returns-in-Create

@@ -3,17 +3,17 @@ use Rattle.std.proofs.lemmas.Bool.Decides.{nat_tests}
 use Rattle.std.proofs.lemmas.Int.{to_z-of_z}
 use Rattle.std.specs.Prelude.{nat_le}
 use Rattle.std.specs.String.{string_bytes}
+use Rattle.tr_calls.specs.World.{World, session_named}
 use Rattle.tr_console.proofs.AnswerLaws.{refuses, none_from, create-bad_uuid, create-taken, create-full, create-new}
 use Rattle.tr_console.proofs.console.Console.create.Goals as goal
 use Rattle.tr_console.specs.Answers.{create_answer, most_sessions}
-use Rattle.tr_console.specs.Names.{is_name}
 use Rattle.tr_console.specs.Replies.{Does}
-use Rattle.tr_console.specs.World.{World, session_named}
-use Rattle.tr_console.specs.declared.faults.LineFault.TheVariants as fault
-use Rattle.tr_session_book.specs.declared.faults.SessionFault.TheVariants.{TooMany, NameTaken}
+use Rattle.tr_outcome.specs.Names.{is_name}
+use Rattle.tr_outcome.specs.declared.faults.LineFault.TheVariants as fault
+use Rattle.tr_session.specs.Session.{new_session}
 use Rattle.tr_session_book.proofs.NameLaws.{is_some-by_name, length-by_name, insert_entry-new_name}
 use Rattle.tr_session_book.specs.Names.{by_name}
-use Rattle.tr_session.specs.Session.{new_session}
+use Rattle.tr_session_book.specs.declared.faults.SessionFault.TheVariants.{TooMany, NameTaken}
 use Rattle.tr_stream.specs.State.{StreamState}
 use Rattle.uuid.specs.Text.{parsed}
 

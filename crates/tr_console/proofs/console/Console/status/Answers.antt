@@ -1,16 +1,18 @@
 use Rattle.std.proofs.Common.{◌≡◌, ◌∙◌, ◌∷◌, ◌++◌, [], sym, ap, subst, refl, None, Some, IfOk}
 use Rattle.std.specs.Map.{lookup}
 use Rattle.std.specs.String.{string_bytes}
+use Rattle.tr_calls.proofs.CallLaws.{is_named, named-is}
+use Rattle.tr_calls.specs.World.{World}
 use Rattle.tr_console.proofs.AnswerLaws.{refuses, at-none, at-some}
-use Rattle.tr_console.proofs.CallLaws.{is_named, named-is}
 use Rattle.tr_console.proofs.console.Console.status.Goals as goal
 use Rattle.tr_console.specs.Answers.{status_answer}
 use Rattle.tr_console.specs.Replies.{Does}
-use Rattle.tr_console.specs.Texts.{Text, status_text}
-use Rattle.tr_console.specs.World.{World, said}
-use Rattle.tr_console.specs.declared.faults.LineFault.TheVariants.{NoSession}
-use Rattle.tr_session_book.specs.Names.{by_name}
+use Rattle.tr_console.specs.Steps.{said}
+use Rattle.tr_outcome.specs.Text.{Text}
+use Rattle.tr_outcome.specs.declared.faults.LineFault.TheVariants.{NoSession}
+use Rattle.tr_replies.specs.Texts.{status_text}
 use Rattle.tr_session.specs.Session.{SessionOf}
+use Rattle.tr_session_book.specs.Names.{by_name}
 use Rattle.tr_stream.specs.Rules.{by_state}
 use Rattle.tr_stream.specs.State.{StreamState}
 

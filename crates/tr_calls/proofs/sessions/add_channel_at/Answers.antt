@@ -1,0 +1,57 @@
+use Rattle.std.proofs.Common.{rules, ◌≡◌, ap, sym, refl, None, Some}
+use Rattle.std.specs.Map.{lookup}
+use Rattle.tr_calls.proofs.CallLaws.{is_named, named-is, set-is, unchanged-is, channel-none, channel-bad, channel-ok, channel-err, kept-by_session}
+use Rattle.tr_calls.proofs.sessions.add_channel_at.Goals as goal
+use Rattle.tr_session_book.specs.Names.{by_name}
+
+pub returns-in_default-clause-refused : goal.returns-in_default-clause-refused
+returns-in_default-clause-refused g c = λ _.
+    let es = c.args.sessions.now.entries in
+    let name = c.args.session.now in
+    let none : lookup (is_named name) es ≡ None = sym c.in_default.ensures.value in
+    channel-none name c.args.channel.now c.args.shape.size c.args.shape.count c.args.shape.mode (by_name es) (named-is name es None none)
+
+pub returns-in_default-clause-unchanged : goal.returns-in_default-clause-unchanged
+returns-in_default-clause-unchanged g c = ap (λ m. by_name m.entries) c.get_mut.follows.holds-at-none
+
+pub returns-in-Ok-clause-ok : goal.returns-in-Ok-clause-ok
+returns-in-Ok-clause-ok g c =
+    let es = c.args.sessions.now.entries in
+    let name = c.args.session.now in
+    let s = c.in-Some.found.now in
+    let found : lookup (is_named name) es ≡ Some s = sym c.in-Some.ensures.value in
+    let t = c.add_channel.new.self in
+    channel-ok name c.args.channel.now c.args.shape.size c.args.shape.count c.args.shape.mode (by_name es) (by_name (c.get_mut.follows.lender t).entries) s t (named-is name es (Some s) found) (search rules) c.in-Ok.ensures.ok (set-is name es (c.get_mut.follows.lender t).entries t (c.get_mut.follows.holds t).0)
+
+pub returns-in-Err-clause-refused : goal.returns-in-Err-clause-refused
+returns-in-Err-clause-refused g c = λ kept.
+    let es = c.args.sessions.now.entries in
+    let name = c.args.session.now in
+    let s = c.in-Some.found.now in
+    let found : lookup (is_named name) es ≡ Some s = sym c.in-Some.ensures.value in
+    channel-err name c.args.channel.now c.args.shape.size c.args.shape.count c.args.shape.mode (by_name es) s c.in-Err.fault (named-is name es (Some s) found) (search rules) (c.in-Err.ensures.refused (kept-by_session c.in-Err.fault kept))
+
+pub returns-in-Err-clause-unchanged : goal.returns-in-Err-clause-unchanged
+returns-in-Err-clause-unchanged g c =
+    let es = c.args.sessions.now.entries in
+    let name = c.args.session.now in
+    let s = c.in-Some.found.now in
+    let found : lookup (is_named name) es ≡ Some s = sym c.in-Some.ensures.value in
+    let t = c.add_channel.new.self in
+    unchanged-is name es (c.get_mut.follows.lender t).entries s t found c.in-Err.ensures.unchanged (c.get_mut.follows.holds t).0
+
+pub returns-then-not-is_valid_name-clause-refused : goal.returns-then-not-is_valid_name-clause-refused
+returns-then-not-is_valid_name-clause-refused g c = λ _.
+    let es = c.args.sessions.now.entries in
+    let name = c.args.session.now in
+    let s = c.in-Some.found.now in
+    let found : lookup (is_named name) es ≡ Some s = sym c.in-Some.ensures.value in
+    channel-bad name c.args.channel.now c.args.shape.size c.args.shape.count c.args.shape.mode (by_name es) s (named-is name es (Some s) found) (search rules)
+
+pub returns-then-not-is_valid_name-clause-unchanged : goal.returns-then-not-is_valid_name-clause-unchanged
+returns-then-not-is_valid_name-clause-unchanged g c =
+    let es = c.args.sessions.now.entries in
+    let name = c.args.session.now in
+    let s = c.in-Some.found.now in
+    let found : lookup (is_named name) es ≡ Some s = sym c.in-Some.ensures.value in
+    unchanged-is name es (c.get_mut.follows.lender s).entries s s found refl (c.get_mut.follows.holds s).0

@@ -1,0 +1,111 @@
+//! Schedules and ticks of the session of a name.
+
+ghost use Rattle.std.specs.Prelude.{◌≡◌};
+ghost use Rattle.tr_calls.specs.Calls.{after_asked, after_call, call_answer, schedule_asked, schedule_set, tick_named};
+ghost use Rattle.tr_outcome.specs.Faults.{HasMemory};
+ghost use Rattle.tr_session.specs.Steps.{after_tick, tick_answer};
+ghost use Rattle.tr_session_book.specs.BookSteps.{schedule_answer};
+ghost use Rattle.tr_session_book.specs.Names.{by_name};
+ghost use Rattle.tr_stream.specs.Rules.{by_state};
+
+use crate::sessions::Sessions;
+use std::alloc::Allocator;
+use tr_outcome::{LineFault, NamedArchive, TickTold};
+use tr_record::Moment;
+use tr_schedule::{Schedule, ScheduleFault};
+use tr_session::{Session, Ticked};
+
+/// The schedule that a line asks for: none where it says neither.
+fn schedule_for(every: Option<u64>, size: Option<u64>) -> Result<Option<Schedule>, ScheduleFault>
+    ensures { result ≡ schedule_asked every size }
+{
+    if every.is_none() && size.is_none() {
+        return Ok(None);
+    }
+    match Schedule::new(every, size) {
+        Ok(schedule) => Ok(Some(schedule)),
+        Err(fault) => Err(fault),
+    }
+}
+
+/// Sets the schedule of a session. Where there is none such, the session may refuse it first.
+fn set_schedule<A: Allocator>(
+    session: &mut Session<A>,
+    asked: Result<Option<Schedule>, ScheduleFault>,
+) -> Result<Option<Schedule>, LineFault>
+    ensures answer { result ≡ schedule_set (schedule_answer session.old.book) asked }
+    ensures after { session.new ≡ after_asked asked session.old }
+{
+    match asked {
+        Ok(schedule) => match session.set_schedule(schedule) {
+            Ok(()) => Ok(session.book().schedule()),
+            Err(fault) => Err(LineFault::Session(fault)),
+        },
+        Err(fault) => match session.book().can_schedule() {
+            Ok(()) => Err(LineFault::Schedule(fault)),
+            Err(refusal) => Err(LineFault::Session(refusal)),
+        },
+    }
+}
+
+/// Sets the schedule of the session of a name, after so many nanoseconds and at so many bytes, or none where neither is
+/// given, and answers with what is set.
+///
+/// # Errors
+///
+/// `NoSession`, those of `Session::set_schedule`, and then those of `Schedule::new`: nothing changed.
+pub fn schedule_at<A: Allocator>(
+    sessions: &mut Sessions<A>,
+    session: &str,
+    every: Option<u64>,
+    size: Option<u64>,
+) -> Result<Option<Schedule>, LineFault>
+    ensures { HasMemory result →
+        (result ≡ call_answer session.now (λ s. schedule_set (schedule_answer s.book) (schedule_asked every size)) (by_name sessions.old.entries))
+        × (by_name sessions.new.entries ≡ after_call session.now (after_asked (schedule_asked every size)) (by_name sessions.old.entries)) }
+{
+    let asked = schedule_for(every, size);
+    let Some(found) = sessions.get_mut(session) else {
+        return Err(LineFault::NoSession);
+    };
+    set_schedule(found, asked)
+}
+
+/// Ticks a session.
+fn tick<A: Allocator + Copy>(
+    session: &mut Session<A>,
+    moment: Moment,
+) -> Result<TickTold, LineFault>
+    ensures { HasMemory result →
+        (result ≡ tick_named session.old (tick_answer by_state moment session.old)) × (session.new ≡ after_tick by_state moment session.old) }
+{
+    let offset = session.book().offset();
+    match session.tick(moment) {
+        Ok(Ticked::Idle) => Ok(TickTold::Idle),
+        Ok(Ticked::Rotated { cause, archive }) => {
+            let named = NamedArchive { archive, offset };
+            Ok(TickTold::Rotated { cause, named })
+        }
+        Err(fault) => Err(LineFault::Session(fault)),
+    }
+}
+
+/// Ticks the session of a name: rotates it where its schedule says at this moment that a rotation is due.
+///
+/// # Errors
+///
+/// `NoSession`, and that of `Session::tick`. What stands after want of memory isn't said.
+pub fn tick_at<A: Allocator + Copy>(
+    sessions: &mut Sessions<A>,
+    session: &str,
+    moment: Moment,
+) -> Result<TickTold, LineFault>
+    ensures { HasMemory result →
+        (result ≡ call_answer session.now (λ s. tick_named s (tick_answer by_state moment s)) (by_name sessions.old.entries))
+        × (by_name sessions.new.entries ≡ after_call session.now (after_tick by_state moment) (by_name sessions.old.entries)) }
+{
+    let Some(found) = sessions.get_mut(session) else {
+        return Err(LineFault::NoSession);
+    };
+    tick(found, moment)
+}

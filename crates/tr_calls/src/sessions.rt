@@ -1,0 +1,228 @@
+//! Sessions by name, and what is added to them, offered, taken and asked.
+
+ghost use Rattle.std.specs.Prelude.{◌≡◌, false, Ok, Err, Some, OnOk, OnErr, IfOk, IfErr, length, option_map};
+ghost use Rattle.tr_calls.specs.Calls.{added, added_channel, after_call, by_session, by_step, call_answer, mode_asked};
+ghost use Rattle.tr_calls.specs.World.{session_named};
+ghost use Rattle.tr_outcome.specs.Faults.{HasMemory, wants_memory};
+ghost use Rattle.tr_session_book.specs.BookSteps.{start_answer, stop_answer};
+ghost use Rattle.tr_session_book.specs.Names.{by_name};
+ghost use Rattle.tr_session.specs.Steps.{thread_added, all_started, all_stopped, offer_step, after_offer_step, take_step, after_take_step, fate_asked};
+ghost use Rattle.tr_stream.specs.Rules.{by_state};
+
+use indexmap::IndexMap;
+use std::alloc::Allocator;
+use std::hash::{BuildHasherDefault, FoldHasher};
+use tr_book::Mode;
+use tr_outcome::{LineFault, is_valid_name};
+use tr_record::Moment;
+use tr_session::Session;
+use tr_stream::{Fate, Offered, SessionMode, Taken};
+
+/// Sessions by name, in order of creation.
+pub type Sessions<A> = IndexMap<String<A>, Session<A>, BuildHasherDefault<FoldHasher>, A>;
+
+/// How the streams of a channel that is asked for are made.
+#[derive(Clone, Copy, Debug)]
+pub struct ChannelShape {
+    /// The size of a sub-buffer in bytes.
+    pub size: u64,
+    /// How many sub-buffers a ring has.
+    pub count: u64,
+    /// What a full ring does.
+    pub mode: Mode,
+}
+
+/// The shape of a channel whose sizes a command gave.
+pub fn shape_of(size: u32, count: u32, mode: Mode) -> ChannelShape
+    ensures { result ≡ record { size = size; count = count; mode = mode } }
+{
+    ChannelShape {
+        size: u64::from(size),
+        count: u64::from(count),
+        mode,
+    }
+}
+
+/// The mode of a session that a command asks for.
+pub fn mode_of(snapshot: bool) -> SessionMode
+    ensures { result ≡ mode_asked snapshot }
+{
+    if snapshot {
+        SessionMode::Snapshot
+    } else {
+        SessionMode::Local
+    }
+}
+
+/// What an offer gives beside its payload.
+#[derive(Clone, Copy, Debug)]
+pub struct OfferTo {
+    /// The number of the stream that it is for.
+    pub stream: u64,
+    /// The moment of the record.
+    pub moment: Moment,
+    /// The id of the record.
+    pub id: u32,
+}
+
+/// Adds a channel to the session of a name.
+///
+/// # Errors
+///
+/// `NoSession`, `BadName`, and those of `Session::add_channel`: nothing changed.
+pub fn add_channel_at<A: Allocator + Copy>(
+    sessions: &mut Sessions<A>,
+    session: &str,
+    channel: &str,
+    shape: ChannelShape,
+) -> Result<(), LineFault>
+    ensures ok { OnOk result (added_channel session.now channel.now shape.size shape.count shape.mode (by_name sessions.old.entries) ≡ Ok (by_name sessions.new.entries)) }
+    ensures refused { IfErr result (λ fault. wants_memory fault ≡ false → added_channel session.now channel.now shape.size shape.count shape.mode (by_name sessions.old.entries) ≡ Err fault) }
+    ensures unchanged { OnErr result (by_name sessions.new.entries ≡ by_name sessions.old.entries) }
+{
+    let Some(found) = sessions.get_mut(session) else {
+        return Err(LineFault::NoSession);
+    };
+    if !is_valid_name(channel) {
+        return Err(LineFault::BadName);
+    }
+    match found.add_channel(channel, shape.size, shape.count, shape.mode) {
+        Ok(()) => Ok(()),
+        Err(fault) => Err(LineFault::Session(fault)),
+    }
+}
+
+/// Adds a thread to a channel of the session of a name, and answers with the number of its stream.
+///
+/// # Errors
+///
+/// `NoSession`, and those of `Session::add_thread`: nothing changed.
+pub fn add_thread_at<A: Allocator + Copy>(
+    sessions: &mut Sessions<A>,
+    session: &str,
+    channel: &str,
+) -> Result<u64, LineFault>
+    ensures number { IfOk result (λ n. option_map (λ s. length s.streams) (session_named session.now (by_name sessions.old.entries)) ≡ Some n) }
+    ensures ok { OnOk result (added session.now (thread_added by_state channel.now) (by_name sessions.old.entries) ≡ Ok (by_name sessions.new.entries)) }
+    ensures refused { IfErr result (λ fault. wants_memory fault ≡ false → added session.now (thread_added by_state channel.now) (by_name sessions.old.entries) ≡ Err fault) }
+    ensures unchanged { OnErr result (by_name sessions.new.entries ≡ by_name sessions.old.entries) }
+{
+    let Some(found) = sessions.get_mut(session) else {
+        return Err(LineFault::NoSession);
+    };
+    match found.add_thread(channel) {
+        Ok(stream) => Ok(stream),
+        Err(fault) => Err(LineFault::Session(fault)),
+    }
+}
+
+/// Starts the session of a name and its streams.
+///
+/// # Errors
+///
+/// `NoSession`, and those of `Session::start`: nothing changed.
+pub fn start_at<A: Allocator>(
+    sessions: &mut Sessions<A>,
+    session: &str,
+    moment: Moment,
+) -> Result<(), LineFault>
+    ensures { HasMemory result →
+        (result ≡ call_answer session.now (λ s. by_session (start_answer s.book)) (by_name sessions.old.entries))
+        × (by_name sessions.new.entries ≡ after_call session.now (all_started by_state moment) (by_name sessions.old.entries)) }
+{
+    let Some(found) = sessions.get_mut(session) else {
+        return Err(LineFault::NoSession);
+    };
+    match found.start(moment) {
+        Ok(()) => Ok(()),
+        Err(fault) => Err(LineFault::Session(fault)),
+    }
+}
+
+/// Stops the session of a name and its streams.
+///
+/// # Errors
+///
+/// `NoSession`, and those of `Session::stop`: nothing changed.
+pub fn stop_at<A: Allocator>(sessions: &mut Sessions<A>, session: &str) -> Result<(), LineFault>
+    ensures { HasMemory result →
+        (result ≡ call_answer session.now (λ s. by_session (stop_answer s.book)) (by_name sessions.old.entries))
+        × (by_name sessions.new.entries ≡ after_call session.now (all_stopped by_state) (by_name sessions.old.entries)) }
+{
+    let Some(found) = sessions.get_mut(session) else {
+        return Err(LineFault::NoSession);
+    };
+    match found.stop() {
+        Ok(()) => Ok(()),
+        Err(fault) => Err(LineFault::Session(fault)),
+    }
+}
+
+/// Offers a record to a stream of the session of a name.
+///
+/// # Errors
+///
+/// `NoSession`, and those of `Session::offer`: nothing changed. What stands after want of memory isn't said.
+pub fn offer_at<A: Allocator + Copy>(
+    sessions: &mut Sessions<A>,
+    session: &str,
+    offer: OfferTo,
+    payload: &[u8],
+) -> Result<Offered, LineFault>
+    ensures { HasMemory result →
+        (result ≡ call_answer session.now (λ s. by_step (offer_step by_state offer.stream offer.moment offer.id payload.now s)) (by_name sessions.old.entries))
+        × (by_name sessions.new.entries ≡ after_call session.now (after_offer_step by_state offer.stream offer.moment offer.id payload.now) (by_name sessions.old.entries)) }
+{
+    let Some(found) = sessions.get_mut(session) else {
+        return Err(LineFault::NoSession);
+    };
+    match found.offer(offer.stream, offer.moment, offer.id, payload) {
+        Ok(offered) => Ok(offered),
+        Err(fault) => Err(LineFault::Step(fault)),
+    }
+}
+
+/// Takes the oldest packet of a stream of the session of a name.
+///
+/// # Errors
+///
+/// `NoSession`, and those of `Session::take`: nothing changed. What stands after want of memory isn't said.
+pub fn take_at<A: Allocator + Copy>(
+    sessions: &mut Sessions<A>,
+    session: &str,
+    stream: u64,
+) -> Result<Taken, LineFault>
+    ensures { HasMemory result →
+        (result ≡ call_answer session.now (λ s. by_step (take_step by_state stream s)) (by_name sessions.old.entries))
+        × (by_name sessions.new.entries ≡ after_call session.now (after_take_step by_state stream) (by_name sessions.old.entries)) }
+{
+    let Some(found) = sessions.get_mut(session) else {
+        return Err(LineFault::NoSession);
+    };
+    match found.take(stream) {
+        Ok(taken) => Ok(taken),
+        Err(fault) => Err(LineFault::Step(fault)),
+    }
+}
+
+/// What became of an offer to a stream of the session of a name, none where there was no such offer yet.
+///
+/// # Errors
+///
+/// `NoSession`, and those of `Session::fate_of`.
+pub fn fate_at<A: Allocator>(
+    sessions: &Sessions<A>,
+    session: &str,
+    stream: u64,
+    serial: u64,
+) -> Result<Option<Fate>, LineFault>
+    ensures { result ≡ call_answer session.now (λ s. by_step (fate_asked by_state stream serial s)) (by_name sessions.now.entries) }
+{
+    let Some(found) = sessions.get(session) else {
+        return Err(LineFault::NoSession);
+    };
+    match found.fate_of(stream, serial) {
+        Ok(fate) => Ok(fate),
+        Err(fault) => Err(LineFault::Step(fault)),
+    }
+}

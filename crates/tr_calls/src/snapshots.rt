@@ -1,0 +1,37 @@
+//! Snapshots of the session of a name.
+
+ghost use Rattle.std.specs.Prelude.{◌≡◌};
+ghost use Rattle.tr_calls.specs.Calls.{after_call, by_session, call_answer};
+ghost use Rattle.tr_outcome.specs.Faults.{HasMemory};
+ghost use Rattle.tr_session.specs.Steps.{after_snapshot, snapshot_answer};
+ghost use Rattle.tr_session_book.specs.Names.{by_name};
+ghost use Rattle.tr_stream.specs.Rules.{by_state};
+
+use crate::sessions::Sessions;
+use std::alloc::Allocator;
+use tr_outcome::LineFault;
+use tr_record::Moment;
+use tr_snapshot::Snapshot;
+
+/// Takes a snapshot of the session of a name.
+///
+/// # Errors
+///
+/// `NoSession`, and those of `Session::snapshot`: nothing changed. What stands after want of memory isn't said.
+pub fn snapshot_at<A: Allocator + Copy>(
+    sessions: &mut Sessions<A>,
+    session: &str,
+    moment: Moment,
+) -> Result<Snapshot<A>, LineFault>
+    ensures { HasMemory result →
+        (result ≡ call_answer session.now (λ s. by_session (snapshot_answer by_state moment s)) (by_name sessions.old.entries))
+        × (by_name sessions.new.entries ≡ after_call session.now (after_snapshot moment) (by_name sessions.old.entries)) }
+{
+    let Some(found) = sessions.get_mut(session) else {
+        return Err(LineFault::NoSession);
+    };
+    match found.snapshot(moment) {
+        Ok(snapshot) => Ok(snapshot),
+        Err(fault) => Err(LineFault::Session(fault)),
+    }
+}

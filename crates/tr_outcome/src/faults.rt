@@ -1,0 +1,95 @@
+//! Why a line is refused.
+
+ghost use Rattle.std.specs.Prelude.{◌≡◌};
+ghost use Rattle.tr_outcome.specs.Faults.{line_fault_code, line_fault_name, wants_memory};
+
+use thiserror::Error;
+use tr_schedule::ScheduleFault;
+use tr_session::StepFault;
+use tr_session_book::SessionFault;
+
+/// Why a line is refused: by the console, by a session, or by a stream. Nothing changed.
+#[derive(Clone, Copy, Debug, PartialEq, Eq, Error)]
+pub enum LineFault {
+    /// There is no session of this name.
+    #[error("K1 NoSession")]
+    NoSession,
+    /// The text is no UUID.
+    #[error("K2 BadUuid")]
+    BadUuid,
+    /// What is to be created can't have this name.
+    #[error("K3 BadName")]
+    BadName,
+    /// There is no such schedule.
+    #[error("{0}")]
+    Schedule(ScheduleFault),
+    /// By the session, or by the console in a session's words.
+    #[error("{0}")]
+    Session(SessionFault),
+    /// By the session or the stream of a step.
+    #[error("{0}")]
+    Step(StepFault),
+}
+
+impl LineFault {
+    /// The code that answers and documents call it by.
+    pub fn code(&self) -> &'static str
+        ensures { result.now ≡ line_fault_code self.now }
+    {
+        match self {
+            LineFault::NoSession => "K1",
+            LineFault::BadUuid => "K2",
+            LineFault::BadName => "K3",
+            LineFault::Schedule(fault) => fault.code(),
+            LineFault::Session(fault) => fault.code(),
+            LineFault::Step(fault) => fault.code(),
+        }
+    }
+
+    /// Its name, as answers print it.
+    pub fn name(&self) -> &'static str
+        ensures { result.now ≡ line_fault_name self.now }
+    {
+        match self {
+            LineFault::NoSession => "NoSession",
+            LineFault::BadUuid => "BadUuid",
+            LineFault::BadName => "BadName",
+            LineFault::Schedule(fault) => fault.name(),
+            LineFault::Session(fault) => fault.name(),
+            LineFault::Step(fault) => fault.name(),
+        }
+    }
+
+    /// Whether memory was refused, which ends the run.
+    pub fn is_want_of_memory(&self) -> bool
+        ensures { result ≡ wants_memory self.now }
+    {
+        match self {
+            LineFault::Session(fault) => fault.wants_memory(),
+            LineFault::Step(fault) => fault.wants_memory(),
+            _ => false,
+        }
+    }
+}
+
+impl From<SessionFault> for LineFault {
+    ghost use Rattle.std.specs.Prelude.{◌≡◌};
+    ghost use Rattle.tr_outcome.specs.declared.faults.LineFault.TheVariants.{Session};
+
+    ghost from_gives = { λ fault e. e ≡ Session fault };
+
+    fn from(fault: SessionFault) -> LineFault {
+        LineFault::Session(fault)
+    }
+}
+
+impl From<StepFault> for LineFault {
+    ghost use Rattle.std.specs.Prelude.{◌≡◌};
+    ghost use Rattle.tr_outcome.specs.declared.faults.LineFault.TheVariants.{Step};
+
+    ghost from_gives = { λ fault e. e ≡ Step fault };
+
+    fn from(fault: StepFault) -> LineFault {
+        LineFault::Step(fault)
+    }
+}

@@ -1,0 +1,13 @@
+//! What a line's call can come to: why it is refused, and how archives and ticks are told.
+//! The calls of sessions by their names and the texts of their answers both stand on this.
+#![tactic(auto)]
+
+mod archives;
+mod faults;
+mod names;
+mod ticks;
+
+pub use archives::NamedArchive;
+pub use faults::LineFault;
+pub use names::is_valid_name;
+pub use ticks::TickTold;

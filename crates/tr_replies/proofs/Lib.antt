@@ -1,0 +1,4 @@
+pub mod ArchiveLaws
+pub mod ColumnLaws
+pub mod DropLaws
+pub mod StatusLaws
