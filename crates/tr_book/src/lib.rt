@@ -8,8 +8,6 @@ mod mode;
 mod part;
 mod parts;
 mod snap;
-#[cfg(test)]
-mod tests;
 
 pub use book::Book;
 pub use counts::Counts;

@@ -103,6 +103,3 @@ pub fn archive_name<A: Allocator>(
     write!(text, "-{id}")?;
     Ok(text)
 }
-
-#[cfg(test)]
-mod tests;

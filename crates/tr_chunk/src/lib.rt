@@ -19,6 +19,3 @@ pub use names::stream_file_name;
 pub use offset::OffsetMinutes;
 pub use stream_audit::{Gaps, StreamAudit};
 pub use writing::{write_metadata, write_packets, write_part};
-
-#[cfg(test)]
-mod tests;

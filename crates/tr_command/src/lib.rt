@@ -11,8 +11,6 @@ mod numbers;
 mod parsing;
 mod readings;
 mod requests;
-#[cfg(test)]
-mod tests;
 mod values;
 
 pub use numbers::number;

@@ -1,7 +1,7 @@
 -- The answer to each command: the first refusal that applies, or what it does.
 use Rattle.std.specs.Fmt.{decimal}
 use Rattle.std.specs.Option.{option_map_or}
-use Rattle.std.specs.Prelude.{ℕ, ℤ, List, [], ◌∷◌, ◌++◌, Bool, true, false, nat_le, length, replicate, is_some, is_err, codes, Option, Result, Ok, Err, if◌then◌else◌}
+use Rattle.std.specs.Prelude.{ℕ, ℤ, List, [], ◌∷◌, ◌++◌, false, nat_le, length, replicate, is_some, is_err, codes, Option, Result, Ok, Err, if◌then◌else◌}
 use Rattle.tr_book.specs.declared.mode.Mode.{Mode}
 use Rattle.tr_calls.specs.Calls.{mode_asked, by_session, by_step, named, schedule_asked, schedule_set, after_asked, tick_named}
 use Rattle.tr_calls.specs.World.{World, session_named, with_session}

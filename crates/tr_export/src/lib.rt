@@ -8,8 +8,6 @@ mod made;
 mod memory;
 mod paths;
 mod system;
-#[cfg(test)]
-mod tests;
 mod writing;
 
 pub use counting::CountingFile;

@@ -4,8 +4,6 @@
 
 mod line;
 mod reader;
-#[cfg(test)]
-mod tests;
 mod words;
 
 pub use reader::{Found, LineReader, ReadFault};

@@ -20,6 +20,3 @@ pub use head::Head;
 pub use metadata::metadata_text;
 pub use packet::Packet;
 pub use view::PacketView;
-
-#[cfg(test)]
-mod tests;

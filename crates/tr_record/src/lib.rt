@@ -24,6 +24,3 @@ pub use records::Records;
 pub use streams::{ReaderSource, WriterSink};
 pub use view::RecView;
 pub use writing::{put_bytes, put_rec, put_u32, put_u64, rec_size};
-
-#[cfg(test)]
-mod tests;

@@ -5,8 +5,6 @@
 mod closed;
 mod pushed;
 mod ring;
-#[cfg(test)]
-mod tests;
 
 pub use closed::ClosedSubBuf;
 pub use pushed::Pushed;

@@ -8,6 +8,3 @@ mod schedule;
 pub use cause::Cause;
 pub use faults::ScheduleFault;
 pub use schedule::Schedule;
-
-#[cfg(test)]
-mod tests;

@@ -17,9 +17,6 @@ ghost use Rattle.tr_stream.specs.declared.events.StreamEvent.{StreamEvent};
 
 use std::alloc::Allocator;
 
-#[cfg(test)]
-mod tests;
-
 /// The files of every stream pass their audit; they hold the packets of the blocks that were kept, in order; and in every
 /// well-formed history, and so in every run, the gaps that the audit finds are exactly the blocks that were dropped below
 /// the last kept one. Does nothing.

@@ -13,8 +13,6 @@ mod run;
 mod session;
 mod snapshot;
 mod streams;
-#[cfg(test)]
-mod tests;
 mod ticks;
 
 pub use archive_size::ArchiveSize;

@@ -12,9 +12,6 @@ use tr_record::Moment;
 use tr_session_book::{Archive, SessionFault};
 use tr_stream::CutFault;
 
-#[cfg(test)]
-mod tests;
-
 /// What a rotation did next.
 #[derive(Clone, Copy, Debug, PartialEq, Eq)]
 pub enum Next {

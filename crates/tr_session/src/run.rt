@@ -13,9 +13,6 @@ use crate::session::Session;
 use std::alloc::Allocator;
 use tr_session_book::SessionFault;
 
-#[cfg(test)]
-mod tests;
-
 impl<A: Allocator + Copy> Session<A> {
     /// One event, answered as its call answers. A refusal, also for want of memory, changes nothing.
     pub fn step(&mut self, event: &Event<A>) -> Answer<A>

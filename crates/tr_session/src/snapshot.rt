@@ -10,9 +10,6 @@ use tr_record::Moment;
 use tr_session_book::SessionFault;
 use tr_snapshot::Snapshot;
 
-#[cfg(test)]
-mod tests;
-
 impl<A: Allocator + Copy> Session<A> {
     /// A snapshot of the session: each of its streams as it is at this moment, or at the last one if that is later. The
     /// moment is stored, and nothing else changes.

@@ -11,9 +11,6 @@ use tr_record::Moment;
 use tr_schedule::Cause;
 use tr_session_book::{Archive, SessionFault};
 
-#[cfg(test)]
-mod tests;
-
 /// What a tick did.
 #[derive(Clone, Copy, Debug, PartialEq, Eq)]
 pub enum Ticked {

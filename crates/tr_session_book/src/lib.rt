@@ -7,8 +7,6 @@ mod book;
 mod channel;
 mod faults;
 mod state;
-#[cfg(test)]
-mod tests;
 
 pub use archive::{Archive, Pending};
 pub use book::SessionBook;

@@ -8,6 +8,3 @@ mod writing;
 pub use shown::{count, oldest_serial};
 pub use snapshot::Snapshot;
 pub use writing::write_snap;
-
-#[cfg(test)]
-mod tests;

@@ -20,12 +20,3 @@ pub use laws::every_run;
 pub use payload::Payload;
 pub use run::run_stream;
 pub use stream::Stream;
-
-#[cfg(test)]
-mod peek_tests;
-#[cfg(test)]
-mod run_tests;
-#[cfg(test)]
-mod tests;
-#[cfg(test)]
-mod worked;

@@ -3,7 +3,5 @@
 #![tactic(auto)]
 
 mod sub_buffer;
-#[cfg(test)]
-mod tests;
 
 pub use sub_buffer::SubBuf;

@@ -1,0 +1,158 @@
+//! Sessions: their clocks, their status, what is refused before a start, and their order.
+
+use super::{goes_on, is_answered};
+use std::test::Fail;
+use tr_console::run_script;
+use tr_record::{MemorySink, MemorySource};
+
+/// A session whose clock is five hours behind UTC.
+const WEST: &str = "create s 00000000-0000-0000-0000-000000000001 --west 300
+start s 1700000000000000000
+rotate s 1700000060000000000
+";
+
+const WEST_ANSWERS: &str = "created s
+started
+archived 0 20231114T171320-0500-20231114T171420-0500-0
+";
+
+#[test]
+fn names_archives_by_the_clock_of_the_session(rt: HostRuntime) -> Result<(), Fail> {
+    let script = WEST.as_bytes();
+    assert!(rt; is_answered(rt.alloc(), script, WEST_ANSWERS.as_bytes(), 0)?);
+    Ok(())
+}
+
+/// Rotations of a session without streams.
+const BARE: &str = "create s 00000000-0000-0000-0000-000000000001
+start s 0
+rotate-begin s 1
+rotate-next s
+rotate-finish s
+rotate s 2
+archives s
+";
+
+const BARE_ANSWERS: &str = "created s
+started
+rotating 0
+all cut
+archived 0 19700101T000000+0000-19700101T000000+0000-0
+archived 1 19700101T000000+0000-19700101T000000+0000-1
+0 19700101T000000+0000-19700101T000000+0000-0 packets 0 bytes 0
+1 19700101T000000+0000-19700101T000000+0000-1 packets 0 bytes 0
+";
+
+#[test]
+fn rotates_a_session_without_streams(rt: HostRuntime) -> Result<(), Fail> {
+    let script = BARE.as_bytes();
+    assert!(rt; is_answered(rt.alloc(), script, BARE_ANSWERS.as_bytes(), 0)?);
+    Ok(())
+}
+
+/// The status of an active session, of one that is rotated, and of one that is stopped.
+const STATES: &str = "status s
+rotate-begin s 1
+status s
+rotate-next s
+rotate-finish s
+stop s
+status s
+";
+
+const STATES_ANSWERS: &str = "session s local active channels 1 streams 1 archives 0
+stream     offered   discarded overwritten     in-ring   in-chunks
+     0           0           0           0           0           0
+rotating 0
+session s local active channels 1 streams 1 archives 0 pending 0
+stream     offered   discarded overwritten     in-ring   in-chunks
+     0           0           0           0           0           0
+cut 0 records 0
+archived 0 19700101T000000+0000-19700101T000000+0000-0
+stopped
+session s local inactive channels 1 streams 1 archives 1
+stream     offered   discarded overwritten     in-ring   in-chunks
+     0           0           0           0           0           0
+";
+
+#[test]
+fn tells_the_state_and_the_pending_rotation(rt: HostRuntime) -> Result<(), Fail> {
+    assert!(rt; goes_on(rt.alloc(), STATES, STATES_ANSWERS, 0)?);
+    Ok(())
+}
+
+/// What a session that was never started refuses, and what it has.
+const NEW: &str = "create s 00000000-0000-0000-0000-000000000001
+archives s
+rotate s 1
+rotate-begin s 1
+stop s
+rotate-next s
+rotate-finish s
+status s
+";
+
+const NEW_ANSWERS: &str = "created s
+none
+refused S3 NeverStarted
+refused S3 NeverStarted
+refused S7 NotActive
+refused S13 NotPending
+refused S13 NotPending
+session s local new channels 0 streams 0 archives 0
+stream     offered   discarded overwritten     in-ring   in-chunks
+";
+
+#[test]
+fn refuses_rotations_and_stops_before_a_start(rt: HostRuntime) -> Result<(), Fail> {
+    let script = NEW.as_bytes();
+    assert!(rt; is_answered(rt.alloc(), script, NEW_ANSWERS.as_bytes(), 5)?);
+    Ok(())
+}
+
+/// Calls of a session that is not there.
+const NOBODY: &str = "archives nobody
+stop nobody
+rotate nobody 1
+rotate-begin nobody 1
+rotate-next nobody
+rotate-finish nobody
+status nobody
+";
+
+const NOBODY_ANSWERS: &str = "refused K1 NoSession
+refused K1 NoSession
+refused K1 NoSession
+refused K1 NoSession
+refused K1 NoSession
+refused K1 NoSession
+refused K1 NoSession
+";
+
+#[test]
+fn refuses_calls_of_no_session(rt: HostRuntime) -> Result<(), Fail> {
+    let script = NOBODY.as_bytes();
+    assert!(rt; is_answered(rt.alloc(), script, NOBODY_ANSWERS.as_bytes(), 7)?);
+    Ok(())
+}
+
+/// Two sessions, of which the second has a stream.
+const TWO: &str = "create b 00000000-0000-0000-0000-000000000001
+create a 00000000-0000-0000-0000-000000000001
+channel a c 256 2 discard
+thread a c
+";
+
+#[test]
+fn gives_sessions_in_the_order_of_their_creation(rt: HostRuntime) -> Result<(), Fail> {
+    let alloc = rt.alloc();
+    let mut source = MemorySource::new(TWO.as_bytes(), 4096);
+    let mut sink = MemorySink::new(alloc, 4096);
+    let done = run_script(alloc, alloc, &mut source, &mut sink)?;
+    let (name, session) = done.console.session(0).ok_or("a session")?;
+    assert_eq!(rt; (name, session.streams()), ("b", 0));
+    let (name, session) = done.console.session(1).ok_or("a session")?;
+    assert_eq!(rt; (name, session.streams()), ("a", 1));
+    assert!(rt; done.console.session(2).is_none());
+    Ok(())
+}

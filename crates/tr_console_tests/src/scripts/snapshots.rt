@@ -1,0 +1,191 @@
+//! Snapshots: what they show, and what snapshot sessions refuse.
+
+use super::{goes_on, goes_on_shown, is_answered};
+use linked_list_allocator::LocalHeap;
+use std::test::Fail;
+use tr_console::{ScriptFault, run_script};
+use tr_record::{MemorySink, MemorySource};
+
+/// What a snapshot session refuses, before its start and after it.
+const REFUSED: &str = "channel z d 256 2 discard
+snapshot z 5
+start z 5
+consume z 0
+rotate z 6
+";
+
+const REFUSED_ANSWERS: &str = "refused S9 DiscardInSnapshot
+refused S3 NeverStarted
+started
+refused T2 SnapshotMode
+refused S1 SnapshotMode
+";
+
+#[test]
+fn refuses_discards_takes_and_rotations(rt: HostRuntime) -> Result<(), Fail> {
+    assert!(rt; goes_on_shown(rt.alloc(), REFUSED, REFUSED_ANSWERS, 4)?);
+    Ok(())
+}
+
+/// Snapshots of a local session, of none, and at bad moments.
+const LOCAL: &str = "snapshot s 6
+snapshot t 6
+snapshot t 9000000000000000001
+snapshot s
+";
+
+const LOCAL_ANSWERS: &str = "refused S2 NotSnapshotMode
+refused K1 NoSession
+bad line
+bad line
+";
+
+#[test]
+fn refuses_snapshots_of_local_sessions(rt: HostRuntime) -> Result<(), Fail> {
+    assert!(rt; goes_on(rt.alloc(), LOCAL, LOCAL_ANSWERS, 4)?);
+    Ok(())
+}
+
+/// Six offers, of which two gave way, and two snapshots.
+const SIX: &str = "start z 0
+offer z 0 1 7 --fill 64
+offer z 0 2 7 --fill 64
+offer z 0 3 7 --fill 64
+offer z 0 4 7 --fill 64
+offer z 0 5 7 --fill 64
+offer z 0 6 7 --fill 64
+snapshot z 10
+snapshot z 10
+";
+
+const SIX_ANSWERS: &str = "started
+stored 0 in 0
+stored 1 in 0
+stored 2 in 1
+stored 3 in 1
+stored 4 in 2 over 0 2
+stored 5 in 2
+snapshot 10
+stream 0 offered 6 packets 2 records 4
+packet 1 records 2 first 2 last 3
+packet 2 records 2 first 4 last 5
+snapshot 10
+stream 0 offered 6 packets 2 records 4
+packet 1 records 2 first 2 last 3
+packet 2 records 2 first 4 last 5
+";
+
+#[test]
+fn shows_the_same_twice(rt: HostRuntime) -> Result<(), Fail> {
+    assert!(rt; goes_on_shown(rt.alloc(), SIX, SIX_ANSWERS, 0)?);
+    Ok(())
+}
+
+/// An offer behind six others and a snapshot, and a snapshot at a moment before its own.
+const SEVENTH: &str = "start z 0
+offer z 0 1 7 --fill 64
+offer z 0 2 7 --fill 64
+offer z 0 3 7 --fill 64
+offer z 0 4 7 --fill 64
+offer z 0 5 7 --fill 64
+offer z 0 6 7 --fill 64
+snapshot z 10
+offer z 0 11 7 --fill 64
+snapshot z 12
+snapshot z 11
+";
+
+const SEVENTH_ANSWERS: &str = "started
+stored 0 in 0
+stored 1 in 0
+stored 2 in 1
+stored 3 in 1
+stored 4 in 2 over 0 2
+stored 5 in 2
+snapshot 10
+stream 0 offered 6 packets 2 records 4
+packet 1 records 2 first 2 last 3
+packet 2 records 2 first 4 last 5
+stored 6 in 3 over 1 2
+snapshot 12
+stream 0 offered 7 packets 2 records 3
+packet 2 records 2 first 4 last 5
+packet 3 records 1 first 6 last 6
+snapshot 12
+stream 0 offered 7 packets 2 records 3
+packet 2 records 2 first 4 last 5
+packet 3 records 1 first 6 last 6
+";
+
+#[test]
+fn shows_what_was_offered_since(rt: HostRuntime) -> Result<(), Fail> {
+    assert!(rt; goes_on_shown(rt.alloc(), SEVENTH, SEVENTH_ANSWERS, 0)?);
+    Ok(())
+}
+
+/// A stream without offers, and its status.
+const EMPTY: &str = "start z 0
+snapshot z 5
+status z
+";
+
+const EMPTY_ANSWERS: &str = "started
+snapshot 5
+stream 0 offered 0 packets 0 records 0
+session z snapshot active channels 1 streams 1 archives 0
+stream     offered   discarded overwritten     in-ring   in-chunks
+     0           0           0           0           0           0
+";
+
+#[test]
+fn shows_a_stream_without_offers(rt: HostRuntime) -> Result<(), Fail> {
+    assert!(rt; goes_on_shown(rt.alloc(), EMPTY, EMPTY_ANSWERS, 0)?);
+    Ok(())
+}
+
+/// A snapshot of a session without streams.
+const BARE: &str = "create z 00000000-0000-0000-0000-000000000001 --snapshot
+start z 0
+snapshot z 5
+";
+
+#[test]
+fn shows_no_stream(rt: HostRuntime) -> Result<(), Fail> {
+    let text = b"created z\nstarted\nsnapshot 5\n";
+    assert!(rt; is_answered(rt.alloc(), BARE.as_bytes(), text, 0)?);
+    Ok(())
+}
+
+/// Records that fill a ring of four sub-buffers, and a snapshot.
+const LARGE: &str = "create z 00000000-0000-0000-0000-000000000001 --snapshot
+channel z c 16384 4 overwrite
+thread z c
+start z 0
+offer z 0 1 7 --fill 16000
+offer z 0 2 7 --fill 16000
+offer z 0 3 7 --fill 16000
+offer z 0 4 7 --fill 16000
+snapshot z 5
+";
+
+const LARGE_ANSWERS: &str = "created z
+channel c
+stream 0
+started
+stored 0 in 0
+stored 1 in 1
+stored 2 in 2
+stored 3 in 3
+";
+
+#[test]
+fn answers_the_lines_before_a_snapshot_without_memory(rt: HostRuntime) -> Result<(), Fail> {
+    // enough for the ring and for one payload, and too little for copies of four
+    let heap = LocalHeap::new(rt.alloc(), 180_224)?;
+    let mut source = MemorySource::new(LARGE.as_bytes(), 4096);
+    let mut sink = MemorySink::new(rt.alloc(), 4096);
+    let fault = run_script(&heap, rt.alloc(), &mut source, &mut sink).map(|done| done.refused);
+    assert_eq!(rt; fault, Err(ScriptFault::NoMemory));
+    assert!(rt; sink.into_bytes().as_slice() == LARGE_ANSWERS.as_bytes());
+    Ok(())
+}

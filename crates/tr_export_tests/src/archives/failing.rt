@@ -1,0 +1,141 @@
+//! A disk that fails, at each of its calls and at each byte.
+
+ghost use Rattle.std.specs.Prelude.{◌≡◌, OnOk, OnErr, option_map};
+ghost use Rattle.tr_record.specs.Bytes.{once_more};
+
+use super::{assert_same, rotated};
+use std::mem;
+use std::test::Fail;
+use tr_export::{Disk, ExportFault, write_archives};
+use tr_record::{ByteSink, Failed};
+
+/// A file that takes so many bytes more, and then fails.
+#[derive(Drop)]
+struct ShortFile {
+    room: usize,
+    failures: u64,
+}
+
+impl ByteSink for ShortFile {
+    ghost use Rattle.std.specs.Prelude.{None};
+
+    ghost taken = { λ _. None };
+
+    ghost failures = { λ s. s.failures };
+
+    fn put(&mut self, b: &[u8]) -> Result<usize, Failed> {
+        let count = b.len().min(self.room);
+        if count == 0 {
+            self.failures = self.failures.wrapping_add(1);
+            return Err(Failed);
+        }
+        self.room -= count;
+        Ok(count)
+    }
+}
+
+/// Fails once so many calls were made. Its first file has room for so many bytes, and each later one for so many.
+#[derive(Drop)]
+struct FailingDisk {
+    calls: usize,
+    first: usize,
+    later: usize,
+    failures: Option<u64>,
+}
+
+impl FailingDisk {
+    /// Counts one call, which fails where it is one too many.
+    fn spend(&mut self) -> Result<(), Failed>
+        ensures ok { OnOk result (self.new.failures ≡ self.old.failures) }
+        ensures err { OnErr result (self.new.failures ≡ option_map once_more self.old.failures) }
+    {
+        if self.calls == 0 {
+            self.failures = match self.failures {
+                Some(count) => Some(count.wrapping_add(1)),
+                None => None,
+            };
+            return Err(Failed);
+        }
+        self.calls -= 1;
+        Ok(())
+    }
+}
+
+impl Disk for FailingDisk {
+    ghost use Rattle.std.specs.Prelude.{None, []};
+
+    type File = ShortFile;
+
+    ghost made = { λ _. None };
+
+    ghost opened = { λ _. [] };
+
+    ghost failures = { λ s. s.failures };
+
+    fn make_folder(&mut self, _path: &str) -> Result<(), Failed> {
+        self.spend()
+    }
+
+    fn open_file(&mut self, _path: &str) -> Result<ShortFile, Failed> {
+        self.spend()?;
+        let room = mem::replace(&mut self.first, self.later);
+        let failures = self.failures.take().unwrap_or(0);
+        Ok(ShortFile { room, failures })
+    }
+
+    fn close_file(&mut self, file: ShortFile) -> Result<(), Failed> {
+        self.failures = Some(file.failures);
+        self.spend()
+    }
+
+    fn give_up(&mut self, file: ShortFile) {
+        self.failures = Some(file.failures);
+    }
+}
+
+fn disk(calls: usize, first: usize, later: usize) -> FailingDisk {
+    FailingDisk {
+        calls,
+        first,
+        later,
+        failures: Some(0),
+    }
+}
+
+// five calls: a folder, and the begin and the end of two files
+#[test]
+fn each_failed_call_is_told(rt: HostRuntime) -> Result<(), Fail> {
+    let session = rotated(rt.alloc())?;
+    for calls in 0..7 {
+        let wanted = if calls < 5 {
+            Err(ExportFault::Write)
+        } else {
+            Ok(())
+        };
+        let mut disk = disk(calls, 4096, 4096);
+        let answer = write_archives(rt.alloc(), &mut disk, "d", "s", &session);
+        assert_same(&rt, (calls, answer), (calls, wanted));
+        assert_same(&rt, disk.failures, Some(u64::from(calls < 5)));
+    }
+    Ok(())
+}
+
+// the metadata has 1,082 bytes, the stream's file 484
+#[test]
+fn a_file_that_is_cut_short_is_told(rt: HostRuntime) -> Result<(), Fail> {
+    let session = rotated(rt.alloc())?;
+    let short = [(0, 4096), (1081, 4096), (4096, 0), (4096, 228), (4096, 483)];
+    for (first, later) in short {
+        let mut disk = disk(9, first, later);
+        let answer = write_archives(rt.alloc(), &mut disk, "d", "s", &session);
+        assert_same(
+            &rt,
+            (first, later, answer),
+            (first, later, Err(ExportFault::Write)),
+        );
+        assert_same(&rt, disk.failures, Some(1));
+    }
+    let answer = write_archives(rt.alloc(), &mut disk(9, 1082, 484), "d", "s", &session);
+    assert_same(&rt, answer, Ok(()));
+    Ok(())
+}

@@ -1,0 +1,96 @@
+use super::assert_same;
+use std::process::Abort;
+use tr_record::Moment;
+use tr_ring::{Pushed, Ring};
+
+/// Pushes a record with a payload of `len` bytes, whose serial is `k` and whose moment is 1000 + `k`.
+fn push(rt: &impl Abort, ring: &mut Ring, k: u64, payload: &[u8]) -> Pushed {
+    let moment = Moment::new(1000 + k % 1000).expect(rt, "a moment");
+    assert!(rt; payload.len() <= 152 && ring.size() == 256);
+    assert!(rt; ring.seq() < 1000 && ring.refused() < 1000);
+    ring.push(moment, 7, k, payload).expect(rt, "memory")
+}
+
+// two records of 74 bytes fit beside the packet's 80
+#[test]
+fn a_full_ring_refuses_the_newest(rt: HostRuntime) {
+    let mut ring = Ring::new(rt.alloc(), 256, 2, false).expect(&rt, "memory");
+    assert!(rt; !ring.overwrites() && ring.count() == 2);
+    for (k, seq) in [(0, 0), (1, 0), (2, 1), (3, 1)] {
+        assert_same(
+            &rt,
+            push(&rt, &mut ring, k, &[0x61; 50]),
+            Pushed::Stored { seq },
+        );
+    }
+    assert_same(&rt, push(&rt, &mut ring, 4, &[0x61; 50]), Pushed::Refused);
+    assert_same(&rt, push(&rt, &mut ring, 5, &[]), Pushed::Stored { seq: 1 });
+    assert_same(&rt, push(&rt, &mut ring, 6, &[0x61; 50]), Pushed::Refused);
+    assert_same(&rt, ring.refused(), 2);
+    assert_same(&rt, ring.current().count(), 3);
+    let first = ring.front().expect(&rt, "a closed one");
+    assert_same(&rt, first.seq(), 0);
+    assert_same(&rt, first.end().get(), 1002);
+    assert_same(&rt, first.lost(), 0);
+    assert_same(&rt, first.count(), 2);
+    assert_same(&rt, first.at(1).expect(&rt, "a record").serial(), 1);
+    assert_same(&rt, ring.waiting(), 1);
+    ring.drop_front();
+    assert_same(
+        &rt,
+        push(&rt, &mut ring, 7, &[0x61; 50]),
+        Pushed::Stored { seq: 2 },
+    );
+    let next = ring.closed(0).expect(&rt, "a closed one");
+    assert_same(&rt, (next.seq(), next.lost()), (1, 2));
+    assert_same(&rt, next.end().get(), 1007);
+    assert!(rt; ring.closed(1).is_none());
+}
+
+// two records of 88 bytes fill a sub-buffer
+#[test]
+fn a_full_ring_gives_up_the_oldest(rt: HostRuntime) {
+    let mut ring = Ring::new(rt.alloc(), 256, 2, true).expect(&rt, "memory");
+    assert!(rt; ring.overwrites());
+    let over = Pushed::StoredOver {
+        seq: 2,
+        gone_seq: 0,
+        gone_count: 2,
+    };
+    let first = Pushed::Stored { seq: 0 };
+    let second = Pushed::Stored { seq: 1 };
+    let third = Pushed::Stored { seq: 2 };
+    let wanted = [
+        (0, first),
+        (1, first),
+        (2, second),
+        (3, second),
+        (4, over),
+        (5, third),
+    ];
+    for (k, want) in wanted {
+        assert_same(&rt, (k, push(&rt, &mut ring, k, &[0x61; 64])), (k, want));
+    }
+    assert_same(&rt, ring.refused(), 0);
+    assert_same(&rt, ring.waiting(), 1);
+    assert_same(&rt, ring.front().expect(&rt, "a closed one").seq(), 1);
+}
+
+#[test]
+fn a_closed_current_one_waits(rt: HostRuntime) {
+    let mut ring = Ring::new(rt.alloc(), 256, 4, false).expect(&rt, "memory");
+    assert!(rt; push(&rt, &mut ring, 0, b"hello") == Pushed::Stored { seq: 0 });
+    let end = Moment::new(5000).expect(&rt, "a moment");
+    assert!(rt; ring.waiting() == 0 && ring.count() == 4 && ring.seq() == 0);
+    assert!(rt; ring.current().count() == 1);
+    ring.close_current(end);
+    assert_same(&rt, ring.seq(), 1);
+    assert!(rt; ring.current().is_empty());
+    let closed = ring.front().expect(&rt, "a closed one");
+    assert_same(&rt, closed.end().get(), 5000);
+    assert_same(
+        &rt,
+        closed.at(0).expect(&rt, "a record").payload(),
+        b"hello".as_slice(),
+    );
+}

@@ -1,0 +1,6 @@
+//! The tests of the crates that are cheap to prove, a module for each: records, sub-buffers, rings, books of streams,
+//! schedules, snapshots, books of sessions, and lines.
+#![tactic(auto)]
+
+#[cfg(test)]
+mod layers;

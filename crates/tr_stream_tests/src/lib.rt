@@ -1,0 +1,5 @@
+//! The tests of tr_stream: worked examples of a stream's calls, of looks at it and of a list of calls.
+#![tactic(auto)]
+
+#[cfg(test)]
+mod streams;

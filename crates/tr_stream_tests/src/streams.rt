@@ -1,0 +1,116 @@
+//! What the worked examples share: streams of sub-buffers of 256 bytes, two to a ring, and what their packets must be.
+
+mod calls;
+mod looks;
+mod runs;
+
+use std::alloc::{AllocError, Global};
+use std::fmt::Debug;
+use std::process::Abort;
+use tr_book::{Geometry, Mode, StreamSnap};
+use tr_packet::{Head, Packet};
+use tr_record::{Moment, Rec};
+use tr_stream::{OfferFault, Offered, SessionMode, Stream, StreamConfig};
+use uuid::Uuid;
+
+/// Holds what a test found to what it wanted. As a call without clauses it keeps the proofs of the tests short.
+fn assert_same<T: PartialEq + Debug + Drop>(rt: &impl Abort, found: T, wanted: T) {
+    assert_eq!(rt; found, wanted);
+}
+
+/// What a local session's stream 0 is made with.
+fn small(mode: Mode) -> StreamConfig {
+    let Ok(geometry) = Geometry::new(256, 2) else {
+        unreachable!()
+    };
+    StreamConfig {
+        uuid: Uuid::from_u128(1),
+        number: 0,
+        geometry,
+        mode,
+        session: SessionMode::Local,
+    }
+}
+
+/// A stream made with that, which takes no offers yet.
+fn small_stream(alloc: Global, mode: Mode) -> Result<Stream, AllocError> {
+    let config = small(mode);
+    Stream::new(
+        alloc,
+        config.uuid,
+        config.number,
+        config.geometry,
+        config.mode,
+        config.session,
+    )
+}
+
+/// This moment.
+fn at(nanoseconds: u64) -> Moment {
+    Moment::new(nanoseconds).unwrap_or(Moment::zero())
+}
+
+/// The answer to an offer that was stored.
+fn stored(serial: u64, seq: u64) -> Result<Offered, OfferFault> {
+    Ok(Offered::Stored { serial, seq })
+}
+
+/// The answer to an offer that goes over two records.
+fn stored_over(serial: u64, seq: u64, gone_seq: u64) -> Result<Offered, OfferFault> {
+    Ok(Offered::StoredOver {
+        serial,
+        seq,
+        gone_seq,
+        gone_count: 2,
+    })
+}
+
+/// A packet of stream 0 as a test expects it: each record of it has id 7, and a payload of so many bytes, all 97.
+#[derive(Clone, Copy)]
+struct PacketRow {
+    seq: u64,
+    lost: u64,
+    begin: u64,
+    end: u64,
+    /// The serial, the moment and the length of each record.
+    records: &'static [(u64, u64, usize)],
+}
+
+/// Whether a record has this serial, this moment, id 7 and a payload of so many bytes, all 97.
+fn is_record(record: &Rec, (serial, moment, len): (u64, u64, usize)) -> bool {
+    record.serial() == serial
+        && record.moment().get() == moment
+        && record.id() == 7
+        && record.payload().len() == len
+        && record.payload().iter().all(|byte| *byte == 97)
+}
+
+/// Whether a packet is this one in its whole head and in each record.
+fn is_row(packet: &Packet, row: &PacketRow) -> bool {
+    let head = Head {
+        uuid: Uuid::from_u128(1),
+        stream: 0,
+        begin: at(row.begin),
+        end: at(row.end),
+        seq: row.seq,
+        lost: row.lost,
+    };
+    let records = packet.records();
+    packet.head() == head
+        && records.len() == row.records.len()
+        && records
+            .iter()
+            .zip(row.records.iter())
+            .all(|(record, wanted)| is_record(record, *wanted))
+}
+
+/// Whether a look at stream 0 shows so many offers and losses, and these packets.
+fn is_look(snap: &StreamSnap, offered: u64, lost: u64, rows: &[PacketRow]) -> bool {
+    let packets = snap.packets();
+    (snap.stream(), snap.offered(), snap.lost()) == (0, offered, lost)
+        && packets.len() == rows.len()
+        && packets
+            .iter()
+            .zip(rows.iter())
+            .all(|(packet, row)| is_row(packet, row))
+}

@@ -1,0 +1,201 @@
+//! Looks at a stream, worked by hand: sub-buffers of 256 bytes, two to a ring.
+
+use super::{PacketRow, assert_same, at, is_look, small, small_stream, stored, stored_over};
+use std::alloc::{AllocError, Global};
+use tr_book::{Counts, Mode};
+use tr_packet::{Packet, PacketView, decode_packet, encode_packet};
+use tr_record::{Rec, RecView};
+use tr_stream::{CutFault, SessionMode, Stream, TakeFault};
+
+/// A stream of a snapshot session that takes offers.
+fn snapshot_stream(alloc: Global) -> Result<Stream, AllocError> {
+    let config = small(Mode::Overwrite);
+    let mut stream = Stream::new(
+        alloc,
+        config.uuid,
+        config.number,
+        config.geometry,
+        config.mode,
+        SessionMode::Snapshot,
+    )?;
+    stream.set_active(true);
+    Ok(stream)
+}
+
+/// The same after offers of 64 bytes at moments 1 to 6: a sub-buffer has room for two such records, so the fifth offer
+/// went over the first sub-buffer.
+fn filled_stream(alloc: Global) -> Result<Stream, AllocError> {
+    let mut stream = snapshot_stream(alloc)?;
+    for moment in 1..7 {
+        let _ = stream.offer(at(moment), 7, &[97; 64]);
+    }
+    Ok(stream)
+}
+
+/// The counts of that stream.
+const SIX_OFFERED: Counts = Counts {
+    offered: 6,
+    discarded: 0,
+    overwritten: 2,
+    overwritten_packets: 1,
+    in_ring: 4,
+    consumed: 0,
+    cuts: 0,
+    current_bytes: 0,
+};
+
+/// Its packet 1, which the offer at 5 closed.
+const CLOSED: PacketRow = PacketRow {
+    seq: 1,
+    lost: 0,
+    begin: 3,
+    end: 5,
+    records: &[(2, 3, 64), (3, 4, 64)],
+};
+
+/// Its packet 2 as it is shown, with this end.
+fn packet_2(end: u64) -> PacketRow {
+    PacketRow {
+        seq: 2,
+        lost: 0,
+        begin: 5,
+        end,
+        records: &[(4, 5, 64), (5, 6, 64)],
+    }
+}
+
+#[test]
+fn offers_in_a_snapshot_session(rt: HostRuntime) {
+    let mut stream = snapshot_stream(rt.alloc()).expect(&rt, "memory");
+    let rows = [
+        (1, stored(0, 0)),
+        (2, stored(1, 0)),
+        (3, stored(2, 1)),
+        (4, stored(3, 1)),
+        (5, stored_over(4, 2, 0)),
+        (6, stored(5, 2)),
+        (11, stored_over(6, 3, 1)),
+    ];
+    for (moment, answer) in rows {
+        assert_same(&rt, stream.offer(at(moment), 7, &[97; 64]), answer);
+    }
+}
+
+#[test]
+fn nothing_is_consumed_in_a_snapshot_session(rt: HostRuntime) {
+    let mut stream = filled_stream(rt.alloc()).expect(&rt, "memory");
+    assert_same(&rt, stream.take(), Err(TakeFault::SnapshotMode));
+    assert_same(&rt, stream.counts(), SIX_OFFERED);
+    assert_same(&rt, stream.cut(at(8)), Err(CutFault::SnapshotMode));
+    assert_same(&rt, stream.counts(), SIX_OFFERED);
+    // The refused cut's moment wasn't stored, and it closed nothing.
+    assert!(rt;
+        is_look(
+            &stream.peek(at(7)).expect(&rt, "a look"),
+            6,
+            0,
+            &[CLOSED, packet_2(7)]
+        )
+    );
+}
+
+#[test]
+fn a_look_shows_the_ring_and_changes_nothing(rt: HostRuntime) {
+    let stream = filled_stream(rt.alloc()).expect(&rt, "memory");
+    for number in 1..3 {
+        let snap = stream.peek(at(10)).expect(&rt, "a look");
+        assert!(rt;
+            is_look(&snap, 6, 0, &[CLOSED, packet_2(10)]),
+            "look {number}"
+        );
+    }
+    assert_same(&rt, stream.counts(), SIX_OFFERED);
+}
+
+/// Packet 3 of that stream, which the offer at 11 began, with this end.
+fn packet_3(end: u64) -> PacketRow {
+    PacketRow {
+        seq: 3,
+        lost: 0,
+        begin: 11,
+        end,
+        records: &[(6, 11, 64)],
+    }
+}
+
+#[test]
+fn a_later_look_shows_later_packets(rt: HostRuntime) {
+    let mut stream = filled_stream(rt.alloc()).expect(&rt, "memory");
+    let _ = stream.offer(at(11), 7, &[97; 64]);
+    // A look before the last moment that was stored is at that moment.
+    for (moment, end) in [(12, 12), (3, 11)] {
+        let snap = stream.peek(at(moment)).expect(&rt, "a look");
+        let rows = [packet_2(11), packet_3(end)];
+        assert!(rt; is_look(&snap, 7, 0, &rows), "at {moment}");
+    }
+}
+
+#[test]
+fn looks_at_a_stream_that_discards(rt: HostRuntime) {
+    let mut stream = small_stream(rt.alloc(), Mode::Discard).expect(&rt, "memory");
+    assert!(rt; is_look(&stream.peek(at(5)).expect(&rt, "a look"), 0, 0, &[]));
+    stream.set_active(true);
+    assert!(rt; is_look(&stream.peek(at(5)).expect(&rt, "a look"), 0, 0, &[]));
+    for moment in 1..6 {
+        let _ = stream.offer(at(moment), 7, &[97; 64]);
+    }
+    let first = PacketRow {
+        seq: 0,
+        lost: 0,
+        begin: 1,
+        end: 3,
+        records: &[(0, 1, 64), (1, 2, 64)],
+    };
+    let second = PacketRow {
+        seq: 1,
+        lost: 1,
+        begin: 3,
+        end: 8,
+        records: &[(2, 3, 64), (3, 4, 64)],
+    };
+    assert!(rt;
+        is_look(
+            &stream.peek(at(8)).expect(&rt, "a look"),
+            5,
+            1,
+            &[first, second]
+        )
+    );
+}
+
+/// Whether two records are the same, one of them read from bytes.
+fn is_read(view: &RecView<'_>, record: &Rec) -> bool {
+    view.serial() == record.serial()
+        && view.moment() == record.moment()
+        && view.id() == record.id()
+        && view.payload() == record.payload()
+}
+
+/// Whether two packets are the same, one of them read from bytes.
+fn is_packet_read(view: &PacketView<'_>, packet: &Packet) -> bool {
+    let records = packet.records();
+    view.head() == packet.head()
+        && view.count() == records.len()
+        && view
+            .records()
+            .zip(records.iter())
+            .all(|(view, record)| is_read(&view, record))
+}
+
+#[test]
+fn packets_of_a_look_are_read_as_they_are(rt: HostRuntime) {
+    let stream = filled_stream(rt.alloc()).expect(&rt, "memory");
+    let snap = stream.peek(at(10)).expect(&rt, "a look");
+    assert!(rt; snap.packets().len() == 2);
+    for packet in snap.packets() {
+        let bytes = encode_packet(rt.alloc(), packet).expect(&rt, "memory");
+        let (view, size) = decode_packet(&bytes).expect(&rt, "a packet");
+        assert_same(&rt, (bytes.len(), size), (256, 256));
+        assert!(rt; is_packet_read(&view, packet));
+    }
+}
