@@ -1,5 +1,6 @@
 //! The calls of sessions by their names, as the lines of a script make them.
-//! Each is proved to answer as the rules of the session of that name do, and to leave all other sessions as they are.
+//! Each is proved to answer as the rules of the session of that name do, and to leave all other sessions as they are,
+//! unless memory is refused.
 #![tactic(auto)]
 
 mod rotations;
