@@ -7,10 +7,10 @@ mod runs;
 mod snapshots;
 mod ticks;
 
-use std::alloc::Global;
+use std::alloc::{Allocator, Global};
 use std::fmt::Debug;
+use std::ops::Range;
 use std::process::Abort;
-use std::test::Fail;
 use tr_book::Mode;
 use tr_chunk::OffsetMinutes;
 use tr_record::Moment;
@@ -30,61 +30,130 @@ fn moment(nanoseconds: u64) -> Moment {
     Moment::new(nanoseconds).unwrap_or(Moment::zero())
 }
 
-/// A local session of the nil identifier, at no offset.
-fn new_session(alloc: Global) -> Result<Session, Fail> {
-    let offset = OffsetMinutes::new(0).ok_or("an offset")?;
-    Ok(Session::new(alloc, Uuid::nil(), offset, SessionMode::Local))
+/// A session of the nil identifier, at no offset.
+fn new_session<A: Allocator + Copy>(rt: &impl Abort, alloc: A, mode: SessionMode) -> Session<A> {
+    let offset = OffsetMinutes::new(0).expect(rt, "an offset");
+    Session::new(alloc, Uuid::nil(), offset, mode)
+}
+
+/// Adds a channel of so many sub-buffers of this size.
+fn add_channel<A: Allocator + Copy>(
+    rt: &impl Abort,
+    session: &mut Session<A>,
+    name: &str,
+    size: u64,
+    count: u64,
+    mode: Mode,
+) {
+    let added = session.add_channel(name, size, count, mode);
+    assert_same(rt, added, Ok(()));
+}
+
+/// Adds threads of a channel, which get these numbers.
+fn add_threads<A: Allocator + Copy>(
+    rt: &impl Abort,
+    session: &mut Session<A>,
+    channel: &str,
+    numbers: Range<u64>,
+) {
+    for number in numbers {
+        assert_same(rt, session.add_thread(channel), Ok(number));
+    }
+}
+
+/// A session of so many streams of one channel `c` with two sub-buffers of 256 bytes each. It isn't started.
+fn with_streams<A: Allocator + Copy>(
+    rt: &impl Abort,
+    alloc: A,
+    mode: SessionMode,
+    rings: Mode,
+    streams: u64,
+) -> Session<A> {
+    let mut session = new_session(rt, alloc, mode);
+    add_channel(rt, &mut session, "c", 256, 2, rings);
+    add_threads(rt, &mut session, "c", 0..streams);
+    session
 }
 
 /// Offers a payload of `len` bytes with the id 7.
-fn offer(
+fn offer<A: Allocator + Copy>(
     rt: &impl Abort,
-    session: &mut Session,
+    session: &mut Session<A>,
     i: u64,
     at: u64,
     len: usize,
 ) -> Result<Offered, StepFault> {
-    assert!(rt; len <= 153);
-    session.offer(i, moment(at), 7, &PAYLOAD[..len])
+    let payload = PAYLOAD.get(..len).expect(rt, "a short payload");
+    session.offer(i, moment(at), 7, payload)
+}
+
+/// Offers a payload of `len` bytes at each of these moments, which must be taken.
+fn make_offers<A: Allocator + Copy>(
+    rt: &impl Abort,
+    session: &mut Session<A>,
+    moments: Range<u64>,
+    len: usize,
+) {
+    for at in moments {
+        offer(rt, session, 0, at, len).expect(rt, "an offer");
+    }
+}
+
+/// Holds the moment that the session stored last.
+fn assert_last<A: Allocator + Copy>(rt: &impl Abort, session: &Session<A>, moment: u64) {
+    assert_same(rt, session.book().last().get(), moment);
+}
+
+/// Holds the fate of each record, told by its stream and its serial, to what it is.
+fn assert_fates(rt: &impl Abort, session: &Session, rows: &[(u64, u64, Option<Fate>)]) {
+    for (i, serial, fate) in rows {
+        let found = session.fate_of(*i, *serial);
+        assert_same(rt, (*i, *serial, found), (*i, *serial, Ok(*fate)));
+    }
+}
+
+/// Holds the number of a stream and how many offers it took.
+fn assert_offered(rt: &impl Abort, session: &Session, i: u64, offered: u64) {
+    let stream = session.stream(i).expect(rt, "a stream");
+    let found = (stream.config().number, stream.counts().offered);
+    assert_same(rt, found, (i, offered));
+}
+
+/// Holds the sub-buffers of a stream and its mode, and its identifier to the session's.
+fn assert_made(rt: &impl Abort, session: &Session, i: u64, size: usize, count: usize, mode: Mode) {
+    let config = session.stream(i).expect(rt, "a stream").config();
+    let geometry = (config.geometry.size(), config.geometry.count());
+    assert_same(rt, geometry, (size, count));
+    assert_same(rt, config.mode, mode);
+    assert_same(rt, config.uuid, session.book().uuid());
 }
 
 // of the 176 bytes beside a packet's 80, two records of 74 leave room for one of 28 and for no third of 74
 #[test]
-fn one_stream_from_the_start_to_a_packet(rt: HostRuntime) -> Result<(), Fail> {
-    let mut session = new_session(rt.alloc())?;
-    session
-        .add_channel("c", 256, 2, Mode::Discard)
-        .expect(&rt, "a channel");
-    assert_same(&rt, session.add_thread("c"), Ok(0));
+fn one_stream_from_the_start_to_a_packet(rt: HostRuntime) {
+    let mut session = with_streams(&rt, rt.alloc(), SessionMode::Local, Mode::Discard, 1);
     assert_same(&rt, session.book().state(), State::New);
     session.start(moment(0)).expect(&rt, "a start");
     assert_same(&rt, session.book().state(), State::Active);
-    let wanted = [
+    for (at, len, want) in [
         (1, 50, Offered::Stored { serial: 0, seq: 0 }),
         (2, 50, Offered::Stored { serial: 1, seq: 0 }),
         (3, 50, Offered::Stored { serial: 2, seq: 1 }),
         (4, 50, Offered::Stored { serial: 3, seq: 1 }),
         (5, 50, Offered::Discarded { serial: 4 }),
         (6, 4, Offered::Stored { serial: 5, seq: 1 }),
-    ];
-    for (at, len, want) in wanted {
-        assert_same(
-            &rt,
-            (at, offer(&rt, &mut session, 0, at, len)),
-            (at, Ok(want)),
-        );
+    ] {
+        let answer = offer(&rt, &mut session, 0, at, len);
+        assert_same(&rt, (at, answer), (at, Ok(want)));
     }
     let taken = Taken {
         seq: 0,
         count: 2,
         chunk: 0,
     };
-    assert_same(&rt, session.take(0), Ok(taken));
-    assert_same(
-        &rt,
-        session.take(0),
-        Err(StepFault::Take(TakeFault::Nothing)),
-    );
+    for answer in [Ok(taken), Err(StepFault::Take(TakeFault::Nothing))] {
+        assert_same(&rt, session.take(0), answer);
+    }
     let counts = session.stream(0).expect(&rt, "a stream").counts();
     assert_same(&rt, (counts.offered, counts.discarded), (6, 1));
     assert_same(
@@ -92,80 +161,60 @@ fn one_stream_from_the_start_to_a_packet(rt: HostRuntime) -> Result<(), Fail> {
         (counts.overwritten, counts.in_ring, counts.consumed),
         (0, 3, 2),
     );
-    Ok(())
 }
 
 // two records of 88 bytes fill a sub-buffer
 #[test]
-fn streams_stand_apart(rt: HostRuntime) -> Result<(), Fail> {
-    let mut session = new_session(rt.alloc())?;
-    session
-        .add_channel("small", 256, 2, Mode::Overwrite)
-        .expect(&rt, "a channel");
-    session
-        .add_channel("large", 512, 4, Mode::Discard)
-        .expect(&rt, "a channel");
+fn streams_stand_apart(rt: HostRuntime) {
+    let mut session = new_session(&rt, rt.alloc(), SessionMode::Local);
+    add_channel(&rt, &mut session, "small", 256, 2, Mode::Overwrite);
+    add_channel(&rt, &mut session, "large", 512, 4, Mode::Discard);
     assert_same(&rt, session.book().channels(), 2);
-    assert_same(&rt, session.add_thread("large"), Ok(0));
-    assert_same(&rt, session.add_thread("small"), Ok(1));
-    assert_same(&rt, session.add_thread("large"), Ok(2));
+    add_threads(&rt, &mut session, "large", 0..1);
+    add_threads(&rt, &mut session, "small", 1..2);
+    add_threads(&rt, &mut session, "large", 2..3);
     assert_same(&rt, session.streams(), 3);
     session.start(moment(100)).expect(&rt, "a start");
-    assert_same(&rt, session.book().last().get(), 100);
+    assert_last(&rt, &session, 100);
     let over = Offered::StoredOver {
         serial: 4,
         seq: 2,
         gone_seq: 0,
         gone_count: 2,
     };
-    let wanted = [
-        Offered::Stored { serial: 0, seq: 0 },
-        Offered::Stored { serial: 1, seq: 0 },
-        Offered::Stored { serial: 2, seq: 1 },
-        Offered::Stored { serial: 3, seq: 1 },
-        over,
-    ];
-    for want in wanted {
-        assert_same(&rt, offer(&rt, &mut session, 1, 200, 64), Ok(want));
+    for (i, want) in [
+        (1, Offered::Stored { serial: 0, seq: 0 }),
+        (1, Offered::Stored { serial: 1, seq: 0 }),
+        (1, Offered::Stored { serial: 2, seq: 1 }),
+        (1, Offered::Stored { serial: 3, seq: 1 }),
+        (1, over),
+        (2, Offered::Stored { serial: 0, seq: 0 }),
+    ] {
+        let answer = offer(&rt, &mut session, i, 200, 64);
+        assert_same(&rt, (i, answer), (i, Ok(want)));
     }
-    let first = Offered::Stored { serial: 0, seq: 0 };
-    assert_same(&rt, offer(&rt, &mut session, 2, 200, 64), Ok(first));
-    let numbers = [(0, 0), (1, 5), (2, 1)];
-    for (i, offered) in numbers {
-        let stream = session.stream(i).expect(&rt, "a stream");
-        assert_same(&rt, stream.counts().offered, offered);
-        assert_same(&rt, stream.config().number, i);
+    for (i, offered) in [(0, 0), (1, 5), (2, 1)] {
+        assert_offered(&rt, &session, i, offered);
     }
-    let config = session.stream(1).expect(&rt, "a stream").config();
-    assert_same(
-        &rt,
-        (config.geometry.size(), config.geometry.count()),
-        (256, 2),
-    );
-    assert!(rt; config.mode == Mode::Overwrite && config.uuid == session.book().uuid());
+    assert_made(&rt, &session, 1, 256, 2, Mode::Overwrite);
     assert!(rt; session.stream(3).is_none());
-    Ok(())
 }
 
 // two records of 88 bytes fill a sub-buffer, and the fifth drops the first one's two
 #[test]
-fn fates_tell_where_records_are(rt: HostRuntime) -> Result<(), Fail> {
-    let mut session = new_session(rt.alloc())?;
-    session
-        .add_channel("c", 256, 2, Mode::Overwrite)
-        .expect(&rt, "a channel");
-    session
-        .add_channel("d", 256, 2, Mode::Discard)
-        .expect(&rt, "a channel");
-    assert_same(&rt, session.add_thread("c"), Ok(0));
-    assert_same(&rt, session.add_thread("d"), Ok(1));
-    assert_same(&rt, session.fate_of(0, 0), Ok(None));
+fn fates_tell_where_records_are(rt: HostRuntime) {
+    let mut session = new_session(&rt, rt.alloc(), SessionMode::Local);
+    add_channel(&rt, &mut session, "c", 256, 2, Mode::Overwrite);
+    add_channel(&rt, &mut session, "d", 256, 2, Mode::Discard);
+    add_threads(&rt, &mut session, "c", 0..1);
+    add_threads(&rt, &mut session, "d", 1..2);
+    assert_fates(&rt, &session, &[(0, 0, None)]);
     session.start(moment(0)).expect(&rt, "a start");
     for at in 1..7 {
         let _ = offer(&rt, &mut session, 0, at, 64);
         let _ = offer(&rt, &mut session, 1, at, 64);
     }
-    let wanted = [
+    let rows = [
         (0, 0, Some(Fate::Overwritten)),
         (0, 1, Some(Fate::Overwritten)),
         (0, 2, Some(Fate::InRing { seq: 1 })),
@@ -175,48 +224,43 @@ fn fates_tell_where_records_are(rt: HostRuntime) -> Result<(), Fail> {
         (1, 4, Some(Fate::Discarded)),
         (1, 6, None),
     ];
-    for (i, serial, want) in wanted {
-        assert_same(
-            &rt,
-            (i, serial, session.fate_of(i, serial)),
-            (i, serial, Ok(want)),
-        );
-    }
+    assert_fates(&rt, &session, &rows);
     session.take(1).expect(&rt, "a packet");
     let kept = Fate::InChunk { chunk: 0, seq: 0 };
-    assert_same(&rt, session.fate_of(1, 1), Ok(Some(kept)));
+    assert_fates(&rt, &session, &[(1, 1, Some(kept))]);
     let none = StepFault::Session(SessionFault::NoStream);
     assert_same(&rt, session.fate_of(2, 0), Err(none));
     assert_same(&rt, session.fate_of(u64::MAX, 0), Err(none));
-    Ok(())
 }
 
+// a count or a size that no ring has; then a name that is taken, and a ninth channel, whatever its geometry
 #[test]
-fn channels_are_refused_in_order(rt: HostRuntime) -> Result<(), Fail> {
-    let mut session = new_session(rt.alloc())?;
-    for (size, count) in [(255, 2), (256, 3), (131_072, 2), (256, 128)] {
-        let refused = session.add_channel("c", size, count, Mode::Discard);
-        assert_same(
-            &rt,
-            (size, count, refused),
-            (size, count, Err(SessionFault::BadGeometry)),
-        );
+fn channels_are_refused_in_order(rt: HostRuntime) {
+    let mut session = new_session(&rt, rt.alloc(), SessionMode::Local);
+    let bad = Err(SessionFault::BadGeometry);
+    let taken = Err(SessionFault::NameTaken);
+    let rows = [
+        ("c", 255, 2, Mode::Discard, bad),
+        ("c", 256, 3, Mode::Discard, bad),
+        ("c", 131_072, 2, Mode::Discard, bad),
+        ("c", 256, 128, Mode::Discard, bad),
+        ("a", 256, 2, Mode::Discard, Ok(())),
+        ("b", 256, 2, Mode::Discard, Ok(())),
+        ("c", 256, 2, Mode::Discard, Ok(())),
+        ("d", 256, 2, Mode::Discard, Ok(())),
+        ("e", 256, 2, Mode::Discard, Ok(())),
+        ("f", 256, 2, Mode::Discard, Ok(())),
+        ("g", 256, 2, Mode::Discard, Ok(())),
+        ("a", 255, 2, Mode::Discard, taken),
+        ("h", 65_536, 64, Mode::Overwrite, Ok(())),
+        ("h", 256, 2, Mode::Discard, taken),
+        ("i", 255, 2, Mode::Discard, Err(SessionFault::TooMany)),
+    ];
+    for (name, size, count, mode, want) in rows {
+        let answer = session.add_channel(name, size, count, mode);
+        assert_same(&rt, (name, size, count, answer), (name, size, count, want));
     }
-    for name in ["a", "b", "c", "d", "e", "f", "g"] {
-        session
-            .add_channel(name, 256, 2, Mode::Discard)
-            .expect(&rt, "a channel");
-    }
-    let taken = session.add_channel("a", 255, 2, Mode::Discard);
-    assert_same(&rt, taken, Err(SessionFault::NameTaken));
-    session
-        .add_channel("h", 65_536, 64, Mode::Overwrite)
-        .expect(&rt, "a channel");
     assert_same(&rt, session.book().channels(), 8);
-    let taken = session.add_channel("h", 256, 2, Mode::Discard);
-    assert_same(&rt, taken, Err(SessionFault::NameTaken));
-    let refused = session.add_channel("i", 255, 2, Mode::Discard);
-    assert_same(&rt, refused, Err(SessionFault::TooMany));
     let last = session.book().channel("h").expect(&rt, "a channel");
     assert_same(
         &rt,
@@ -237,39 +281,44 @@ fn channels_are_refused_in_order(rt: HostRuntime) -> Result<(), Fail> {
         session.start(moment(1)),
         Err(SessionFault::AlreadyActive),
     );
-    Ok(())
 }
 
 #[test]
-fn streams_are_refused_in_order(rt: HostRuntime) -> Result<(), Fail> {
-    let mut session = new_session(rt.alloc())?;
+fn streams_are_refused_in_order(rt: HostRuntime) {
+    let mut session = new_session(&rt, rt.alloc(), SessionMode::Local);
     assert_same(&rt, session.add_thread("c"), Err(SessionFault::NoChannel));
-    session
-        .add_channel("c", 256, 2, Mode::Discard)
-        .expect(&rt, "a channel");
-    for number in 0..256 {
-        assert_same(&rt, session.add_thread("c"), Ok(number));
-    }
+    add_channel(&rt, &mut session, "c", 256, 2, Mode::Discard);
+    add_threads(&rt, &mut session, "c", 0..256);
     assert_same(&rt, session.add_thread("x"), Err(SessionFault::NoChannel));
     assert_same(&rt, session.add_thread("c"), Err(SessionFault::TooMany));
     assert_same(&rt, session.streams(), 256);
     let inactive = StepFault::Offer(OfferFault::Inactive);
     assert_same(&rt, offer(&rt, &mut session, 255, 1, 4), Err(inactive));
     session.start(moment(0)).expect(&rt, "a start");
-    let first = Offered::Stored { serial: 0, seq: 0 };
-    assert_same(&rt, offer(&rt, &mut session, 255, 1, 152), Ok(first));
-    let large = StepFault::Offer(OfferFault::TooBig);
-    assert_same(&rt, offer(&rt, &mut session, 255, 1, 153), Err(large));
     let none = StepFault::Session(SessionFault::NoStream);
-    assert_same(&rt, offer(&rt, &mut session, 256, 1, 4), Err(none));
+    for (i, len, want) in [
+        (255, 152, Ok(Offered::Stored { serial: 0, seq: 0 })),
+        (255, 153, Err(StepFault::Offer(OfferFault::TooBig))),
+        (256, 4, Err(none)),
+    ] {
+        let answer = offer(&rt, &mut session, i, 1, len);
+        assert_same(&rt, (i, len, answer), (i, len, want));
+    }
     assert_same(&rt, session.take(256), Err(none));
     assert_same(&rt, session.take(u64::MAX), Err(none));
-    Ok(())
+}
+
+/// Holds what a fault prints, and its code and its name, to this text.
+fn assert_printed(rt: &impl Abort, alloc: Global, fault: StepFault, text: &str) {
+    let printed = format!(in alloc; "{fault}").expect(rt, "memory");
+    assert_same(rt, printed.as_str(), text);
+    let words = format!(in alloc; "{} {}", fault.code(), fault.name()).expect(rt, "memory");
+    assert_same(rt, words.as_str(), text);
 }
 
 #[test]
 fn faults_are_printed_by_code_and_name(rt: HostRuntime) {
-    let wanted = [
+    for (fault, want) in [
         (SessionFault::SnapshotMode, "S1 SnapshotMode"),
         (SessionFault::NotSnapshotMode, "S2 NotSnapshotMode"),
         (SessionFault::NeverStarted, "S3 NeverStarted"),
@@ -287,44 +336,19 @@ fn faults_are_printed_by_code_and_name(rt: HostRuntime) {
         (SessionFault::NameTaken, "S15 NameTaken"),
         (SessionFault::NoMemory, "S16 NoMemory"),
         (SessionFault::NoChannel, "S17 NoChannel"),
-    ];
-    for (fault, want) in wanted {
-        assert_same(
-            &rt,
-            format!(in rt.alloc(); "{fault}")
-                .expect(&rt, "memory")
-                .as_str(),
-            want,
-        );
-        let step = StepFault::from(fault);
-        assert_same(
-            &rt,
-            format!(in rt.alloc(); "{step}")
-                .expect(&rt, "memory")
-                .as_str(),
-            want,
-        );
-        let words = format!(in rt.alloc(); "{} {}", step.code(), step.name()).expect(&rt, "memory");
-        assert_same(&rt, words.as_str(), want);
+    ] {
+        let printed = format!(in rt.alloc(); "{fault}").expect(&rt, "memory");
+        assert_same(&rt, printed.as_str(), want);
+        assert_printed(&rt, rt.alloc(), StepFault::from(fault), want);
     }
-    let large = StepFault::from(OfferFault::TooBig);
-    assert_same(
-        &rt,
-        format!(in rt.alloc(); "{large}")
-            .expect(&rt, "memory")
-            .as_str(),
-        "O2 TooBig",
-    );
-    assert_same(&rt, (large.code(), large.name()), ("O2", "TooBig"));
     let nothing = StepFault::from(TakeFault::Nothing);
-    assert_same(&rt, (nothing.code(), nothing.name()), ("T1", "Nothing"));
     let memory = StepFault::from(CutFault::NoMemory);
-    assert_same(
-        &rt,
-        format!(in rt.alloc(); "{memory}")
-            .expect(&rt, "memory")
-            .as_str(),
-        "C2 NoMemory",
-    );
+    for (fault, want) in [
+        (StepFault::from(OfferFault::TooBig), "O2 TooBig"),
+        (nothing, "T1 Nothing"),
+        (memory, "C2 NoMemory"),
+    ] {
+        assert_printed(&rt, rt.alloc(), fault, want);
+    }
     assert!(rt; memory.wants_memory() && !nothing.wants_memory());
 }

@@ -1,8 +1,11 @@
 //! Rotations of a session, whole and by single cuts, and what is refused meanwhile.
 
-use super::{assert_same, moment};
+use super::{
+    add_channel, add_threads, assert_fates, assert_same, make_offers, moment, new_session, offer,
+    with_streams,
+};
 use std::alloc::Global;
-use std::test::Fail;
+use std::process::Abort;
 use tr_book::Mode;
 use tr_chunk::OffsetMinutes;
 use tr_session::{Next, Session, StepFault};
@@ -10,23 +13,11 @@ use tr_session_book::{Archive, SessionFault};
 use tr_stream::{CutDone, Fate, OfferFault, Offered, SessionMode, Taken};
 use uuid::Uuid;
 
-const PAYLOAD: [u8; 64] = [0x61; 64];
-
 /// A session of so many streams with two sub-buffers of 256 bytes each, that was started at moment 0.
-fn started(alloc: Global, streams: u64, mode: Mode) -> Result<Session, Fail> {
-    let offset = OffsetMinutes::new(0).ok_or("an offset")?;
-    let mut session = Session::new(alloc, Uuid::nil(), offset, SessionMode::Local);
-    session.add_channel("c", 256, 2, mode)?;
-    for _ in 0..streams {
-        session.add_thread("c")?;
-    }
-    session.start(moment(0))?;
-    Ok(session)
-}
-
-/// Offers a payload of 64 bytes with the id 7: two of them fill a sub-buffer.
-fn offer(session: &mut Session, i: u64, at: u64) -> Result<Offered, StepFault> {
-    session.offer(i, moment(at), 7, &PAYLOAD)
+fn started(rt: &impl Abort, alloc: Global, streams: u64, mode: Mode) -> Session {
+    let mut session = with_streams(rt, alloc, SessionMode::Local, mode, streams);
+    session.start(moment(0)).expect(rt, "a start");
+    session
 }
 
 fn archive(id: u64, begin: u64, end: u64) -> Archive {
@@ -37,207 +28,204 @@ fn archive(id: u64, begin: u64, end: u64) -> Archive {
     }
 }
 
+/// Holds what a whole rotation at this moment answers.
+fn assert_rotated(
+    rt: &impl Abort,
+    session: &mut Session,
+    at: u64,
+    want: Result<Archive, SessionFault>,
+) {
+    let answer = session.rotate(moment(at));
+    assert_same(rt, (at, answer), (at, want));
+}
+
+/// Holds what the begin of a rotation at this moment answers.
+fn assert_begun(rt: &impl Abort, session: &mut Session, at: u64, want: Result<u64, SessionFault>) {
+    let answer = session.rotate_begin(moment(at));
+    assert_same(rt, (at, answer), (at, want));
+}
+
+/// Holds what the next step of a rotation answers.
+fn assert_next(rt: &impl Abort, session: &mut Session, want: Result<Next, StepFault>) {
+    assert_same(rt, session.rotate_next(), want);
+}
+
+/// Holds what the end of a rotation answers.
+fn assert_finished(rt: &impl Abort, session: &mut Session, want: Result<Archive, SessionFault>) {
+    assert_same(rt, session.rotate_finish(), want);
+}
+
+/// Holds what a start at this moment answers.
+fn assert_started(rt: &impl Abort, session: &mut Session, at: u64, want: Result<(), SessionFault>) {
+    let answer = session.start(moment(at));
+    assert_same(rt, (at, answer), (at, want));
+}
+
+/// Holds what a stop answers.
+fn assert_stopped(rt: &impl Abort, session: &mut Session, want: Result<(), SessionFault>) {
+    assert_same(rt, session.stop(), want);
+}
+
+/// Holds how many packets, records and bytes an archive has.
+fn assert_size(rt: &impl Abort, session: &Session, id: u64, want: (u128, u128, u128)) {
+    let size = session.archive_size(id);
+    assert_same(rt, (size.packets, size.records, size.bytes), want);
+}
+
 #[test]
-fn an_empty_session_rotates(rt: HostRuntime) -> Result<(), Fail> {
-    let mut session = started(rt.alloc(), 0, Mode::Discard)?;
-    assert_same(&rt, session.rotate_begin(moment(5)), Ok(0));
-    assert_same(&rt, session.rotate_next(), Ok(Next::AllCut));
-    assert_same(&rt, session.rotate_finish(), Ok(archive(0, 0, 5)));
-    assert_same(&rt, session.rotate(moment(7)), Ok(archive(1, 5, 7)));
+fn an_empty_session_rotates(rt: HostRuntime) {
+    let mut session = started(&rt, rt.alloc(), 0, Mode::Discard);
+    assert_begun(&rt, &mut session, 5, Ok(0));
+    assert_next(&rt, &mut session, Ok(Next::AllCut));
+    assert_finished(&rt, &mut session, Ok(archive(0, 0, 5)));
+    assert_rotated(&rt, &mut session, 7, Ok(archive(1, 5, 7)));
     assert_same(
         &rt,
         session.book().archives(),
         [archive(0, 0, 5), archive(1, 5, 7)].as_slice(),
     );
-    let size = session.archive_size(0);
-    assert_same(&rt, (size.packets, size.records, size.bytes), (0, 0, 0));
-    Ok(())
+    assert_size(&rt, &session, 0, (0, 0, 0));
+}
+
+/// Holds the moments of the only packet of a stream's part.
+fn assert_only_packet(rt: &impl Abort, session: &Session, chunk: u64, begin: u64, end: u64) {
+    let stream = session.stream(0).expect(rt, "a stream");
+    let packets = stream.part(chunk).expect(rt, "a part").packets();
+    let [packet] = packets else {
+        panic!(rt; "one packet")
+    };
+    let head = packet.head();
+    assert_same(rt, (head.begin.get(), head.end.get()), (begin, end));
 }
 
 // a rotation's moment is never before the session's last one
 #[test]
-fn chunks_follow_each_other(rt: HostRuntime) -> Result<(), Fail> {
-    let mut session = started(rt.alloc(), 1, Mode::Discard)?;
-    assert_same(&rt, session.rotate(moment(9)), Ok(archive(0, 0, 9)));
-    assert_same(&rt, session.rotate(moment(4)), Ok(archive(1, 9, 9)));
+fn chunks_follow_each_other(rt: HostRuntime) {
+    let mut session = started(&rt, rt.alloc(), 1, Mode::Discard);
+    assert_rotated(&rt, &mut session, 9, Ok(archive(0, 0, 9)));
+    assert_rotated(&rt, &mut session, 4, Ok(archive(1, 9, 9)));
     assert_same(
         &rt,
         (session.book().begin().get(), session.book().last().get()),
         (9, 9),
     );
-    assert_same(
-        &rt,
-        offer(&mut session, 0, 10)?,
-        Offered::Stored { serial: 0, seq: 0 },
-    );
-    assert_same(&rt, session.rotate(moment(12)), Ok(archive(2, 9, 12)));
-    let stream = session.stream(0).expect(&rt, "a stream");
-    let packets = stream.part(2).expect(&rt, "a part").packets();
-    let [packet] = packets else {
-        return Err("one packet".into());
-    };
-    assert_same(
-        &rt,
-        (packet.head().begin.get(), packet.head().end.get()),
-        (10, 12),
-    );
-    Ok(())
+    let first = Offered::Stored { serial: 0, seq: 0 };
+    assert_same(&rt, offer(&rt, &mut session, 0, 10, 64), Ok(first));
+    assert_rotated(&rt, &mut session, 12, Ok(archive(2, 9, 12)));
+    assert_only_packet(&rt, &session, 2, 10, 12);
 }
 
 #[test]
-fn refusals_of_a_rotation(rt: HostRuntime) -> Result<(), Fail> {
-    let mut session = started(rt.alloc(), 1, Mode::Discard)?;
+fn refusals_of_a_rotation(rt: HostRuntime) {
+    let mut session = started(&rt, rt.alloc(), 1, Mode::Discard);
     let none = StepFault::Session(SessionFault::NotPending);
-    assert_same(&rt, session.rotate_next(), Err(none));
+    assert_next(&rt, &mut session, Err(none));
     assert_same(&rt, session.cut(0), Err(none));
-    assert_same(&rt, session.rotate_finish(), Err(SessionFault::NotPending));
-    assert_same(&rt, session.rotate_begin(moment(10)), Ok(0));
-    assert_same(
-        &rt,
-        session.rotate_begin(moment(11)),
-        Err(SessionFault::RotationPending),
-    );
-    assert_same(
-        &rt,
-        session.rotate(moment(11)),
-        Err(SessionFault::RotationPending),
-    );
-    assert_same(
-        &rt,
-        session.start(moment(11)),
-        Err(SessionFault::RotationPending),
-    );
-    assert_same(&rt, session.stop(), Err(SessionFault::RotationPending));
-    assert_same(&rt, session.rotate_finish(), Err(SessionFault::CutMissing));
-    assert_same(
-        &rt,
-        session.rotate_next(),
-        Ok(Next::Cut {
-            stream: 0,
-            records: 0,
-        }),
-    );
-    assert_same(&rt, session.rotate_next(), Ok(Next::AllCut));
-    assert_same(&rt, session.rotate_finish(), Ok(archive(0, 0, 10)));
-    assert_same(&rt, session.rotate_finish(), Err(SessionFault::NotPending));
-    Ok(())
+    assert_finished(&rt, &mut session, Err(SessionFault::NotPending));
+    assert_begun(&rt, &mut session, 10, Ok(0));
+    let pending = SessionFault::RotationPending;
+    assert_begun(&rt, &mut session, 11, Err(pending));
+    assert_rotated(&rt, &mut session, 11, Err(pending));
+    assert_started(&rt, &mut session, 11, Err(pending));
+    assert_stopped(&rt, &mut session, Err(pending));
+    assert_finished(&rt, &mut session, Err(SessionFault::CutMissing));
+    let cut = Next::Cut {
+        stream: 0,
+        records: 0,
+    };
+    assert_next(&rt, &mut session, Ok(cut));
+    assert_next(&rt, &mut session, Ok(Next::AllCut));
+    assert_finished(&rt, &mut session, Ok(archive(0, 0, 10)));
+    assert_finished(&rt, &mut session, Err(SessionFault::NotPending));
 }
 
 #[test]
-fn streams_are_cut_in_order(rt: HostRuntime) -> Result<(), Fail> {
-    let mut session = started(rt.alloc(), 2, Mode::Discard)?;
-    session.rotate_begin(moment(10)).expect(&rt, "a rotation");
-    assert_same(
-        &rt,
-        session.cut(2),
-        Err(StepFault::Session(SessionFault::NoStream)),
-    );
-    assert_same(
-        &rt,
-        session.cut(1),
-        Err(StepFault::Session(SessionFault::CutMissing)),
-    );
+fn streams_are_cut_in_order(rt: HostRuntime) {
+    let mut session = started(&rt, rt.alloc(), 2, Mode::Discard);
+    assert_begun(&rt, &mut session, 10, Ok(0));
     let nothing = CutDone {
         chunk: 0,
         packets: 0,
         records: 0,
     };
-    assert_same(&rt, session.cut(0), Ok(nothing));
-    assert_same(
-        &rt,
-        session.cut(0),
-        Err(StepFault::Session(SessionFault::NotPending)),
-    );
-    assert_same(&rt, session.cut(1), Ok(nothing));
-    assert_same(
-        &rt,
-        session.cut(2),
-        Err(StepFault::Session(SessionFault::NoStream)),
-    );
-    Ok(())
+    let rows = [
+        (2, Err(SessionFault::NoStream)),
+        (1, Err(SessionFault::CutMissing)),
+        (0, Ok(nothing)),
+        (0, Err(SessionFault::NotPending)),
+        (1, Ok(nothing)),
+        (2, Err(SessionFault::NoStream)),
+    ];
+    for (step, (i, want)) in rows.iter().enumerate() {
+        let want = want.map_err(StepFault::Session);
+        assert_same(&rt, (step, session.cut(*i)), (step, want));
+    }
 }
 
 #[test]
-fn a_stopped_session_rotates_once(rt: HostRuntime) -> Result<(), Fail> {
-    let mut session = started(rt.alloc(), 1, Mode::Discard)?;
-    assert_same(&rt, session.stop(), Ok(()));
-    assert_same(&rt, session.stop(), Err(SessionFault::NotActive));
+fn a_stopped_session_rotates_once(rt: HostRuntime) {
+    let mut session = started(&rt, rt.alloc(), 1, Mode::Discard);
+    assert_stopped(&rt, &mut session, Ok(()));
+    assert_stopped(&rt, &mut session, Err(SessionFault::NotActive));
     let inactive = StepFault::Offer(OfferFault::Inactive);
-    assert_same(&rt, session.offer(0, moment(1), 1, &PAYLOAD), Err(inactive));
-    assert_same(&rt, session.rotate(moment(1)), Ok(archive(0, 0, 1)));
     assert_same(
         &rt,
-        session.rotate(moment(2)),
-        Err(SessionFault::AlreadyRotated),
+        session.offer(0, moment(1), 1, &[0x61; 64]),
+        Err(inactive),
     );
-    assert_same(&rt, session.start(moment(3)), Ok(()));
-    assert_same(&rt, session.rotate(moment(4)), Ok(archive(1, 1, 4)));
-    session.stop().expect(&rt, "a stop");
-    assert_same(&rt, session.rotate(moment(5)), Ok(archive(2, 4, 5)));
-    Ok(())
+    assert_rotated(&rt, &mut session, 1, Ok(archive(0, 0, 1)));
+    assert_rotated(&rt, &mut session, 2, Err(SessionFault::AlreadyRotated));
+    assert_started(&rt, &mut session, 3, Ok(()));
+    assert_rotated(&rt, &mut session, 4, Ok(archive(1, 1, 4)));
+    assert_stopped(&rt, &mut session, Ok(()));
+    assert_rotated(&rt, &mut session, 5, Ok(archive(2, 4, 5)));
 }
 
 #[test]
 fn a_new_session_has_no_chunk(rt: HostRuntime) {
     let offset = OffsetMinutes::new(-30).expect(&rt, "an offset");
     let mut session = Session::new(rt.alloc(), Uuid::nil(), offset, SessionMode::Local);
-    assert_same(
-        &rt,
-        session.rotate(moment(1)),
-        Err(SessionFault::NeverStarted),
-    );
-    assert_same(&rt, session.stop(), Err(SessionFault::NotActive));
+    assert_rotated(&rt, &mut session, 1, Err(SessionFault::NeverStarted));
+    assert_stopped(&rt, &mut session, Err(SessionFault::NotActive));
     assert_same(&rt, session.book().offset().get(), -30);
     assert_same(&rt, session.book().pending(), None);
-    session.start(moment(20)).expect(&rt, "a start");
-    session.stop().expect(&rt, "a stop");
-    session.start(moment(30)).expect(&rt, "a start");
+    assert_started(&rt, &mut session, 20, Ok(()));
+    assert_stopped(&rt, &mut session, Ok(()));
+    assert_started(&rt, &mut session, 30, Ok(()));
     assert_same(&rt, session.book().begin().get(), 20);
-    assert_same(&rt, session.rotate(moment(40)), Ok(archive(0, 20, 40)));
+    assert_rotated(&rt, &mut session, 40, Ok(archive(0, 20, 40)));
 }
 
 // of six records of 88 bytes the first two gave way; two of the next four push out two others
 #[test]
-fn an_overwritten_packet_is_in_no_archive(rt: HostRuntime) -> Result<(), Fail> {
-    let mut session = started(rt.alloc(), 1, Mode::Overwrite)?;
-    for at in 1..7 {
-        let _ = offer(&mut session, 0, at)?;
-    }
+fn an_overwritten_packet_is_in_no_archive(rt: HostRuntime) {
+    let mut session = started(&rt, rt.alloc(), 1, Mode::Overwrite);
+    make_offers(&rt, &mut session, 1..7, 64);
     let taken = Taken {
         seq: 1,
         count: 2,
         chunk: 0,
     };
     assert_same(&rt, session.take(0), Ok(taken));
-    for at in 7..11 {
-        let _ = offer(&mut session, 0, at)?;
-    }
-    assert_same(&rt, session.rotate(moment(20)), Ok(archive(0, 0, 20)));
-    let size = session.archive_size(0);
-    assert_same(&rt, (size.packets, size.records, size.bytes), (3, 6, 768));
+    make_offers(&rt, &mut session, 7..11, 64);
+    assert_rotated(&rt, &mut session, 20, Ok(archive(0, 0, 20)));
+    assert_size(&rt, &session, 0, (3, 6, 768));
     assert_same(&rt, session.archive_size(1).packets, 0);
-    assert_same(&rt, session.fate_of(0, 4), Ok(Some(Fate::Overwritten)));
-    assert_same(
-        &rt,
-        session.fate_of(0, 9),
-        Ok(Some(Fate::InChunk { chunk: 0, seq: 4 })),
-    );
-    Ok(())
+    let rows = [
+        (0, 4, Some(Fate::Overwritten)),
+        (0, 9, Some(Fate::InChunk { chunk: 0, seq: 4 })),
+    ];
+    assert_fates(&rt, &session, &rows);
 }
 
 #[test]
 fn the_book_tells_each_stream_s_channel(rt: HostRuntime) {
-    let offset = OffsetMinutes::new(0).expect(&rt, "an offset");
-    let mut session = Session::new(rt.alloc(), Uuid::nil(), offset, SessionMode::Local);
-    session
-        .add_channel("c", 256, 2, Mode::Discard)
-        .expect(&rt, "a channel");
-    session
-        .add_channel("d", 512, 2, Mode::Overwrite)
-        .expect(&rt, "a channel");
-    assert_same(&rt, session.add_thread("d"), Ok(0));
-    assert_same(&rt, session.add_thread("c"), Ok(1));
-    assert_same(&rt, session.book().channel_of(0), Some("d"));
-    assert_same(&rt, session.book().channel_of(1), Some("c"));
-    assert_same(&rt, session.book().channel_of(2), None);
+    let mut session = new_session(&rt, rt.alloc(), SessionMode::Local);
+    add_channel(&rt, &mut session, "c", 256, 2, Mode::Discard);
+    add_channel(&rt, &mut session, "d", 512, 2, Mode::Overwrite);
+    add_threads(&rt, &mut session, "d", 0..1);
+    add_threads(&rt, &mut session, "c", 1..2);
+    for (i, channel) in [(0, Some("d")), (1, Some("c")), (2, None)] {
+        assert_same(&rt, (i, session.book().channel_of(i)), (i, channel));
+    }
 }

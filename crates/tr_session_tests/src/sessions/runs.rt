@@ -1,52 +1,58 @@
 //! Runs of a session over a configuration and a list of events.
 
-use super::{assert_same, moment};
+use super::{assert_fates, assert_same, moment};
 use std::alloc::Global;
-use std::test::Fail;
+use std::process::Abort;
 use tr_book::Mode;
 use tr_chunk::OffsetMinutes;
-use tr_session::{Answer, ChannelConfig, Config, Event, StepFault, run_session};
+use tr_session::{Answer, ChannelConfig, Config, Event, Session, StepFault, run_session};
 use tr_session_book::{Archive, SessionFault};
 use tr_snapshot::{count, oldest_serial};
 use tr_stream::{CutDone, Fate, Offered, Payload, SessionMode, Taken};
 use uuid::Uuid;
 
 /// One channel, of a sub-buffer's size and so many threads.
-fn config(alloc: Global, size: u64, threads: u64) -> Result<Config, Fail> {
+fn config(rt: &impl Abort, alloc: Global, size: u64, threads: u64) -> Config {
     let mut channels = Vec::new(alloc);
-    channels.push(ChannelConfig {
-        name: String::from_str(alloc, "c")?,
+    let channel = ChannelConfig {
+        name: String::from_str(alloc, "c").expect(rt, "memory"),
         size,
         count: 2,
         mode: Mode::Discard,
         threads,
-    })?;
-    let offset = OffsetMinutes::new(0).ok_or("an offset")?;
-    Ok(Config {
+    };
+    channels.push(channel).expect(rt, "memory");
+    Config {
         uuid: Uuid::nil(),
-        offset,
+        offset: OffsetMinutes::new(0).expect(rt, "an offset"),
         mode: SessionMode::Local,
         channels,
-    })
+    }
 }
 
 /// The same of a snapshot session, with one thread.
-fn snapshot_config(alloc: Global) -> Result<Config, Fail> {
-    let mut config = config(alloc, 256, 1)?;
+fn snapshot_config(rt: &impl Abort, alloc: Global) -> Config {
+    let mut config = config(rt, alloc, 256, 1);
     config.mode = SessionMode::Snapshot;
     for channel in config.channels.iter_mut() {
         channel.mode = Mode::Overwrite;
     }
-    Ok(config)
+    config
 }
 
-/// An offer of 50 bytes: two of them fit a sub-buffer of 256 bytes, and no third.
-fn offer(alloc: Global, i: u64, at: u64) -> Result<Event, Fail> {
-    let mut bytes = Vec::new(alloc);
-    for _ in 0..50 {
-        bytes.push(b'a')?;
-    }
-    Ok(Event::Offer(i, moment(at), 1, Payload::new(bytes)))
+/// Adds an event.
+fn then(rt: &impl Abort, events: &mut Vec<Event>, event: Event) {
+    events.push(event).expect(rt, "memory");
+}
+
+/// Adds an offer of 50 bytes: two of them fit a sub-buffer of 256 bytes, and no third.
+fn then_offer(rt: &impl Abort, alloc: Global, events: &mut Vec<Event>, i: u64, at: u64) {
+    let bytes = vec![in alloc; b'a'; 50].expect(rt, "memory");
+    then(
+        rt,
+        events,
+        Event::Offer(i, moment(at), 1, Payload::new(bytes)),
+    );
 }
 
 fn stored(serial: u64, seq: u64) -> Answer {
@@ -108,26 +114,37 @@ fn first_difference(answers: &[Answer], wanted: &[Answer]) -> Option<usize> {
     None
 }
 
+/// Runs a session of two streams over these events, and holds the answers from this place on to the wanted ones.
+fn assert_answered(
+    rt: &impl Abort,
+    alloc: Global,
+    events: &[Event],
+    from: usize,
+    wanted: &[Answer],
+) -> Session {
+    let config = config(rt, alloc, 256, 2);
+    let (session, answers) = run_session(alloc, &config, events).expect(rt, "a run");
+    let answers = answers.as_slice().get(from..).expect(rt, "answers");
+    assert_same(rt, first_difference(answers, wanted), None);
+    session
+}
+
 /// Two streams, up to the cut of the first one.
-fn until_the_first_cut(alloc: Global) -> Result<Vec<Event>, Fail> {
+fn until_the_first_cut(rt: &impl Abort, alloc: Global) -> Vec<Event> {
     let mut events = Vec::new(alloc);
-    events.push(Event::SessionStart(moment(0)))?;
-    events.push(Event::Start(0))?;
-    events.push(Event::Start(1))?;
-    events.push(offer(alloc, 0, 1)?)?;
-    events.push(offer(alloc, 1, 1)?)?;
-    events.push(Event::RotateBegin(moment(10)))?;
-    events.push(Event::Cut(0))?;
-    Ok(events)
+    then(rt, &mut events, Event::SessionStart(moment(0)));
+    then(rt, &mut events, Event::Start(0));
+    then(rt, &mut events, Event::Start(1));
+    then_offer(rt, alloc, &mut events, 0, 1);
+    then_offer(rt, alloc, &mut events, 1, 1);
+    then(rt, &mut events, Event::RotateBegin(moment(10)));
+    then(rt, &mut events, Event::Cut(0));
+    events
 }
 
 #[test]
-fn a_rotation_begins(rt: HostRuntime) -> Result<(), Fail> {
-    let config = config(rt.alloc(), 256, 2)?;
-    let events = until_the_first_cut(rt.alloc())?;
-    let (session, answers) = run_session(rt.alloc(), &config, events.as_slice()).expect(
-        &rt, "a run",
-    );
+fn a_rotation_begins(rt: HostRuntime) {
+    let events = until_the_first_cut(&rt, rt.alloc());
     let wanted = [
         Answer::SessionStart(Ok(())),
         Answer::Start(Ok(())),
@@ -137,41 +154,29 @@ fn a_rotation_begins(rt: HostRuntime) -> Result<(), Fail> {
         Answer::RotateBegin(Ok(0)),
         cut(1, 1),
     ];
-    assert_same(
-        &rt,
-        first_difference(answers.as_slice(), wanted.as_slice()),
-        None,
-    );
-    assert_same(
-        &rt,
-        session.book().pending().expect(&rt, "a rotation").cut,
-        1,
-    );
-    Ok(())
+    let session = assert_answered(&rt, rt.alloc(), &events, 0, &wanted);
+    let pending = session.book().pending().expect(&rt, "a rotation");
+    assert_same(&rt, pending.cut, 1);
 }
 
 /// The first stream is cut, and takes from both go on until the rotation can't end.
-fn until_the_second_cut(alloc: Global) -> Result<Vec<Event>, Fail> {
-    let mut events = until_the_first_cut(alloc)?;
+fn until_the_second_cut(rt: &impl Abort, alloc: Global) -> Vec<Event> {
+    let mut events = until_the_first_cut(rt, alloc);
     for at in 11..14 {
-        events.push(offer(alloc, 0, at)?)?;
+        then_offer(rt, alloc, &mut events, 0, at);
     }
-    events.push(Event::Take(0))?;
-    events.push(offer(alloc, 1, 11)?)?;
-    events.push(offer(alloc, 1, 12)?)?;
-    events.push(Event::Take(1))?;
-    events.push(Event::RotateFinish)?;
-    Ok(events)
+    then(rt, &mut events, Event::Take(0));
+    then_offer(rt, alloc, &mut events, 1, 11);
+    then_offer(rt, alloc, &mut events, 1, 12);
+    then(rt, &mut events, Event::Take(1));
+    then(rt, &mut events, Event::RotateFinish);
+    events
 }
 
 // the first stream is cut, the second isn't: what each takes goes to its own chunk
 #[test]
-fn takes_during_a_rotation(rt: HostRuntime) -> Result<(), Fail> {
-    let config = config(rt.alloc(), 256, 2)?;
-    let events = until_the_second_cut(rt.alloc())?;
-    let (session, answers) = run_session(rt.alloc(), &config, events.as_slice()).expect(
-        &rt, "a run",
-    );
+fn takes_during_a_rotation(rt: HostRuntime) {
+    let events = until_the_second_cut(&rt, rt.alloc());
     let wanted = [
         stored(1, 1),
         stored(2, 1),
@@ -182,62 +187,40 @@ fn takes_during_a_rotation(rt: HostRuntime) -> Result<(), Fail> {
         taken(0, 0),
         Answer::RotateFinish(Err(SessionFault::CutMissing)),
     ];
-    let answers = answers.as_slice().get(7..).expect(&rt, "answers");
-    assert_same(&rt, first_difference(answers, wanted.as_slice()), None);
-    for (i, serial, want) in [
-        (0, 1, Fate::InChunk { chunk: 1, seq: 1 }),
-        (0, 3, Fate::InRing { seq: 2 }),
-        (1, 2, Fate::InRing { seq: 1 }),
-    ] {
-        assert_same(
-            &rt,
-            (i, serial, session.fate_of(i, serial)),
-            (i, serial, Ok(Some(want))),
-        );
-    }
-    Ok(())
+    let session = assert_answered(&rt, rt.alloc(), &events, 7, &wanted);
+    let rows = [
+        (0, 1, Some(Fate::InChunk { chunk: 1, seq: 1 })),
+        (0, 3, Some(Fate::InRing { seq: 2 })),
+        (1, 2, Some(Fate::InRing { seq: 1 })),
+    ];
+    assert_fates(&rt, &session, &rows);
 }
 
 // the second cut moves the record that was offered after the rotation's begin
 #[test]
-fn a_rotation_with_takes_ends(rt: HostRuntime) -> Result<(), Fail> {
-    let config = config(rt.alloc(), 256, 2)?;
-    let mut events = until_the_second_cut(rt.alloc())?;
-    events.push(Event::Cut(1)).expect(&rt, "memory");
-    events.push(Event::RotateFinish).expect(&rt, "memory");
-    let (session, answers) = run_session(rt.alloc(), &config, events.as_slice()).expect(
-        &rt, "a run",
-    );
+fn a_rotation_with_takes_ends(rt: HostRuntime) {
+    let mut events = until_the_second_cut(&rt, rt.alloc());
+    then(&rt, &mut events, Event::Cut(1));
+    then(&rt, &mut events, Event::RotateFinish);
     let wanted = [cut(1, 1), Answer::RotateFinish(Ok(archive(10)))];
-    let answers = answers.as_slice().get(15..).expect(&rt, "answers");
-    assert_same(&rt, first_difference(answers, wanted.as_slice()), None);
-    for (i, serial, want) in [
-        (0, 1, Fate::InChunk { chunk: 1, seq: 1 }),
-        (0, 3, Fate::InRing { seq: 2 }),
-        (1, 2, Fate::InChunk { chunk: 0, seq: 1 }),
-    ] {
-        assert_same(
-            &rt,
-            (i, serial, session.fate_of(i, serial)),
-            (i, serial, Ok(Some(want))),
-        );
-    }
-    Ok(())
+    let session = assert_answered(&rt, rt.alloc(), &events, 15, &wanted);
+    let rows = [
+        (0, 1, Some(Fate::InChunk { chunk: 1, seq: 1 })),
+        (0, 3, Some(Fate::InRing { seq: 2 })),
+        (1, 2, Some(Fate::InChunk { chunk: 0, seq: 1 })),
+    ];
+    assert_fates(&rt, &session, &rows);
 }
 
 #[test]
-fn a_rotation_ends(rt: HostRuntime) -> Result<(), Fail> {
-    let config = config(rt.alloc(), 256, 2)?;
-    let mut events = until_the_first_cut(rt.alloc())?;
-    events.push(Event::Cut(1)).expect(&rt, "memory");
-    events.push(Event::Cut(2)).expect(&rt, "memory");
-    events.push(Event::RotateFinish).expect(&rt, "memory");
-    events.push(Event::SessionStop).expect(&rt, "memory");
-    events.push(Event::Start(0)).expect(&rt, "memory");
-    events.push(Event::Stop(1)).expect(&rt, "memory");
-    let (session, answers) = run_session(rt.alloc(), &config, events.as_slice()).expect(
-        &rt, "a run",
-    );
+fn a_rotation_ends(rt: HostRuntime) {
+    let mut events = until_the_first_cut(&rt, rt.alloc());
+    then(&rt, &mut events, Event::Cut(1));
+    then(&rt, &mut events, Event::Cut(2));
+    then(&rt, &mut events, Event::RotateFinish);
+    then(&rt, &mut events, Event::SessionStop);
+    then(&rt, &mut events, Event::Start(0));
+    then(&rt, &mut events, Event::Stop(1));
     let wanted = [
         cut(1, 1),
         Answer::Cut(Err(StepFault::Session(SessionFault::NoStream))),
@@ -246,10 +229,8 @@ fn a_rotation_ends(rt: HostRuntime) -> Result<(), Fail> {
         Answer::Start(Err(SessionFault::NotActive)),
         Answer::Stop(Ok(())),
     ];
-    let answers = answers.as_slice().get(7..).expect(&rt, "answers");
-    assert_same(&rt, first_difference(answers, wanted.as_slice()), None);
+    let session = assert_answered(&rt, rt.alloc(), &events, 7, &wanted);
     assert_same(&rt, session.book().archives(), [archive(10)].as_slice());
-    Ok(())
 }
 
 /// What an answer shows of the first stream: its offers, its losses, the oldest serial, and how many records.
@@ -275,68 +256,57 @@ fn refused(answer: Option<&Answer>) -> Option<SessionFault> {
     }
 }
 
-#[test]
-fn a_stream_is_seen_twice(rt: HostRuntime) -> Result<(), Fail> {
-    let config = snapshot_config(rt.alloc())?;
-    let mut events = Vec::new(rt.alloc());
-    events
-        .push(Event::SessionStart(moment(0)))
-        .expect(&rt, "memory");
-    events.push(Event::Start(0)).expect(&rt, "memory");
+/// Two looks, behind six offers and behind a seventh.
+fn looks_behind_offers(rt: &impl Abort, alloc: Global) -> Vec<Event> {
+    let mut events = Vec::new(alloc);
+    then(rt, &mut events, Event::SessionStart(moment(0)));
+    then(rt, &mut events, Event::Start(0));
     for at in 1..7 {
-        events.push(offer(rt.alloc(), 0, at)?).expect(&rt, "memory");
+        then_offer(rt, alloc, &mut events, 0, at);
     }
+    then(rt, &mut events, Event::Snap(0, moment(10)));
+    then_offer(rt, alloc, &mut events, 0, 11);
+    then(rt, &mut events, Event::Snap(0, moment(12)));
     events
-        .push(Event::Snap(0, moment(10)))
-        .expect(&rt, "memory");
-    events.push(offer(rt.alloc(), 0, 11)?).expect(&rt, "memory");
-    events
-        .push(Event::Snap(0, moment(12)))
-        .expect(&rt, "memory");
-    let (session, answers) = run_session(rt.alloc(), &config, events.as_slice()).expect(
-        &rt, "a run",
-    );
-    let answers = answers.as_slice();
-    assert_same(&rt, shown(answers.get(8)), Some((6, 0, Some(2), 4)));
-    assert_same(&rt, shown(answers.get(10)), Some((7, 0, Some(4), 3)));
-    assert_same(&rt, session.book().last().get(), 0);
-    Ok(())
 }
 
 #[test]
-fn looks_that_are_refused(rt: HostRuntime) -> Result<(), Fail> {
-    let config = snapshot_config(rt.alloc())?;
-    let events = vec![in rt.alloc();
+fn a_stream_is_seen_twice(rt: HostRuntime) {
+    let config = snapshot_config(&rt, rt.alloc());
+    let events = looks_behind_offers(&rt, rt.alloc());
+    let (session, answers) = run_session(rt.alloc(), &config, &events).expect(&rt, "a run");
+    assert_same(&rt, shown(answers.get(8)), Some((6, 0, Some(2), 4)));
+    assert_same(&rt, shown(answers.get(10)), Some((7, 0, Some(4), 3)));
+    assert_same(&rt, session.book().last().get(), 0);
+}
+
+#[test]
+fn looks_that_are_refused(rt: HostRuntime) {
+    let config = snapshot_config(&rt, rt.alloc());
+    let events = [
         Event::Snap(0, moment(5)),
         Event::SessionStart(moment(0)),
         Event::Snap(1, moment(5)),
         Event::Snap(0, moment(5)),
-    ]
-    .expect(&rt, "memory");
-    let (_, answers) = run_session(rt.alloc(), &config, events.as_slice()).expect(&rt, "a run");
-    let answers = answers.as_slice();
-    assert_same(
-        &rt,
-        refused(answers.get(0)),
-        Some(SessionFault::NeverStarted),
-    );
+    ];
+    let (_, answers) = run_session(rt.alloc(), &config, &events).expect(&rt, "a run");
+    let early = SessionFault::NeverStarted;
+    assert_same(&rt, refused(answers.get(0)), Some(early));
     assert_same(&rt, refused(answers.get(2)), Some(SessionFault::NoStream));
     assert_same(&rt, shown(answers.get(3)), Some((0, 0, None, 0)));
-    Ok(())
 }
 
 #[test]
-fn a_configuration_is_refused(rt: HostRuntime) -> Result<(), Fail> {
-    let bad = config(rt.alloc(), 255, 1)?;
-    assert!(rt;
-        run_session(rt.alloc(), &bad, &[]).is_err_and(|fault| fault == SessionFault::BadGeometry)
-    );
-    let many = config(rt.alloc(), 256, 257)?;
-    assert!(rt;
-        run_session(rt.alloc(), &many, &[]).is_err_and(|fault| fault == SessionFault::TooMany)
-    );
-    let most = config(rt.alloc(), 256, 256)?;
+fn a_configuration_is_refused(rt: HostRuntime) {
+    for (size, threads, fault) in [
+        (255, 1, SessionFault::BadGeometry),
+        (256, 257, SessionFault::TooMany),
+    ] {
+        let bad = config(&rt, rt.alloc(), size, threads);
+        let answer = run_session(rt.alloc(), &bad, &[]).err();
+        assert_same(&rt, (size, threads, answer), (size, threads, Some(fault)));
+    }
+    let most = config(&rt, rt.alloc(), 256, 256);
     let (session, answers) = run_session(rt.alloc(), &most, &[]).expect(&rt, "a run");
     assert_same(&rt, (session.streams(), answers.len()), (256, 0));
-    Ok(())
 }
