@@ -16,8 +16,6 @@ mod offers;
 mod packets;
 mod rotations;
 mod sums;
-#[cfg(test)]
-mod tests;
 
 use cases::Case;
 use std::alloc::Global;
