@@ -6,6 +6,7 @@ mod runs;
 
 use std::alloc::{AllocError, Global};
 use std::fmt::Debug;
+use std::ops::Range;
 use std::process::Abort;
 use tr_book::{Geometry, Mode, StreamSnap};
 use tr_packet::{Head, Packet};
@@ -48,6 +49,33 @@ fn small_stream(alloc: Global, mode: Mode) -> Result<Stream, AllocError> {
 /// This moment.
 fn at(nanoseconds: u64) -> Moment {
     Moment::new(nanoseconds).unwrap_or(Moment::zero())
+}
+
+/// A stream of a local session that takes offers.
+fn active_stream(rt: &impl Abort, alloc: Global, mode: Mode) -> Stream {
+    let mut stream = small_stream(alloc, mode).expect(rt, "memory");
+    stream.set_active(true);
+    stream
+}
+
+/// Offers the payload at these moments, whatever the answers.
+fn offer(stream: &mut Stream, moments: Range<u64>, payload: &[u8]) {
+    for moment in moments {
+        let _ = stream.offer(at(moment), 7, payload);
+    }
+}
+
+/// Offers the payload at each moment, and holds the answer to what stands beside it.
+fn assert_offers(
+    rt: &impl Abort,
+    stream: &mut Stream,
+    payload: &[u8],
+    rows: &[(u64, Result<Offered, OfferFault>)],
+) {
+    for (moment, want) in rows {
+        let answer = stream.offer(at(*moment), 7, payload);
+        assert_same(rt, (*moment, answer), (*moment, *want));
+    }
 }
 
 /// The answer to an offer that was stored.

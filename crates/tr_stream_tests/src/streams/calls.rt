@@ -1,34 +1,55 @@
 //! Worked examples: a stream of sub-buffers of 256 bytes, two to a ring.
 
-use super::{PacketRow, assert_same, at, is_row, small_stream, stored, stored_over};
+use super::{
+    PacketRow, active_stream, assert_offers, assert_same, at, is_row, offer, small_stream, stored,
+    stored_over,
+};
+use std::alloc::Global;
+use std::fmt::Display;
+use std::process::Abort;
 use tr_book::{Counts, Mode};
 use tr_packet::Packet;
-use tr_stream::{CutDone, CutFault, Fate, OfferFault, Offered, TakeFault, Taken};
+use tr_stream::{CutDone, CutFault, Fate, OfferFault, Offered, Stream, TakeFault, Taken};
+
+/// Holds what a take answers.
+fn assert_taken(rt: &impl Abort, stream: &mut Stream, want: Result<Taken, TakeFault>) {
+    assert_same(rt, stream.take(), want);
+}
+
+/// Holds the part, the packets and the records that a cut at this moment tells.
+fn assert_cut(rt: &impl Abort, stream: &mut Stream, moment: u64, want: (u64, u64, u64)) {
+    let done = stream.cut(at(moment)).expect(rt, "a cut");
+    assert_same(
+        rt,
+        (moment, (done.chunk, done.packets, done.records)),
+        (moment, want),
+    );
+}
+
+/// Holds the fate of each record, told by its serial, to what it is.
+fn assert_fates(rt: &impl Abort, stream: &Stream, rows: &[(u64, Option<Fate>)]) {
+    for (serial, fate) in rows {
+        assert_same(rt, (*serial, stream.fate_of(*serial)), (*serial, *fate));
+    }
+}
 
 #[test]
 fn a_record_fills_a_sub_buffer(rt: HostRuntime) {
     let mut stream = small_stream(rt.alloc(), Mode::Discard).expect(&rt, "memory");
-    assert_same(
-        &rt,
-        stream.offer(at(1), 7, &[0; 152]),
-        Err(OfferFault::Inactive),
-    );
+    let inactive = Err(OfferFault::Inactive);
+    assert_offers(&rt, &mut stream, &[0; 152], &[(1, inactive)]);
     stream.set_active(true);
-    assert_same(&rt, stream.offer(at(1), 7, &[0; 152]), stored(0, 0));
-    assert_same(
-        &rt,
-        stream.offer(at(2), 7, &[0; 153]),
-        Err(OfferFault::TooBig),
-    );
-    assert_same(&rt, stream.offer(at(3), 7, &[]), stored(1, 1));
+    assert_offers(&rt, &mut stream, &[0; 152], &[(1, stored(0, 0))]);
+    let large = Err(OfferFault::TooBig);
+    assert_offers(&rt, &mut stream, &[0; 153], &[(2, large)]);
+    assert_offers(&rt, &mut stream, &[], &[(3, stored(1, 1))]);
     stream.set_active(false);
-    assert_same(&rt, stream.offer(at(4), 7, &[]), Err(OfferFault::Inactive));
+    assert_offers(&rt, &mut stream, &[], &[(4, inactive)]);
 }
 
 #[test]
 fn a_longer_record_is_discarded_and_a_shorter_one_is_stored(rt: HostRuntime) {
-    let mut stream = small_stream(rt.alloc(), Mode::Discard).expect(&rt, "memory");
-    stream.set_active(true);
+    let mut stream = active_stream(&rt, rt.alloc(), Mode::Discard);
     let rows = [
         (1, stored(0, 0)),
         (2, stored(1, 0)),
@@ -36,27 +57,21 @@ fn a_longer_record_is_discarded_and_a_shorter_one_is_stored(rt: HostRuntime) {
         (4, stored(3, 1)),
         (5, Ok(Offered::Discarded { serial: 4 })),
     ];
-    for (moment, answer) in rows {
-        assert_same(&rt, stream.offer(at(moment), 7, &[97; 50]), answer);
-    }
-    assert_same(&rt, stream.offer(at(6), 7, &[97; 4]), stored(5, 1));
-    assert_same(
-        &rt,
-        stream.take(),
-        Ok(Taken {
-            seq: 0,
-            count: 2,
-            chunk: 0,
-        }),
-    );
-    assert_same(&rt, stream.take(), Err(TakeFault::Nothing));
-    assert_same(
-        &rt,
-        stream.fate_of(0),
-        Some(Fate::InChunk { chunk: 0, seq: 0 }),
-    );
-    assert_same(&rt, stream.fate_of(4), Some(Fate::Discarded));
-    assert_same(&rt, stream.fate_of(5), Some(Fate::InRing { seq: 1 }));
+    assert_offers(&rt, &mut stream, &[97; 50], &rows);
+    assert_offers(&rt, &mut stream, &[97; 4], &[(6, stored(5, 1))]);
+    let taken = Taken {
+        seq: 0,
+        count: 2,
+        chunk: 0,
+    };
+    assert_taken(&rt, &mut stream, Ok(taken));
+    assert_taken(&rt, &mut stream, Err(TakeFault::Nothing));
+    let fates = [
+        (0, Some(Fate::InChunk { chunk: 0, seq: 0 })),
+        (4, Some(Fate::Discarded)),
+        (5, Some(Fate::InRing { seq: 1 })),
+    ];
+    assert_fates(&rt, &stream, &fates);
     assert_same(
         &rt,
         stream.counts(),
@@ -73,28 +88,29 @@ fn a_longer_record_is_discarded_and_a_shorter_one_is_stored(rt: HostRuntime) {
     );
 }
 
-#[test]
-fn a_take_makes_a_packet_of_the_current_part(rt: HostRuntime) {
-    let mut stream = small_stream(rt.alloc(), Mode::Discard).expect(&rt, "memory");
-    stream.set_active(true);
-    assert_same(&rt, stream.offer(at(3), 7, &[97; 100]), stored(0, 0));
-    assert_same(&rt, stream.offer(at(2), 8, &[97; 100]), stored(1, 1));
-    assert_same(
-        &rt,
-        stream.take(),
-        Ok(Taken {
-            seq: 0,
-            count: 1,
-            chunk: 0,
-        }),
-    );
-    assert!(rt; stream.part(1).is_none());
-    let part = stream.part(0).expect(&rt, "a part");
-    assert_same(&rt, (part.id(), part.bytes()), (0, 204));
-    assert_same(&rt, part.records(), 1);
+/// Holds the only packet of the first part, of 204 bytes.
+fn assert_first_packet(rt: &impl Abort, stream: &Stream, row: &PacketRow) {
+    let part = stream.part(0).expect(rt, "a part");
+    assert_same(rt, (part.id(), part.bytes()), (0, 204));
+    assert_same(rt, part.records(), 1);
     let [packet] = part.packets() else {
         panic!(rt; "one packet")
     };
+    assert!(rt; is_row(packet, row));
+}
+
+#[test]
+fn a_take_makes_a_packet_of_the_current_part(rt: HostRuntime) {
+    let mut stream = active_stream(&rt, rt.alloc(), Mode::Discard);
+    assert_same(&rt, stream.offer(at(3), 7, &[97; 100]), stored(0, 0));
+    assert_same(&rt, stream.offer(at(2), 8, &[97; 100]), stored(1, 1));
+    let taken = Taken {
+        seq: 0,
+        count: 1,
+        chunk: 0,
+    };
+    assert_taken(&rt, &mut stream, Ok(taken));
+    assert!(rt; stream.part(1).is_none());
     // The second record's own moment was before the first one's.
     let row = PacketRow {
         seq: 0,
@@ -103,13 +119,12 @@ fn a_take_makes_a_packet_of_the_current_part(rt: HostRuntime) {
         end: 3,
         records: &[(0, 3, 100)],
     };
-    assert!(rt; is_row(packet, &row));
+    assert_first_packet(&rt, &stream, &row);
 }
 
 #[test]
 fn the_oldest_sub_buffer_gives_way(rt: HostRuntime) {
-    let mut stream = small_stream(rt.alloc(), Mode::Overwrite).expect(&rt, "memory");
-    stream.set_active(true);
+    let mut stream = active_stream(&rt, rt.alloc(), Mode::Overwrite);
     let rows = [
         (1, stored(0, 0)),
         (2, stored(1, 0)),
@@ -118,34 +133,28 @@ fn the_oldest_sub_buffer_gives_way(rt: HostRuntime) {
         (5, stored_over(4, 2, 0)),
         (6, stored(5, 2)),
     ];
-    for (moment, answer) in rows {
-        assert_same(&rt, stream.offer(at(moment), 7, &[97; 64]), answer);
-    }
+    assert_offers(&rt, &mut stream, &[97; 64], &rows);
     let fates = [
         (1, Some(Fate::Overwritten)),
         (2, Some(Fate::InRing { seq: 1 })),
         (5, Some(Fate::InRing { seq: 2 })),
         (6, None),
     ];
-    for (serial, fate) in fates {
-        assert_same(&rt, stream.fate_of(serial), fate);
-    }
+    assert_fates(&rt, &stream, &fates);
+    let taken = Taken {
+        seq: 1,
+        count: 2,
+        chunk: 0,
+    };
+    assert_taken(&rt, &mut stream, Ok(taken));
+    let kept = Fate::InChunk { chunk: 0, seq: 1 };
+    assert_fates(&rt, &stream, &[(2, Some(kept))]);
+    let counts = stream.counts();
     assert_same(
         &rt,
-        stream.take(),
-        Ok(Taken {
-            seq: 1,
-            count: 2,
-            chunk: 0,
-        }),
+        (counts.overwritten, counts.overwritten_packets),
+        (2, 1),
     );
-    assert_same(
-        &rt,
-        stream.fate_of(2),
-        Some(Fate::InChunk { chunk: 0, seq: 1 }),
-    );
-    assert_same(&rt, stream.counts().overwritten, 2);
-    assert_same(&rt, stream.counts().overwritten_packets, 1);
 }
 
 /// Whether a packet has this number, tells so many records lost, and has records of these serials.
@@ -160,79 +169,77 @@ fn is_packet(packet: &Packet, seq: u64, lost: u64, serials: &[u64]) -> bool {
             .all(|(r, serial)| r.serial() == *serial)
 }
 
-#[test]
-fn a_cut_closes_a_part_with_all_that_the_ring_has(rt: HostRuntime) {
-    let mut stream = small_stream(rt.alloc(), Mode::Discard).expect(&rt, "memory");
-    stream.set_active(true);
-    for moment in 1..6 {
-        let _ = stream.offer(at(moment), 7, &[97; 50]);
-    }
-    assert_same(&rt, stream.offer(at(6), 7, &[97; 4]), stored(5, 1));
-    assert!(rt; stream.take().is_ok());
-    let done = CutDone {
-        chunk: 0,
-        packets: 1,
-        records: 3,
-    };
-    assert_same(&rt, stream.cut(at(10)), Ok(done));
-    let closed = stream.part(0).expect(&rt, "a part");
+/// Holds the two packets of the first part, of 484 bytes, of which the second ends at moment 10.
+fn assert_two_packets(rt: &impl Abort, stream: &Stream) {
+    let closed = stream.part(0).expect(rt, "a part");
     let [first, second] = closed.packets() else {
         panic!(rt; "two packets")
     };
     assert!(rt; is_packet(first, 0, 0, &[0, 1]));
     assert!(rt; is_packet(second, 1, 1, &[2, 3, 5]));
-    assert_same(&rt, second.head().end, at(10));
-    assert_same(&rt, closed.bytes(), 484);
-    assert_same(&rt, stream.fate_of(4), Some(Fate::Discarded));
+    assert_same(rt, second.head().end, at(10));
+    assert_same(rt, closed.bytes(), 484);
+}
+
+#[test]
+fn a_cut_closes_a_part_with_all_that_the_ring_has(rt: HostRuntime) {
+    let mut stream = active_stream(&rt, rt.alloc(), Mode::Discard);
+    offer(&mut stream, 1..6, &[97; 50]);
+    assert_offers(&rt, &mut stream, &[97; 4], &[(6, stored(5, 1))]);
+    assert!(rt; stream.take().is_ok());
+    assert_cut(&rt, &mut stream, 10, (0, 1, 3));
+    assert_two_packets(&rt, &stream);
+    let fates = [
+        (4, Some(Fate::Discarded)),
+        (5, Some(Fate::InChunk { chunk: 0, seq: 1 })),
+        (6, None),
+    ];
+    assert_fates(&rt, &stream, &fates);
+}
+
+/// Holds the moments of the only packet of the third part.
+fn assert_third_packet(rt: &impl Abort, stream: &Stream, begin: u64, end: u64) {
+    let closed = stream.part(2).expect(rt, "a part");
+    let [only] = closed.packets() else {
+        panic!(rt; "one packet")
+    };
     assert_same(
-        &rt,
-        stream.fate_of(5),
-        Some(Fate::InChunk { chunk: 0, seq: 1 }),
+        rt,
+        (only.head().begin, only.head().end),
+        (at(begin), at(end)),
     );
-    assert_same(&rt, stream.fate_of(6), None);
 }
 
 #[test]
 fn a_cut_of_an_empty_ring_closes_an_empty_part(rt: HostRuntime) {
-    let mut stream = small_stream(rt.alloc(), Mode::Discard).expect(&rt, "memory");
-    stream.set_active(true);
-    assert_same(&rt, stream.offer(at(3), 7, &[]), stored(0, 0));
-    let first = CutDone {
-        chunk: 0,
-        packets: 1,
-        records: 1,
-    };
-    assert_same(&rt, stream.cut(at(10)), Ok(first));
-    let empty = CutDone {
-        chunk: 1,
-        packets: 0,
-        records: 0,
-    };
-    assert_same(&rt, stream.cut(at(11)), Ok(empty));
+    let mut stream = active_stream(&rt, rt.alloc(), Mode::Discard);
+    assert_offers(&rt, &mut stream, &[], &[(3, stored(0, 0))]);
+    assert_cut(&rt, &mut stream, 10, (0, 1, 1));
+    assert_cut(&rt, &mut stream, 11, (1, 0, 0));
     // An empty sub-buffer used no number, and the cut's moment is the last one.
-    assert_same(&rt, stream.offer(at(0), 7, &[]), stored(1, 1));
-    let last = CutDone {
-        chunk: 2,
-        packets: 1,
-        records: 1,
+    assert_offers(&rt, &mut stream, &[], &[(0, stored(1, 1))]);
+    assert_cut(&rt, &mut stream, 0, (2, 1, 1));
+    assert_third_packet(&rt, &stream, 11, 11);
+    let counts = stream.counts();
+    assert_same(&rt, (counts.cuts, counts.current_bytes), (3, 0));
+}
+
+/// Holds the three packets of the first part, of 768 bytes.
+fn assert_three_packets(rt: &impl Abort, stream: &Stream) {
+    let closed = stream.part(0).expect(rt, "a part");
+    let [first, second, third] = closed.packets() else {
+        panic!(rt; "three packets")
     };
-    assert_same(&rt, stream.cut(at(0)), Ok(last));
-    let closed = stream.part(2).expect(&rt, "a part");
-    let [only] = closed.packets() else {
-        panic!(rt; "one packet")
-    };
-    assert_same(&rt, (only.head().begin, only.head().end), (at(11), at(11)));
-    assert_same(&rt, stream.counts().cuts, 3);
-    assert_same(&rt, stream.counts().current_bytes, 0);
+    assert!(rt; is_packet(first, 1, 0, &[2, 3]));
+    assert!(rt; is_packet(second, 3, 0, &[6, 7]));
+    assert!(rt; is_packet(third, 4, 0, &[8, 9]));
+    assert_same(rt, closed.bytes(), 768);
 }
 
 #[test]
 fn numbers_of_overwritten_packets_are_absent(rt: HostRuntime) {
-    let mut stream = small_stream(rt.alloc(), Mode::Overwrite).expect(&rt, "memory");
-    stream.set_active(true);
-    for moment in 1..7 {
-        let _ = stream.offer(at(moment), 7, &[97; 64]);
-    }
+    let mut stream = active_stream(&rt, rt.alloc(), Mode::Overwrite);
+    offer(&mut stream, 1..7, &[97; 64]);
     assert!(rt; stream.take().is_ok());
     let rows = [
         (7, stored(6, 3)),
@@ -240,25 +247,15 @@ fn numbers_of_overwritten_packets_are_absent(rt: HostRuntime) {
         (9, stored_over(8, 4, 2)),
         (10, stored(9, 4)),
     ];
-    for (moment, answer) in rows {
-        assert_same(&rt, stream.offer(at(moment), 7, &[97; 64]), answer);
-    }
-    let done = CutDone {
-        chunk: 0,
-        packets: 2,
-        records: 4,
-    };
-    assert_same(&rt, stream.cut(at(20)), Ok(done));
-    let closed = stream.part(0).expect(&rt, "a part");
-    let [first, second, third] = closed.packets() else {
-        panic!(rt; "three packets")
-    };
-    assert!(rt; is_packet(first, 1, 0, &[2, 3]));
-    assert!(rt; is_packet(second, 3, 0, &[6, 7]));
-    assert!(rt; is_packet(third, 4, 0, &[8, 9]));
-    assert_same(&rt, closed.bytes(), 768);
-    assert_same(&rt, stream.counts().overwritten_packets, 2);
-    assert_same(&rt, stream.counts().overwritten, 4);
+    assert_offers(&rt, &mut stream, &[97; 64], &rows);
+    assert_cut(&rt, &mut stream, 20, (0, 2, 4));
+    assert_three_packets(&rt, &stream);
+    let counts = stream.counts();
+    assert_same(
+        &rt,
+        (counts.overwritten_packets, counts.overwritten),
+        (2, 4),
+    );
 }
 
 #[test]
@@ -275,6 +272,12 @@ fn faults_have_their_codes_and_names(rt: HostRuntime) {
     assert_same(&rt, CutFault::NoMemory.name(), "NoMemory");
 }
 
+/// Holds what a fault prints.
+fn assert_printed(rt: &impl Abort, alloc: Global, fault: &impl Display, text: &str) {
+    let printed = format!(in alloc; "{fault}").expect(rt, "memory");
+    assert_same(rt, printed.as_str(), text);
+}
+
 #[test]
 fn faults_are_printed_with_code_and_name(rt: HostRuntime) {
     for (fault, text) in [
@@ -283,37 +286,19 @@ fn faults_are_printed_with_code_and_name(rt: HostRuntime) {
         (OfferFault::Spent, "O3 Spent"),
         (OfferFault::NoMemory, "O4 NoMemory"),
     ] {
-        assert_same(
-            &rt,
-            format!(in rt.alloc(); "{fault}")
-                .expect(&rt, "memory")
-                .as_str(),
-            text,
-        );
+        assert_printed(&rt, rt.alloc(), &fault, text);
     }
     for (fault, text) in [
         (TakeFault::Nothing, "T1 Nothing"),
         (TakeFault::SnapshotMode, "T2 SnapshotMode"),
         (TakeFault::NoMemory, "T3 NoMemory"),
     ] {
-        assert_same(
-            &rt,
-            format!(in rt.alloc(); "{fault}")
-                .expect(&rt, "memory")
-                .as_str(),
-            text,
-        );
+        assert_printed(&rt, rt.alloc(), &fault, text);
     }
     for (fault, text) in [
         (CutFault::SnapshotMode, "C1 SnapshotMode"),
         (CutFault::NoMemory, "C2 NoMemory"),
     ] {
-        assert_same(
-            &rt,
-            format!(in rt.alloc(); "{fault}")
-                .expect(&rt, "memory")
-                .as_str(),
-            text,
-        );
+        assert_printed(&rt, rt.alloc(), &fault, text);
     }
 }

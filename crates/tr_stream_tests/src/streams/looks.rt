@@ -1,14 +1,18 @@
 //! Looks at a stream, worked by hand: sub-buffers of 256 bytes, two to a ring.
 
-use super::{PacketRow, assert_same, at, is_look, small, small_stream, stored, stored_over};
-use std::alloc::{AllocError, Global};
+use super::{
+    PacketRow, assert_offers, assert_same, at, is_look, offer, small, small_stream, stored,
+    stored_over,
+};
+use std::alloc::Global;
+use std::process::Abort;
 use tr_book::{Counts, Mode};
 use tr_packet::{Packet, PacketView, decode_packet, encode_packet};
 use tr_record::{Rec, RecView};
 use tr_stream::{CutFault, SessionMode, Stream, TakeFault};
 
 /// A stream of a snapshot session that takes offers.
-fn snapshot_stream(alloc: Global) -> Result<Stream, AllocError> {
+fn snapshot_stream(rt: &impl Abort, alloc: Global) -> Stream {
     let config = small(Mode::Overwrite);
     let mut stream = Stream::new(
         alloc,
@@ -17,19 +21,34 @@ fn snapshot_stream(alloc: Global) -> Result<Stream, AllocError> {
         config.geometry,
         config.mode,
         SessionMode::Snapshot,
-    )?;
+    )
+    .expect(rt, "memory");
     stream.set_active(true);
-    Ok(stream)
+    stream
 }
 
 /// The same after offers of 64 bytes at moments 1 to 6: a sub-buffer has room for two such records, so the fifth offer
 /// went over the first sub-buffer.
-fn filled_stream(alloc: Global) -> Result<Stream, AllocError> {
-    let mut stream = snapshot_stream(alloc)?;
-    for moment in 1..7 {
-        let _ = stream.offer(at(moment), 7, &[97; 64]);
-    }
-    Ok(stream)
+fn filled_stream(rt: &impl Abort, alloc: Global) -> Stream {
+    let mut stream = snapshot_stream(rt, alloc);
+    offer(&mut stream, 1..7, &[97; 64]);
+    stream
+}
+
+/// Holds how many offers and losses the look of this number in its test shows, and its packets.
+fn assert_look(
+    rt: &impl Abort,
+    stream: &Stream,
+    number: u64,
+    moment: u64,
+    (offered, lost): (u64, u64),
+    rows: &[PacketRow],
+) {
+    let snap = stream.peek(at(moment)).expect(rt, "a look");
+    assert!(rt;
+        is_look(&snap, offered, lost, rows),
+        "look {number}, at {moment}"
+    );
 }
 
 /// The counts of that stream.
@@ -66,7 +85,7 @@ fn packet_2(end: u64) -> PacketRow {
 
 #[test]
 fn offers_in_a_snapshot_session(rt: HostRuntime) {
-    let mut stream = snapshot_stream(rt.alloc()).expect(&rt, "memory");
+    let mut stream = snapshot_stream(&rt, rt.alloc());
     let rows = [
         (1, stored(0, 0)),
         (2, stored(1, 0)),
@@ -76,38 +95,25 @@ fn offers_in_a_snapshot_session(rt: HostRuntime) {
         (6, stored(5, 2)),
         (11, stored_over(6, 3, 1)),
     ];
-    for (moment, answer) in rows {
-        assert_same(&rt, stream.offer(at(moment), 7, &[97; 64]), answer);
-    }
+    assert_offers(&rt, &mut stream, &[97; 64], &rows);
 }
 
 #[test]
 fn nothing_is_consumed_in_a_snapshot_session(rt: HostRuntime) {
-    let mut stream = filled_stream(rt.alloc()).expect(&rt, "memory");
+    let mut stream = filled_stream(&rt, rt.alloc());
     assert_same(&rt, stream.take(), Err(TakeFault::SnapshotMode));
     assert_same(&rt, stream.counts(), SIX_OFFERED);
     assert_same(&rt, stream.cut(at(8)), Err(CutFault::SnapshotMode));
     assert_same(&rt, stream.counts(), SIX_OFFERED);
     // The refused cut's moment wasn't stored, and it closed nothing.
-    assert!(rt;
-        is_look(
-            &stream.peek(at(7)).expect(&rt, "a look"),
-            6,
-            0,
-            &[CLOSED, packet_2(7)]
-        )
-    );
+    assert_look(&rt, &stream, 1, 7, (6, 0), &[CLOSED, packet_2(7)]);
 }
 
 #[test]
 fn a_look_shows_the_ring_and_changes_nothing(rt: HostRuntime) {
-    let stream = filled_stream(rt.alloc()).expect(&rt, "memory");
+    let stream = filled_stream(&rt, rt.alloc());
     for number in 1..3 {
-        let snap = stream.peek(at(10)).expect(&rt, "a look");
-        assert!(rt;
-            is_look(&snap, 6, 0, &[CLOSED, packet_2(10)]),
-            "look {number}"
-        );
+        assert_look(&rt, &stream, number, 10, (6, 0), &[CLOSED, packet_2(10)]);
     }
     assert_same(&rt, stream.counts(), SIX_OFFERED);
 }
@@ -125,25 +131,22 @@ fn packet_3(end: u64) -> PacketRow {
 
 #[test]
 fn a_later_look_shows_later_packets(rt: HostRuntime) {
-    let mut stream = filled_stream(rt.alloc()).expect(&rt, "memory");
-    let _ = stream.offer(at(11), 7, &[97; 64]);
+    let mut stream = filled_stream(&rt, rt.alloc());
+    offer(&mut stream, 11..12, &[97; 64]);
     // A look before the last moment that was stored is at that moment.
-    for (moment, end) in [(12, 12), (3, 11)] {
-        let snap = stream.peek(at(moment)).expect(&rt, "a look");
+    for (number, moment, end) in [(1, 12, 12), (2, 3, 11)] {
         let rows = [packet_2(11), packet_3(end)];
-        assert!(rt; is_look(&snap, 7, 0, &rows), "at {moment}");
+        assert_look(&rt, &stream, number, moment, (7, 0), &rows);
     }
 }
 
 #[test]
 fn looks_at_a_stream_that_discards(rt: HostRuntime) {
     let mut stream = small_stream(rt.alloc(), Mode::Discard).expect(&rt, "memory");
-    assert!(rt; is_look(&stream.peek(at(5)).expect(&rt, "a look"), 0, 0, &[]));
+    assert_look(&rt, &stream, 1, 5, (0, 0), &[]);
     stream.set_active(true);
-    assert!(rt; is_look(&stream.peek(at(5)).expect(&rt, "a look"), 0, 0, &[]));
-    for moment in 1..6 {
-        let _ = stream.offer(at(moment), 7, &[97; 64]);
-    }
+    assert_look(&rt, &stream, 2, 5, (0, 0), &[]);
+    offer(&mut stream, 1..6, &[97; 64]);
     let first = PacketRow {
         seq: 0,
         lost: 0,
@@ -158,14 +161,7 @@ fn looks_at_a_stream_that_discards(rt: HostRuntime) {
         end: 8,
         records: &[(2, 3, 64), (3, 4, 64)],
     };
-    assert!(rt;
-        is_look(
-            &stream.peek(at(8)).expect(&rt, "a look"),
-            5,
-            1,
-            &[first, second]
-        )
-    );
+    assert_look(&rt, &stream, 3, 8, (5, 1), &[first, second]);
 }
 
 /// Whether two records are the same, one of them read from bytes.
@@ -187,15 +183,20 @@ fn is_packet_read(view: &PacketView<'_>, packet: &Packet) -> bool {
             .all(|(view, record)| is_read(&view, record))
 }
 
+/// Holds a packet of 256 bytes to what is read of its text.
+fn assert_read_again(rt: &impl Abort, alloc: Global, packet: &Packet) {
+    let bytes = encode_packet(alloc, packet).expect(rt, "memory");
+    let (view, size) = decode_packet(&bytes).expect(rt, "a packet");
+    assert_same(rt, (bytes.len(), size), (256, 256));
+    assert!(rt; is_packet_read(&view, packet));
+}
+
 #[test]
 fn packets_of_a_look_are_read_as_they_are(rt: HostRuntime) {
-    let stream = filled_stream(rt.alloc()).expect(&rt, "memory");
+    let stream = filled_stream(&rt, rt.alloc());
     let snap = stream.peek(at(10)).expect(&rt, "a look");
     assert!(rt; snap.packets().len() == 2);
     for packet in snap.packets() {
-        let bytes = encode_packet(rt.alloc(), packet).expect(&rt, "memory");
-        let (view, size) = decode_packet(&bytes).expect(&rt, "a packet");
-        assert_same(&rt, (bytes.len(), size), (256, 256));
-        assert!(rt; is_packet_read(&view, packet));
+        assert_read_again(&rt, rt.alloc(), packet);
     }
 }
