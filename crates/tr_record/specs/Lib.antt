@@ -1,4 +1,5 @@
 pub mod Bytes
+pub mod Pieces
 pub mod Raw
 pub mod Reading
 pub mod Records

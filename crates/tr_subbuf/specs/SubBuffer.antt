@@ -1,5 +1,5 @@
 -- A sub-buffer: records within a size.
-use Rattle.std.specs.Prelude.{ℕ, ◌+◌, Bool, nat_le, List, [], ◌∷◌, ◌++◌}
+use Rattle.std.specs.Prelude.{◌<◌, ◌≤◌, ℕ, ◌+◌, Bool, nat_le, List, [], ◌∷◌, ◌++◌, length}
 use Rattle.tr_record.specs.Records.{Entry}
 use Rattle.tr_record.specs.Weight.{weight_of}
 
@@ -17,3 +17,7 @@ has_room b len = nat_le (weight_of b.records + (24 + len)) b.size
 
 abbrev pub with_record : Entry → SubBuffer → SubBuffer
 with_record e b = record b { records = b.records ++ e ∷ [] }
+
+-- with a record in it, its packet has at most that many bytes
+abbrev pub IsWithin : SubBuffer → Type 0
+IsWithin b = 0 < length b.records → weight_of b.records ≤ b.size

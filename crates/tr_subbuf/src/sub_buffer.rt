@@ -3,7 +3,7 @@
 ghost use Rattle.std.specs.Prelude.{◌≡◌, ◌==◌, IsTrue, OnOk, OnErr, length, slice_get};
 ghost use Rattle.tr_record.specs.Records.{has_serial};
 ghost use Rattle.tr_record.specs.Weight.{weight_of};
-ghost use Rattle.tr_subbuf.specs.SubBuffer.{empty_buffer, has_room, with_record};
+ghost use Rattle.tr_subbuf.specs.SubBuffer.{IsWithin, empty_buffer, has_room, with_record};
 
 use std::alloc::{AllocError, Allocator, Global};
 use std::marker::Model;
@@ -27,13 +27,13 @@ pub struct SubBuf<A: Allocator = Global> {
 impl<A: Allocator> Model for SubBuf<A> {
     ghost use Rattle.std.specs.Prelude.{◌≡◌};
     ghost use Rattle.tr_record.specs.Weight.{weight_of};
-    ghost use Rattle.tr_subbuf.specs.SubBuffer.{SubBuffer};
+    ghost use Rattle.tr_subbuf.specs.SubBuffer.{SubBuffer, IsWithin};
 
     ghost Value = { SubBuffer };
 
     ghost view = { λ b. record { records = b.records.items; size = b.size } };
 
-    ghost invariant = { λ b. b.used ≡ weight_of b.records.items };
+    ghost invariant = { λ b. (b.used ≡ weight_of b.records.items) × IsWithin (record { records = b.records.items; size = b.size }) };
 }
 
 impl<A: Allocator> SubBuf<A> {
@@ -60,7 +60,8 @@ impl<A: Allocator> SubBuf<A> {
 
     /// The bytes that its packet would have now: 80, and those of the records.
     pub fn used(&self) -> usize
-        ensures { result ≡ weight_of self.now.records }
+        ensures value { result ≡ weight_of self.now.records }
+        ensures within { IsWithin self.now }
     {
         self.used
     }

@@ -5,10 +5,11 @@ use linked_list_allocator::LocalHeap;
 use std::alloc::{AllocError, Allocator, Global};
 use std::process::Abort;
 use tr_book::{Mode, StreamSnap};
+use tr_record::MemorySink;
 use tr_schedule::Schedule;
 use tr_session::{Session, StepFault};
 use tr_session_book::SessionFault;
-use tr_snapshot::{Snapshot, count, oldest_serial};
+use tr_snapshot::{Snapshot, count, oldest_serial, write_snap};
 use tr_stream::{SessionMode, TakeFault};
 
 /// A snapshot session of one stream with two sub-buffers of 256 bytes, which isn't started.
@@ -99,6 +100,15 @@ fn channels_of_a_snapshot_session_overwrite(rt: HostRuntime) {
     }
     assert_same(&rt, session.book().mode(), SessionMode::Snapshot);
     assert_same(&rt, session.book().channels(), 1);
+}
+
+#[test]
+fn a_snapshot_of_two_full_packets_has_512_bytes(rt: HostRuntime) {
+    let mut session = filled(&rt, rt.alloc());
+    let snapshot = session.snapshot(moment(10)).expect(&rt, "a snapshot");
+    let mut sink = MemorySink::new(rt.alloc(), 512);
+    write_snap(rt.alloc(), &mut sink, only(&rt, &snapshot)).expect(&rt, "the bytes");
+    assert_same(&rt, sink.into_bytes().len(), 512);
 }
 
 #[test]

@@ -175,6 +175,67 @@ fn std_streams_go_through(rt: HostRuntime) {
     assert_same(&rt, put_all(&mut broken, b"c"), Err(Failed));
 }
 
+/// Is interrupted at its first call, and gives and takes all from then on. It counts how often it is flushed.
+#[derive(Drop)]
+struct Interrupted {
+    is_new: bool,
+    flushes: u8,
+}
+
+impl Interrupted {
+    fn new() -> Interrupted {
+        Interrupted {
+            is_new: true,
+            flushes: 0,
+        }
+    }
+
+    fn count_of(&mut self, asked: usize) -> io::Result<usize> {
+        if self.is_new {
+            self.is_new = false;
+            return Err(io::Error::from(io::ErrorKind::Interrupted));
+        }
+        Ok(asked)
+    }
+}
+
+impl Read for Interrupted {
+    fn read(&mut self, buf: &mut [u8]) -> io::Result<usize> {
+        self.count_of(buf.len())
+    }
+}
+
+impl Write for Interrupted {
+    fn write(&mut self, buf: &[u8]) -> io::Result<usize> {
+        self.count_of(buf.len())
+    }
+
+    fn flush(&mut self) -> io::Result<()> {
+        self.flushes = self.flushes.wrapping_add(1);
+        Ok(())
+    }
+}
+
+#[test]
+fn an_interrupted_call_is_a_failure_and_not_tried_again(rt: HostRuntime) {
+    let mut source = ReaderSource::new(Interrupted::new());
+    assert_same(&rt, source.get(&mut [0; 4]), Err(Failed));
+    assert_same(&rt, source.get(&mut [0; 4]), Ok(4));
+    let mut sink = WriterSink::new(Interrupted::new());
+    assert_same(&rt, sink.put(b"four"), Err(Failed));
+    assert_same(&rt, sink.put(b"four"), Ok(4));
+}
+
+#[test]
+fn each_flush_reaches_the_writer(rt: HostRuntime) {
+    let mut writer = Interrupted::new();
+    let mut sink = WriterSink::new(&mut writer);
+    assert_same(&rt, sink.flush(), Ok(()));
+    assert_same(&rt, sink.flush(), Ok(()));
+    drop(sink);
+    assert_same(&rt, writer.flushes, 2);
+}
+
 #[test]
 fn records_end_to_end(rt: HostRuntime) -> Result<(), Fail> {
     let mut bytes = ONE.to_vec(rt.alloc()).expect(&rt, "memory");
