@@ -1,17 +1,11 @@
 //! The daemon's program: reads a script of commands from standard input, and answers it on standard output.
 #![tactic(auto)]
 
-mod command_line;
-mod ending;
-mod running;
-#[cfg(test)]
-mod tests;
-
-use running::run_given;
 use std::alloc::Global;
 use std::process::ExitCode;
 use std::{env, io};
 use tr_export::SystemDisk;
+use tr_program::run_given;
 use tr_record::{ReaderSource, WriterSink};
 
 fn main(rt: HostRuntime) -> ExitCode {

@@ -1,8 +1,8 @@
 use Rattle.std.proofs.Common.{◌≡◌, ◌∙◌, List, ap, codes, option_map, sym}
 use Rattle.clap.proofs.WalkLemmas.{first_value-rows}
 use Rattle.clap.specs.Words.{Row, Text, first_of, found_of, rows_of}
-use Rattle.tracerd.specs.CommandLine.{job_named, script_of}
-use Rattle.tracerd.proofs.command_line.job_named.Goals as goal
+use Rattle.tr_program.specs.CommandLine.{job_named, script_of}
+use Rattle.tr_program.proofs.command_line.job_named.Goals as goal
 
 pub returns-in-script : goal.returns-in-script
 returns-in-script c =

@@ -1,6 +1,6 @@
 use Rattle.std.proofs.Common.{◌≡◌, map, take}
 use Rattle.std.specs.Prelude.{string_bytes}
-use Rattle.tracerd.proofs.command_line.texts_of.Given as goal
+use Rattle.tr_program.proofs.command_line.texts_of.Given as goal
 
 -- the texts of the first strings
 abbrev pub invariant-strings : goal.invariant-strings

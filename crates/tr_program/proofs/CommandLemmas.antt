@@ -1,5 +1,5 @@
 -- What a parse of the program's words says of them.
-use Rattle.std.proofs.Common.{◌≡◌, ◌≢◌, true, false, refl, inl, inr, List, [], ◌∷◌, Option, Some, None}
+use Rattle.std.proofs.Common.{◌≡◌, ◌≢◌, true, false, refl, inl, inr, List, [], ◌∷◌, Some, None}
 use Rattle.clap.proofs.OnLiterals.{clap_on_literals}
 use Rattle.clap.specs.Faults.{is_simple_and_free}
 use Rattle.clap.specs.Words.{HasKind, IsAmong, Kinds, Row, Text, fault_of, is_simple, kind_of, subcommand_of}
@@ -7,7 +7,7 @@ use Rattle.clap.specs.declared.error.Error.{Error}
 use Rattle.clap.specs.declared.error.kind.ErrorKind.{ErrorKind}
 use Rattle.clap.specs.declared.error.kind.ErrorKind.TheVariants.{OutOfMemory}
 use Rattle.tr_command.specs.Language.{is_free_of_faults}
-use Rattle.tracerd.specs.CommandLine.{job_named, job_of, program_app}
+use Rattle.tr_program.specs.CommandLine.{job_named, job_of, program_app}
 
 -- clap's definition speaks of the program's command line
 pub program-simple : (is_simple program_app ≡ true) × (is_simple_and_free program_app ≡ true)

@@ -4,8 +4,8 @@ use Rattle.std.specs.Str.{bytes_eq}
 use Rattle.clap.specs.Words.{App, Row, Text, fault_of, first_of, new_app, subcommand_of, with_rule, with_subcommand}
 use Rattle.tr_command.specs.CommandLine.{option}
 use Rattle.tr_command.specs.Language.{is_free_of_faults}
-use Rattle.tracerd.specs.declared.command_line.Job.{Job}
-use Rattle.tracerd.specs.declared.command_line.Job.TheVariants.{Script}
+use Rattle.tr_program.specs.declared.command_line.Job.{Job}
+use Rattle.tr_program.specs.declared.command_line.Job.TheVariants.{Script}
 
 -- the folder below which the archives of a run go, if one is named
 abbrev pub Folder : Type 0

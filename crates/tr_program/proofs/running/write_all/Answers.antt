@@ -6,7 +6,7 @@ use Rattle.tr_export.specs.Archives.{archives_made}
 use Rattle.tr_outcome.specs.Text.{Text}
 use Rattle.tr_session.specs.Session.{SessionOf}
 use Rattle.tr_stream.specs.State.{StreamState}
-use Rattle.tracerd.proofs.running.write_all.Goals as goal
+use Rattle.tr_program.proofs.running.write_all.Goals as goal
 
 pub sessions-preserved : goal.sessions-preserved
 sessions-preserved g c =

@@ -6,8 +6,8 @@ use Rattle.tr_console.specs.declared.script_fault.ScriptFault.{ScriptFault}
 use Rattle.tr_console.specs.declared.script_fault.ScriptFault.TheVariants as fault
 use Rattle.tr_export.specs.declared.faults.ExportFault.{ExportFault}
 use Rattle.tr_export.specs.declared.faults.ExportFault.TheVariants as export
-use Rattle.tracerd.specs.declared.ending.Ending.{Ending}
-use Rattle.tracerd.specs.declared.ending.Ending.TheVariants.{Done, Refused, BadCommandLine, ReadOrWrite, NoMemory}
+use Rattle.tr_program.specs.declared.ending.Ending.{Ending}
+use Rattle.tr_program.specs.declared.ending.Ending.TheVariants.{Done, Refused, BadCommandLine, ReadOrWrite, NoMemory}
 
 abbrev pub status_of : Ending → ℕ
 status_of Done = 0

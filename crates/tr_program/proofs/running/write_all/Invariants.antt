@@ -1,8 +1,8 @@
 use Rattle.std.proofs.Common.{◌≡◌, take}
 use Rattle.tr_export.specs.Failures.{HasNotFailed}
 use Rattle.tr_export.specs.Making.{and_then_made}
-use Rattle.tracerd.specs.Exports.{all_made}
-use Rattle.tracerd.proofs.running.write_all.Given as goal
+use Rattle.tr_program.specs.Exports.{all_made}
+use Rattle.tr_program.proofs.running.write_all.Given as goal
 
 -- what the sessions before have is made
 abbrev pub invariant-sessions : goal.invariant-sessions

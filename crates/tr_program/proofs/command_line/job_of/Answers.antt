@@ -2,9 +2,9 @@ use Rattle.std.proofs.Common.{◌∙◌, ◌≡◌, sym, ap, subst, map, List, t
 use Rattle.clap.specs.Faults.{is_simple_and_free}
 use Rattle.clap.specs.Words.{App, HasKind, Text, app_of, fault_of, found_of, is_simple, rows_of, subcommand_of, subcommand_rows_of}
 use Rattle.tr_command.proofs.CommandLemmas.{subcommand_rows_of-entered, subcommand_rows_of-none}
-use Rattle.tracerd.specs.CommandLine.{program_app}
-use Rattle.tracerd.proofs.CommandLemmas.{job_of-entered, job_of-fault, job_of-none, program-simple}
-use Rattle.tracerd.proofs.command_line.job_of.Goals as goal
+use Rattle.tr_program.specs.CommandLine.{program_app}
+use Rattle.tr_program.proofs.CommandLemmas.{job_of-entered, job_of-fault, job_of-none, program-simple}
+use Rattle.tr_program.proofs.command_line.job_of.Goals as goal
 
 pub returns-in-Some : goal.returns-in-Some
 returns-in-Some c =

@@ -1,6 +1,6 @@
 use Rattle.std.proofs.Common.{◌≡◌, ◌++◌}
 use Rattle.std.specs.Vec.Iter.{into_iter_items, into_iter_len}
-use Rattle.tracerd.proofs.command_line.collected.Given as goal
+use Rattle.tr_program.proofs.command_line.collected.Given as goal
 
 -- what was taken and what is left are the arguments
 abbrev pub invariant-arguments : goal.invariant-arguments

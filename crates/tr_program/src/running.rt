@@ -7,10 +7,10 @@ ghost use Rattle.std.specs.Vec.Iter.{into_iter_items};
 ghost use Rattle.tr_console.specs.Runs.{WentTooFar};
 ghost use Rattle.tr_export.specs.Failures.{FailedByWrite};
 ghost use Rattle.tr_export.specs.Making.{MadeFront, and_then_made};
-ghost use Rattle.tracerd.specs.CommandLine.{job_asked, words_of};
-ghost use Rattle.tracerd.specs.Endings.{ending_of_arguments, status_of};
-ghost use Rattle.tracerd.specs.Exports.{all_made};
-ghost use Rattle.tracerd.specs.Runs.{EndsAs, EndsSo, HasCause, HasEnded, HasNoFault, IsTold};
+ghost use Rattle.tr_program.specs.CommandLine.{job_asked, words_of};
+ghost use Rattle.tr_program.specs.Endings.{ending_of_arguments, status_of};
+ghost use Rattle.tr_program.specs.Exports.{all_made};
+ghost use Rattle.tr_program.specs.Runs.{EndsAs, EndsSo, HasCause, HasEnded, HasNoFault, IsTold};
 
 use crate::command_line::{Job, collected, job_of, with_program, words_behind};
 use crate::ending::Ending;
@@ -49,7 +49,7 @@ fn end_script<S: ByteSource, K: ByteSink, D: Disk>(
     disk: &mut D,
     dir: Option<&str>,
 ) -> Ending
-    ensures ends { EndsAs (S.given input.old) (S.given input.new) (K.taken out.old) (K.taken out.new) (D.made disk.old) (D.made disk.new) (option_map (λ d. d.now) dir.entry) result }
+    ensures ends { EndsAs (S.content input.old) (S.given input.old) (S.given input.new) (K.taken out.old) (K.taken out.new) (D.made disk.old) (D.made disk.new) (S.failures input.old) (S.failures input.new) (K.failures out.old) (K.failures out.new) (D.failures disk.old) (D.failures disk.new) (option_map (λ d. d.now) dir.entry) result }
     ensures fault { result ≡ Ending.ReadOrWrite → HasCause (S.failures input.old) (S.failures input.new) (K.failures out.old) (K.failures out.new) (D.failures disk.old) (D.failures disk.new) (WentTooFar (S.given input.old) (S.given input.new) (K.taken out.old) (K.taken out.new)) }
     ensures no_fault { (result ≡ Ending.ReadOrWrite → ⊥) → HasNoFault (S.failures input.old) (S.failures input.new) (K.failures out.old) (K.failures out.new) (D.failures disk.old) (D.failures disk.new) }
 {
@@ -73,7 +73,7 @@ fn end<S: ByteSource, K: ByteSink, D: Disk>(
     out: &mut K,
     disk: &mut D,
 ) -> Ending
-    ensures ends { EndsSo (S.given input.old) (S.given input.new) (K.taken out.old) (K.taken out.new) (D.made disk.old) (D.made disk.new) (job_asked (map (λ w. w.now) words.now)) result }
+    ensures ends { EndsSo (S.content input.old) (S.given input.old) (S.given input.new) (K.taken out.old) (K.taken out.new) (D.made disk.old) (D.made disk.new) (S.failures input.old) (S.failures input.new) (K.failures out.old) (K.failures out.new) (D.failures disk.old) (D.failures disk.new) (job_asked (map (λ w. w.now) words.now)) result }
     ensures fault { result ≡ Ending.ReadOrWrite → HasCause (S.failures input.old) (S.failures input.new) (K.failures out.old) (K.failures out.new) (D.failures disk.old) (D.failures disk.new) (WentTooFar (S.given input.old) (S.given input.new) (K.taken out.old) (K.taken out.new)) }
     ensures no_fault { (result ≡ Ending.ReadOrWrite → ⊥) → HasNoFault (S.failures input.old) (S.failures input.new) (K.failures out.old) (K.failures out.new) (D.failures disk.old) (D.failures disk.new) }
 {
@@ -110,7 +110,7 @@ pub fn run<S: ByteSource, K: ByteSink, E: ByteSink, D: Disk>(
     err: &mut E,
     disk: &mut D,
 ) -> u8
-    ensures ends { HasEnded (job_asked (map (λ w. w.now) words.now)) (S.given input.old) (S.given input.new) (K.taken out.old) (K.taken out.new) (E.taken err.old) (E.taken err.new) (D.made disk.old) (D.made disk.new) (E.failures err.old) (E.failures err.new) result }
+    ensures ends { HasEnded (job_asked (map (λ w. w.now) words.now)) (S.content input.old) (S.given input.old) (S.given input.new) (K.taken out.old) (K.taken out.new) (E.taken err.old) (E.taken err.new) (D.made disk.old) (D.made disk.new) (S.failures input.old) (S.failures input.new) (K.failures out.old) (K.failures out.new) (D.failures disk.old) (D.failures disk.new) (E.failures err.old) (E.failures err.new) result }
     ensures fault { result ≡ 3 → HasCause (S.failures input.old) (S.failures input.new) (K.failures out.old) (K.failures out.new) (D.failures disk.old) (D.failures disk.new) (WentTooFar (S.given input.old) (S.given input.new) (K.taken out.old) (K.taken out.new)) }
     ensures no_fault { (result ≡ 3 → ⊥) → HasNoFault (S.failures input.old) (S.failures input.new) (K.failures out.old) (K.failures out.new) (D.failures disk.old) (D.failures disk.new) }
 {
@@ -118,29 +118,30 @@ pub fn run<S: ByteSource, K: ByteSink, E: ByteSink, D: Disk>(
     tell(ending, err)
 }
 
-/// Does what the arguments ask for, the program's name first.
-fn end_given<S: ByteSource, K: ByteSink, D: Disk>(
+/// Runs the program by its arguments, its name first.
+fn run_arguments<S: ByteSource, K: ByteSink, E: ByteSink, D: Disk>(
     alloc: Global,
     given: Args,
     input: &mut S,
     out: &mut K,
+    err: &mut E,
     disk: &mut D,
-) -> Ending
-    ensures ends { EndsSo (S.given input.old) (S.given input.new) (K.taken out.old) (K.taken out.new) (D.made disk.old) (D.made disk.new) (job_asked (words_of (into_iter_items given))) result }
-    ensures fault { result ≡ Ending.ReadOrWrite → HasCause (S.failures input.old) (S.failures input.new) (K.failures out.old) (K.failures out.new) (D.failures disk.old) (D.failures disk.new) (WentTooFar (S.given input.old) (S.given input.new) (K.taken out.old) (K.taken out.new)) }
-    ensures no_fault { (result ≡ Ending.ReadOrWrite → ⊥) → HasNoFault (S.failures input.old) (S.failures input.new) (K.failures out.old) (K.failures out.new) (D.failures disk.old) (D.failures disk.new) }
+) -> u8
+    ensures ends { HasEnded (job_asked (words_of (into_iter_items given))) (S.content input.old) (S.given input.old) (S.given input.new) (K.taken out.old) (K.taken out.new) (E.taken err.old) (E.taken err.new) (D.made disk.old) (D.made disk.new) (S.failures input.old) (S.failures input.new) (K.failures out.old) (K.failures out.new) (D.failures disk.old) (D.failures disk.new) (E.failures err.old) (E.failures err.new) result }
+    ensures fault { result ≡ 3 → HasCause (S.failures input.old) (S.failures input.new) (K.failures out.old) (K.failures out.new) (D.failures disk.old) (D.failures disk.new) (WentTooFar (S.given input.old) (S.given input.new) (K.taken out.old) (K.taken out.new)) }
+    ensures no_fault { (result ≡ 3 → ⊥) → HasNoFault (S.failures input.old) (S.failures input.new) (K.failures out.old) (K.failures out.new) (D.failures disk.old) (D.failures disk.new) }
 {
     let Ok(given) = collected(alloc, given) else {
-        return Ending::NoMemory;
+        return tell(Ending::NoMemory, err);
     };
     match words_behind(alloc, given.as_slice()) {
-        Ok(words) => end(alloc, words.as_slice(), input, out, disk),
-        Err(_) => Ending::NoMemory,
+        Ok(words) => run(alloc, words.as_slice(), input, out, err, disk),
+        Err(_) => tell(Ending::NoMemory, err),
     }
 }
 
-/// Runs the program as `run` does, by the arguments that it got, its name first. One that isn't UTF-8 makes a bad
-/// command line.
+/// Runs the program by the arguments that it got, its name first: `run` with the words behind it. One that isn't UTF-8 makes
+/// a bad command line.
 pub fn run_given<S: ByteSource, K: ByteSink, E: ByteSink, D: Disk>(
     alloc: Global,
     given: io::Result<Args>,
@@ -149,14 +150,13 @@ pub fn run_given<S: ByteSource, K: ByteSink, E: ByteSink, D: Disk>(
     err: &mut E,
     disk: &mut D,
 ) -> u8
-    ensures ends { HasEnded (option_and_then (λ arguments. job_asked (words_of (into_iter_items arguments))) (result_ok given)) (S.given input.old) (S.given input.new) (K.taken out.old) (K.taken out.new) (E.taken err.old) (E.taken err.new) (D.made disk.old) (D.made disk.new) (E.failures err.old) (E.failures err.new) result }
+    ensures ends { HasEnded (option_and_then (λ arguments. job_asked (words_of (into_iter_items arguments))) (result_ok given)) (S.content input.old) (S.given input.old) (S.given input.new) (K.taken out.old) (K.taken out.new) (E.taken err.old) (E.taken err.new) (D.made disk.old) (D.made disk.new) (S.failures input.old) (S.failures input.new) (K.failures out.old) (K.failures out.new) (D.failures disk.old) (D.failures disk.new) (E.failures err.old) (E.failures err.new) result }
     ensures arguments { IfErr given (λ error. result ≡ status_of (ending_of_arguments (error_kind error))) }
     ensures fault { result ≡ 3 → HasCause (S.failures input.old) (S.failures input.new) (K.failures out.old) (K.failures out.new) (D.failures disk.old) (D.failures disk.new) (WentTooFar (S.given input.old) (S.given input.new) (K.taken out.old) (K.taken out.new)) }
     ensures no_fault { (result ≡ 3 → ⊥) → HasNoFault (S.failures input.old) (S.failures input.new) (K.failures out.old) (K.failures out.new) (D.failures disk.old) (D.failures disk.new) }
 {
-    let ending = match given {
-        Ok(given) => end_given(alloc, given, input, out, disk),
-        Err(error) => Ending::of_arguments(error.kind()),
-    };
-    tell(ending, err)
+    match given {
+        Ok(given) => run_arguments(alloc, given, input, out, err, disk),
+        Err(error) => tell(Ending::of_arguments(error.kind()), err),
+    }
 }

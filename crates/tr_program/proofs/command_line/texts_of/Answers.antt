@@ -3,7 +3,7 @@ use Rattle.std.proofs.lemmas.List.{map-append}
 use Rattle.std.specs.Borrow.{Bor}
 use Rattle.std.specs.Prelude.{string_bytes}
 use Rattle.tr_session.proofs.ListLaws.{mapped-all, mapped-more}
-use Rattle.tracerd.proofs.command_line.texts_of.Goals as goal
+use Rattle.tr_program.proofs.command_line.texts_of.Goals as goal
 
 pub strings-preserved : goal.strings-preserved
 strings-preserved c =

@@ -1,7 +1,7 @@
 //! How a run of the program ends.
 
 ghost use Rattle.std.specs.Prelude.{◌≡◌, option_map};
-ghost use Rattle.tracerd.specs.Endings.{ending_of, ending_of_arguments, ending_of_export, ending_of_refused, message_of, status_of};
+ghost use Rattle.tr_program.specs.Endings.{ending_of, ending_of_arguments, ending_of_export, ending_of_refused, message_of, status_of};
 
 use std::io::ErrorKind;
 use tr_console::ScriptFault;

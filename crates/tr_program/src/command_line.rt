@@ -5,7 +5,7 @@ ghost use Rattle.std.specs.Vec.Iter.{into_iter_items};
 ghost use Rattle.clap.specs.Words.{app_of, found_of, rows_of, rule_of};
 ghost use Rattle.clap.specs.declared.builder.command.Command.TheViews.{out-Command as fields_of};
 ghost use Rattle.tr_command.specs.CommandLine.{option};
-ghost use Rattle.tracerd.specs.CommandLine.{folder_of, job_named, job_of, program_app, script_app, script_of, words_of};
+ghost use Rattle.tr_program.specs.CommandLine.{folder_of, job_named, job_of, program_app, script_app, script_of, words_of};
 
 use clap::error::ErrorKind;
 use clap::{Arg, ArgMatches, Command};

@@ -1,0 +1,8 @@
+//! The program: its command line, its run over any input, output and disk, and how that ends.
+#![tactic(auto)]
+
+mod command_line;
+mod ending;
+mod running;
+
+pub use running::{run, run_given};
