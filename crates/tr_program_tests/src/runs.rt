@@ -1,13 +1,14 @@
 //! Runs of the program over memory.
 
 mod exporting;
+mod failing;
 
-use crate::running::{run, run_given};
 use std::alloc::Global;
 use std::fmt::Debug;
 use std::io;
 use std::process::Abort;
 use tr_export::MemoryDisk;
+use tr_program::{run, run_given};
 use tr_record::{MemorySink, MemorySource};
 
 /// Holds what a test found to what it wanted. As a call without clauses it keeps the proofs of the tests short.

@@ -1,11 +1,11 @@
 //! Runs that write archives.
 
 use super::assert_same;
-use crate::running::run;
 use std::alloc::Global;
 use std::test::Fail;
 use tr_export::{Made, MemoryDisk};
 use tr_packet::metadata_text;
+use tr_program::run;
 use tr_record::{MemorySink, MemorySource};
 use uuid::Uuid;
 
