@@ -101,7 +101,8 @@ fn tell<E: ByteSink>(ending: Ending, err: &mut E) -> u8
 
 /// Runs the program: `words` are those behind its name. The answer is the exit status: 0 where all was done, 1 where a
 /// line was refused, 2 for a bad command line, 3 for a fault of input, output or a file, or a script that is too long,
-/// 4 for want of memory. From 2 on `err` gets one line.
+/// 4 for want of memory. From 2 on `err` gets one line. Archives are made only once the input was read to its end and
+/// answered whole; where one can't be made, those before it stay, and a front part of its own folder and files.
 pub fn run<S: ByteSource, K: ByteSink, E: ByteSink, D: Disk>(
     alloc: Global,
     words: &[&str],
