@@ -65,6 +65,15 @@ takes-memory (pushed.Stored seq) serial stores = tt
 takes-memory (pushed.StoredOver seq gone_seq gone_count) serial stores = tt
 takes-memory pushed.Refused serial stores = absurd (stores refl)
 
+-- an offer that isn't refused takes memory where the ring stores its record, by the state and by the history
+pub accepted-takes : (s : StreamState) (moment id : ℕ) (payload : List ℕ) → refusal_of (length payload) s ≡ None → TakesMemory (Ok (offered_as s.book.offered (push_answer (entered moment id payload s) s.ring))) → TakesMemory (offer_result moment id payload s)
+accepted-takes s moment id payload open_ stores =
+    subst (λ (r : Option OfferFault). TakesMemory (offer_unless r (entered moment id payload s) s)) (sym open_) stores
+
+pub step-takes : (s : StreamState) (h : History) (moment id : ℕ) (payload : List ℕ) → IsMade s.config s.ring → StandsFor s h → refusal_of (length payload) s ≡ None → TakesMemory (Ok (offered_as s.book.offered (push_answer (entered moment id payload s) s.ring))) → TakesMemory (offer_answer s.config payload h)
+step-takes s h moment id payload made is open_ stores =
+    subst (λ (r : Result Offered OfferFault). TakesMemory r) (offers s h moment id payload made is).0 (accepted-takes s moment id payload open_ stores)
+
 -- an accepted offer is the history's offer
 pub step-accepted : (s new : StreamState) (h : History) (moment id : ℕ) (payload : List ℕ) (answer : Offered) → IsMade s.config s.ring → StandsFor s h → refusal_of (length payload) s ≡ None → (let e = entered moment id payload s in (answer ≡ offered_as s.book.offered (push_answer e s.ring)) → new ≡ with_offer e s → ((let r : Result Offered OfferFault = Ok answer in r) ≡ offer_answer s.config payload h) × StandsFor new (after_offer s.config moment id payload h))
 step-accepted s new h moment id payload answer made is open_ told moved =

@@ -1,18 +1,26 @@
 -- One more call at the end of a run.
-use Rattle.std.proofs.Common.{◌≡◌, ℕ, ◌+◌, ◌<◌, List, [], ◌∷◌, ◌++◌, length, get_or, take, Result, refl, ap, sym, subst, ◌∙◌}
+use Rattle.std.proofs.Common.{◌≡◌, ℕ, ◌+◌, ◌<◌, List, [], ◌∷◌, ◌++◌, length, get_or, take, Result, Ok, Err, IsOk, refl, ap, sym, subst, ◌∙◌}
 use Rattle.std.proofs.lemmas.List.{take_more}
 use Rattle.tr_stream.specs.History.{History}
 use Rattle.tr_stream.specs.Runs.{after_event, answer_to, after_events, answers_to}
 use Rattle.tr_stream.specs.StandsFor.{StandsFor}
 use Rattle.tr_stream.specs.State.{StreamState}
+use Rattle.tr_stream.specs.Steps.{by_session}
 use Rattle.tr_stream.specs.declared.answers.CutDone.{CutDone}
 use Rattle.tr_stream.specs.declared.answers.CutFault.{CutFault}
 use Rattle.tr_stream.specs.declared.answers.OfferFault.{OfferFault}
 use Rattle.tr_stream.specs.declared.answers.Offered.{Offered}
+use Rattle.tr_stream.specs.declared.config.SessionMode.{SessionMode}
+use Rattle.tr_stream.specs.declared.config.SessionMode.TheVariants.{Local, Snapshot}
 use Rattle.tr_stream.specs.declared.config.StreamConfig.{StreamConfig}
 use Rattle.tr_stream.specs.declared.events.StreamAnswer.{StreamAnswer}
 use Rattle.tr_stream.specs.declared.events.StreamAnswer.TheVariants as answer
 use Rattle.tr_stream.specs.declared.events.StreamEvent.{StreamEvent}
+
+-- the session lets one cut through as it does another
+pub cut-let : (session : SessionMode) (a b : CutDone) (fault : CutFault) → (let r : Result CutDone CutFault = by_session session (Ok a) (Err fault) in IsOk r) → (let r : Result CutDone CutFault = by_session session (Ok b) (Err fault) in IsOk r)
+cut-let Local a b fault is = is
+cut-let Snapshot a b fault is = is
 
 module _ {A : Type 0} where
   pub offer-answered : (a b : Result Offered OfferFault) → a ≡ b → (let r : StreamAnswer A = answer.Offer a in r) ≡ answer.Offer b

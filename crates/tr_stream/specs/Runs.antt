@@ -1,8 +1,9 @@
 -- A list of calls, one after another.
-use Rattle.std.specs.Prelude.{ℕ, ◌+◌, max, true, false, ◌==◌, List, [], ◌∷◌, ◌++◌, take, Ok, if◌then◌else◌}
+use Rattle.std.specs.Prelude.{◌≢◌, ℕ, ◌+◌, max, true, false, ◌==◌, IsOk, List, [], ◌∷◌, ◌++◌, take, Ok, Err, if◌then◌else◌}
 use Rattle.tr_ring.specs.ClosedBuffer.{ClosedBuffer}
 use Rattle.tr_stream.specs.Chunks.{waiting_of, ring_of}
 use Rattle.tr_stream.specs.History.{History}
+use Rattle.tr_stream.specs.StateSteps.{TakesMemory}
 use Rattle.tr_stream.specs.Steps.{by_session, after_offer, offer_answer, after_take, take_answer, after_cut, cut_answer, snap_of, switched}
 use Rattle.tr_stream.specs.declared.config.StreamConfig.{StreamConfig}
 use Rattle.tr_stream.specs.declared.events.StreamAnswer.{StreamAnswer}
@@ -27,6 +28,17 @@ answer_to c (Cut moment) h = answer.Cut (cut_answer c moment h)
 answer_to c (Peek moment) h = answer.Peek (Ok (snap_of c moment h))
 answer_to c Start h = answer.Start
 answer_to c Stop h = answer.Stop
+
+-- the answers for which memory may be refused: that of an offer that stores its record, of a take and a cut that aren't
+-- refused, and of a look that shows packets
+abbrev pub MayTakeMemory : {A : Type 0} → StreamAnswer A → Type 0
+MayTakeMemory (answer.Offer told) = TakesMemory told
+MayTakeMemory (answer.Take told) = IsOk told
+MayTakeMemory (answer.Cut told) = IsOk told
+MayTakeMemory (answer.Peek (Ok snap)) = snap.packets ≢ []
+MayTakeMemory (answer.Peek (Err fault)) = ⊥
+MayTakeMemory answer.Start = ⊥
+MayTakeMemory answer.Stop = ⊥
 
 -- the history after a list of calls
 abbrev pub after_events : {A : Type 0} → StreamConfig → List (StreamEvent A) → History → History

@@ -2,7 +2,7 @@
 
 ghost use Rattle.std.specs.Prelude.{◌≡◌, IfOk, OnErr};
 ghost use Rattle.tr_stream.specs.History.{History};
-ghost use Rattle.tr_stream.specs.Runs.{after_event, answer_to, after_events, answers_to};
+ghost use Rattle.tr_stream.specs.Runs.{MayTakeMemory, after_event, answer_to, after_events, answers_to};
 ghost use Rattle.tr_stream.specs.StandsFor.{StandsFor};
 ghost use Rattle.tr_stream.specs.Steps.{start};
 
@@ -12,7 +12,8 @@ use crate::events::{StreamAnswer, StreamEvent};
 use crate::stream::Stream;
 use std::alloc::{AllocError, Allocator};
 
-/// One call. Want of memory ends it, and then the stream is as it was.
+/// One call. Want of memory ends it, and then the stream is as it was. It ends an offer that stores its record, a take
+/// and a cut that aren't refused, and a look at packets, and no other call.
 fn step<A: Allocator + Copy>(
     stream: &mut Stream<A>,
     event: &StreamEvent<A>,
@@ -22,6 +23,7 @@ fn step<A: Allocator + Copy>(
         (answer ≡ answer_to stream.old.config event.now h)
         × StandsFor stream.new (after_event stream.old.config event.now h)) }
     ensures err { OnErr result (stream.new ≡ stream.old) }
+    ensures memory { (h : History) → StandsFor stream.old h → OnErr result (MayTakeMemory (answer_to stream.old.config event.now h)) }
 {
     match event {
         StreamEvent::Offer(moment, id, payload) => {

@@ -107,6 +107,7 @@ impl<A: Allocator + Copy> Stream<A> {
         ensures no_memory { result ≡ Err OfferFault.NoMemory → self.new ≡ self.old }
         ensures config { self.new.config ≡ self.old.config }
         ensures memory { result ≡ Err OfferFault.NoMemory → TakesMemory (offer_result moment id payload.now self.old) }
+        ensures step_memory { (h : History) → StandsFor self.old h → result ≡ Err OfferFault.NoMemory → TakesMemory (offer_answer self.old.config payload.now h) }
     {
         if let Some(fault) = self.refusal(payload.len()) {
             return Err(fault);

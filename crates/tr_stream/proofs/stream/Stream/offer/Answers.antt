@@ -1,13 +1,13 @@
-use Rattle.std.proofs.Common.{rules, ◌≡◌, sym, subst, Option, None, length}
-use Rattle.tr_stream.proofs.CallLaws.{step-accepted}
+use Rattle.std.proofs.Common.{rules}
+use Rattle.tr_stream.proofs.CallLaws.{accepted-takes, step-accepted, step-takes}
 use Rattle.tr_stream.proofs.stream.Stream.offer.Goals as goal
-use Rattle.tr_stream.specs.StateSteps.{entered, offer_unless, refusal_of, TakesMemory}
-use Rattle.tr_stream.specs.declared.answers.OfferFault.{OfferFault}
 
 pub returns-in_err-accept-clause-memory : goal.returns-in_err-accept-clause-memory
-returns-in_err-accept-clause-memory g c = λ _.
-    let open_ : refusal_of (length c.args.payload.now) c.args.self.now ≡ None = search rules in
-    subst (λ (r : Option OfferFault). TakesMemory (offer_unless r (entered c.args.moment c.args.id c.args.payload.now c.args.self.now) c.args.self.now)) (sym open_) (rw c.in_err-accept.was at c.accept.ensures.memory)
+returns-in_err-accept-clause-memory g c = λ _. accepted-takes c.args.self.now c.args.moment c.args.id c.args.payload.now (search rules) (rw c.in_err-accept.was at c.accept.ensures.memory)
+
+pub returns-in_err-accept-clause-step_memory : goal.returns-in_err-accept-clause-step_memory
+returns-in_err-accept-clause-step_memory g c = λ h is _.
+    step-takes c.args.self.now h c.args.moment c.args.id c.args.payload.now c.refusal.ensures.sound.made is (search rules) (rw c.in_err-accept.was at c.accept.ensures.memory)
 
 pub returns-clause-step : goal.returns-clause-step
 returns-clause-step g c = λ h is _.
