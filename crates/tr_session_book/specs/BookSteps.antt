@@ -57,6 +57,14 @@ IsWithinLimits b = (length b.channels ≤ most_channels) × (length b.threads �
 abbrev pub BeginsBare : SessionBookState → Type 0
 BeginsBare b = is_new b.state ≡ true → (b.pending ≡ None) × (b.archives ≡ [])
 
+-- each archive's number is its place, and the pending one's is how many there are
+abbrev pub AreNumbered : SessionBookState → Type 0
+AreNumbered b = ((k : ℕ) (archive : Archive) → slice_get b.archives k ≡ Some archive → archive.id ≡ k) × ((pending : Pending) → b.pending ≡ Some pending → pending.archive.id ≡ length b.archives)
+
+-- what every book keeps to; a rotation is pending in local sessions alone
+abbrev pub IsBook : SessionBookState → Type 0
+IsBook b = IsWithinLimits b × BeginsBare b × AreNumbered b × (is_some b.pending ≡ true → b.mode ≡ Local)
+
 abbrev pub channel_named : List ℕ → SessionBookState → Option Channel
 channel_named name b = lookup (bytes_eq name) b.channels
 

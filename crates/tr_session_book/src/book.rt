@@ -81,29 +81,12 @@ impl<A: Allocator> Model for SessionBook<A> {
     } };
 
     ghost use Rattle.std.specs.Prelude.{◌≡◌, ◌<◌, true, is_some, vec_capacity, vec_len};
-    ghost use Rattle.tr_session_book.specs.BookSteps.{IsWithinLimits, BeginsBare};
-    ghost use Rattle.tr_stream.specs.declared.config.SessionMode.TheVariants.{Local};
+    ghost use Rattle.tr_session_book.specs.BookSteps.{IsBook};
 
-    // the place of the pending archive is reserved; a snapshot session has none; before the first start there is nothing
-    // to archive
+    // the place of the pending archive is reserved
     ghost invariant = { λ b.
-        IsWithinLimits (record {
-          uuid = b.uuid;
-          offset = b.offset;
-          mode = b.mode;
-          state = b.state;
-          rotated = b.rotated;
-          last = b.last;
-          begin = b.begin;
-          channels = by_name b.channels.entries;
-          threads = b.threads.items;
-          pending = b.pending;
-          archives = b.archives.items;
-          schedule = b.schedule;
-        })
-        × (is_some b.pending ≡ true → vec_len b.archives < vec_capacity b.archives)
-        × (is_some b.pending ≡ true → b.mode ≡ Local)
-        × BeginsBare (record {
+        (is_some b.pending ≡ true → vec_len b.archives < vec_capacity b.archives)
+        × IsBook (record {
           uuid = b.uuid;
           offset = b.offset;
           mode = b.mode;

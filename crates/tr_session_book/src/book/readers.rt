@@ -1,6 +1,7 @@
 //! What a session's book tells.
 
-ghost use Rattle.std.specs.Prelude.{◌≡◌, ◌≤◌, length, option_copied, option_map};
+ghost use Rattle.std.specs.Prelude.{◌≡◌, ◌≤◌, ℕ, Some, IfSome, length, option_copied, option_map, slice_get};
+ghost use Rattle.tr_session_book.specs.declared.archive.Archive as value;
 ghost use Rattle.tr_session_book.specs.BookSteps.{most_channels, most_streams, channel_named, channel_of};
 
 use super::SessionBook;
@@ -88,16 +89,18 @@ impl<A: Allocator> SessionBook<A> {
         Some(name.as_str())
     }
 
-    /// The archives that were made, in order.
+    /// The archives that were made, in order. Each one's number is its place.
     pub fn archives(&self) -> &[Archive]
-        ensures { result.now ≡ self.now.archives }
+        ensures value { result.now ≡ self.now.archives }
+        ensures numbered { (k : ℕ) (archive : value.Archive) → slice_get result.now k ≡ Some archive → archive.id ≡ k }
     {
         self.archives.as_slice()
     }
 
-    /// The rotation that has begun and isn't finished.
+    /// The rotation that has begun and isn't finished. Its archive's number is how many archives there are.
     pub fn pending(&self) -> Option<Pending>
-        ensures { result ≡ self.now.pending }
+        ensures value { result ≡ self.now.pending }
+        ensures numbered { IfSome result (λ pending. pending.archive.id ≡ length self.now.archives) }
     {
         self.pending
     }
