@@ -2,11 +2,11 @@
 use Rattle.std.proofs.Common.{◌≡◌, ◌≢◌, ◌∙◌, ℕ, Bool, true, false, List, [], ◌∷◌, Option, Some, None, Result, Ok, Err, refl, sym, ap, subst}
 use Rattle.std.proofs.lemmas.Option.{slice_get-map}
 use Rattle.std.specs.Map.{lookup, set_value}
-use Rattle.std.specs.Prelude.{String, ℤ, option_map, slice_get}
+use Rattle.std.specs.Prelude.{String, ℤ, IfErr, option_map, slice_get}
 use Rattle.std.specs.Str.{bytes_eq}
 use Rattle.std.specs.String.{string_bytes}
 use Rattle.tr_book.specs.declared.mode.Mode.{Mode}
-use Rattle.tr_calls.specs.Calls.{added, added_channel, after_call, call_answer, named}
+use Rattle.tr_calls.specs.Calls.{IsHeldUpAt, added, added_channel, after_call, call_answer, named}
 use Rattle.tr_calls.specs.World.{World, session_named, with_session}
 use Rattle.tr_outcome.specs.Faults.{wants_memory}
 use Rattle.tr_outcome.specs.Names.{is_name}
@@ -16,7 +16,7 @@ use Rattle.tr_outcome.specs.declared.faults.LineFault.{LineFault}
 use Rattle.tr_outcome.specs.declared.faults.LineFault.TheVariants as fault
 use Rattle.tr_session.specs.Faults.{step_wants_memory}
 use Rattle.tr_session.specs.Session.{SessionOf}
-use Rattle.tr_session.specs.Steps.{session_channel_added}
+use Rattle.tr_session.specs.Steps.{IsHeldUp, session_channel_added}
 use Rattle.tr_session.specs.declared.faults.StepFault.{StepFault}
 use Rattle.tr_session.specs.declared.faults.StepFault.TheVariants as step
 use Rattle.tr_session.specs.declared.rotation.Next.{Next}
@@ -26,6 +26,7 @@ use Rattle.tr_session_book.specs.Names.{by_name}
 use Rattle.tr_session_book.specs.declared.archive.Archive.{Archive}
 use Rattle.tr_session_book.specs.declared.faults.SessionFault.{SessionFault}
 use Rattle.tr_session_book.specs.declared.faults.SessionFault.TheVariants as session
+use Rattle.tr_stream.specs.Rules.{StreamRules}
 use Rattle.tr_stream.specs.declared.answers.CutFault.TheVariants as cut
 use Rattle.tr_stream.specs.declared.answers.OfferFault.TheVariants as offer
 use Rattle.tr_stream.specs.declared.answers.Offered.{Offered}
@@ -62,6 +63,12 @@ module _ {Z S : Type 0} where
   -- a session that is as it was leaves the world so
   pub unchanged-is : (name : Text) (es after : List (String Z × SessionOf S)) (s t : SessionOf S) → lookup (is_named name) es ≡ Some s → t ≡ s → after ≡ set_value (is_named name) es t → by_name after ≡ by_name es
   unchanged-is name es after s t found same is = ap by_name (is ∙ ap (set_value (is_named name) es) same ∙ same-set (is_named name) es s found)
+
+  -- one that is held up leaves the others so
+  pub held-at-err : {R : Type 0} (rules : StreamRules S) (name : Text) (moment : ℕ) (es after : List (String Z × SessionOf S)) (s t : SessionOf S) (r : Result R LineFault) → lookup (is_named name) es ≡ Some s → IfErr r (λ f. wants_memory f ≡ true → IsHeldUp rules moment s t) → after ≡ set_value (is_named name) es t
+      → IfErr r (λ f. wants_memory f ≡ true → IsHeldUpAt rules name moment (by_name es) (by_name after))
+  held-at-err rules name moment es after s t (Ok r) found held is = held
+  held-at-err rules name moment es after s t (Err f) found held is = λ wants. record { before = s; after = t; found = named-is name es (Some s) found; held_up = held wants; is = set-is name es after t is }
 
 -- ---- additions, by what the session of the name answers
 

@@ -1,6 +1,6 @@
 -- What the calls of sessions by their names come to.
 use Rattle.std.specs.Option.{option_map_or}
-use Rattle.std.specs.Prelude.{ℕ, Bool, true, false, Option, Some, None, Result, Ok, Err, if◌then◌else◌}
+use Rattle.std.specs.Prelude.{◌≡◌, ℕ, Bool, true, false, Option, Some, None, Result, Ok, Err, if◌then◌else◌}
 use Rattle.tr_book.specs.declared.mode.Mode.{Mode}
 use Rattle.tr_calls.specs.World.{World, session_named, with_session}
 use Rattle.tr_outcome.specs.Names.{is_name}
@@ -13,13 +13,14 @@ use Rattle.tr_outcome.specs.declared.ticks.TickTold.TheVariants as told
 use Rattle.tr_schedule.specs.Schedules.{ScheduleState, schedule_of}
 use Rattle.tr_schedule.specs.declared.faults.ScheduleFault.{ScheduleFault}
 use Rattle.tr_session.specs.Session.{SessionOf}
-use Rattle.tr_session.specs.Steps.{session_channel_added}
+use Rattle.tr_session.specs.Steps.{IsHeldUp, session_channel_added}
 use Rattle.tr_session.specs.declared.faults.StepFault.{StepFault}
 use Rattle.tr_session.specs.declared.ticks.Ticked.{Ticked}
 use Rattle.tr_session.specs.declared.ticks.Ticked.TheVariants as ticked
 use Rattle.tr_session_book.specs.BookSteps.{after_schedule}
 use Rattle.tr_session_book.specs.declared.archive.Archive.{Archive}
 use Rattle.tr_session_book.specs.declared.faults.SessionFault.{SessionFault}
+use Rattle.tr_stream.specs.Rules.{StreamRules}
 use Rattle.tr_stream.specs.declared.config.SessionMode.{SessionMode}
 use Rattle.tr_stream.specs.declared.config.SessionMode.TheVariants as mode
 
@@ -75,6 +76,14 @@ call_answer name answer w = option_map_or answer (session_named name w) (Err NoS
 -- the sessions after a call of the one of this name
 abbrev pub after_call : {S : Type 0} → Text → (SessionOf S → SessionOf S) → World S → World S
 after_call name after w = option_map_or (λ s. with_session name w (after s)) (session_named name w) w
+
+-- what a rotation of the session of this name leaves that memory was refused to: the others are as they were
+pub record IsHeldUpAt {S : Type 0} (rules : StreamRules S) (name : Text) (moment : ℕ) (w new : World S) : Type 0 where
+  pub before : SessionOf S
+  pub after : SessionOf S
+  pub found : session_named name w ≡ Some before
+  pub held_up : IsHeldUp rules moment before after
+  pub is : new ≡ with_session name w after
 
 abbrev pub world_with : {S : Type 0} → Text → World S → Result (SessionOf S) SessionFault → Result (World S) LineFault
 world_with name w (Ok s) = Ok (with_session name w s)

@@ -1,8 +1,8 @@
 //! Rotations of the session of a name.
 
-ghost use Rattle.std.specs.Prelude.{◌≡◌};
-ghost use Rattle.tr_calls.specs.Calls.{after_call, by_session, by_step, call_answer, named};
-ghost use Rattle.tr_outcome.specs.Faults.{HasMemory};
+ghost use Rattle.std.specs.Prelude.{◌≡◌, true, IfErr};
+ghost use Rattle.tr_calls.specs.Calls.{IsHeldUpAt, after_call, by_session, by_step, call_answer, named};
+ghost use Rattle.tr_outcome.specs.Faults.{HasMemory, wants_memory};
 ghost use Rattle.tr_session_book.specs.BookSteps.{rotate_begin_answer, rotate_finish_answer};
 ghost use Rattle.tr_session_book.specs.Names.{by_name};
 ghost use Rattle.tr_session.specs.Steps.{after_next, after_rotate, begun, finished, next_answer, rotate_answer};
@@ -18,15 +18,16 @@ use tr_session::Next;
 ///
 /// # Errors
 ///
-/// `NoSession`, and those of `Session::rotate_begin`: nothing changed. What stands after want of memory isn't said.
+/// `NoSession`, and those of `Session::rotate_begin`: nothing changed.
 pub fn rotate_begin_at<A: Allocator + Copy>(
     sessions: &mut Sessions<A>,
     session: &str,
     moment: Moment,
 ) -> Result<u64, LineFault>
-    ensures { HasMemory result →
+    ensures value { HasMemory result →
         (result ≡ call_answer session.now (λ s. by_session (rotate_begin_answer s.book)) (by_name sessions.old.entries))
         × (by_name sessions.new.entries ≡ after_call session.now (begun moment) (by_name sessions.old.entries)) }
+    ensures no_memory { IfErr result (λ fault. wants_memory fault ≡ true → by_name sessions.new.entries ≡ by_name sessions.old.entries) }
 {
     let Some(found) = sessions.get_mut(session) else {
         return Err(LineFault::NoSession);
@@ -41,14 +42,15 @@ pub fn rotate_begin_at<A: Allocator + Copy>(
 ///
 /// # Errors
 ///
-/// `NoSession`, and those of `Session::rotate_next`: nothing changed. What stands after want of memory isn't said.
+/// `NoSession`, and those of `Session::rotate_next`: nothing changed.
 pub fn rotate_next_at<A: Allocator + Copy>(
     sessions: &mut Sessions<A>,
     session: &str,
 ) -> Result<Next, LineFault>
-    ensures { HasMemory result →
+    ensures value { HasMemory result →
         (result ≡ call_answer session.now (λ s. by_step (next_answer by_state s)) (by_name sessions.old.entries))
         × (by_name sessions.new.entries ≡ after_call session.now (after_next by_state) (by_name sessions.old.entries)) }
+    ensures no_memory { IfErr result (λ fault. wants_memory fault ≡ true → by_name sessions.new.entries ≡ by_name sessions.old.entries) }
 {
     let Some(found) = sessions.get_mut(session) else {
         return Err(LineFault::NoSession);
@@ -86,15 +88,17 @@ pub fn rotate_finish_at<A: Allocator>(
 ///
 /// # Errors
 ///
-/// `NoSession`, and those of `Session::rotate`: nothing changed. What stands after want of memory isn't said.
+/// `NoSession`, and those of `Session::rotate`: nothing changed, but where memory is refused the rotation may be pending
+/// with the cuts that were made. The other sessions are as they were.
 pub fn rotate_at<A: Allocator + Copy>(
     sessions: &mut Sessions<A>,
     session: &str,
     moment: Moment,
 ) -> Result<NamedArchive, LineFault>
-    ensures { HasMemory result →
+    ensures value { HasMemory result →
         (result ≡ call_answer session.now (λ s. named s (rotate_answer by_state moment s)) (by_name sessions.old.entries))
         × (by_name sessions.new.entries ≡ after_call session.now (after_rotate by_state moment) (by_name sessions.old.entries)) }
+    ensures no_memory { IfErr result (λ fault. wants_memory fault ≡ true → IsHeldUpAt by_state session.now moment (by_name sessions.old.entries) (by_name sessions.new.entries)) }
 {
     let Some(found) = sessions.get_mut(session) else {
         return Err(LineFault::NoSession);

@@ -1,9 +1,10 @@
 //! Schedules and ticks of the session of a name.
 
-ghost use Rattle.std.specs.Prelude.{◌≡◌};
-ghost use Rattle.tr_calls.specs.Calls.{after_asked, after_call, call_answer, schedule_asked, schedule_set, tick_named};
-ghost use Rattle.tr_outcome.specs.Faults.{HasMemory};
-ghost use Rattle.tr_session.specs.Steps.{after_tick, tick_answer};
+ghost use Rattle.std.specs.Prelude.{◌≡◌, true, None, IfErr, option_and_then};
+ghost use Rattle.tr_calls.specs.World.{session_named};
+ghost use Rattle.tr_calls.specs.Calls.{IsHeldUpAt, after_asked, after_call, call_answer, schedule_asked, schedule_set, tick_named};
+ghost use Rattle.tr_outcome.specs.Faults.{HasMemory, wants_memory};
+ghost use Rattle.tr_session.specs.Steps.{IsHeldUp, after_tick, tick_answer, tick_cause};
 ghost use Rattle.tr_session_book.specs.BookSteps.{schedule_answer};
 ghost use Rattle.tr_session_book.specs.Names.{by_name};
 ghost use Rattle.tr_stream.specs.Rules.{by_state};
@@ -76,8 +77,10 @@ fn tick<A: Allocator + Copy>(
     session: &mut Session<A>,
     moment: Moment,
 ) -> Result<TickTold, LineFault>
-    ensures { HasMemory result →
+    ensures value { HasMemory result →
         (result ≡ tick_named session.old (tick_answer by_state moment session.old)) × (session.new ≡ after_tick by_state moment session.old) }
+    ensures no_memory { IfErr result (λ fault. wants_memory fault ≡ true → IsHeldUp by_state moment session.old session.new) }
+    ensures idle { tick_cause by_state moment session.old ≡ None → session.new ≡ session.old }
 {
     let offset = session.book().offset();
     match session.tick(moment) {
@@ -94,15 +97,19 @@ fn tick<A: Allocator + Copy>(
 ///
 /// # Errors
 ///
-/// `NoSession`, and that of `Session::tick`. What stands after want of memory isn't said.
+/// `NoSession`: nothing changed. Where memory is refused nothing changed, or a rotation was due and is pending with the
+/// cuts that were made; the other sessions are as they were. An idle tick changes nothing.
 pub fn tick_at<A: Allocator + Copy>(
     sessions: &mut Sessions<A>,
     session: &str,
     moment: Moment,
 ) -> Result<TickTold, LineFault>
-    ensures { HasMemory result →
+    ensures value { HasMemory result →
         (result ≡ call_answer session.now (λ s. tick_named s (tick_answer by_state moment s)) (by_name sessions.old.entries))
         × (by_name sessions.new.entries ≡ after_call session.now (after_tick by_state moment) (by_name sessions.old.entries)) }
+    ensures no_memory { IfErr result (λ fault. wants_memory fault ≡ true → IsHeldUpAt by_state session.now moment (by_name sessions.old.entries) (by_name sessions.new.entries)) }
+    ensures idle { option_and_then (tick_cause by_state moment) (session_named session.now (by_name sessions.old.entries)) ≡ None →
+        by_name sessions.new.entries ≡ by_name sessions.old.entries }
 {
     let Some(found) = sessions.get_mut(session) else {
         return Err(LineFault::NoSession);

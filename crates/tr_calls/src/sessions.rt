@@ -1,6 +1,6 @@
 //! Sessions by name, and what is added to them, offered, taken and asked.
 
-ghost use Rattle.std.specs.Prelude.{◌≡◌, false, Ok, Err, Some, OnOk, OnErr, IfOk, IfErr, length, option_map};
+ghost use Rattle.std.specs.Prelude.{◌≡◌, true, false, Ok, Err, Some, OnOk, OnErr, IfOk, IfErr, length, option_map};
 ghost use Rattle.tr_calls.specs.Calls.{added, added_channel, after_call, by_session, by_step, call_answer, mode_asked};
 ghost use Rattle.tr_calls.specs.World.{session_named};
 ghost use Rattle.tr_outcome.specs.Faults.{HasMemory, wants_memory};
@@ -162,16 +162,17 @@ pub fn stop_at<A: Allocator>(sessions: &mut Sessions<A>, session: &str) -> Resul
 ///
 /// # Errors
 ///
-/// `NoSession`, and those of `Session::offer`: nothing changed. What stands after want of memory isn't said.
+/// `NoSession`, and those of `Session::offer`: nothing changed.
 pub fn offer_at<A: Allocator + Copy>(
     sessions: &mut Sessions<A>,
     session: &str,
     offer: OfferTo,
     payload: &[u8],
 ) -> Result<Offered, LineFault>
-    ensures { HasMemory result →
+    ensures value { HasMemory result →
         (result ≡ call_answer session.now (λ s. by_step (offer_step by_state offer.stream offer.moment offer.id payload.now s)) (by_name sessions.old.entries))
         × (by_name sessions.new.entries ≡ after_call session.now (after_offer_step by_state offer.stream offer.moment offer.id payload.now) (by_name sessions.old.entries)) }
+    ensures no_memory { IfErr result (λ fault. wants_memory fault ≡ true → by_name sessions.new.entries ≡ by_name sessions.old.entries) }
 {
     let Some(found) = sessions.get_mut(session) else {
         return Err(LineFault::NoSession);
@@ -186,15 +187,16 @@ pub fn offer_at<A: Allocator + Copy>(
 ///
 /// # Errors
 ///
-/// `NoSession`, and those of `Session::take`: nothing changed. What stands after want of memory isn't said.
+/// `NoSession`, and those of `Session::take`: nothing changed.
 pub fn take_at<A: Allocator + Copy>(
     sessions: &mut Sessions<A>,
     session: &str,
     stream: u64,
 ) -> Result<Taken, LineFault>
-    ensures { HasMemory result →
+    ensures value { HasMemory result →
         (result ≡ call_answer session.now (λ s. by_step (take_step by_state stream s)) (by_name sessions.old.entries))
         × (by_name sessions.new.entries ≡ after_call session.now (after_take_step by_state stream) (by_name sessions.old.entries)) }
+    ensures no_memory { IfErr result (λ fault. wants_memory fault ≡ true → by_name sessions.new.entries ≡ by_name sessions.old.entries) }
 {
     let Some(found) = sessions.get_mut(session) else {
         return Err(LineFault::NoSession);

@@ -1,8 +1,8 @@
 //! Snapshots of the session of a name.
 
-ghost use Rattle.std.specs.Prelude.{◌≡◌};
+ghost use Rattle.std.specs.Prelude.{◌≡◌, true, IfErr};
 ghost use Rattle.tr_calls.specs.Calls.{after_call, by_session, call_answer};
-ghost use Rattle.tr_outcome.specs.Faults.{HasMemory};
+ghost use Rattle.tr_outcome.specs.Faults.{HasMemory, wants_memory};
 ghost use Rattle.tr_session.specs.Steps.{after_snapshot, snapshot_answer};
 ghost use Rattle.tr_session_book.specs.Names.{by_name};
 ghost use Rattle.tr_stream.specs.Rules.{by_state};
@@ -17,15 +17,16 @@ use tr_snapshot::Snapshot;
 ///
 /// # Errors
 ///
-/// `NoSession`, and those of `Session::snapshot`: nothing changed. What stands after want of memory isn't said.
+/// `NoSession`, and those of `Session::snapshot`: nothing changed.
 pub fn snapshot_at<A: Allocator + Copy>(
     sessions: &mut Sessions<A>,
     session: &str,
     moment: Moment,
 ) -> Result<Snapshot<A>, LineFault>
-    ensures { HasMemory result →
+    ensures value { HasMemory result →
         (result ≡ call_answer session.now (λ s. by_session (snapshot_answer by_state moment s)) (by_name sessions.old.entries))
         × (by_name sessions.new.entries ≡ after_call session.now (after_snapshot moment) (by_name sessions.old.entries)) }
+    ensures no_memory { IfErr result (λ fault. wants_memory fault ≡ true → by_name sessions.new.entries ≡ by_name sessions.old.entries) }
 {
     let Some(found) = sessions.get_mut(session) else {
         return Err(LineFault::NoSession);
