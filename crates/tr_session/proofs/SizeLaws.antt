@@ -1,11 +1,15 @@
 -- How much an archive holds, one stream after another.
-use Rattle.std.proofs.Common.{◌≡◌, ℕ, ◌+◌, ◌*◌, ◌^◌, ◌≤◌, ◌<◌, zero, suc, List, [], ◌∷◌, Some, arith, sym, take}
+use Rattle.std.proofs.Common.{◌≡◌, ℕ, ◌+◌, ◌*◌, ◌^◌, ◌≤◌, ◌<◌, zero, suc, Bool, true, false, List, [], ◌∷◌, Option, None, Some, arith, length, refl, sym, take}
 use Rattle.std.proofs.lemmas.Grind.{common_steps}
+use Rattle.std.specs.Borrow.{Bor}
 use Rattle.std.specs.List.{sum_by}
-use Rattle.std.specs.Prelude.{slice_get}
-use Rattle.tr_session.specs.Session.{SessionOf}
+use Rattle.std.specs.Prelude.{◌==◌, IfSome, IsSome, if◌then◌else◌, slice_get}
+use Rattle.tr_book.specs.Parts.{PartsState, part_at}
+use Rattle.tr_session.specs.Session.{HasArchivedParts, IsStreamOf, SessionOf}
 use Rattle.tr_session.specs.Sizes.{part_packets, part_records, part_bytes}
 use Rattle.tr_session.specs.declared.archive_size.ArchiveSize.{ArchiveSize}
+use Rattle.tr_session_book.specs.Book.{SessionBookState}
+use Rattle.tr_session_book.specs.BookSteps.{is_cut}
 use Rattle.tr_stream.specs.Rules.{by_state}
 use Rattle.tr_stream.specs.State.{StreamState}
 
@@ -42,3 +46,23 @@ fits-bytes i n size part within few all one = omega (arith, within, few, all, on
 -- a record has at most 65,536 bytes
 pub fits-part : (bytes n records : ℕ) → bytes ≤ 65536 * records → n ≡ records → n < 2 ^ 64 → bytes < 2 ^ 80
 fits-part bytes n records small is few = omega (arith, small, is, few)
+
+-- ---- a stream's parts of archived chunks
+
+item-within : {X : Type 0} (xs : List X) (i : ℕ) → i < length xs → IsSome (slice_get xs i)
+item-within [] i within = absurd (omega (arith, within))
+item-within (x ∷ xs) zero within = refl
+item-within (x ∷ xs) (suc i) within = item-within xs i (grind (arith, common_steps, within))
+
+part-closed : (ps : PartsState) (id : ℕ) → id < length ps.closed → IsSome (part_at id ps)
+part-closed ps id within = go (id == length ps.closed)
+  where
+    go : (b : Bool) → IsSome (if b then Some ps.current else slice_get ps.closed id)
+    go true = refl
+    go false = item-within ps.closed id within
+
+pub archived-parts : (b : SessionBookState) (i : ℕ) (o : Option (Bor StreamState)) → IfSome o (λ t. IsStreamOf b i t.now) → IfSome o (λ t. HasArchivedParts b t.now)
+archived-parts b i None is = tt
+archived-parts b i (Some t) is = λ id below.
+    let closed : length t.now.parts.closed ≡ length b.archives + (if is_cut i b.pending then 1 else 0) = is.closed in
+    part-closed t.now.parts id (omega (arith, closed, below))

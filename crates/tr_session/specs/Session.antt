@@ -1,5 +1,6 @@
 -- A session over whatever stands for its streams.
-use Rattle.std.specs.Prelude.{◌≡◌, ℕ, ℤ, List, [], length, Some, slice_get}
+use Rattle.std.specs.Prelude.{◌≡◌, ◌<◌, ℕ, ℤ, List, [], length, Some, IsSome, slice_get}
+use Rattle.tr_book.specs.Parts.{part_at}
 use Rattle.tr_session_book.specs.Book.{SessionBookState, new_book}
 use Rattle.tr_session_book.specs.BookSteps.{chunks_closed}
 use Rattle.tr_session_book.specs.declared.channel.Channel.{Channel}
@@ -21,6 +22,10 @@ pub record IsStreamOf (b : SessionBookState) (i : ℕ) (t : StreamState) : Type 
   pub config : t.config ≡ record { uuid = b.uuid; number = i; geometry = channel.1.geometry; mode = channel.1.mode; session = b.mode }
   -- it has closed a part for each archive, and one more where the pending rotation has cut it
   pub closed : length t.parts.closed ≡ chunks_closed i b
+
+-- it has a part of each archived chunk
+abbrev pub HasArchivedParts : SessionBookState → StreamState → Type 0
+HasArchivedParts b t = (id : ℕ) → id < length b.archives → IsSome (part_at id t.parts)
 
 -- each thread of the book has its stream
 pub record HasItsStreams (s : SessionOf StreamState) : Type 0 where

@@ -2,7 +2,7 @@
 
 ghost use Rattle.std.specs.Prelude.{◌≡◌, ◌≢◌, ◌≤◌, ◌<◌, ◌∷◌, ◌++◌, [], true, false, None, Some, Ok, Err, IsOk, IsSome, IfSome, IfOk, OnOk, IfErr, OnErr, length, map, option_copied, slice_get};
 ghost use Rattle.tr_session_book.specs.BookSteps.{most_streams, channel_named, thread_place, start_answer, after_start, stop_answer, after_stop, switch_answer, rotate_begin_answer, cut_moment, rotate_finish_answer, snapshot_begin_answer, after_snapshot_begin, schedule_answer, after_schedule};
-ghost use Rattle.tr_session.specs.Session.{IsStreamOf, new_session};
+ghost use Rattle.tr_session.specs.Session.{HasArchivedParts, IsStreamOf, new_session};
 ghost use Rattle.tr_session.specs.Steps.{session_channel_added, thread_added, StepTakesMemory, offer_step, after_offer_step, take_step, after_take_step, cut_step, after_cut_step, snap_step, ShowsPackets, after_switch_step, all_started, all_stopped, begun, finished, current_sizes, fate_asked};
 ghost use Rattle.tr_stream.specs.Rules.{by_state};
 ghost use Rattle.tr_stream.specs.StateSteps.{new_state, state_snap};
@@ -377,10 +377,11 @@ impl<A: Allocator> Session<A> {
         self.book.streams() as u64
     }
 
-    /// The stream of this number.
+    /// The stream of this number. It has a part of each archived chunk.
     pub fn stream(&self, i: u64) -> Option<&Stream<A>>
         ensures value { option_copied result ≡ slice_get self.now.streams i }
         ensures is { IfSome result (λ t. IsStreamOf self.now.book i t.now) }
+        ensures archived { IfSome result (λ t. HasArchivedParts self.now.book t.now) }
     {
         self.streams.get(i as usize)
     }
