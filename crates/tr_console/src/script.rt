@@ -50,13 +50,13 @@ fn answer_line<A: Allocator + Copy, K: ByteSink>(
     Ok(reply.is_refused())
 }
 
-/// Reads a script from its source and answers each line to the sink before it reads the next. `clap` is where the
+/// Reads a script from its source and answers each line to the sink before it runs the next. `clap` is where the
 /// command line of a line takes its memory.
 ///
 /// # Errors
 ///
 /// `Read` and `Write` only where the source or the sink failed in this call, `TooLong` where a byte came behind
-/// 16,777,216 others, `NoMemory` where memory was refused. What went out then is said at each.
+/// 16,777,216 others, `NoMemory` where memory was refused. What went out then is said at each of `ScriptFault`.
 pub fn run_script<A: Allocator + Copy, S: ByteSource, K: ByteSink>(
     alloc: A,
     clap: Global,

@@ -20,7 +20,8 @@ pub enum ScriptFault {
     /// The sink failed. A front part of the answer went out.
     #[error("Q3 Write")]
     Write,
-    /// Memory was refused. The lines before are answered whole, and the one that met it is not.
+    /// Memory was refused. Lines that were read whole are answered from the first one on, each of them whole; how many
+    /// isn't said.
     #[error("Q4 NoMemory")]
     NoMemory,
 }
