@@ -98,6 +98,8 @@ impl<A: Allocator + Copy> Stream<A> {
 
     /// Offers a record: stores it, or discards it where a ring in discard mode has no room. An offer that is refused,
     /// also for want of memory, changes nothing; one that is discarded takes no memory.
+    // (the call that traced threads wait for, and few places make it)
+    #[inline(always)]
     pub fn offer(&mut self, moment: Moment, id: u32, payload: &[u8]) -> Result<Offered, OfferFault>
         ensures value { result ≢ Err OfferFault.NoMemory →
             (result ≡ offer_result moment id payload.now self.old) × (self.new ≡ state_after_offer moment id payload.now self.old) }
