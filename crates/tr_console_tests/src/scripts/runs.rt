@@ -1,6 +1,7 @@
 //! Sources and sinks that fail, scripts of the greatest length, and how the faults print.
 
 use super::{OPENED, OPENING, SIX_ANSWERS, SIX_OFFERS, joined};
+use std::cell::Cell;
 use std::test::Fail;
 use tr_console::{ScriptFault, run_script, run_text};
 use tr_record::{ByteSink, ByteSource, Failed, MemorySink, MemorySource};
@@ -52,6 +53,78 @@ fn answers_whole_lines_before_the_source_fails(rt: HostRuntime) -> Result<(), Fa
         assert_eq!(rt; source.failures, 1, "after {given} bytes");
     }
     Ok(())
+}
+
+/// Gives a line at each call, and sees whether all that it gave before are answered by then.
+#[derive(Drop)]
+struct InTurn<'a> {
+    lines: &'a [&'a str],
+    given: usize,
+    answered: &'a Cell<usize>,
+    is_late: bool,
+}
+
+impl ByteSource for InTurn<'_> {
+    ghost use Rattle.std.specs.Prelude.{None};
+
+    ghost given = { λ _. None };
+
+    ghost content = { λ _. None };
+
+    ghost failures = { λ _. 0 };
+
+    fn get(&mut self, b: &mut [u8]) -> Result<usize, Failed> {
+        self.is_late |= self.answered.get() < self.given;
+        let [line, rest @ ..] = self.lines else {
+            return Ok(0);
+        };
+        let count = line.len().min(b.len());
+        b[..count].copy_from_slice(&line.as_bytes()[..count]);
+        self.lines = rest;
+        self.given = self.given.wrapping_add(1);
+        Ok(count)
+    }
+}
+
+/// Counts the line feeds that it takes.
+#[derive(Drop)]
+struct Counting<'a>(&'a Cell<usize>);
+
+impl ByteSink for Counting<'_> {
+    ghost use Rattle.std.specs.Prelude.{None};
+
+    ghost taken = { λ _. None };
+
+    ghost failures = { λ _. 0 };
+
+    fn put(&mut self, b: &[u8]) -> Result<usize, Failed> {
+        if b[0] == b'\n' {
+            self.0.set(self.0.get().wrapping_add(1));
+        }
+        Ok(1)
+    }
+}
+
+#[test]
+fn answers_a_line_before_it_asks_for_the_next(rt: HostRuntime) {
+    let alloc = rt.alloc();
+    let answered = Cell::new(0);
+    let mut source = InTurn {
+        lines: &[
+            "create s 00000000-0000-0000-0000-000000000001\n",
+            "stop s\n",
+            "nonsense\n",
+            "channel s c 256 2 discard\n",
+        ],
+        given: 0,
+        answered: &answered,
+        is_late: false,
+    };
+    let refused = run_script(alloc, alloc, &mut source, &mut Counting(&answered)).map(
+        |done| done.refused,
+    );
+    assert_eq!(rt; refused, Ok(2));
+    assert_eq!(rt; (source.given, source.is_late), (4, false));
 }
 
 /// Takes bytes one at a time while it has room, and then fails.
