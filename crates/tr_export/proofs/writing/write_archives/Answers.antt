@@ -10,7 +10,7 @@ archives-preserved g c = record {
   made =
       each_more (archive_made c.args.dir.now c.args.name.now c.args.session.now) (g.D.Disk.made c.args.disk.now) (g.D.Disk.made c.archives.disk) (g.D.Disk.made c.write_archive.new.disk)
       c.archives-archive-items.result.now c.args.session.now.book.archives c.archives.archive-index c.archive-item.result
-      (c.archives-archive-items.ensures ∙ ap (λ (b : SessionBookState). b.archives) c.book.ensures) c.archives-test.true c.archive-item.is c.archives.invariant.made c.in_ok-write_archive.ensures.ok;
+      (c.archives-archive-items.ensures.value ∙ ap (λ (b : SessionBookState). b.archives) c.book.ensures) c.archives-test.true c.archive-item.is c.archives.invariant.made c.in_ok-write_archive.ensures.ok;
   works = λ n e. c.in_ok-write_archive.ensures.failures n (c.archives.invariant.works n e);
 }
 
@@ -19,7 +19,7 @@ returns-in_err-write_archive-clause-err g c =
     OnErr-always c.from_residual.result (
     each_cut (archive_made c.args.dir.now c.args.name.now c.args.session.now) (g.D.Disk.made c.args.disk.now) (g.D.Disk.made c.archives.disk) (g.D.Disk.made c.write_archive.new.disk)
     c.archives-archive-items.result.now c.args.session.now.book.archives c.archives.archive-index c.archive-item.result
-    (c.archives-archive-items.ensures ∙ ap (λ (b : SessionBookState). b.archives) c.book.ensures) c.archives-test.true c.archive-item.is c.archives.invariant.made c.in_err-write_archive.ensures.err
+    (c.archives-archive-items.ensures.value ∙ ap (λ (b : SessionBookState). b.archives) c.book.ensures) c.archives-test.true c.archive-item.is c.archives.invariant.made c.in_err-write_archive.ensures.err
     )
 
 pub returns-in_err-write_archive-clause-failures : goal.returns-in_err-write_archive-clause-failures

@@ -25,7 +25,7 @@ pub returns : goal.returns
 returns g c =
     let s = c.args.session.now in
     let archives = c.archives-archives.result.now in
-    let same : archives ≡ s.book.archives = c.archives-archives.ensures ∙ ap (λ (b : SessionBookState). b.archives) c.book.ensures in
+    let same : archives ≡ s.book.archives = c.archives-archives.ensures.value ∙ ap (λ (b : SessionBookState). b.archives) c.book.ensures in
     let some : archives ≡ [] → ⊥ = λ e. true≢false (sym (ap (λ (xs : List Archive). length xs == 0) e) ∙ sym c.if-is_empty.ensures) in
     let text = ends s archives c.archives.archive-index (string_bytes c.archives.text) (archive_lines by_state s archives) (omega arith) c.archives.invariant in
     text ∙ told s archives some ∙ ap (lines_or_none by_state s) same
