@@ -1,8 +1,8 @@
 -- What the parts of an archive make together.
-use Rattle.std.proofs.Common.{◌≡◌, ◌∙◌, ℕ, zero, suc, ◌+◌, ◌-◌, ◌<◌, List, [], ◌∷◌, ◌++◌, length, Option, refl, sym, ap, append_assoc, append-nil, arith}
+use Rattle.std.proofs.Common.{◌≡◌, ◌∙◌, ℕ, zero, suc, ◌+◌, ◌-◌, ◌<◌, List, [], ◌∷◌, ◌++◌, length, Option, refl, subst, sym, ap, append_assoc, append-nil, arith}
 use Rattle.std.specs.Prelude.{codes}
 use Rattle.tr_chunk.specs.ArchiveName.{archive_name_text}
-use Rattle.tr_export.proofs.MakingLemmas.{made_after, front_first, front_after}
+use Rattle.tr_export.proofs.MakingLemmas.{made_after, front_before, front_after}
 use Rattle.tr_export.specs.Archives.{stream_file, stream_files, metadata_file, chunk_made, archive_made}
 use Rattle.tr_export.specs.Making.{Makings, and_then_made, MadeFront}
 use Rattle.tr_export.specs.Paths.{folder_of, path_of}
@@ -23,13 +23,14 @@ module _ (folder : List ℕ) (id : ℕ) (s : SessionOf StreamState) where
         ap (stream_files folder id s) next ∙ ap (λ (ms : Makings). ms ++ stream_file folder id s (k + i)) more.1 ∙ append_assoc (stream_files folder id s i) more.0 (stream_file folder id s (k + i)),
       )
 
-  -- the files of the first i streams are a front part of all
-  pub streams_cut : (start now after : Option Makings) (i n : ℕ) → i < n → n ≡ length s.streams → now ≡ and_then_made start (stream_files folder id s i) → after ≡ now
+  -- the files of the first i streams, and a front part of the next one's
+  pub streams_cut : (start now after : Option Makings) (i n : ℕ) → i < n → n ≡ length s.streams → now ≡ and_then_made start (stream_files folder id s i) → MadeFront now after (stream_file folder id s i)
       → MadeFront start after (stream_files folder id s (length s.streams))
-  streams_cut start now after i n within is first same =
-      let up = files_up (n - i) i in
-      let all : length s.streams ≡ (n - i) + i = omega (arith, within, is) in
-      front_first start after (stream_files folder id s i) up.0 (stream_files folder id s (length s.streams)) (ap (stream_files folder id s) all ∙ up.1) (same ∙ first)
+  streams_cut start now after i n within is first made =
+      let up = files_up (n - suc i) (suc i) in
+      let all : length s.streams ≡ (n - suc i) + suc i = omega (arith, within, is) in
+      let next = front_after start now after (stream_files folder id s i) (stream_file folder id s i) (stream_files folder id s (suc i)) refl first made in
+      front_before start after (stream_files folder id s (suc i)) up.0 (stream_files folder id s (length s.streams)) (ap (stream_files folder id s) all ∙ up.1) next
 
   -- the folder and the metadata
   headed : (start one two : Option Makings) (path uuid : List ℕ) → path ≡ path_of folder (codes "metadata") → uuid ≡ s.book.uuid → one ≡ and_then_made start (Folder folder ∷ [])
@@ -50,7 +51,20 @@ module _ (folder : List ℕ) (id : ℕ) (s : SessionOf StreamState) where
   chunk_cut start one two after path uuid at of first second made =
       front_after start two after (Folder folder ∷ metadata_file folder s) (stream_files folder id s (length s.streams)) (chunk_made folder id s) refl (headed start one two path uuid at of first second) made
 
+  -- the folder, and a front part of the metadata
+  pub metadata_cut : (start one after : Option Makings) (path uuid : List ℕ) → path ≡ path_of folder (codes "metadata") → uuid ≡ s.book.uuid → one ≡ and_then_made start (Folder folder ∷ [])
+      → MadeFront one after (File path (metadata_of uuid) ∷ []) → MadeFront start after (chunk_made folder id s)
+  metadata_cut start one after path uuid at of first made =
+      let text : File path (metadata_of uuid) ∷ [] ≡ metadata_file folder s = ap (λ (p : List ℕ). File p (metadata_of uuid) ∷ []) at ∙ ap (λ (u : List ℕ). File (path_of folder (codes "metadata")) (metadata_of u) ∷ []) of in
+      let next = front_before one after (metadata_file folder s) (stream_files folder id s (length s.streams)) (metadata_file folder s ++ stream_files folder id s (length s.streams)) refl
+      (subst (λ (ms : Makings). MadeFront one after ms) text made) in
+      front_after start one after (Folder folder ∷ []) (metadata_file folder s ++ stream_files folder id s (length s.streams)) (chunk_made folder id s) refl first next
+
 -- a chunk in the folder that an archive's name names
 pub archive_whole : (start after : Option Makings) (dir name : List ℕ) (s : SessionOf StreamState) (a : Archive) (folder : List ℕ) → folder ≡ folder_of dir name (archive_name_text a.begin a.end s.book.offset a.id)
     → after ≡ and_then_made start (chunk_made folder a.id s) → after ≡ and_then_made start (archive_made dir name s a)
 archive_whole start after dir name s a folder at made = made ∙ ap (λ (f : List ℕ). and_then_made start (chunk_made f a.id s)) at
+
+pub archive_cut : (start after : Option Makings) (dir name : List ℕ) (s : SessionOf StreamState) (a : Archive) (folder : List ℕ) → folder ≡ folder_of dir name (archive_name_text a.begin a.end s.book.offset a.id)
+    → MadeFront start after (chunk_made folder a.id s) → MadeFront start after (archive_made dir name s a)
+archive_cut start after dir name s a folder at made = subst (λ (f : List ℕ). MadeFront start after (chunk_made f a.id s)) at made

@@ -1,5 +1,5 @@
 -- What is made one after another.
-use Rattle.std.proofs.Common.{◌≡◌, ◌∙◌, ℕ, ◌+◌, ◌<◌, List, [], ◌∷◌, ◌++◌, length, get_or, take, drop, Option, Some, None, refl, subst, sym, ap, append_assoc, append-nil}
+use Rattle.std.proofs.Common.{◌≡◌, ◌∙◌, ℕ, ◌+◌, ◌<◌, List, [], ◌∷◌, ◌++◌, length, get_or, take, drop, Option, Some, None, ◌⊎◌, inl, inr, ⊎_elim, refl, subst, sym, ap, append_assoc, append-nil}
 use Rattle.std.proofs.lemmas.List.{take_more, take-append-drop}
 use Rattle.std.proofs.lemmas.List.Concat.{flat_map-append}
 use Rattle.std.specs.List.{flat_map}
@@ -7,7 +7,8 @@ use Rattle.std.specs.Prelude.{Result, Ok, Err, OnErr}
 use Rattle.tr_export.specs.Failures.{FailedByWrite, HasNotFailed}
 use Rattle.tr_export.specs.declared.faults.ExportFault.{ExportFault}
 use Rattle.tr_export.specs.declared.faults.ExportFault.TheVariants.{Write, NoMemory}
-use Rattle.tr_export.specs.Making.{Makings, and_then_made, MadeFront}
+use Rattle.tr_export.specs.Making.{Makings, and_then_made, broken_first, MadeFront}
+use Rattle.tr_export.specs.declared.made.Made.TheVariants.{Folder, File, Broken}
 
 and_then_made-none : (known : Option Makings) → and_then_made known [] ≡ known
 and_then_made-none None = refl
@@ -24,11 +25,7 @@ made_after start now after a b first then = then ∙ ap (λ k. and_then_made k b
 
 -- nothing of it was made
 pub front_none : (start after : Option Makings) (all : Makings) → after ≡ start → MadeFront start after all
-front_none start after all same = ([], all, refl, same ∙ sym (and_then_made-none start))
-
--- what comes first, and nothing of the rest
-pub front_first : (start after : Option Makings) (a b all : Makings) → all ≡ a ++ b → after ≡ and_then_made start a → MadeFront start after all
-front_first start after a b all is made = (a, b, is, made)
+front_none start after all same = ([], all, refl, inl (same ∙ sym (and_then_made-none start)))
 
 -- what comes first, and a front part of the rest
 pub front_after : (start now after : Option Makings) (a b all : Makings) → all ≡ a ++ b → now ≡ and_then_made start a → MadeFront now after b → MadeFront start after all
@@ -36,12 +33,26 @@ front_after start now after a b all is first made = (
   a ++ made.0,
   made.1,
   is ∙ ap (λ (ms : Makings). a ++ ms) made.2 ∙ sym (append_assoc a made.0 made.1),
-  made_after start now after a made.0 first made.3,
+  ⊎_elim
+      (λ whole. inl (made_after start now after a made.0 first whole))
+      (λ cut. inr (made_after start now after a (made.0 ++ broken_first made.1) first cut ∙ ap (and_then_made start) (sym (append_assoc a made.0 (broken_first made.1))))) made.3,
 )
+
+-- what is first stays so, whatever comes behind
+cut_before : (start after : Option Makings) (front rest b : Makings) → after ≡ and_then_made start (front ++ broken_first rest) → (after ≡ and_then_made start front) ⊎ (after ≡ and_then_made start (front ++ broken_first (rest ++ b)))
+cut_before start after front [] b cut = inl (cut ∙ ap (and_then_made start) (append-nil front))
+cut_before start after front (Folder path ∷ rest) b cut = inr cut
+cut_before start after front (File path text ∷ rest) b cut = inr cut
+cut_before start after front (Broken path ∷ rest) b cut = inr cut
 
 -- a front part of what comes first
 pub front_before : (start after : Option Makings) (a b all : Makings) → all ≡ a ++ b → MadeFront start after a → MadeFront start after all
-front_before start after a b all is made = (made.0, made.1 ++ b, is ∙ ap (λ (ms : Makings). ms ++ b) made.2 ∙ append_assoc made.0 made.1 b, made.3)
+front_before start after a b all is made = (
+  made.0,
+  made.1 ++ b,
+  is ∙ ap (λ (ms : Makings). ms ++ b) made.2 ∙ append_assoc made.0 made.1 b,
+  ⊎_elim inl (cut_before start after made.0 made.1 b) made.3,
+)
 
 module _ {X : Type 0} (f : X → Makings) where
   one_more : (xs : List X) (i : ℕ) (x : X) → i < length xs → x ≡ get_or xs i x → flat_map f (take (i + 1) xs) ≡ flat_map f (take i xs) ++ f x

@@ -4,6 +4,8 @@
 mod counting;
 mod disk;
 mod faults;
+mod files;
+mod host;
 mod made;
 mod memory;
 mod paths;
@@ -13,6 +15,8 @@ mod writing;
 pub use counting::CountingFile;
 pub use disk::Disk;
 pub use faults::ExportFault;
+pub use files::FileSystem;
+pub use host::HostFiles;
 pub use made::Made;
 pub use memory::MemoryDisk;
 pub use paths::{archive_folder, file_path};

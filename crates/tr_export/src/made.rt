@@ -1,10 +1,29 @@
 //! What is made on a disk.
 
-/// A folder that was made, or a file that was written, with its path and its bytes.
+/// A folder that was made, or a file that was opened, with its path and its bytes.
 #[derive(Drop)]
 pub enum Made<P, B> {
     /// A folder.
     Folder(P),
-    /// A file.
+    /// A file that was closed, and so has all its bytes.
     File(P, B),
+    /// A file that was opened and isn't closed. It lost what it had, and may have a front part of its bytes.
+    Broken(P),
+}
+
+impl<P, B> Made<P, B> {
+    ghost use Rattle.std.specs.Prelude.{◌≡◌};
+    ghost use Rattle.tr_export.specs.Making.{closed_with};
+
+    /// A broken file with all its bytes. A folder or another file stays what it is.
+    pub(crate) fn closed(self, bytes: B) -> Made<P, B>
+    where
+        B: Drop,
+        ensures { result ≡ closed_with self bytes }
+    {
+        match self {
+            Made::Broken(path) => Made::File(path, bytes),
+            other => other,
+        }
+    }
 }

@@ -7,7 +7,6 @@ use crate::counting::{CountingFile, one_more};
 use crate::disk::Disk;
 use crate::made::Made;
 use std::alloc::{Allocator, Global};
-use std::mem;
 use tr_record::{Failed, MemorySink};
 
 /// Keeps what is made, in order. It fails where memory runs out.
@@ -15,7 +14,6 @@ use tr_record::{Failed, MemorySink};
 pub struct MemoryDisk<A: Allocator = Global> {
     alloc: A,
     made: Vec<Made<String<A>, Vec<u8, A>>, A>,
-    open_path: String<A>,
     piece: usize,
     failures: Option<u64>,
 }
@@ -29,7 +27,6 @@ impl<A: Allocator + Copy> MemoryDisk<A> {
         MemoryDisk {
             alloc,
             made: Vec::new(alloc),
-            open_path: String::new(alloc),
             piece,
             failures: Some(0),
         }
@@ -44,14 +41,12 @@ impl<A: Allocator + Copy> MemoryDisk<A> {
 }
 
 impl<A: Allocator + Copy> Disk for MemoryDisk<A> {
-    ghost use Rattle.std.specs.Prelude.{Some, string_bytes};
+    ghost use Rattle.std.specs.Prelude.{Some};
     ghost use Rattle.tr_export.specs.Kept.{by_text};
 
     type File = CountingFile<MemorySink<A>>;
 
     ghost made = { λ s. Some (by_text s.made.items) };
-
-    ghost opened = { λ s. string_bytes s.open_path };
 
     ghost failures = { λ s. s.failures };
 
@@ -70,9 +65,12 @@ impl<A: Allocator + Copy> Disk for MemoryDisk<A> {
     }
 
     fn open_file(&mut self, path: &str) -> Result<CountingFile<MemorySink<A>>, Failed> {
-        match String::from_str(self.alloc, path) {
-            Ok(path) => {
-                self.open_path = path;
+        let Ok(path) = String::from_str(self.alloc, path) else {
+            self.failures = one_more(self.failures);
+            return Err(Failed);
+        };
+        match self.made.push(Made::Broken(path)) {
+            Ok(()) => {
                 let failures = self.failures.take().unwrap_or(0);
                 let sink = MemorySink::new(self.alloc, self.piece);
                 Ok(CountingFile::new(sink, failures))
@@ -86,18 +84,14 @@ impl<A: Allocator + Copy> Disk for MemoryDisk<A> {
 
     fn close_file(&mut self, file: CountingFile<MemorySink<A>>) -> Result<(), Failed> {
         let failures = file.failures();
-        let path = mem::replace(&mut self.open_path, String::new(self.alloc));
         let bytes = file.into_sink().into_bytes();
-        match self.made.push(Made::File(path, bytes)) {
-            Ok(()) => {
-                self.failures = Some(failures);
-                Ok(())
-            }
-            Err(_) => {
-                self.failures = Some(failures.wrapping_add(1));
-                Err(Failed)
-            }
+        if let Some(last) = self.made.pop() {
+            let Ok(()) = self.made.push(last.closed(bytes)) else {
+                unreachable!()
+            };
         }
+        self.failures = Some(failures);
+        Ok(())
     }
 
     fn give_up(&mut self, file: CountingFile<MemorySink<A>>) {

@@ -1,69 +1,79 @@
-//! The file system as a disk.
+//! A file system as a disk.
 
 ghost use Rattle.std.specs.Prelude.{◌≡◌, Some};
 
 use crate::counting::{CountingFile, one_more};
 use crate::disk::Disk;
-use std::fs;
-use std::rt::Files;
-use tr_record::{Failed, WriterSink};
+use crate::files::FileSystem;
+use tr_record::Failed;
 
-/// Makes folders and files in the file system. Contracts know nothing of what it made.
+/// Makes folders and files in a file system, and counts how often that fails.
 #[derive(Drop)]
-pub struct SystemDisk<'a, R: Files> {
-    files: &'a R,
+pub struct SystemDisk<F: FileSystem + Drop> {
+    files: F,
     failures: Option<u64>,
 }
 
-impl<'a, R: Files> SystemDisk<'a, R> {
-    /// The file system that the runtime reaches.
-    pub fn new(files: &'a R) -> Self
-        ensures { ⟦<SystemDisk<'a, R> as Disk>⟧.failures result ≡ Some 0 }
+impl<F: FileSystem + Drop> SystemDisk<F> {
+    /// A disk on this file system.
+    pub fn new(files: F) -> Self
+        ensures made { ⟦<SystemDisk<F> as Disk>⟧.made result ≡ F.made files }
+        ensures failures { ⟦<SystemDisk<F> as Disk>⟧.failures result ≡ Some 0 }
     {
         SystemDisk {
             files,
             failures: Some(0),
         }
     }
+
+    /// The file system.
+    pub fn files(&self) -> &F
+        ensures { ⟦<SystemDisk<F> as Disk>⟧.made self.now ≡ F.made result.now }
+    {
+        &self.files
+    }
+
+    /// How often it and its files failed, modulo 2^64. None while a file is open.
+    pub fn failures(&self) -> Option<u64>
+        ensures { result ≡ ⟦<SystemDisk<F> as Disk>⟧.failures self.now }
+    {
+        self.failures
+    }
 }
 
-impl<R: Files> Disk for SystemDisk<'_, R> {
-    ghost use Rattle.std.specs.Prelude.{None, []};
+impl<F: FileSystem + Drop> Disk for SystemDisk<F> {
+    type File = CountingFile<F::File>;
 
-    type File = CountingFile<WriterSink<R::File>>;
-
-    ghost made = { λ _. None };
-
-    ghost opened = { λ _. [] };
+    ghost made = { λ s. F.made s.files };
 
     ghost failures = { λ s. s.failures };
 
     fn make_folder(&mut self, path: &str) -> Result<(), Failed> {
-        match fs::create_dir_all(self.files, path) {
+        match self.files.make_folder(path) {
             Ok(()) => Ok(()),
-            Err(_) => {
+            Err(failed) => {
                 self.failures = one_more(self.failures);
-                Err(Failed)
+                Err(failed)
             }
         }
     }
 
-    fn open_file(&mut self, path: &str) -> Result<CountingFile<WriterSink<R::File>>, Failed> {
-        match fs::create(self.files, path) {
+    fn open_file(&mut self, path: &str) -> Result<CountingFile<F::File>, Failed> {
+        match self.files.create(path) {
             Ok(file) => {
                 let failures = self.failures.take().unwrap_or(0);
-                Ok(CountingFile::new(WriterSink::new(file), failures))
+                Ok(CountingFile::new(file, failures))
             }
-            Err(_) => {
+            Err(failed) => {
                 self.failures = one_more(self.failures);
-                Err(Failed)
+                Err(failed)
             }
         }
     }
 
-    fn close_file(&mut self, file: CountingFile<WriterSink<R::File>>) -> Result<(), Failed> {
+    fn close_file(&mut self, file: CountingFile<F::File>) -> Result<(), Failed> {
         let failures = file.failures();
-        match file.into_sink().flush() {
+        match self.files.end(file.into_sink()) {
             Ok(()) => {
                 self.failures = Some(failures);
                 Ok(())
@@ -75,7 +85,7 @@ impl<R: Files> Disk for SystemDisk<'_, R> {
         }
     }
 
-    fn give_up(&mut self, file: CountingFile<WriterSink<R::File>>) {
+    fn give_up(&mut self, file: CountingFile<F::File>) {
         self.failures = Some(file.failures());
     }
 }

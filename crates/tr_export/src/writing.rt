@@ -26,7 +26,7 @@ fn write_metadata_file<B: Allocator, D: Disk>(
     uuid: &Uuid,
 ) -> Result<(), ExportFault>
     ensures ok { OnOk result (D.made disk.new ≡ and_then_made (D.made disk.old) (File path.now (metadata_of uuid.now) ∷ [])) }
-    ensures err { OnErr result (D.made disk.new ≡ D.made disk.old) }
+    ensures err { OnErr result (MadeFront (D.made disk.old) (D.made disk.new) (File path.now (metadata_of uuid.now) ∷ [])) }
     ensures failures { FailedByWrite (D.failures disk.old) (D.failures disk.new) result }
 {
     let mut file = disk.open_file(path)?;
@@ -46,7 +46,7 @@ fn write_part_file<A: Allocator, B: Allocator + Copy, D: Disk>(
     part: &Part<A>,
 ) -> Result<(), ExportFault>
     ensures ok { OnOk result (D.made disk.new ≡ and_then_made (D.made disk.old) (File path.now (packets_text part.now.packets) ∷ [])) }
-    ensures err { OnErr result (D.made disk.new ≡ D.made disk.old) }
+    ensures err { OnErr result (MadeFront (D.made disk.old) (D.made disk.new) (File path.now (packets_text part.now.packets) ∷ [])) }
     ensures failures { FailedByWrite (D.failures disk.old) (D.failures disk.new) result }
 {
     let mut file = disk.open_file(path)?;
@@ -68,7 +68,7 @@ fn write_stream<A: Allocator, B: Allocator + Copy, D: Disk>(
     i: u64,
 ) -> Result<(), ExportFault>
     ensures ok { OnOk result (D.made disk.new ≡ and_then_made (D.made disk.old) (stream_file folder.now id session.now i)) }
-    ensures err { OnErr result (D.made disk.new ≡ D.made disk.old) }
+    ensures err { OnErr result (MadeFront (D.made disk.old) (D.made disk.new) (stream_file folder.now id session.now i)) }
     ensures failures { FailedByWrite (D.failures disk.old) (D.failures disk.new) result }
 {
     let Some(channel) = session.book().channel_of(i) else {
@@ -148,7 +148,7 @@ fn write_archive<A: Allocator, B: Allocator + Copy, D: Disk>(
 /// # Errors
 ///
 /// `Write` where a folder or a file can't be made or written, `NoMemory`: what was written before stays, and the file that
-/// was being written may have a front part of its bytes.
+/// comes next may be broken, with a front part of its bytes in place of what it had. No other file is touched.
 pub fn write_archives<A: Allocator, B: Allocator + Copy, D: Disk>(
     alloc: B,
     disk: &mut D,

@@ -1,6 +1,7 @@
 //! Archives in memory and in files.
 
 mod failing;
+mod full;
 mod real;
 
 use std::alloc::Global;
@@ -69,6 +70,14 @@ fn rotated(alloc: Global) -> Result<Session, Fail> {
 fn is_folder(made: Option<&Made<String, Vec<u8>>>, wanted: &str) -> bool {
     match made {
         Some(Made::Folder(path)) => path.as_str() == wanted,
+        _ => false,
+    }
+}
+
+/// Whether it is a broken file of this path.
+fn is_broken(made: Option<&Made<String, Vec<u8>>>, wanted: &str) -> bool {
+    match made {
+        Some(Made::Broken(path)) => path.as_str() == wanted,
         _ => false,
     }
 }

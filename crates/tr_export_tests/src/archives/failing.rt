@@ -62,13 +62,11 @@ impl FailingDisk {
 }
 
 impl Disk for FailingDisk {
-    ghost use Rattle.std.specs.Prelude.{None, []};
+    ghost use Rattle.std.specs.Prelude.{None};
 
     type File = ShortFile;
 
     ghost made = { λ _. None };
-
-    ghost opened = { λ _. [] };
 
     ghost failures = { λ s. s.failures };
 

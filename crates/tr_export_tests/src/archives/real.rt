@@ -1,9 +1,10 @@
 //! Archives in the file system.
 
 use super::{assert_same, rotated, session_of, uuid};
+use std::os::unix::fs::symlink;
 use std::test::Fail;
 use std::{env, fs, process};
-use tr_export::{ExportFault, SystemDisk, write_archives};
+use tr_export::{ExportFault, HostFiles, SystemDisk, write_archives};
 use tr_packet::metadata_text;
 
 /// A path of this test's own in the folder for temporary files, where nothing is.
@@ -47,7 +48,7 @@ fn has_files(rt: &HostRuntime, dir: &str) -> Result<bool, Fail> {
 fn files_are_written_and_replaced(rt: HostRuntime) -> Result<(), Fail> {
     let dir = free_path(&rt, "files")?;
     let session = rotated(rt.alloc())?;
-    let mut disk = SystemDisk::new(&rt);
+    let mut disk = SystemDisk::new(HostFiles::new(&rt));
     write_archives(rt.alloc(), &mut disk, dir.as_str(), "s", &session).expect(&rt, "archives");
     assert!(rt; has_files(&rt, dir.as_str())?);
     let path = path_in(&rt, dir.as_str(), "c_0")?;
@@ -62,7 +63,7 @@ fn files_are_written_and_replaced(rt: HostRuntime) -> Result<(), Fail> {
 fn without_an_archive_there_is_no_folder(rt: HostRuntime) -> Result<(), Fail> {
     let dir = free_path(&rt, "nothing")?;
     let session = session_of(rt.alloc())?;
-    let mut disk = SystemDisk::new(&rt);
+    let mut disk = SystemDisk::new(HostFiles::new(&rt));
     write_archives(rt.alloc(), &mut disk, dir.as_str(), "s", &session).expect(&rt, "archives");
     assert!(rt; !fs::exists(&rt, dir.as_str()).expect(&rt, "the file system"));
     Ok(())
@@ -75,12 +76,29 @@ fn a_file_in_the_folder_s_place_is_told(rt: HostRuntime) -> Result<(), Fail> {
     let taken = format!(in rt.alloc(); "{dir}/s").expect(&rt, "memory");
     fs::write(&rt, taken.as_str(), "here").expect(&rt, "the file system");
     let session = rotated(rt.alloc())?;
-    let mut disk = SystemDisk::new(&rt);
+    let mut disk = SystemDisk::new(HostFiles::new(&rt));
     assert_same(
         &rt,
         write_archives(rt.alloc(), &mut disk, dir.as_str(), "s", &session),
         Err(ExportFault::Write),
     );
+    fs::remove_dir_all(&rt, dir.as_str()).expect(&rt, "the file system");
+    Ok(())
+}
+
+// the path of the stream's file leads to a device without room
+#[test]
+fn a_full_device_is_told(rt: HostRuntime) -> Result<(), Fail> {
+    let dir = free_path(&rt, "full")?;
+    let folder = path_in(&rt, dir.as_str(), "")?;
+    fs::create_dir_all(&rt, folder.as_str()).expect(&rt, "the file system");
+    let path = path_in(&rt, dir.as_str(), "c_0")?;
+    symlink(&rt, "/dev/full", path.as_str()).expect(&rt, "a link");
+    let session = rotated(rt.alloc())?;
+    let mut disk = SystemDisk::new(HostFiles::new(&rt));
+    let answer = write_archives(rt.alloc(), &mut disk, dir.as_str(), "s", &session);
+    assert_same(&rt, answer, Err(ExportFault::Write));
+    assert_same(&rt, disk.failures(), Some(1));
     fs::remove_dir_all(&rt, dir.as_str()).expect(&rt, "the file system");
     Ok(())
 }

@@ -151,8 +151,6 @@ impl Disk for FailingDisk {
 
     ghost made = { λ _. None };
 
-    ghost opened = { λ _. [] };
-
     ghost failures = { λ s. s.failures };
 
     fn make_folder(&mut self, _path: &str) -> Result<(), Failed> {

@@ -1,7 +1,7 @@
 use Rattle.std.proofs.Common.{◌≡◌, ◌∙◌, refl, ap}
-use Rattle.std.proofs.lemmas.Result.{on_ok_weaker}
+use Rattle.std.proofs.lemmas.Result.{on_ok_weaker, on_err_weaker}
 use Rattle.tr_chunk.specs.ArchiveName.{archive_name_text}
-use Rattle.tr_export.proofs.ArchiveLemmas.{archive_whole}
+use Rattle.tr_export.proofs.ArchiveLemmas.{archive_whole, archive_cut}
 use Rattle.tr_export.proofs.MakingLemmas.{front_none, OnErr-always}
 use Rattle.tr_export.specs.Archives.{archive_made}
 use Rattle.tr_export.specs.Paths.{folder_of}
@@ -25,3 +25,13 @@ returns-clause-ok g c =
     c.as_str-2.ensures.value ∙ (rw (← name_is) c.in_ok-folder.ensures) in
     on_ok_weaker c.write_chunk.result
     (archive_whole (g.D.Disk.made c.args.disk.now) (g.D.Disk.made c.write_chunk.new.disk) c.args.dir.now c.args.name.now c.args.session.now a c.as_str-2.result.now folder_is) c.write_chunk.ensures.ok
+
+pub returns-clause-err : goal.returns-clause-err
+returns-clause-err g c =
+    let a = c.args.archive in
+    let offset_is : c.offset-offset.result ≡ c.args.session.now.book.offset = c.offset-offset.ensures ∙ ap (λ (b : SessionBookState). b.offset) c.book.ensures in
+    let name_is : c.as_str.result.now ≡ archive_name_text a.begin a.end c.args.session.now.book.offset a.id = c.as_str.ensures.value ∙ (rw (← offset_is) c.in_ok-own_name.ensures) in
+    let folder_is : c.as_str-2.result.now ≡ folder_of c.args.dir.now c.args.name.now (archive_name_text a.begin a.end c.args.session.now.book.offset a.id) =
+    c.as_str-2.ensures.value ∙ (rw (← name_is) c.in_ok-folder.ensures) in
+    on_err_weaker c.write_chunk.result
+    (archive_cut (g.D.Disk.made c.args.disk.now) (g.D.Disk.made c.write_chunk.new.disk) c.args.dir.now c.args.name.now c.args.session.now a c.as_str-2.result.now folder_is) c.write_chunk.ensures.err
