@@ -145,7 +145,7 @@ impl FailingDisk {
 }
 
 impl Disk for FailingDisk {
-    ghost use Rattle.std.specs.Prelude.{None, []};
+    ghost use Rattle.std.specs.Prelude.{None};
 
     type File = Void;
 
