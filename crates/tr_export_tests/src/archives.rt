@@ -1,6 +1,7 @@
 //! Archives in memory and in files.
 
 mod failing;
+mod flushes;
 mod full;
 mod real;
 
