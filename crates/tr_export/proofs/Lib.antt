@@ -1,2 +1,3 @@
 pub mod ArchiveLemmas
+pub mod FileLaws
 pub mod MakingLemmas

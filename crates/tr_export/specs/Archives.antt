@@ -1,5 +1,5 @@
 -- What a session's archives are on a disk.
-use Rattle.std.specs.Prelude.{ℕ, zero, suc, List, [], ◌∷◌, ◌++◌, codes, length, slice_get, Option, Some, None, option_and_then}
+use Rattle.std.specs.Prelude.{◌≡◌, ℕ, zero, suc, List, [], ◌∷◌, ◌++◌, codes, length, slice_get, Option, Some, None, option_and_then}
 use Rattle.std.specs.List.{flat_map}
 use Rattle.tr_book.specs.Parts.{PartState, part_at}
 use Rattle.tr_chunk.specs.ArchiveName.{archive_name_text}
@@ -18,6 +18,10 @@ abbrev pub part_file : List ℕ → ℕ → Option (List ℕ) → Option PartSta
 part_file folder i None part = []
 part_file folder i (Some channel) None = []
 part_file folder i (Some channel) (Some part) = File (path_of folder (file_name channel i)) (packets_text part.packets) ∷ []
+
+-- a file is made and nothing else
+abbrev pub IsOneFile : Makings → Type 0
+IsOneFile made = (path : List ℕ) × (text : List ℕ) × (made ≡ File path text ∷ [])
 
 -- stream i's part of chunk id
 abbrev pub part_of_stream : ℕ → ℕ → SessionOf StreamState → Option PartState

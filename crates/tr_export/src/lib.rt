@@ -6,6 +6,7 @@ mod disk;
 mod faults;
 mod files;
 mod host;
+pub mod laws;
 mod made;
 mod memory;
 mod paths;
