@@ -190,24 +190,26 @@ impl Interrupted {
         }
     }
 
-    fn count_of(&mut self, asked: usize) -> io::Result<usize> {
+    fn begin(&mut self) -> io::Result<()> {
         if self.is_new {
             self.is_new = false;
             return Err(io::Error::from(io::ErrorKind::Interrupted));
         }
-        Ok(asked)
+        Ok(())
     }
 }
 
 impl Read for Interrupted {
     fn read(&mut self, buf: &mut [u8]) -> io::Result<usize> {
-        self.count_of(buf.len())
+        self.begin()?;
+        Ok(buf.len())
     }
 }
 
 impl Write for Interrupted {
     fn write(&mut self, buf: &[u8]) -> io::Result<usize> {
-        self.count_of(buf.len())
+        self.begin()?;
+        Ok(buf.len())
     }
 
     fn flush(&mut self) -> io::Result<()> {
