@@ -1,5 +1,5 @@
 -- A run of a script, line by line.
-use Rattle.std.proofs.Common.{◌≡◌, ◌∙◌, ◌≤◌, ◌<◌, ◌+◌, ◌⊎◌, ℕ, inl, inr, refl, sym, ap, ap₂, subst, arith, List, [], ◌∷◌, ◌++◌, Option, length, take, append_assoc, append-nil, length-append}
+use Rattle.std.proofs.Common.{◌≡◌, ◌∙◌, ◌≤◌, ◌<◌, ◌+◌, ◌⊎◌, ◌-◌, ℕ, inl, inr, refl, sym, ap, ap₂, subst, arith, List, [], ◌∷◌, ◌++◌, Option, length, take, append_assoc, append-nil, length-append}
 use Rattle.std.proofs.Math.Seq.{take-append_seam, take-append-add}
 use Rattle.std.proofs.lemmas.List.{take-append-le}
 use Rattle.tr_calls.specs.World.{World}
@@ -10,9 +10,9 @@ use Rattle.tr_console.specs.Agreement.{WorldsAgree}
 use Rattle.tr_console.specs.Runs.{AnsweredSome, BrokeOff, Ran, WentTooFar, WroteSome, answers_to, world_left}
 use Rattle.tr_console.specs.Script.{answers, line_step, refused_in, script_text, text_step, world_after}
 use Rattle.tr_console.specs.Steps.{Step}
-use Rattle.tr_lines.proofs.LineLemmas.{AreLines, AreLines-push, joined, joined-push, lines_of-joined, lines_of-last, whole_lines_of-joined, whole_lines_of-last}
+use Rattle.tr_lines.proofs.LineLemmas.{AreLines, AreLines-push, joined, joined-push, lines_of-joined, lines_of-last, whole_lines-front, whole_lines_of-joined, whole_lines_of-last}
 use Rattle.tr_lines.specs.Lines.{HasNoFeed, lines_of, text_of_line, whole_lines_of, with_last}
-use Rattle.tr_lines.specs.Reading.{GoesTooFar, Reading, ReadsAll, ReadsLine, ReadsOn, budget, longest_script}
+use Rattle.tr_lines.specs.Reading.{GoesTooFar, Reading, ReadsAll, ReadsLine, ReadsOn, budget, longest_piece, longest_script}
 use Rattle.tr_lines.specs.declared.reader.Found.{Found}
 use Rattle.tr_lines.specs.declared.reader.Found.TheVariants.{Last, Whole}
 use Rattle.tr_outcome.specs.Text.{Text}
@@ -187,18 +187,32 @@ module _ (given now taken wrote_now : Option (List ℕ)) (reader : Reading) (wor
         wrote = g.wrote ∙ ap (λ ls. and_then_bytes taken (answers_to ls)) (sym (whole_so_far on.raw on.no_feed));
       }
 
+  -- of what came before the last piece, no whole line but one isn't seen
+  reached_by : (front rest script : List ℕ) → script ≡ front ++ rest → length rest ≤ longest_piece → length (whole_lines_of front) ≤ length g.seen + 1
+      → length (whole_lines_of (take (length script - longest_piece) script)) ≤ length g.seen + 1
+  reached_by front rest script is short few =
+      let before = ap (λ (bs : List ℕ). length (whole_lines_of (take (length bs - longest_piece) bs))) is in
+      omega (arith, before, whole_lines-front front rest longest_piece short, few)
+
+  -- whole lines end to end are just these
+  whole_joined : (lines : List (List ℕ)) → AreLines lines → whole_lines_of (joined lines) ≡ lines
+  whole_joined lines are = ap whole_lines_of (sym (append-nil (joined lines))) ∙ whole_lines_of-joined lines [] are ∙ append-nil lines
+
   -- the first lines of what was seen and of more
   first_seen : (rest : List (List ℕ)) → take (length g.seen) (g.seen ++ rest) ≡ g.seen
   first_seen rest = take-append_seam g.seen rest
 
   -- memory was refused while a line was read
-  pub Going-memory : (after : Option (List ℕ)) (reader' : Reading) → reader'.total ≤ longest_script → ReadsOn now after reader reader' → AnsweredSome given after taken wrote_now
-  Going-memory after reader' most r = record {
+  pub Going-memory : (after : Option (List ℕ)) (reader' : Reading) → reader'.total ≤ longest_script → length reader'.held ≤ longest_piece → ReadsOn now after reader reader'
+      → AnsweredSome given after taken wrote_now
+  Going-memory after reader' most held r = record {
     script = joined g.seen ++ (r.raw ++ reader'.held);
     count = length g.seen;
     fits = within_limit reader' r.more (r.raw ++ reader'.held) r.bytes r.total most;
     read = more_read after r.more _ r.came r.bytes;
     wrote = g.wrote ∙ ap (λ ls. and_then_bytes taken (answers_to ls)) (sym (ap (take (length g.seen)) (whole_seen (r.raw ++ reader'.held)) ∙ first_seen (whole_lines_of (r.raw ++ reader'.held))));
+    reached = reached_by (joined g.seen ++ r.raw) reader'.held (joined g.seen ++ (r.raw ++ reader'.held)) (sym (append_assoc (joined g.seen) r.raw reader'.held)) held
+        (omega (arith, ap length (whole_so_far r.raw r.no_feed)));
   }
 
   -- ---- a line that came
@@ -215,9 +229,10 @@ module _ (given now taken wrote_now : Option (List ℕ)) (reader : Reading) (wor
     pub answer : script_text script ≡ answers_to (g.seen ++ raw ∷ []) ++ more
     pub whole : whole_lines_of script ≡ g.seen ++ lines
     pub within : (length (answers_to (g.seen ++ raw ∷ [])) ≤ length (answers_to (whole_lines_of script))) ⊎ (after ≡ content)
+    pub reached : length (whole_lines_of (take (length script - longest_piece) script)) ≤ length g.seen + 1
 
-  Comes-whole : (content after : Option (List ℕ)) (reader' : Reading) → reader'.total ≤ longest_script → ReadsLine now after reader reader' → Comes content after reader'
-  Comes-whole content after reader' most r =
+  Comes-whole : (content after : Option (List ℕ)) (reader' : Reading) → reader'.total ≤ longest_script → length reader'.held ≤ longest_piece → ReadsLine now after reader reader' → Comes content after reader'
+  Comes-whole content after reader' most held r =
       let are = AreLines-push g.seen r.raw g.are_lines r.no_feed in
       let lines = lines_of-joined (g.seen ++ r.raw ∷ []) reader'.held are in
       let whole = whole_lines_of-joined (g.seen ++ r.raw ∷ []) reader'.held are in
@@ -233,6 +248,7 @@ module _ (given now taken wrote_now : Option (List ℕ)) (reader : Reading) (wor
         answer = ap answers_to lines ∙ answers-append by_history [] (g.seen ++ r.raw ∷ []) (lines_of reader'.held);
         whole = whole ∙ append_assoc g.seen (r.raw ∷ []) (whole_lines_of reader'.held);
         within = inl (omega (arith, ap length reached, length-append (answers_to (g.seen ++ r.raw ∷ [])) (answers by_history (world_after by_history [] (g.seen ++ r.raw ∷ [])) (whole_lines_of reader'.held))));
+        reached = reached_by (joined (g.seen ++ r.raw ∷ [])) reader'.held _ refl held (omega (arith, ap length (whole_joined (g.seen ++ r.raw ∷ []) are), length-append g.seen (r.raw ∷ [])));
       }
 
   Comes-last : (content after : Option (List ℕ)) (reader' : Reading) → reader'.total ≤ longest_script → ReadsAll now after reader reader' → after ≡ content → Comes content after reader'
@@ -253,12 +269,13 @@ module _ (given now taken wrote_now : Option (List ℕ)) (reader : Reading) (wor
             ∙ sym (answers-append by_history [] g.seen (on.raw ∷ [])) ∙ sym (append-nil (answers_to (g.seen ++ on.raw ∷ [])));
         whole = whole_seen on.raw ∙ ap (λ ls. g.seen ++ ls) (whole_lines_of-last on.raw on.no_feed);
         within = inr end;
+        reached = reached_by (joined g.seen ++ on.raw) [] _ (sym (append-nil (joined g.seen ++ on.raw))) (omega arith) (omega (arith, ap length (whole_so_far on.raw on.no_feed)));
       }
 
-  pub Comes-found : (content : Option (List ℕ)) (found : Found) (after : Option (List ℕ)) (reader' : Reading) → reader'.total ≤ longest_script
+  pub Comes-found : (content : Option (List ℕ)) (found : Found) (after : Option (List ℕ)) (reader' : Reading) → reader'.total ≤ longest_script → length reader'.held ≤ longest_piece
       → (found ≡ Whole → ReadsLine now after reader reader') → (found ≡ Last → ReadsAll now after reader reader' × (after ≡ content)) → Comes content after reader'
-  Comes-found content Whole after reader' most whole last = Comes-whole content after reader' most (whole refl)
-  Comes-found content Last after reader' most whole last = Comes-last content after reader' most (last refl).0 (last refl).1
+  Comes-found content Whole after reader' most held whole last = Comes-whole content after reader' most held (whole refl)
+  Comes-found content Last after reader' most held whole last = Comes-last content after reader' most (last refl).0 (last refl).1
 
   -- the sink failed: a front part of the answer went out
   pub Comes-wrote : (content after wrote' : Option (List ℕ)) (reader' : Reading) (text : Option (List ℕ)) (k : ℕ) → text ≡ reader'.line → k ≤ length (text_step by_state world text).text
@@ -294,4 +311,5 @@ module _ (given now taken wrote_now : Option (List ℕ)) (reader : Reading) (wor
     fits = c.fits;
     read = c.read;
     wrote = same ∙ g.wrote ∙ ap (λ ls. and_then_bytes taken (answers_to ls)) (sym (ap (take (length g.seen)) c.whole ∙ first_seen c.lines));
+    reached = c.reached;
   }

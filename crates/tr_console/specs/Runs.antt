@@ -1,12 +1,12 @@
 -- How a run of a script ends: what its source gave, and what went out.
 use Rattle.std.specs.Borrow.{Bor}
-use Rattle.std.specs.Prelude.{◌≡◌, ◌≤◌, ◌⊎◌, ℕ, List, [], ◌∷◌, ◌++◌, Option, length, option_map, take}
+use Rattle.std.specs.Prelude.{◌≡◌, ◌≤◌, ◌⊎◌, ◌+◌, ◌-◌, ℕ, List, [], ◌∷◌, ◌++◌, Option, length, option_map, take}
 use Rattle.tr_calls.specs.World.{World}
 use Rattle.tr_console.specs.Agreement.{WorldsAgree}
 use Rattle.tr_console.specs.Script.{answers, refused_in, script_text, text_step, world_after}
 use Rattle.tr_console.specs.Steps.{Step}
 use Rattle.tr_lines.specs.Lines.{lines_of, whole_lines_of}
-use Rattle.tr_lines.specs.Reading.{longest_script}
+use Rattle.tr_lines.specs.Reading.{longest_piece, longest_script}
 use Rattle.tr_outcome.specs.Text.{Text}
 use Rattle.tr_record.specs.Bytes.{and_then_bytes}
 use Rattle.tr_stream.specs.Rules.{Traced, by_history, by_state}
@@ -65,10 +65,11 @@ module _ (given given_now taken taken_now : Option (List ℕ)) where
     pub wrote : taken_now ≡ and_then_bytes taken (take count (script_text script))
     pub within : (count ≤ length (answers_to (whole_lines_of script))) ⊎ (given_now ≡ content)
 
-  -- this was read, and so many of its whole lines answered
+  -- this was read, and so many of its whole lines answered: all but one, apart from those that end in the last piece
   pub record AnsweredSome : Type 0 where
     pub script : List ℕ
     pub count : ℕ
     pub fits : length script ≤ longest_script
     pub read : given_now ≡ and_then_bytes given script
     pub wrote : taken_now ≡ and_then_bytes taken (answers_to (take count (whole_lines_of script)))
+    pub reached : length (whole_lines_of (take (length script - longest_piece) script)) ≤ count + 1

@@ -1,9 +1,9 @@
 -- Lines, and how they stand in a script.
-use Rattle.std.proofs.Common.{◌≡◌, ◌∙◌, ◌<◌, ◌+◌, ◌&&◌, ℕ, Bool, zero, suc, cond, true, false, refl, sym, ap, ap₂, inl, inr, length-append, arith, List, [], ◌∷◌, ◌++◌, Some, None, length, take, get_or, nat_le, true≢false, lit<, lt-ltb, append_assoc, append-nil, add-one, drop-cons}
+use Rattle.std.proofs.Common.{◌≡◌, ◌∙◌, ◌<◌, ◌≤◌, ◌+◌, ◌-◌, ◌&&◌, ℕ, Bool, zero, suc, cond, true, false, refl, sym, ap, ap₂, inl, inr, length-append, arith, List, [], ◌∷◌, ◌++◌, Some, None, length, take, get_or, nat_le, true≢false, lit<, lt-ltb, append_assoc, append-nil, add-one, drop-cons}
 use Rattle.std.specs.List.{flat_map, list_all, onto_first, position, position_or_len}
 use Rattle.std.specs.Str.{IsAscii}
 use Rattle.std.proofs.Math.ListN.{drop}
-use Rattle.std.proofs.lemmas.List.{take-append-drop}
+use Rattle.std.proofs.lemmas.List.{take-append-drop, take-append-le}
 use Rattle.std.proofs.lemmas.List.Elements.{All-from_get_or}
 use Rattle.std.proofs.lemmas.List.Folds.{list_all-append}
 use Rattle.std.proofs.lemmas.List.Quantifiers.{position-Some}
@@ -120,6 +120,46 @@ whole_lines_of-joined [] rest h = refl
 whole_lines_of-joined (line ∷ lines) rest h =
     ap whole_lines_of (append_assoc (line ++ 10 ∷ []) (joined lines) rest ∙ append_assoc line (10 ∷ []) (joined lines ++ rest))
     ∙ whole_lines_of-line line (joined lines ++ rest) h.0 ∙ ap (λ ls. line ∷ ls) (whole_lines_of-joined lines rest h.1)
+
+-- ---- how many lines are whole
+
+onto_first-length : (b : ℕ) (bytes : List ℕ) → length (onto_first b (parts_of bytes)) ≡ length (parts_of bytes)
+onto_first-length b bytes = let h = some_parts bytes in ap (λ (ps : List (List ℕ)). length (onto_first b ps)) h.2 ∙ sym (ap length h.2)
+
+parts-more : (bytes more : List ℕ) → length (parts_of bytes) ≤ length (parts_of (bytes ++ more))
+parts-more [] more = omega (arith, ap length (some_parts more).2)
+parts-more (b ∷ bytes) more = go (is_feed b) (parts-more bytes more)
+  where
+    go : (t : Bool) → length (parts_of bytes) ≤ length (parts_of (bytes ++ more)) → length (cond t ([] ∷ parts_of bytes) (onto_first b (parts_of bytes))) ≤ length (cond t ([] ∷ parts_of (bytes ++ more)) (onto_first b (parts_of (bytes ++ more))))
+    go true rest = omega (arith, rest)
+    go false rest = omega (arith, rest, onto_first-length b bytes, onto_first-length b (bytes ++ more))
+
+all_but_last-length : (part : List ℕ) (parts : List (List ℕ)) → length (all_but_last (part ∷ parts)) ≡ length parts
+all_but_last-length part [] = refl
+all_but_last-length part (next ∷ parts) = ap suc (all_but_last-length next parts)
+
+whole_lines-parts : (bytes : List ℕ) → length (whole_lines_of bytes) + 1 ≡ length (parts_of bytes)
+whole_lines-parts bytes =
+    let h = some_parts bytes in
+    omega (arith, ap (λ (ps : List (List ℕ)). length (all_but_last ps)) h.2, all_but_last-length h.0 h.1, ap length h.2)
+
+-- without the last bytes no more lines are whole than in front of them
+pub whole_lines-front : (front rest : List ℕ) (n : ℕ) → length rest ≤ n
+    → length (whole_lines_of (take (length (front ++ rest) - n) (front ++ rest))) ≤ length (whole_lines_of front)
+whole_lines-front front rest n short =
+    let count = length (front ++ rest) - n in
+    let within : count ≤ length front = omega (arith, short, length-append front rest) in
+    let same : take count (front ++ rest) ≡ take count front = take-append-le count front rest within in
+    let more = parts-more (take count front) (drop count front) in
+    let all = ap (λ (bs : List ℕ). length (parts_of bs)) (take-append-drop count front) in
+    omega (
+      arith,
+      more,
+      all,
+      ap (λ (bs : List ℕ). length (whole_lines_of bs)) same,
+      whole_lines-parts (take count front),
+      whole_lines-parts front,
+    )
 
 pub joined-push : (lines : List (List ℕ)) (line : List ℕ) → joined (lines ++ line ∷ []) ≡ joined lines ++ (line ++ 10 ∷ [])
 joined-push [] line = append-nil (line ++ 10 ∷ [])

@@ -19,6 +19,10 @@ reading held total line = record { held = held; total = total; line = line }
 abbrev pub longest_script : ℕ
 longest_script = 16777216
 
+-- how many bytes are asked of the source at once
+abbrev pub longest_piece : ℕ
+longest_piece = 65536
+
 -- how many bytes may still go into lines
 abbrev pub budget : Reading → ℕ
 budget r = (longest_script - r.total) + length r.held

@@ -3,7 +3,7 @@
 ghost use Rattle.std.specs.Prelude.{◌≡◌, ◌+◌, ◌<◌, ◌≤◌, ◌∷◌, [], ℕ, Some, true, false, Ok, Err, IfOk, OnOk, OnErr, length, take, option_map, position};
 ghost use Rattle.tr_record.specs.Bytes.{and_then_bytes, once_more};
 ghost use Rattle.tr_lines.specs.Lines.{is_feed};
-ghost use Rattle.tr_lines.specs.Reading.{GoesTooFar, ReadsAll, ReadsLine, ReadsOn, TakesPart, budget, longest_script, reading};
+ghost use Rattle.tr_lines.specs.Reading.{GoesTooFar, ReadsAll, ReadsLine, ReadsOn, TakesPart, budget, longest_piece, longest_script, reading};
 ghost use Rattle.tr_lines.specs.declared.reader.ReadFault.TheVariants.{Read, NoMemory};
 
 use crate::line::Line;
@@ -88,13 +88,13 @@ pub struct LineReader<A: Allocator = Global> {
 
 impl<A: Allocator> Model for LineReader<A> {
     ghost use Rattle.std.specs.Prelude.{◌-◌, ◌<◌, ◌≤◌, drop, take, vec_len};
-    ghost use Rattle.tr_lines.specs.Reading.{Reading, longest_script, reading};
+    ghost use Rattle.tr_lines.specs.Reading.{Reading, longest_piece, longest_script, reading};
 
     ghost Value = { Reading };
 
     ghost view = { λ r. reading (take (r.end - r.start) (drop r.start r.piece.items)) r.total r.line };
 
-    ghost invariant = { λ r. (r.start ≤ r.end) × (r.end ≤ vec_len r.piece) × (0 < vec_len r.piece) × (r.total ≤ longest_script) };
+    ghost invariant = { λ r. (r.start ≤ r.end) × (r.end ≤ vec_len r.piece) × (0 < vec_len r.piece) × (r.total ≤ longest_script) × (vec_len r.piece ≤ longest_piece) };
 }
 
 impl<A: Allocator> LineReader<A> {
@@ -118,6 +118,7 @@ impl<A: Allocator> LineReader<A> {
     fn take_part(&mut self) -> Result<bool, AllocError>
         ensures ok { IfOk result (TakesPart self.old self.new) }
         ensures within { self.new.total ≤ longest_script }
+        ensures held { length self.new.held ≤ longest_piece }
         ensures err { OnErr result (self.new ≡ self.old) }
     {
         let held = &self.piece[self.start..self.end];
@@ -177,6 +178,7 @@ impl<A: Allocator> LineReader<A> {
         ensures too_long { result ≡ Err ReadFault.TooLong → GoesTooFar (S.given source.old) (S.given source.new) self.old self.new }
         ensures memory { result ≡ Err ReadFault.NoMemory → ReadsOn (S.given source.old) (S.given source.new) self.old self.new }
         ensures no_failure { (result ≡ Err ReadFault.Read → ⊥) → S.failures source.new ≡ S.failures source.old }
+        ensures held { length self.new.held ≤ longest_piece }
     {
         self.begin();
         'pieces: loop {

@@ -51,7 +51,7 @@ last-is A c bs = record {
 }
 
 -- the packets of all parts are those of the kept blocks
-packets-below : (c : StreamConfig) (k : ℕ) (h : History) → all_of (map (λ (p : PartState). p.packets) (parts_below c k h)) ≡ map (packet_of c) (chunks_below k h)
+pub packets-below : (c : StreamConfig) (k : ℕ) (h : History) → all_of (map (λ (p : PartState). p.packets) (parts_below c k h)) ≡ map (packet_of c) (chunks_below k h)
 packets-below c zero h = refl
 packets-below c (suc k) h =
     let part = part_of c k (chunk_of k h) in
@@ -74,7 +74,7 @@ may-follow None least n le more = refl
 may-follow (Some b) least n le more = grind (arith, nat_tests, le, more)
 
 -- numbers that rise
-rise-numbers : (before : Option ℕ) (seq serial : ℕ) (bs : List ClosedBuffer) (next_seq next : ℕ) → low before ≤ seq → Rising seq serial bs next_seq next → numbers_rise_after before (map (λ (b : ClosedBuffer). b.seq) bs) ≡ true
+pub rise-numbers : (before : Option ℕ) (seq serial : ℕ) (bs : List ClosedBuffer) (next_seq next : ℕ) → low before ≤ seq → Rising seq serial bs next_seq next → numbers_rise_after before (map (λ (b : ClosedBuffer). b.seq) bs) ≡ true
 rise-numbers before seq serial [] next_seq next le rise = refl
 rise-numbers before seq serial (b ∷ bs) next_seq next le rise =
     let here = may-follow before seq b.seq le rise.0 in
@@ -95,7 +95,7 @@ rise-records before seq serial (b ∷ bs) next_seq next le rise =
     rise-entries before serial b.records (records_behind bs) le rise.1
     (λ after more. rise-records after (b.seq + 1) (next_serial serial b.records) bs next_seq next more rise.2)
 
-kept-rise : (h : History) → IsWellFormed h → Rising 0 0 (consumed_of h) h.filling.number (offered_of h)
+pub kept-rise : (h : History) → IsWellFormed h → Rising 0 0 (consumed_of h) h.filling.number (offered_of h)
 kept-rise h well = rising-where is_kept 0 0 0 0 0 h.closed h.filling.number (offered_of h) well.numbers well.covers (omega arith) (omega arith) (omega (arith, well.filling)) (omega arith)
 
 -- a packet belongs to its own stream

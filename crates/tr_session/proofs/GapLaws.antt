@@ -13,7 +13,7 @@ use Rattle.tr_stream.specs.History.{Status, Waiting, Dropped, Kept, Closed, is_w
 use Rattle.tr_stream.specs.WellFormed.{NumberedFrom, AllWait, WaitLast}
 use Rattle.tr_stream.specs.declared.config.StreamConfig.{StreamConfig}
 
-abbrev seqs : List ClosedBuffer → List ℕ
+abbrev pub seqs : List ClosedBuffer → List ℕ
 seqs bs = map (λ (b : ClosedBuffer). b.seq) bs
 
 -- the first number, or serial, that may come next
@@ -21,7 +21,7 @@ abbrev pub low : Option ℕ → ℕ
 low None = 0
 low (Some before) = before + 1
 
-in_gap : (before : Option ℕ) (q n : ℕ) → is_in_runs n (gap_before before q) ≡ (nat_le (low before) n && nat_lt n q)
+pub in_gap : (before : Option ℕ) (q n : ℕ) → is_in_runs n (gap_before before q) ≡ (nat_le (low before) n && nat_lt n q)
 in_gap None q n = grind (arith, nat_tests, common_steps)
 in_gap (Some before) q n = grind (arith, nat_tests, common_steps)
 

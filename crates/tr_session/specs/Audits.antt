@@ -36,3 +36,7 @@ was_dropped n cs = list_any (λ (c : Closed). nat_eq c.block.number n && is_drop
 -- a block of a higher number was kept
 abbrev pub kept_above : ℕ → List Closed → Bool
 kept_above n cs = list_any (λ (c : Closed). nat_lt n c.block.number && is_kept c.status) cs
+
+-- one of these sub-buffers has a higher number
+abbrev pub is_below_one : ℕ → List ClosedBuffer → Bool
+is_below_one n bs = list_any (λ (b : ClosedBuffer). nat_lt n b.seq) bs

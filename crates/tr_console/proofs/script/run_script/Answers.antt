@@ -10,6 +10,7 @@ use Rattle.tr_console.specs.declared.script_fault.ScriptFault.TheVariants as fau
 use Rattle.tr_lines.specs.Reading.{Reading, longest_script}
 use Rattle.tr_lines.specs.declared.reader.ReadFault.TheVariants as read
 use Rattle.tr_record.proofs.ByteLemmas.{and_then_bytes-none}
+use Rattle.tr_record.specs.Bytes.{once_more}
 use Rattle.tr_stream.specs.Rules.{by_state}
 
 pub returns-in_err-reader-clause-memory : goal.returns-in_err-reader-clause-memory
@@ -19,6 +20,7 @@ returns-in_err-reader-clause-memory g c _ = record {
   fits = omega arith;
   read = sym (and_then_bytes-none _);
   wrote = sym (and_then_bytes-none _);
+  reached = omega arith;
 }
 
 pub lines-init : goal.lines-init
@@ -39,6 +41,11 @@ returns-in_err-found-clause-source_works g c no_read =
     c.read_line.ensures.no_failure
     (λ r. no_read (made_err c.from_residual-in_err-found.result _ c.from_residual-in_err-found.ensures.1 ∙ ap (λ f. Err (reading_fault f)) (same_err c.read_line.result c.in_err-found.field-0.0 read.Read c.in_err-found.was r)))
     ∙ c.lines.invariant.source_works
+
+pub returns-in_err-found-clause-source_failed : goal.returns-in_err-found-clause-source_failed
+returns-in_err-found-clause-source_failed g c e =
+    let is = reading_fault-Read c.in_err-found.field-0.0 (made c.from_residual-in_err-found.result _ fault.Read c.from_residual-in_err-found.ensures.1 e) in
+    (c.read_line.ensures.read (c.in_err-found.was ∙ ap Err is)).1 ∙ ap once_more c.lines.invariant.source_works
 
 pub returns-in_err-is_refused-clause-sink_works : goal.returns-in_err-is_refused-clause-sink_works
 returns-in_err-is_refused-clause-sink_works g c no_write =
@@ -62,7 +69,7 @@ pub returns-in_err-found-clause-memory : goal.returns-in_err-found-clause-memory
 returns-in_err-found-clause-memory g c e =
     let is = reading_fault-NoMemory c.in_err-found.field-0.0 (made c.from_residual-in_err-found.result _ fault.NoMemory c.from_residual-in_err-found.ensures.1 e) in
     let most : c.read_line.new.self.total ≤ longest_script = omega (arith, c.reader.invariant.3, ap (λ (r : Reading). r.total) c.reader.view_is) in
-    Going-memory _ _ _ _ c.lines.reader _ _ c.lines.invariant.going _ _ most (c.read_line.ensures.memory (c.in_err-found.was ∙ ap Err is))
+    Going-memory _ _ _ _ c.lines.reader _ _ c.lines.invariant.going _ _ most c.read_line.ensures.held (c.read_line.ensures.memory (c.in_err-found.was ∙ ap Err is))
 
 pub returns-in_err-is_refused-clause-write : goal.returns-in_err-is_refused-clause-write
 returns-in_err-is_refused-clause-write g c e =
@@ -70,7 +77,7 @@ returns-in_err-is_refused-clause-write g c e =
     let some = c.answer_line.ensures.write (c.in_err-is_refused.was ∙ ap Err is) in
     let same = c.read_line.ensures.content ∙ c.lines.invariant.content in
     let most : c.read_line.new.self.total ≤ longest_script = omega (arith, c.reader.invariant.3, ap (λ (r : Reading). r.total) c.reader.view_is) in
-    let comes = Comes-found _ _ _ _ c.lines.reader _ _ c.lines.invariant.going (g.S.ByteSource.content c.args.source.now) c.in_ok-found.found _ c.read_line.new.self most
+    let comes = Comes-found _ _ _ _ c.lines.reader _ _ c.lines.invariant.going (g.S.ByteSource.content c.args.source.now) c.in_ok-found.found _ c.read_line.new.self most c.read_line.ensures.held
     (λ w. c.read_line.ensures.whole (c.in_ok-found.was ∙ ap Ok w)) (λ l. let last = c.read_line.ensures.last (c.in_ok-found.was ∙ ap Ok l) in (last.0, last.1 ∙ same)) in
     Comes-wrote _ _ _ _ c.lines.reader _ _ c.lines.invariant.going _ _ _ c.read_line.new.self _ some.0 c.text.ensures some.1 some.2 comes
 
@@ -80,7 +87,7 @@ returns-in_err-is_refused-clause-memory g c e =
     let kept = c.answer_line.ensures.memory (c.in_err-is_refused.was ∙ ap Err is) in
     let same = c.read_line.ensures.content ∙ c.lines.invariant.content in
     let most : c.read_line.new.self.total ≤ longest_script = omega (arith, c.reader.invariant.3, ap (λ (r : Reading). r.total) c.reader.view_is) in
-    let comes = Comes-found _ _ _ _ c.lines.reader _ _ c.lines.invariant.going (g.S.ByteSource.content c.args.source.now) c.in_ok-found.found _ c.read_line.new.self most
+    let comes = Comes-found _ _ _ _ c.lines.reader _ _ c.lines.invariant.going (g.S.ByteSource.content c.args.source.now) c.in_ok-found.found _ c.read_line.new.self most c.read_line.ensures.held
     (λ w. c.read_line.ensures.whole (c.in_ok-found.was ∙ ap Ok w)) (λ l. let last = c.read_line.ensures.last (c.in_ok-found.was ∙ ap Ok l) in (last.0, last.1 ∙ same)) in
     Comes-memory _ _ _ _ c.lines.reader _ _ c.lines.invariant.going _ _ _ c.read_line.new.self kept comes
 

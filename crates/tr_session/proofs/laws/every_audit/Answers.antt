@@ -1,5 +1,15 @@
 use Rattle.tr_session.proofs.AuditLaws.{passes, packets-are, last-is, gaps-dropped, gaps-within}
+use Rattle.tr_session.proofs.FrontLaws.{front-gaps, front-packets, front-passes}
 use Rattle.tr_session.proofs.laws.every_audit.Goals as goal
 
 pub returns : goal.returns
-returns g c = record { passes = passes; packets = packets-are; last = last-is _; gaps_of_histories = gaps-within g.row.A.Denot; gaps = gaps-dropped }
+returns g c = record {
+  passes = passes;
+  packets = packets-are;
+  last = last-is _;
+  gaps_of_histories = gaps-within g.row.A.Denot;
+  gaps = gaps-dropped;
+  first_pass = front-passes;
+  first_packets = front-packets;
+  first_gaps = front-gaps g.row.A.Denot;
+}
