@@ -3,13 +3,10 @@
 use crate::sums::mix;
 use std::alloc::Global;
 use std::time::CpuClock;
-use tr_book::Mode;
-use tr_chunk::OffsetMinutes;
 use tr_packet::Packet;
-use tr_record::Moment;
 use tr_session::{Session, StepFault};
 use tr_session_book::SessionFault;
-use tr_stream::SessionMode;
+use tr_terms::{Mode, Moment, Name, OffsetMinutes, SessionMode};
 use uuid::Uuid;
 
 /// How many streams the session has.
@@ -42,6 +39,8 @@ pub enum RotateFault {
     NoClock,
     /// No clock is at UTC.
     NoOffset,
+    /// The channel's name is none.
+    NoName,
     /// The session refused.
     Refused(StepFault),
 }
@@ -77,7 +76,10 @@ fn full_session(alloc: Global, payload: &[u8]) -> Result<Session, RotateFault> {
         return Err(RotateFault::NoOffset);
     };
     let mut session = Session::new(alloc, Uuid::from_u128(1), offset, SessionMode::Local);
-    session.add_channel("c", SIZE, COUNT, Mode::Discard)?;
+    let Some(name) = Name::new("c") else {
+        return Err(RotateFault::NoName);
+    };
+    session.add_channel(&name, SIZE, COUNT, Mode::Discard)?;
     for _ in 0..STREAMS {
         session.add_thread("c")?;
     }

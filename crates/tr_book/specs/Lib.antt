@@ -1,4 +1,3 @@
 pub mod Book
-pub mod Geometry
 pub mod Parts
 pub mod Snaps

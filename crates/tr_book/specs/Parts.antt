@@ -3,6 +3,7 @@ use Rattle.std.specs.Prelude.{◌≡◌, ℕ, ◌+◌, ◌*◌, ◌≤◌, List,
 use Rattle.std.specs.Option.{option_map}
 use Rattle.tr_packet.specs.Packets.{Contents, packet_size}
 use Rattle.tr_record.specs.Records.{has_serial}
+use Rattle.tr_terms.specs.declared.limits.TheConstants.{LARGEST_PACKET}
 
 -- the packets of one stream in one trace chunk
 pub record PartState : Type 0 where
@@ -51,7 +52,7 @@ seq_among n packets = option_map (λ (p : Contents). p.head.seq) (find (λ (p : 
 pub record AreTallied (packets : List Contents) (bytes records : ℕ) : Type 0 where
   pub bytes_are : bytes ≡ bytes_of packets
   pub records_are : records ≡ records_of packets
-  pub small : bytes ≤ 65536 * records
+  pub small : bytes ≤ LARGEST_PACKET * records
 
 -- the current part's number is how many are closed
 abbrev pub IsNumbered : PartsState → Type 0

@@ -3,6 +3,7 @@
 ghost use Rattle.std.specs.Prelude.{◌≡◌, ◌≤◌, ◌+◌, ◌*◌, ◌<◌, ◌^◌, ◌∷◌, [], ◌++◌, OnOk, OnErr, IfErr, length};
 ghost use Rattle.tr_book.specs.Parts.{AreTallied, bytes_of, records_of, empty_part, seq_among};
 ghost use Rattle.tr_record.specs.Records.{has_serial};
+ghost use Rattle.tr_terms.specs.declared.limits.TheConstants.{LARGEST_PACKET};
 
 use std::alloc::{AllocError, AllocFailed, Allocator, Global};
 use std::marker::Model;
@@ -64,7 +65,7 @@ impl<A: Allocator> Part<A> {
     /// The bytes of all its packets.
     pub fn bytes(&self) -> u128
         ensures value { result ≡ bytes_of self.now.packets }
-        ensures small { result ≤ 65536 * records_of self.now.packets }
+        ensures small { result ≤ LARGEST_PACKET * records_of self.now.packets }
     {
         self.bytes
     }

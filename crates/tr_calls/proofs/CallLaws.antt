@@ -1,15 +1,16 @@
 -- What the code does to the map of sessions, said of the world that the map shows.
-use Rattle.std.proofs.Common.{◌≡◌, ◌≢◌, ◌∙◌, ℕ, Bool, true, false, List, [], ◌∷◌, Option, Some, None, Result, Ok, Err, refl, sym, ap, subst}
+use Rattle.std.proofs.Common.{◌≡◌, ◌≢◌, ◌∙◌, ℕ, Bool, cond, true, false, List, [], ◌∷◌, Option, Some, None, Result, Ok, Err, refl, sym, ap, subst}
 use Rattle.std.proofs.lemmas.Option.{slice_get-map}
+use Rattle.std.specs.List.{list_all}
 use Rattle.std.specs.Map.{lookup, set_value}
-use Rattle.std.specs.Prelude.{String, ℤ, IfErr, option_map, slice_get}
+use Rattle.std.specs.Prelude.{◌&&◌, String, ℤ, IfErr, option_map, slice_get}
 use Rattle.std.specs.Str.{bytes_eq}
 use Rattle.std.specs.String.{string_bytes}
-use Rattle.tr_book.specs.declared.mode.Mode.{Mode}
+use Rattle.tr_terms.specs.declared.mode.Mode.{Mode}
 use Rattle.tr_calls.specs.Calls.{IsHeldUpAt, added, added_channel, after_call, call_answer, named}
 use Rattle.tr_calls.specs.World.{World, session_named, with_session}
 use Rattle.tr_outcome.specs.Faults.{wants_memory}
-use Rattle.tr_outcome.specs.Names.{is_name}
+use Rattle.tr_terms.specs.Names.{is_name}
 use Rattle.tr_outcome.specs.Text.{Text}
 use Rattle.tr_outcome.specs.declared.archives.NamedArchive.{NamedArchive}
 use Rattle.tr_outcome.specs.declared.faults.LineFault.{LineFault}
@@ -22,7 +23,7 @@ use Rattle.tr_session.specs.declared.faults.StepFault.TheVariants as step
 use Rattle.tr_session.specs.declared.rotation.Next.{Next}
 use Rattle.tr_session_book.proofs.NameLaws.{lookup-by_name, set_value-by_name}
 use Rattle.tr_session_book.specs.Faults.{session_wants_memory}
-use Rattle.tr_session_book.specs.Names.{by_name}
+use Rattle.tr_session_book.specs.Names.{AreNamed, by_name}
 use Rattle.tr_session_book.specs.declared.archive.Archive.{Archive}
 use Rattle.tr_session_book.specs.declared.faults.SessionFault.{SessionFault}
 use Rattle.tr_session_book.specs.declared.faults.SessionFault.TheVariants as session
@@ -63,6 +64,19 @@ module _ {Z S : Type 0} where
   -- a session that is as it was leaves the world so
   pub unchanged-is : (name : Text) (es after : List (String Z × SessionOf S)) (s t : SessionOf S) → lookup (is_named name) es ≡ Some s → t ≡ s → after ≡ set_value (is_named name) es t → by_name after ≡ by_name es
   unchanged-is name es after s t found same is = ap by_name (is ∙ ap (set_value (is_named name) es) same ∙ same-set (is_named name) es s found)
+
+  set-names : (test : String Z → Bool) (es : List (String Z × SessionOf S)) (s : SessionOf S) → list_all (λ (e : Text × SessionOf S). is_name e.0) (by_name (set_value test es s)) ≡ list_all (λ (e : Text × SessionOf S). is_name e.0) (by_name es)
+  set-names test [] s = refl
+  set-names test (e ∷ es) s = go (test e.0) (set-names test es s)
+    where
+      go : (b : Bool) → list_all (λ (f : Text × SessionOf S). is_name f.0) (by_name (set_value test es s)) ≡ list_all (λ (f : Text × SessionOf S). is_name f.0) (by_name es)
+          → list_all (λ (f : Text × SessionOf S). is_name f.0) (by_name (cond b ((e.0, s) ∷ es) (e ∷ set_value test es s))) ≡ list_all (λ (f : Text × SessionOf S). is_name f.0) (by_name (e ∷ es))
+      go true rest = refl
+      go false rest = ap (λ (b : Bool). is_name (string_bytes e.0) && b) rest
+
+  -- a session in its place leaves the names
+  pub names-kept : (name : Text) (es after : List (String Z × SessionOf S)) (s : SessionOf S) → after ≡ set_value (is_named name) es s → AreNamed (by_name es) → AreNamed (by_name after)
+  names-kept name es after s is are = ap (λ (fs : List (String Z × SessionOf S)). list_all (λ (e : Text × SessionOf S). is_name e.0) (by_name fs)) is ∙ set-names (is_named name) es s ∙ are
 
   -- one that is held up leaves the others so
   pub held-at-err : {R : Type 0} (rules : StreamRules S) (name : Text) (moment : ℕ) (es after : List (String Z × SessionOf S)) (s t : SessionOf S) (r : Result R LineFault) → lookup (is_named name) es ≡ Some s → IfErr r (λ f. wants_memory f ≡ true → IsHeldUp rules moment s t) → after ≡ set_value (is_named name) es t

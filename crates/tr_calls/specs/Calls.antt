@@ -1,9 +1,9 @@
 -- What the calls of sessions by their names come to.
 use Rattle.std.specs.Option.{option_map_or}
 use Rattle.std.specs.Prelude.{◌≡◌, ℕ, Bool, true, false, Option, Some, None, Result, Ok, Err, if◌then◌else◌}
-use Rattle.tr_book.specs.declared.mode.Mode.{Mode}
+use Rattle.tr_terms.specs.declared.mode.Mode.{Mode}
 use Rattle.tr_calls.specs.World.{World, session_named, with_session}
-use Rattle.tr_outcome.specs.Names.{is_name}
+use Rattle.tr_terms.specs.Names.{is_name}
 use Rattle.tr_outcome.specs.Text.{Text}
 use Rattle.tr_outcome.specs.declared.archives.NamedArchive.{NamedArchive}
 use Rattle.tr_outcome.specs.declared.faults.LineFault.{LineFault}
@@ -21,8 +21,8 @@ use Rattle.tr_session_book.specs.BookSteps.{after_schedule}
 use Rattle.tr_session_book.specs.declared.archive.Archive.{Archive}
 use Rattle.tr_session_book.specs.declared.faults.SessionFault.{SessionFault}
 use Rattle.tr_stream.specs.Rules.{StreamRules}
-use Rattle.tr_stream.specs.declared.config.SessionMode.{SessionMode}
-use Rattle.tr_stream.specs.declared.config.SessionMode.TheVariants as mode
+use Rattle.tr_terms.specs.declared.session_mode.SessionMode.{SessionMode}
+use Rattle.tr_terms.specs.declared.session_mode.SessionMode.TheVariants as mode
 
 -- whether a session is to be a snapshot session; else it consumes into chunks
 abbrev pub mode_asked : Bool → SessionMode

@@ -4,7 +4,7 @@ ghost use Rattle.std.specs.Prelude.{◌≡◌, true, IfErr};
 ghost use Rattle.tr_calls.specs.Calls.{IsHeldUpAt, after_call, by_session, by_step, call_answer, named};
 ghost use Rattle.tr_outcome.specs.Faults.{HasMemory, wants_memory};
 ghost use Rattle.tr_session_book.specs.BookSteps.{rotate_begin_answer, rotate_finish_answer};
-ghost use Rattle.tr_session_book.specs.Names.{by_name};
+ghost use Rattle.tr_session_book.specs.Names.{AreNamed, by_name};
 ghost use Rattle.tr_session.specs.Steps.{after_next, after_rotate, begun, finished, next_answer, rotate_answer};
 ghost use Rattle.tr_stream.specs.Rules.{by_state};
 
@@ -28,6 +28,7 @@ pub fn rotate_begin_at<A: Allocator + Copy>(
         (result ≡ call_answer session.now (λ s. by_session (rotate_begin_answer s.book)) (by_name sessions.old.entries))
         × (by_name sessions.new.entries ≡ after_call session.now (begun moment) (by_name sessions.old.entries)) }
     ensures no_memory { IfErr result (λ fault. wants_memory fault ≡ true → by_name sessions.new.entries ≡ by_name sessions.old.entries) }
+    ensures names { AreNamed (by_name sessions.old.entries) → AreNamed (by_name sessions.new.entries) }
 {
     let Some(found) = sessions.get_mut(session) else {
         return Err(LineFault::NoSession);
@@ -51,6 +52,7 @@ pub fn rotate_next_at<A: Allocator + Copy>(
         (result ≡ call_answer session.now (λ s. by_step (next_answer by_state s)) (by_name sessions.old.entries))
         × (by_name sessions.new.entries ≡ after_call session.now (after_next by_state) (by_name sessions.old.entries)) }
     ensures no_memory { IfErr result (λ fault. wants_memory fault ≡ true → by_name sessions.new.entries ≡ by_name sessions.old.entries) }
+    ensures names { AreNamed (by_name sessions.old.entries) → AreNamed (by_name sessions.new.entries) }
 {
     let Some(found) = sessions.get_mut(session) else {
         return Err(LineFault::NoSession);
@@ -70,9 +72,10 @@ pub fn rotate_finish_at<A: Allocator>(
     sessions: &mut Sessions<A>,
     session: &str,
 ) -> Result<NamedArchive, LineFault>
-    ensures { HasMemory result →
+    ensures value { HasMemory result →
         (result ≡ call_answer session.now (λ s. named s (rotate_finish_answer s.book)) (by_name sessions.old.entries))
         × (by_name sessions.new.entries ≡ after_call session.now (finished) (by_name sessions.old.entries)) }
+    ensures names { AreNamed (by_name sessions.old.entries) → AreNamed (by_name sessions.new.entries) }
 {
     let Some(found) = sessions.get_mut(session) else {
         return Err(LineFault::NoSession);
@@ -99,6 +102,7 @@ pub fn rotate_at<A: Allocator + Copy>(
         (result ≡ call_answer session.now (λ s. named s (rotate_answer by_state moment s)) (by_name sessions.old.entries))
         × (by_name sessions.new.entries ≡ after_call session.now (after_rotate by_state moment) (by_name sessions.old.entries)) }
     ensures no_memory { IfErr result (λ fault. wants_memory fault ≡ true → IsHeldUpAt by_state session.now moment (by_name sessions.old.entries) (by_name sessions.new.entries)) }
+    ensures names { AreNamed (by_name sessions.old.entries) → AreNamed (by_name sessions.new.entries) }
 {
     let Some(found) = sessions.get_mut(session) else {
         return Err(LineFault::NoSession);

@@ -6,7 +6,7 @@ ghost use Rattle.tr_calls.specs.Calls.{IsHeldUpAt, after_asked, after_call, call
 ghost use Rattle.tr_outcome.specs.Faults.{HasMemory, wants_memory};
 ghost use Rattle.tr_session.specs.Steps.{IsHeldUp, after_tick, tick_answer, tick_cause};
 ghost use Rattle.tr_session_book.specs.BookSteps.{schedule_answer};
-ghost use Rattle.tr_session_book.specs.Names.{by_name};
+ghost use Rattle.tr_session_book.specs.Names.{AreNamed, by_name};
 ghost use Rattle.tr_stream.specs.Rules.{by_state};
 
 use crate::sessions::Sessions;
@@ -61,9 +61,10 @@ pub fn schedule_at<A: Allocator>(
     every: Option<u64>,
     size: Option<u64>,
 ) -> Result<Option<Schedule>, LineFault>
-    ensures { HasMemory result →
+    ensures value { HasMemory result →
         (result ≡ call_answer session.now (λ s. schedule_set (schedule_answer s.book) (schedule_asked every size)) (by_name sessions.old.entries))
         × (by_name sessions.new.entries ≡ after_call session.now (after_asked (schedule_asked every size)) (by_name sessions.old.entries)) }
+    ensures names { AreNamed (by_name sessions.old.entries) → AreNamed (by_name sessions.new.entries) }
 {
     let asked = schedule_for(every, size);
     let Some(found) = sessions.get_mut(session) else {
@@ -110,6 +111,7 @@ pub fn tick_at<A: Allocator + Copy>(
     ensures no_memory { IfErr result (λ fault. wants_memory fault ≡ true → IsHeldUpAt by_state session.now moment (by_name sessions.old.entries) (by_name sessions.new.entries)) }
     ensures idle { option_and_then (tick_cause by_state moment) (session_named session.now (by_name sessions.old.entries)) ≡ None →
         by_name sessions.new.entries ≡ by_name sessions.old.entries }
+    ensures names { AreNamed (by_name sessions.old.entries) → AreNamed (by_name sessions.new.entries) }
 {
     let Some(found) = sessions.get_mut(session) else {
         return Err(LineFault::NoSession);

@@ -5,18 +5,17 @@ ghost use Rattle.tr_calls.specs.Calls.{added, added_channel, after_call, by_sess
 ghost use Rattle.tr_calls.specs.World.{session_named};
 ghost use Rattle.tr_outcome.specs.Faults.{HasMemory, wants_memory};
 ghost use Rattle.tr_session_book.specs.BookSteps.{start_answer, stop_answer};
-ghost use Rattle.tr_session_book.specs.Names.{by_name};
+ghost use Rattle.tr_session_book.specs.Names.{AreNamed, by_name};
 ghost use Rattle.tr_session.specs.Steps.{thread_added, all_started, all_stopped, offer_step, after_offer_step, take_step, after_take_step, fate_asked};
 ghost use Rattle.tr_stream.specs.Rules.{by_state};
 
 use indexmap::IndexMap;
 use std::alloc::Allocator;
 use std::hash::{BuildHasherDefault, FoldHasher};
-use tr_book::Mode;
-use tr_outcome::{LineFault, is_valid_name};
-use tr_record::Moment;
+use tr_outcome::LineFault;
 use tr_session::Session;
-use tr_stream::{Fate, Offered, SessionMode, Taken};
+use tr_stream::{Fate, Offered, Taken};
+use tr_terms::{Mode, Moment, Name, SessionMode};
 
 /// Sessions by name, in order of creation.
 pub type Sessions<A> = IndexMap<String<A>, Session<A>, BuildHasherDefault<FoldHasher>, A>;
@@ -79,14 +78,15 @@ pub fn add_channel_at<A: Allocator + Copy>(
     ensures ok { OnOk result (added_channel session.now channel.now shape.size shape.count shape.mode (by_name sessions.old.entries) ≡ Ok (by_name sessions.new.entries)) }
     ensures refused { IfErr result (λ fault. wants_memory fault ≡ false → added_channel session.now channel.now shape.size shape.count shape.mode (by_name sessions.old.entries) ≡ Err fault) }
     ensures unchanged { OnErr result (by_name sessions.new.entries ≡ by_name sessions.old.entries) }
+    ensures names { AreNamed (by_name sessions.old.entries) → AreNamed (by_name sessions.new.entries) }
 {
     let Some(found) = sessions.get_mut(session) else {
         return Err(LineFault::NoSession);
     };
-    if !is_valid_name(channel) {
+    let Some(channel) = Name::new(channel) else {
         return Err(LineFault::BadName);
-    }
-    match found.add_channel(channel, shape.size, shape.count, shape.mode) {
+    };
+    match found.add_channel(&channel, shape.size, shape.count, shape.mode) {
         Ok(()) => Ok(()),
         Err(fault) => Err(LineFault::Session(fault)),
     }
@@ -106,6 +106,7 @@ pub fn add_thread_at<A: Allocator + Copy>(
     ensures ok { OnOk result (added session.now (thread_added by_state channel.now) (by_name sessions.old.entries) ≡ Ok (by_name sessions.new.entries)) }
     ensures refused { IfErr result (λ fault. wants_memory fault ≡ false → added session.now (thread_added by_state channel.now) (by_name sessions.old.entries) ≡ Err fault) }
     ensures unchanged { OnErr result (by_name sessions.new.entries ≡ by_name sessions.old.entries) }
+    ensures names { AreNamed (by_name sessions.old.entries) → AreNamed (by_name sessions.new.entries) }
 {
     let Some(found) = sessions.get_mut(session) else {
         return Err(LineFault::NoSession);
@@ -126,9 +127,10 @@ pub fn start_at<A: Allocator>(
     session: &str,
     moment: Moment,
 ) -> Result<(), LineFault>
-    ensures { HasMemory result →
+    ensures value { HasMemory result →
         (result ≡ call_answer session.now (λ s. by_session (start_answer s.book)) (by_name sessions.old.entries))
         × (by_name sessions.new.entries ≡ after_call session.now (all_started by_state moment) (by_name sessions.old.entries)) }
+    ensures names { AreNamed (by_name sessions.old.entries) → AreNamed (by_name sessions.new.entries) }
 {
     let Some(found) = sessions.get_mut(session) else {
         return Err(LineFault::NoSession);
@@ -145,9 +147,10 @@ pub fn start_at<A: Allocator>(
 ///
 /// `NoSession`, and those of `Session::stop`: nothing changed.
 pub fn stop_at<A: Allocator>(sessions: &mut Sessions<A>, session: &str) -> Result<(), LineFault>
-    ensures { HasMemory result →
+    ensures value { HasMemory result →
         (result ≡ call_answer session.now (λ s. by_session (stop_answer s.book)) (by_name sessions.old.entries))
         × (by_name sessions.new.entries ≡ after_call session.now (all_stopped by_state) (by_name sessions.old.entries)) }
+    ensures names { AreNamed (by_name sessions.old.entries) → AreNamed (by_name sessions.new.entries) }
 {
     let Some(found) = sessions.get_mut(session) else {
         return Err(LineFault::NoSession);
@@ -173,6 +176,7 @@ pub fn offer_at<A: Allocator + Copy>(
         (result ≡ call_answer session.now (λ s. by_step (offer_step by_state offer.stream offer.moment offer.id payload.now s)) (by_name sessions.old.entries))
         × (by_name sessions.new.entries ≡ after_call session.now (after_offer_step by_state offer.stream offer.moment offer.id payload.now) (by_name sessions.old.entries)) }
     ensures no_memory { IfErr result (λ fault. wants_memory fault ≡ true → by_name sessions.new.entries ≡ by_name sessions.old.entries) }
+    ensures names { AreNamed (by_name sessions.old.entries) → AreNamed (by_name sessions.new.entries) }
 {
     let Some(found) = sessions.get_mut(session) else {
         return Err(LineFault::NoSession);
@@ -197,6 +201,7 @@ pub fn take_at<A: Allocator + Copy>(
         (result ≡ call_answer session.now (λ s. by_step (take_step by_state stream s)) (by_name sessions.old.entries))
         × (by_name sessions.new.entries ≡ after_call session.now (after_take_step by_state stream) (by_name sessions.old.entries)) }
     ensures no_memory { IfErr result (λ fault. wants_memory fault ≡ true → by_name sessions.new.entries ≡ by_name sessions.old.entries) }
+    ensures names { AreNamed (by_name sessions.old.entries) → AreNamed (by_name sessions.new.entries) }
 {
     let Some(found) = sessions.get_mut(session) else {
         return Err(LineFault::NoSession);

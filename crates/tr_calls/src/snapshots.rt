@@ -4,7 +4,7 @@ ghost use Rattle.std.specs.Prelude.{◌≡◌, true, IfErr};
 ghost use Rattle.tr_calls.specs.Calls.{after_call, by_session, call_answer};
 ghost use Rattle.tr_outcome.specs.Faults.{HasMemory, wants_memory};
 ghost use Rattle.tr_session.specs.Steps.{after_snapshot, snapshot_answer};
-ghost use Rattle.tr_session_book.specs.Names.{by_name};
+ghost use Rattle.tr_session_book.specs.Names.{AreNamed, by_name};
 ghost use Rattle.tr_stream.specs.Rules.{by_state};
 
 use crate::sessions::Sessions;
@@ -27,6 +27,7 @@ pub fn snapshot_at<A: Allocator + Copy>(
         (result ≡ call_answer session.now (λ s. by_session (snapshot_answer by_state moment s)) (by_name sessions.old.entries))
         × (by_name sessions.new.entries ≡ after_call session.now (after_snapshot moment) (by_name sessions.old.entries)) }
     ensures no_memory { IfErr result (λ fault. wants_memory fault ≡ true → by_name sessions.new.entries ≡ by_name sessions.old.entries) }
+    ensures names { AreNamed (by_name sessions.old.entries) → AreNamed (by_name sessions.new.entries) }
 {
     let Some(found) = sessions.get_mut(session) else {
         return Err(LineFault::NoSession);

@@ -15,7 +15,7 @@ use Rattle.jiff_core.proofs.SignedLemmas.{signed_arith, back_small}
 use Rattle.jiff_core.proofs.CalendarLemmas.{days_from_civil-day_count, day_count-lt_year, days_in_month_bounds}
 use Rattle.jiff_core.proofs.DateLemmas.{civil, epoch_day_injective, days_from_civil-day, days_from_civil-next_month, days_from_civil-next_year}
 use Rattle.jiff_core.proofs.DateTimeLemmas.{civil_nanos-parts}
-use Rattle.tr_record.specs.Records.{last_moment}
+use Rattle.tr_terms.specs.declared.limits.TheConstants.{LAST_MOMENT}
 use Rattle.tr_chunk.specs.ArchiveName.{Day, first_day, day_after, day_at, clock_seconds, two_digits}
 use Rattle.tr_chunk.specs.Civil.{day_of}
 
@@ -142,7 +142,7 @@ clock_shows moment minutes dt within e =
 -- ---- machine numbers
 
 -- the whole seconds of a moment, as a signed number
-pub whole_seconds : (moment got : ℕ) → got ≡ moment → got ≤ last_moment → to_z w64 (got / 1000000000) ≡ pos (moment / 1000000000)
+pub whole_seconds : (moment got : ℕ) → got ≡ moment → got ≤ LAST_MOMENT → to_z w64 (got / 1000000000) ≡ pos (moment / 1000000000)
 whole_seconds moment got same low = to_z_pos w64 (got / 1000000000) (omega arith) ∙ ap (λ n. pos (n / 1000000000)) same
 
 abs_within : (m : ℕ) (z : ℤ) → IsWithin m z → unsigned_abs z ≤ m

@@ -6,12 +6,11 @@ ghost use Rattle.jiff_core.specs.Time.{time_seconds};
 ghost use Rattle.tr_chunk.specs.ArchiveName.{day_at, clock_seconds, two_digits, date_text, time_text, offset_text, stamp_text, archive_name_text};
 ghost use Rattle.tr_chunk.specs.Civil.{day_of};
 
-use crate::offset::OffsetMinutes;
 use jiff::Timestamp;
 use jiff::civil::{Date, DateTime, Time};
 use jiff::tz::Offset;
 use std::alloc::{AllocError, Allocator};
-use tr_record::Moment;
+use tr_terms::{Moment, OffsetMinutes};
 
 /// How many bytes a name has at most: two of 20 for the moments, a dash behind each, and a number of up to 20 digits.
 const BYTES: usize = 62;

@@ -7,7 +7,6 @@ mod audit_fault;
 mod faults;
 pub mod laws;
 mod names;
-mod offset;
 mod stream_audit;
 mod writing;
 
@@ -16,6 +15,6 @@ pub use audit::audit_stream;
 pub use audit_fault::{AuditCause, AuditFault};
 pub use faults::WriteFault;
 pub use names::stream_file_name;
-pub use offset::OffsetMinutes;
 pub use stream_audit::{Gaps, StreamAudit};
+pub use tr_terms::OffsetMinutes;
 pub use writing::{write_metadata, write_packets, write_part};

@@ -5,14 +5,16 @@ ghost use Rattle.std.specs.String.{string_bytes};
 ghost use Rattle.tr_chunk.specs.Files.{file_name};
 
 use std::alloc::{AllocError, Allocator};
+use tr_terms::Name;
 
 /// The name of a stream's file: its channel's, an underscore and its number.
 pub fn stream_file_name<A: Allocator>(
     alloc: A,
-    channel: &str,
+    channel: &Name<'_>,
     stream: u64,
 ) -> Result<String<A>, AllocError>
     ensures { IfOk result (λ s. string_bytes s ≡ file_name channel.now stream) }
 {
+    let channel = channel.as_str();
     format!(in alloc; "{channel}_{stream}")
 }

@@ -13,7 +13,8 @@ use tr_chunk::{
     write_packets, write_part,
 };
 use tr_packet::{Head, Packet, PacketFault, encode_packet, metadata_text};
-use tr_record::{MemorySink, Moment, Rec, WriterSink};
+use tr_record::{MemorySink, Rec, WriterSink};
+use tr_terms::{Moment, Name};
 use uuid::Uuid;
 
 /// Holds what a test found to what it wanted. As a call without clauses it keeps the proofs of the tests short.
@@ -105,9 +106,11 @@ impl Write for Broken {
 
 #[test]
 fn files_have_names(rt: HostRuntime) {
-    let name = stream_file_name(rt.alloc(), "c", 0).expect(&rt, "memory");
+    let channel = Name::new("c").expect(&rt, "a name");
+    let name = stream_file_name(rt.alloc(), &channel, 0).expect(&rt, "memory");
     assert_same(&rt, name.as_str(), "c_0");
-    let name = stream_file_name(rt.alloc(), "Net_4", u64::MAX).expect(&rt, "memory");
+    let channel = Name::new("Net_4").expect(&rt, "a name");
+    let name = stream_file_name(rt.alloc(), &channel, u64::MAX).expect(&rt, "memory");
     assert_same(&rt, name.as_str(), "Net_4_18446744073709551615");
 }
 

@@ -3,14 +3,14 @@ use Rattle.std.proofs.Common.{◌≡◌, ◌≤◌, ℕ, ℤ, pos, ◌-ℤ◌, B
 use Rattle.std.proofs.lemmas.Int.{ints}
 use Rattle.std.specs.Str.{bytes_eq}
 use Rattle.clap.specs.Words.{Row, Text, first_of}
-use Rattle.tr_record.specs.Records.{last_moment}
+use Rattle.tr_terms.specs.declared.limits.TheConstants.{LAST_MOMENT, MOST_FILL, MOST_MINUTES}
 use Rattle.tr_command.specs.Asked.{Asked, IsOffset, asked_by, moment_in, offset_in}
-use Rattle.tr_command.specs.Reading.{and_last, and_then, archives_of, asked_as, channel_of, consume_of, create_of, fate_of, most_fill, most_minutes, most_u32, most_u64, mode_at, number_at, number_if_given, number_or_0, offer_of, offset_at, rotate_begin_of, rotate_finish_of, rotate_next_of, rotate_of, schedule_of, session_of, snapshot_of, start_of, status_of, stop_of, thread_of, tick_of}
+use Rattle.tr_command.specs.Reading.{and_last, and_then, archives_of, asked_as, channel_of, consume_of, create_of, fate_of, most_u32, most_u64, mode_at, number_at, number_if_given, number_or_0, offer_of, offset_at, rotate_begin_of, rotate_finish_of, rotate_next_of, rotate_of, schedule_of, session_of, snapshot_of, start_of, status_of, stop_of, thread_of, tick_of}
 use Rattle.tr_command.specs.declared.requests.Request.{Request}
 use Rattle.tr_command.proofs.ReadingLemmas.{number_at-at_most, number_or_0-at_most}
 
 abbrev pub IsWithinLimits : Asked → Type 0
-IsWithinLimits a = (moment_in a ≤ last_moment) × IsOffset (offset_in a)
+IsWithinLimits a = (moment_in a ≤ LAST_MOMENT) × IsOffset (offset_in a)
 
 abbrev pub HasLimits : Option Asked → Type 0
 HasLimits asked = IfSome asked IsWithinLimits
@@ -28,26 +28,26 @@ no_offset : IsOffset (pos 0)
 no_offset = (omega (arith, ints), omega (arith, ints))
 
 -- a request with neither a moment nor an offset
-neither : (0 ≤ last_moment) × IsOffset (pos 0)
+neither : (0 ≤ LAST_MOMENT) × IsOffset (pos 0)
 neither = (omega arith, no_offset)
 
 -- one with a moment that was read
-moment-limits : (rows : List Row) (moment : ℕ) → number_at (codes "moment") last_moment rows ≡ Some moment → (moment ≤ last_moment) × IsOffset (pos 0)
-moment-limits rows moment is = (number_at-at_most (codes "moment") last_moment rows moment is, no_offset)
+moment-limits : (rows : List Row) (moment : ℕ) → number_at (codes "moment") LAST_MOMENT rows ≡ Some moment → (moment ≤ LAST_MOMENT) × IsOffset (pos 0)
+moment-limits rows moment is = (number_at-at_most (codes "moment") LAST_MOMENT rows moment is, no_offset)
 
 -- less and more by numbers of minutes that there are
 difference-IsOffset : (east west : ℕ) → east ≤ 1439 → west ≤ 1439 → IsOffset (pos east -ℤ pos west)
 difference-IsOffset east west east-fits west-fits = (omega (arith, ints), omega (arith, ints))
 
 offset_at-IsOffset : (rows : List Row) (offset : ℤ) → offset_at rows ≡ Some offset → IsOffset offset
-offset_at-IsOffset rows offset is = go (number_or_0 (codes "east") most_minutes rows) (number_or_0 (codes "west") most_minutes rows) refl refl is
+offset_at-IsOffset rows offset is = go (number_or_0 (codes "east") MOST_MINUTES rows) (number_or_0 (codes "west") MOST_MINUTES rows) refl refl is
   where
-    go : (east west : Option ℕ) → number_or_0 (codes "east") most_minutes rows ≡ east → number_or_0 (codes "west") most_minutes rows ≡ west
+    go : (east west : Option ℕ) → number_or_0 (codes "east") MOST_MINUTES rows ≡ east → number_or_0 (codes "west") MOST_MINUTES rows ≡ west
         → and_then east (λ e. and_last west (λ w. pos e -ℤ pos w)) ≡ Some offset → IsOffset offset
     go None west e w d = cc
     go (Some a) None e w d = cc
     go (Some a) (Some b) e w d = subst (λ (o : Option ℤ). IfSome o IsOffset) d
-        (difference-IsOffset a b (number_or_0-at_most (codes "east") most_minutes rows a e) (number_or_0-at_most (codes "west") most_minutes rows b w))
+        (difference-IsOffset a b (number_or_0-at_most (codes "east") MOST_MINUTES rows a e) (number_or_0-at_most (codes "west") MOST_MINUTES rows b w))
 
 create_of-limits : (rows : List Row) → HasLimits (create_of rows)
 create_of-limits rows = then-limits (session_of rows) _ (λ session _. then-limits (first_of (codes "uuid") rows) _ (λ uuid _.
@@ -62,21 +62,21 @@ thread_of-limits : (rows : List Row) → HasLimits (thread_of rows)
 thread_of-limits rows = then-limits (session_of rows) _ (λ session _. last-limits (first_of (codes "channel") rows) _ (λ channel _. neither))
 
 start_of-limits : (rows : List Row) → HasLimits (start_of rows)
-start_of-limits rows = then-limits (session_of rows) _ (λ session _. last-limits (number_at (codes "moment") last_moment rows) _ (moment-limits rows))
+start_of-limits rows = then-limits (session_of rows) _ (λ session _. last-limits (number_at (codes "moment") LAST_MOMENT rows) _ (moment-limits rows))
 
 stop_of-limits : (rows : List Row) → HasLimits (stop_of rows)
 stop_of-limits rows = last-limits (session_of rows) _ (λ session _. neither)
 
 offer_of-limits : (rows : List Row) → HasLimits (offer_of rows)
 offer_of-limits rows = then-limits (session_of rows) _ (λ session _. then-limits (number_at (codes "stream") most_u64 rows) _ (λ stream _.
-    then-limits (number_at (codes "moment") last_moment rows) _ (λ moment is. then-limits (number_at (codes "id") most_u32 rows) _ (λ id _.
-    last-limits (number_or_0 (codes "fill") most_fill rows) _ (λ fill _. moment-limits rows moment is)))))
+    then-limits (number_at (codes "moment") LAST_MOMENT rows) _ (λ moment is. then-limits (number_at (codes "id") most_u32 rows) _ (λ id _.
+    last-limits (number_or_0 (codes "fill") MOST_FILL rows) _ (λ fill _. moment-limits rows moment is)))))
 
 consume_of-limits : (rows : List Row) → HasLimits (consume_of rows)
 consume_of-limits rows = then-limits (session_of rows) _ (λ session _. last-limits (number_at (codes "stream") most_u64 rows) _ (λ stream _. neither))
 
 rotate_begin_of-limits : (rows : List Row) → HasLimits (rotate_begin_of rows)
-rotate_begin_of-limits rows = then-limits (session_of rows) _ (λ session _. last-limits (number_at (codes "moment") last_moment rows) _ (moment-limits rows))
+rotate_begin_of-limits rows = then-limits (session_of rows) _ (λ session _. last-limits (number_at (codes "moment") LAST_MOMENT rows) _ (moment-limits rows))
 
 rotate_next_of-limits : (rows : List Row) → HasLimits (rotate_next_of rows)
 rotate_next_of-limits rows = last-limits (session_of rows) _ (λ session _. neither)
@@ -85,10 +85,10 @@ rotate_finish_of-limits : (rows : List Row) → HasLimits (rotate_finish_of rows
 rotate_finish_of-limits rows = last-limits (session_of rows) _ (λ session _. neither)
 
 rotate_of-limits : (rows : List Row) → HasLimits (rotate_of rows)
-rotate_of-limits rows = then-limits (session_of rows) _ (λ session _. last-limits (number_at (codes "moment") last_moment rows) _ (moment-limits rows))
+rotate_of-limits rows = then-limits (session_of rows) _ (λ session _. last-limits (number_at (codes "moment") LAST_MOMENT rows) _ (moment-limits rows))
 
 snapshot_of-limits : (rows : List Row) → HasLimits (snapshot_of rows)
-snapshot_of-limits rows = then-limits (session_of rows) _ (λ session _. last-limits (number_at (codes "moment") last_moment rows) _ (moment-limits rows))
+snapshot_of-limits rows = then-limits (session_of rows) _ (λ session _. last-limits (number_at (codes "moment") LAST_MOMENT rows) _ (moment-limits rows))
 
 fate_of-limits : (rows : List Row) → HasLimits (fate_of rows)
 fate_of-limits rows = then-limits (session_of rows) _ (λ session _. then-limits (number_at (codes "stream") most_u64 rows) _ (λ stream _.
@@ -99,7 +99,7 @@ schedule_of-limits rows = then-limits (session_of rows) _ (λ session _. then-li
     last-limits (number_if_given (codes "size") most_u64 rows) _ (λ size _. neither)))
 
 tick_of-limits : (rows : List Row) → HasLimits (tick_of rows)
-tick_of-limits rows = then-limits (session_of rows) _ (λ session _. last-limits (number_at (codes "moment") last_moment rows) _ (moment-limits rows))
+tick_of-limits rows = then-limits (session_of rows) _ (λ session _. last-limits (number_at (codes "moment") LAST_MOMENT rows) _ (moment-limits rows))
 
 status_of-limits : (rows : List Row) → HasLimits (status_of rows)
 status_of-limits rows = last-limits (session_of rows) _ (λ session _. neither)
@@ -137,7 +137,7 @@ request-limits r name rows e = subst HasLimits (sym e) (asked_as-limits name row
 
 -- so are those of a request
 pub request-moment : (r : Option Request) (name : Text) (rows : List Row) → option_map asked_by r ≡ asked_as name rows
-    → IfSome r (λ request. moment_in (asked_by request) ≤ last_moment)
+    → IfSome r (λ request. moment_in (asked_by request) ≤ LAST_MOMENT)
 request-moment None name rows e = tt
 request-moment (Some request) name rows e = (request-limits (Some request) name rows e).0
 

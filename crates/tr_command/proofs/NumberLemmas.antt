@@ -1,14 +1,11 @@
 -- What std reads as a number, where the text has nothing but digits.
-use Rattle.std.proofs.Common.{◌≡◌, ◌<◌, ◌≤◌, ◌^◌, ◌&&◌, ℕ, Bool, true, false, refl, sym, arith, List, [], ◌∷◌, Some, None, length, nat_lt, nat_le, true≢false, ltb-true, cond}
+use Rattle.std.proofs.Common.{◌≡◌, ◌<◌, ◌≤◌, ◌^◌, ◌&&◌, ℕ, Bool, true, false, refl, arith, List, [], ◌∷◌, Some, None, length, nat_lt, nat_le, ltb-true, cond}
 use Rattle.std.specs.List.{list_all}
 use Rattle.std.specs.Char.{digit_value}
 use Rattle.std.specs.Str.Parse.{AllDigits, IsNumeral, digits_value, without_leading_plus}
 use Rattle.std.proofs.lemmas.Grind.{common_steps}
 use Rattle.tr_command.specs.Number.{is_digit, number_of}
-
-both : (a b : Bool) → (a && b) ≡ true → (a ≡ true) × (b ≡ true)
-both true b e = (refl, e)
-both false b e = absurd (true≢false (sym e))
+use Rattle.tr_terms.proofs.BoolLemmas.{both}
 
 digit-below : (b : ℕ) → is_digit b ≡ true → digit_value b < 10
 digit-below b e = grind (arith, common_steps)

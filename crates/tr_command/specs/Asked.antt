@@ -1,7 +1,7 @@
 -- What a line asks for.
 use Rattle.std.specs.Prelude.{ℕ, ℤ, Bool, Option, pos, neg_ℤ, ◌≤ℤ◌}
 use Rattle.clap.specs.Words.{Text}
-use Rattle.tr_book.specs.declared.mode.Mode.{Mode}
+use Rattle.tr_terms.specs.declared.mode.Mode.{Mode}
 use Rattle.tr_command.specs.declared.requests.Request.{Request}
 use Rattle.tr_command.specs.declared.requests.Request.TheVariants as request
 

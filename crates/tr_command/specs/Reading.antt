@@ -3,9 +3,9 @@ use Rattle.std.specs.Prelude.{ℕ, ℤ, pos, ◌-ℤ◌, List, [], Bool, false, 
 use Rattle.std.specs.Option.{option_map_or}
 use Rattle.std.specs.Str.{bytes_eq}
 use Rattle.clap.specs.Words.{Row, Text, first_of, one_of}
-use Rattle.tr_book.specs.declared.mode.Mode.{Mode}
-use Rattle.tr_book.specs.declared.mode.Mode.TheVariants.{Discard, Overwrite}
-use Rattle.tr_record.specs.Records.{last_moment}
+use Rattle.tr_terms.specs.declared.mode.Mode.{Mode}
+use Rattle.tr_terms.specs.declared.mode.Mode.TheVariants.{Discard, Overwrite}
+use Rattle.tr_terms.specs.declared.limits.TheConstants.{LAST_MOMENT, MOST_FILL, MOST_MINUTES}
 use Rattle.tr_command.specs.Asked.{Asked, Create, Channel, Thread, Start, Stop, Offer, Consume, RotateBegin, RotateNext, RotateFinish, Rotate, Snapshot, Fate, Schedule, Tick, Status, Archives}
 use Rattle.tr_command.specs.Number.{number_of}
 
@@ -21,12 +21,6 @@ most_u32 = 4294967295
 
 abbrev pub most_u64 : ℕ
 most_u64 = 18446744073709551615
-
-abbrev pub most_fill : ℕ
-most_fill = 65536
-
-abbrev pub most_minutes : ℕ
-most_minutes = 1439
 
 abbrev pub session_of : List Row → Option Text
 session_of rows = first_of (codes "session") rows
@@ -62,8 +56,8 @@ mode_at id rows = and_then (first_of id rows) mode_named
 -- the minutes ahead of UTC: those to the east, less those to the west
 abbrev pub offset_at : List Row → Option ℤ
 offset_at rows =
-    and_then (number_or_0 (codes "east") most_minutes rows) (λ east.
-    and_last (number_or_0 (codes "west") most_minutes rows) (λ west.
+    and_then (number_or_0 (codes "east") MOST_MINUTES rows) (λ east.
+    and_last (number_or_0 (codes "west") MOST_MINUTES rows) (λ west.
     pos east -ℤ pos west))
 
 abbrev pub create_of : List Row → Option Asked
@@ -91,7 +85,7 @@ thread_of rows =
 abbrev pub start_of : List Row → Option Asked
 start_of rows =
     and_then (session_of rows) (λ session.
-    and_last (number_at (codes "moment") last_moment rows) (λ moment.
+    and_last (number_at (codes "moment") LAST_MOMENT rows) (λ moment.
     Start session moment))
 
 abbrev pub stop_of : List Row → Option Asked
@@ -101,9 +95,9 @@ abbrev pub offer_of : List Row → Option Asked
 offer_of rows =
     and_then (session_of rows) (λ session.
     and_then (number_at (codes "stream") most_u64 rows) (λ stream.
-    and_then (number_at (codes "moment") last_moment rows) (λ moment.
+    and_then (number_at (codes "moment") LAST_MOMENT rows) (λ moment.
     and_then (number_at (codes "id") most_u32 rows) (λ id.
-    and_last (number_or_0 (codes "fill") most_fill rows) (λ fill.
+    and_last (number_or_0 (codes "fill") MOST_FILL rows) (λ fill.
     Offer session stream moment id (text_or_empty (codes "text") rows) fill)))))
 
 abbrev pub consume_of : List Row → Option Asked
@@ -115,7 +109,7 @@ consume_of rows =
 abbrev pub rotate_begin_of : List Row → Option Asked
 rotate_begin_of rows =
     and_then (session_of rows) (λ session.
-    and_last (number_at (codes "moment") last_moment rows) (λ moment.
+    and_last (number_at (codes "moment") LAST_MOMENT rows) (λ moment.
     RotateBegin session moment))
 
 abbrev pub rotate_next_of : List Row → Option Asked
@@ -127,13 +121,13 @@ rotate_finish_of rows = and_last (session_of rows) (λ session. RotateFinish ses
 abbrev pub rotate_of : List Row → Option Asked
 rotate_of rows =
     and_then (session_of rows) (λ session.
-    and_last (number_at (codes "moment") last_moment rows) (λ moment.
+    and_last (number_at (codes "moment") LAST_MOMENT rows) (λ moment.
     Rotate session moment))
 
 abbrev pub snapshot_of : List Row → Option Asked
 snapshot_of rows =
     and_then (session_of rows) (λ session.
-    and_last (number_at (codes "moment") last_moment rows) (λ moment.
+    and_last (number_at (codes "moment") LAST_MOMENT rows) (λ moment.
     Snapshot session moment))
 
 abbrev pub fate_of : List Row → Option Asked
@@ -153,7 +147,7 @@ schedule_of rows =
 abbrev pub tick_of : List Row → Option Asked
 tick_of rows =
     and_then (session_of rows) (λ session.
-    and_last (number_at (codes "moment") last_moment rows) (λ moment.
+    and_last (number_at (codes "moment") LAST_MOMENT rows) (λ moment.
     Tick session moment))
 
 abbrev pub status_of : List Row → Option Asked

@@ -1,7 +1,7 @@
 //! From the words of a line to what they ask for.
 
 ghost use Rattle.std.specs.Prelude.{◌≡◌, ◌≤◌, IfOk, IfSome, map, option_map};
-ghost use Rattle.tr_record.specs.Records.{last_moment};
+ghost use Rattle.tr_terms.specs.declared.limits.TheConstants.{LAST_MOMENT};
 ghost use Rattle.tr_command.specs.Asked.{asked_by, IsOffset, moment_in, offset_in};
 ghost use Rattle.tr_command.specs.Language.{asked_of};
 
@@ -18,7 +18,7 @@ use std::alloc::{AllocError, Global};
 /// Only where memory is refused.
 pub fn parse<'a>(alloc: Global, words: &'a [&'a str]) -> Result<Option<Request<'a>>, AllocError>
     ensures asked { IfOk result (λ r. option_map asked_by r ≡ asked_of (map (λ w. w.now) words.entry.now)) }
-    ensures moment { IfOk result (λ r. IfSome r (λ request. moment_in (asked_by request) ≤ last_moment)) }
+    ensures moment { IfOk result (λ r. IfSome r (λ request. moment_in (asked_by request) ≤ LAST_MOMENT)) }
     ensures offset { IfOk result (λ r. IfSome r (λ request. IsOffset (offset_in (asked_by request)))) }
 {
     let command = command_for(alloc, command_word(words))?;

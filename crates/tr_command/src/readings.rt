@@ -11,8 +11,7 @@ use crate::values::{
     offset_at, text_at, text_or_empty,
 };
 use clap::ArgMatches;
-
-const MOST_FILL: u32 = 65_536;
+use tr_terms::limits::MOST_FILL;
 
 fn create_request<'a>(matches: &ArgMatches<'a>) -> Option<Request<'a>>
     ensures { option_map asked_by result ≡ create_of (rows_of (found_of matches.now)) }

@@ -1,6 +1,6 @@
 //! What a line asks for.
 
-use tr_book::Mode;
+use tr_terms::Mode;
 
 /// What the words of a line ask for, with its texts as the words have them.
 ///

@@ -2,15 +2,13 @@
 
 ghost use Rattle.std.specs.Prelude.{◌≡◌, option_map};
 ghost use Rattle.clap.specs.Words.{first_of, found_of, rows_of};
-ghost use Rattle.tr_record.specs.Records.{last_moment};
+ghost use Rattle.tr_terms.specs.declared.limits.TheConstants.{LAST_MOMENT};
 ghost use Rattle.tr_command.specs.Reading.{has_flag, mode_at, mode_named, number_at, number_if_given, number_or_0, offset_at, text_or_empty};
 
 use crate::numbers::{number, number_u32};
 use clap::ArgMatches;
-use tr_book::Mode;
-use tr_record::Moment;
-
-const MOST_MINUTES: u32 = 1_439;
+use tr_terms::Mode;
+use tr_terms::limits::{LAST_MOMENT, MOST_MINUTES};
 
 /// The text of an argument.
 pub fn text_at<'a>(matches: &ArgMatches<'a>, id: &str) -> Option<&'a str>
@@ -49,9 +47,9 @@ pub fn number_u32_at(matches: &ArgMatches<'_>, id: &str, most: u32) -> Option<u3
 
 /// The moment of an argument, in nanoseconds.
 pub fn moment_at(matches: &ArgMatches<'_>, id: &str) -> Option<u64>
-    ensures { result ≡ number_at id.now last_moment (rows_of (found_of matches.now)) }
+    ensures { result ≡ number_at id.now LAST_MOMENT (rows_of (found_of matches.now)) }
 {
-    number_at(matches, id, Moment::LAST)
+    number_at(matches, id, LAST_MOMENT)
 }
 
 /// The number of an option, 0 where it is left out.

@@ -5,15 +5,15 @@ use Rattle.std.proofs.lemmas.Int.{ints}
 use Rattle.std.specs.Prelude.{ℤ, nat_le, replicate}
 use Rattle.std.specs.String.{string_bytes}
 use Rattle.std.specs.declared.alloc.AllocError.{AllocError}
-use Rattle.tr_book.specs.declared.mode.Mode.{Mode}
+use Rattle.tr_terms.specs.declared.mode.Mode.{Mode}
 use Rattle.tr_calls.specs.Calls.{added_channel, world_with}
 use Rattle.tr_calls.specs.World.{World, session_named, with_session}
 use Rattle.tr_command.specs.Asked.{IsOffset}
-use Rattle.tr_console.specs.Answers.{at_session, channel_answer, create_answer, most_sessions, payload_of, settled}
+use Rattle.tr_console.specs.Answers.{at_session, channel_answer, create_answer, payload_of, settled}
 use Rattle.tr_console.specs.Replies.{Does}
 use Rattle.tr_console.specs.Steps.{Step, said, refused}
 use Rattle.tr_outcome.specs.Faults.{wants_memory}
-use Rattle.tr_outcome.specs.Names.{is_name}
+use Rattle.tr_terms.specs.Names.{is_name}
 use Rattle.tr_outcome.specs.Text.{Text}
 use Rattle.tr_outcome.specs.declared.faults.LineFault.{LineFault}
 use Rattle.tr_outcome.specs.declared.faults.LineFault.TheVariants as fault
@@ -23,8 +23,9 @@ use Rattle.tr_session.specs.Session.{SessionOf, new_session}
 use Rattle.tr_session.specs.Steps.{session_channel_added}
 use Rattle.tr_session_book.specs.declared.faults.SessionFault.{SessionFault}
 use Rattle.tr_session_book.specs.declared.faults.SessionFault.TheVariants.{TooMany, NameTaken}
-use Rattle.tr_stream.specs.declared.config.SessionMode.{SessionMode}
+use Rattle.tr_terms.specs.declared.session_mode.SessionMode.{SessionMode}
 use Rattle.uuid.specs.Text.{parsed}
+use Rattle.tr_terms.specs.declared.limits.TheConstants.{MOST_SESSIONS}
 
 module _ {S A : Type 0} where
   -- a refusal is what the step says
@@ -46,10 +47,10 @@ module _ {S : Type 0} where
   pub create-taken : (w : World S) (name uuid : Text) (offset : ℤ) (mode : SessionMode) (u : List ℕ) → is_name name ≡ true → parsed uuid ≡ Some u → is_some (session_named name w) ≡ true → create_answer w name uuid offset mode ≡ refused w (fault.Session NameTaken)
   create-taken w name uuid offset mode u named good taken = rw (named, good, taken) refl
 
-  pub create-full : (w : World S) (name uuid : Text) (offset : ℤ) (mode : SessionMode) (u : List ℕ) → is_name name ≡ true → parsed uuid ≡ Some u → is_some (session_named name w) ≡ false → nat_le most_sessions (length w) ≡ true → create_answer w name uuid offset mode ≡ refused w (fault.Session TooMany)
+  pub create-full : (w : World S) (name uuid : Text) (offset : ℤ) (mode : SessionMode) (u : List ℕ) → is_name name ≡ true → parsed uuid ≡ Some u → is_some (session_named name w) ≡ false → nat_le MOST_SESSIONS (length w) ≡ true → create_answer w name uuid offset mode ≡ refused w (fault.Session TooMany)
   create-full w name uuid offset mode u named good free full = rw (named, good, free, full) refl
 
-  pub create-new : (w : World S) (name uuid : Text) (offset : ℤ) (mode : SessionMode) (u : List ℕ) → is_name name ≡ true → parsed uuid ≡ Some u → is_some (session_named name w) ≡ false → nat_le most_sessions (length w) ≡ false → create_answer w name uuid offset mode ≡ said (w ++ (name, new_session u offset mode) ∷ []) (codes "created " ++ name)
+  pub create-new : (w : World S) (name uuid : Text) (offset : ℤ) (mode : SessionMode) (u : List ℕ) → is_name name ≡ true → parsed uuid ≡ Some u → is_some (session_named name w) ≡ false → nat_le MOST_SESSIONS (length w) ≡ false → create_answer w name uuid offset mode ≡ said (w ++ (name, new_session u offset mode) ∷ []) (codes "created " ++ name)
   create-new w name uuid offset mode u named good free few = rw (named, good, free, few) refl
 
   -- what is answered where a channel was added, or not

@@ -12,7 +12,7 @@ use Rattle.tr_console.specs.Script.{answers, line_step, refused_in, script_text,
 use Rattle.tr_console.specs.Steps.{Step}
 use Rattle.tr_lines.proofs.LineLemmas.{AreLines, AreLines-push, joined, joined-push, lines_of-joined, lines_of-last, whole_lines-front, whole_lines_of-joined, whole_lines_of-last}
 use Rattle.tr_lines.specs.Lines.{HasNoFeed, lines_of, text_of_line, whole_lines_of, with_last}
-use Rattle.tr_lines.specs.Reading.{GoesTooFar, Reading, ReadsAll, ReadsLine, ReadsOn, budget, longest_piece, longest_script}
+use Rattle.tr_lines.specs.Reading.{GoesTooFar, Reading, ReadsAll, ReadsLine, ReadsOn, budget, longest_piece}
 use Rattle.tr_lines.specs.declared.reader.Found.{Found}
 use Rattle.tr_lines.specs.declared.reader.Found.TheVariants.{Last, Whole}
 use Rattle.tr_outcome.specs.Text.{Text}
@@ -20,6 +20,7 @@ use Rattle.tr_record.proofs.ByteLemmas.{and_then_bytes-append, and_then_bytes-no
 use Rattle.tr_record.specs.Bytes.{and_then_bytes}
 use Rattle.tr_stream.specs.Rules.{by_history, by_state}
 use Rattle.tr_stream.specs.State.{StreamState}
+use Rattle.tr_terms.specs.declared.limits.TheConstants.{LONGEST_SCRIPT}
 
 -- ---- where a run stands between two lines
 
@@ -31,7 +32,7 @@ pub record Going (given now taken wrote_now : Option (List ℕ)) (reader : Readi
   pub wrote : wrote_now ≡ and_then_bytes taken (answers_to seen)
   pub left : world ≡ world_after by_state [] seen
   pub refusals : refused ≡ refused_in by_history [] seen
-  pub fits : refused + budget reader ≤ longest_script
+  pub fits : refused + budget reader ≤ LONGEST_SCRIPT
 
 pub Going-first : (given taken : Option (List ℕ)) (reader : Reading) (world : World StreamState) → reader.held ≡ [] → reader.total ≡ 0 → world ≡ []
     → Going given given taken taken reader world 0
@@ -54,8 +55,8 @@ module _ (given now taken wrote_now : Option (List ℕ)) (reader : Reading) (wor
       ∙ ap (and_then_bytes given) (append_assoc (joined g.seen) reader.held more ∙ ap (λ bs. joined g.seen ++ bs) is)
 
   -- what came so far, and then more, is no longer than a script may be, where the reader counted no more than that
-  within_limit : (reader' : Reading) (more bytes : List ℕ) → reader.held ++ more ≡ bytes → reader'.total ≡ reader.total + length more → reader'.total ≤ longest_script
-      → length (joined g.seen ++ bytes) ≤ longest_script
+  within_limit : (reader' : Reading) (more bytes : List ℕ) → reader.held ++ more ≡ bytes → reader'.total ≡ reader.total + length more → reader'.total ≤ LONGEST_SCRIPT
+      → length (joined g.seen ++ bytes) ≤ LONGEST_SCRIPT
   within_limit reader' more bytes is total most =
       omega (arith, most, total, g.total, length-append (joined g.seen) reader.held, length-append reader.held more, ap length is, length-append (joined g.seen) bytes)
 
@@ -129,7 +130,7 @@ module _ (given now taken wrote_now : Option (List ℕ)) (reader : Reading) (wor
     }
 
     -- the last line was answered
-    pub Going-last : ReadsOn now after reader reader' → reader'.held ≡ [] → reader'.total ≤ longest_script → Ran given after taken wrote' world' refused'
+    pub Going-last : ReadsOn now after reader reader' → reader'.held ≡ [] → reader'.total ≤ LONGEST_SCRIPT → Ran given after taken wrote' world' refused'
     Going-last r none most =
         let lines = lines_of-joined g.seen r.raw g.are_lines ∙ ap (λ ls. g.seen ++ ls) (lines_of-last r.raw r.no_feed) in
         let all : reader.held ++ r.more ≡ r.raw = r.bytes ∙ ap (λ bs. r.raw ++ bs) none ∙ append-nil r.raw in
@@ -153,7 +154,7 @@ module _ (given now taken wrote_now : Option (List ℕ)) (reader : Reading) (wor
   whole_so_far raw none = whole_seen raw ∙ ap (λ ls. g.seen ++ ls) (whole_lines_of-last raw none) ∙ append-nil g.seen
 
   -- the source failed: the line that broke off isn't answered
-  pub Going-breaks : (after : Option (List ℕ)) (reader' : Reading) → reader'.total ≤ longest_script → ReadsAll now after reader reader' → BrokeOff given after taken wrote_now
+  pub Going-breaks : (after : Option (List ℕ)) (reader' : Reading) → reader'.total ≤ LONGEST_SCRIPT → ReadsAll now after reader reader' → BrokeOff given after taken wrote_now
   Going-breaks after reader' most r =
       let all : reader.held ++ r.on.more ≡ r.on.raw = r.on.bytes ∙ ap (λ bs. r.on.raw ++ bs) r.nothing_held ∙ append-nil r.on.raw in
       record {
@@ -203,7 +204,7 @@ module _ (given now taken wrote_now : Option (List ℕ)) (reader : Reading) (wor
   first_seen rest = take-append_seam g.seen rest
 
   -- memory was refused while a line was read
-  pub Going-memory : (after : Option (List ℕ)) (reader' : Reading) → reader'.total ≤ longest_script → length reader'.held ≤ longest_piece → ReadsOn now after reader reader'
+  pub Going-memory : (after : Option (List ℕ)) (reader' : Reading) → reader'.total ≤ LONGEST_SCRIPT → length reader'.held ≤ longest_piece → ReadsOn now after reader reader'
       → AnsweredSome given after taken wrote_now
   Going-memory after reader' most held r = record {
     script = joined g.seen ++ (r.raw ++ reader'.held);
@@ -223,7 +224,7 @@ module _ (given now taken wrote_now : Option (List ℕ)) (reader : Reading) (wor
     pub script : List ℕ
     pub more : Text
     pub lines : List (List ℕ)
-    pub fits : length script ≤ longest_script
+    pub fits : length script ≤ LONGEST_SCRIPT
     pub text : reader'.line ≡ text_of_line raw
     pub read : after ≡ and_then_bytes given script
     pub answer : script_text script ≡ answers_to (g.seen ++ raw ∷ []) ++ more
@@ -231,7 +232,7 @@ module _ (given now taken wrote_now : Option (List ℕ)) (reader : Reading) (wor
     pub within : (length (answers_to (g.seen ++ raw ∷ [])) ≤ length (answers_to (whole_lines_of script))) ⊎ (after ≡ content)
     pub reached : length (whole_lines_of (take (length script - longest_piece) script)) ≤ length g.seen + 1
 
-  Comes-whole : (content after : Option (List ℕ)) (reader' : Reading) → reader'.total ≤ longest_script → length reader'.held ≤ longest_piece → ReadsLine now after reader reader' → Comes content after reader'
+  Comes-whole : (content after : Option (List ℕ)) (reader' : Reading) → reader'.total ≤ LONGEST_SCRIPT → length reader'.held ≤ longest_piece → ReadsLine now after reader reader' → Comes content after reader'
   Comes-whole content after reader' most held r =
       let are = AreLines-push g.seen r.raw g.are_lines r.no_feed in
       let lines = lines_of-joined (g.seen ++ r.raw ∷ []) reader'.held are in
@@ -242,7 +243,7 @@ module _ (given now taken wrote_now : Option (List ℕ)) (reader : Reading) (wor
         script = joined (g.seen ++ r.raw ∷ []) ++ reader'.held;
         more = answers by_history (world_after by_history [] (g.seen ++ r.raw ∷ [])) (lines_of reader'.held);
         lines = r.raw ∷ whole_lines_of reader'.held;
-        fits = subst (λ (bs : List ℕ). length bs ≤ longest_script) (joined-line r.raw reader'.held) (within_limit reader' r.more (r.raw ++ 10 ∷ reader'.held) r.bytes r.total most);
+        fits = subst (λ (bs : List ℕ). length bs ≤ LONGEST_SCRIPT) (joined-line r.raw reader'.held) (within_limit reader' r.more (r.raw ++ 10 ∷ reader'.held) r.bytes r.total most);
         text = r.text;
         read = more_read after r.more _ r.came r.bytes ∙ ap (and_then_bytes given) (joined-line r.raw reader'.held);
         answer = ap answers_to lines ∙ answers-append by_history [] (g.seen ++ r.raw ∷ []) (lines_of reader'.held);
@@ -251,7 +252,7 @@ module _ (given now taken wrote_now : Option (List ℕ)) (reader : Reading) (wor
         reached = reached_by (joined (g.seen ++ r.raw ∷ [])) reader'.held _ refl held (omega (arith, ap length (whole_joined (g.seen ++ r.raw ∷ []) are), length-append g.seen (r.raw ∷ [])));
       }
 
-  Comes-last : (content after : Option (List ℕ)) (reader' : Reading) → reader'.total ≤ longest_script → ReadsAll now after reader reader' → after ≡ content → Comes content after reader'
+  Comes-last : (content after : Option (List ℕ)) (reader' : Reading) → reader'.total ≤ LONGEST_SCRIPT → ReadsAll now after reader reader' → after ≡ content → Comes content after reader'
   Comes-last content after reader' most r end =
       let on = r.on in
       let all : reader.held ++ on.more ≡ on.raw = on.bytes ∙ ap (λ bs. on.raw ++ bs) r.nothing_held ∙ append-nil on.raw in
@@ -272,7 +273,7 @@ module _ (given now taken wrote_now : Option (List ℕ)) (reader : Reading) (wor
         reached = reached_by (joined g.seen ++ on.raw) [] _ (sym (append-nil (joined g.seen ++ on.raw))) (omega arith) (omega (arith, ap length (whole_so_far on.raw on.no_feed)));
       }
 
-  pub Comes-found : (content : Option (List ℕ)) (found : Found) (after : Option (List ℕ)) (reader' : Reading) → reader'.total ≤ longest_script → length reader'.held ≤ longest_piece
+  pub Comes-found : (content : Option (List ℕ)) (found : Found) (after : Option (List ℕ)) (reader' : Reading) → reader'.total ≤ LONGEST_SCRIPT → length reader'.held ≤ longest_piece
       → (found ≡ Whole → ReadsLine now after reader reader') → (found ≡ Last → ReadsAll now after reader reader' × (after ≡ content)) → Comes content after reader'
   Comes-found content Whole after reader' most held whole last = Comes-whole content after reader' most held (whole refl)
   Comes-found content Last after reader' most held whole last = Comes-last content after reader' most (last refl).0 (last refl).1

@@ -4,14 +4,14 @@ use Rattle.std.proofs.lemmas.Grind.{common_steps}
 use Rattle.std.specs.Fmt.{decimal}
 use Rattle.std.specs.Prelude.{nat_le}
 use Rattle.std.specs.Str.{bytes_eq}
-use Rattle.tr_book.specs.declared.mode.Mode.{Mode}
+use Rattle.tr_terms.specs.declared.mode.Mode.{Mode}
 use Rattle.tr_calls.specs.Calls.{mode_asked, by_session, by_step, named, schedule_asked, schedule_set, after_asked, tick_named}
 use Rattle.tr_calls.specs.World.{World, session_named, with_session}
 use Rattle.tr_command.specs.Asked.{Asked, Create, Channel, Thread, Start, Stop, Offer, Consume, RotateBegin, RotateNext, RotateFinish, Rotate, Snapshot, Schedule, Tick, Fate, Status, Archives}
 use Rattle.tr_console.specs.Agreement.{WorldsAgree}
-use Rattle.tr_console.specs.Answers.{most_sessions, created, create_answer, at_session, settled, answered, channel_answer, thread_answer, start_answer, stop_answer, payload_of, offer_answer, consume_answer, rotate_begin_answer, rotate_next_answer, rotate_finish_answer, rotate_answer, snapshot_answer, schedule_answer, tick_answer, fate_answer, status_answer, archives_answer, answer_to}
+use Rattle.tr_console.specs.Answers.{created, create_answer, at_session, settled, answered, channel_answer, thread_answer, start_answer, stop_answer, payload_of, offer_answer, consume_answer, rotate_begin_answer, rotate_next_answer, rotate_finish_answer, rotate_answer, snapshot_answer, schedule_answer, tick_answer, fate_answer, status_answer, archives_answer, answer_to}
 use Rattle.tr_console.specs.Steps.{Step, refused}
-use Rattle.tr_outcome.specs.Names.{is_name}
+use Rattle.tr_terms.specs.Names.{is_name}
 use Rattle.tr_outcome.specs.Text.{Text}
 use Rattle.tr_outcome.specs.declared.faults.LineFault.{LineFault}
 use Rattle.tr_outcome.specs.declared.faults.LineFault.TheVariants.{BadName}
@@ -34,8 +34,9 @@ use Rattle.tr_session_book.specs.declared.faults.SessionFault.{SessionFault}
 use Rattle.tr_stream.proofs.RuleLaws.{same-counted}
 use Rattle.tr_stream.specs.Rules.{Traced, by_state, by_history}
 use Rattle.tr_stream.specs.State.{StreamState}
-use Rattle.tr_stream.specs.declared.config.SessionMode.{SessionMode}
+use Rattle.tr_terms.specs.declared.session_mode.SessionMode.{SessionMode}
 use Rattle.uuid.specs.Text.{parsed}
+use Rattle.tr_terms.specs.declared.limits.TheConstants.{MOST_SESSIONS}
 
 -- the same answer, and worlds that agree
 pub record StepsAgree (s : Step StreamState) (t : Step Traced) : Type 0 where
@@ -90,19 +91,19 @@ same-found (Some a) (Some b) is = refl
 -- ---- each command
 
 created-agree : (v : World StreamState) (w : World Traced) (name : Text) (offset : ℤ) (mode : SessionMode) (uuid : List ℕ) → WorldsAgree v w → StepsAgree (created v name offset mode uuid) (created w name offset mode uuid)
-created-agree v w name offset mode uuid is = go (is_some (session_named name v)) (nat_le most_sessions (length v)) refl refl
+created-agree v w name offset mode uuid is = go (is_some (session_named name v)) (nat_le MOST_SESSIONS (length v)) refl refl
   where
-    go : (taken full : Bool) → is_some (session_named name v) ≡ taken → nat_le most_sessions (length v) ≡ full → StepsAgree (created v name offset mode uuid) (created w name offset mode uuid)
+    go : (taken full : Bool) → is_some (session_named name v) ≡ taken → nat_le MOST_SESSIONS (length v) ≡ full → StepsAgree (created v name offset mode uuid) (created w name offset mode uuid)
     go true full x y =
         let u : is_some (session_named name w) ≡ true = sym (same-found (session_named name v) (session_named name w) (found-agree name v w is)) ∙ x in
         rw (x, u) (record { world = is; text = refl; is_refused = refl })
     go false true x y =
         let u : is_some (session_named name w) ≡ false = sym (same-found (session_named name v) (session_named name w) (found-agree name v w is)) ∙ x in
-        let z : nat_le most_sessions (length w) ≡ true = ap (nat_le most_sessions) (sym (worlds-length v w is)) ∙ y in
+        let z : nat_le MOST_SESSIONS (length w) ≡ true = ap (nat_le MOST_SESSIONS) (sym (worlds-length v w is)) ∙ y in
         rw (x, u, y, z) (record { world = is; text = refl; is_refused = refl })
     go false false x y =
         let u : is_some (session_named name w) ≡ false = sym (same-found (session_named name v) (session_named name w) (found-agree name v w is)) ∙ x in
-        let z : nat_le most_sessions (length w) ≡ false = ap (nat_le most_sessions) (sym (worlds-length v w is)) ∙ y in
+        let z : nat_le MOST_SESSIONS (length w) ≡ false = ap (nat_le MOST_SESSIONS) (sym (worlds-length v w is)) ∙ y in
         let new : SessionsAgree (new_session uuid offset mode) (new_session uuid offset mode) = record { book = refl; streams = tt; made = tt } in
         rw (x, u, y, z) (record { world = worlds-push v w name (new_session uuid offset mode) (new_session uuid offset mode) is new; text = refl; is_refused = refl })
 

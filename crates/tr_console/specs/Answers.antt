@@ -2,12 +2,12 @@
 use Rattle.std.specs.Fmt.{decimal}
 use Rattle.std.specs.Option.{option_map_or}
 use Rattle.std.specs.Prelude.{ℕ, ℤ, List, [], ◌∷◌, ◌++◌, false, nat_le, length, replicate, is_some, is_err, codes, Option, Result, Ok, Err, if◌then◌else◌}
-use Rattle.tr_book.specs.declared.mode.Mode.{Mode}
+use Rattle.tr_terms.specs.declared.mode.Mode.{Mode}
 use Rattle.tr_calls.specs.Calls.{mode_asked, by_session, by_step, named, schedule_asked, schedule_set, after_asked, tick_named}
 use Rattle.tr_calls.specs.World.{World, session_named, with_session}
 use Rattle.tr_command.specs.Asked.{Asked, Create, Channel, Thread, Start, Stop, Offer, Consume, RotateBegin, RotateNext, RotateFinish, Rotate, Snapshot, Schedule, Tick, Fate, Status, Archives}
 use Rattle.tr_console.specs.Steps.{Step, said, refused}
-use Rattle.tr_outcome.specs.Names.{is_name}
+use Rattle.tr_terms.specs.Names.{is_name}
 use Rattle.tr_outcome.specs.Text.{Text}
 use Rattle.tr_outcome.specs.declared.faults.LineFault.{LineFault}
 use Rattle.tr_outcome.specs.declared.faults.LineFault.TheVariants as fault
@@ -18,17 +18,15 @@ use Rattle.tr_session_book.specs.BookSteps as book
 use Rattle.tr_session_book.specs.declared.faults.SessionFault.{SessionFault}
 use Rattle.tr_session_book.specs.declared.faults.SessionFault.TheVariants.{TooMany, NameTaken}
 use Rattle.tr_stream.specs.Rules.{StreamRules}
-use Rattle.tr_stream.specs.declared.config.SessionMode.{SessionMode}
+use Rattle.tr_terms.specs.declared.session_mode.SessionMode.{SessionMode}
 use Rattle.uuid.specs.Text.{parsed}
-
-abbrev pub most_sessions : ℕ
-most_sessions = 16
+use Rattle.tr_terms.specs.declared.limits.TheConstants.{MOST_SESSIONS}
 
 -- a session of this identifier is added, in its order
 abbrev pub created : {S : Type 0} → World S → Text → ℤ → SessionMode → List ℕ → Step S
 created w name offset mode uuid =
     if is_some (session_named name w) then refused w (fault.Session NameTaken)
-    else (if nat_le most_sessions (length w) then refused w (fault.Session TooMany)
+    else (if nat_le MOST_SESSIONS (length w) then refused w (fault.Session TooMany)
     else said (w ++ (name, new_session uuid offset mode) ∷ []) (codes "created " ++ name))
 
 abbrev pub create_answer : {S : Type 0} → World S → Text → Text → ℤ → SessionMode → Step S

@@ -6,11 +6,12 @@ use Rattle.tr_console.specs.Agreement.{WorldsAgree}
 use Rattle.tr_console.specs.Script.{answers, refused_in, script_text, text_step, world_after}
 use Rattle.tr_console.specs.Steps.{Step}
 use Rattle.tr_lines.specs.Lines.{lines_of, whole_lines_of}
-use Rattle.tr_lines.specs.Reading.{longest_piece, longest_script}
+use Rattle.tr_lines.specs.Reading.{longest_piece}
 use Rattle.tr_outcome.specs.Text.{Text}
 use Rattle.tr_record.specs.Bytes.{and_then_bytes}
 use Rattle.tr_stream.specs.Rules.{Traced, by_history, by_state}
 use Rattle.tr_stream.specs.State.{StreamState}
+use Rattle.tr_terms.specs.declared.limits.TheConstants.{LONGEST_SCRIPT}
 
 -- what a console that holds these sessions does at a line's text
 abbrev pub step_of_line : World StreamState → Option (Bor (List ℕ)) → Step StreamState
@@ -34,7 +35,7 @@ module _ (given given_now taken taken_now : Option (List ℕ)) where
   -- leaves them
   pub record Ran (world : World StreamState) (refused : ℕ) : Type 0 where
     pub script : List ℕ
-    pub fits : length script ≤ longest_script
+    pub fits : length script ≤ LONGEST_SCRIPT
     pub read : given_now ≡ and_then_bytes given script
     pub wrote : taken_now ≡ and_then_bytes taken (script_text script)
     pub refusals : refused ≡ refused_lines script
@@ -43,7 +44,7 @@ module _ (given given_now taken taken_now : Option (List ℕ)) where
   -- this was read before the source failed, and its whole lines answered
   pub record BrokeOff : Type 0 where
     pub script : List ℕ
-    pub fits : length script ≤ longest_script
+    pub fits : length script ≤ LONGEST_SCRIPT
     pub read : given_now ≡ and_then_bytes given script
     pub wrote : taken_now ≡ and_then_bytes taken (answers_to (whole_lines_of script))
 
@@ -51,7 +52,7 @@ module _ (given given_now taken taken_now : Option (List ℕ)) where
   pub record WentTooFar : Type 0 where
     pub script : List ℕ
     pub byte : ℕ
-    pub full : length script ≡ longest_script
+    pub full : length script ≡ LONGEST_SCRIPT
     pub read : given_now ≡ and_then_bytes given (script ++ byte ∷ [])
     pub wrote : taken_now ≡ and_then_bytes taken (answers_to (whole_lines_of script))
 
@@ -60,7 +61,7 @@ module _ (given given_now taken taken_now : Option (List ℕ)) where
   pub record WroteSome (content : Option (List ℕ)) : Type 0 where
     pub script : List ℕ
     pub count : ℕ
-    pub fits : length script ≤ longest_script
+    pub fits : length script ≤ LONGEST_SCRIPT
     pub read : given_now ≡ and_then_bytes given script
     pub wrote : taken_now ≡ and_then_bytes taken (take count (script_text script))
     pub within : (count ≤ length (answers_to (whole_lines_of script))) ⊎ (given_now ≡ content)
@@ -69,7 +70,7 @@ module _ (given given_now taken taken_now : Option (List ℕ)) where
   pub record AnsweredSome : Type 0 where
     pub script : List ℕ
     pub count : ℕ
-    pub fits : length script ≤ longest_script
+    pub fits : length script ≤ LONGEST_SCRIPT
     pub read : given_now ≡ and_then_bytes given script
     pub wrote : taken_now ≡ and_then_bytes taken (answers_to (take count (whole_lines_of script)))
     pub reached : length (whole_lines_of (take (length script - longest_piece) script)) ≤ count + 1

@@ -1,13 +1,12 @@
 //! The sessions of a script, and the answer to each line.
 
-ghost use Rattle.std.specs.Prelude.{◌≡◌, ◌≤◌, ◌∷◌, ◌++◌, [], IfOk, codes, map, option_map, length, slice_get};
-ghost use Rattle.std.specs.String.{string_bytes};
+ghost use Rattle.std.specs.Prelude.{◌≡◌, ◌≤◌, [], IfOk, map, option_map, length, slice_get};
 ghost use Rattle.tr_command.specs.Asked.{IsOffset, asked_by, moment_in, offset_in};
 ghost use Rattle.tr_command.specs.Language.{asked_of};
 ghost use Rattle.tr_console.specs.Answers.{RotatesOrAsks, answer_to, create_answer, channel_answer, thread_answer, start_answer, stop_answer, offer_answer, consume_answer, rotate_begin_answer, rotate_next_answer, rotate_finish_answer, rotate_answer, snapshot_answer, schedule_answer, tick_answer, fate_answer, status_answer, archives_answer, payload_of};
 ghost use Rattle.tr_console.specs.Replies.{Does};
 ghost use Rattle.tr_console.specs.Script.{asked_step, text_step};
-ghost use Rattle.tr_record.specs.Records.{last_moment};
+ghost use Rattle.tr_terms.specs.declared.limits.TheConstants.{LAST_MOMENT};
 ghost use Rattle.tr_stream.specs.Rules.{by_state};
 
 use indexmap::IndexMap;
@@ -18,11 +17,9 @@ use tr_calls::{
     rotate_at, rotate_begin_at, rotate_finish_at, rotate_next_at, schedule_at, shape_of,
     snapshot_at, start_at, stop_at, take_at, tick_at,
 };
-use tr_chunk::OffsetMinutes;
 use tr_command::{Request, parse};
 use tr_lines::{is_skipped_line, push_words};
-use tr_outcome::{LineFault, is_valid_name};
-use tr_record::Moment;
+use tr_outcome::LineFault;
 use tr_replies::{
     Reply, archived_reply, archives_of, bad_line, done_reply, fate_reply, next_reply,
     offered_reply, refusal, rotating_reply, schedule_reply, skipped, snapshot_reply, status_of,
@@ -30,11 +27,9 @@ use tr_replies::{
 };
 use tr_session::Session;
 use tr_session_book::SessionFault;
-use tr_stream::SessionMode;
+use tr_terms::limits::MOST_SESSIONS;
+use tr_terms::{Moment, Name, OffsetMinutes, SessionMode};
 use uuid::Uuid;
-
-/// How many sessions a console has at most.
-const MOST_SESSIONS: usize = 16;
 
 /// The sessions of a script by name, in order of creation. Contracts see a `World`.
 #[derive(Drop)]
@@ -51,6 +46,10 @@ impl<A: Allocator> Model for Console<A> {
     ghost Value = { World StreamState };
 
     ghost view = { λ c. by_name c.sessions.entries };
+
+    ghost use Rattle.tr_session_book.specs.Names.{AreNamed};
+
+    ghost invariant = { λ c. AreNamed (by_name c.sessions.entries) };
 }
 
 /// The payload of an offer: a text, and so many bytes `a` behind it.
@@ -114,7 +113,7 @@ impl<A: Allocator + Copy> Console<A> {
 
     /// Answers a command.
     fn answer_request(&mut self, request: Request<'_>) -> Result<Reply<A>, AllocError>
-        requires moment { moment_in (asked_by request) ≤ last_moment }
+        requires moment { moment_in (asked_by request) ≤ LAST_MOMENT }
         requires offset { IsOffset (offset_in (asked_by request)) }
         ensures { IfOk result (Does (answer_to by_state self.old (asked_by request.entry)) self.new) }
     {
@@ -151,7 +150,7 @@ impl<A: Allocator + Copy> Console<A> {
     /// Answers a command of rotations, snapshots or schedules, or a question.
     fn rotate_or_ask(&mut self, request: Request<'_>) -> Result<Reply<A>, AllocError>
         requires kind { RotatesOrAsks (asked_by request) }
-        requires moment { moment_in (asked_by request) ≤ last_moment }
+        requires moment { moment_in (asked_by request) ≤ LAST_MOMENT }
         ensures { IfOk result (Does (answer_to by_state self.old (asked_by request.entry)) self.new) }
     {
         match request {
@@ -191,9 +190,9 @@ impl<A: Allocator + Copy> Console<A> {
         let Some(offset) = OffsetMinutes::new(offset) else {
             unreachable!()
         };
-        if !is_valid_name(session) {
+        let Some(_) = Name::new(session) else {
             return refusal(self.alloc, LineFault::BadName);
-        }
+        };
         let Ok(uuid) = Uuid::parse_str(uuid) else {
             return refusal(self.alloc, LineFault::BadUuid);
         };
@@ -241,7 +240,7 @@ impl<A: Allocator + Copy> Console<A> {
 
     /// `start`
     fn start(&mut self, session: &str, moment: u64) -> Result<Reply<A>, AllocError>
-        requires { moment ≤ last_moment }
+        requires { moment ≤ LAST_MOMENT }
         ensures { IfOk result (Does (start_answer by_state self.old session.now moment) self.new) }
     {
         let Some(moment) = Moment::new(moment) else {
@@ -269,7 +268,7 @@ impl<A: Allocator + Copy> Console<A> {
         text: &str,
         fill: u32,
     ) -> Result<Reply<A>, AllocError>
-        requires { moment ≤ last_moment }
+        requires { moment ≤ LAST_MOMENT }
         ensures { IfOk result (Does (offer_answer by_state self.old session.now stream moment id text.now fill) self.new) }
     {
         let Some(moment) = Moment::new(moment) else {
@@ -291,7 +290,7 @@ impl<A: Allocator + Copy> Console<A> {
 
     /// `rotate-begin`
     fn rotate_begin(&mut self, session: &str, moment: u64) -> Result<Reply<A>, AllocError>
-        requires { moment ≤ last_moment }
+        requires { moment ≤ LAST_MOMENT }
         ensures { IfOk result (Does (rotate_begin_answer self.old session.now moment) self.new) }
     {
         let Some(moment) = Moment::new(moment) else {
@@ -319,7 +318,7 @@ impl<A: Allocator + Copy> Console<A> {
 
     /// `rotate`
     fn rotate(&mut self, session: &str, moment: u64) -> Result<Reply<A>, AllocError>
-        requires { moment ≤ last_moment }
+        requires { moment ≤ LAST_MOMENT }
         ensures { IfOk result (Does (rotate_answer by_state self.old session.now moment) self.new) }
     {
         let Some(moment) = Moment::new(moment) else {
@@ -331,7 +330,7 @@ impl<A: Allocator + Copy> Console<A> {
 
     /// `snapshot`
     fn snapshot(&mut self, session: &str, moment: u64) -> Result<Reply<A>, AllocError>
-        requires { moment ≤ last_moment }
+        requires { moment ≤ LAST_MOMENT }
         ensures { IfOk result (Does (snapshot_answer by_state self.old session.now moment) self.new) }
     {
         let Some(moment) = Moment::new(moment) else {
@@ -356,7 +355,7 @@ impl<A: Allocator + Copy> Console<A> {
 
     /// `tick`
     fn tick(&mut self, session: &str, moment: u64) -> Result<Reply<A>, AllocError>
-        requires { moment ≤ last_moment }
+        requires { moment ≤ LAST_MOMENT }
         ensures { IfOk result (Does (tick_answer by_state self.old session.now moment) self.new) }
     {
         let Some(moment) = Moment::new(moment) else {
@@ -407,12 +406,15 @@ impl<A: Allocator> Console<A> {
     }
 
     /// The session of this number in the order of creation, from 0, with its name. None where there are not so many.
-    pub fn session(&self, k: usize) -> Option<(&str, &Session<A>)>
-        ensures { option_map (λ e. (e.0.now, e.1.now)) result ≡ slice_get self.now k }
+    pub fn session(&self, k: usize) -> Option<(Name<'_>, &Session<A>)>
+        ensures { option_map (λ e. (e.0, e.1.now)) result ≡ slice_get self.now k }
     {
-        match self.sessions.get_index(k) {
-            Some((name, session)) => Some((name.as_str(), session)),
-            None => None,
-        }
+        let Some((text, session)) = self.sessions.get_index(k) else {
+            return None;
+        };
+        let Some(name) = Name::new(text.as_str()) else {
+            unreachable!()
+        };
+        Some((name, session))
     }
 }

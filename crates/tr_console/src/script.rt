@@ -3,7 +3,7 @@
 ghost use Rattle.std.specs.Prelude.{◌≡◌, ◌≤◌, ◌<◌, ℕ, Err, IfOk, OnOk, length, take};
 ghost use Rattle.tr_console.specs.Runs.{AnsweredSome, BrokeOff, Ran, WentTooFar, WroteSome, step_of_line};
 ghost use Rattle.tr_console.specs.Script.{script_text};
-ghost use Rattle.tr_lines.specs.Reading.{longest_script};
+ghost use Rattle.tr_terms.specs.declared.limits.TheConstants.{LONGEST_SCRIPT};
 ghost use Rattle.tr_record.specs.Bytes.{and_then_bytes, once_more};
 
 use crate::console::Console;
@@ -102,8 +102,8 @@ pub fn run_text<A: Allocator + Copy>(
     script: &[u8],
 ) -> Result<Vec<u8, A>, ScriptFault>
     ensures text { IfOk result (λ text. text.items ≡ script_text script.now) }
-    ensures fits { OnOk result (length script.now ≤ longest_script) }
-    ensures too_long { result ≡ Err ScriptFault.TooLong → longest_script < length script.now }
+    ensures fits { OnOk result (length script.now ≤ LONGEST_SCRIPT) }
+    ensures too_long { result ≡ Err ScriptFault.TooLong → LONGEST_SCRIPT < length script.now }
     ensures read { result ≡ Err ScriptFault.Read → ⊥ }
     ensures write { result ≡ Err ScriptFault.Write → ⊥ }
 {

@@ -5,16 +5,18 @@ ghost use Rattle.std.specs.String.{string_bytes};
 ghost use Rattle.tr_export.specs.Paths.{folder_of, path_of};
 
 use std::alloc::{AllocError, Allocator};
+use tr_terms::Name;
 
 /// The folder of an archive: `DIR/NAME/archives/ARCHIVE`.
 pub fn archive_folder<A: Allocator>(
     alloc: A,
     dir: &str,
-    name: &str,
+    name: &Name<'_>,
     archive: &str,
 ) -> Result<String<A>, AllocError>
     ensures { IfOk result (λ s. string_bytes s ≡ folder_of dir.now name.now archive.now) }
 {
+    let name = name.as_str();
     format!(in alloc; "{dir}/{name}/archives/{archive}")
 }
 

@@ -16,6 +16,7 @@ use tr_book::Part;
 use tr_chunk::{archive_name, stream_file_name, write_metadata, write_part};
 use tr_session::Session;
 use tr_session_book::Archive;
+use tr_terms::Name;
 use uuid::Uuid;
 
 /// Writes the metadata text to a file of this path.
@@ -80,7 +81,7 @@ fn write_stream<A: Allocator, B: Allocator + Copy, D: Disk>(
     let Some(part) = stream.part(id) else {
         return Ok(());
     };
-    let name = stream_file_name(alloc, channel, i)?;
+    let name = stream_file_name(alloc, &channel, i)?;
     let path = file_path(alloc, folder, name.as_str())?;
     write_part_file(alloc, disk, path.as_str(), part)
 }
@@ -126,7 +127,7 @@ fn write_archive<A: Allocator, B: Allocator + Copy, D: Disk>(
     alloc: B,
     disk: &mut D,
     dir: &str,
-    name: &str,
+    name: &Name<'_>,
     session: &Session<A>,
     archive: Archive,
 ) -> Result<(), ExportFault>
@@ -153,7 +154,7 @@ pub fn write_archives<A: Allocator, B: Allocator + Copy, D: Disk>(
     alloc: B,
     disk: &mut D,
     dir: &str,
-    name: &str,
+    name: &Name<'_>,
     session: &Session<A>,
 ) -> Result<(), ExportFault>
     ensures ok { OnOk result (D.made disk.new ≡ and_then_made (D.made disk.old) (archives_made dir.now name.now session.now)) }

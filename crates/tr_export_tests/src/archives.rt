@@ -9,13 +9,10 @@ use std::alloc::Global;
 use std::fmt::Debug;
 use std::process::Abort;
 use std::test::Fail;
-use tr_book::Mode;
-use tr_chunk::OffsetMinutes;
 use tr_export::{Made, MemoryDisk, write_archives};
 use tr_packet::metadata_text;
-use tr_record::Moment;
 use tr_session::Session;
-use tr_stream::SessionMode;
+use tr_terms::{Mode, Moment, Name, OffsetMinutes, SessionMode};
 use uuid::Uuid;
 
 /// Holds what a test found to what it wanted. As a call without clauses it keeps the proofs of the tests short.
@@ -38,11 +35,17 @@ fn uuid() -> Uuid {
     Uuid::from_u128(1)
 }
 
+/// The name under which the sessions are written.
+fn name() -> Result<Name<'static>, Fail> {
+    Ok(Name::new("s").ok_or("a name")?)
+}
+
 /// A session with the channel c.
 fn session_of(alloc: Global) -> Result<Session, Fail> {
     let offset = OffsetMinutes::new(0).ok_or("an offset")?;
     let mut session = Session::new(alloc, uuid(), offset, SessionMode::Local);
-    session.add_channel("c", 256, 2, Mode::Discard)?;
+    let name = Name::new("c").ok_or("a name")?;
+    session.add_channel(&name, 256, 2, Mode::Discard)?;
     Ok(session)
 }
 
@@ -95,7 +98,7 @@ fn bytes_of<'a>(made: Option<&'a Made<String, Vec<u8>>>, wanted: &str) -> Option
 fn an_archive_is_a_folder_with_its_files(rt: HostRuntime) -> Result<(), Fail> {
     let session = rotated(rt.alloc())?;
     let mut disk = MemoryDisk::new(rt.alloc(), 7);
-    write_archives(rt.alloc(), &mut disk, "d", "s", &session).expect(&rt, "archives");
+    write_archives(rt.alloc(), &mut disk, "d", &name()?, &session).expect(&rt, "archives");
     let made = disk.made();
     assert_same(&rt, made.len(), 3);
     assert!(rt; is_folder(made.first(), FOLDER));
@@ -109,7 +112,7 @@ fn an_archive_is_a_folder_with_its_files(rt: HostRuntime) -> Result<(), Fail> {
 fn a_stream_s_file_has_its_packets(rt: HostRuntime) -> Result<(), Fail> {
     let session = rotated(rt.alloc())?;
     let mut disk = MemoryDisk::new(rt.alloc(), 4096);
-    write_archives(rt.alloc(), &mut disk, "d", "s", &session).expect(&rt, "archives");
+    write_archives(rt.alloc(), &mut disk, "d", &name()?, &session).expect(&rt, "archives");
     let bytes = bytes_of(disk.made().get(2), STREAM).expect(&rt, "the stream's file");
     assert_same(&rt, bytes.len(), 484);
     let magic = b"\xC1\x1F\xFC\xC1".as_slice();
@@ -134,7 +137,7 @@ fn each_archive_has_its_own_part(rt: HostRuntime) -> Result<(), Fail> {
         .rotate(moment(2_000_000_000))
         .expect(&rt, "a rotation");
     let mut disk = MemoryDisk::new(rt.alloc(), 4096);
-    write_archives(rt.alloc(), &mut disk, "d", "s", &session).expect(&rt, "archives");
+    write_archives(rt.alloc(), &mut disk, "d", &name()?, &session).expect(&rt, "archives");
     let made = disk.made();
     assert_same(&rt, made.len(), 8);
     let folder = "d/s/archives/19700101T000000+0000-19700101T000002+0000-1";
@@ -175,11 +178,11 @@ fn what_is_no_archive_is_not_written(rt: HostRuntime) -> Result<(), Fail> {
     session.start(moment(0)).expect(&rt, "a start");
     offer_six(&mut session)?;
     let mut disk = MemoryDisk::new(rt.alloc(), 4096);
-    write_archives(rt.alloc(), &mut disk, "d", "s", &session).expect(&rt, "archives");
+    write_archives(rt.alloc(), &mut disk, "d", &name()?, &session).expect(&rt, "archives");
     assert_same(&rt, disk.made().len(), 0);
     let _ = session.rotate_begin(moment(10)).expect(&rt, "a rotation");
     let _ = session.cut(0).expect(&rt, "a cut");
-    write_archives(rt.alloc(), &mut disk, "d", "s", &session).expect(&rt, "archives");
+    write_archives(rt.alloc(), &mut disk, "d", &name()?, &session).expect(&rt, "archives");
     assert_same(&rt, disk.made().len(), 0);
     Ok(())
 }
@@ -190,7 +193,7 @@ fn without_streams_there_is_the_metadata_alone(rt: HostRuntime) -> Result<(), Fa
     session.start(moment(0)).expect(&rt, "a start");
     let _ = session.rotate(moment(10)).expect(&rt, "a rotation");
     let mut disk = MemoryDisk::new(rt.alloc(), 4096);
-    write_archives(rt.alloc(), &mut disk, "d", "s", &session).expect(&rt, "archives");
+    write_archives(rt.alloc(), &mut disk, "d", &name()?, &session).expect(&rt, "archives");
     assert_same(&rt, disk.made().len(), 2);
     assert!(rt; bytes_of(disk.made().get(1), METADATA).is_some());
     Ok(())

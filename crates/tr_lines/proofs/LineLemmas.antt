@@ -13,10 +13,7 @@ use Rattle.std.proofs.lemmas.List.Sums.{fails_before_first}
 use Rattle.std.proofs.lemmas.Bool.Decides.{Decides-eqb}
 use Rattle.std.proofs.lemmas.Grind.{common_steps}
 use Rattle.tr_lines.specs.Lines.{HasNoFeed, all_but_last, is_feed, is_printable, keep_more, lines_of, lines_of_parts, parts_of, text_of_line, whole_lines_of, with_last}
-
-pub both : (a b : Bool) → (a && b) ≡ true → (a ≡ true) × (b ≡ true)
-both true b e = (refl, e)
-both false b e = absurd (true≢false (sym e))
+use Rattle.tr_terms.proofs.BoolLemmas.{both}
 
 below_128 : (b : ℕ) → is_printable b ≡ true → b < 128
 below_128 b e = let low = (both (nat_le 0x20 b) (nat_le b 0x7e) e).1 in grind (arith, common_steps)

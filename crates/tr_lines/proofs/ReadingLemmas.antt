@@ -9,8 +9,9 @@ use Rattle.std.proofs.lemmas.List.Elements.{All-append, All-nil}
 use Rattle.tr_record.specs.Bytes.{and_then_bytes}
 use Rattle.tr_record.proofs.ByteLemmas.{and_then_bytes-append, and_then_bytes-none}
 use Rattle.tr_lines.specs.Lines.{is_feed, keep_more}
-use Rattle.tr_lines.specs.Reading.{GoesTooFar, Reading, ReadsLine, ReadsOn, TakesPart, budget, longest_script, reading}
+use Rattle.tr_lines.specs.Reading.{GoesTooFar, Reading, ReadsLine, ReadsOn, TakesPart, budget, reading}
 use Rattle.tr_lines.proofs.LineLemmas.{feed_splits, keep_more-text, no_feed_at_all, no_feed_before}
+use Rattle.tr_terms.specs.declared.limits.TheConstants.{LONGEST_SCRIPT}
 
 -- what is held once a line has gone from it
 pub held_after : (bytes : List ℕ) (start stop place : ℕ) → take (stop - (start + (place + 1))) (drop (start + (place + 1)) bytes)
@@ -107,7 +108,7 @@ ReadsOn-still before now after old mid new s given same = rw (given, same) s
 
 -- one byte more came than there may be
 pub ReadsAll-too_far : (before now after : Option (List ℕ)) (old mid new : Reading) (byte : ℕ) → ReadsOn before now old mid → mid.held ≡ [] → new ≡ mid
-    → mid.total ≡ longest_script → after ≡ and_then_bytes now (byte ∷ []) → GoesTooFar before after old new
+    → mid.total ≡ LONGEST_SCRIPT → after ≡ and_then_bytes now (byte ∷ []) → GoesTooFar before after old new
 ReadsAll-too_far before now after old mid new byte s empty same full came = record {
   within = now;
   byte = byte;
@@ -117,6 +118,6 @@ ReadsAll-too_far before now after old mid new byte s empty same full came = reco
 }
 
 -- a line takes its line feed at least
-pub ReadsLine-shrinks : (before after : Option (List ℕ)) (old new : Reading) → ReadsLine before after old new → new.total ≤ longest_script → budget new < budget old
+pub ReadsLine-shrinks : (before after : Option (List ℕ)) (old new : Reading) → ReadsLine before after old new → new.total ≤ LONGEST_SCRIPT → budget new < budget old
 ReadsLine-shrinks before after old new r within =
     omega (arith, r.total, within, ap length r.bytes, length-append old.held r.more, length-append r.raw (10 ∷ new.held))

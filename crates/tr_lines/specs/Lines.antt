@@ -1,6 +1,7 @@
 -- The lines of a script.
 use Rattle.std.specs.Prelude.{◌≡◌, ℕ, List, [], ◌∷◌, ◌++◌, ◌==◌, ◌&&◌, Bool, false, Option, Some, None, length, nat_le, All, if◌then◌else◌}
 use Rattle.std.specs.List.{list_all, slice_split}
+use Rattle.tr_terms.specs.declared.limits.TheConstants.{LONGEST_LINE}
 
 abbrev pub is_feed : ℕ → Bool
 is_feed b = b == 10
@@ -35,13 +36,9 @@ lines_of bytes = lines_of_parts (parts_of bytes)
 abbrev pub is_printable : ℕ → Bool
 is_printable b = nat_le 0x20 b && nat_le b 0x7e
 
--- the length of the longest line, without its line feed
-abbrev pub longest_line : ℕ
-longest_line = 4096
-
 -- the text of a line; one that is too long or has another byte is a bad line
 abbrev pub text_of_line : List ℕ → Option (List ℕ)
-text_of_line bytes = if nat_le (length bytes) longest_line && list_all is_printable bytes then Some bytes else None
+text_of_line bytes = if nat_le (length bytes) LONGEST_LINE && list_all is_printable bytes then Some bytes else None
 
 -- the text of a line that goes on
 abbrev pub keep_more : Option (List ℕ) → List ℕ → Option (List ℕ)

@@ -2,6 +2,7 @@
 use Rattle.std.specs.Prelude.{◌≡◌, ℕ, ◌+◌, ◌-◌, List, [], ◌∷◌, ◌++◌, Bool, false, Option, length, if◌then◌else◌}
 use Rattle.tr_record.specs.Bytes.{and_then_bytes}
 use Rattle.tr_lines.specs.Lines.{HasNoFeed, keep_more, text_of_line}
+use Rattle.tr_terms.specs.declared.limits.TheConstants.{LONGEST_SCRIPT}
 
 -- how far a reader is
 pub record Reading : Type 0 where
@@ -15,17 +16,13 @@ pub record Reading : Type 0 where
 abbrev pub reading : List ℕ → ℕ → Option (List ℕ) → Reading
 reading held total line = record { held = held; total = total; line = line }
 
--- the length of the longest script
-abbrev pub longest_script : ℕ
-longest_script = 16777216
-
 -- how many bytes are asked of the source at once
 abbrev pub longest_piece : ℕ
 longest_piece = 65536
 
 -- how many bytes may still go into lines
 abbrev pub budget : Reading → ℕ
-budget r = (longest_script - r.total) + length r.held
+budget r = (LONGEST_SCRIPT - r.total) + length r.held
 
 -- the source, which had given `before`, gave `more`, and the line `raw` came out with its line feed
 pub record ReadsLine (before after : Option (List ℕ)) (old new : Reading) : Type 0 where
@@ -57,7 +54,7 @@ pub record GoesTooFar (before after : Option (List ℕ)) (old new : Reading) : T
   pub within : Option (List ℕ)
   pub byte : ℕ
   pub all : ReadsAll before within old new
-  pub full : new.total ≡ longest_script
+  pub full : new.total ≡ LONGEST_SCRIPT
   pub came : after ≡ and_then_bytes within (byte ∷ [])
 
 -- a part of what is held goes to the line, up to a line feed if there is one

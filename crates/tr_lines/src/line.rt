@@ -6,9 +6,7 @@ ghost use Rattle.tr_lines.specs.Lines.{is_printable, keep_more};
 
 use std::alloc::{AllocError, Allocator, Global};
 use std::marker::Model;
-
-/// The length of the longest line that has a text, in bytes.
-const LONGEST: usize = 4096;
+use tr_terms::limits::LONGEST_LINE;
 
 fn has_only_printable(part: &[u8]) -> bool
     ensures { result ≡ list_all is_printable part.now }
@@ -27,13 +25,14 @@ pub struct Line<A: Allocator = Global> {
 impl<A: Allocator> Model for Line<A> {
     ghost use Rattle.std.specs.Prelude.{◌≡◌, ◌≤◌, ℕ, List, Option, None, Some, true, vec_len, if◌then◌else◌};
     ghost use Rattle.std.specs.List.{list_all};
-    ghost use Rattle.tr_lines.specs.Lines.{is_printable, longest_line};
+    ghost use Rattle.tr_lines.specs.Lines.{is_printable};
+    ghost use Rattle.tr_terms.specs.declared.limits.TheConstants.{LONGEST_LINE};
 
     ghost Value = { Option (List ℕ) };
 
     ghost view = { λ l. if l.is_bad then None else Some l.text.items };
 
-    ghost invariant = { λ l. (list_all is_printable l.text.items ≡ true) × (vec_len l.text ≤ longest_line) };
+    ghost invariant = { λ l. (list_all is_printable l.text.items ≡ true) × (vec_len l.text ≤ LONGEST_LINE) };
 }
 
 impl<A: Allocator> Line<A> {
@@ -63,7 +62,7 @@ impl<A: Allocator> Line<A> {
         if self.is_bad {
             return Ok(());
         }
-        if part.len() > LONGEST - self.text.len() || !has_only_printable(part) {
+        if part.len() > LONGEST_LINE - self.text.len() || !has_only_printable(part) {
             self.is_bad = true;
             return Ok(());
         }

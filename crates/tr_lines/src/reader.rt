@@ -3,16 +3,15 @@
 ghost use Rattle.std.specs.Prelude.{◌≡◌, ◌+◌, ◌<◌, ◌≤◌, ◌∷◌, [], ℕ, Some, true, false, Ok, Err, IfOk, OnOk, OnErr, length, take, option_map, position};
 ghost use Rattle.tr_record.specs.Bytes.{and_then_bytes, once_more};
 ghost use Rattle.tr_lines.specs.Lines.{is_feed};
-ghost use Rattle.tr_lines.specs.Reading.{GoesTooFar, ReadsAll, ReadsLine, ReadsOn, TakesPart, budget, longest_piece, longest_script, reading};
+ghost use Rattle.tr_lines.specs.Reading.{GoesTooFar, ReadsAll, ReadsLine, ReadsOn, TakesPart, budget, longest_piece, reading};
 ghost use Rattle.tr_lines.specs.declared.reader.ReadFault.TheVariants.{Read, NoMemory};
+ghost use Rattle.tr_terms.specs.declared.limits.TheConstants.{LONGEST_SCRIPT};
 
 use crate::line::Line;
 use std::alloc::{AllocError, Allocator, Global};
 use std::marker::Model;
 use tr_record::{ByteSource, Failed};
-
-/// The length of the longest script, in bytes.
-const LONGEST: usize = 16_777_216;
+use tr_terms::limits::LONGEST_SCRIPT;
 
 /// How many bytes are asked of the source at once.
 const PIECE: usize = 65_536;
@@ -88,13 +87,14 @@ pub struct LineReader<A: Allocator = Global> {
 
 impl<A: Allocator> Model for LineReader<A> {
     ghost use Rattle.std.specs.Prelude.{◌-◌, ◌<◌, ◌≤◌, drop, take, vec_len};
-    ghost use Rattle.tr_lines.specs.Reading.{Reading, longest_piece, longest_script, reading};
+    ghost use Rattle.tr_lines.specs.Reading.{Reading, longest_piece, reading};
+    ghost use Rattle.tr_terms.specs.declared.limits.TheConstants.{LONGEST_SCRIPT};
 
     ghost Value = { Reading };
 
     ghost view = { λ r. reading (take (r.end - r.start) (drop r.start r.piece.items)) r.total r.line };
 
-    ghost invariant = { λ r. (r.start ≤ r.end) × (r.end ≤ vec_len r.piece) × (0 < vec_len r.piece) × (r.total ≤ longest_script) × (vec_len r.piece ≤ longest_piece) };
+    ghost invariant = { λ r. (r.start ≤ r.end) × (r.end ≤ vec_len r.piece) × (0 < vec_len r.piece) × (r.total ≤ LONGEST_SCRIPT) × (vec_len r.piece ≤ longest_piece) };
 }
 
 impl<A: Allocator> LineReader<A> {
@@ -117,7 +117,7 @@ impl<A: Allocator> LineReader<A> {
     /// all.
     fn take_part(&mut self) -> Result<bool, AllocError>
         ensures ok { IfOk result (TakesPart self.old self.new) }
-        ensures within { self.new.total ≤ longest_script }
+        ensures within { self.new.total ≤ LONGEST_SCRIPT }
         ensures held { length self.new.held ≤ longest_piece }
         ensures err { OnErr result (self.new ≡ self.old) }
     {
@@ -142,18 +142,18 @@ impl<A: Allocator> LineReader<A> {
         ensures given { OnOk result (S.given source.new ≡ and_then_bytes (S.given source.old) self.new.held) }
         ensures total { OnOk result (self.new ≡ reading self.new.held (self.old.total + length self.new.held) self.old.line) }
         ensures some { result ≡ Ok true → 0 < length self.new.held }
-        ensures within { self.new.total ≤ longest_script }
+        ensures within { self.new.total ≤ LONGEST_SCRIPT }
         ensures content { S.content source.new ≡ S.content source.old }
         ensures end { result ≡ Ok false → (self.new.held ≡ []) × (S.given source.new ≡ S.content source.new) }
         ensures err { OnErr result (self.new ≡ self.old) }
         ensures no_failure { (result ≡ Err ReadFault.Read → ⊥) → S.failures source.new ≡ S.failures source.old }
         ensures read { result ≡ Err ReadFault.Read → (S.given source.new ≡ S.given source.old) × (S.failures source.new ≡ once_more (S.failures source.old)) }
-        ensures too_long { result ≡ Err ReadFault.TooLong → (self.old.total ≡ longest_script) × ((byte : ℕ) × (S.given source.new ≡ and_then_bytes (S.given source.old) (byte ∷ []))) }
+        ensures too_long { result ≡ Err ReadFault.TooLong → (self.old.total ≡ LONGEST_SCRIPT) × ((byte : ℕ) × (S.given source.new ≡ and_then_bytes (S.given source.old) (byte ∷ []))) }
         ensures memory { result ≡ Err ReadFault.NoMemory → ⊥ }
     {
-        let room = self.piece.len().min(LONGEST - self.total).max(1);
+        let room = self.piece.len().min(LONGEST_SCRIPT - self.total).max(1);
         let count = fill(&mut self.piece, room, source)?;
-        if count > LONGEST - self.total {
+        if count > LONGEST_SCRIPT - self.total {
             return Err(ReadFault::TooLong);
         }
         self.start = 0;

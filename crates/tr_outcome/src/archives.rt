@@ -1,7 +1,7 @@
 //! Archives as a line's call tells them.
 
-use tr_chunk::OffsetMinutes;
 use tr_session_book::Archive;
+use tr_terms::OffsetMinutes;
 
 /// An archive, and what its name needs beside it.
 #[derive(Clone, Copy, Debug, PartialEq, Eq)]

@@ -4,10 +4,8 @@
 
 mod archives;
 mod faults;
-mod names;
 mod ticks;
 
 pub use archives::NamedArchive;
 pub use faults::LineFault;
-pub use names::is_valid_name;
 pub use ticks::TickTold;

@@ -8,7 +8,7 @@ use Rattle.std.specs.Option.{option_or}
 use Rattle.std.proofs.lemmas.Bool.{leb-true, le-leb, lt-leb, ltb-false, le-ltb, eqb-true, eq-eqb, false≢true}
 use Rattle.std.proofs.lemmas.List.{take_at, drop-take, drop-append-le, take-append-drop, length-take, length-drop}
 use Rattle.std.proofs.lemmas.List.Sums.{sum_by-cons}
-use Rattle.tr_record.specs.Records.{Entry, records_text, last_moment, HasText, Fits}
+use Rattle.tr_record.specs.Records.{Entry, records_text, HasText, Fits}
 use Rattle.tr_record.specs.Weight.{record_weight, weight_of}
 use Rattle.tr_record.specs.Whole.{AreBytes, AreRecords, AreWhole, entries_at, entries_of}
 use Rattle.tr_record.proofs.Fields.{AreBytes-take, AreBytes-drop, numeral_64}
@@ -24,6 +24,7 @@ use Rattle.tr_packet.specs.declared.head.Head.{Head}
 use Rattle.tr_packet.proofs.LayoutLemmas.{HeadFits, fields_read, fields_stand}
 use Rattle.tr_packet.proofs.TextLemmas.{length-packet_text}
 use Rattle.tr_packet.proofs.OrderLemmas.{both, first_holds, second_holds, in_order-within, moments_hold_says}
+use Rattle.tr_terms.specs.declared.limits.TheConstants.{LAST_MOMENT}
 
 -- ---- the front
 
@@ -149,18 +150,18 @@ verdict_ok false starts order limit n last m e = absurd (err_is_ok m SerialOrder
 abbrev told : List Entry → ℕ × ℕ
 told es = (length es, unwrap_or (last_serial_after None es) 0)
 
-pub judged_ok : (begin end : ℕ) (n : ℕ × ℕ) (o : Option (List Entry)) → judged begin end o ≡ Ok n → end ≤ last_moment → (records_fault begin end o ≡ None) × (n ≡ told (unwrap_or o []))
+pub judged_ok : (begin end : ℕ) (n : ℕ × ℕ) (o : Option (List Entry)) → judged begin end o ≡ Ok n → end ≤ LAST_MOMENT → (records_fault begin end o ≡ None) × (n ≡ told (unwrap_or o []))
 judged_ok begin end n None e within = absurd (err_is_ok n BadRecord e)
 judged_ok begin end n (Some es) e within =
-    let v = verdict_ok (serials_rise es) (starts_at begin es) (in_order begin end es) (leb end last_moment) (length es) (last_serial_after None es) n e in
-    (v.0 ∙ ap (order_fault true) (le-leb end last_moment within), v.1)
+    let v = verdict_ok (serials_rise es) (starts_at begin es) (in_order begin end es) (leb end LAST_MOMENT) (length es) (last_serial_after None es) n e in
+    (v.0 ∙ ap (order_fault true) (le-leb end LAST_MOMENT within), v.1)
 
-above : (begin end : ℕ) (es : List Entry) → starts_at begin es && in_order begin end es ≡ true → (last_moment < begin) ⊎ (last_moment < end) → leb end last_moment ≡ false
+above : (begin end : ℕ) (es : List Entry) → starts_at begin es && in_order begin end es ≡ true → (LAST_MOMENT < begin) ⊎ (LAST_MOMENT < end) → leb end LAST_MOMENT ≡ false
 above begin end es h late =
     let order = in_order-within begin end es (second_holds (starts_at begin es) (in_order begin end es) h) in
     elim late [
-      | inl begin_late ↦ lt-leb end last_moment (omega arith)
-      | inr end_late ↦ lt-leb end last_moment end_late
+      | inl begin_late ↦ lt-leb end LAST_MOMENT (omega arith)
+      | inr end_late ↦ lt-leb end LAST_MOMENT end_late
     ]
 
 verdict_holds : (rise hold : Bool) (n : ℕ) (last : Option ℕ) (m : ℕ × ℕ) → verdict rise hold n last ≡ Ok m → hold ≡ true
@@ -169,16 +170,16 @@ verdict_holds true false n last m e = absurd (err_is_ok m MomentOrder e)
 verdict_holds false hold n last m e = absurd (err_is_ok m SerialOrder e)
 
 -- a moment above the limit is the fault of records that have no other
-pub judged_late : (begin end : ℕ) (n : ℕ × ℕ) (o : Option (List Entry)) → judged begin end o ≡ Ok n → (last_moment < begin) ⊎ (last_moment < end) → records_fault begin end o ≡ Some MomentOrder
+pub judged_late : (begin end : ℕ) (n : ℕ × ℕ) (o : Option (List Entry)) → judged begin end o ≡ Ok n → (LAST_MOMENT < begin) ⊎ (LAST_MOMENT < end) → records_fault begin end o ≡ Some MomentOrder
 judged_late begin end n None e late = absurd (err_is_ok n BadRecord e)
 judged_late begin end n (Some es) e late =
     let hold = verdict_holds (serials_rise es) (starts_at begin es && in_order begin end es) (length es) (last_serial_after None es) n e in
-    (verdict_ok (serials_rise es) (starts_at begin es) (in_order begin end es) (leb end last_moment) (length es) (last_serial_after None es) n e).0
+    (verdict_ok (serials_rise es) (starts_at begin es) (in_order begin end es) (leb end LAST_MOMENT) (length es) (last_serial_after None es) n e).0
     ∙ ap (order_fault true) (above begin end es hold late)
 
 -- ---- where no fault applies, a packet stands in front
 
-in_time : (from to : ℕ) (es : List Entry) → AllByRecursion HasText es → IsTrue (in_order from to es) → to ≤ last_moment → AllByRecursion Fits es
+in_time : (from to : ℕ) (es : List Entry) → AllByRecursion HasText es → IsTrue (in_order from to es) → to ≤ LAST_MOMENT → AllByRecursion Fits es
 in_time from to [] text order limit = tt
 in_time from to (e ∷ es) text order limit =
     let others = second_holds (leb from e.moment) (in_order e.moment to es) order in
@@ -339,14 +340,14 @@ fault_behind : (bytes : List ℕ) → front_fault bytes ≡ None → first_fault
 fault_behind bytes none = ap (λ (o : Option PacketFault). option_or o (records_fault (begin_in bytes) (end_in bytes) (entries_at (body_in bytes)))) none
 
 pub sound_records : (bytes body : List ℕ) (begin end : ℕ) (n : ℕ × ℕ) → front_fault bytes ≡ None → body ≡ body_in bytes → begin ≡ begin_in bytes → end ≡ end_in bytes
-    → Ok n ≡ judged begin end (entries_at body) → end_in bytes ≤ last_moment → (first_fault bytes ≡ None) × (n ≡ told (entries_of body))
+    → Ok n ≡ judged begin end (entries_at body) → end_in bytes ≤ LAST_MOMENT → (first_fault bytes ≡ None) × (n ≡ told (entries_of body))
 unfolding entries_of
 sound_records bytes body begin end n none is begin-is end-is judged-is within =
     let ok = judged_ok (begin_in bytes) (end_in bytes) n (entries_at (body_in bytes)) (sym (judged-is ∙ judged_in bytes body begin end is begin-is end-is)) within in
     (fault_behind bytes none ∙ ok.0, ok.1 ∙ ap (λ (b : List ℕ). told (unwrap_or (entries_at b) [])) (sym is))
 
 pub late_records : (bytes body : List ℕ) (begin end : ℕ) (n : ℕ × ℕ) → front_fault bytes ≡ None → body ≡ body_in bytes → begin ≡ begin_in bytes → end ≡ end_in bytes
-    → Ok n ≡ judged begin end (entries_at body) → (last_moment < begin_in bytes) ⊎ (last_moment < end_in bytes) → first_fault bytes ≡ Some MomentOrder
+    → Ok n ≡ judged begin end (entries_at body) → (LAST_MOMENT < begin_in bytes) ⊎ (LAST_MOMENT < end_in bytes) → first_fault bytes ≡ Some MomentOrder
 late_records bytes body begin end n none is begin-is end-is judged-is late =
     fault_behind bytes none ∙ judged_late (begin_in bytes) (end_in bytes) n (entries_at (body_in bytes)) (sym (judged-is ∙ judged_in bytes body begin end is begin-is end-is)) late
 

@@ -3,11 +3,12 @@ use Rattle.std.proofs.Common.{◌≡◌, ℕ, ◌+◌, ◌<◌, ◌≤◌, Bool,
 use Rattle.std.specs.Prelude.{IsTrue}
 use Rattle.std.specs.List.{AllByRecursion}
 use Rattle.std.proofs.lemmas.Bool.{leb-true, le-leb, lt-ltb, eq-eqb}
-use Rattle.tr_record.specs.Records.{Entry, last_moment, Fits}
+use Rattle.tr_record.specs.Records.{Entry, Fits}
 use Rattle.tr_record.specs.Weight.{record_weight, weight_of}
 use Rattle.tr_record.proofs.RecordLemmas.{all_push, all_weaken, weight_of-push}
 use Rattle.tr_packet.specs.Order.{follows, serials_rise_after, serials_rise, in_order, starts_at, moments_hold, IsBelow}
 use Rattle.tr_packet.specs.Packets.{MakePacket}
+use Rattle.tr_terms.specs.declared.limits.TheConstants.{LAST_MOMENT}
 
 pub both : (a b : Bool) → a ≡ true → b ≡ true → (a && b) ≡ true
 both true b p q = q
@@ -68,21 +69,21 @@ starts_at-push begin (x ∷ xs) e h = h
 pub record Hold (begin end : ℕ) (es : List Entry) : Type 0 where
   pub starts : IsTrue (starts_at begin es)
   pub order : IsTrue (in_order begin end es)
-  pub limit : end ≤ last_moment
+  pub limit : end ≤ LAST_MOMENT
 
 pub moments_hold_says : (begin end : ℕ) (es : List Entry) → IsTrue (moments_hold begin end es) → Hold begin end es
 moments_hold_says begin end es h =
-    let rest = second_holds (starts_at begin es) (in_order begin end es && leb end last_moment) h in
+    let rest = second_holds (starts_at begin es) (in_order begin end es && leb end LAST_MOMENT) h in
     record {
-      starts = first_holds (starts_at begin es) (in_order begin end es && leb end last_moment) h;
-      order = first_holds (in_order begin end es) (leb end last_moment) rest;
-      limit = leb-true end last_moment (second_holds (in_order begin end es) (leb end last_moment) rest);
+      starts = first_holds (starts_at begin es) (in_order begin end es && leb end LAST_MOMENT) h;
+      order = first_holds (in_order begin end es) (leb end LAST_MOMENT) rest;
+      limit = leb-true end LAST_MOMENT (second_holds (in_order begin end es) (leb end LAST_MOMENT) rest);
     }
 
 pub moments_hold_from : (begin end : ℕ) (es : List Entry) → Hold begin end es → IsTrue (moments_hold begin end es)
 moments_hold_from begin end es h =
-    both (starts_at begin es) (in_order begin end es && leb end last_moment) h.starts
-    (both (in_order begin end es) (leb end last_moment) h.order (le-leb end last_moment h.limit))
+    both (starts_at begin es) (in_order begin end es && leb end LAST_MOMENT) h.starts
+    (both (in_order begin end es) (leb end LAST_MOMENT) h.order (le-leb end LAST_MOMENT h.limit))
 
 -- ---- packets
 
@@ -116,7 +117,7 @@ MakePacket-push begin end es e p fits below le small =
     }
 
 -- a packet may be closed later
-pub MakePacket-later : (begin end later : ℕ) (es : List Entry) → MakePacket begin end es → end ≤ later → later ≤ last_moment → MakePacket begin later es
+pub MakePacket-later : (begin end later : ℕ) (es : List Entry) → MakePacket begin end es → end ≤ later → later ≤ LAST_MOMENT → MakePacket begin later es
 MakePacket-later begin end later es p le limit =
     let h = moments_hold_says begin end es p.moments in
     record {

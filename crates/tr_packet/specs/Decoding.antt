@@ -9,6 +9,7 @@ use Rattle.tr_packet.specs.Order.{serials_rise, moments_hold}
 use Rattle.tr_packet.specs.Packets.{Contents, IsPacket, magic, packet_text}
 use Rattle.tr_packet.specs.declared.fault.PacketFault.{PacketFault}
 use Rattle.tr_packet.specs.declared.fault.PacketFault.TheVariants.{Short, BadMagic, BadStreamId, BadSize, BadRecord, SerialOrder, MomentOrder}
+use Rattle.tr_terms.specs.declared.limits.TheConstants.{LARGEST_PACKET, PACKET_HEADER, SMALLEST_PACKET}
 
 -- ---- a packet that stands in front
 
@@ -42,9 +43,9 @@ content_bits_in = number_from w64 48
 abbrev pub packet_bits_in : List ℕ → ℕ
 packet_bits_in = number_from w64 56
 
--- the bytes of the records: from 80 to the packet's end
+-- the bytes of the records: from behind the header to the packet's end
 abbrev pub body_in : List ℕ → List ℕ
-body_in bytes = drop 80 (take (packet_bits_in bytes / 8) bytes)
+body_in bytes = drop PACKET_HEADER (take (packet_bits_in bytes / 8) bytes)
 
 -- what the fields say, and the records
 abbrev pub contents_in : List ℕ → Contents
@@ -64,12 +65,12 @@ contents_in bytes = record {
 
 -- the sizes, in bits, are equal and a multiple of 8, and say 104 to 65,536 bytes
 abbrev pub sizes_hold : ℕ → ℕ → Bool
-sizes_hold content size = nat_eq content size && (nat_eq (size % 8) 0 && (nat_le (8 * 104) size && nat_le size (8 * 65536)))
+sizes_hold content size = nat_eq content size && (nat_eq (size % 8) 0 && (nat_le (8 * SMALLEST_PACKET) size && nat_le size (8 * LARGEST_PACKET)))
 
 -- the first fault of the fields and of the number of bytes
 unfoldable pub front_fault : List ℕ → Option PacketFault
 front_fault bytes =
-    if nat_lt (length bytes) 80 then Some Short
+    if nat_lt (length bytes) PACKET_HEADER then Some Short
     else if not (starts_with nat_eq bytes magic) then Some BadMagic
     else if not (nat_eq (stream_id_in bytes) 0) then Some BadStreamId
     else if not (sizes_hold (content_bits_in bytes) (packet_bits_in bytes)) then Some BadSize

@@ -1,7 +1,8 @@
 -- The order of a packet's records.
 use Rattle.std.specs.Prelude.{ℕ, ◌<◌, Bool, true, false, ◌&&◌, nat_eq, nat_le, nat_lt, List, [], ◌∷◌, map, Option, Some, None}
 use Rattle.std.specs.List.{last_or}
-use Rattle.tr_record.specs.Records.{Entry, last_moment}
+use Rattle.tr_record.specs.Records.{Entry}
+use Rattle.tr_terms.specs.declared.limits.TheConstants.{LAST_MOMENT}
 
 -- a number may come after the one before it, if any
 abbrev pub follows : Option ℕ → ℕ → Bool
@@ -32,7 +33,7 @@ starts_at begin (e ∷ es) = nat_eq e.moment begin
 
 -- begin is the first record's moment, the moments don't fall up to end, and end is no moment above the limit
 abbrev pub moments_hold : ℕ → ℕ → List Entry → Bool
-moments_hold begin end es = starts_at begin es && (in_order begin end es && nat_le end last_moment)
+moments_hold begin end es = starts_at begin es && (in_order begin end es && nat_le end LAST_MOMENT)
 
 -- the serial is below n
 abbrev pub IsBelow : ℕ → Entry → Type 0

@@ -6,6 +6,7 @@ use Rattle.tr_record.specs.Records.{Entry, records_text, Fits}
 use Rattle.tr_record.specs.Weight.{weight_of}
 use Rattle.tr_packet.specs.Order.{serials_rise, moments_hold}
 use Rattle.tr_packet.specs.declared.head.Head.{Head}
+use Rattle.tr_terms.specs.declared.limits.TheConstants.{LARGEST_PACKET}
 
 -- a packet, wherever it lies in memory
 pub record Contents : Type 0 where
@@ -41,7 +42,7 @@ pub record MakePacket (begin end : ℕ) (es : List Entry) : Type 0 where
   pub fits : AllByRecursion Fits es
   pub serials : IsTrue (serials_rise es)
   pub moments : IsTrue (moments_hold begin end es)
-  pub small : weight_of es ≤ 65536
+  pub small : weight_of es ≤ LARGEST_PACKET
 
 -- what a packet obeys
 pub record IsPacket (p : Contents) : Type 0 where

@@ -5,9 +5,10 @@ ghost use Rattle.tr_packet.specs.Decoding.{Begins, packet_bits_in, contents_in, 
 ghost use Rattle.tr_packet.specs.Packets.{Contents, packet_size};
 
 use crate::fault::PacketFault;
-use crate::fields::{FRONT, head_in, size_of_front, u64_from};
+use crate::fields::{head_in, size_of_front, u64_from};
 use crate::seen::judge_records;
 use crate::view::PacketView;
+use tr_terms::limits::PACKET_HEADER;
 
 /// The packet that the fields in front give, and how many bytes they say that it has, or the first fault.
 fn packet_in(bytes: &[u8]) -> Result<(PacketView<'_>, usize), PacketFault>
@@ -18,7 +19,7 @@ fn packet_in(bytes: &[u8]) -> Result<(PacketView<'_>, usize), PacketFault>
 {
     let size = size_of_front(bytes)?;
     let (text, _) = bytes.split_at(size);
-    let (_, body) = text.split_at(FRONT);
+    let (_, body) = text.split_at(PACKET_HEADER);
     let (count, last_serial) = judge_records(body, u64_from(bytes, 32), u64_from(bytes, 40))?;
     let Some(head) = head_in(bytes) else {
         return Err(PacketFault::MomentOrder);

@@ -2,19 +2,17 @@
 
 ghost use Rattle.std.specs.Prelude.{◌≡◌, ◌+◌, ◌≤◌, ◌/◌, ◌<◌, ◌⊎◌, length, IfSome, IfNone, IfOk, IfErr, Some, None, true, false};
 ghost use Rattle.std.specs.Int.{w32, w64};
-ghost use Rattle.tr_record.specs.Records.{last_moment};
+ghost use Rattle.tr_terms.specs.declared.limits.TheConstants.{LAST_MOMENT, PACKET_HEADER};
 ghost use Rattle.tr_packet.specs.Decoding.{number_from, bytes_from, packet_bits_in, sizes_hold, front_fault, begin_in, end_in, contents_in};
 
 use crate::fault::PacketFault;
 use crate::head::Head;
 use tr_record::{Moment, u32_at, u64_at};
+use tr_terms::limits::{LARGEST_PACKET, PACKET_HEADER, SMALLEST_PACKET};
 use uuid::Uuid;
 
 /// The number 0xC1FC1FC1, lowest byte first.
 pub(crate) const MAGIC: [u8; 4] = [0xC1, 0x1F, 0xFC, 0xC1];
-
-/// How many bytes stand before the records.
-pub(crate) const FRONT: usize = 80;
 
 /// The number in the four bytes from `at` on, lowest byte first.
 fn u32_from(bytes: &[u8], at: usize) -> u32
@@ -62,7 +60,7 @@ fn bytes_of(content: u64, size: u64) -> Option<usize>
         return None;
     }
     let bytes = size / 8;
-    if !(104..=65_536).contains(&bytes) {
+    if !(SMALLEST_PACKET as u64..=LARGEST_PACKET as u64).contains(&bytes) {
         return None;
     }
     Some(bytes as usize)
@@ -74,7 +72,7 @@ pub(crate) fn size_of_front(bytes: &[u8]) -> Result<usize, PacketFault>
     ensures size { IfOk result (λ n. (front_fault bytes.now ≡ None) × (n ≡ packet_bits_in bytes.now / 8)) }
     ensures fault { IfErr result (λ f. front_fault bytes.now ≡ Some f) }
 {
-    if bytes.len() < FRONT {
+    if bytes.len() < PACKET_HEADER {
         return Err(PacketFault::Short);
     }
     if !bytes.starts_with(&MAGIC) {
@@ -94,10 +92,10 @@ pub(crate) fn size_of_front(bytes: &[u8]) -> Result<usize, PacketFault>
 
 /// What the packet in front says beside its records. None where a moment is above the limit.
 pub(crate) fn head_in(bytes: &[u8]) -> Option<Head>
-    requires { 80 ≤ length bytes.now }
+    requires { PACKET_HEADER ≤ length bytes.now }
     ensures some { IfSome result (λ h. h ≡ (contents_in bytes.now).head) }
-    ensures limits { IfSome result (λ h. (begin_in bytes.now ≤ last_moment) × (end_in bytes.now ≤ last_moment)) }
-    ensures none { IfNone result ((last_moment < begin_in bytes.now) ⊎ (last_moment < end_in bytes.now)) }
+    ensures limits { IfSome result (λ h. (begin_in bytes.now ≤ LAST_MOMENT) × (end_in bytes.now ≤ LAST_MOMENT)) }
+    ensures none { IfNone result ((LAST_MOMENT < begin_in bytes.now) ⊎ (LAST_MOMENT < end_in bytes.now)) }
 {
     let begin = Moment::new(u64_from(bytes, 32))?;
     let end = Moment::new(u64_from(bytes, 40))?;

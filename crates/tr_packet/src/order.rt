@@ -4,21 +4,20 @@ ghost use Rattle.std.specs.Prelude.{◌≡◌, ◌≤◌, ◌↔◌, IsTrue};
 ghost use Rattle.std.specs.List.{AllByRecursion};
 ghost use Rattle.tr_record.specs.Records.{Fits};
 ghost use Rattle.tr_record.specs.Weight.{weight_of};
-ghost use Rattle.tr_packet.specs.Order.{follows, serials_rise, in_order, starts_at, moments_hold};
+ghost use Rattle.tr_packet.specs.Order.{follows, serials_rise, in_order, moments_hold};
 ghost use Rattle.tr_packet.specs.Packets.{MakePacket};
+ghost use Rattle.tr_terms.specs.declared.limits.TheConstants.{LARGEST_PACKET};
 
 use std::alloc::Allocator;
 use tr_record::{Moment, Rec};
-
-/// The most bytes that a packet has.
-const MOST_BYTES: usize = 65_536;
+use tr_terms::limits::{LARGEST_PACKET, PACKET_HEADER};
 
 /// How many bytes a packet of these records has.
 pub(crate) fn size_of<A: Allocator>(records: &[Rec<A>]) -> usize
-    requires { weight_of records.now ≤ 65536 }
+    requires { weight_of records.now ≤ LARGEST_PACKET }
     ensures { result ≡ weight_of records.now }
 {
-    let mut size = 80;
+    let mut size = PACKET_HEADER;
     for r in records {
         size += r.size();
     }
@@ -27,13 +26,13 @@ pub(crate) fn size_of<A: Allocator>(records: &[Rec<A>]) -> usize
 
 /// Whether a packet of these records has at most 65,536 bytes.
 fn are_small<A: Allocator>(records: &[Rec<A>]) -> bool
-    ensures small { IsTrue result ↔ (weight_of records.now ≤ 65536) }
+    ensures small { IsTrue result ↔ (weight_of records.now ≤ LARGEST_PACKET) }
     ensures fits { IsTrue result → AllByRecursion Fits records.now }
 {
-    let mut weight = 80;
+    let mut weight = PACKET_HEADER;
     for r in records {
         weight += r.size();
-        if weight > MOST_BYTES {
+        if weight > LARGEST_PACKET {
             return false;
         }
     }

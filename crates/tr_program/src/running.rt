@@ -36,7 +36,7 @@ fn write_all<D: Disk>(
         let Some((name, session)) = console.session(k) else {
             unreachable!()
         };
-        write_archives(alloc, disk, dir, name, session)?;
+        write_archives(alloc, disk, dir, &name, session)?;
     }
     Ok(())
 }

@@ -1,13 +1,14 @@
 -- A record is read exactly where its text stands in front.
 use Rattle.std.proofs.Common.{◌≡◌, ℕ, ◌+◌, ◌<◌, ◌≤◌, List, ◌++◌, length, take, drop, Option, Some, None, IfSome, IsSomeAnd, Bor, refl, sym, ap, ◌∙◌, arith}
 use Rattle.std.proofs.lemmas.List.{take_at, take-append-drop, length-append}
-use Rattle.tr_record.specs.Records.{Entry, record_text, last_moment, Stands}
+use Rattle.tr_record.specs.Records.{Entry, record_text, Stands}
 use Rattle.tr_record.specs.Reading.{entry_at, Gives, Begins}
 use Rattle.tr_record.specs.Raw.{entry_of}
 use Rattle.tr_record.specs.declared.raw.RawRec.{RawRec}
 use Rattle.tr_record.proofs.Fields.{some_is, entry_takes, entry_again}
 use Rattle.tr_record.specs.Whole.{AreBytes}
 use Rattle.tr_record.proofs.RecordLemmas.{length-record_text, fits_has_text}
+use Rattle.tr_terms.specs.declared.limits.TheConstants.{LAST_MOMENT}
 
 pub read_begins : (bytes : List ℕ) (e : Entry) (rest : List ℕ) → AreBytes bytes → entry_at bytes ≡ Some (e, rest) → Begins e rest bytes
 read_begins bytes e rest small read = let t = entry_takes bytes (e, rest) small read in record { text = t.1; parts = t.0.parts }
@@ -15,7 +16,7 @@ read_begins bytes e rest small read = let t = entry_takes bytes (e, rest) small 
 pub begins_read : (bytes : List ℕ) (e : Entry) (rest : List ℕ) → Begins e rest bytes → entry_at bytes ≡ Some (e, rest)
 begins_read bytes e rest b = ap entry_at b.parts ∙ entry_again e rest b.text
 
-pub begins_stands : (bytes : List ℕ) (e : Entry) (rest : List ℕ) → Begins e rest bytes → e.moment ≤ last_moment → Stands e (24 + length e.payload) bytes
+pub begins_stands : (bytes : List ℕ) (e : Entry) (rest : List ℕ) → Begins e rest bytes → e.moment ≤ LAST_MOMENT → Stands e (24 + length e.payload) bytes
 begins_stands bytes e rest b in_time =
     let len = length-record_text e in
     let whole = ap length b.parts in
@@ -33,7 +34,7 @@ stands_begins bytes e n s = record {
 }
 
 -- what is read stands there
-pub read_stands : (bytes : List ℕ) (e : Entry) (rest : List ℕ) → AreBytes bytes → entry_at bytes ≡ Some (e, rest) → e.moment ≤ last_moment → Stands e (24 + length e.payload) bytes
+pub read_stands : (bytes : List ℕ) (e : Entry) (rest : List ℕ) → AreBytes bytes → entry_at bytes ≡ Some (e, rest) → e.moment ≤ LAST_MOMENT → Stands e (24 + length e.payload) bytes
 read_stands bytes e rest small read in_time = begins_stands bytes e rest (read_begins bytes e rest small read) in_time
 
 -- where fewer bytes are there than stand before a payload, no record is read

@@ -2,6 +2,7 @@
 use Rattle.std.specs.Prelude.{◌≡◌, ℕ, ◌+◌, ◌^◌, ◌<◌, ◌≤◌, Bool, ◌==◌, List, ◌++◌, length, take}
 use Rattle.std.specs.Int.{w32, w64, to_le_bytes}
 use Rattle.std.specs.List.{flat_map, list_any}
+use Rattle.tr_terms.specs.declared.limits.TheConstants.{LAST_MOMENT, RECORD_HEADER}
 
 -- a record, wherever it lies in memory
 pub record Entry : Type 0 where
@@ -9,10 +10,6 @@ pub record Entry : Type 0 where
   pub moment : ℕ
   pub id : ℕ
   pub payload : List ℕ
-
--- the greatest moment, in nanoseconds since 1970
-abbrev pub last_moment : ℕ
-last_moment = 9000000000000000000
 
 -- id, moment, serial and the payload's length, lowest byte first, and then the payload
 abbrev pub record_text : Entry → List ℕ
@@ -38,13 +35,13 @@ pub record HasText (e : Entry) : Type 0 where
 -- what a record obeys: beside that, its moment is within the limit
 pub record Fits (e : Entry) : Type 0 where
   pub serial : e.serial < 2 ^ 64
-  pub moment : e.moment ≤ last_moment
+  pub moment : e.moment ≤ LAST_MOMENT
   pub id : e.id < 2 ^ 32
   pub payload : length e.payload < 2 ^ 32
 
 -- the text of the record e stands at the front of the bytes, and is n bytes long
 pub record Stands (e : Entry) (n : ℕ) (bytes : List ℕ) : Type 0 where
   pub fits : Fits e
-  pub size : n ≡ 24 + length e.payload
+  pub size : n ≡ RECORD_HEADER + length e.payload
   pub within : n ≤ length bytes
   pub text : take n bytes ≡ record_text e

@@ -5,7 +5,6 @@
 mod bytes;
 pub mod laws;
 mod memory;
-mod moment;
 mod raw;
 mod reading;
 mod record;
@@ -16,11 +15,11 @@ mod writing;
 
 pub use bytes::{ByteSink, ByteSource, Failed, put_all};
 pub use memory::{MemorySink, MemorySource};
-pub use moment::Moment;
 pub use raw::RawRec;
 pub use reading::{read_raw, read_rec, u32_at, u64_at};
 pub use record::Rec;
 pub use records::Records;
 pub use streams::{ReaderSource, WriterSink};
+pub use tr_terms::Moment;
 pub use view::RecView;
 pub use writing::{put_bytes, put_rec, put_u32, put_u64, rec_size};

@@ -6,12 +6,10 @@ ghost use Rattle.tr_record.specs.Records.{Entry, Stands};
 ghost use Rattle.tr_record.specs.Reading.{Gives, Begins, number_at, payload_at, entry_at};
 ghost use Rattle.tr_record.specs.Raw.{entry_of};
 
-use crate::moment::Moment;
 use crate::raw::RawRec;
 use crate::view::RecView;
-
-/// How many bytes stand before the payload.
-const FRONT: usize = 24;
+use tr_terms::Moment;
+use tr_terms::limits::RECORD_HEADER;
 
 /// The number in the first four bytes, lowest byte first, and the bytes behind it. None of fewer bytes.
 pub fn u32_at(bytes: &[u8]) -> Option<(u32, &[u8])>
@@ -42,7 +40,7 @@ fn fields_of(bytes: &[u8]) -> Option<(RawRec<'_>, &[u8])>
     ensures { Gives (λ x. (entry_of x.0, x.1.now)) result (entry_at bytes.now) }
 {
     // One test for all of the fields, so that no field needs one of its own.
-    if bytes.len() < FRONT {
+    if bytes.len() < RECORD_HEADER {
         return None;
     }
     let (id, rest) = u32_at(bytes)?;
@@ -78,6 +76,6 @@ pub fn read_rec(bytes: &[u8]) -> Option<(RecView<'_>, usize)>
 {
     let (raw, _) = read_raw(bytes)?;
     let moment = Moment::new(raw.moment)?;
-    let size = FRONT + raw.payload.len();
+    let size = RECORD_HEADER + raw.payload.len();
     Some((RecView::new(raw.serial, moment, raw.id, raw.payload), size))
 }

@@ -4,10 +4,11 @@ ghost use Rattle.std.specs.Prelude.{◌≡◌, ◌<◌, ◌^◌, IfOk, length, v
 ghost use Rattle.tr_record.specs.Records.{Fits};
 ghost use Rattle.tr_record.specs.Weight.{record_weight};
 
-use crate::moment::Moment;
 use crate::view::RecView;
 use std::alloc::{AllocError, Allocator, Global};
 use std::marker::Model;
+use tr_terms::Moment;
+use tr_terms::limits::RECORD_HEADER;
 
 /// An accepted offer: its serial, moment, id and payload, of fewer than 2^32 bytes. Contracts see it as an `Entry`.
 #[derive(Drop, Debug)]
@@ -98,7 +99,7 @@ impl<A: Allocator> Rec<A> {
         ensures value { result ≡ record_weight self.now }
         ensures fits { Fits self.now }
     {
-        24 + self.payload.len()
+        RECORD_HEADER + self.payload.len()
     }
 
     /// The same record, with its payload left where it is.

@@ -4,10 +4,10 @@ ghost use Rattle.std.specs.Prelude.{◌≡◌, ◌↔◌, IsTrue, IsSome, IfSome
 ghost use Rattle.std.specs.Iterator.{YieldsFirst, item_count};
 ghost use Rattle.tr_record.specs.Whole.{AreWhole, entries_of};
 
-use crate::moment::Moment;
 use crate::reading::{read_raw, read_rec};
 use crate::view::RecView;
 use std::marker::Model;
+use tr_terms::Moment;
 
 /// The records whose texts stand end to end in bytes, read as they are asked for. Contracts see the list of those that
 /// are left.

@@ -4,8 +4,9 @@ ghost use Rattle.std.specs.Prelude.{◌≡◌, ◌<◌, ◌^◌, length};
 ghost use Rattle.tr_record.specs.Records.{Fits};
 ghost use Rattle.tr_record.specs.Weight.{record_weight};
 
-use crate::moment::Moment;
 use std::marker::Model;
+use tr_terms::Moment;
+use tr_terms::limits::RECORD_HEADER;
 
 /// A record that borrows its payload, of fewer than 2^32 bytes. Contracts see it as an `Entry`.
 #[derive(Drop, Debug)]
@@ -80,6 +81,6 @@ impl<'a> RecView<'a> {
         ensures value { result ≡ record_weight self.now }
         ensures fits { Fits self.now }
     {
-        24 + self.payload.len()
+        RECORD_HEADER + self.payload.len()
     }
 }

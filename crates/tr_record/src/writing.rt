@@ -4,16 +4,18 @@ ghost use Rattle.std.specs.Prelude.{◌≡◌, ◌+◌, ◌≤◌, ◌<◌, ◌^
 ghost use Rattle.std.specs.Int.{w32, w64, to_le_bytes};
 ghost use Rattle.tr_record.specs.Records.{record_text, Fits};
 ghost use Rattle.tr_record.specs.Weight.{record_weight};
+ghost use Rattle.tr_terms.specs.declared.limits.TheConstants.{RECORD_HEADER};
 
 use crate::view::RecView;
 use std::alloc::Allocator;
+use tr_terms::limits::RECORD_HEADER;
 
 /// The bytes of the text of a record with a payload of this length.
 pub fn rec_size(len: usize) -> usize
-    requires { 24 + len < 2 ^ 64 }
-    ensures { result ≡ 24 + len }
+    requires { RECORD_HEADER + len < 2 ^ 64 }
+    ensures { result ≡ RECORD_HEADER + len }
 {
-    24 + len
+    RECORD_HEADER + len
 }
 
 /// Writes these bytes behind the others, into room that is reserved.

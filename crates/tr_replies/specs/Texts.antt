@@ -28,8 +28,8 @@ use Rattle.tr_stream.specs.Rules.{StreamRules}
 use Rattle.tr_stream.specs.declared.answers.Offered.{Offered}
 use Rattle.tr_stream.specs.declared.answers.Offered.TheVariants.{Stored, StoredOver, Discarded}
 use Rattle.tr_stream.specs.declared.answers.Taken.{Taken}
-use Rattle.tr_stream.specs.declared.config.SessionMode.{SessionMode}
-use Rattle.tr_stream.specs.declared.config.SessionMode.TheVariants.{Local, Snapshot}
+use Rattle.tr_terms.specs.declared.session_mode.SessionMode.{SessionMode}
+use Rattle.tr_terms.specs.declared.session_mode.SessionMode.TheVariants.{Local, Snapshot}
 use Rattle.tr_stream.specs.declared.fate.Fate.{Fate}
 use Rattle.tr_stream.specs.declared.fate.Fate.TheVariants as fate
 

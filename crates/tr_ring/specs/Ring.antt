@@ -8,6 +8,7 @@ use Rattle.tr_subbuf.specs.SubBuffer.{SubBuffer, has_room}
 use Rattle.tr_ring.specs.declared.pushed.Pushed.{Pushed}
 use Rattle.tr_ring.specs.declared.pushed.Pushed.TheVariants.{Stored, StoredOver, Refused}
 use Rattle.tr_ring.specs.ClosedBuffer.{ClosedBuffer}
+use Rattle.tr_terms.specs.declared.limits.TheConstants.{LARGEST_PACKET, SMALLEST_PACKET}
 
 -- the closed sub-buffers that wait, the oldest first; the current one's records and number; how many records the ring refused;
 -- each sub-buffer's size, how many there are, and whether the oldest one gives way
@@ -98,6 +99,6 @@ pub record IsRing (r : RingState) : Type 0 where
   pub room : length r.waiting + 1 ≤ r.count
   pub closed : AllByRecursion (IsClosedWithin r.size) r.waiting
   pub current : weight_of r.current ≤ r.size
-  pub size_low : 104 ≤ r.size
-  pub size_high : r.size ≤ 65536
+  pub size_low : SMALLEST_PACKET ≤ r.size
+  pub size_high : r.size ≤ LARGEST_PACKET
   pub count_low : 2 ≤ r.count

@@ -1,10 +1,11 @@
 //! `Ring`, closed sub-buffers and the current one.
 
-ghost use Rattle.std.specs.Prelude.{◌≡◌, ◌≢◌, ◌+◌, ◌≤◌, ◌<◌, ◌^◌, [], ◌∷◌, ◌++◌, IsTrue, IfOk, OnOk, OnErr, length, option_copied, slice_get};
+ghost use Rattle.std.specs.Prelude.{◌≡◌, ◌≢◌, ◌+◌, ◌≤◌, ◌<◌, ◌^◌, [], ◌∷◌, ◌++◌, IfOk, OnOk, OnErr, length, option_copied, slice_get};
 ghost use Rattle.tr_record.specs.Weight.{weight_of};
 ghost use Rattle.circular_buffer.specs.Buffer.{buffer};
 ghost use Rattle.tr_subbuf.specs.SubBuffer.{empty_buffer, with_record};
 ghost use Rattle.tr_ring.specs.Ring.{IsRing, empty_ring, current_buffer, after_push, push_answer, without_first, closed_at, emptied, seq_waiting, seq_of};
+ghost use Rattle.tr_terms.specs.declared.limits.TheConstants.{LARGEST_PACKET, SMALLEST_PACKET};
 
 use crate::closed::ClosedSubBuf;
 use crate::pushed::Pushed;
@@ -67,7 +68,7 @@ fn seq_waiting<A: Allocator>(
 impl<A: Allocator + Copy> Ring<A> {
     /// An empty ring of `n` sub-buffers of `size` bytes each, in which `overwrite` says whether the oldest gives way.
     pub fn new(alloc: A, size: usize, n: usize, overwrite: bool) -> Result<Ring<A>, AllocError>
-        requires size { (104 ≤ size) × (size ≤ 65536) }
+        requires size { (SMALLEST_PACKET ≤ size) × (size ≤ LARGEST_PACKET) }
         requires n { 2 ≤ n }
         ensures { IfOk result (λ r. r ≡ empty_ring size n overwrite) }
     {
@@ -84,6 +85,8 @@ impl<A: Allocator + Copy> Ring<A> {
 
     /// Stores a record whose text fits an empty sub-buffer, or refuses it. Where memory runs out, nothing changes;
     /// a record that is refused takes none.
+    // (one caller makes it, at each offer)
+    #[inline(always)]
     pub fn push(
         &mut self,
         moment: Moment,
@@ -91,7 +94,7 @@ impl<A: Allocator + Copy> Ring<A> {
         serial: u64,
         payload: &[u8],
     ) -> Result<Pushed, AllocError>
-        requires fits { 104 + length payload.now ≤ self.old.size }
+        requires fits { SMALLEST_PACKET + length payload.now ≤ self.old.size }
         requires numbers { self.old.seq + 1 < 2 ^ 64 }
         requires refusals { self.old.refused + 1 < 2 ^ 64 }
         ensures answer { IfOk result (λ p. p ≡ push_answer (record { serial = serial; moment = moment; id = id; payload = payload.now }) self.old) }
@@ -128,7 +131,7 @@ impl<A: Allocator + Copy> Ring<A> {
 
     /// A sub-buffer of the ring's size with this record alone.
     fn begun(&self, entry: &RecView<'_>) -> Result<SubBuf<A>, AllocError>
-        requires { 104 + length entry.now.payload ≤ self.now.size }
+        requires { SMALLEST_PACKET + length entry.now.payload ≤ self.now.size }
         ensures { IfOk result (λ b. b ≡ with_record entry.now (empty_buffer self.now.size)) }
     {
         let mut next = SubBuf::new(self.alloc, self.current.size());

@@ -7,7 +7,7 @@ ghost use Rattle.tr_schedule.specs.Schedules.{schedule_of};
 use crate::cause::Cause;
 use crate::faults::ScheduleFault;
 use std::marker::Model;
-use tr_record::Moment;
+use tr_terms::Moment;
 
 /// After which time, and at how many bytes, a rotation is due; either of them, both or none. Contracts see a
 /// `ScheduleState`.

@@ -7,17 +7,17 @@ use Rattle.std.specs.Map.{lookup}
 use Rattle.std.specs.Option.{option_map_or}
 use Rattle.std.specs.Prelude.{if◌then◌else◌, nat_le, nat_lt, slice_get, is_some}
 use Rattle.std.specs.Str.{bytes_eq}
-use Rattle.tr_book.specs.Geometry.{GeometryState, geometry_of, is_size, is_count}
-use Rattle.tr_book.specs.declared.geometry.GeometryFault.{GeometryFault}
-use Rattle.tr_book.specs.declared.geometry.GeometryFault.TheVariants as geometry
+use Rattle.tr_terms.specs.Geometry.{GeometryState, geometry_of, is_size, is_count}
+use Rattle.tr_terms.specs.declared.geometry.GeometryFault.{GeometryFault}
+use Rattle.tr_terms.specs.declared.geometry.GeometryFault.TheVariants as geometry
 use Rattle.tr_book.specs.Snaps.{SnapState}
 use Rattle.tr_book.specs.declared.counts.Counts.{Counts}
-use Rattle.tr_book.specs.declared.mode.Mode.{Mode}
+use Rattle.tr_terms.specs.declared.mode.Mode.{Mode}
 use Rattle.tr_schedule.specs.Schedules.{ScheduleState}
 use Rattle.tr_schedule.specs.declared.cause.Cause.{Cause}
 use Rattle.tr_session.specs.Agreement.{AllAgree, CanBeMade, AllCanBeMade, SessionsAgree}
 use Rattle.tr_session_book.specs.Book.{SessionBookState}
-use Rattle.tr_session_book.specs.BookSteps.{unless_refused, is_new, is_allowed, most_channels, channel_named, channel_made, channel_added, thread_place, with_thread, start_answer, started, after_start, stop_answer, stopped, after_stop, switch_answer, rotate_begin_answer, rotating, after_rotate_begin, cut_moment, with_cut, rotate_finish_answer, archived, after_rotate_finish, snapshot_allowed, snapshot_begin_answer, after_snapshot_begin, snap_allowed, schedule_answer, after_schedule, due_now}
+use Rattle.tr_session_book.specs.BookSteps.{unless_refused, is_new, is_allowed, channel_named, channel_made, channel_added, thread_place, with_thread, start_answer, started, after_start, stop_answer, stopped, after_stop, switch_answer, rotate_begin_answer, rotating, after_rotate_begin, cut_moment, with_cut, rotate_finish_answer, archived, after_rotate_finish, snapshot_allowed, snapshot_begin_answer, after_snapshot_begin, snap_allowed, schedule_answer, after_schedule, due_now}
 use Rattle.tr_session.specs.Session.{SessionOf}
 use Rattle.tr_session.specs.Sizes.{part_packets, part_bytes, archive_packets, archive_bytes}
 use Rattle.tr_session.specs.Steps.{with_book, session_channel_added, next_config, stream_made, thread_added, changed_at, offer_as_step, take_as_step, cut_as_step, offer_step, after_offer_step, take_step, after_take_step, cut_step_at, after_cut_step_at, cut_step, after_cut_step, snap_step_at, snap_step, after_switch_step, all_started, all_stopped, begun, finished, as_next, next_in, next_answer, after_next, cut_first, all_cut, rotated_answer, rotate_answer, after_rotate, seen_at, snapshot_answer, after_snapshot, current_sizes, tick_cause, as_ticked, tick_answer, after_tick, fate_asked}
@@ -33,6 +33,7 @@ use Rattle.tr_stream.specs.Rules.{Traced, Agrees, by_state, by_history}
 use Rattle.tr_stream.specs.State.{StreamState}
 use Rattle.tr_stream.specs.declared.answers.CutDone.{CutDone}
 use Rattle.tr_stream.specs.declared.fate.Fate.{Fate}
+use Rattle.tr_terms.specs.declared.limits.TheConstants.{MOST_CHANNELS}
 
 -- both are refused alike, or lead to sessions that agree
 abbrev pub ResultsAgree : Result (SessionOf StreamState) SessionFault → Result (SessionOf Traced) SessionFault → Type 0
@@ -292,9 +293,9 @@ made-geometry b name mode (Ok g) can is = by_test (is_allowed b.mode mode) refl
     by_test false e = rw e tt
 
 made-channel : (b : SessionBookState) (name : List ℕ) (size count : ℕ) (mode : Mode) → AllCanBeMade b.channels → AreMade (channel_added name size count mode b)
-made-channel b name size count mode is = go (is_new b.state) (is_some (channel_named name b)) (nat_le most_channels (length b.channels)) refl refl refl
+made-channel b name size count mode is = go (is_new b.state) (is_some (channel_named name b)) (nat_le MOST_CHANNELS (length b.channels)) refl refl refl
   where
-    go : (fresh taken full : Bool) → is_new b.state ≡ fresh → is_some (channel_named name b) ≡ taken → nat_le most_channels (length b.channels) ≡ full → AreMade (channel_added name size count mode b)
+    go : (fresh taken full : Bool) → is_new b.state ≡ fresh → is_some (channel_named name b) ≡ taken → nat_le MOST_CHANNELS (length b.channels) ≡ full → AreMade (channel_added name size count mode b)
     go false taken full x y z = rw x tt
     go true true full x y z = rw (x, y) tt
     go true false true x y z = rw (x, y, z) tt

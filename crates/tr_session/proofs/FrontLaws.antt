@@ -29,16 +29,13 @@ use Rattle.tr_stream.specs.StandsFor.{StandsFor}
 use Rattle.tr_stream.specs.State.{StreamState}
 use Rattle.tr_stream.specs.WellFormed.{IsWellFormed, chunks_below}
 use Rattle.tr_stream.specs.declared.config.StreamConfig.{StreamConfig}
+use Rattle.tr_terms.proofs.BoolLemmas.{both}
 
 -- ---- what is true of all packets is true of the first ones
 
 all-front : {A : Type 0} (P : A → Type 0) (xs ys : List A) → AllByRecursion P (xs ++ ys) → AllByRecursion P xs
 all-front P [] ys all = tt
 all-front P (x ∷ xs) ys all = (all.0, all-front P xs ys all.1)
-
-both : (a b : Bool) → (a && b) ≡ true → (a ≡ true) × (b ≡ true)
-both true b e = (refl, e)
-both false b e = cc
 
 numbers-front : (before : Option ℕ) (ns ms : List ℕ) → numbers_rise_after before (ns ++ ms) ≡ true → numbers_rise_after before ns ≡ true
 numbers-front before [] ms rise = refl
@@ -88,6 +85,7 @@ parts-front c k (suc n) h le = go (cases_lt k (suc n)) (λ below. parts-front c 
   where
     next : PartState
     next = part_of c n (chunk_of n h)
+
     go : ((k < suc n) ⊎ (suc n ≤ k)) → (k ≤ n → (rest : List PartState) × (parts_below c n h ≡ parts_below c k h ++ rest))
         → (rest : List PartState) × (parts_below c (suc n) h ≡ parts_below c k h ++ rest)
     go (inl below) fewer =

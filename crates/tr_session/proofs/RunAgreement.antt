@@ -1,7 +1,6 @@
 -- A run of a session, by what its streams hold and by their histories.
 use Rattle.std.proofs.Common.{◌≡◌, ◌∙◌, ℕ, zero, suc, true, false, List, [], ◌∷◌, ◌++◌, Option, Some, None, Result, Ok, Err, ap, refl, subst, sym}
 use Rattle.std.specs.Prelude.{option_map, slice_get}
-use Rattle.std.specs.String.{string_bytes}
 use Rattle.tr_session.proofs.Agreement.{ResultsAgree, agree-alone_started, agree-alone_stopped, agree-begun, agree-channel, agree-cut_step, agree-finished, agree-offer, agree-switch, agree-take, agree-thread, same-cut_step, same-offer, same-snap, same-take}
 use Rattle.tr_session.proofs.OwnSteps.{moved, own-events}
 use Rattle.tr_session.specs.Agreement.{AllAgree, SessionsAgree}
@@ -78,13 +77,13 @@ agree-threads channel (suc n) a b is =
     agree-then (threads_added by_state channel n a) (threads_added by_history channel n b) (thread_added by_state channel) (thread_added by_history channel) (agree-threads channel n a b is)
     (λ c d agree. agree-thread c d agree channel)
 
-agree-channels : {A : Type 0} (cs : List (ChannelConfig A)) (a : SessionOf StreamState) (b : SessionOf Traced) → SessionsAgree a b → ResultsAgree (channels_configured by_state cs a) (channels_configured by_history cs b)
+agree-channels : (cs : List ChannelConfig) (a : SessionOf StreamState) (b : SessionOf Traced) → SessionsAgree a b → ResultsAgree (channels_configured by_state cs a) (channels_configured by_history cs b)
 agree-channels [] a b is = is
 agree-channels (c ∷ cs) a b is =
     agree-then (channel_configured by_state c a) (channel_configured by_history c b) (channels_configured by_state cs) (channels_configured by_history cs)
-    (agree-then (session_channel_added (string_bytes c.name) c.size c.count c.mode a) (session_channel_added (string_bytes c.name) c.size c.count c.mode b)
-    (threads_added by_state (string_bytes c.name) c.threads) (threads_added by_history (string_bytes c.name) c.threads)
-    (agree-channel a b is (string_bytes c.name) c.size c.count c.mode) (λ d e agree. agree-threads (string_bytes c.name) c.threads d e agree))
+    (agree-then (session_channel_added c.name c.size c.count c.mode a) (session_channel_added c.name c.size c.count c.mode b)
+    (threads_added by_state c.name c.threads) (threads_added by_history c.name c.threads)
+    (agree-channel a b is c.name c.size c.count c.mode) (λ d e agree. agree-threads c.name c.threads d e agree))
     (λ d e agree. agree-channels cs d e agree)
 
 agree-configured : {A : Type 0} (config : Config A) → ResultsAgree (configured by_state config) (configured by_history config)
@@ -129,11 +128,11 @@ begin-threads : (channel : List ℕ) (n : ℕ) (s : SessionOf Traced) → AllBeg
 begin-threads channel zero s is = is
 begin-threads channel (suc n) s is = begin-then (threads_added by_history channel n s) (thread_added by_history channel) (begin-threads channel n s is) (λ t all. begin-stream _ _ t all)
 
-begin-channels : {A : Type 0} (cs : List (ChannelConfig A)) (s : SessionOf Traced) → AllBegin s.streams → BeginsSo (channels_configured by_history cs s)
+begin-channels : (cs : List ChannelConfig) (s : SessionOf Traced) → AllBegin s.streams → BeginsSo (channels_configured by_history cs s)
 begin-channels [] s is = is
 begin-channels (c ∷ cs) s is =
     begin-then (channel_configured by_history c s) (channels_configured by_history cs)
-    (begin-then (session_channel_added (string_bytes c.name) c.size c.count c.mode s) (threads_added by_history (string_bytes c.name) c.threads) (begin-book s.streams _ is) (λ t all. begin-threads (string_bytes c.name) c.threads t all))
+    (begin-then (session_channel_added c.name c.size c.count c.mode s) (threads_added by_history c.name c.threads) (begin-book s.streams _ is) (λ t all. begin-threads c.name c.threads t all))
     (λ t all. begin-channels cs t all)
 
 -- ---- the whole run

@@ -41,17 +41,18 @@ module _ {X : Type 0} where
   front : (xs : List X) (i : ℕ) (x : X) → i < length xs → x ≡ get_or xs i x → drop i xs ≡ x ∷ drop (i + 1) xs
   front xs i x within item = drop_more xs i x within ∙ ap (λ (y : X). y ∷ drop (i + 1) xs) (sym item)
 
-module _ {S A : Type 0} (rules : StreamRules S) where
+module _ {S : Type 0} (rules : StreamRules S) where
   -- a channel more, of those that are left
-  pub channels-more : (cs : List (ChannelConfig A)) (i : ℕ) (c : ChannelConfig A) (now : SessionOf S) (r all : Result (SessionOf S) SessionFault) → i < length cs → c ≡ get_or cs i c
+  pub channels-more : (cs : List ChannelConfig) (i : ℕ) (c : ChannelConfig) (now : SessionOf S) (r all : Result (SessionOf S) SessionFault) → i < length cs → c ≡ get_or cs i c
       → channels_configured rules (drop i cs) now ≡ all → channel_configured rules c now ≡ r → and_then r (channels_configured rules (drop (i + 1) cs)) ≡ all
   channels-more cs i c now r all within item so is =
       ap (λ (q : Result (SessionOf S) SessionFault). and_then q (channels_configured rules (drop (i + 1) cs))) (sym is)
-      ∙ ap (λ (ds : List (ChannelConfig A)). channels_configured rules ds now) (sym (front cs i c within item)) ∙ so
+      ∙ ap (λ (ds : List ChannelConfig). channels_configured rules ds now) (sym (front cs i c within item)) ∙ so
 
-  pub channels-end : (cs : List (ChannelConfig A)) (i : ℕ) (now : SessionOf S) (all : Result (SessionOf S) SessionFault) → length cs ≤ i → channels_configured rules (drop i cs) now ≡ all → all ≡ Ok now
-  channels-end cs i now all past so = sym so ∙ ap (λ (ds : List (ChannelConfig A)). channels_configured rules ds now) (drop_all i cs past)
+  pub channels-end : (cs : List ChannelConfig) (i : ℕ) (now : SessionOf S) (all : Result (SessionOf S) SessionFault) → length cs ≤ i → channels_configured rules (drop i cs) now ≡ all → all ≡ Ok now
+  channels-end cs i now all past so = sym so ∙ ap (λ (ds : List ChannelConfig). channels_configured rules ds now) (drop_all i cs past)
 
+module _ {S A : Type 0} (rules : StreamRules S) where
   -- a run over the first events: the others lead from here to where all lead from the start
   pub record RunsSo (events : List (Event A)) (start : SessionOf S) (i : ℕ) (now : SessionOf S) (answers : List (Answer A)) : Type 0 where
     pub told : answers ++ answers_to rules (drop i events) now ≡ answers_to rules events start

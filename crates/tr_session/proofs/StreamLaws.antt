@@ -14,28 +14,29 @@ use Rattle.tr_session.specs.Steps.{changed_at}
 use Rattle.tr_session.specs.declared.faults.StepFault.{StepFault}
 use Rattle.tr_session.specs.declared.faults.StepFault.TheVariants as step
 use Rattle.tr_session_book.specs.Book.{SessionBookState}
-use Rattle.tr_session_book.specs.BookSteps.{archived, after_rotate_begin, after_rotate_finish, after_snapshot_begin, after_schedule, after_start, after_stop, channel_made, channel_added, channel_named, chunks_closed, cut_in, cut_moment, finished_of, is_allowed, is_new, local_rotation, most_channels, most_streams, noted_at, place_free, rotate_begin_answer, rotating, schedule_answer, snapshot_allowed, start_answer, started, stop_answer, stopped, thread_noted, thread_place, unless_refused, with_channel, with_cut, with_thread}
+use Rattle.tr_session_book.specs.BookSteps.{archived, after_rotate_begin, after_rotate_finish, after_snapshot_begin, after_schedule, after_start, after_stop, channel_made, channel_added, channel_named, chunks_closed, cut_in, cut_moment, finished_of, is_allowed, is_new, local_rotation, noted_at, place_free, rotate_begin_answer, rotating, schedule_answer, snapshot_allowed, start_answer, started, stop_answer, stopped, thread_noted, thread_place, unless_refused, with_channel, with_cut, with_thread}
 use Rattle.tr_session_book.specs.declared.archive.Archive.{Archive}
 use Rattle.tr_session_book.specs.declared.archive.Pending.{Pending}
 use Rattle.tr_session_book.specs.declared.channel.Channel.{Channel}
 use Rattle.tr_session_book.specs.declared.faults.SessionFault.{SessionFault}
 use Rattle.tr_session_book.specs.declared.faults.SessionFault.TheVariants.{AlreadyStarted, CutMissing, DiscardInSnapshot, NameTaken, NeverStarted, NoStream, NotPending, RotationPending, SnapshotMode, TooMany}
 use Rattle.tr_schedule.specs.Schedules.{ScheduleState}
-use Rattle.tr_book.specs.Geometry.{GeometryState, geometry_of}
-use Rattle.tr_book.specs.declared.geometry.GeometryFault.{GeometryFault}
-use Rattle.tr_book.specs.declared.mode.Mode.{Mode}
+use Rattle.tr_terms.specs.Geometry.{GeometryState, geometry_of}
+use Rattle.tr_terms.specs.declared.geometry.GeometryFault.{GeometryFault}
+use Rattle.tr_terms.specs.declared.mode.Mode.{Mode}
 use Rattle.tr_ring.specs.ClosedBuffer.{ClosedBuffer}
 use Rattle.tr_stream.specs.State.{StreamState}
 use Rattle.tr_stream.specs.StateSteps.{entered, moved_oldest, new_state, refusal_of, state_after_cut, state_after_offer, state_after_take, state_switched, state_unless}
-use Rattle.tr_stream.specs.Steps.{by_session}
+use Rattle.tr_terms.specs.declared.limits.TheConstants.{MOST_CHANNELS, MOST_STREAMS}
 use Rattle.tr_stream.specs.declared.answers.OfferFault.{OfferFault}
 use Rattle.tr_stream.specs.declared.answers.OfferFault.TheVariants as offer_fault
 use Rattle.tr_stream.specs.declared.answers.Offered.{Offered}
 use Rattle.tr_stream.specs.declared.answers.TakeFault.TheVariants as take_fault
 use Rattle.tr_stream.specs.declared.answers.Taken.{Taken}
-use Rattle.tr_stream.specs.declared.config.SessionMode.{SessionMode}
-use Rattle.tr_stream.specs.declared.config.SessionMode.TheVariants.{Local, Snapshot}
+use Rattle.tr_terms.specs.declared.session_mode.SessionMode.{SessionMode}
+use Rattle.tr_terms.specs.declared.session_mode.SessionMode.TheVariants.{Local, Snapshot}
 use Rattle.tr_stream.specs.declared.config.StreamConfig.{StreamConfig}
+use Rattle.tr_terms.specs.SessionModes.{by_session}
 
 -- ---- streams
 
@@ -315,11 +316,11 @@ channel-same name size count mode b c is = fresh (is_new b.state) is
     few true e = absurd cc
     few false e = made (geometry_of size count) e
 
-    free : (t : Bool) → (if t then Err NameTaken else (if nat_le most_channels (length b.channels) then Err TooMany else channel_made name mode (geometry_of size count) b)) ≡ Ok c → IsSameFor b c
+    free : (t : Bool) → (if t then Err NameTaken else (if nat_le MOST_CHANNELS (length b.channels) then Err TooMany else channel_made name mode (geometry_of size count) b)) ≡ Ok c → IsSameFor b c
     free true e = absurd cc
-    free false e = few (nat_le most_channels (length b.channels)) e
+    free false e = few (nat_le MOST_CHANNELS (length b.channels)) e
 
-    fresh : (t : Bool) → (if t then (if is_some (channel_named name b) then Err NameTaken else (if nat_le most_channels (length b.channels) then Err TooMany else channel_made name mode (geometry_of size count) b)) else Err AlreadyStarted) ≡ Ok c → IsSameFor b c
+    fresh : (t : Bool) → (if t then (if is_some (channel_named name b) then Err NameTaken else (if nat_le MOST_CHANNELS (length b.channels) then Err TooMany else channel_made name mode (geometry_of size count) b)) else Err AlreadyStarted) ≡ Ok c → IsSameFor b c
     fresh true e = free (is_some (channel_named name b)) e
     fresh false e = absurd cc
 
@@ -362,7 +363,7 @@ place-has name b place channel placed named = fresh (is_new b.state) placed
     few false e = cc
 
     found : (t : Bool) → place_free (cond t (Some at) None) b ≡ Ok place → (key : List ℕ) × (slice_get b.channels place ≡ Some (key, channel))
-    found true e = there (few (nat_le most_streams (length b.threads)) e)
+    found true e = there (few (nat_le MOST_STREAMS (length b.threads)) e)
     found false e = absurd cc
 
     fresh : (t : Bool) → (if t then place_free (position (bytes_eq name) names) b else Err AlreadyStarted) ≡ Ok place → (key : List ℕ) × (slice_get b.channels place ≡ Some (key, channel))

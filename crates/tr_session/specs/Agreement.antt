@@ -1,6 +1,6 @@
 -- A session by what its streams hold, and the same by their histories.
 use Rattle.std.specs.Prelude.{◌≡◌, ℕ, ◌≤◌, List, [], ◌∷◌}
-use Rattle.tr_book.specs.Geometry.{GeometryState}
+use Rattle.tr_terms.specs.Geometry.{GeometryState}
 use Rattle.tr_session.specs.Session.{SessionOf}
 use Rattle.tr_session_book.specs.declared.channel.Channel.{Channel}
 use Rattle.tr_stream.specs.Rules.{Traced, Agrees}

@@ -1,6 +1,5 @@
 -- A session over a configuration and a list of events.
 use Rattle.std.specs.Prelude.{◌≡◌, ℕ, zero, suc, List, [], ◌∷◌, Some, Result, Ok, Err, slice_get}
-use Rattle.std.specs.String.{string_bytes}
 use Rattle.tr_session.specs.Agreement.{SessionsAgree}
 use Rattle.tr_session.specs.Events.{after_events, answers_to, own_steps}
 use Rattle.tr_session.specs.Session.{SessionOf, new_session}
@@ -27,11 +26,11 @@ threads_added rules channel zero s = Ok s
 threads_added rules channel (suc n) s = and_then (threads_added rules channel n s) (thread_added rules channel)
 
 -- a channel is added, and then its threads
-abbrev pub channel_configured : {S A : Type 0} → StreamRules S → ChannelConfig A → SessionOf S → Result (SessionOf S) SessionFault
-channel_configured rules c s = and_then (session_channel_added (string_bytes c.name) c.size c.count c.mode s) (threads_added rules (string_bytes c.name) c.threads)
+abbrev pub channel_configured : {S : Type 0} → StreamRules S → ChannelConfig → SessionOf S → Result (SessionOf S) SessionFault
+channel_configured rules c s = and_then (session_channel_added c.name c.size c.count c.mode s) (threads_added rules c.name c.threads)
 
 -- channels are added in their order
-abbrev pub channels_configured : {S A : Type 0} → StreamRules S → List (ChannelConfig A) → SessionOf S → Result (SessionOf S) SessionFault
+abbrev pub channels_configured : {S : Type 0} → StreamRules S → List ChannelConfig → SessionOf S → Result (SessionOf S) SessionFault
 channels_configured rules [] s = Ok s
 channels_configured rules (c ∷ cs) s = and_then (channel_configured rules c s) (channels_configured rules cs)
 

@@ -5,7 +5,7 @@ use Rattle.tr_session_book.specs.Book.{SessionBookState, new_book}
 use Rattle.tr_session_book.specs.BookSteps.{chunks_closed}
 use Rattle.tr_session_book.specs.declared.channel.Channel.{Channel}
 use Rattle.tr_stream.specs.State.{StreamState}
-use Rattle.tr_stream.specs.declared.config.SessionMode.{SessionMode}
+use Rattle.tr_terms.specs.declared.session_mode.SessionMode.{SessionMode}
 
 -- its book, and its streams in order of number
 pub record SessionOf (S : Type 0) : Type 0 where

@@ -1,16 +1,14 @@
 //! What a session is made with.
 
 use std::alloc::{Allocator, Global};
-use tr_book::Mode;
-use tr_chunk::OffsetMinutes;
-use tr_stream::SessionMode;
+use tr_terms::{Mode, Name, OffsetMinutes, SessionMode};
 use uuid::Uuid;
 
 /// A channel that is to be added, and how many threads it gets.
 #[derive(Drop)]
-pub struct ChannelConfig<A: Allocator = Global> {
+pub struct ChannelConfig<'a> {
     /// The name of the channel.
-    pub name: String<A>,
+    pub name: Name<'a>,
     /// The size of a sub-buffer in bytes.
     pub size: u64,
     /// How many sub-buffers a ring has.
@@ -23,7 +21,7 @@ pub struct ChannelConfig<A: Allocator = Global> {
 
 /// What a session is made with: its channels are added in order, each before its threads.
 #[derive(Drop)]
-pub struct Config<A: Allocator = Global> {
+pub struct Config<'a, A: Allocator = Global> {
     /// The identifier of the trace.
     pub uuid: Uuid,
     /// How many minutes the clock of archives' names is ahead of UTC.
@@ -31,5 +29,5 @@ pub struct Config<A: Allocator = Global> {
     /// What becomes of packets.
     pub mode: SessionMode,
     /// The channels.
-    pub channels: Vec<ChannelConfig<A>, A>,
+    pub channels: Vec<ChannelConfig<'a>, A>,
 }

@@ -1,7 +1,6 @@
 //! A session over a configuration and a list of events.
 
 ghost use Rattle.std.specs.Prelude.{◌≡◌, ◌≢◌, true, false, Ok, Err, IfOk, OnOk, IfErr};
-ghost use Rattle.std.specs.String.{string_bytes};
 ghost use Rattle.tr_session.specs.Events.{MayWantMemory, answer_to, after_event};
 ghost use Rattle.tr_session.specs.Faults.{answer_wants_memory};
 ghost use Rattle.tr_session.specs.Runs.{threads_added, channel_configured, configured, HasRun};
@@ -59,20 +58,23 @@ fn add_threads<A: Allocator + Copy>(
 /// Adds a channel, and then its threads.
 fn add_configured<A: Allocator + Copy>(
     session: &mut Session<A>,
-    channel: &ChannelConfig<A>,
+    channel: &ChannelConfig<'_>,
 ) -> Result<(), SessionFault>
     ensures ok { OnOk result (channel_configured by_state channel.now session.old ≡ Ok session.new) }
     ensures refused { IfErr result (λ fault. fault ≢ SessionFault.NoMemory → channel_configured by_state channel.now session.old ≡ Err fault) }
 {
-    let name = channel.name.as_str();
-    if let Err(fault) = session.add_channel(name, channel.size, channel.count, channel.mode) {
+    let added = session.add_channel(&channel.name, channel.size, channel.count, channel.mode);
+    if let Err(fault) = added {
         return Err(fault);
     }
-    add_threads(session, name, channel.threads)
+    add_threads(session, channel.name.as_str(), channel.threads)
 }
 
 /// The session of a configuration, or why there is none.
-fn configure<A: Allocator + Copy>(alloc: A, config: &Config<A>) -> Result<Session<A>, SessionFault>
+fn configure<A: Allocator + Copy>(
+    alloc: A,
+    config: &Config<'_, A>,
+) -> Result<Session<A>, SessionFault>
     ensures ok { IfOk result (λ s. configured by_state config.now ≡ Ok s) }
     ensures refused { IfErr result (λ fault. fault ≢ SessionFault.NoMemory → configured by_history config.now ≡ Err fault) }
 {
@@ -93,7 +95,7 @@ fn configure<A: Allocator + Copy>(alloc: A, config: &Config<A>) -> Result<Sessio
 /// `NoMemory` also where an event wants memory, which ends the run.
 pub fn run_session<A: Allocator + Copy>(
     alloc: A,
-    config: &Config<A>,
+    config: &Config<'_, A>,
     events: &[Event<A>],
 ) -> Result<(Session<A>, Vec<Answer<A>, A>), SessionFault>
     ensures ran { IfOk result (λ r. HasRun config.now events.now r.0 r.1.items) }

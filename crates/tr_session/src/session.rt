@@ -1,24 +1,22 @@
 //! A session, and its rules.
 
-ghost use Rattle.std.specs.Prelude.{◌≡◌, ◌≢◌, ◌≤◌, ◌<◌, ◌∷◌, ◌++◌, [], true, false, None, Some, Ok, Err, IsOk, IsSome, IfSome, IfOk, OnOk, IfErr, OnErr, length, map, option_copied, slice_get};
-ghost use Rattle.tr_session_book.specs.BookSteps.{most_streams, channel_named, thread_place, start_answer, after_start, stop_answer, after_stop, switch_answer, rotate_begin_answer, cut_moment, rotate_finish_answer, snapshot_begin_answer, after_snapshot_begin, schedule_answer, after_schedule};
+ghost use Rattle.std.specs.Prelude.{◌≡◌, ◌≢◌, ◌≤◌, ◌<◌, [], true, false, None, Some, Ok, Err, IsOk, IfSome, IfOk, OnOk, IfErr, OnErr, length, map, option_copied, slice_get};
+ghost use Rattle.tr_session_book.specs.BookSteps.{channel_named, thread_place, start_answer, after_start, stop_answer, after_stop, switch_answer, rotate_begin_answer, cut_moment, rotate_finish_answer, snapshot_begin_answer, after_snapshot_begin, schedule_answer, after_schedule};
 ghost use Rattle.tr_session.specs.Session.{HasArchivedParts, IsStreamOf, new_session};
 ghost use Rattle.tr_session.specs.Steps.{session_channel_added, thread_added, StepTakesMemory, offer_step, after_offer_step, take_step, after_take_step, cut_step, after_cut_step, snap_step, ShowsPackets, after_switch_step, all_started, all_stopped, begun, finished, current_sizes, fate_asked};
 ghost use Rattle.tr_stream.specs.Rules.{by_state};
-ghost use Rattle.tr_stream.specs.StateSteps.{new_state, state_snap};
+ghost use Rattle.tr_stream.specs.StateSteps.{state_snap};
+ghost use Rattle.tr_terms.specs.declared.limits.TheConstants.{MOST_STREAMS};
 
 use crate::faults::StepFault;
 use crate::streams::{cut_at, offer_at, sizes_of, snap_all, switch, switch_at, take_at};
 use std::alloc::{AllocError, Allocator, Global};
 use std::marker::Model;
-use tr_book::{Mode, StreamSnap};
-use tr_chunk::OffsetMinutes;
-use tr_record::Moment;
+use tr_book::StreamSnap;
 use tr_schedule::Schedule;
 use tr_session_book::{Archive, Channel, SessionBook, SessionFault};
-use tr_stream::{
-    CutDone, CutFault, Fate, OfferFault, Offered, SessionMode, Stream, TakeFault, Taken,
-};
+use tr_stream::{CutDone, CutFault, Fate, OfferFault, Offered, Stream, TakeFault, Taken};
+use tr_terms::{Mode, Moment, Name, OffsetMinutes, SessionMode};
 use uuid::Uuid;
 
 /// A session: its book, and its streams by number. Contracts see a `SessionOf StreamState`.
@@ -62,7 +60,7 @@ impl<A: Allocator + Copy> Session<A> {
     /// `AlreadyStarted`, `NameTaken`, `TooMany`, `BadGeometry`, `DiscardInSnapshot`, `NoMemory`: nothing changed.
     pub fn add_channel(
         &mut self,
-        name: &str,
+        name: &Name<'_>,
         size: u64,
         count: u64,
         mode: Mode,
@@ -372,7 +370,7 @@ impl<A: Allocator> Session<A> {
     pub fn streams(&self) -> u64
         ensures value { result ≡ length self.now.streams }
         ensures threads { result ≡ length self.now.book.threads }
-        ensures within { result ≤ most_streams }
+        ensures within { result ≤ MOST_STREAMS }
     {
         self.book.streams() as u64
     }

@@ -8,27 +8,28 @@ use Rattle.std.specs.Prelude.{String, nat_le, nat_lt, option_map, position, slic
 use Rattle.std.specs.Str.{bytes_eq}
 use Rattle.std.specs.String.{string_bytes}
 use Rattle.tr_session_book.specs.Book.{SessionBookState}
-use Rattle.tr_session_book.specs.BookSteps.{cut_moment, is_new, most_streams, place_free, thread_place, channel_of}
+use Rattle.tr_session_book.specs.BookSteps.{cut_moment, is_new, place_free, thread_place, channel_of}
 use Rattle.tr_session_book.specs.Names.{by_name}
 use Rattle.tr_session_book.specs.declared.channel.Channel.{Channel}
 use Rattle.tr_session_book.specs.declared.faults.SessionFault.{SessionFault}
 use Rattle.tr_session_book.specs.declared.faults.SessionFault.TheVariants.{NoStream, TooMany}
+use Rattle.tr_terms.specs.declared.limits.TheConstants.{MOST_STREAMS}
 
 abbrev names : List (List ℕ × Channel) → List (List ℕ)
 names cs = map (λ (c : List ℕ × Channel). c.0) cs
 
-is-full : (n : ℕ) → 256 ≤ n → nat_le most_streams n ≡ true
+is-full : (n : ℕ) → 256 ≤ n → nat_le MOST_STREAMS n ≡ true
 is-full n full = grind (arith, nat_tests, full)
 
-has-room : (n : ℕ) → n < 256 → nat_le most_streams n ≡ false
+has-room : (n : ℕ) → n < 256 → nat_le MOST_STREAMS n ≡ false
 has-room n room = grind (arith, nat_tests, room)
 
 -- as many streams as there may be leave no place
 pub place-full : (b : SessionBookState) (place n : ℕ) → n ≡ length b.threads → 256 ≤ n → place_free (Some place) b ≡ Err TooMany
-place-full b place n is full = let so : nat_le most_streams (length b.threads) ≡ true = subst (λ (m : ℕ). nat_le most_streams m ≡ true) is (is-full n full) in rw so refl
+place-full b place n is full = let so : nat_le MOST_STREAMS (length b.threads) ≡ true = subst (λ (m : ℕ). nat_le MOST_STREAMS m ≡ true) is (is-full n full) in rw so refl
 
 pub place-left : (b : SessionBookState) (place n : ℕ) → n ≡ length b.threads → n < 256 → place_free (Some place) b ≡ Ok place
-place-left b place n is room = let so : nat_le most_streams (length b.threads) ≡ false = subst (λ (m : ℕ). nat_le most_streams m ≡ false) is (has-room n room) in rw so refl
+place-left b place n is room = let so : nat_le MOST_STREAMS (length b.threads) ≡ false = subst (λ (m : ℕ). nat_le MOST_STREAMS m ≡ false) is (has-room n room) in rw so refl
 
 module _ {Z : Type 0} where
   length-names : (es : List (String Z × Channel)) → length (keys_of es) ≡ length (names (by_name es))

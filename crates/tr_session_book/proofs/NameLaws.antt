@@ -1,12 +1,16 @@
 -- What calls do to a map by name, said of the names' texts.
-use Rattle.std.proofs.Common.{◌≡◌, ◌∙◌, ℕ, Bool, cond, true, false, true≢false, List, [], ◌∷◌, ◌++◌, length, Option, Some, None, is_some, refl, sym, ap}
+use Rattle.std.proofs.Common.{◌≡◌, ◌∙◌, ℕ, zero, suc, Bool, cond, true, false, true≢false, List, [], ◌∷◌, ◌++◌, length, Option, Some, None, is_some, refl, sym, ap}
 use Rattle.std.proofs.lemmas.List.{length-map}
+use Rattle.std.proofs.lemmas.List.Folds.{list_all-append}
+use Rattle.std.specs.List.{list_all}
 use Rattle.std.specs.Map.{lookup, set_value}
-use Rattle.std.specs.Prelude.{String}
+use Rattle.std.specs.Prelude.{IfSome, IsSome, String, slice_get}
 use Rattle.std.specs.Str.{bytes_eq}
 use Rattle.std.specs.String.{string_bytes, string_eq}
 use Rattle.indexmap.specs.IndexMap.{insert_entry}
-use Rattle.tr_session_book.specs.Names.{by_name}
+use Rattle.tr_session_book.specs.Names.{AreNamed, by_name}
+use Rattle.tr_terms.proofs.BoolLemmas.{both}
+use Rattle.tr_terms.specs.Names.{is_name}
 
 module _ {Z X : Type 0} where
   pub length-by_name : (es : List (String Z × X)) → length (by_name es) ≡ length es
@@ -52,3 +56,25 @@ module _ {Z X : Type 0} where
       none : (o : Option X) → is_some o ≡ false → o ≡ None
       none None e = refl
       none (Some x) e = absurd (true≢false e)
+
+-- ---- names that are names
+
+-- the name of a text that is one
+pub name-made : (o : Option (List ℕ)) (text : List ℕ) → IsSome o → IfSome o (λ name. name ≡ text) → o ≡ Some text
+name-made None text some is = cc
+name-made (Some name) text some is = ap (λ (n : List ℕ). Some n) is
+
+module _ {X : Type 0} where
+  -- one more
+  pub named-more : (es : List (List ℕ × X)) (name : List ℕ) (x : X) → AreNamed es → is_name name ≡ true → AreNamed (es ++ (name, x) ∷ [])
+  named-more es name x are is = list_all-append (λ (e : List ℕ × X). is_name e.0) es ((name, x) ∷ []) ∙ rw (are, is) refl
+
+  -- the one at a place
+  pub named-at : {Z : Type 0} (es : List (String Z × X)) (k : ℕ) (e : String Z × X) → AreNamed (by_name es) → slice_get es k ≡ Some e → is_name (string_bytes e.0) ≡ true
+  named-at [] k e are at = cc
+  named-at {Z = Z} (f ∷ es) zero e are at =
+      let here = both (is_name (string_bytes f.0)) (list_all (λ (g : List ℕ × X). is_name g.0) (by_name es)) are in
+      let same : f ≡ e = cc in
+      ap (λ (g : String Z × X). is_name (string_bytes g.0)) (sym same) ∙ here.0
+  named-at (f ∷ es) (suc k) e are at =
+      named-at es k e (both (is_name (string_bytes f.0)) (list_all (λ (g : List ℕ × X). is_name g.0) (by_name es)) are).1 at

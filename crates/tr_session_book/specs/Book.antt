@@ -6,7 +6,7 @@ use Rattle.tr_session_book.specs.declared.archive.Pending.{Pending}
 use Rattle.tr_session_book.specs.declared.channel.Channel.{Channel}
 use Rattle.tr_session_book.specs.declared.state.State.{State}
 use Rattle.tr_session_book.specs.declared.state.State.TheVariants.{New}
-use Rattle.tr_stream.specs.declared.config.SessionMode.{SessionMode}
+use Rattle.tr_terms.specs.declared.session_mode.SessionMode.{SessionMode}
 
 pub record SessionBookState : Type 0 where
   -- the trace's identifier, the minutes that its clock is ahead of UTC, and what becomes of packets

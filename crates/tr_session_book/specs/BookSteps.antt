@@ -2,14 +2,15 @@
 use Rattle.std.specs.Prelude.{◌≡◌, ℕ, ◌+◌, ◌≤◌, max, Bool, true, false, not, ◌&&◌, nat_le, nat_lt, List, [], ◌∷◌, ◌++◌, length, map, is_some, Option, Some, None, option_map, option_and_then, position, Result, Ok, Err, slice_get, if◌then◌else◌}
 use Rattle.std.specs.Map.{lookup}
 use Rattle.std.specs.Str.{bytes_eq}
-use Rattle.tr_book.specs.Geometry.{GeometryState, geometry_of}
-use Rattle.tr_book.specs.declared.geometry.GeometryFault.{GeometryFault}
-use Rattle.tr_book.specs.declared.mode.Mode.{Mode}
-use Rattle.tr_book.specs.declared.mode.Mode.TheVariants.{Discard, Overwrite}
+use Rattle.tr_terms.specs.Geometry.{GeometryState, geometry_of}
+use Rattle.tr_terms.specs.declared.geometry.GeometryFault.{GeometryFault}
+use Rattle.tr_terms.specs.declared.mode.Mode.{Mode}
+use Rattle.tr_terms.specs.declared.mode.Mode.TheVariants.{Discard, Overwrite}
 use Rattle.tr_schedule.specs.Due.{due_cause}
 use Rattle.tr_schedule.specs.Schedules.{ScheduleState}
 use Rattle.tr_schedule.specs.declared.cause.Cause.{Cause}
 use Rattle.tr_session_book.specs.Book.{SessionBookState}
+use Rattle.tr_session_book.specs.Names.{AreNamed}
 use Rattle.tr_session_book.specs.declared.archive.Archive.{Archive}
 use Rattle.tr_session_book.specs.declared.archive.Pending.{Pending}
 use Rattle.tr_session_book.specs.declared.channel.Channel.{Channel}
@@ -17,9 +18,10 @@ use Rattle.tr_session_book.specs.declared.faults.SessionFault.{SessionFault}
 use Rattle.tr_session_book.specs.declared.faults.SessionFault.TheVariants.{SnapshotMode, NotSnapshotMode, NeverStarted, RotationPending, AlreadyRotated, AlreadyActive, NotActive, NoStream, DiscardInSnapshot, AlreadyStarted, BadGeometry, TooMany, NotPending, CutMissing, NameTaken, NoChannel}
 use Rattle.tr_session_book.specs.declared.state.State.{State}
 use Rattle.tr_session_book.specs.declared.state.State.TheVariants.{New, Active, Inactive}
-use Rattle.tr_stream.specs.Steps.{by_session}
-use Rattle.tr_stream.specs.declared.config.SessionMode.{SessionMode}
-use Rattle.tr_stream.specs.declared.config.SessionMode.TheVariants.{Local, Snapshot}
+use Rattle.tr_terms.specs.SessionModes.{by_session}
+use Rattle.tr_terms.specs.declared.session_mode.SessionMode.{SessionMode}
+use Rattle.tr_terms.specs.declared.session_mode.SessionMode.TheVariants.{Local, Snapshot}
+use Rattle.tr_terms.specs.declared.limits.TheConstants.{MOST_CHANNELS, MOST_STREAMS}
 
 abbrev pub is_new : State → Bool
 is_new New = true
@@ -43,15 +45,9 @@ unless_refused (Err fault) done old = old
 
 -- ---- channels and streams, which are added before the first start only
 
-abbrev pub most_channels : ℕ
-most_channels = 8
-
-abbrev pub most_streams : ℕ
-most_streams = 256
-
 -- as many as there may be
 abbrev pub IsWithinLimits : SessionBookState → Type 0
-IsWithinLimits b = (length b.channels ≤ most_channels) × (length b.threads ≤ most_streams)
+IsWithinLimits b = (length b.channels ≤ MOST_CHANNELS) × (length b.threads ≤ MOST_STREAMS)
 
 -- before the first start nothing was archived, and no rotation is pending
 abbrev pub BeginsBare : SessionBookState → Type 0
@@ -63,7 +59,7 @@ AreNumbered b = ((k : ℕ) (archive : Archive) → slice_get b.archives k ≡ So
 
 -- what every book keeps to; a rotation is pending in local sessions alone
 abbrev pub IsBook : SessionBookState → Type 0
-IsBook b = IsWithinLimits b × BeginsBare b × AreNumbered b × (is_some b.pending ≡ true → b.mode ≡ Local)
+IsBook b = IsWithinLimits b × BeginsBare b × AreNumbered b × (is_some b.pending ≡ true → b.mode ≡ Local) × AreNamed b.channels
 
 abbrev pub channel_named : List ℕ → SessionBookState → Option Channel
 channel_named name b = lookup (bytes_eq name) b.channels
@@ -87,13 +83,13 @@ abbrev pub channel_added : List ℕ → ℕ → ℕ → Mode → SessionBookStat
 channel_added name size count mode b =
     if is_new b.state then
     (if is_some (channel_named name b) then Err NameTaken
-    else (if nat_le most_channels (length b.channels) then Err TooMany
+    else (if nat_le MOST_CHANNELS (length b.channels) then Err TooMany
     else channel_made name mode (geometry_of size count) b))
     else Err AlreadyStarted
 
 abbrev pub place_free : Option ℕ → SessionBookState → Result ℕ SessionFault
 place_free None b = Err NoChannel
-place_free (Some place) b = if nat_le most_streams (length b.threads) then Err TooMany else Ok place
+place_free (Some place) b = if nat_le MOST_STREAMS (length b.threads) then Err TooMany else Ok place
 
 -- the place of the channel that a thread is added to
 abbrev pub thread_place : List ℕ → SessionBookState → Result ℕ SessionFault

@@ -1,6 +1,6 @@
 //! Archives, and the rotation that makes one.
 
-use tr_record::Moment;
+use tr_terms::Moment;
 
 /// An archived trace chunk: its number, and from when to when it lasted.
 #[derive(Clone, Copy, Debug, PartialEq, Eq)]

@@ -1,8 +1,9 @@
 //! The book of a session: what it keeps beside its streams.
 
-ghost use Rattle.std.specs.Prelude.{◌≡◌, ◌≢◌, ◌≤◌, ◌<◌, [], false, None, Some, Ok, Err, IsOk, IfOk, OnOk, IfErr, OnErr, is_some, length, option_copied, option_map};
+ghost use Rattle.std.specs.Prelude.{◌≡◌, ◌≢◌, ◌<◌, [], false, None, Some, Ok, Err, IsOk, IfOk, OnOk, IfErr, OnErr, is_some, length};
 ghost use Rattle.tr_session_book.specs.Book.{new_book};
-ghost use Rattle.tr_session_book.specs.BookSteps.{is_new, most_channels, most_streams, channel_named, channel_added, with_channel, thread_place, thread_noted, with_thread, start_answer, after_start, stop_answer, after_stop, switch_answer, rotate_begin_answer, rotating, after_rotate_begin, cut_moment, with_cut, note_cut_answer, after_note_cut, rotate_finish_answer, after_rotate_finish};
+ghost use Rattle.tr_session_book.specs.BookSteps.{is_new, channel_named, channel_added, with_channel, thread_place, thread_noted, with_thread, start_answer, after_start, stop_answer, after_stop, switch_answer, rotate_begin_answer, rotating, after_rotate_begin, cut_moment, with_cut, note_cut_answer, after_note_cut, rotate_finish_answer, after_rotate_finish};
+ghost use Rattle.tr_terms.specs.declared.limits.TheConstants.{MOST_CHANNELS, MOST_STREAMS};
 ghost use Rattle.tr_session_book.specs.BookSteps as rules;
 
 use crate::archive::{Archive, Pending};
@@ -13,22 +14,14 @@ use indexmap::IndexMap;
 use std::alloc::{AllocError, Allocator, Global};
 use std::hash::{BuildHasherDefault, FoldHasher};
 use std::marker::Model;
-use tr_book::{Geometry, Mode};
-use tr_chunk::OffsetMinutes;
-use tr_record::Moment;
 use tr_schedule::Schedule;
-use tr_stream::SessionMode;
+use tr_terms::limits::{MOST_CHANNELS, MOST_STREAMS};
+use tr_terms::{Geometry, Mode, Moment, Name, OffsetMinutes, SessionMode};
 use uuid::Uuid;
 
 mod readers;
 mod schedules;
 mod snapshots;
-
-/// How many channels a session has at most.
-const MOST_CHANNELS: usize = 8;
-
-/// How many streams a session has at most.
-const MOST_STREAMS: usize = 256;
 
 /// Whether a session of this mode may have a channel of that one: in a snapshot session every ring overwrites.
 fn is_allowed(session: SessionMode, mode: Mode) -> bool
@@ -131,7 +124,7 @@ impl<A: Allocator + Copy> SessionBook<A> {
     /// `AlreadyStarted`, `NameTaken`, `TooMany`, `BadGeometry`, `DiscardInSnapshot`, `NoMemory`: nothing changed.
     pub fn add_channel(
         &mut self,
-        name: &str,
+        name: &Name<'_>,
         size: u64,
         count: u64,
         mode: Mode,
@@ -148,13 +141,13 @@ impl<A: Allocator + Copy> SessionBook<A> {
     }
 
     /// Puts a channel of a new name behind the others.
-    fn keep_channel(&mut self, name: &str, channel: Channel) -> Result<(), AllocError>
+    fn keep_channel(&mut self, name: &Name<'_>, channel: Channel) -> Result<(), AllocError>
         requires free { is_some (channel_named name.now self.old) ≡ false }
-        requires room { length self.old.channels < most_channels }
+        requires room { length self.old.channels < MOST_CHANNELS }
         ensures ok { OnOk result (self.new ≡ with_channel name.now channel self.old) }
         ensures err { OnErr result (self.new ≡ self.old) }
     {
-        let name = String::from_str(self.alloc, name)?;
+        let name = String::from_str(self.alloc, name.as_str())?;
         self.channels.insert(name, channel)?;
         Ok(())
     }
@@ -179,7 +172,7 @@ impl<A: Allocator + Copy> SessionBook<A> {
 
     /// Puts a thread of the channel at this place behind the others.
     fn keep_thread(&mut self, place: usize) -> Result<(), AllocError>
-        requires { length self.old.threads < most_streams }
+        requires { length self.old.threads < MOST_STREAMS }
         ensures ok { OnOk result (self.new ≡ with_thread place self.old) }
         ensures err { OnErr result (self.new ≡ self.old) }
     {
@@ -233,21 +226,21 @@ impl<A: Allocator> SessionBook<A> {
     /// The channel that is to be added, or why there is none.
     fn channel_for(
         &self,
-        name: &str,
+        name: &Name<'_>,
         size: u64,
         count: u64,
         mode: Mode,
     ) -> Result<Channel, SessionFault>
         ensures ok { IfOk result (λ channel. channel_added name.now size count mode self.now ≡ Ok (with_channel name.now channel self.now)) }
         ensures free { OnOk result (is_some (channel_named name.now self.now) ≡ false) }
-        ensures room { OnOk result (length self.now.channels < most_channels) }
+        ensures room { OnOk result (length self.now.channels < MOST_CHANNELS) }
         ensures err { IfErr result (λ fault. channel_added name.now size count mode self.now ≡ Err fault) }
         ensures reason { IfErr result (λ fault. fault ≢ SessionFault.NoMemory) }
     {
         if self.state != State::New {
             return Err(SessionFault::AlreadyStarted);
         }
-        if self.channel(name).is_some() {
+        if self.channel(name.as_str()).is_some() {
             return Err(SessionFault::NameTaken);
         }
         if self.channels.len() >= MOST_CHANNELS {
@@ -266,7 +259,7 @@ impl<A: Allocator> SessionBook<A> {
     fn channel_at(&self, name: &str) -> Result<(usize, Channel), SessionFault>
         ensures place { IfOk result (λ found. thread_place name.now self.now ≡ Ok found.0) }
         ensures channel { IfOk result (λ found. channel_named name.now self.now ≡ Some found.1) }
-        ensures room { OnOk result (length self.now.threads < most_streams) }
+        ensures room { OnOk result (length self.now.threads < MOST_STREAMS) }
         ensures bare { OnOk result ((self.now.pending ≡ None) × (self.now.archives ≡ [])) }
         ensures err { IfErr result (λ fault. thread_place name.now self.now ≡ Err fault) }
     {

@@ -1,6 +1,6 @@
 //! A channel: how the streams that are added to it are made.
 
-use tr_book::{Geometry, Mode};
+use tr_terms::{Geometry, Mode};
 
 /// How the streams of a channel are made.
 #[derive(Clone, Copy, Debug, PartialEq, Eq)]

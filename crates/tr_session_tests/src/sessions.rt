@@ -11,12 +11,10 @@ use std::alloc::{Allocator, Global};
 use std::fmt::Debug;
 use std::ops::Range;
 use std::process::Abort;
-use tr_book::Mode;
-use tr_chunk::OffsetMinutes;
-use tr_record::Moment;
 use tr_session::{Session, StepFault};
 use tr_session_book::{SessionFault, State};
-use tr_stream::{CutFault, Fate, OfferFault, Offered, SessionMode, TakeFault, Taken};
+use tr_stream::{CutFault, Fate, OfferFault, Offered, TakeFault, Taken};
+use tr_terms::{Mode, Moment, Name, OffsetMinutes, SessionMode};
 use uuid::Uuid;
 
 /// Holds what a test found to what it wanted. As a call without clauses it keeps the proofs of the tests short.
@@ -45,7 +43,8 @@ fn add_channel<A: Allocator + Copy>(
     count: u64,
     mode: Mode,
 ) {
-    let added = session.add_channel(name, size, count, mode);
+    let name = Name::new(name).expect(rt, "a name");
+    let added = session.add_channel(&name, size, count, mode);
     assert_same(rt, added, Ok(()));
 }
 
@@ -257,7 +256,8 @@ fn channels_are_refused_in_order(rt: HostRuntime) {
         ("i", 255, 2, Mode::Discard, Err(SessionFault::TooMany)),
     ];
     for (name, size, count, mode, want) in rows {
-        let answer = session.add_channel(name, size, count, mode);
+        let own_name = Name::new(name).expect(&rt, "a name");
+        let answer = session.add_channel(&own_name, size, count, mode);
         assert_same(&rt, (name, size, count, answer), (name, size, count, want));
     }
     assert_same(&rt, session.book().channels(), 8);
@@ -269,7 +269,8 @@ fn channels_are_refused_in_order(rt: HostRuntime) {
     );
     assert!(rt; last.mode == Mode::Overwrite && session.book().channel("i").is_none());
     session.start(moment(0)).expect(&rt, "a start");
-    let refused = session.add_channel("a", 255, 2, Mode::Discard);
+    let name = Name::new("a").expect(&rt, "a name");
+    let refused = session.add_channel(&name, 255, 2, Mode::Discard);
     assert_same(&rt, refused, Err(SessionFault::AlreadyStarted));
     assert_same(
         &rt,

@@ -2,6 +2,7 @@
 
 mod books;
 mod lines;
+mod names;
 mod records;
 mod rings;
 mod schedules;

@@ -8,7 +8,7 @@ use Rattle.tr_book.specs.Book as noted
 use Rattle.tr_book.specs.Book.{BookState}
 use Rattle.tr_book.specs.Parts.{PartsState, records_of, no_parts, with_packet, with_packets, closed_part}
 use Rattle.tr_packet.specs.Packets.{Contents, IsPacket}
-use Rattle.tr_record.specs.Records.{Entry, last_moment}
+use Rattle.tr_record.specs.Records.{Entry}
 use Rattle.tr_ring.specs.ClosedBuffer.{ClosedBuffer}
 use Rattle.tr_ring.specs.Ring.{RingState, after_push, closing, emptied, empty_ring, push_answer, without_first}
 use Rattle.tr_ring.specs.declared.pushed.Pushed.{Pushed}
@@ -37,8 +37,9 @@ use Rattle.tr_stream.specs.declared.answers.TakeFault.{TakeFault}
 use Rattle.tr_stream.specs.declared.answers.TakeFault.TheVariants as take_fault
 use Rattle.tr_stream.specs.declared.answers.TakeFault.TheVariants.{Nothing}
 use Rattle.tr_stream.specs.declared.answers.Taken.{Taken}
-use Rattle.tr_stream.specs.declared.config.SessionMode.TheVariants.{Local}
+use Rattle.tr_terms.specs.declared.session_mode.SessionMode.TheVariants.{Local}
 use Rattle.tr_stream.specs.declared.config.StreamConfig.{StreamConfig}
+use Rattle.tr_terms.specs.declared.limits.TheConstants.{LAST_MOMENT}
 
 -- what is left of an offer once the ring has it
 pub kept-pushed : (s : StreamState) (moment id : ℕ) (payload : List ℕ) (e : Entry) (ring : RingState) (p : Pushed) (book : BookState) → IsKept s → refusal_of (length payload) s ≡ None → IsOffer moment id payload → e ≡ entered moment id payload s → p ≡ push_answer e s.ring → ring ≡ after_push e s.ring → book ≡ booked p e.moment s.book → IsKept (record { config = s.config; ring = ring; parts = s.parts; book = book; active = s.active })
@@ -194,7 +195,7 @@ cut-told s end k len count packets are chunk_is len_is count_is =
 pub cut-is : (s : StreamState) (end count : ℕ) (packets : List Contents) (ring : RingState) (parts : PartsState) (noted_ book : BookState) → packets ≡ map (packet_of s.config) (ring_buffers end s.ring) → ring ≡ emptied s.ring → parts ≡ closed_part (with_packets packets s.parts) → count ≡ in_ring s.ring → noted_ ≡ noted.with_consumed count s.book → book ≡ noted.at_moment end noted_ → (let t : StreamState = record { config = s.config; ring = ring; parts = parts; book = book; active = s.active } in t) ≡ state_cut_at end s
 cut-is s end count packets ring parts noted_ book packets_are ring_is parts_is count_is first then = cc
 
-pub kept-cut_now : (s : StreamState) (end count : ℕ) (packets : List Contents) (ring : RingState) (parts : PartsState) (noted_ book : BookState) → s.config.session ≡ Local → IsKept s → s.book.last ≤ end → end ≤ last_moment → packets ≡ map (packet_of s.config) (ring_buffers end s.ring) → ring ≡ emptied s.ring → parts ≡ closed_part (with_packets packets s.parts) → count ≡ in_ring s.ring → noted_ ≡ noted.with_consumed count s.book → book ≡ noted.at_moment end noted_ → IsKept (record { config = s.config; ring = ring; parts = parts; book = book; active = s.active })
+pub kept-cut_now : (s : StreamState) (end count : ℕ) (packets : List Contents) (ring : RingState) (parts : PartsState) (noted_ book : BookState) → s.config.session ≡ Local → IsKept s → s.book.last ≤ end → end ≤ LAST_MOMENT → packets ≡ map (packet_of s.config) (ring_buffers end s.ring) → ring ≡ emptied s.ring → parts ≡ closed_part (with_packets packets s.parts) → count ≡ in_ring s.ring → noted_ ≡ noted.with_consumed count s.book → book ≡ noted.at_moment end noted_ → IsKept (record { config = s.config; ring = ring; parts = parts; book = book; active = s.active })
 kept-cut_now s end count packets ring parts noted_ book local is later in_time packets_are ring_is parts_is count_is first then =
     subst (λ (t : StreamState). IsKept t) (sym (cut-is s end count packets ring parts noted_ book packets_are ring_is parts_is count_is first then)) (kept-cut s end local later in_time is)
 

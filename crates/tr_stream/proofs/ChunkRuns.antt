@@ -14,13 +14,14 @@ use Rattle.tr_stream.specs.Chunks.{chunk_of, consumed_of, waiting_of, ring_of, c
 use Rattle.tr_stream.specs.History.{is_waiting, Waiting, Dropped, Kept, Closed, History, is_kept_in, discarded_of}
 use Rattle.tr_stream.specs.Runs.{after_event, after_events, kept_by, kept_after_cuts, cuts_among, cuts_made}
 use Rattle.tr_stream.specs.Sound.{IsUsable}
-use Rattle.tr_stream.specs.Steps.{Course, Refuse, Join, Follow, Miss, Replace, course_of, after_course, entry_of, settle_first, by_session, oldest_kept, cut_at, after_cut, flushed_with, all_kept, start}
+use Rattle.tr_stream.specs.Steps.{Course, Refuse, Join, Follow, Miss, Replace, course_of, after_course, entry_of, settle_first, oldest_kept, cut_at, after_cut, flushed_with, all_kept, start}
 use Rattle.tr_stream.specs.WellFormed.{IsWellFormed, WaitLast, chunks_below}
-use Rattle.tr_stream.specs.declared.config.SessionMode.{SessionMode}
-use Rattle.tr_stream.specs.declared.config.SessionMode.TheVariants.{Local, Snapshot}
+use Rattle.tr_terms.specs.declared.session_mode.SessionMode.{SessionMode}
+use Rattle.tr_terms.specs.declared.session_mode.SessionMode.TheVariants.{Local, Snapshot}
 use Rattle.tr_stream.specs.declared.config.StreamConfig.{StreamConfig}
 use Rattle.tr_stream.specs.declared.events.StreamEvent.{StreamEvent}
 use Rattle.tr_stream.specs.declared.events.StreamEvent.TheVariants.{Offer, Take, Cut, Peek, Start, Stop}
+use Rattle.tr_terms.specs.SessionModes.{by_session}
 
 -- an offer keeps nothing
 chunk-course : (k : ℕ) (course : Course) (e : Entry) (h : History) → chunk_of k (after_course course e h) ≡ chunk_of k h

@@ -16,12 +16,13 @@ use Rattle.tr_stream.specs.History.{Waiting, Block, Closed, History, is_waiting,
 use Rattle.tr_stream.specs.StandsFor.{StandsFor}
 use Rattle.tr_stream.specs.State.{StreamState, records_in, in_ring}
 use Rattle.tr_stream.specs.StateSteps.{cut_done, state_cut_at, cut_result, state_after_cut, state_snap}
-use Rattle.tr_stream.specs.Steps.{by_session, done_with, flushed_with, keep_waiting, all_kept, cut_at, after_cut, cut_answer, snap_of}
+use Rattle.tr_stream.specs.Steps.{done_with, flushed_with, keep_waiting, all_kept, cut_at, after_cut, cut_answer, snap_of}
 use Rattle.tr_stream.specs.WellFormed.{Covers, chunks_below}
 use Rattle.tr_stream.specs.declared.answers.CutFault.TheVariants.{SnapshotMode}
-use Rattle.tr_stream.specs.declared.config.SessionMode.{SessionMode}
-use Rattle.tr_stream.specs.declared.config.SessionMode.TheVariants.{Local, Snapshot}
+use Rattle.tr_terms.specs.declared.session_mode.SessionMode.{SessionMode}
+use Rattle.tr_terms.specs.declared.session_mode.SessionMode.TheVariants.{Local, Snapshot}
 use Rattle.tr_stream.specs.declared.config.StreamConfig.{StreamConfig}
+use Rattle.tr_terms.specs.SessionModes.{by_session}
 
 -- all that waits is in the current part, which is closed
 abbrev kept_all : StreamState → StreamState

@@ -8,8 +8,8 @@ use Rattle.std.specs.List.{list_any}
 use Rattle.std.specs.Option.{option_map, option_or, unwrap_or}
 use Rattle.std.specs.Prelude.{sum_by, count_by, nat_lt}
 use Rattle.tr_book.specs.Parts.{PartState, seq_among}
-use Rattle.tr_book.specs.declared.mode.Mode.{Mode}
-use Rattle.tr_book.specs.declared.mode.Mode.TheVariants as mode
+use Rattle.tr_terms.specs.declared.mode.Mode.{Mode}
+use Rattle.tr_terms.specs.declared.mode.Mode.TheVariants as mode
 use Rattle.tr_record.specs.Records.{Entry, has_serial}
 use Rattle.tr_ring.specs.ClosedBuffer.{ClosedBuffer}
 use Rattle.tr_ring.specs.Ring.{seq_waiting, seq_of}

@@ -3,9 +3,9 @@ use Rattle.std.proofs.Common.{◌≡◌, ℕ, ◌+◌, ◌^◌, ◌≤◌, ◌<�
 use Rattle.std.proofs.lemmas.Bool.Decides.{nat_tests}
 use Rattle.std.proofs.lemmas.Grind.{common_steps}
 use Rattle.std.specs.Prelude.{nat_lt}
-use Rattle.tr_book.specs.declared.mode.Mode.{Mode}
-use Rattle.tr_book.specs.declared.mode.Mode.TheVariants.{Discard, Overwrite}
-use Rattle.tr_record.specs.Records.{last_moment}
+use Rattle.tr_terms.specs.declared.mode.Mode.{Mode}
+use Rattle.tr_terms.specs.declared.mode.Mode.TheVariants.{Discard, Overwrite}
+use Rattle.tr_terms.specs.declared.limits.TheConstants.{LAST_MOMENT}
 use Rattle.tr_ring.specs.Ring.{current_buffer}
 use Rattle.tr_ring.specs.ClosedBuffer.{ClosedBuffer}
 use Rattle.tr_stream.proofs.CutLaws.{stands-cut}
@@ -20,7 +20,7 @@ use Rattle.tr_stream.specs.State.{StreamState}
 use Rattle.tr_stream.specs.StateSteps.{state_cut_at, entered, refusal_of, state_unless, with_offer, state_after_offer, moved_oldest, state_switched, new_state, overwrites}
 use Rattle.tr_stream.specs.Steps.{cut_at, after_offer, oldest_kept, start, switched}
 use Rattle.tr_stream.specs.declared.answers.OfferFault.{OfferFault}
-use Rattle.tr_stream.specs.declared.config.SessionMode.TheVariants.{Local}
+use Rattle.tr_terms.specs.declared.session_mode.SessionMode.TheVariants.{Local}
 use Rattle.tr_stream.specs.declared.config.StreamConfig.{StreamConfig}
 use Rattle.tr_subbuf.specs.SubBuffer.{has_room}
 
@@ -34,7 +34,7 @@ overwrites-not Overwrite e = cc
 
 -- what an offer brings
 pub record IsOffer (moment id : ℕ) (payload : List ℕ) : Type 0 where
-  pub moment_in : moment ≤ last_moment
+  pub moment_in : moment ≤ LAST_MOMENT
   pub id_in : id < 2 ^ 32
 
 entered-is_next : (s : StreamState) (moment id : ℕ) (payload : List ℕ) → IsOffer moment id payload → IsSound s → IsAccepted s (length payload) → IsNext s (entered moment id payload s)
@@ -91,7 +91,7 @@ sound-oldest s (b ∷ bs) waiting_is local is = sound-moved s b bs waiting_is lo
 pub kept-oldest : (s : StreamState) → s.config.session ≡ Local → IsKept s → IsKept (moved_oldest s.ring.waiting s)
 kept-oldest s local is = record { sound = sound-oldest s s.ring.waiting refl local is.sound; history = (oldest_kept is.history.0, taken s is.history.0 s.ring.waiting refl is.history.1) }
 
-pub kept-cut : (s : StreamState) (end : ℕ) → s.config.session ≡ Local → s.book.last ≤ end → end ≤ last_moment → IsKept s → IsKept (state_cut_at end s)
+pub kept-cut : (s : StreamState) (end : ℕ) → s.config.session ≡ Local → s.book.last ≤ end → end ≤ LAST_MOMENT → IsKept s → IsKept (state_cut_at end s)
 kept-cut s end local later in_time is = record { sound = sound-cut s end local is.sound later in_time; history = (cut_at end is.history.0, stands-cut s is.history.0 end is.history.1) }
 
 pub kept-switched : (s : StreamState) (active : Bool) → IsKept s → IsKept (state_switched active s)

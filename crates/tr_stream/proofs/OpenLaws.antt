@@ -5,10 +5,11 @@ use Rattle.std.specs.List.{AllByRecursion}
 use Rattle.tr_packet.proofs.OrderLemmas.{below_more, MakePacket-one, MakePacket-push, MakePacket-later}
 use Rattle.tr_packet.specs.Order.{IsBelow}
 use Rattle.tr_packet.specs.Packets.{MakePacket}
-use Rattle.tr_record.specs.Records.{Entry, Fits, last_moment}
+use Rattle.tr_record.specs.Records.{Entry, Fits}
 use Rattle.tr_record.specs.Weight.{weight_of, record_weight}
 use Rattle.tr_stream.specs.Chunks.{begin_of}
 use Rattle.tr_stream.specs.Sound.{IsOpen}
+use Rattle.tr_terms.specs.declared.limits.TheConstants.{LAST_MOMENT}
 
 below-push : (serial : ℕ) (es : List Entry) (e : Entry) → e.serial ≡ serial → AllByRecursion (IsBelow serial) es → AllByRecursion (IsBelow (serial + 1)) (es ++ e ∷ [])
 below-push serial [] e next old = (omega arith, tt)
@@ -30,7 +31,7 @@ pub open-one : (serial : ℕ) (e : Entry) → Fits e → e.serial ≡ serial →
 open-one serial e fits next small = record { below = (omega arith, tt); makes = λ used. MakePacket-one e fits small }
 
 -- a serial is spent, and the moment may have risen
-pub open-missed : (serial last moment : ℕ) (es : List Entry) → last ≤ moment → moment ≤ last_moment → IsOpen serial last es → IsOpen (serial + 1) moment es
+pub open-missed : (serial last moment : ℕ) (es : List Entry) → last ≤ moment → moment ≤ LAST_MOMENT → IsOpen serial last es → IsOpen (serial + 1) moment es
 open-missed serial last moment es le in_time old = record {
   below = below_more serial (serial + 1) es (omega arith) old.below;
   makes = λ used. MakePacket-later (begin_of es) last moment es (old.makes used) le in_time;

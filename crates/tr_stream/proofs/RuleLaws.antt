@@ -19,12 +19,13 @@ use Rattle.tr_stream.specs.Sound.{IsMade, LosesByMode}
 use Rattle.tr_stream.specs.StandsFor.{StandsFor}
 use Rattle.tr_stream.specs.State.{StreamState}
 use Rattle.tr_stream.specs.StateSteps.{entered, refusal_of, state_unless, state_after_offer, moved_oldest, state_cut_at, overwrites, with_offer}
-use Rattle.tr_stream.specs.Steps.{by_session, after_offer, oldest_kept, after_take, cut_at, after_cut}
+use Rattle.tr_stream.specs.Steps.{after_offer, oldest_kept, after_take, cut_at, after_cut}
 use Rattle.tr_stream.specs.declared.answers.OfferFault.{OfferFault}
-use Rattle.tr_stream.specs.declared.config.SessionMode.{SessionMode}
-use Rattle.tr_stream.specs.declared.config.SessionMode.TheVariants.{Local, Snapshot}
+use Rattle.tr_terms.specs.declared.session_mode.SessionMode.{SessionMode}
+use Rattle.tr_terms.specs.declared.session_mode.SessionMode.TheVariants.{Local, Snapshot}
 use Rattle.tr_stream.specs.declared.config.StreamConfig.{StreamConfig}
 use Rattle.tr_subbuf.specs.SubBuffer.{has_room}
+use Rattle.tr_terms.specs.SessionModes.{by_session}
 
 -- a push leaves the ring as it was made
 chosen : {X : Type 0} (f : RingState → X) (x : X) (room free over : Bool) (a b c d : RingState) → f a ≡ x → f b ≡ x → f c ≡ x → f d ≡ x → f (cond room a (cond free b (cond over c d))) ≡ x

@@ -1,8 +1,8 @@
 -- What a session's mode decides.
 use Rattle.std.proofs.Common.{◌≡◌, ap}
-use Rattle.tr_stream.specs.Steps.{by_session}
-use Rattle.tr_stream.specs.declared.config.SessionMode.{SessionMode}
-use Rattle.tr_stream.specs.declared.config.SessionMode.TheVariants.{Local, Snapshot}
+use Rattle.tr_terms.specs.SessionModes.{by_session}
+use Rattle.tr_terms.specs.declared.session_mode.SessionMode.{SessionMode}
+use Rattle.tr_terms.specs.declared.session_mode.SessionMode.TheVariants.{Local, Snapshot}
 
 pub in-local : {X : Type 0} (m : SessionMode) (local snapshot : X) → m ≡ Local → by_session m local snapshot ≡ local
 in-local m local snapshot e = ap (λ (n : SessionMode). by_session n local snapshot) e

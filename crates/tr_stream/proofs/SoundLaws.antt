@@ -3,12 +3,12 @@ use Rattle.std.proofs.Common.{◌≡◌, ◌≢◌, ℕ, ◌+◌, ◌^◌, ◌�
 use Rattle.std.proofs.Common.{length-drop}
 use Rattle.std.proofs.lemmas.Grind.{common_steps}
 use Rattle.std.proofs.lemmas.List.Sums.{sum_by_push, sum_by-cons, sum_by-append}
-use Rattle.tr_book.specs.declared.mode.Mode.{Mode}
-use Rattle.tr_book.specs.declared.mode.Mode.TheVariants.{Discard, Overwrite}
+use Rattle.tr_terms.specs.declared.mode.Mode.{Mode}
+use Rattle.tr_terms.specs.declared.mode.Mode.TheVariants.{Discard, Overwrite}
 use Rattle.tr_book.specs.Parts.{PartState, records_of}
 use Rattle.tr_packet.specs.Packets.{Contents, IsPacket}
 use Rattle.tr_record.proofs.RecordLemmas.{all_append, all_push}
-use Rattle.tr_record.specs.Records.{Entry, Fits, last_moment}
+use Rattle.tr_record.specs.Records.{Entry, Fits}
 use Rattle.tr_record.specs.Weight.{weight_of}
 use Rattle.std.specs.List.{AllByRecursion}
 use Rattle.tr_ring.specs.Ring.{IsClosedWithin, closing, seq_after}
@@ -23,8 +23,9 @@ use Rattle.tr_stream.specs.Chunks.{packet_of, begin_of, closing_if_any, ring_buf
 use Rattle.tr_stream.specs.Sound.{IsSound, ArePackets, CanBeSent, LosesByMode}
 use Rattle.tr_stream.specs.State.{StreamState, records_in}
 use Rattle.tr_stream.specs.StateSteps.{state_switched, state_cut_at}
-use Rattle.tr_stream.specs.declared.config.SessionMode.TheVariants.{Local}
+use Rattle.tr_terms.specs.declared.session_mode.SessionMode.TheVariants.{Local}
 use Rattle.tr_stream.specs.declared.config.StreamConfig.{StreamConfig}
+use Rattle.tr_terms.specs.declared.limits.TheConstants.{LAST_MOMENT}
 
 are-push : (c : StreamConfig) (bs : List ClosedBuffer) (b : ClosedBuffer) → ArePackets c bs → IsPacket (packet_of c b) → ArePackets c (bs ++ b ∷ [])
 are-push c [] b old new = (new, tt)
@@ -46,7 +47,7 @@ used_some [] used = absurd (used refl)
 used_some (x ∷ xs) used = grind (arith, common_steps)
 
 -- the current sub-buffer, closed at a moment that isn't before the last one
-pub closing-is_packet : (s : StreamState) (end : ℕ) → IsSound s → s.ring.current ≢ [] → s.book.last ≤ end → end ≤ last_moment → IsPacket (packet_of s.config (closing end s.ring))
+pub closing-is_packet : (s : StreamState) (end : ℕ) → IsSound s → s.ring.current ≢ [] → s.book.last ≤ end → end ≤ LAST_MOMENT → IsPacket (packet_of s.config (closing end s.ring))
 closing-is_packet s end is used le in_time = record {
   uuid = is.config.uuid;
   stream = is.config.number;
@@ -92,7 +93,7 @@ losses-missed s moment mode is = record { discarding = is.discarding; overwritin
 pub losses-without_oldest : (s : StreamState) → s.config.mode ≡ Overwrite → LosesByMode s → LosesByMode (without_oldest s)
 losses-without_oldest s mode is = record { discarding = λ e. absurd (other (sym e ∙ mode)); overwriting = is.overwriting }
 
-pub sound-missed : (s : StreamState) (moment : ℕ) → IsSound s → s.book.offered < 2 ^ 62 → s.book.last ≤ moment → moment ≤ last_moment → s.config.mode ≡ Discard → IsSound (with_missed moment s)
+pub sound-missed : (s : StreamState) (moment : ℕ) → IsSound s → s.book.offered < 2 ^ 62 → s.book.last ≤ moment → moment ≤ LAST_MOMENT → s.config.mode ≡ Discard → IsSound (with_missed moment s)
 sound-missed s moment is left le in_time mode = record {
   config = is.config;
   made = record { size = is.made.size; count = is.made.count; mode = is.made.mode; size_low = is.made.size_low; count_low = is.made.count_low };
@@ -210,7 +211,7 @@ are-append c [] ds old new = new
 are-append c (b ∷ bs) ds old new = (old.0, are-append c bs ds old.1 new)
 
 -- all that the ring has can be sent
-are-ring : (s : StreamState) (end : ℕ) → IsSound s → s.book.last ≤ end → end ≤ last_moment → ArePackets s.config (ring_buffers end s.ring)
+are-ring : (s : StreamState) (end : ℕ) → IsSound s → s.book.last ≤ end → end ≤ LAST_MOMENT → ArePackets s.config (ring_buffers end s.ring)
 are-ring s end is later in_time = are-append s.config s.ring.waiting (closing_if_any s.ring.seq end s.ring.refused s.ring.current) is.packets (are-closing s.ring.current (λ used. closing-is_packet s end is used later in_time))
   where
     not_nil : (e : Entry) (es : List Entry) → e ∷ es ≢ []
@@ -220,7 +221,7 @@ are-ring s end is later in_time = are-append s.config s.ring.waiting (closing_if
     are-closing [] can = tt
     are-closing (e ∷ es) can = (can (not_nil e es), tt)
 
-pub sound-cut : (s : StreamState) (end : ℕ) → s.config.session ≡ Local → IsSound s → s.book.last ≤ end → end ≤ last_moment → IsSound (state_cut_at end s)
+pub sound-cut : (s : StreamState) (end : ℕ) → s.config.session ≡ Local → IsSound s → s.book.last ≤ end → end ≤ LAST_MOMENT → IsSound (state_cut_at end s)
 sound-cut s end local is later in_time = record {
   config = is.config;
   made = record { size = is.made.size; count = is.made.count; mode = is.made.mode; size_low = is.made.size_low; count_low = is.made.count_low };

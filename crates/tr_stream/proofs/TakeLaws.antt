@@ -9,11 +9,12 @@ use Rattle.tr_stream.specs.History.{Status, Kept, Closed, History, is_waiting}
 use Rattle.tr_stream.specs.StandsFor.{StandsFor}
 use Rattle.tr_stream.specs.State.{StreamState}
 use Rattle.tr_stream.specs.StateSteps.{take_result, moved_oldest, state_after_take, state_counts, new_state}
-use Rattle.tr_stream.specs.Steps.{by_session, taken_from, settle_first, oldest_kept, take_answer, after_take, counts_of, start}
+use Rattle.tr_stream.specs.Steps.{taken_from, settle_first, oldest_kept, take_answer, after_take, counts_of, start}
 use Rattle.tr_stream.specs.declared.answers.TakeFault.TheVariants.{SnapshotMode}
-use Rattle.tr_stream.specs.declared.config.SessionMode.{SessionMode}
-use Rattle.tr_stream.specs.declared.config.SessionMode.TheVariants.{Local, Snapshot}
+use Rattle.tr_terms.specs.declared.session_mode.SessionMode.{SessionMode}
+use Rattle.tr_terms.specs.declared.session_mode.SessionMode.TheVariants.{Local, Snapshot}
 use Rattle.tr_stream.specs.declared.config.StreamConfig.{StreamConfig}
+use Rattle.tr_terms.specs.SessionModes.{by_session}
 
 -- a new stream stands for a history that begins
 pub starts : (c : StreamConfig) → StandsFor (new_state c) start

@@ -3,8 +3,8 @@ use Rattle.std.specs.Prelude.{ℕ, Bool, ◌==◌, ◌||◌, nat_lt, List, [], �
 use Rattle.std.specs.List.{list_any}
 use Rattle.std.specs.Option.{option_map, option_or, unwrap_or}
 use Rattle.tr_book.specs.Parts.{PartState, PartsState, seq_among}
-use Rattle.tr_book.specs.declared.mode.Mode.{Mode}
-use Rattle.tr_book.specs.declared.mode.Mode.TheVariants as mode
+use Rattle.tr_terms.specs.declared.mode.Mode.{Mode}
+use Rattle.tr_terms.specs.declared.mode.Mode.TheVariants as mode
 use Rattle.tr_record.specs.Records.{has_serial}
 use Rattle.tr_ring.specs.Ring.{RingState, seq_of}
 use Rattle.tr_stream.specs.History.{Status, Waiting, Dropped, Kept, Block, Closed, History, offered_of}

@@ -4,12 +4,13 @@ use Rattle.tr_ring.specs.ClosedBuffer.{ClosedBuffer}
 use Rattle.tr_stream.specs.Chunks.{waiting_of, ring_of}
 use Rattle.tr_stream.specs.History.{History}
 use Rattle.tr_stream.specs.StateSteps.{TakesMemory}
-use Rattle.tr_stream.specs.Steps.{by_session, after_offer, offer_answer, after_take, take_answer, after_cut, cut_answer, snap_of, switched}
+use Rattle.tr_stream.specs.Steps.{after_offer, offer_answer, after_take, take_answer, after_cut, cut_answer, snap_of, switched}
 use Rattle.tr_stream.specs.declared.config.StreamConfig.{StreamConfig}
 use Rattle.tr_stream.specs.declared.events.StreamAnswer.{StreamAnswer}
 use Rattle.tr_stream.specs.declared.events.StreamAnswer.TheVariants as answer
 use Rattle.tr_stream.specs.declared.events.StreamEvent.{StreamEvent}
 use Rattle.tr_stream.specs.declared.events.StreamEvent.TheVariants.{Offer, Take, Cut, Peek, Start, Stop}
+use Rattle.tr_terms.specs.SessionModes.{by_session}
 
 -- the history after a call
 abbrev pub after_event : {A : Type 0} → StreamConfig → StreamEvent A → History → History

@@ -2,24 +2,25 @@
 use Rattle.std.specs.Prelude.{◌≡◌, ◌≢◌, ℕ, ◌+◌, ◌^◌, ◌≤◌, ◌<◌, min, List, [], ◌∷◌, length}
 use Rattle.std.specs.List.{AllByRecursion}
 use Rattle.tr_book.specs.Parts.{PartState, no_parts}
-use Rattle.tr_book.specs.declared.mode.Mode.TheVariants.{Discard, Overwrite}
+use Rattle.tr_terms.specs.declared.mode.Mode.TheVariants.{Discard, Overwrite}
 use Rattle.tr_packet.specs.Order.{IsBelow}
 use Rattle.tr_packet.specs.Packets.{IsPacket, MakePacket}
-use Rattle.tr_record.specs.Records.{Entry, last_moment}
+use Rattle.tr_record.specs.Records.{Entry}
 use Rattle.tr_record.specs.Weight.{weight_of}
 use Rattle.tr_ring.specs.Ring.{RingState, IsClosedWithin}
 use Rattle.tr_ring.specs.ClosedBuffer.{ClosedBuffer}
 use Rattle.tr_stream.specs.Chunks.{packet_of, begin_of}
 use Rattle.tr_stream.specs.State.{StreamState, in_ring, in_parts}
 use Rattle.tr_stream.specs.StateSteps.{overwrites}
-use Rattle.tr_stream.specs.declared.config.SessionMode.TheVariants.{Snapshot}
+use Rattle.tr_terms.specs.declared.session_mode.SessionMode.TheVariants.{Snapshot}
 use Rattle.tr_stream.specs.declared.config.StreamConfig.{StreamConfig}
+use Rattle.tr_terms.specs.declared.limits.TheConstants.{LARGEST_PACKET, LAST_MOMENT, MOST_OFFERS}
 
 -- a stream can be made with this
 pub record IsConfig (c : StreamConfig) : Type 0 where
   pub uuid : length c.uuid ≡ 16
   pub number : c.number < 2 ^ 64
-  pub size_high : c.geometry.size ≤ 65536
+  pub size_high : c.geometry.size ≤ LARGEST_PACKET
   pub count_high : c.geometry.count ≤ 64
 
 -- rings are made with sizes and counts of at least these
@@ -57,8 +58,8 @@ pub record LosesByMode (s : StreamState) : Type 0 where
 pub record IsSound (s : StreamState) : Type 0 where
   pub config : IsConfig s.config
   pub made : IsMade s.config s.ring
-  pub few : s.book.offered ≤ 2 ^ 62
-  pub in_time : s.book.last ≤ last_moment
+  pub few : s.book.offered ≤ MOST_OFFERS
+  pub in_time : s.book.last ≤ LAST_MOMENT
   -- each offer is in one place
   pub total : s.ring.refused + s.book.overwritten + in_ring s.ring + s.book.consumed ≡ s.book.offered
   pub consumed : s.book.consumed ≡ in_parts s.parts

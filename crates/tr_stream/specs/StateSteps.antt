@@ -9,11 +9,11 @@ use Rattle.tr_ring.specs.Ring.{after_push, emptied, empty_ring, push_answer, wit
 use Rattle.tr_ring.specs.ClosedBuffer.{ClosedBuffer}
 use Rattle.tr_ring.specs.declared.pushed.Pushed.{Pushed}
 use Rattle.tr_ring.specs.declared.pushed.Pushed.TheVariants as pushed
-use Rattle.tr_book.specs.declared.mode.Mode.{Mode}
-use Rattle.tr_book.specs.declared.mode.Mode.TheVariants.{Discard, Overwrite}
+use Rattle.tr_terms.specs.declared.mode.Mode.{Mode}
+use Rattle.tr_terms.specs.declared.mode.Mode.TheVariants.{Discard, Overwrite}
 use Rattle.tr_stream.specs.Chunks.{packet_of, ring_buffers}
 use Rattle.tr_stream.specs.State.{StreamState, in_ring}
-use Rattle.tr_stream.specs.Steps.{by_session, taken_from, done_with}
+use Rattle.tr_stream.specs.Steps.{taken_from, done_with}
 use Rattle.tr_stream.specs.declared.answers.CutDone.{CutDone}
 use Rattle.tr_stream.specs.declared.answers.CutFault.{CutFault}
 use Rattle.tr_stream.specs.declared.answers.CutFault.TheVariants as cut_fault
@@ -25,6 +25,8 @@ use Rattle.tr_stream.specs.declared.answers.TakeFault.{TakeFault}
 use Rattle.tr_stream.specs.declared.answers.TakeFault.TheVariants as take_fault
 use Rattle.tr_stream.specs.declared.answers.Taken.{Taken}
 use Rattle.tr_stream.specs.declared.config.StreamConfig.{StreamConfig}
+use Rattle.tr_terms.specs.SessionModes.{by_session}
+use Rattle.tr_terms.specs.declared.limits.TheConstants.{MOST_OFFERS, SMALLEST_PACKET}
 
 -- an offer as it is stored
 abbrev pub entered : ℕ → ℕ → List ℕ → StreamState → Entry
@@ -34,8 +36,8 @@ entered moment id payload s = record { serial = s.book.offered; moment = max mom
 abbrev pub refusal_of : ℕ → StreamState → Option OfferFault
 refusal_of len s =
     if not s.active then Some Inactive
-    else (if nat_lt (s.config.geometry.size - 104) len then Some TooBig
-    else (if nat_le (2 ^ 62) s.book.offered then Some Spent
+    else (if nat_lt (s.config.geometry.size - SMALLEST_PACKET) len then Some TooBig
+    else (if nat_le MOST_OFFERS s.book.offered then Some Spent
     else None))
 
 -- the counters after an accepted offer

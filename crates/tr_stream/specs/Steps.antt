@@ -3,8 +3,8 @@ use Rattle.std.specs.Prelude.{ℕ, ◌+◌, ◌-◌, ◌^◌, max, min, Bool, fa
 use Rattle.tr_book.specs.Parts.{bytes_of}
 use Rattle.tr_book.specs.Snaps.{SnapState}
 use Rattle.tr_book.specs.declared.counts.Counts.{Counts}
-use Rattle.tr_book.specs.declared.mode.Mode.{Mode}
-use Rattle.tr_book.specs.declared.mode.Mode.TheVariants.{Discard, Overwrite}
+use Rattle.tr_terms.specs.declared.mode.Mode.{Mode}
+use Rattle.tr_terms.specs.declared.mode.Mode.TheVariants.{Discard, Overwrite}
 use Rattle.tr_record.specs.Records.{Entry}
 use Rattle.tr_record.specs.Weight.{weight_of}
 use Rattle.tr_ring.specs.ClosedBuffer.{ClosedBuffer}
@@ -21,9 +21,9 @@ use Rattle.tr_stream.specs.declared.answers.Offered.TheVariants.{Stored, StoredO
 use Rattle.tr_stream.specs.declared.answers.TakeFault.{TakeFault}
 use Rattle.tr_stream.specs.declared.answers.TakeFault.TheVariants as take_fault
 use Rattle.tr_stream.specs.declared.answers.Taken.{Taken}
-use Rattle.tr_stream.specs.declared.config.SessionMode.{SessionMode}
-use Rattle.tr_stream.specs.declared.config.SessionMode.TheVariants.{Local, Snapshot}
 use Rattle.tr_stream.specs.declared.config.StreamConfig.{StreamConfig}
+use Rattle.tr_terms.specs.SessionModes.{by_session}
+use Rattle.tr_terms.specs.declared.limits.TheConstants.{MOST_OFFERS, RECORD_HEADER, SMALLEST_PACKET}
 
 -- at the start: one empty block is filling
 abbrev pub start : History
@@ -50,9 +50,9 @@ course_when_full Overwrite = Replace
 abbrev pub course_of : StreamConfig → History → ℕ → Course
 course_of c h len =
     if not h.active then Refuse Inactive
-    else (if nat_lt (c.geometry.size - 104) len then Refuse TooBig
-    else (if nat_le (2 ^ 62) (offered_of h) then Refuse Spent
-    else (if nat_le (weight_of h.filling.records + (24 + len)) c.geometry.size then Join
+    else (if nat_lt (c.geometry.size - SMALLEST_PACKET) len then Refuse TooBig
+    else (if nat_le MOST_OFFERS (offered_of h) then Refuse Spent
+    else (if nat_le (weight_of h.filling.records + (RECORD_HEADER + len)) c.geometry.size then Join
     else (if nat_lt (length (waiting_of h) + 1) c.geometry.count then Follow
     else course_when_full c.mode))))
 
@@ -98,11 +98,6 @@ offer_answer c payload h = course_answer (course_of c h (length payload)) h
 abbrev pub taken_from : ℕ → List ClosedBuffer → Result Taken TakeFault
 taken_from k [] = Err take_fault.Nothing
 taken_from k (b ∷ bs) = Ok (record { seq = b.seq; count = length b.records; chunk = k })
-
--- one of these two, by what becomes of the session's packets
-abbrev pub by_session : {X : Type 0} → SessionMode → X → X → X
-by_session Local local snapshot = local
-by_session Snapshot local snapshot = snapshot
 
 -- the first block that waits is kept
 abbrev pub oldest_kept : History → History

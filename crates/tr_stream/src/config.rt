@@ -1,16 +1,7 @@
 //! What a stream is made with.
 
-use tr_book::{Geometry, Mode};
+use tr_terms::{Geometry, Mode, SessionMode};
 use uuid::Uuid;
-
-/// What becomes of the packets of a session's streams.
-#[derive(Clone, Copy, Debug, PartialEq, Eq)]
-pub enum SessionMode {
-    /// They are consumed into trace chunks.
-    Local,
-    /// They stay in the rings, which snapshots copy. Nothing is consumed.
-    Snapshot,
-}
 
 /// What a stream is made with.
 #[derive(Clone, Copy, Debug)]

@@ -8,7 +8,7 @@ ghost use Rattle.tr_stream.specs.Runs.{after_events, kept_after_cuts, cuts_made}
 ghost use Rattle.tr_stream.specs.Sound.{IsUsable};
 ghost use Rattle.tr_stream.specs.Steps.{start};
 ghost use Rattle.tr_stream.specs.WellFormed.{IsWellFormed};
-ghost use Rattle.tr_stream.specs.declared.config.SessionMode.TheVariants.{Snapshot};
+ghost use Rattle.tr_terms.specs.declared.session_mode.SessionMode.TheVariants.{Snapshot};
 ghost use Rattle.tr_stream.specs.declared.config.StreamConfig.{StreamConfig};
 ghost use Rattle.tr_stream.specs.declared.events.StreamEvent.{StreamEvent};
 

@@ -13,10 +13,11 @@ mod run;
 mod stream;
 
 pub use answers::{CutDone, CutFault, OfferFault, Offered, TakeFault, Taken};
-pub use config::{SessionMode, StreamConfig};
+pub use config::StreamConfig;
 pub use events::{StreamAnswer, StreamEvent};
 pub use fate::Fate;
 pub use laws::every_run;
 pub use payload::Payload;
 pub use run::run_stream;
 pub use stream::Stream;
+pub use tr_terms::SessionMode;

@@ -1,7 +1,6 @@
 //! One stream: a ring of sub-buffers, and the parts that it is consumed into.
 
-ghost use Rattle.std.specs.Prelude.{◌≡◌, ◌≢◌, ◌+◌, ◌-◌, ◌^◌, ◌≤◌, ◌<◌, max, [], Some, Ok, Err, IsOk, IfOk, OnOk, OnErr, length, option_copied};
-ghost use Rattle.tr_record.specs.Records.{last_moment};
+ghost use Rattle.std.specs.Prelude.{◌≡◌, ◌≢◌, ◌+◌, ◌-◌, ◌≤◌, ◌<◌, [], Some, Ok, Err, IsOk, IfOk, OnOk, OnErr, length, option_copied};
 ghost use Rattle.tr_stream.specs.Chunks.{part_in};
 ghost use Rattle.tr_stream.specs.Consistent.{IsConsistent};
 ghost use Rattle.tr_stream.specs.Fates.{fate_of, state_fate, held_fate};
@@ -16,7 +15,7 @@ ghost use Rattle.tr_book.specs.Parts.{part_at};
 ghost use Rattle.tr_ring.specs.Ring.{push_answer};
 
 use crate::answers::{CutDone, CutFault, OfferFault, Offered, TakeFault, Taken};
-use crate::config::{SessionMode, StreamConfig};
+use crate::config::StreamConfig;
 use crate::fate::{Fate, fate_in_parts, loss};
 use crate::packing::{packet_from, ring_packets};
 use std::alloc::{AllocError, Allocator, Global};
@@ -24,13 +23,9 @@ use std::marker::Model;
 use tr_book::{Book, Counts, Geometry, Mode, Part, Parts, StreamSnap};
 use tr_record::Moment;
 use tr_ring::{Pushed, Ring};
+use tr_terms::SessionMode;
+use tr_terms::limits::{MOST_OFFERS, SMALLEST_PACKET};
 use uuid::Uuid;
-
-/// How many offers a stream accepts.
-const MOST_OFFERS: u64 = 1 << 62;
-
-/// The bytes of a packet with one record without a payload.
-const LEAST_PACKET: usize = 104;
 
 /// Whether the oldest sub-buffer gives way.
 fn gives_way(mode: Mode) -> bool
@@ -118,6 +113,7 @@ impl<A: Allocator + Copy> Stream<A> {
     }
 
     /// Stores a record, or discards it.
+    #[inline(always)]
     fn accept(&mut self, moment: Moment, id: u32, payload: &[u8]) -> Result<Offered, AllocError>
         requires { refusal_of (length payload.now) self.old ≡ None }
         ensures answer { IfOk result (λ o. o ≡ offered_as self.old.book.offered (push_answer (entered moment id payload.now self.old) self.old.ring)) }
@@ -262,7 +258,7 @@ impl<A: Allocator> Stream<A> {
         if !self.active {
             return Some(OfferFault::Inactive);
         }
-        if len > self.config.geometry.size() - LEAST_PACKET {
+        if len > self.config.geometry.size() - SMALLEST_PACKET {
             return Some(OfferFault::TooBig);
         }
         if self.book.offered() >= MOST_OFFERS {

@@ -8,12 +8,7 @@ ghost use Rattle.tr_subbuf.specs.SubBuffer.{IsWithin, empty_buffer, has_room, wi
 use std::alloc::{AllocError, Allocator, Global};
 use std::marker::Model;
 use tr_record::{Rec, RecView};
-
-/// The bytes of a packet without records.
-const EMPTY: usize = 80;
-
-/// The bytes of a record without payload.
-const HEADER: usize = 24;
+use tr_terms::limits::{PACKET_HEADER, RECORD_HEADER};
 
 /// Records in the order in which they came, and the most bytes that they may have as a packet. Contracts see a `SubBuffer`.
 #[derive(Drop)]
@@ -71,8 +66,8 @@ impl<A: Allocator> SubBuf<A> {
         ensures { result ≡ has_room self.now len }
     {
         self.used <= self.size
-            && HEADER <= self.size - self.used
-            && len <= self.size - self.used - HEADER
+            && RECORD_HEADER <= self.size - self.used
+            && len <= self.size - self.used - RECORD_HEADER
     }
 
     /// The record number `i`, from 0 on.
@@ -94,7 +89,7 @@ impl<A: Allocator> SubBuf<A> {
         ensures { self.new ≡ empty_buffer self.old.size }
     {
         self.records.clear();
-        self.used = EMPTY;
+        self.used = PACKET_HEADER;
     }
 }
 
@@ -106,7 +101,7 @@ impl<A: Allocator + Copy> SubBuf<A> {
         SubBuf {
             alloc,
             records: Vec::new(alloc),
-            used: EMPTY,
+            used: PACKET_HEADER,
             size,
         }
     }

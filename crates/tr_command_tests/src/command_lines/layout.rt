@@ -2,8 +2,8 @@
 
 use super::{all_ask, all_bad};
 use std::test::Fail;
-use tr_book::Mode;
 use tr_command::Request;
+use tr_terms::Mode;
 
 fn create(offset: i32) -> Request<'static> {
     Request::Create {

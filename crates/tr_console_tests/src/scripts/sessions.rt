@@ -150,9 +150,9 @@ fn gives_sessions_in_the_order_of_their_creation(rt: HostRuntime) -> Result<(), 
     let mut sink = MemorySink::new(alloc, 4096);
     let done = run_script(alloc, alloc, &mut source, &mut sink)?;
     let (name, session) = done.console.session(0).ok_or("a session")?;
-    assert_eq!(rt; (name, session.streams()), ("b", 0));
+    assert_eq!(rt; (name.as_str(), session.streams()), ("b", 0));
     let (name, session) = done.console.session(1).ok_or("a session")?;
-    assert_eq!(rt; (name, session.streams()), ("a", 1));
+    assert_eq!(rt; (name.as_str(), session.streams()), ("a", 1));
     assert!(rt; done.console.session(2).is_none());
     Ok(())
 }

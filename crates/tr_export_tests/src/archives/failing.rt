@@ -3,7 +3,7 @@
 ghost use Rattle.std.specs.Prelude.{◌≡◌, OnOk, OnErr, option_map};
 ghost use Rattle.tr_record.specs.Bytes.{once_more};
 
-use super::{assert_same, rotated};
+use super::{assert_same, name, rotated};
 use std::mem;
 use std::test::Fail;
 use tr_export::{Disk, ExportFault, write_archives};
@@ -111,7 +111,7 @@ fn each_failed_call_is_told(rt: HostRuntime) -> Result<(), Fail> {
             Ok(())
         };
         let mut disk = disk(calls, 4096, 4096);
-        let answer = write_archives(rt.alloc(), &mut disk, "d", "s", &session);
+        let answer = write_archives(rt.alloc(), &mut disk, "d", &name()?, &session);
         assert_same(&rt, (calls, answer), (calls, wanted));
         assert_same(&rt, disk.failures, Some(u64::from(calls < 5)));
     }
@@ -125,7 +125,7 @@ fn a_file_that_is_cut_short_is_told(rt: HostRuntime) -> Result<(), Fail> {
     let short = [(0, 4096), (1081, 4096), (4096, 0), (4096, 228), (4096, 483)];
     for (first, later) in short {
         let mut disk = disk(9, first, later);
-        let answer = write_archives(rt.alloc(), &mut disk, "d", "s", &session);
+        let answer = write_archives(rt.alloc(), &mut disk, "d", &name()?, &session);
         assert_same(
             &rt,
             (first, later, answer),
@@ -133,7 +133,7 @@ fn a_file_that_is_cut_short_is_told(rt: HostRuntime) -> Result<(), Fail> {
         );
         assert_same(&rt, disk.failures, Some(1));
     }
-    let answer = write_archives(rt.alloc(), &mut disk(9, 1082, 484), "d", "s", &session);
+    let answer = write_archives(rt.alloc(), &mut disk(9, 1082, 484), "d", &name()?, &session);
     assert_same(&rt, answer, Ok(()));
     Ok(())
 }

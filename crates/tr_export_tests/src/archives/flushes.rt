@@ -1,6 +1,6 @@
 //! A runtime's file system that sees what is flushed.
 
-use super::{assert_same, rotated};
+use super::{assert_same, name, rotated};
 use std::alloc::Allocator;
 use std::cell::Cell;
 use std::fs::{Metadata, OpenFile, OpenOptions};
@@ -165,7 +165,7 @@ fn each_file_is_flushed_once(rt: HostRuntime) -> Result<(), Fail> {
         seen: Rc::new(rt.alloc(), Seen::new(9))?,
     };
     let mut disk = SystemDisk::new(HostFiles::new(&host));
-    let answer = write_archives(rt.alloc(), &mut disk, "d", "s", &session);
+    let answer = write_archives(rt.alloc(), &mut disk, "d", &name()?, &session);
     assert_same(&rt, answer, Ok(()));
     assert_same(&rt, host.seen.counts(), (2, 2, 0));
     Ok(())
@@ -178,7 +178,7 @@ fn a_last_flush_that_fails_is_told(rt: HostRuntime) -> Result<(), Fail> {
         seen: Rc::new(rt.alloc(), Seen::new(1))?,
     };
     let mut disk = SystemDisk::new(HostFiles::new(&host));
-    let answer = write_archives(rt.alloc(), &mut disk, "d", "s", &session);
+    let answer = write_archives(rt.alloc(), &mut disk, "d", &name()?, &session);
     assert_same(&rt, answer, Err(ExportFault::Write));
     assert_same(&rt, disk.failures(), Some(1));
     assert_same(&rt, host.seen.counts(), (2, 1, 0));

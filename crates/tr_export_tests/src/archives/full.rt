@@ -1,6 +1,6 @@
 //! A disk that is full when a file is to be flushed.
 
-use super::{FOLDER, METADATA, STREAM, assert_same, bytes_of, is_broken, is_folder, rotated};
+use super::{FOLDER, METADATA, STREAM, assert_same, bytes_of, is_broken, is_folder, name, rotated};
 use std::alloc::Global;
 use std::test::Fail;
 use tr_export::{
@@ -52,7 +52,7 @@ fn disk(alloc: Global, room: usize) -> SystemDisk<FullFiles> {
 fn each_file_is_ended_once(rt: HostRuntime) -> Result<(), Fail> {
     let session = rotated(rt.alloc())?;
     let mut disk = disk(rt.alloc(), 2);
-    let answer = write_archives(rt.alloc(), &mut disk, "d", "s", &session);
+    let answer = write_archives(rt.alloc(), &mut disk, "d", &name()?, &session);
     assert_same(&rt, answer, Ok(()));
     assert_same(&rt, disk.failures(), Some(0));
     assert_same(&rt, disk.files().ends, 2);
@@ -69,7 +69,7 @@ fn each_file_is_ended_once(rt: HostRuntime) -> Result<(), Fail> {
 fn a_disk_that_is_full_at_the_last_flush_is_told(rt: HostRuntime) -> Result<(), Fail> {
     let session = rotated(rt.alloc())?;
     let mut disk = disk(rt.alloc(), 1);
-    let answer = write_archives(rt.alloc(), &mut disk, "d", "s", &session);
+    let answer = write_archives(rt.alloc(), &mut disk, "d", &name()?, &session);
     assert_same(&rt, answer, Err(ExportFault::Write));
     assert_same(&rt, disk.failures(), Some(1));
     let made = disk.files().disk.made();
@@ -83,7 +83,7 @@ fn a_disk_that_is_full_at_the_last_flush_is_told(rt: HostRuntime) -> Result<(), 
 fn nothing_follows_a_broken_file(rt: HostRuntime) -> Result<(), Fail> {
     let session = rotated(rt.alloc())?;
     let mut disk = disk(rt.alloc(), 0);
-    let answer = write_archives(rt.alloc(), &mut disk, "d", "s", &session);
+    let answer = write_archives(rt.alloc(), &mut disk, "d", &name()?, &session);
     assert_same(&rt, answer, Err(ExportFault::Write));
     assert_same(&rt, disk.failures(), Some(1));
     let made = disk.files().disk.made();

@@ -1,6 +1,6 @@
 //! Archives in the file system.
 
-use super::{assert_same, rotated, session_of, uuid};
+use super::{assert_same, name, rotated, session_of, uuid};
 use std::os::unix::fs::symlink;
 use std::test::Fail;
 use std::{env, fs, process};
@@ -49,11 +49,11 @@ fn files_are_written_and_replaced(rt: HostRuntime) -> Result<(), Fail> {
     let dir = free_path(&rt, "files")?;
     let session = rotated(rt.alloc())?;
     let mut disk = SystemDisk::new(HostFiles::new(&rt));
-    write_archives(rt.alloc(), &mut disk, dir.as_str(), "s", &session).expect(&rt, "archives");
+    write_archives(rt.alloc(), &mut disk, dir.as_str(), &name()?, &session).expect(&rt, "archives");
     assert!(rt; has_files(&rt, dir.as_str())?);
     let path = path_in(&rt, dir.as_str(), "c_0")?;
     fs::write(&rt, path.as_str(), [0x62; 600].as_slice()).expect(&rt, "the file system");
-    write_archives(rt.alloc(), &mut disk, dir.as_str(), "s", &session).expect(&rt, "archives");
+    write_archives(rt.alloc(), &mut disk, dir.as_str(), &name()?, &session).expect(&rt, "archives");
     assert!(rt; has_files(&rt, dir.as_str())?);
     fs::remove_dir_all(&rt, dir.as_str()).expect(&rt, "the file system");
     Ok(())
@@ -64,7 +64,7 @@ fn without_an_archive_there_is_no_folder(rt: HostRuntime) -> Result<(), Fail> {
     let dir = free_path(&rt, "nothing")?;
     let session = session_of(rt.alloc())?;
     let mut disk = SystemDisk::new(HostFiles::new(&rt));
-    write_archives(rt.alloc(), &mut disk, dir.as_str(), "s", &session).expect(&rt, "archives");
+    write_archives(rt.alloc(), &mut disk, dir.as_str(), &name()?, &session).expect(&rt, "archives");
     assert!(rt; !fs::exists(&rt, dir.as_str()).expect(&rt, "the file system"));
     Ok(())
 }
@@ -79,7 +79,7 @@ fn a_file_in_the_folder_s_place_is_told(rt: HostRuntime) -> Result<(), Fail> {
     let mut disk = SystemDisk::new(HostFiles::new(&rt));
     assert_same(
         &rt,
-        write_archives(rt.alloc(), &mut disk, dir.as_str(), "s", &session),
+        write_archives(rt.alloc(), &mut disk, dir.as_str(), &name()?, &session),
         Err(ExportFault::Write),
     );
     fs::remove_dir_all(&rt, dir.as_str()).expect(&rt, "the file system");
@@ -96,7 +96,7 @@ fn a_full_device_is_told(rt: HostRuntime) -> Result<(), Fail> {
     symlink(&rt, "/dev/full", path.as_str()).expect(&rt, "a link");
     let session = rotated(rt.alloc())?;
     let mut disk = SystemDisk::new(HostFiles::new(&rt));
-    let answer = write_archives(rt.alloc(), &mut disk, dir.as_str(), "s", &session);
+    let answer = write_archives(rt.alloc(), &mut disk, dir.as_str(), &name()?, &session);
     assert_same(&rt, answer, Err(ExportFault::Write));
     assert_same(&rt, disk.failures(), Some(1));
     fs::remove_dir_all(&rt, dir.as_str()).expect(&rt, "the file system");

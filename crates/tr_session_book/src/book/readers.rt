@@ -1,17 +1,16 @@
 //! What a session's book tells.
 
-ghost use Rattle.std.specs.Prelude.{◌≡◌, ◌≤◌, ℕ, Some, IfSome, length, option_copied, option_map, slice_get};
+ghost use Rattle.std.specs.Prelude.{◌≡◌, ◌≤◌, ℕ, Some, IfSome, length, option_copied, slice_get};
 ghost use Rattle.tr_session_book.specs.declared.archive.Archive as value;
-ghost use Rattle.tr_session_book.specs.BookSteps.{most_channels, most_streams, channel_named, channel_of};
+ghost use Rattle.tr_session_book.specs.BookSteps.{channel_named, channel_of};
+ghost use Rattle.tr_terms.specs.declared.limits.TheConstants.{MOST_CHANNELS, MOST_STREAMS};
 
 use super::SessionBook;
 use crate::archive::{Archive, Pending};
 use crate::channel::Channel;
 use crate::state::State;
 use std::alloc::Allocator;
-use tr_chunk::OffsetMinutes;
-use tr_record::Moment;
-use tr_stream::SessionMode;
+use tr_terms::{Moment, Name, OffsetMinutes, SessionMode};
 use uuid::Uuid;
 
 impl<A: Allocator> SessionBook<A> {
@@ -60,7 +59,7 @@ impl<A: Allocator> SessionBook<A> {
     /// How many channels there are.
     pub fn channels(&self) -> usize
         ensures value { result ≡ length self.now.channels }
-        ensures within { result ≤ most_channels }
+        ensures within { result ≤ MOST_CHANNELS }
     {
         self.channels.len()
     }
@@ -75,18 +74,18 @@ impl<A: Allocator> SessionBook<A> {
     /// How many streams there are.
     pub fn streams(&self) -> usize
         ensures value { result ≡ length self.now.threads }
-        ensures within { result ≤ most_streams }
+        ensures within { result ≤ MOST_STREAMS }
     {
         self.threads.len()
     }
 
     /// The name of the channel of the stream of this number.
-    pub fn channel_of(&self, i: u64) -> Option<&str>
-        ensures { option_map (λ n. n.now) result ≡ channel_of i self.now }
+    pub fn channel_of(&self, i: u64) -> Option<Name<'_>>
+        ensures { result ≡ channel_of i self.now }
     {
         let place = self.threads.get(i as usize)?;
         let (name, _) = self.channels.get_index(*place)?;
-        Some(name.as_str())
+        Name::new(name.as_str())
     }
 
     /// The archives that were made, in order. Each one's number is its place.

@@ -8,7 +8,7 @@ use crate::faults::SessionFault;
 use crate::state::State;
 use std::alloc::Allocator;
 use tr_schedule::Schedule;
-use tr_stream::SessionMode;
+use tr_terms::SessionMode;
 
 impl<A: Allocator> SessionBook<A> {
     /// Sets when rotations are due: by this schedule, or never. It takes no memory.

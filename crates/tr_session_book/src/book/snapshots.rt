@@ -7,8 +7,7 @@ use super::SessionBook;
 use crate::faults::SessionFault;
 use crate::state::State;
 use std::alloc::Allocator;
-use tr_record::Moment;
-use tr_stream::SessionMode;
+use tr_terms::{Moment, SessionMode};
 
 impl<A: Allocator> SessionBook<A> {
     /// Begins a snapshot: stores its moment, or keeps the last one if that is later, and answers with what is stored. It

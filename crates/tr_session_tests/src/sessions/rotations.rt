@@ -226,6 +226,7 @@ fn the_book_tells_each_stream_s_channel(rt: HostRuntime) {
     add_threads(&rt, &mut session, "d", 0..1);
     add_threads(&rt, &mut session, "c", 1..2);
     for (i, channel) in [(0, Some("d")), (1, Some("c")), (2, None)] {
-        assert_same(&rt, (i, session.book().channel_of(i)), (i, channel));
+        let name = session.book().channel_of(i).map(|name| name.as_str());
+        assert_same(&rt, (i, name), (i, channel));
     }
 }

@@ -3,19 +3,18 @@
 use super::{assert_fates, assert_same, moment};
 use std::alloc::Global;
 use std::process::Abort;
-use tr_book::Mode;
-use tr_chunk::OffsetMinutes;
 use tr_session::{Answer, ChannelConfig, Config, Event, Session, StepFault, run_session};
 use tr_session_book::{Archive, SessionFault};
 use tr_snapshot::{count, oldest_serial};
-use tr_stream::{CutDone, Fate, Offered, Payload, SessionMode, Taken};
+use tr_stream::{CutDone, Fate, Offered, Payload, Taken};
+use tr_terms::{Mode, Name, OffsetMinutes, SessionMode};
 use uuid::Uuid;
 
 /// One channel, of a sub-buffer's size and so many threads.
-fn config(rt: &impl Abort, alloc: Global, size: u64, threads: u64) -> Config {
+fn config<'a>(rt: &impl Abort, alloc: Global, size: u64, threads: u64) -> Config<'a> {
     let mut channels = Vec::new(alloc);
     let channel = ChannelConfig {
-        name: String::from_str(alloc, "c").expect(rt, "memory"),
+        name: Name::new("c").expect(rt, "a name"),
         size,
         count: 2,
         mode: Mode::Discard,
@@ -31,7 +30,7 @@ fn config(rt: &impl Abort, alloc: Global, size: u64, threads: u64) -> Config {
 }
 
 /// The same of a snapshot session, with one thread.
-fn snapshot_config(rt: &impl Abort, alloc: Global) -> Config {
+fn snapshot_config<'a>(rt: &impl Abort, alloc: Global) -> Config<'a> {
     let mut config = config(rt, alloc, 256, 1);
     config.mode = SessionMode::Snapshot;
     for channel in config.channels.iter_mut() {

@@ -4,13 +4,14 @@ use super::{assert_last, assert_same, make_offers, moment, new_session, offer, w
 use linked_list_allocator::LocalHeap;
 use std::alloc::{AllocError, Allocator, Global};
 use std::process::Abort;
-use tr_book::{Mode, StreamSnap};
+use tr_book::StreamSnap;
 use tr_record::MemorySink;
 use tr_schedule::Schedule;
 use tr_session::{Session, StepFault};
 use tr_session_book::SessionFault;
 use tr_snapshot::{Snapshot, count, oldest_serial, write_snap};
-use tr_stream::{SessionMode, TakeFault};
+use tr_stream::TakeFault;
+use tr_terms::{Mode, Name, SessionMode};
 
 /// A snapshot session of one stream with two sub-buffers of 256 bytes, which isn't started.
 fn unstarted<A: Allocator + Copy>(rt: &impl Abort, alloc: A) -> Session<A> {
@@ -90,13 +91,14 @@ fn assert_refused<A: Allocator + Copy>(
 #[test]
 fn channels_of_a_snapshot_session_overwrite(rt: HostRuntime) {
     let mut session = new_session(&rt, rt.alloc(), SessionMode::Snapshot);
+    let name = Name::new("c").expect(&rt, "a name");
     for (size, mode, want) in [
         (255, Mode::Discard, Err(SessionFault::BadGeometry)),
         (256, Mode::Discard, Err(SessionFault::DiscardInSnapshot)),
         (256, Mode::Overwrite, Ok(())),
         (256, Mode::Discard, Err(SessionFault::NameTaken)),
     ] {
-        assert_same(&rt, session.add_channel("c", size, 2, mode), want);
+        assert_same(&rt, session.add_channel(&name, size, 2, mode), want);
     }
     assert_same(&rt, session.book().mode(), SessionMode::Snapshot);
     assert_same(&rt, session.book().channels(), 1);

@@ -2,19 +2,17 @@ use super::{assert_same, moment};
 use std::alloc::Global;
 use std::process::Abort;
 use std::test::Fail;
-use tr_book::Mode;
-use tr_chunk::OffsetMinutes;
-use tr_record::Moment;
 use tr_schedule::Schedule;
 use tr_session_book::{Archive, SessionBook, SessionFault};
-use tr_stream::SessionMode;
+use tr_terms::{Mode, Moment, Name, OffsetMinutes, SessionMode};
 use uuid::Uuid;
 
 /// A book of this mode with one overwriting channel and one thread.
 fn book(alloc: Global, mode: SessionMode) -> Result<SessionBook, Fail> {
     let offset = OffsetMinutes::new(0).ok_or("an offset")?;
     let mut book = SessionBook::new(alloc, Uuid::nil(), offset, mode);
-    book.add_channel("c", 256, 2, Mode::Overwrite)?;
+    let name = Name::new("c").ok_or("a name")?;
+    book.add_channel(&name, 256, 2, Mode::Overwrite)?;
     book.add_thread("c")?;
     Ok(book)
 }
@@ -57,7 +55,8 @@ fn a_book_alone_keeps_a_schedule(rt: HostRuntime) -> Result<(), Fail> {
 fn a_book_alone_notes_a_rotation(rt: HostRuntime) {
     let offset = OffsetMinutes::new(60).expect(&rt, "an offset");
     let mut book = SessionBook::new(rt.alloc(), Uuid::nil(), offset, SessionMode::Local);
-    book.add_channel("c", 256, 2, Mode::Discard)
+    let name = Name::new("c").expect(&rt, "a name");
+    book.add_channel(&name, 256, 2, Mode::Discard)
         .expect(&rt, "a channel");
     assert_same(&rt, book.add_thread("c"), Ok(0));
     book.start(moment(1)).expect(&rt, "a start");

@@ -1,6 +1,6 @@
 use Rattle.std.proofs.Common.{rules, ◌≡◌, Ok, Err, ap, sym, None, Some}
 use Rattle.std.specs.Map.{lookup}
-use Rattle.tr_calls.proofs.CallLaws.{is_named, named-is, set-is, call-none, call-some, unchanged-is, kept-in_session}
+use Rattle.tr_calls.proofs.CallLaws.{is_named, named-is, names-kept, set-is, call-none, call-some, unchanged-is, kept-in_session}
 use Rattle.tr_calls.proofs.rotations.rotate_begin_at.Goals as goal
 use Rattle.tr_calls.specs.Calls.{by_session}
 use Rattle.tr_outcome.specs.declared.faults.LineFault.TheVariants.{Session}
@@ -46,3 +46,9 @@ returns-in-Err-clause-no_memory g c = λ wants.
     let t = c.rotate_begin.new.self in
     let same : t ≡ s = search rules in
     unchanged-is name es (c.get_mut.follows.lender t).entries s t found same (c.get_mut.follows.holds t).0
+
+pub returns-in-Ok-clause-names : goal.returns-in-Ok-clause-names
+returns-in-Ok-clause-names g c = names-kept c.args.session.now c.args.sessions.now.entries _ c.rotate_begin.new.self (c.get_mut.follows.holds c.rotate_begin.new.self).0
+
+pub returns-in-Err-clause-names : goal.returns-in-Err-clause-names
+returns-in-Err-clause-names g c = names-kept c.args.session.now c.args.sessions.now.entries _ c.rotate_begin.new.self (c.get_mut.follows.holds c.rotate_begin.new.self).0

@@ -1,6 +1,6 @@
 use Rattle.std.proofs.Common.{◌≡◌, ap, sym, None, Some}
 use Rattle.std.specs.Map.{lookup}
-use Rattle.tr_calls.proofs.CallLaws.{is_named, named-is, set-is, call-none, call-some, held-at-err, unchanged-is}
+use Rattle.tr_calls.proofs.CallLaws.{is_named, named-is, names-kept, set-is, call-none, call-some, held-at-err, unchanged-is}
 use Rattle.tr_calls.proofs.schedules.tick_at.Goals as goal
 use Rattle.tr_calls.specs.Calls.{tick_named}
 use Rattle.tr_session.specs.Session.{SessionOf}
@@ -44,3 +44,6 @@ returns-clause-idle g c = λ idle.
     let t = c.tick.new.session in
     let none : tick_cause by_state c.args.moment s ≡ None = rw (named-is name es (Some s) found) at idle in
     unchanged-is name es (c.get_mut.follows.lender t).entries s t found (c.tick.ensures.idle none) (c.get_mut.follows.holds t).0
+
+pub returns-clause-names : goal.returns-clause-names
+returns-clause-names g c = names-kept c.args.session.now c.args.sessions.now.entries _ c.tick.new.session (c.get_mut.follows.holds c.tick.new.session).0

@@ -1,6 +1,6 @@
 use Rattle.std.proofs.Common.{◌≡◌, ℕ, ap, sym, None, Some}
 use Rattle.std.specs.Map.{lookup}
-use Rattle.tr_calls.proofs.CallLaws.{is_named, named-is, set-is, unchanged-is, added-none, added-ok, added-err, kept-by_session}
+use Rattle.tr_calls.proofs.CallLaws.{is_named, named-is, names-kept, set-is, unchanged-is, added-none, added-ok, added-err, kept-by_session}
 use Rattle.tr_calls.proofs.sessions.add_thread_at.Goals as goal
 use Rattle.tr_session.specs.Steps.{thread_added}
 use Rattle.tr_session_book.specs.Names.{by_name}
@@ -49,3 +49,9 @@ returns-in-Ok-clause-number g c =
     let s = c.in-Some.found.now in
     let found : lookup (is_named name) es ≡ Some s = sym c.in-Some.ensures.value in
     rw (named-is name es (Some s) found) (ap (λ (n : ℕ). Some n) (sym c.in-Ok.ensures.number))
+
+pub returns-in-Ok-clause-names : goal.returns-in-Ok-clause-names
+returns-in-Ok-clause-names g c = names-kept c.args.session.now c.args.sessions.now.entries _ c.add_thread.new.self (c.get_mut.follows.holds c.add_thread.new.self).0
+
+pub returns-in-Err-clause-names : goal.returns-in-Err-clause-names
+returns-in-Err-clause-names g c = names-kept c.args.session.now c.args.sessions.now.entries _ c.add_thread.new.self (c.get_mut.follows.holds c.add_thread.new.self).0

@@ -7,11 +7,12 @@ use Rattle.tr_console.proofs.script.run_script.Goals as goal
 use Rattle.tr_console.specs.Script.{text_step}
 use Rattle.tr_console.specs.ScriptFaults.{reading_fault}
 use Rattle.tr_console.specs.declared.script_fault.ScriptFault.TheVariants as fault
-use Rattle.tr_lines.specs.Reading.{Reading, longest_script}
+use Rattle.tr_lines.specs.Reading.{Reading}
 use Rattle.tr_lines.specs.declared.reader.ReadFault.TheVariants as read
 use Rattle.tr_record.proofs.ByteLemmas.{and_then_bytes-none}
 use Rattle.tr_record.specs.Bytes.{once_more}
 use Rattle.tr_stream.specs.Rules.{by_state}
+use Rattle.tr_terms.specs.declared.limits.TheConstants.{LONGEST_SCRIPT}
 
 pub returns-in_err-reader-clause-memory : goal.returns-in_err-reader-clause-memory
 returns-in_err-reader-clause-memory g c _ = record {
@@ -57,7 +58,7 @@ pub returns-in_err-found-clause-read : goal.returns-in_err-found-clause-read
 returns-in_err-found-clause-read g c e =
     let is = reading_fault-Read c.in_err-found.field-0.0 (made c.from_residual-in_err-found.result _ fault.Read c.from_residual-in_err-found.ensures.1 e) in
     let broke = c.read_line.ensures.read (c.in_err-found.was ∙ ap Err is) in
-    let most : c.read_line.new.self.total ≤ longest_script = omega (arith, c.reader.invariant.3, ap (λ (r : Reading). r.total) c.reader.view_is) in
+    let most : c.read_line.new.self.total ≤ LONGEST_SCRIPT = omega (arith, c.reader.invariant.3, ap (λ (r : Reading). r.total) c.reader.view_is) in
     Going-breaks _ _ _ _ c.lines.reader _ _ c.lines.invariant.going _ _ most broke.0
 
 pub returns-in_err-found-clause-too_long : goal.returns-in_err-found-clause-too_long
@@ -68,7 +69,7 @@ returns-in_err-found-clause-too_long g c e =
 pub returns-in_err-found-clause-memory : goal.returns-in_err-found-clause-memory
 returns-in_err-found-clause-memory g c e =
     let is = reading_fault-NoMemory c.in_err-found.field-0.0 (made c.from_residual-in_err-found.result _ fault.NoMemory c.from_residual-in_err-found.ensures.1 e) in
-    let most : c.read_line.new.self.total ≤ longest_script = omega (arith, c.reader.invariant.3, ap (λ (r : Reading). r.total) c.reader.view_is) in
+    let most : c.read_line.new.self.total ≤ LONGEST_SCRIPT = omega (arith, c.reader.invariant.3, ap (λ (r : Reading). r.total) c.reader.view_is) in
     Going-memory _ _ _ _ c.lines.reader _ _ c.lines.invariant.going _ _ most c.read_line.ensures.held (c.read_line.ensures.memory (c.in_err-found.was ∙ ap Err is))
 
 pub returns-in_err-is_refused-clause-write : goal.returns-in_err-is_refused-clause-write
@@ -76,7 +77,7 @@ returns-in_err-is_refused-clause-write g c e =
     let is = made c.from_residual-in_err-is_refused.result _ fault.Write c.from_residual-in_err-is_refused.ensures.1 e in
     let some = c.answer_line.ensures.write (c.in_err-is_refused.was ∙ ap Err is) in
     let same = c.read_line.ensures.content ∙ c.lines.invariant.content in
-    let most : c.read_line.new.self.total ≤ longest_script = omega (arith, c.reader.invariant.3, ap (λ (r : Reading). r.total) c.reader.view_is) in
+    let most : c.read_line.new.self.total ≤ LONGEST_SCRIPT = omega (arith, c.reader.invariant.3, ap (λ (r : Reading). r.total) c.reader.view_is) in
     let comes = Comes-found _ _ _ _ c.lines.reader _ _ c.lines.invariant.going (g.S.ByteSource.content c.args.source.now) c.in_ok-found.found _ c.read_line.new.self most c.read_line.ensures.held
     (λ w. c.read_line.ensures.whole (c.in_ok-found.was ∙ ap Ok w)) (λ l. let last = c.read_line.ensures.last (c.in_ok-found.was ∙ ap Ok l) in (last.0, last.1 ∙ same)) in
     Comes-wrote _ _ _ _ c.lines.reader _ _ c.lines.invariant.going _ _ _ c.read_line.new.self _ some.0 c.text.ensures some.1 some.2 comes
@@ -86,7 +87,7 @@ returns-in_err-is_refused-clause-memory g c e =
     let is = made c.from_residual-in_err-is_refused.result _ fault.NoMemory c.from_residual-in_err-is_refused.ensures.1 e in
     let kept = c.answer_line.ensures.memory (c.in_err-is_refused.was ∙ ap Err is) in
     let same = c.read_line.ensures.content ∙ c.lines.invariant.content in
-    let most : c.read_line.new.self.total ≤ longest_script = omega (arith, c.reader.invariant.3, ap (λ (r : Reading). r.total) c.reader.view_is) in
+    let most : c.read_line.new.self.total ≤ LONGEST_SCRIPT = omega (arith, c.reader.invariant.3, ap (λ (r : Reading). r.total) c.reader.view_is) in
     let comes = Comes-found _ _ _ _ c.lines.reader _ _ c.lines.invariant.going (g.S.ByteSource.content c.args.source.now) c.in_ok-found.found _ c.read_line.new.self most c.read_line.ensures.held
     (λ w. c.read_line.ensures.whole (c.in_ok-found.was ∙ ap Ok w)) (λ l. let last = c.read_line.ensures.last (c.in_ok-found.was ∙ ap Ok l) in (last.0, last.1 ∙ same)) in
     Comes-memory _ _ _ _ c.lines.reader _ _ c.lines.invariant.going _ _ _ c.read_line.new.self kept comes
@@ -111,5 +112,5 @@ returns-in-Last-clause-done g c =
     let answered = c.in_ok-is_refused.ensures in
     let count : c.lines.refused + c.from-refused.result ≡ c.lines.refused + one_if (text_step by_state c.lines.console (option_map (λ (t : Bor (List ℕ)). t.now) c.text.result)).is_refused =
     ap (λ n. c.lines.refused + n) (c.from-refused.ensures ∙ byte-one c.in_ok-is_refused.is_refused ∙ ap one_if answered.refused) in
-    let most : c.read_line.new.self.total ≤ longest_script = omega (arith, c.reader.invariant.3, ap (λ (r : Reading). r.total) c.reader.view_is) in
+    let most : c.read_line.new.self.total ≤ LONGEST_SCRIPT = omega (arith, c.reader.invariant.3, ap (λ (r : Reading). r.total) c.reader.view_is) in
     Going-last _ _ _ _ c.lines.reader _ _ c.lines.invariant.going _ _ c.read_line.new.self _ _ _ c.text.ensures answered.text answered.world count last.0.on last.0.nothing_held most

@@ -1,8 +1,9 @@
 use Rattle.std.proofs.Common.{◌≡◌, ◌+◌, ◌≤◌, ℕ, length, drop, ap, ◌∙◌, sym, subst, refl, arith}
 use Rattle.std.proofs.lemmas.Bool.{false≢true}
 use Rattle.tr_record.specs.Raw.{entry_of}
-use Rattle.tr_record.specs.Records.{Entry, Stands, last_moment}
+use Rattle.tr_record.specs.Records.{Entry, Stands}
 use Rattle.tr_record.proofs.ReadingLemmas.{begins_stands, stands_begins, same_answer}
+use Rattle.tr_terms.specs.declared.limits.TheConstants.{LAST_MOMENT}
 use Rattle.tr_record.proofs.reading.read_rec.Goals as goal
 
 pub returns-in_err-raw-clause-only : goal.returns-in_err-raw-clause-only
@@ -11,7 +12,7 @@ returns-in_err-raw-clause-only c = λ e n s. absurd (c.in_err-raw.ensures.only e
 pub returns-in_err-moment-clause-only : goal.returns-in_err-moment-clause-only
 returns-in_err-moment-clause-only c = λ e n s.
     let is = (c.in_ok-raw.ensures.only e (drop n c.args.bytes.now) (stands_begins c.args.bytes.now e n s)).0 in
-    let within : c.in_ok-raw.raw.moment ≤ last_moment = omega (arith, s.fits.moment, ap (λ (r : Entry). r.moment) is) in
+    let within : c.in_ok-raw.raw.moment ≤ LAST_MOMENT = omega (arith, s.fits.moment, ap (λ (r : Entry). r.moment) is) in
     absurd (false≢true (c.in_err-moment.ensures.succeeds.1 within))
 
 pub returns-clause-found : goal.returns-clause-found

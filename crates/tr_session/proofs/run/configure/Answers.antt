@@ -17,7 +17,7 @@ returns-in-Err-clause-refused g c = λ not_memory.
     (c.in-Err.ensures.refused not_memory) in
     refused-alike c.args.config.now c.in-Err.fault (
     ap (λ (s : SessionOf StreamState). channels_configured by_state c.args.config.now.channels.items s) (sym c.new-session.ensures)
-    ∙ ap (λ (cs : List (ChannelConfig g.row.A.Denot)). channels_configured by_state cs c.new-session.result) (sym c.deref-channel-items.ensures.value) ∙ sym is)
+    ∙ ap (λ (cs : List ChannelConfig). channels_configured by_state cs c.new-session.result) (sym c.deref-channel-items.ensures.value) ∙ sym is)
 
 pub channels-preserved : goal.channels-preserved
 channels-preserved g c =
@@ -27,5 +27,5 @@ channels-preserved g c =
 pub returns-clause-ok : goal.returns-clause-ok
 returns-clause-ok g c =
     ap (λ (s : SessionOf StreamState). channels_configured by_state c.args.config.now.channels.items s) (sym c.new-session.ensures)
-    ∙ ap (λ (cs : List (ChannelConfig g.row.A.Denot)). channels_configured by_state cs c.new-session.result) (sym c.deref-channel-items.ensures.value)
+    ∙ ap (λ (cs : List ChannelConfig). channels_configured by_state cs c.new-session.result) (sym c.deref-channel-items.ensures.value)
     ∙ channels-end by_state c.deref-channel-items.result.now c.channels.channel-index c.channels.session _ c.channels-test.false c.channels.invariant

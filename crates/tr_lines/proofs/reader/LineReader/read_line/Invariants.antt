@@ -1,5 +1,6 @@
 use Rattle.std.proofs.Common.{◌≡◌, ◌-◌}
-use Rattle.tr_lines.specs.Reading.{ReadsOn, longest_script}
+use Rattle.tr_lines.specs.Reading.{ReadsOn}
+use Rattle.tr_terms.specs.declared.limits.TheConstants.{LONGEST_SCRIPT}
 use Rattle.tr_lines.proofs.reader.LineReader.read_line.Given as goal
 
 abbrev pub invariant-pieces : goal.invariant-pieces
@@ -10,4 +11,4 @@ invariant-pieces g l = record {
 }
 
 abbrev pub decreases-pieces : goal.decreases-pieces
-decreases-pieces g l = longest_script - l.self.total
+decreases-pieces g l = LONGEST_SCRIPT - l.self.total

@@ -1,8 +1,8 @@
 //! Moments in time.
 
 ghost use Rattle.std.specs.Prelude.{◌≡◌, ◌≤◌, ◌↔◌, max, IsSome, IfSome};
-ghost use Rattle.tr_record.specs.Records.{last_moment};
 
+use crate::limits::LAST_MOMENT;
 use std::marker::Model;
 
 /// Nanoseconds since 1970, from 0 to 9,000,000,000,000,000,000. Contracts see the number.
@@ -13,27 +13,27 @@ pub struct Moment {
 
 impl Model for Moment {
     ghost use Rattle.std.specs.Prelude.{ℕ, ◌≤◌};
-    ghost use Rattle.tr_record.specs.Records.{last_moment};
+    ghost use Rattle.tr_terms.specs.declared.limits.TheConstants.{LAST_MOMENT};
 
     ghost Value = { ℕ };
 
     ghost view = { λ m. m.nanoseconds };
 
-    ghost invariant = { λ m. m.nanoseconds ≤ last_moment };
+    ghost invariant = { λ m. m.nanoseconds ≤ LAST_MOMENT };
 
     ghost inverse = { λ n. record { nanoseconds = n } };
 }
 
 impl Moment {
     /// The greatest moment, in nanoseconds since 1970.
-    pub const LAST: u64 = 9_000_000_000_000_000_000;
+    pub const LAST: u64 = LAST_MOMENT;
 
     /// The moment of so many nanoseconds since 1970. None where the number is above the limit.
     pub fn new(nanoseconds: u64) -> Option<Moment>
-        ensures succeeds { IsSome result ↔ (nanoseconds ≤ last_moment) }
+        ensures succeeds { IsSome result ↔ (nanoseconds ≤ LAST_MOMENT) }
         ensures value { IfSome result (λ m. m ≡ nanoseconds) }
     {
-        if nanoseconds <= Moment::LAST {
+        if nanoseconds <= LAST_MOMENT {
             Some(Moment { nanoseconds })
         } else {
             None
@@ -41,8 +41,8 @@ impl Moment {
     }
 
     /// The moment of so many nanoseconds since 1970, which are within the limit.
-    pub(crate) fn within_limit(nanoseconds: u64) -> Moment
-        requires { nanoseconds ≤ last_moment }
+    pub fn within_limit(nanoseconds: u64) -> Moment
+        requires { nanoseconds ≤ LAST_MOMENT }
         ensures { result ≡ nanoseconds }
     {
         Moment { nanoseconds }
@@ -58,7 +58,7 @@ impl Moment {
     /// The nanoseconds since 1970.
     pub fn get(self) -> u64
         ensures value { result ≡ self }
-        ensures within { result ≤ last_moment }
+        ensures within { result ≤ LAST_MOMENT }
     {
         self.nanoseconds
     }
@@ -66,7 +66,7 @@ impl Moment {
     /// The later of two moments.
     pub fn later(self, other: Moment) -> Moment
         ensures value { result ≡ max self other }
-        ensures within { result ≤ last_moment }
+        ensures within { result ≤ LAST_MOMENT }
     {
         if self.get() < other.get() {
             other

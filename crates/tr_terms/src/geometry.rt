@@ -18,7 +18,7 @@ pub struct Geometry {
 
 impl Model for Geometry {
     ghost use Rattle.std.specs.Prelude.{IsTrue};
-    ghost use Rattle.tr_book.specs.Geometry.{GeometryState, is_size, is_count};
+    ghost use Rattle.tr_terms.specs.Geometry.{GeometryState, is_size, is_count};
 
     ghost Value = { GeometryState };
 
@@ -42,7 +42,7 @@ pub enum GeometryFault {
 
 impl Geometry {
     ghost use Rattle.std.specs.Prelude.{◌≡◌, ◌≤◌};
-    ghost use Rattle.tr_book.specs.Geometry.{geometry_of};
+    ghost use Rattle.tr_terms.specs.Geometry.{geometry_of};
 
     /// Rings of `count` sub-buffers of `size` bytes each. The size is judged first.
     pub fn new(size: u64, count: u64) -> Result<Geometry, GeometryFault>
@@ -79,11 +79,11 @@ impl Geometry {
 
 impl GeometryFault {
     ghost use Rattle.std.specs.Prelude.{◌≡◌};
-    ghost use Rattle.tr_book.specs.Geometry.{fault_code, fault_name};
+    ghost use Rattle.tr_terms.specs.Geometry.{geometry_fault_code, geometry_fault_name};
 
-    /// The code that an answer gives: `G1` or `G2`.
+    /// The code that documents call it by: `G1` or `G2`.
     pub fn code(self) -> &'static str
-        ensures { result.now ≡ fault_code self }
+        ensures { result.now ≡ geometry_fault_code self }
     {
         match self {
             GeometryFault::BadSize => "G1",
@@ -91,9 +91,9 @@ impl GeometryFault {
         }
     }
 
-    /// The name that an answer gives: `BadSize` or `BadCount`.
+    /// Its name: `BadSize` or `BadCount`.
     pub fn name(self) -> &'static str
-        ensures { result.now ≡ fault_name self }
+        ensures { result.now ≡ geometry_fault_name self }
     {
         match self {
             GeometryFault::BadSize => "BadSize",

@@ -1,8 +1,9 @@
 //! The offset of a session's clock.
 
 ghost use Rattle.std.specs.Prelude.{◌≡◌, ◌↔◌, IsSome, IfSome};
-ghost use Rattle.jiff.specs.Words.{IsWithin};
+ghost use Rattle.tr_terms.specs.Offsets.{IsOffset};
 
+use crate::limits::MOST_MINUTES;
 use std::marker::Model;
 
 /// How many whole minutes a clock is ahead of UTC, from -1,439 to 1,439. Contracts see the number.
@@ -13,13 +14,13 @@ pub struct OffsetMinutes {
 
 impl Model for OffsetMinutes {
     ghost use Rattle.std.specs.Prelude.{ℤ};
-    ghost use Rattle.jiff.specs.Words.{IsWithin};
+    ghost use Rattle.tr_terms.specs.Offsets.{IsOffset};
 
     ghost Value = { ℤ };
 
     ghost view = { λ o. o.minutes };
 
-    ghost invariant = { λ o. IsWithin 1439 o.minutes };
+    ghost invariant = { λ o. IsOffset o.minutes };
 
     ghost inverse = { λ z. record { minutes = z } };
 }
@@ -27,10 +28,10 @@ impl Model for OffsetMinutes {
 impl OffsetMinutes {
     /// The offset of so many minutes. None where the number is outside the range.
     pub fn new(minutes: i32) -> Option<OffsetMinutes>
-        ensures succeeds { IsSome result ↔ IsWithin 1439 minutes }
+        ensures succeeds { IsSome result ↔ IsOffset minutes }
         ensures value { IfSome result (λ o. o ≡ minutes) }
     {
-        if (-1_439..=1_439).contains(&minutes) {
+        if minutes.unsigned_abs() <= MOST_MINUTES {
             Some(OffsetMinutes { minutes })
         } else {
             None
@@ -40,7 +41,7 @@ impl OffsetMinutes {
     /// The minutes ahead of UTC.
     pub fn get(self) -> i32
         ensures value { result ≡ self }
-        ensures within { IsWithin 1439 result }
+        ensures within { IsOffset result }
     {
         self.minutes
     }

@@ -1,8 +1,8 @@
 -- Sizes and counts of sub-buffers that a stream may have.
 use Rattle.std.specs.Prelude.{ℕ, ◌^◌, ◌==◌, Bool, List, [], ◌∷◌, Result, Ok, Err, if◌then◌else◌, codes}
 use Rattle.std.specs.List.{list_any}
-use Rattle.tr_book.specs.declared.geometry.GeometryFault.{GeometryFault}
-use Rattle.tr_book.specs.declared.geometry.GeometryFault.TheVariants.{BadSize, BadCount}
+use Rattle.tr_terms.specs.declared.geometry.GeometryFault.{GeometryFault}
+use Rattle.tr_terms.specs.declared.geometry.GeometryFault.TheVariants.{BadSize, BadCount}
 
 pub record GeometryState : Type 0 where
   pub size : ℕ
@@ -22,11 +22,11 @@ geometry_of size count =
     if is_size size then (if is_count count then Ok (record { size = size; count = count }) else Err BadCount)
     else Err BadSize
 
--- what an answer says of a fault
-abbrev pub fault_code : GeometryFault → List ℕ
-fault_code BadSize = codes "G1"
-fault_code BadCount = codes "G2"
+-- how documents call a fault
+abbrev pub geometry_fault_code : GeometryFault → List ℕ
+geometry_fault_code BadSize = codes "G1"
+geometry_fault_code BadCount = codes "G2"
 
-abbrev pub fault_name : GeometryFault → List ℕ
-fault_name BadSize = codes "BadSize"
-fault_name BadCount = codes "BadCount"
+abbrev pub geometry_fault_name : GeometryFault → List ℕ
+geometry_fault_name BadSize = codes "BadSize"
+geometry_fault_name BadCount = codes "BadCount"

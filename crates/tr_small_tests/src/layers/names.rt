@@ -1,0 +1,26 @@
+//! Which texts are names.
+
+use super::assert_same;
+use std::process::Abort;
+use tr_terms::Name;
+
+/// The longest name.
+const LONGEST: &str = "abcdefghijklmnopqrstuvwxyz_ABCDEFGHIJKLMNOPQRSTUVWXYZ_0123456789";
+
+/// One letter more.
+const TOO_LONG: &str = "abcdefghijklmnopqrstuvwxyz_ABCDEFGHIJKLMNOPQRSTUVWXYZ_0123456789x";
+
+// a name makes one folder or one file, and leads to no other
+#[test]
+fn no_name_leads_out(rt: HostRuntime) {
+    for text in [
+        "", ".", "..", "../x", "a/b", "/", "/etc", "a/", "a.b", "a\\b", "a b", "a-b", "a\0",
+        "\u{e4}", "1a", "_a", "9", TOO_LONG,
+    ] {
+        assert_same(&rt, (text, Name::new(text).is_some()), (text, false));
+    }
+    for text in ["a", "Z", "Net_4", "z_9_", LONGEST] {
+        let name = Name::new(text).expect(&rt, "a name");
+        assert_same(&rt, name.as_str(), text);
+    }
+}

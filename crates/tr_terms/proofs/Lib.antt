@@ -1,0 +1,2 @@
+pub mod BoolLemmas
+pub mod NameLemmas

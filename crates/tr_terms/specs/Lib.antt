@@ -1,0 +1,4 @@
+pub mod Geometry
+pub mod Names
+pub mod Offsets
+pub mod SessionModes

@@ -1,0 +1,18 @@
+//! The words that all crates share: limits, moments, modes, geometries, offsets and names.
+//! A limit has its one home here, from where specifications cite it too.
+#![tactic(auto)]
+
+mod geometry;
+pub mod limits;
+mod mode;
+mod moment;
+mod name;
+mod offset;
+mod session_mode;
+
+pub use geometry::{Geometry, GeometryFault};
+pub use mode::Mode;
+pub use moment::Moment;
+pub use name::Name;
+pub use offset::OffsetMinutes;
+pub use session_mode::SessionMode;
