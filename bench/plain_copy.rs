@@ -89,8 +89,8 @@ fn number(bytes: &[u8], at: usize) -> u64 {
 
 /// The sum with a packet's head and its last record.
 fn mix_packet(before: u64, packet: &[u8], length: usize) -> u64 {
-    let [stream, begin, end, seq, lost] = [24, 32, 40, 64, 72].map(|at| number(packet, at));
-    let mut sum = [stream, seq, begin, end, lost]
+    let [stream, begin, end, seq, discarded] = [24, 32, 40, 64, 72].map(|at| number(packet, at));
+    let mut sum = [stream, seq, begin, end, discarded]
         .into_iter()
         .fold(before, mix);
     let last = &packet[packet.len() - RECORD_FRONT - length..];

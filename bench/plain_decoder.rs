@@ -39,7 +39,7 @@ struct Head {
     uuid: [u8; 16],
     stream: u64,
     seq: u64,
-    lost: u64,
+    discarded: u64,
 }
 
 struct Packet<'a> {
@@ -142,7 +142,7 @@ fn decode_packet(bytes: &[u8]) -> Result<(Packet<'_>, usize), PacketFault> {
         uuid: front[4..20].try_into().expect("sixteen bytes"),
         stream: u64_at(front, 24),
         seq: u64_at(front, 64),
-        lost: u64_at(front, 72),
+        discarded: u64_at(front, 72),
     };
     let packet = Packet::checked(head, u64_at(front, 32), u64_at(front, 40), body)?;
     Ok((packet, size))
@@ -164,7 +164,7 @@ struct Audit {
     gaps: Vec<(u64, u64)>,
     last_seq: Option<u64>,
     last_serial: Option<u64>,
-    last_lost: u64,
+    last_discarded: u64,
 }
 
 impl Audit {
@@ -191,7 +191,7 @@ impl Audit {
         self.records += packet.count as u64;
         self.last_seq = Some(head.seq);
         self.last_serial = Some(packet.last_serial);
-        self.last_lost = head.lost;
+        self.last_discarded = head.discarded;
         Ok(())
     }
 }
@@ -245,7 +245,7 @@ fn audit(bytes: &[u8], rounds: u64) -> Result<(), AuditFault> {
         gaps += found.gaps.len();
         absent += found.gaps.iter().map(|(_, count)| count).sum::<u64>();
         sum = mix(sum, found.last_seq.unwrap_or(0));
-        sum = mix(mix(sum, found.last_serial.unwrap_or(0)), found.last_lost);
+        sum = mix(mix(sum, found.last_serial.unwrap_or(0)), found.last_discarded);
     }
     println!("packets {packets} records {records} gaps {gaps} absent {absent} sum {sum}");
     Ok(())

@@ -3,7 +3,7 @@
 //!     plain_stream offers CASE ROUNDS
 //!
 //! It keeps its records as tr_stream does (each with a payload of its own, in the vector of its sub-buffer), asks the same
-//! before it accepts an offer, and prints what tr_bench prints. It has no proof, and it ends where memory is refused.
+//! before it accepts an offer, and prints what tr_bench prints. It has no proof, and it ends if an allocation fails.
 #![forbid(unsafe_code)]
 
 use std::collections::VecDeque;
@@ -54,7 +54,7 @@ struct Closed {
     buffer: SubBuffer,
     seq: u64,
     end: u64,
-    lost: u64,
+    discarded: u64,
 }
 
 enum Pushed {
@@ -73,7 +73,7 @@ enum Pushed {
 struct Ring {
     overwrite: bool,
     seq: u64,
-    refused: u64,
+    discarded: u64,
     current: SubBuffer,
     waiting: VecDeque<Closed>,
     room: usize,
@@ -85,7 +85,7 @@ impl Ring {
         Ring {
             overwrite,
             seq: 0,
-            refused: 0,
+            discarded: 0,
             current: SubBuffer::new(size),
             waiting,
             room: count - 1,
@@ -108,7 +108,7 @@ impl Ring {
             return Pushed::Stored { seq: self.seq };
         }
         if !self.overwrite {
-            self.refused += 1;
+            self.discarded += 1;
             return Pushed::Refused;
         }
         let gone = self
@@ -132,7 +132,7 @@ impl Ring {
             buffer,
             seq: self.seq,
             end,
-            lost: self.refused,
+            discarded: self.discarded,
         });
         self.seq += 1;
     }
@@ -144,7 +144,7 @@ struct Head {
     begin: u64,
     end: u64,
     seq: u64,
-    lost: u64,
+    discarded: u64,
 }
 
 struct Packet {
@@ -267,14 +267,14 @@ impl Stream {
             chunk: 0,
         };
         let begin = records.first().map_or(0, |r| r.moment);
-        let (end, lost) = (oldest.end, oldest.lost);
+        let (end, discarded) = (oldest.end, oldest.discarded);
         let head = Head {
             uuid: self.uuid,
             stream: self.number,
             begin,
             end,
             seq: oldest.seq,
-            lost,
+            discarded,
         };
         self.packets_bytes += records
             .iter()
@@ -298,9 +298,9 @@ fn mix_packet(sum: u64, packet: &Packet) -> u64 {
         begin,
         end,
         seq,
-        lost,
+        discarded,
     } = packet.head;
-    let sum = [u64::from(uuid[15]), stream, begin, end, seq, lost]
+    let sum = [u64::from(uuid[15]), stream, begin, end, seq, discarded]
         .into_iter()
         .fold(sum, mix);
     let Some(last) = packet.records.last() else {
@@ -354,7 +354,7 @@ fn round(
     sum = stream.packets.iter().fold(sum, mix_packet);
     sum = mix(sum, stream.packets_bytes as u64);
     total.offered += stream.counts.offered;
-    total.discarded += stream.ring.refused;
+    total.discarded += stream.ring.discarded;
     total.overwritten += stream.counts.overwritten;
     total.overwritten_packets += stream.counts.overwritten_packets;
     total.consumed += stream.counts.consumed;

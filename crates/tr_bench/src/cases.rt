@@ -14,7 +14,7 @@ pub struct Case {
 }
 
 impl Case {
-    /// The case of this name.
+    /// The case of this name, if any.
     pub fn named(name: &str) -> Option<Case> {
         let (size, count, mode, takes) = match name {
             "stored" => (65_536, 64, Mode::Discard, false),

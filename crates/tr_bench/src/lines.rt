@@ -1,4 +1,4 @@
-//! The lines of a script, read and parsed as the console does it, without what they ask for being done.
+//! The lines of a script, read and parsed as the console does it, but not carried out.
 
 use crate::sums::mix;
 use std::alloc::{AllocError, Global};

@@ -1,13 +1,13 @@
 //! What `bench/run` measures of the daemon's own crates: parsing alone, offers to one stream, reading packets again, and
 //! rotations.
 //!
-//! `tr_bench parse` reads and parses the lines of a script from standard input, and does nothing of it.
-//! `tr_bench offers CASE ROUNDS` makes 100,000 offers to a new stream, so many times.
+//! `tr_bench parse` reads and parses the lines of a script from standard input, and carries none of them out.
+//! `tr_bench offers CASE ROUNDS` makes 100,000 offers to a new stream, ROUNDS times.
 //! `tr_bench decode ROUNDS` and `tr_bench audit ROUNDS` read packets from standard input, and then decode or audit them
-//! so many times.
-//! `tr_bench fill LENGTH ROUNDS` fills the rings of a new session with records of so long a payload, so many times;
+//! ROUNDS times.
+//! `tr_bench fill LENGTH ROUNDS` fills the rings of a new session with records with payloads of LENGTH bytes, ROUNDS times;
 //! `tr_bench rotate LENGTH ROUNDS` rotates each of these sessions too, and also prints how long the quickest rotation took.
-//! All print what they counted and, but for `fill`, a sum over all that they were answered.
+//! All print what they counted and, except for `fill`, a sum over all answers that they got.
 #![tactic(auto)]
 
 mod cases;

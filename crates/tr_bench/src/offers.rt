@@ -40,7 +40,7 @@ fn offer(stream: &mut Stream, k: u64, sum: u64) -> Result<u64, OfferFault> {
     })
 }
 
-/// Takes a packet, where one waits.
+/// Takes a packet, if one waits.
 fn take(stream: &mut Stream, sum: u64) -> u64 {
     match stream.take() {
         Ok(taken) => mix(mix(mix(sum, taken.seq), taken.count), taken.chunk),
@@ -53,7 +53,7 @@ fn mix_packet(sum: u64, packet: &Packet) -> u64 {
     let head = packet.head();
     let mut sum = mix(mix(sum, u64::from(head.uuid.into_bytes()[15])), head.stream);
     sum = mix(mix(sum, head.begin.get()), head.end.get());
-    sum = mix(mix(sum, head.seq), head.lost);
+    sum = mix(mix(sum, head.seq), head.discarded);
     let Some(last) = packet.records().last() else {
         return sum;
     };
@@ -103,7 +103,7 @@ fn round(alloc: Global, case: &Case, total: Total) -> Result<Total, OfferFault> 
     })
 }
 
-/// So many rounds.
+/// Runs `rounds` rounds.
 pub fn all_rounds(alloc: Global, case: &Case, rounds: u64) -> Result<Total, OfferFault> {
     let mut total = Total {
         offered: 0,

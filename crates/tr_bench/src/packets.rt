@@ -22,7 +22,7 @@ pub struct Audited {
     /// How many runs of numbers are absent, and how many numbers they are.
     pub gaps: u64,
     pub absent: u64,
-    /// A sum over the last number, the last serial and the last count of lost records.
+    /// A sum over the last number, the last serial and the last count of discarded records.
     pub sum: u64,
 }
 
@@ -57,7 +57,7 @@ fn decode_round(bytes: &[u8], total: Decoded) -> Result<Decoded, PacketFault> {
     Ok(total)
 }
 
-/// Decodes the packets so many times.
+/// Decodes the packets `rounds` times.
 pub fn decode_rounds(bytes: &[u8], rounds: u64) -> Result<Decoded, PacketFault> {
     let mut total = Decoded {
         packets: 0,
@@ -70,7 +70,7 @@ pub fn decode_rounds(bytes: &[u8], rounds: u64) -> Result<Decoded, PacketFault> 
     Ok(total)
 }
 
-/// The counts with one audit more.
+/// The counts with one more audit.
 fn add_audit(audit: &StreamAudit, total: Audited) -> Audited {
     let mut absent = total.absent;
     for (_, count) in audit.gaps.as_slice() {
@@ -84,11 +84,11 @@ fn add_audit(audit: &StreamAudit, total: Audited) -> Audited {
         records: total.records.wrapping_add(audit.records),
         gaps: total.gaps.wrapping_add(gaps),
         absent,
-        sum: mix(serial, audit.last_lost),
+        sum: mix(serial, audit.last_discarded),
     }
 }
 
-/// Audits the bytes so many times, as one piece of stream 0 of the trace 1.
+/// Audits the bytes `rounds` times, as one piece of stream 0 of the trace 1.
 pub fn audit_rounds(alloc: Global, bytes: &[u8], rounds: u64) -> Result<Audited, AuditFault> {
     let mut total = Audited {
         packets: 0,

@@ -17,7 +17,7 @@ const SIZE: u64 = 4_096;
 
 const COUNT: u64 = 64;
 
-/// What a sub-buffer has beside its packet's front, and what a record has beside its payload, in bytes.
+/// What a sub-buffer has beside its packet's header, and what a record has beside its payload, in bytes.
 const ROOM: u64 = 4_016;
 
 const RECORD_FRONT: u64 = 24;
@@ -35,11 +35,11 @@ pub struct Rotated {
 /// Why the rounds stopped.
 #[derive(Clone, Copy, Debug)]
 pub enum RotateFault {
-    /// Nobody tells the processor time.
+    /// No clock gives the processor time.
     NoClock,
-    /// No clock is at UTC.
+    /// No offset is 0.
     NoOffset,
-    /// The channel's name is none.
+    /// The channel's name isn't valid.
     NoName,
     /// The session refused.
     Refused(StepFault),
@@ -61,7 +61,7 @@ fn moment(nanoseconds: u64) -> Moment {
     Moment::new(nanoseconds).unwrap_or(Moment::zero())
 }
 
-/// How many records of so long a payload a ring takes.
+/// How many records with this payload a ring takes.
 fn records_of_ring(payload: &[u8]) -> u64 {
     let record = RECORD_FRONT.wrapping_add(payload.len() as u64);
     match ROOM.checked_div(record) {
@@ -70,7 +70,7 @@ fn records_of_ring(payload: &[u8]) -> u64 {
     }
 }
 
-/// A session that was started at moment 0, and each of whose rings is full of records with this payload.
+/// A session that was started at moment 0; each of its rings is full of records with this payload.
 fn full_session(alloc: Global, payload: &[u8]) -> Result<Session, RotateFault> {
     let Some(offset) = OffsetMinutes::new(0) else {
         return Err(RotateFault::NoOffset);
@@ -97,7 +97,10 @@ fn full_session(alloc: Global, payload: &[u8]) -> Result<Session, RotateFault> {
 fn mix_packet(before: u64, packet: &Packet) -> u64 {
     let head = packet.head();
     let mut sum = mix(mix(before, head.stream), head.seq);
-    sum = mix(mix(mix(sum, head.begin.get()), head.end.get()), head.lost);
+    sum = mix(
+        mix(mix(sum, head.begin.get()), head.end.get()),
+        head.discarded,
+    );
     let Some(last) = packet.records().last() else {
         return sum;
     };
@@ -141,8 +144,8 @@ fn rotate(clock: &impl CpuClock, session: &mut Session) -> Result<u128, RotateFa
     }
 }
 
-/// So many rounds: a new session is filled and rotated. The last number is how many nanoseconds the quickest rotation took
-/// on a processor.
+/// Runs `rounds` rounds: a new session is filled and rotated. The last number is the processor time of the quickest rotation,
+/// in nanoseconds.
 pub fn rotate_rounds(
     clock: &impl CpuClock,
     alloc: Global,
@@ -165,7 +168,7 @@ pub fn rotate_rounds(
     Ok((total, quickest))
 }
 
-/// So many rounds without the rotation: how many records the rings of all the sessions have.
+/// Runs `rounds` rounds without the rotation: how many records the rings of all the sessions have.
 pub fn fill_rounds(alloc: Global, payload: &[u8], rounds: u64) -> Result<u64, RotateFault> {
     let mut records = 0_u64;
     for _ in 0..rounds {

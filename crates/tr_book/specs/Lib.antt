@@ -1,3 +1,3 @@
-pub mod Book
+pub mod Counters
 pub mod Parts
 pub mod Snaps

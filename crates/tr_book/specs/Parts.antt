@@ -10,10 +10,16 @@ pub record PartState : Type 0 where
   pub id : ℕ
   pub packets : List Contents
 
+abbrev pub part_state : ℕ → List Contents → PartState
+part_state id packets = record { id = id; packets = packets }
+
 -- the closed parts in order, and the current one
 pub record PartsState : Type 0 where
   pub closed : List PartState
   pub current : PartState
+
+abbrev pub parts_state : List PartState → PartState → PartsState
+parts_state closed current = record { closed = closed; current = current }
 
 abbrev pub bytes_of : List Contents → ℕ
 bytes_of packets = sum_by packet_size packets
@@ -23,30 +29,31 @@ abbrev pub records_of : List Contents → ℕ
 records_of packets = sum_by (λ (p : Contents). length p.records) packets
 
 abbrev pub empty_part : ℕ → PartState
-empty_part id = record { id = id; packets = [] }
+empty_part id = part_state id []
 
 abbrev pub no_parts : PartsState
-no_parts = record { closed = []; current = empty_part 0 }
+no_parts = parts_state [] (empty_part 0)
 
--- the packet is the last of the current part
+-- the packet is added at the end of the current part
 abbrev pub with_packet : Contents → PartsState → PartsState
 with_packet p s = record s { current = record s.current { packets = s.current.packets ++ p ∷ [] } }
 
--- the packets are the last of the current part, in order
+-- the packets are added at the end of the current part, in order
 abbrev pub with_packets : List Contents → PartsState → PartsState
 with_packets ps s = record s { current = record s.current { packets = s.current.packets ++ ps } }
 
 -- the current part joins the closed ones, and the next one begins
-abbrev pub closed_part : PartsState → PartsState
-closed_part s = record { closed = s.closed ++ s.current ∷ []; current = empty_part (s.current.id + 1) }
+abbrev pub close_part : PartsState → PartsState
+close_part s = parts_state (s.closed ++ s.current ∷ []) (empty_part (s.current.id + 1))
 
--- a closed part by its place, or the current one behind them
+-- a closed part by its place, or the current one after them
 abbrev pub part_at : ℕ → PartsState → Option PartState
 part_at k s = if k == length s.closed then Some s.current else slice_get s.closed k
 
 -- the number of the packet that has the record of a serial
 abbrev pub seq_among : ℕ → List Contents → Option ℕ
-seq_among n packets = option_map (λ (p : Contents). p.head.seq) (find (λ (p : Contents). has_serial n p.records) packets)
+seq_among n packets = option_map (λ (p : Contents). p.head.seq)
+    (find (λ (p : Contents). has_serial n p.records) packets)
 
 -- what is counted beside a part's packets
 pub record AreTallied (packets : List Contents) (bytes records : ℕ) : Type 0 where
@@ -54,6 +61,6 @@ pub record AreTallied (packets : List Contents) (bytes records : ℕ) : Type 0 w
   pub records_are : records ≡ records_of packets
   pub small : bytes ≤ LARGEST_PACKET * records
 
--- the current part's number is how many are closed
+-- the current part's number is the number of closed ones
 abbrev pub IsNumbered : PartsState → Type 0
 IsNumbered s = s.current.id ≡ length s.closed

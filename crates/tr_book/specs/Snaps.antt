@@ -6,5 +6,9 @@ use Rattle.tr_packet.specs.Packets.{Contents}
 pub record SnapState : Type 0 where
   pub stream : ℕ
   pub offered : ℕ
-  pub lost : ℕ
+  pub discarded : ℕ
   pub packets : List Contents
+
+abbrev pub snap_state : ℕ → ℕ → ℕ → List Contents → SnapState
+snap_state stream offered discarded packets =
+    record { stream = stream; offered = offered; discarded = discarded; packets = packets }

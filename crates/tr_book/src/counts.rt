@@ -1,15 +1,16 @@
-//! What a stream answers when it is asked for its counts.
+//! A stream's counts.
 
-/// How many records were offered, and where they are: `offered` is the sum of `discarded`, `overwritten`, `in_ring` and `consumed`.
+/// How many records were offered, and where they are: `offered` is the sum of `discarded`, `overwritten`, `in_ring` and
+/// `consumed`.
 #[derive(Clone, Copy, Debug, PartialEq, Eq)]
 pub struct Counts {
     /// How many offers were accepted.
     pub offered: u64,
-    /// How many of them found no room and were refused.
+    /// How many of their records found no room and were discarded.
     pub discarded: u64,
-    /// How many records gave way to newer ones.
+    /// How many records were overwritten by newer ones.
     pub overwritten: u64,
-    /// How many packets those records made.
+    /// How many packets those records made up.
     pub overwritten_packets: u64,
     /// How many records the ring has.
     pub in_ring: u64,
@@ -17,6 +18,6 @@ pub struct Counts {
     pub consumed: u64,
     /// How many parts are closed.
     pub cuts: u64,
-    /// The bytes of the packets in the current part, or 2^64 - 1 where they are more.
+    /// The bytes of the packets in the current part, or 2^64 - 1 if they are more.
     pub current_bytes: u64,
 }

@@ -1,13 +1,13 @@
-//! What a stream keeps beside its ring: the ring's geometry and mode, counters, and the packets of its parts.
+//! What a stream keeps beside its ring: counters, and the packets of its parts. And what a snapshot shows of a stream.
 #![tactic(auto)]
 
-mod book;
+mod counters;
 mod counts;
 mod part;
 mod parts;
 mod snap;
 
-pub use book::Book;
+pub use counters::Counters;
 pub use counts::Counts;
 pub use part::Part;
 pub use parts::Parts;

@@ -7,7 +7,7 @@ ghost use Rattle.tr_terms.specs.declared.limits.TheConstants.{LARGEST_PACKET};
 
 use std::alloc::{AllocError, AllocFailed, Allocator, Global};
 use std::marker::Model;
-use tr_packet::Packet;
+use tr_packet::{Packet, Packets};
 
 /// The packets of one trace chunk, in order, with their sums. Contracts see a `PartState`.
 #[derive(Drop)]
@@ -19,11 +19,11 @@ pub struct Part<A: Allocator = Global> {
 }
 
 impl<A: Allocator> Model for Part<A> {
-    ghost use Rattle.tr_book.specs.Parts.{PartState, AreTallied};
+    ghost use Rattle.tr_book.specs.Parts.{PartState, AreTallied, part_state};
 
     ghost Value = { PartState };
 
-    ghost view = { λ p. record { id = p.id; packets = p.packets.items } };
+    ghost view = { λ p. part_state p.id p.packets.items };
 
     ghost invariant = { λ p. AreTallied p.packets.items p.bytes p.records };
 }
@@ -32,7 +32,7 @@ impl<A: Allocator> Model for Part<A> {
 fn has_record<A: Allocator>(packet: &Packet<A>, serial: u64) -> bool
     ensures { result ≡ has_serial serial packet.now.records }
 {
-    packet.records().iter().any(|r| r.serial() == serial)
+    packet.records().has(serial)
 }
 
 impl<A: Allocator> Part<A> {
@@ -56,10 +56,10 @@ impl<A: Allocator> Part<A> {
     }
 
     /// Its packets, in order.
-    pub fn packets(&self) -> &[Packet<A>]
-        ensures { result.now ≡ self.now.packets }
+    pub fn packets(&self) -> Packets<'_, A>
+        ensures { result ≡ self.now.packets }
     {
-        self.packets.as_slice()
+        Packets::new(self.packets.as_slice())
     }
 
     /// The bytes of all its packets.
@@ -87,7 +87,7 @@ impl<A: Allocator> Part<A> {
             .map(|p| p.head().seq)
     }
 
-    /// Adds a packet at the end. Where memory runs out, the part is as it was and the packet comes back.
+    /// Adds a packet at the end. If an allocation fails, the part is as it was and the packet comes back.
     pub(crate) fn push(&mut self, packet: Packet<A>) -> Result<(), AllocFailed<Packet<A>>>
         requires { records_of self.old.packets + length packet.records < 2 ^ 64 }
         ensures ok { OnOk result (self.new ≡ record self.old { packets = self.old.packets ++ packet ∷ [] }) }
@@ -102,7 +102,7 @@ impl<A: Allocator> Part<A> {
         Ok(())
     }
 
-    /// Adds packets at the end, in order. Where memory runs out, the part is as it was.
+    /// Adds packets at the end, in order. If an allocation fails, the part is as it was.
     pub(crate) fn append(&mut self, mut packets: Vec<Packet<A>, A>) -> Result<(), AllocError>
         requires { records_of self.old.packets + records_of packets.items < 2 ^ 64 }
         ensures ok { OnOk result (self.new ≡ record self.old { packets = self.old.packets ++ packets.items }) }

@@ -1,7 +1,7 @@
 //! The parts of a stream.
 
 ghost use Rattle.std.specs.Prelude.{◌≡◌, ◌+◌, ◌<◌, ◌^◌, OnOk, OnErr, IfErr, length, option_copied};
-ghost use Rattle.tr_book.specs.Parts.{IsNumbered, records_of, no_parts, with_packet, with_packets, closed_part, part_at};
+ghost use Rattle.tr_book.specs.Parts.{IsNumbered, records_of, no_parts, with_packet, with_packets, close_part, part_at};
 
 use crate::part::Part;
 use std::alloc::{AllocError, AllocFailed, Allocator, Global};
@@ -18,17 +18,17 @@ pub struct Parts<A: Allocator = Global> {
 }
 
 impl<A: Allocator> Model for Parts<A> {
-    ghost use Rattle.tr_book.specs.Parts.{PartsState, IsNumbered};
+    ghost use Rattle.tr_book.specs.Parts.{PartsState, IsNumbered, parts_state};
 
     ghost Value = { PartsState };
 
-    ghost view = { λ s. record { closed = s.closed.items; current = s.current } };
+    ghost view = { λ s. parts_state s.closed.items s.current };
 
-    ghost invariant = { λ s. IsNumbered (record { closed = s.closed.items; current = s.current }) };
+    ghost invariant = { λ s. IsNumbered (parts_state s.closed.items s.current) };
 }
 
 impl<A: Allocator> Parts<A> {
-    /// The part number `k`: a closed one, or the current one behind them.
+    /// The part number `k`: a closed one, or the current one after them.
     pub fn part(&self, k: u64) -> Option<&Part<A>>
         ensures { option_copied result ≡ part_at k self.now }
     {
@@ -61,7 +61,7 @@ impl<A: Allocator> Parts<A> {
         self.closed.len() as u64
     }
 
-    /// Adds a packet at the end of the current part. Where memory runs out, all is as it was and the packet comes back.
+    /// Adds a packet at the end of the current part. If an allocation fails, all is as it was and the packet comes back.
     pub fn push(&mut self, packet: Packet<A>) -> Result<(), AllocFailed<Packet<A>>>
         requires { records_of self.old.current.packets + length packet.records < 2 ^ 64 }
         ensures ok { OnOk result (self.new ≡ with_packet packet self.old) }
@@ -84,11 +84,11 @@ impl<A: Allocator + Copy> Parts<A> {
         }
     }
 
-    /// Adds packets at the end of the current part, in order, closes it and begins the next one. Where memory runs out,
+    /// Adds packets at the end of the current part, in order, closes it and begins the next one. If an allocation fails,
     /// nothing changes.
     pub fn cut(&mut self, packets: Vec<Packet<A>, A>) -> Result<(), AllocError>
         requires { records_of self.old.current.packets + records_of packets.items < 2 ^ 64 }
-        ensures ok { OnOk result (self.new ≡ closed_part (with_packets packets.items self.old)) }
+        ensures ok { OnOk result (self.new ≡ close_part (with_packets packets.items self.old)) }
         ensures err { OnErr result (self.new ≡ self.old) }
     {
         self.closed.reserve(1)?;

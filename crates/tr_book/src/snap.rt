@@ -2,10 +2,11 @@
 
 ghost use Rattle.std.specs.Prelude.{◌≡◌, ◌<◌, ◌^◌};
 ghost use Rattle.tr_book.specs.Parts.{records_of};
+ghost use Rattle.tr_book.specs.Snaps.{snap_state};
 
 use std::alloc::{Allocator, Global};
 use std::marker::Model;
-use tr_packet::Packet;
+use tr_packet::{Packet, Packets};
 
 /// One stream at one step: how many offers it had accepted, how many of their records it had discarded, and copies of the
 /// packets that its ring held, the oldest first. Contracts see a `SnapState`.
@@ -13,16 +14,16 @@ use tr_packet::Packet;
 pub struct StreamSnap<A: Allocator = Global> {
     stream: u64,
     offered: u64,
-    lost: u64,
+    discarded: u64,
     packets: Vec<Packet<A>, A>,
 }
 
 impl<A: Allocator> Model for StreamSnap<A> {
-    ghost use Rattle.tr_book.specs.Snaps.{SnapState};
+    ghost use Rattle.tr_book.specs.Snaps.{SnapState, snap_state};
 
     ghost Value = { SnapState };
 
-    ghost view = { λ s. record { stream = s.stream; offered = s.offered; lost = s.lost; packets = s.packets.items } };
+    ghost view = { λ s. snap_state s.stream s.offered s.discarded s.packets.items };
 
     ghost use Rattle.std.specs.Prelude.{◌<◌, ◌^◌};
     ghost use Rattle.tr_book.specs.Parts.{records_of};
@@ -31,15 +32,20 @@ impl<A: Allocator> Model for StreamSnap<A> {
 }
 
 impl<A: Allocator> StreamSnap<A> {
-    /// A stream of this number as it is shown. It takes no memory.
-    pub fn new(stream: u64, offered: u64, lost: u64, packets: Vec<Packet<A>, A>) -> StreamSnap<A>
+    /// What is shown of the stream with this number. It takes no memory.
+    pub fn new(
+        stream: u64,
+        offered: u64,
+        discarded: u64,
+        packets: Vec<Packet<A>, A>,
+    ) -> StreamSnap<A>
         requires { records_of packets.items < 2 ^ 64 }
-        ensures { result ≡ record { stream = stream; offered = offered; lost = lost; packets = packets.items } }
+        ensures { result ≡ snap_state stream offered discarded packets.items }
     {
         StreamSnap {
             stream,
             offered,
-            lost,
+            discarded,
             packets,
         }
     }
@@ -59,17 +65,17 @@ impl<A: Allocator> StreamSnap<A> {
     }
 
     /// How many records it had discarded.
-    pub fn lost(&self) -> u64
-        ensures { result ≡ self.now.lost }
+    pub fn discarded(&self) -> u64
+        ensures { result ≡ self.now.discarded }
     {
-        self.lost
+        self.discarded
     }
 
     /// The packets of its ring, the oldest first.
-    pub fn packets(&self) -> &[Packet<A>]
-        ensures value { result.now ≡ self.now.packets }
+    pub fn packets(&self) -> Packets<'_, A>
+        ensures value { result ≡ self.now.packets }
         ensures few { records_of self.now.packets < 2 ^ 64 }
     {
-        self.packets.as_slice()
+        Packets::new(self.packets.as_slice())
     }
 }

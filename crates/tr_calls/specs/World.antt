@@ -1,4 +1,4 @@
--- The sessions of a script by name, whatever stands for their streams.
+-- The sessions of a script by name, whatever represents their streams.
 use Rattle.std.specs.Map.{lookup, set_value}
 use Rattle.std.specs.Prelude.{List, Option}
 use Rattle.std.specs.Str.{bytes_eq}

@@ -1,6 +1,6 @@
 //! The calls of sessions by their names, as the lines of a script make them.
 //! Each is proved to answer as the rules of the session of that name do, and to leave all other sessions as they are,
-//! unless memory is refused.
+//! unless an allocation fails.
 #![tactic(auto)]
 
 mod rotations;
@@ -8,10 +8,10 @@ mod schedules;
 mod sessions;
 mod snapshots;
 
-pub use rotations::{rotate_at, rotate_begin_at, rotate_finish_at, rotate_next_at};
-pub use schedules::{schedule_at, tick_at};
+pub use rotations::{rotate_begin_named, rotate_finish_named, rotate_named, rotate_next_named};
+pub use schedules::{schedule_named, tick_named};
 pub use sessions::{
-    ChannelShape, OfferTo, Sessions, add_channel_at, add_thread_at, fate_at, mode_of, offer_at,
-    shape_of, start_at, stop_at, take_at,
+    ChannelShape, OfferTo, Sessions, add_channel_named, add_thread_named, fate_named, mode_of,
+    offer_named, shape_of, start_named, stop_named, take_named,
 };
-pub use snapshots::snapshot_at;
+pub use snapshots::snapshot_named;

@@ -1,12 +1,12 @@
 //! Sessions by name, and what is added to them, offered, taken and asked.
 
 ghost use Rattle.std.specs.Prelude.{◌≡◌, true, false, Ok, Err, Some, OnOk, OnErr, IfOk, IfErr, length, option_map};
-ghost use Rattle.tr_calls.specs.Calls.{added, added_channel, after_call, by_session, by_step, call_answer, mode_asked};
+ghost use Rattle.tr_calls.specs.Calls.{world_add, world_add_channel, after_call, from_session, from_step, call_answer, mode_asked};
 ghost use Rattle.tr_calls.specs.World.{session_named};
 ghost use Rattle.tr_outcome.specs.Faults.{HasMemory, wants_memory};
-ghost use Rattle.tr_session_book.specs.BookSteps.{start_answer, stop_answer};
+ghost use Rattle.tr_session_book.specs.BookSteps.{book_start_answer, book_stop_answer};
 ghost use Rattle.tr_session_book.specs.Names.{AreNamed, by_name};
-ghost use Rattle.tr_session.specs.Steps.{thread_added, all_started, all_stopped, offer_step, after_offer_step, take_step, after_take_step, fate_asked};
+ghost use Rattle.tr_session.specs.Steps.{session_add_thread, session_after_start, session_after_stop, session_offer_answer, session_after_offer, session_take_answer, session_after_take, session_fate_answer};
 ghost use Rattle.tr_stream.specs.Rules.{by_state};
 
 use indexmap::IndexMap;
@@ -31,7 +31,7 @@ pub struct ChannelShape {
     pub mode: Mode,
 }
 
-/// The shape of a channel whose sizes a command gave.
+/// The shape of a channel with the sizes that a command gave.
 pub fn shape_of(size: u32, count: u32, mode: Mode) -> ChannelShape
     ensures { result ≡ record { size = size; count = count; mode = mode } }
 {
@@ -64,19 +64,23 @@ pub struct OfferTo {
     pub id: u32,
 }
 
-/// Adds a channel to the session of a name.
+/// Adds a channel to the named session.
 ///
 /// # Errors
 ///
 /// `NoSession`, `BadName`, and those of `Session::add_channel`: nothing changed.
-pub fn add_channel_at<A: Allocator + Copy>(
+pub fn add_channel_named<A: Allocator + Copy>(
     sessions: &mut Sessions<A>,
     session: &str,
     channel: &str,
     shape: ChannelShape,
 ) -> Result<(), LineFault>
-    ensures ok { OnOk result (added_channel session.now channel.now shape.size shape.count shape.mode (by_name sessions.old.entries) ≡ Ok (by_name sessions.new.entries)) }
-    ensures refused { IfErr result (λ fault. wants_memory fault ≡ false → added_channel session.now channel.now shape.size shape.count shape.mode (by_name sessions.old.entries) ≡ Err fault) }
+    ensures ok { OnOk result (world_add_channel session.now channel.now shape.size shape.count shape.mode
+        (by_name sessions.old.entries) ≡ Ok (by_name sessions.new.entries)) }
+    ensures refused { IfErr result
+        (λ fault. wants_memory fault ≡ false
+        → world_add_channel session.now channel.now shape.size shape.count shape.mode (by_name sessions.old.entries)
+        ≡ Err fault) }
     ensures unchanged { OnErr result (by_name sessions.new.entries ≡ by_name sessions.old.entries) }
     ensures names { AreNamed (by_name sessions.old.entries) → AreNamed (by_name sessions.new.entries) }
 {
@@ -92,19 +96,25 @@ pub fn add_channel_at<A: Allocator + Copy>(
     }
 }
 
-/// Adds a thread to a channel of the session of a name, and answers with the number of its stream.
+/// Adds a thread to a channel of the named session, and answers with the number of its stream.
 ///
 /// # Errors
 ///
 /// `NoSession`, and those of `Session::add_thread`: nothing changed.
-pub fn add_thread_at<A: Allocator + Copy>(
+pub fn add_thread_named<A: Allocator + Copy>(
     sessions: &mut Sessions<A>,
     session: &str,
     channel: &str,
 ) -> Result<u64, LineFault>
-    ensures number { IfOk result (λ n. option_map (λ s. length s.streams) (session_named session.now (by_name sessions.old.entries)) ≡ Some n) }
-    ensures ok { OnOk result (added session.now (thread_added by_state channel.now) (by_name sessions.old.entries) ≡ Ok (by_name sessions.new.entries)) }
-    ensures refused { IfErr result (λ fault. wants_memory fault ≡ false → added session.now (thread_added by_state channel.now) (by_name sessions.old.entries) ≡ Err fault) }
+    ensures number { IfOk result
+        (λ n. option_map (λ s. length s.streams) (session_named session.now (by_name sessions.old.entries))
+        ≡ Some n) }
+    ensures ok { OnOk result (world_add session.now (session_add_thread by_state channel.now)
+        (by_name sessions.old.entries) ≡ Ok (by_name sessions.new.entries)) }
+    ensures refused { IfErr result
+        (λ fault. wants_memory fault ≡ false
+        → world_add session.now (session_add_thread by_state channel.now) (by_name sessions.old.entries)
+        ≡ Err fault) }
     ensures unchanged { OnErr result (by_name sessions.new.entries ≡ by_name sessions.old.entries) }
     ensures names { AreNamed (by_name sessions.old.entries) → AreNamed (by_name sessions.new.entries) }
 {
@@ -117,19 +127,20 @@ pub fn add_thread_at<A: Allocator + Copy>(
     }
 }
 
-/// Starts the session of a name and its streams.
+/// Starts the named session and its streams.
 ///
 /// # Errors
 ///
 /// `NoSession`, and those of `Session::start`: nothing changed.
-pub fn start_at<A: Allocator>(
+pub fn start_named<A: Allocator>(
     sessions: &mut Sessions<A>,
     session: &str,
     moment: Moment,
 ) -> Result<(), LineFault>
-    ensures value { HasMemory result →
-        (result ≡ call_answer session.now (λ s. by_session (start_answer s.book)) (by_name sessions.old.entries))
-        × (by_name sessions.new.entries ≡ after_call session.now (all_started by_state moment) (by_name sessions.old.entries)) }
+    ensures value { (result ≡ call_answer session.now (λ s. from_session (book_start_answer s.book))
+        (by_name sessions.old.entries))
+        × (by_name sessions.new.entries
+        ≡ after_call session.now (session_after_start by_state moment) (by_name sessions.old.entries)) }
     ensures names { AreNamed (by_name sessions.old.entries) → AreNamed (by_name sessions.new.entries) }
 {
     let Some(found) = sessions.get_mut(session) else {
@@ -141,15 +152,16 @@ pub fn start_at<A: Allocator>(
     }
 }
 
-/// Stops the session of a name and its streams.
+/// Stops the named session and its streams.
 ///
 /// # Errors
 ///
 /// `NoSession`, and those of `Session::stop`: nothing changed.
-pub fn stop_at<A: Allocator>(sessions: &mut Sessions<A>, session: &str) -> Result<(), LineFault>
-    ensures value { HasMemory result →
-        (result ≡ call_answer session.now (λ s. by_session (stop_answer s.book)) (by_name sessions.old.entries))
-        × (by_name sessions.new.entries ≡ after_call session.now (all_stopped by_state) (by_name sessions.old.entries)) }
+pub fn stop_named<A: Allocator>(sessions: &mut Sessions<A>, session: &str) -> Result<(), LineFault>
+    ensures value { (result ≡ call_answer session.now (λ s. from_session (book_stop_answer s.book))
+        (by_name sessions.old.entries))
+        × (by_name sessions.new.entries
+        ≡ after_call session.now (session_after_stop by_state) (by_name sessions.old.entries)) }
     ensures names { AreNamed (by_name sessions.old.entries) → AreNamed (by_name sessions.new.entries) }
 {
     let Some(found) = sessions.get_mut(session) else {
@@ -161,21 +173,26 @@ pub fn stop_at<A: Allocator>(sessions: &mut Sessions<A>, session: &str) -> Resul
     }
 }
 
-/// Offers a record to a stream of the session of a name.
+/// Offers a record to a stream of the named session.
 ///
 /// # Errors
 ///
 /// `NoSession`, and those of `Session::offer`: nothing changed.
-pub fn offer_at<A: Allocator + Copy>(
+pub fn offer_named<A: Allocator + Copy>(
     sessions: &mut Sessions<A>,
     session: &str,
     offer: OfferTo,
     payload: &[u8],
 ) -> Result<Offered, LineFault>
     ensures value { HasMemory result →
-        (result ≡ call_answer session.now (λ s. by_step (offer_step by_state offer.stream offer.moment offer.id payload.now s)) (by_name sessions.old.entries))
-        × (by_name sessions.new.entries ≡ after_call session.now (after_offer_step by_state offer.stream offer.moment offer.id payload.now) (by_name sessions.old.entries)) }
-    ensures no_memory { IfErr result (λ fault. wants_memory fault ≡ true → by_name sessions.new.entries ≡ by_name sessions.old.entries) }
+        (result ≡ call_answer session.now
+        (λ s. from_step (session_offer_answer by_state offer.stream offer.moment offer.id payload.now s))
+        (by_name sessions.old.entries))
+        × (by_name sessions.new.entries
+        ≡ after_call session.now (session_after_offer by_state offer.stream offer.moment offer.id payload.now)
+        (by_name sessions.old.entries)) }
+    ensures no_memory { IfErr result
+        (λ fault. wants_memory fault ≡ true → by_name sessions.new.entries ≡ by_name sessions.old.entries) }
     ensures names { AreNamed (by_name sessions.old.entries) → AreNamed (by_name sessions.new.entries) }
 {
     let Some(found) = sessions.get_mut(session) else {
@@ -187,20 +204,23 @@ pub fn offer_at<A: Allocator + Copy>(
     }
 }
 
-/// Takes the oldest packet of a stream of the session of a name.
+/// Takes the oldest packet of a stream of the named session.
 ///
 /// # Errors
 ///
 /// `NoSession`, and those of `Session::take`: nothing changed.
-pub fn take_at<A: Allocator + Copy>(
+pub fn take_named<A: Allocator + Copy>(
     sessions: &mut Sessions<A>,
     session: &str,
     stream: u64,
 ) -> Result<Taken, LineFault>
     ensures value { HasMemory result →
-        (result ≡ call_answer session.now (λ s. by_step (take_step by_state stream s)) (by_name sessions.old.entries))
-        × (by_name sessions.new.entries ≡ after_call session.now (after_take_step by_state stream) (by_name sessions.old.entries)) }
-    ensures no_memory { IfErr result (λ fault. wants_memory fault ≡ true → by_name sessions.new.entries ≡ by_name sessions.old.entries) }
+        (result ≡ call_answer session.now (λ s. from_step (session_take_answer by_state stream s))
+        (by_name sessions.old.entries))
+        × (by_name sessions.new.entries
+        ≡ after_call session.now (session_after_take by_state stream) (by_name sessions.old.entries)) }
+    ensures no_memory { IfErr result
+        (λ fault. wants_memory fault ≡ true → by_name sessions.new.entries ≡ by_name sessions.old.entries) }
     ensures names { AreNamed (by_name sessions.old.entries) → AreNamed (by_name sessions.new.entries) }
 {
     let Some(found) = sessions.get_mut(session) else {
@@ -212,18 +232,19 @@ pub fn take_at<A: Allocator + Copy>(
     }
 }
 
-/// What became of an offer to a stream of the session of a name, none where there was no such offer yet.
+/// What became of an offer to a stream of the named session; none if there was no such offer yet.
 ///
 /// # Errors
 ///
 /// `NoSession`, and those of `Session::fate_of`.
-pub fn fate_at<A: Allocator>(
+pub fn fate_named<A: Allocator>(
     sessions: &Sessions<A>,
     session: &str,
     stream: u64,
     serial: u64,
 ) -> Result<Option<Fate>, LineFault>
-    ensures { result ≡ call_answer session.now (λ s. by_step (fate_asked by_state stream serial s)) (by_name sessions.now.entries) }
+    ensures { result ≡ call_answer session.now (λ s. from_step (session_fate_answer by_state stream serial s))
+        (by_name sessions.now.entries) }
 {
     let Some(found) = sessions.get(session) else {
         return Err(LineFault::NoSession);

@@ -9,7 +9,7 @@ pub record Day : Type 0 where
   pub month : ℕ
   pub day : ℕ
 
--- no moment lies before it, at any offset
+-- no moment is before it, at any offset
 abbrev pub first_day : Day
 first_day = record { year = 1969; month = 12; day = 31 }
 
@@ -20,13 +20,13 @@ day_after d =
     else if nat_lt d.month 12 then record { year = d.year; month = d.month + 1; day = 1 }
     else record { year = d.year + 1; month = 1; day = 1 }
 
--- the day so many days after the first
+-- the day this number of days after the first
 unfoldable pub day_at : ℕ → Day
 day_at zero = first_day
 day_at (suc n) = day_after (day_at n)
 
--- the whole seconds from the first day's midnight to the moment, both on a clock so many minutes ahead of UTC. The
--- moment's own seconds are counted from 1970, a day later. None is negative, since offsets are shorter than a day
+-- the whole seconds from the first day's midnight to the moment, both on a clock this number of minutes ahead of UTC. The
+-- moment's own seconds count from 1970, a day later. The result isn't negative, since offsets are shorter than a day
 abbrev pub clock_seconds : ℕ → ℤ → ℕ
 clock_seconds moment minutes = unsigned_abs (pos (moment / 1_000_000_000 + 86_400) +ℤ minutes *ℤ pos 60)
 
@@ -46,7 +46,7 @@ time_text s = two_digits (s / 3600) ++ (two_digits (s / 60 % 60) ++ two_digits (
 abbrev pub distance_text : ℕ → List ℕ
 distance_text minutes = two_digits (minutes / 60) ++ two_digits (minutes % 60)
 
--- the sign of the offset and how far it is; none is +0000
+-- the sign of the offset and how far it is; no offset is +0000
 abbrev pub offset_text : ℤ → List ℕ
 offset_text (pos n) = 43 ∷ distance_text n
 offset_text (negsuc n) = 45 ∷ distance_text (suc n)
@@ -54,7 +54,8 @@ offset_text (negsuc n) = 45 ∷ distance_text (suc n)
 -- date, T, time and offset
 unfoldable pub stamp_text : ℕ → ℤ → List ℕ
 stamp_text moment minutes =
-    date_text (day_at (clock_seconds moment minutes / 86_400)) ++ (84 ∷ (time_text (clock_seconds moment minutes % 86_400) ++ offset_text minutes))
+    date_text (day_at (clock_seconds moment minutes / 86_400))
+    ++ (84 ∷ (time_text (clock_seconds moment minutes % 86_400) ++ offset_text minutes))
 
 -- begin, end and number, with - between them
 unfoldable pub archive_name_text : ℕ → ℕ → ℤ → ℕ → List ℕ

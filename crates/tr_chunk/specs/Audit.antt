@@ -12,7 +12,7 @@ use Rattle.tr_chunk.specs.declared.audit_fault.AuditCause.TheVariants.{Packet, N
 use Rattle.tr_chunk.specs.declared.audit_fault.AuditFault.{AuditFault}
 use Rattle.tr_chunk.specs.declared.stream_audit.StreamAudit.{StreamAudit}
 
--- ---- what packets tell
+-- ---- what packets show
 
 abbrev pub numbers_of : List Contents → List ℕ
 numbers_of = map (λ (p : Contents). p.head.seq)
@@ -52,25 +52,25 @@ is_in_runs k = list_any (is_in_run k)
 abbrev pub is_one_of : ℕ → List ℕ → Bool
 is_one_of k = list_any (nat_eq k)
 
--- a run isn't empty, one of these numbers stands right behind it, and one right before it where it doesn't begin at 0
+-- a run isn't empty; one of these numbers comes right after it, and one right before it unless it begins at 0
 pub record IsLongest (ns : List ℕ) (run : ℕ × ℕ) : Type 0 where
   pub some : 0 < run.1
   pub behind : IsTrue (is_one_of (run.0 + run.1) ns)
   pub before : 0 < run.0 → IsTrue (is_one_of (run.0 - 1) ns)
 
 -- a count that stops at the greatest u64
-abbrev pub counted : ℕ → ℕ
-counted n = min n (2 ^ 64 - 1)
+abbrev pub capped_count : ℕ → ℕ
+capped_count n = min n (2 ^ 64 - 1)
 
--- what the audit of these packets tells
+-- the audit of these packets
 abbrev pub audit_of : {A : Type 0} → List Contents → StreamAudit A
 audit_of ps = record {
-  packets = counted (length ps);
-  records = counted (length (records_of_packets ps));
+  packets = capped_count (length ps);
+  records = capped_count (length (records_of_packets ps));
   gaps = gaps_behind None (numbers_of ps);
   last_seq = last_number ps;
   last_serial = last_serial ps;
-  last_lost = unwrap_or (last_or None (map (λ (p : Contents). p.head.lost) ps)) 0;
+  last_discarded = unwrap_or (last_or None (map (λ (p : Contents). p.head.discarded) ps)) 0;
 }
 
 -- ---- packets of one stream
@@ -82,7 +82,7 @@ belongs uuid stream p = pointwise nat_eq p.head.uuid uuid && nat_eq p.head.strea
 abbrev pub BelongsTo : List ℕ → ℕ → Contents → Type 0
 BelongsTo uuid stream p = IsTrue (belongs uuid stream p)
 
--- numbers rise strictly, the first one from above the one before it, if any
+-- numbers rise strictly, the first one above the one before it, if any
 abbrev pub numbers_rise_after : Option ℕ → List ℕ → Bool
 numbers_rise_after before [] = true
 numbers_rise_after before (n ∷ ns) = follows before n && numbers_rise_after (Some n) ns
@@ -101,7 +101,7 @@ abbrev pub starts_above : Option ℕ → List Entry → Bool
 starts_above before [] = true
 starts_above before (e ∷ es) = follows before e.serial
 
--- what is wrong with a packet, behind packets of the stream with this last number and this last serial
+-- what is wrong with a packet that follows packets of the stream with this last number and this last serial
 abbrev pub packet_cause : List ℕ → ℕ → Option ℕ → Option ℕ → Contents → Option AuditCause
 packet_cause uuid stream number serial p =
     if not (belongs uuid stream p) then Some Foreign
@@ -109,7 +109,7 @@ packet_cause uuid stream number serial p =
     else if not (starts_above serial p.records) then Some SerialRepeat
     else None
 
--- a packet of the stream stands in front, and right before its number some are absent: an audit takes memory for such runs alone
+-- the bytes start with a packet of the stream, and numbers are absent right before its own: an audit takes memory only then
 pub record TakesMemory (uuid : List ℕ) (stream : ℕ) (number serial : Option ℕ) (bytes : List ℕ) : Type 0 where
   pub packet : Contents
   pub rest : List ℕ
@@ -117,19 +117,22 @@ pub record TakesMemory (uuid : List ℕ) (stream : ℕ) (number serial : Option 
   pub right : packet_cause uuid stream number serial packet ≡ None
   pub absent : gap_before number packet.head.seq ≢ []
 
--- why an audit stops in front of these bytes: no packet stands there, or it is at fault; and, where neither is so, for want of memory
+-- why an audit stops at these bytes: they don't start with a packet, or it is at fault, or else an allocation failed
 abbrev pub IsCause : List ℕ → ℕ → Option ℕ → Option ℕ → AuditCause → List ℕ → Type 0
 IsCause uuid stream number serial NoMemory bytes = TakesMemory uuid stream number serial bytes
 IsCause uuid stream number serial (Packet f) bytes = first_fault bytes ≡ Some f
-IsCause uuid stream number serial cause bytes = (p : Contents) × (rest : List ℕ) × Begins p rest bytes × (packet_cause uuid stream number serial p ≡ Some cause)
+IsCause uuid stream number serial cause bytes =
+    (p : Contents) × (rest : List ℕ) × Begins p rest bytes × (packet_cause uuid stream number serial p ≡ Some cause)
 
--- in a piece behind packets of the stream, the audit stops at this byte: such packets stand before it, and here is the cause
-pub record StopsIn (uuid : List ℕ) (stream : ℕ) (before : List Contents) (bytes : List ℕ) (offset : ℕ) (cause : AuditCause) : Type 0 where
+-- in a piece after packets of the stream, the audit stops at this byte: such packets are before it, and here is the cause
+pub record StopsIn (uuid : List ℕ) (stream : ℕ) (before : List Contents) (bytes : List ℕ) (offset : ℕ)
+    (cause : AuditCause) : Type 0 where
   pub here : List Contents
   pub within : offset < length bytes
   pub texts : take offset bytes ≡ packets_text here
   pub sound : AreOfStream uuid stream (before ++ here)
-  pub is_cause : IsCause uuid stream (last_number (before ++ here)) (last_serial (before ++ here)) cause (drop offset bytes)
+  pub is_cause : IsCause uuid stream (last_number (before ++ here)) (last_serial (before ++ here)) cause
+      (drop offset bytes)
 
 -- the packets of all pieces, in order
 abbrev pub all_of : List (List Contents) → List Contents
@@ -148,20 +151,20 @@ pub record AreAudited (uuid : List ℕ) (stream : ℕ) (pieces : List (List ℕ)
   pub texts : pieces ≡ map packets_text pss
   pub sound : AreOfStream uuid stream (all_of pss)
 
--- ---- one packet more
+-- ---- one more packet
 
--- what is told of one packet more
+-- the audit after one more packet
 abbrev pub after_packet : {A : Type 0} → StreamAudit A → Contents → StreamAudit A
 after_packet a p = record {
-  packets = counted (a.packets + 1);
-  records = counted (a.records + length p.records);
+  packets = capped_count (a.packets + 1);
+  records = capped_count (a.records + length p.records);
   gaps = a.gaps ++ gap_before a.last_seq p.head.seq;
   last_seq = Some p.head.seq;
   last_serial = last_or a.last_serial (serials_of p.records);
-  last_lost = p.head.lost;
+  last_discarded = p.head.discarded;
 }
 
--- the audit tells of these packets, which are the stream's
+-- the audit is that of these packets, which are the stream's
 pub record Tells {A : Type 0} (uuid : List ℕ) (stream : ℕ) (ps : List Contents) (a : StreamAudit A) : Type 0 where
   pub sound : AreOfStream uuid stream ps
   pub is : a ≡ audit_of ps

@@ -1,4 +1,4 @@
--- Why calls are refused, as answers print it.
+-- Why a text isn't written, and why an audit stops, as documents name it.
 use Rattle.std.specs.Prelude.{ℕ, List, codes}
 use Rattle.tr_chunk.specs.declared.faults.WriteFault.{WriteFault}
 use Rattle.tr_chunk.specs.declared.faults.WriteFault.TheVariants as write

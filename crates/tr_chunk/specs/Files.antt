@@ -1,8 +1,11 @@
 -- The files of a trace chunk: their names, and what is written to them.
-use Rattle.std.specs.Prelude.{◌≡◌, ℕ, ◌<◌, ◌≤◌, List, ◌∷◌, ◌++◌, length, take, Option}
+use Rattle.std.specs.Prelude.{◌≡◌, ◌≢◌, ℕ, ◌<◌, ◌≤◌, List, [], ◌∷◌, ◌++◌, length, take, Option, Result, Ok, Err}
 use Rattle.std.specs.Fmt.{decimal}
 use Rattle.std.specs.List.{flat_map}
-use Rattle.tr_record.specs.Bytes.{and_then_bytes}
+use Rattle.tr_chunk.specs.declared.faults.WriteFault.{WriteFault}
+use Rattle.tr_chunk.specs.declared.faults.WriteFault.TheVariants.{Write, NoMemory}
+use Rattle.tr_record.specs.Bytes.{and_then_bytes, once_more}
+use Rattle.tr_record.specs.declared.bytes.ByteSink as Sink
 use Rattle.tr_packet.specs.Packets.{Contents, packet_text}
 
 -- the channel's name, an underscore and the stream's number
@@ -13,10 +16,41 @@ file_name channel stream = channel ++ (95 ∷ decimal stream)
 abbrev pub packets_text : List Contents → List ℕ
 packets_text = flat_map packet_text
 
--- a front part of the text went out, behind what was out before
+-- a prefix of the text went out, after what was out before
 abbrev pub WentOut : Option (List ℕ) → Option (List ℕ) → List ℕ → Type 0
 WentOut before after text = (k : ℕ) × (k ≤ length text) × (after ≡ and_then_bytes before (take k text))
 
--- so many of the packets went out whole, and then nothing: not all of them
+-- some of the packets went out whole, but not all of them, and then nothing
 abbrev pub WentOutWhole : Option (List ℕ) → Option (List ℕ) → List Contents → Type 0
-WentOutWhole before after packets = (k : ℕ) × (k < length packets) × (after ≡ and_then_bytes before (packets_text (take k packets)))
+WentOutWhole before after packets =
+    (k : ℕ) × (k < length packets) × (after ≡ and_then_bytes before (packets_text (take k packets)))
+
+-- what is known of a sink at one step: what it took, and how often it failed
+pub record Sunk : Type 0 where
+  pub taken : Option (List ℕ)
+  pub failures : ℕ
+
+abbrev pub sunk_of : {K : Type 0} → Sink.Ghosts K → K → Sunk
+sunk_of sinks sink = record { taken = sinks.taken sink; failures = sinks.failures sink }
+
+-- a call that writes this text: all of it went out; or one failure came and a prefix of it went out; or an allocation failed,
+-- nothing of it went out and no failure came
+abbrev pub WritesText : List ℕ → Sunk → Sunk → Result (Unit {0}) WriteFault → Type 0
+WritesText text before after (Ok done) =
+    (after.taken ≡ and_then_bytes before.taken text) × (after.failures ≡ before.failures)
+WritesText text before after (Err Write) =
+    WentOut before.taken after.taken text × (after.failures ≡ once_more before.failures)
+WritesText text before after (Err NoMemory) =
+    (after.taken ≡ before.taken) × (after.failures ≡ before.failures)
+
+-- a call that writes the texts of these packets: all of them went out; or one failure came and a prefix of the texts went
+-- out; or an allocation failed, only whole packets went out, not all of them, and no failure came. Without packets nothing
+-- fails.
+abbrev pub WritesPackets : List Contents → Sunk → Sunk → Result (Unit {0}) WriteFault → Type 0
+WritesPackets packets before after (Ok done) =
+    (after.taken ≡ and_then_bytes before.taken (packets_text packets)) × (after.failures ≡ before.failures)
+WritesPackets packets before after (Err Write) =
+    (packets ≢ []) × WentOut before.taken after.taken (packets_text packets)
+    × (after.failures ≡ once_more before.failures)
+WritesPackets packets before after (Err NoMemory) =
+    WentOutWhole before.taken after.taken packets × (after.failures ≡ before.failures)

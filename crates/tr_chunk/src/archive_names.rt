@@ -12,11 +12,11 @@ use jiff::tz::Offset;
 use std::alloc::{AllocError, Allocator};
 use tr_terms::{Moment, OffsetMinutes};
 
-/// How many bytes a name has at most: two of 20 for the moments, a dash behind each, and a number of up to 20 digits.
+/// The bytes of the longest name: 20 for each of the two moments, a dash after each, and a number of up to 20 digits.
 const BYTES: usize = 62;
 
 /// What a clock at the offset shows at the moment's whole seconds.
-fn clock_at(moment: Moment, offset: OffsetMinutes) -> DateTime
+fn clock_of(moment: Moment, offset: OffsetMinutes) -> DateTime
     ensures date { day_of result.date ≡ day_at (clock_seconds moment offset / 86400) }
     ensures time { time_seconds result.time ≡ clock_seconds moment offset % 86400 }
 {
@@ -76,7 +76,7 @@ fn push_stamp<A: Allocator>(
 ) -> Result<(), AllocError>
     ensures { OnOk result (string_bytes text.new ≡ string_bytes text.old ++ stamp_text moment offset) }
 {
-    let clock = clock_at(moment, offset);
+    let clock = clock_of(moment, offset);
     push_date(text, clock.date())?;
     text.push_str("T")?;
     push_time(text, clock.time())?;
@@ -85,7 +85,7 @@ fn push_stamp<A: Allocator>(
 
 /// The name of the archive of chunk `id`, as `20231114T171320-0500-20231114T171420-0500-0`: when the chunk began and
 /// ended, each as the civil date and time of the moment's whole seconds (rounded down) at the offset, and then its id.
-/// AllocError where memory was refused.
+/// Fails if an allocation fails.
 pub fn archive_name<A: Allocator>(
     alloc: A,
     begin: Moment,

@@ -35,7 +35,7 @@ fn may_start(before: Option<u64>, packet: &PacketView<'_>) -> bool
     }
 }
 
-/// What is wrong with a packet behind those that were audited.
+/// What is wrong with a packet that follows those that were audited, if anything.
 fn cause_of<A: Allocator>(
     audit: &StreamAudit<A>,
     uuid: &Uuid,
@@ -57,14 +57,16 @@ fn cause_of<A: Allocator>(
     None
 }
 
-/// Audits the packet in front of bytes, and answers how many bytes it has.
+/// Audits the packet that bytes start with, and returns how many bytes it has.
 fn add_front<A: Allocator>(
     audit: &mut StreamAudit<A>,
     uuid: &Uuid,
     stream: u64,
     bytes: &[u8],
 ) -> Result<usize, AuditCause>
-    ensures ok { IfOk result (λ n. (p : Contents) × Begins p (drop n bytes.now) bytes.now × (n ≡ packet_size p) × (packet_cause uuid.now stream audit.old.last_seq audit.old.last_serial p ≡ None) × (audit.new ≡ after_packet audit.old p)) }
+    ensures ok { IfOk result (λ n. (p : Contents) × Begins p (drop n bytes.now) bytes.now × (n ≡ packet_size p)
+        × (packet_cause uuid.now stream audit.old.last_seq audit.old.last_serial p ≡ None)
+        × (audit.new ≡ after_packet audit.old p)) }
     ensures err { IfErr result (λ c. IsCause uuid.now stream audit.old.last_seq audit.old.last_serial c bytes.now) }
     ensures within { IfOk result (λ n. (0 < n) × (n ≤ length bytes.now)) }
 {
@@ -95,8 +97,12 @@ fn add_piece<A: Allocator>(
     stream: u64,
     bytes: &[u8],
 ) -> Result<(), Stop>
-    ensures ok { IfOk result (λ _. (before : List Contents) → Tells uuid.now stream before audit.old → (here : List Contents) × (bytes.now ≡ packets_text here) × Tells uuid.now stream (before ++ here) audit.new) }
-    ensures err { IfErr result (λ s. (before : List Contents) → Tells uuid.now stream before audit.old → StopsIn uuid.now stream before bytes.now s.offset s.cause) }
+    ensures ok { IfOk result (λ _. (before : List Contents) → Tells uuid.now stream before audit.old
+        → (here : List Contents) × (bytes.now ≡ packets_text here)
+        × Tells uuid.now stream (before ++ here) audit.new) }
+    ensures err { IfErr result
+        (λ s. (before : List Contents) → Tells uuid.now stream before audit.old
+        → StopsIn uuid.now stream before bytes.now s.offset s.cause) }
 {
     let mut at = 0;
     while at < bytes.len() {
@@ -109,16 +115,20 @@ fn add_piece<A: Allocator>(
     Ok(())
 }
 
-/// What the packets tell whose texts are the pieces, each piece a number of whole packets, where all are of this trace and
-/// this stream, with rising numbers and rising serials. Else the first packet at fault, with its place and what is wrong.
+/// The audit of the packets whose texts are the pieces, each piece a number of whole packets, if all are of this trace and
+/// this stream, with rising numbers and rising serials. Otherwise the first packet at fault, with its place and what is
+/// wrong.
 pub fn audit_stream<A: Allocator>(
     alloc: A,
     uuid: &Uuid,
     stream: u64,
     pieces: &[&[u8]],
 ) -> Result<StreamAudit<A>, AuditFault>
-    ensures found { IfOk result (λ a. (pss : List (List Contents)) × AreAudited uuid.now stream (map (λ b. b.now) pieces.now) pss × (a ≡ audit_of (all_of pss))) }
-    ensures only { (pss : List (List Contents)) → AreAudited uuid.now stream (map (λ b. b.now) pieces.now) pss → MatchResult result (λ a. a ≡ audit_of (all_of pss)) (λ f. f.cause ≡ NoMemory) }
+    ensures found { IfOk result
+        (λ a. (pss : List (List Contents)) × AreAudited uuid.now stream (map (λ b. b.now) pieces.now) pss
+        × (a ≡ audit_of (all_of pss))) }
+    ensures only { (pss : List (List Contents)) → AreAudited uuid.now stream (map (λ b. b.now) pieces.now) pss
+        → MatchResult result (λ a. a ≡ audit_of (all_of pss)) (λ f. f.cause ≡ NoMemory) }
     ensures fault { IfErr result (λ f. StopsAt uuid.now stream (map (λ b. b.now) pieces.now) f) }
 {
     let mut audit = StreamAudit::new(alloc);

@@ -9,7 +9,7 @@ use tr_packet::PacketFault;
 /// Why an audit stops, and at which packet.
 #[derive(Clone, Copy, Debug, PartialEq, Eq)]
 pub struct AuditFault {
-    /// The piece in which the packet begins, from 0.
+    /// The piece in which the packet begins, counted from 0.
     pub piece: u64,
     /// The byte of that piece at which it begins.
     pub offset: u64,
@@ -17,11 +17,11 @@ pub struct AuditFault {
     pub cause: AuditCause,
 }
 
-/// What is wrong with a packet. Of several causes an audit tells `Packet`, `Foreign`, `NumberRepeat`, `SerialRepeat`, in
-/// this order, and `NoMemory` last: of a packet with nothing wrong, right before whose number some are absent.
+/// What is wrong with a packet. If several causes apply, an audit gives the first of `Packet`, `Foreign`, `NumberRepeat` and
+/// `SerialRepeat`. `NoMemory` comes last: nothing is wrong with the packet, and numbers are absent right before its own.
 #[derive(Clone, Copy, Debug, PartialEq, Eq, Error)]
 pub enum AuditCause {
-    /// No packet's text stands there.
+    /// The bytes there don't start with a packet.
     #[error("A1 Packet")]
     Packet(PacketFault),
     /// Its number isn't above the one before.
@@ -33,13 +33,13 @@ pub enum AuditCause {
     /// It is of another trace or another stream.
     #[error("A4 Foreign")]
     Foreign,
-    /// Memory was refused.
+    /// An allocation failed.
     #[error("A5 NoMemory")]
     NoMemory,
 }
 
 impl AuditCause {
-    /// The code that answers and documents call it by.
+    /// The code that documents call it by.
     pub fn code(&self) -> &'static str
         ensures { result.now ≡ audit_cause_code self.now }
     {
@@ -52,7 +52,7 @@ impl AuditCause {
         }
     }
 
-    /// Its name, as answers print it.
+    /// Its name in documents.
     pub fn name(&self) -> &'static str
         ensures { result.now ≡ audit_cause_name self.now }
     {

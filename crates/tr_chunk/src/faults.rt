@@ -1,4 +1,4 @@
-//! Why calls are refused.
+//! Why a text isn't written.
 
 ghost use Rattle.std.specs.Prelude.{◌≡◌};
 ghost use Rattle.tr_chunk.specs.Faults.{write_fault_code, write_fault_name};
@@ -13,13 +13,13 @@ pub enum WriteFault {
     /// The sink failed.
     #[error("W1 Write")]
     Write,
-    /// Memory was refused.
+    /// An allocation failed.
     #[error("W2 NoMemory")]
     NoMemory,
 }
 
 impl WriteFault {
-    /// The code that answers and documents call it by.
+    /// The code that documents call it by.
     pub fn code(&self) -> &'static str
         ensures { result.now ≡ write_fault_code self.now }
     {
@@ -29,7 +29,7 @@ impl WriteFault {
         }
     }
 
-    /// Its name, as answers print it.
+    /// Its name in documents.
     pub fn name(&self) -> &'static str
         ensures { result.now ≡ write_fault_name self.now }
     {

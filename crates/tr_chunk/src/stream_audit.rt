@@ -7,7 +7,7 @@ use std::alloc::{AllocError, Allocator, Global};
 use std::marker::Model;
 use tr_packet::PacketView;
 
-/// Runs of absent numbers, each its first number and how many they are. Contracts see the list.
+/// Runs of absent numbers, each as its first number and its length. Contracts see the list.
 #[derive(Drop)]
 pub struct Gaps<A: Allocator = Global> {
     runs: Vec<(u64, u64), A>,
@@ -22,28 +22,28 @@ impl<A: Allocator> Model for Gaps<A> {
 }
 
 impl<A: Allocator> Gaps<A> {
-    /// These runs. It takes no memory.
+    /// Gaps with these runs. It takes no memory.
     pub fn new(runs: Vec<(u64, u64), A>) -> Gaps<A>
         ensures { result ≡ runs.items }
     {
         Gaps { runs }
     }
 
-    /// The runs.
+    /// The runs, each as its first number and its length.
     pub fn as_slice(&self) -> &[(u64, u64)]
         ensures { result.now ≡ self.now }
     {
         self.runs.as_slice()
     }
 
-    /// The runs, given back.
+    /// The runs, moved out.
     pub fn into_runs(self) -> Vec<(u64, u64), A>
         ensures { result.items ≡ self }
     {
         self.runs
     }
 
-    /// Adds the numbers that are absent between two numbers, or below the first one. It takes memory where there are some.
+    /// Adds the numbers that are absent between two numbers, or below the first one. It takes memory if there are some.
     fn add(&mut self, before: Option<u64>, number: u64) -> Result<(), AllocError>
         ensures ok { OnOk result (self.new ≡ self.old ++ gap_before before number) }
         ensures err { OnErr result (self.new ≡ self.old) }
@@ -75,11 +75,11 @@ pub struct StreamAudit<A: Allocator = Global> {
     /// The last record's serial.
     pub last_serial: Option<u64>,
     /// How many records the stream had discarded by the last packet; 0 without packets.
-    pub last_lost: u64,
+    pub last_discarded: u64,
 }
 
 impl<A: Allocator> StreamAudit<A> {
-    /// What there is to tell of no packet. It takes no memory.
+    /// The audit of no packet. It takes no memory.
     pub(crate) fn new(alloc: A) -> StreamAudit<A>
         ensures { result ≡ audit_of [] }
     {
@@ -89,11 +89,11 @@ impl<A: Allocator> StreamAudit<A> {
             gaps: Gaps::new(Vec::new(alloc)),
             last_seq: None,
             last_serial: None,
-            last_lost: 0,
+            last_discarded: 0,
         }
     }
 
-    /// Adds a packet. Where memory is refused, nothing is added.
+    /// Adds a packet. If an allocation fails, nothing is added.
     pub(crate) fn add(&mut self, packet: &PacketView<'_>) -> Result<(), AllocError>
         ensures ok { OnOk result (self.new ≡ after_packet self.old packet.now) }
         ensures err { OnErr result (self.new ≡ self.old) }
@@ -105,7 +105,7 @@ impl<A: Allocator> StreamAudit<A> {
         self.records = self.records.saturating_add(packet.count() as u64);
         self.last_seq = Some(head.seq);
         self.last_serial = Some(packet.last_serial());
-        self.last_lost = head.lost;
+        self.last_discarded = head.discarded;
         Ok(())
     }
 }

@@ -4,7 +4,7 @@ mod archive_names;
 
 use std::alloc::Global;
 use std::fmt::Debug;
-use std::io::{self, Write};
+use std::io::Write;
 use std::process::Abort;
 use std::test::Fail;
 use tr_book::Parts;
@@ -14,16 +14,13 @@ use tr_chunk::{
 };
 use tr_packet::{Head, Packet, PacketFault, encode_packet, metadata_text};
 use tr_record::{MemorySink, Rec, WriterSink};
-use tr_terms::{Moment, Name};
+use tr_terms::Name;
+use tr_testing::{FailsAfter, moment};
 use uuid::Uuid;
 
-/// Holds what a test found to what it wanted. As a call without clauses it keeps the proofs of the tests short.
-fn assert_same<T: PartialEq + Debug + Drop>(rt: &impl Abort, found: T, wanted: T) {
-    assert_eq!(rt; found, wanted);
-}
-
-fn moment(nanoseconds: u64) -> Moment {
-    Moment::new(nanoseconds).unwrap_or(Moment::zero())
+/// Compares what a test found with what it expects. As a call without clauses it keeps the proofs of the tests short.
+fn assert_same<T: PartialEq + Debug + Drop>(rt: &impl Abort, found: T, expected: T) {
+    assert_eq!(rt; found, expected);
 }
 
 fn uuid() -> Uuid {
@@ -35,7 +32,7 @@ fn packet(
     alloc: Global,
     seq: u64,
     end: u64,
-    lost: u64,
+    discarded: u64,
     rows: &[(u64, u64, usize)],
 ) -> Result<Packet, Fail> {
     let payload = [0x61; 64];
@@ -52,7 +49,7 @@ fn packet(
         begin: moment(begin.ok_or("a record")?),
         end: moment(end),
         seq,
-        lost,
+        discarded,
     };
     Ok(Packet::checked(head, records).ok_or("a packet")?)
 }
@@ -84,24 +81,6 @@ fn at(piece: u64, offset: u64, cause: AuditCause) -> Option<AuditFault> {
         offset,
         cause,
     })
-}
-
-/// Takes one byte at a time, and fails after so many.
-#[derive(Drop)]
-struct Broken(u64);
-
-impl Write for Broken {
-    fn write(&mut self, buf: &[u8]) -> io::Result<usize> {
-        if self.0 == 0 || buf.is_empty() {
-            return Err(io::Error::from(io::ErrorKind::TimedOut));
-        }
-        self.0 -= 1;
-        Ok(1)
-    }
-
-    fn flush(&mut self) -> io::Result<()> {
-        Ok(())
-    }
 }
 
 #[test]
@@ -157,11 +136,11 @@ fn a_sink_that_fails(rt: HostRuntime) -> Result<(), Fail> {
         (483, Err(WriteFault::Write)),
         (484, Ok(())),
     ] {
-        let mut sink = WriterSink::new(Broken(bytes));
+        let mut sink = WriterSink::new(FailsAfter::new(bytes));
         let answer = write_part(rt.alloc(), &mut sink, parts.current());
         assert_same(&rt, (bytes, answer), (bytes, want));
     }
-    let mut sink = WriterSink::new(Broken(3));
+    let mut sink = WriterSink::new(FailsAfter::new(3));
     let answer = write_metadata(rt.alloc(), &mut sink, &uuid());
     assert_same(&rt, answer, Err(WriteFault::Write));
     Ok(())
@@ -176,7 +155,7 @@ fn a_whole_file(rt: HostRuntime) -> Result<(), Fail> {
     assert!(rt; audit.gaps.as_slice().is_empty());
     assert_same(
         &rt,
-        (audit.last_seq, audit.last_serial, audit.last_lost),
+        (audit.last_seq, audit.last_serial, audit.last_discarded),
         (Some(1), Some(5), 1),
     );
     let (first, second) = file.split_at_checked(228).expect(&rt, "two packets");
@@ -185,11 +164,11 @@ fn a_whole_file(rt: HostRuntime) -> Result<(), Fail> {
     Ok(())
 }
 
-/// Holds an audit of pieces without a packet to what it tells.
+/// Asserts what the audit of pieces without a packet says.
 fn assert_nothing_is_found(rt: &impl Abort, alloc: Global, pieces: &[&[u8]]) {
     let audit = audit_stream(alloc, &uuid(), 0, pieces).expect(rt, "an audit");
     assert_same(rt, (audit.packets, audit.records), (0, 0));
-    let last = (audit.last_seq, audit.last_serial, audit.last_lost);
+    let last = (audit.last_seq, audit.last_serial, audit.last_discarded);
     assert_same(rt, last, (None, None, 0));
     assert!(rt; audit.gaps.into_runs().is_empty());
 }

@@ -1,4 +1,4 @@
--- A line whose first word names a command is read as by a command line with that command alone.
+-- A line whose first word names a command is read the same by a command line with that command alone.
 use Rattle.std.proofs.Common.{◌≡◌, ◌∙◌, refl, sym, ap, ap₂, codes, Bool, true, false, List, [], ◌∷◌, ◌++◌, Some, None, Option, is_some, cond, subst, option_and_then}
 use Rattle.std.specs.Prelude.{fold}
 use Rattle.std.specs.Str.{bytes_eq}
@@ -14,10 +14,11 @@ use Rattle.tr_command.specs.CommandLine.{archives_app, channel_app, consume_app,
 use Rattle.tr_command.specs.Dispatch.{alone, alone_or_whole, app_for, command_word}
 use Rattle.tr_command.specs.Asked.{Asked}
 use Rattle.tr_command.specs.Language.{asked_from, asked_of, is_free_of_faults}
-use Rattle.tr_command.specs.Reading.{asked_as}
+use Rattle.tr_command.specs.Reading.{read_command}
 
 -- after a subcommand no word is at fault at this level
-walk_fault-stopped : (s : Shape) (names : Names) (v : Walk) (p : Text × List Text) (words : List Text) → walk_fault s names (record v { stopped = Some p }) words ≡ []
+walk_fault-stopped : (s : Shape) (names : Names) (v : Walk) (p : Text × List Text) (words : List Text)
+    → walk_fault s names (record v { stopped = Some p }) words ≡ []
 unfolding walk_fault walked
 walk_fault-stopped s names v p [] = refl
 walk_fault-stopped s names v p (word ∷ words) = walk_fault-stopped s names v (p.0, p.1 ++ word ∷ []) words
@@ -40,8 +41,10 @@ fault-first : (a : App) (n : Text) (rest : List Text) → walked a.top.rules (na
     → turn_fault a.top (names_of a) (walk_from nothing_held) n ≡ [] → built_fault a nothing_held (n ∷ rest) ≡ after_walk a (stopped_at n rest)
 unfolding walk_fault
 fault-first a n rest first none =
-    ap₂ (λ (k : Kinds) (w : Walk). or_else (or_else k (walk_fault a.top (names_of a) w rest)) (after_walk a (walk a.top.rules (names_of a) nothing_held (n ∷ rest)))) none first
-    ∙ ap₂ (λ (k : Kinds) (w : Walk). or_else k (after_walk a w)) (walk_fault-stopped a.top (names_of a) (walk_from nothing_held) (n, []) rest) (walk-first a n rest first)
+    ap₂ (λ (k : Kinds) (w : Walk). or_else (or_else k (walk_fault a.top (names_of a) w rest))
+    (after_walk a (walk a.top.rules (names_of a) nothing_held (n ∷ rest)))) none first
+    ∙ ap₂ (λ (k : Kinds) (w : Walk). or_else k (after_walk a w))
+    (walk_fault-stopped a.top (names_of a) (walk_from nothing_held) (n, []) rest) (walk-first a n rest first)
 
 -- the two command lines find the same fault, and enter the same command with the same values
 abbrev ReadsSame : App → App → List Text → Type 0
@@ -106,7 +109,8 @@ consume-reads_same program rest = (
 rotate_begin-reads_same : (program : Text) (rest : List Text) → ReadsSame (alone rotate_begin_app) script_app (program ∷ codes "rotate-begin" ∷ rest)
 unfolding clap_on_literals
 rotate_begin-reads_same program rest = (
-  fault-first (built (alone rotate_begin_app)) (codes "rotate-begin") rest refl refl ∙ sym (fault-first (built script_app) (codes "rotate-begin") rest refl refl),
+  fault-first (built (alone rotate_begin_app)) (codes "rotate-begin") rest refl refl
+      ∙ sym (fault-first (built script_app) (codes "rotate-begin") rest refl refl),
   ap (λ (w : Walk). entered (built (alone rotate_begin_app)) w.stopped) (walk-first (built (alone rotate_begin_app)) (codes "rotate-begin") rest refl)
       ∙ sym (ap (λ (w : Walk). entered (built script_app) w.stopped) (walk-first (built script_app) (codes "rotate-begin") rest refl)),
 )
@@ -114,16 +118,20 @@ rotate_begin-reads_same program rest = (
 rotate_next-reads_same : (program : Text) (rest : List Text) → ReadsSame (alone rotate_next_app) script_app (program ∷ codes "rotate-next" ∷ rest)
 unfolding clap_on_literals
 rotate_next-reads_same program rest = (
-  fault-first (built (alone rotate_next_app)) (codes "rotate-next") rest refl refl ∙ sym (fault-first (built script_app) (codes "rotate-next") rest refl refl),
+  fault-first (built (alone rotate_next_app)) (codes "rotate-next") rest refl refl
+      ∙ sym (fault-first (built script_app) (codes "rotate-next") rest refl refl),
   ap (λ (w : Walk). entered (built (alone rotate_next_app)) w.stopped) (walk-first (built (alone rotate_next_app)) (codes "rotate-next") rest refl)
       ∙ sym (ap (λ (w : Walk). entered (built script_app) w.stopped) (walk-first (built script_app) (codes "rotate-next") rest refl)),
 )
 
-rotate_finish-reads_same : (program : Text) (rest : List Text) → ReadsSame (alone rotate_finish_app) script_app (program ∷ codes "rotate-finish" ∷ rest)
+rotate_finish-reads_same : (program : Text) (rest : List Text)
+    → ReadsSame (alone rotate_finish_app) script_app (program ∷ codes "rotate-finish" ∷ rest)
 unfolding clap_on_literals
 rotate_finish-reads_same program rest = (
-  fault-first (built (alone rotate_finish_app)) (codes "rotate-finish") rest refl refl ∙ sym (fault-first (built script_app) (codes "rotate-finish") rest refl refl),
-  ap (λ (w : Walk). entered (built (alone rotate_finish_app)) w.stopped) (walk-first (built (alone rotate_finish_app)) (codes "rotate-finish") rest refl)
+  fault-first (built (alone rotate_finish_app)) (codes "rotate-finish") rest refl refl
+      ∙ sym (fault-first (built script_app) (codes "rotate-finish") rest refl refl),
+  ap (λ (w : Walk). entered (built (alone rotate_finish_app)) w.stopped)
+      (walk-first (built (alone rotate_finish_app)) (codes "rotate-finish") rest refl)
       ∙ sym (ap (λ (w : Walk). entered (built script_app) w.stopped) (walk-first (built script_app) (codes "rotate-finish") rest refl)),
 )
 
@@ -184,7 +192,7 @@ archives-reads_same program rest = (
 )
 
 abbrev asks : Kinds → Option (Text × List Row) → Option Asked
-asks kinds entered_by = cond (is_free_of_faults kinds) (option_and_then (λ p. asked_as p.0 p.1) entered_by) None
+asks kinds entered_by = cond (is_free_of_faults kinds) (option_and_then (λ p. read_command p.0 p.1) entered_by) None
 
 -- so they ask the same
 asked_from-same : (a b : App) (words : List Text) → ReadsSame a b words → asked_from a words ≡ asked_from b words
@@ -192,14 +200,17 @@ unfolding asked_from
 asked_from-same a b words same = ap₂ asks same.0 same.1
 
 -- a choice by the word keeps that
-choice-same : (name : Text) (a : App) (other : Option App) (program word : Text) (rest : List Text) → ReadsSame (alone a) script_app (program ∷ name ∷ rest)
+choice-same : (name : Text) (a : App) (other : Option App) (program word : Text) (rest : List Text)
+    → ReadsSame (alone a) script_app (program ∷ name ∷ rest)
     → asked_from (alone_or_whole other) (program ∷ word ∷ rest) ≡ asked_of (program ∷ word ∷ rest)
     → asked_from (alone_or_whole (cond (bytes_eq word name) (Some a) other)) (program ∷ word ∷ rest) ≡ asked_of (program ∷ word ∷ rest)
 choice-same name a other program word rest named others = go (bytes_eq word name) refl
   where
-    go : (b : Bool) → bytes_eq word name ≡ b → asked_from (alone_or_whole (cond b (Some a) other)) (program ∷ word ∷ rest) ≡ asked_of (program ∷ word ∷ rest)
+    go : (b : Bool) → bytes_eq word name ≡ b
+        → asked_from (alone_or_whole (cond b (Some a) other)) (program ∷ word ∷ rest) ≡ asked_of (program ∷ word ∷ rest)
     go false e = others
-    go true e = subst (λ w. asked_from (alone a) (program ∷ w ∷ rest) ≡ asked_of (program ∷ w ∷ rest)) (sym ((bytes_eq-Decides word name).0 e)) (asked_from-same (alone a) script_app _ named)
+    go true e = subst (λ w. asked_from (alone a) (program ∷ w ∷ rest) ≡ asked_of (program ∷ w ∷ rest))
+        (sym ((bytes_eq-Decides word name).0 e)) (asked_from-same (alone a) script_app _ named)
 
 -- a line asks the same by the command line that is built for it
 pub asked_from-app_for : (words : List Text) → asked_from (app_for (command_word words)) words ≡ asked_of words
@@ -225,11 +236,12 @@ asked_from-app_for (program ∷ word ∷ rest) =
     (choice-same (codes "archives") archives_app _ program word rest (archives-reads_same program rest)
     refl))))))))))))))))
 
--- clap's definition speaks of these command lines
+-- clap's definition covers these command lines
 abbrev pub IsSimple : App → Type 0
 IsSimple a = (is_simple a ≡ true) × (is_simple_and_free a ≡ true)
 
-choice-simple : (b : Bool) (a : App) (other : Option App) → IsSimple (alone a) → IsSimple (alone_or_whole other) → IsSimple (alone_or_whole (cond b (Some a) other))
+choice-simple : (b : Bool) (a : App) (other : Option App) → IsSimple (alone a) → IsSimple (alone_or_whole other)
+    → IsSimple (alone_or_whole (cond b (Some a) other))
 choice-simple true a other x y = x
 choice-simple false a other x y = y
 

@@ -7,7 +7,7 @@ use Rattle.std.proofs.lemmas.Bool.{false_from_ne_true}
 use Rattle.std.proofs.lemmas.Slice.Eq.{bytes_eq-Decides}
 use Rattle.clap.specs.Words.{ReadsOne, Text}
 
--- a text that is read as a truth value is read as true where it is `true`, and nowhere else
+-- a text that is read as a truth value is read as true if it is `true`, and only then
 read-is_true : (E : Type 0) (text : Text) (read : Option Bool) → ReadsOne (ParsesBool {E = E}) text read
     → unwrap_or read false ≡ bytes_eq (codes "true") text
 read-is_true E text (Some true) h = rw h refl

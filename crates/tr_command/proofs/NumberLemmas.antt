@@ -1,4 +1,4 @@
--- What std reads as a number, where the text has nothing but digits.
+-- What std reads as a number, if the text has only digits.
 use Rattle.std.proofs.Common.{◌≡◌, ◌<◌, ◌≤◌, ◌^◌, ◌&&◌, ℕ, Bool, true, false, refl, arith, List, [], ◌∷◌, Some, None, length, nat_lt, nat_le, ltb-true, cond}
 use Rattle.std.specs.List.{list_all}
 use Rattle.std.specs.Char.{digit_value}
@@ -22,7 +22,7 @@ all_digits : (text : List ℕ) → list_all is_digit text ≡ true → AllDigits
 all_digits [] e = tt
 all_digits (b ∷ bs) e = (digit-below b (both _ _ e).0, all_digits bs (both _ _ e).1)
 
--- where std reads no number, there is none of at most `most`
+-- if std reads no number, there is none of at most `most`
 pub number_of-none : (most : ℕ) (text : List ℕ) → most < 2 ^ 64 → list_all is_digit text ≡ true
     → ((IsNumeral 10 text × (digits_value 10 text < 2 ^ 64)) → ⊥) → None ≡ number_of most text
 number_of-none most text fits digits none = rw digits (go (nat_lt 0 (length text)) (nat_le (digits_value 10 text) most) refl refl)
@@ -38,5 +38,6 @@ pub number_of-at_most : (most : ℕ) (text : List ℕ) (n : ℕ) → number_of m
 number_of-at_most most text n is = go (nat_lt 0 (length text) && list_all is_digit text) (nat_le (digits_value 10 text) most) refl is
   where
     go : (a b : Bool) → nat_le (digits_value 10 text) most ≡ b
-        → cond (nat_lt 0 (length text) && (list_all is_digit text && nat_le (digits_value 10 text) most)) (Some (digits_value 10 text)) None ≡ Some n → n ≤ most
+        → cond (nat_lt 0 (length text) && (list_all is_digit text && nat_le (digits_value 10 text) most))
+        (Some (digits_value 10 text)) None ≡ Some n → n ≤ most
     go a b e f = grind (arith, common_steps)

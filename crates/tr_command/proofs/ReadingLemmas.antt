@@ -3,11 +3,11 @@ use Rattle.std.proofs.Common.{◌≡◌, ◌≤◌, ℕ, List, Option, Some, Non
 use Rattle.std.specs.Option.{option_map_or}
 use Rattle.clap.specs.Words.{Row, Text, first_of}
 use Rattle.tr_command.specs.Number.{number_of}
-use Rattle.tr_command.specs.Reading.{and_then, number_at, number_or_0}
+use Rattle.tr_command.specs.Reading.{and_then, number_given, number_or_0}
 use Rattle.tr_command.proofs.NumberLemmas.{number_of-at_most}
 
-pub number_at-at_most : (id : Text) (most : ℕ) (rows : List Row) (n : ℕ) → number_at id most rows ≡ Some n → n ≤ most
-number_at-at_most id most rows n is = go (first_of id rows) is
+pub number_given-at_most : (id : Text) (most : ℕ) (rows : List Row) (n : ℕ) → number_given id most rows ≡ Some n → n ≤ most
+number_given-at_most id most rows n is = go (first_of id rows) is
   where
     go : (o : Option Text) → and_then o (number_of most) ≡ Some n → n ≤ most
     go None e = cc

@@ -1,5 +1,5 @@
 -- What a line asks for.
-use Rattle.std.specs.Prelude.{ℕ, ℤ, Bool, Option, pos, neg_ℤ, ◌≤ℤ◌}
+use Rattle.std.specs.Prelude.{ℕ, ℤ, Bool, Option, pos}
 use Rattle.clap.specs.Words.{Text}
 use Rattle.tr_terms.specs.declared.mode.Mode.{Mode}
 use Rattle.tr_command.specs.declared.requests.Request.{Request}
@@ -44,7 +44,7 @@ asked_by (request.Tick session moment) = Tick session.now moment
 asked_by (request.Status session) = Status session.now
 asked_by (request.Archives session) = Archives session.now
 
--- the moment of a request, 0 where it has none
+-- the moment of a request, 0 if it has none
 abbrev pub moment_in : Asked → ℕ
 moment_in (Start session moment) = moment
 moment_in (Offer session stream moment id text fill) = moment
@@ -54,11 +54,7 @@ moment_in (Snapshot session moment) = moment
 moment_in (Tick session moment) = moment
 moment_in _ = 0
 
--- the offset of a request, 0 where it has none
+-- the offset of a request, 0 if it has none
 abbrev pub offset_in : Asked → ℤ
 offset_in (Create session uuid offset snapshot) = offset
 offset_in _ = pos 0
-
--- so many minutes ahead of UTC, as a clock may be
-abbrev pub IsOffset : ℤ → Type 0
-IsOffset minutes = (neg_ℤ (pos 1439) ≤ℤ minutes) × (minutes ≤ℤ pos 1439)

@@ -3,7 +3,7 @@ use Rattle.std.specs.Prelude.{Some, true, codes}
 use Rattle.clap.specs.Words.{App, Rule, Text, new_app, new_rule, with_rule, with_subcommand}
 use Rattle.clap.specs.declared.builder.action.ArgAction.TheVariants.{SetTrue}
 
--- a text that has its place
+-- a required text, by its place
 abbrev pub place : Text → Rule
 place id = record (new_rule id) { required = true }
 
@@ -117,32 +117,36 @@ archives_app = session_app (codes "archives")
 
 -- the commands that lay a session out
 abbrev pub layout_app : App
-layout_app = with_subcommand (with_subcommand (with_subcommand (new_app (codes "tracerd")) create_app.top) channel_app.top) thread_app.top
+layout_app = with_subcommand
+    (with_subcommand (with_subcommand (new_app (codes "tracerd")) create_app.top) channel_app.top)
+    thread_app.top
 
--- those that start and stop it
+-- and those that start and stop it
 abbrev pub activity_app : App
 activity_app = with_subcommand (with_subcommand layout_app start_app.top) stop_app.top
 
--- those that its streams meet while it runs
+-- and those for its streams while it runs
 abbrev pub running_app : App
 running_app = with_subcommand (with_subcommand activity_app offer_app.top) consume_app.top
 
--- the steps of a rotation
+-- and the steps of a rotation
 abbrev pub rotation_steps_app : App
-rotation_steps_app = with_subcommand (with_subcommand (with_subcommand running_app rotate_begin_app.top) rotate_next_app.top) rotate_finish_app.top
+rotation_steps_app = with_subcommand (with_subcommand (with_subcommand running_app rotate_begin_app.top)
+    rotate_next_app.top) rotate_finish_app.top
 
--- all of its steps at once
+-- and a rotation in all its steps at once
 abbrev pub rotation_app : App
 rotation_app = with_subcommand rotation_steps_app rotate_app.top
 
--- snapshots
+-- and snapshots
 abbrev pub snapshots_app : App
 snapshots_app = with_subcommand rotation_app snapshot_app.top
 
--- rotations by a schedule
+-- and rotations by a schedule
 abbrev pub schedules_app : App
 schedules_app = with_subcommand (with_subcommand snapshots_app schedule_app.top) tick_app.top
 
--- the whole command line of a script's line, with those that ask
+-- the whole command line of a script's line: all these, and the commands that ask
 abbrev pub script_app : App
-script_app = with_subcommand (with_subcommand (with_subcommand schedules_app fate_app.top) status_app.top) archives_app.top
+script_app = with_subcommand (with_subcommand (with_subcommand schedules_app fate_app.top) status_app.top)
+    archives_app.top

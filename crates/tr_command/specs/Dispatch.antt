@@ -1,4 +1,4 @@
--- The command line that is built for a line: that of the command which its first word names.
+-- The command line that is built for a line: that of the command that its first word names.
 use Rattle.std.specs.Prelude.{◌≡◌, false, List, [], ◌∷◌, Option, Some, None, Result, IfOk, codes, option_and_then, if◌then◌else◌}
 use Rattle.std.specs.Option.{option_map_or}
 use Rattle.std.specs.Str.{bytes_eq}
@@ -7,7 +7,7 @@ use Rattle.clap.specs.declared.builder.command.Command.{Command}
 use Rattle.clap.specs.declared.builder.command.Command.TheViews.{out-Command as fields_of}
 use Rattle.tr_command.specs.CommandLine.{archives_app, channel_app, consume_app, create_app, fate_app, offer_app, rotate_app, rotate_begin_app, rotate_finish_app, rotate_next_app, schedule_app, script_app, snapshot_app, start_app, status_app, stop_app, thread_app, tick_app}
 
--- the word behind the program's name
+-- the word after the program's name
 abbrev pub command_word : List Text → Option Text
 command_word [] = None
 command_word (program ∷ []) = None
@@ -39,14 +39,14 @@ command_of name =
     (if bytes_eq name (codes "archives") then Some archives_app else
     None))))))))))))))))
 
--- the command line with this command alone, and the whole one where there is none
+-- the command line with this command alone, or the whole one if there is none
 abbrev pub alone_or_whole : Option App → App
 alone_or_whole command = option_map_or alone command script_app
 
 abbrev pub app_for : Option Text → App
 app_for word = alone_or_whole (option_and_then command_of word)
 
--- this command was built, or memory was refused; or there is none
+-- this command was built, or an allocation failed; or there is none
 abbrev pub IsBuilt : {E : Type 0} → Option (Result Command E) → Option App → Type 0
 IsBuilt (Some built) (Some command) = IfOk built (λ c. (app_of c ≡ command) × ((fields_of c).has_globals ≡ false))
 IsBuilt None None = Unit {0}

@@ -7,7 +7,7 @@ ghost use Rattle.tr_command.specs.CommandLine.{flag, option, place};
 use clap::{Arg, ArgAction};
 use std::alloc::Global;
 
-/// A text that has its place among the words.
+/// A required text, by its place among the words.
 pub fn place<'a>(alloc: Global, id: &'a str) -> Arg<'a>
     ensures rule { rule_of result ≡ place id.entry.now }
     ensures local { result.global ≡ false }
@@ -15,7 +15,7 @@ pub fn place<'a>(alloc: Global, id: &'a str) -> Arg<'a>
     Arg::new(alloc, id).required(true)
 }
 
-/// `--id TEXT`.
+/// The option `--id TEXT`.
 pub fn option<'a>(alloc: Global, id: &'a str) -> Arg<'a>
     ensures rule { rule_of result ≡ option id.entry.now }
     ensures local { result.global ≡ false }
@@ -23,7 +23,7 @@ pub fn option<'a>(alloc: Global, id: &'a str) -> Arg<'a>
     Arg::new(alloc, id).long(id)
 }
 
-/// `--id`.
+/// The flag `--id`.
 pub fn flag<'a>(alloc: Global, id: &'a str) -> Arg<'a>
     ensures rule { rule_of result ≡ flag id.entry.now }
     ensures local { result.global ≡ false }

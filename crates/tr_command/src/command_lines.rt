@@ -41,7 +41,7 @@ fn create_head_command<'a>(alloc: Global) -> Result<Command<'a>, AllocError>
     of_session(alloc, "create")?.arg(place(alloc, "uuid"))
 }
 
-/// With `[--east MIN] [--west MIN]`.
+/// `create SESSION UUID [--east MIN] [--west MIN] ..`.
 fn create_offset_command<'a>(alloc: Global) -> Result<Command<'a>, AllocError>
     ensures shape { IfOk result (λ c. app_of c ≡ create_offset) }
     ensures local { IfOk result (λ c. (fields_of c).has_globals ≡ false) }
@@ -51,6 +51,7 @@ fn create_offset_command<'a>(alloc: Global) -> Result<Command<'a>, AllocError>
         .arg(option(alloc, "west"))
 }
 
+/// `create SESSION UUID [--east MIN] [--west MIN] [--snapshot]`.
 pub fn create_command<'a>(alloc: Global) -> Result<Command<'a>, AllocError>
     ensures shape { IfOk result (λ c. app_of c ≡ create_app) }
     ensures local { IfOk result (λ c. (fields_of c).has_globals ≡ false) }
@@ -66,7 +67,7 @@ fn channel_head_command<'a>(alloc: Global) -> Result<Command<'a>, AllocError>
     of_session(alloc, "channel")?.arg(place(alloc, "channel"))
 }
 
-/// With `SIZE COUNT ..`.
+/// `channel SESSION CHANNEL SIZE COUNT ..`.
 fn channel_sizes_command<'a>(alloc: Global) -> Result<Command<'a>, AllocError>
     ensures shape { IfOk result (λ c. app_of c ≡ channel_sizes) }
     ensures local { IfOk result (λ c. (fields_of c).has_globals ≡ false) }
@@ -76,6 +77,7 @@ fn channel_sizes_command<'a>(alloc: Global) -> Result<Command<'a>, AllocError>
         .arg(place(alloc, "count"))
 }
 
+/// `channel SESSION CHANNEL SIZE COUNT MODE`.
 pub fn channel_command<'a>(alloc: Global) -> Result<Command<'a>, AllocError>
     ensures shape { IfOk result (λ c. app_of c ≡ channel_app) }
     ensures local { IfOk result (λ c. (fields_of c).has_globals ≡ false) }
@@ -83,6 +85,7 @@ pub fn channel_command<'a>(alloc: Global) -> Result<Command<'a>, AllocError>
     channel_sizes_command(alloc)?.arg(place(alloc, "mode"))
 }
 
+/// `thread SESSION CHANNEL`.
 pub fn thread_command<'a>(alloc: Global) -> Result<Command<'a>, AllocError>
     ensures shape { IfOk result (λ c. app_of c ≡ thread_app) }
     ensures local { IfOk result (λ c. (fields_of c).has_globals ≡ false) }
@@ -90,6 +93,7 @@ pub fn thread_command<'a>(alloc: Global) -> Result<Command<'a>, AllocError>
     of_session(alloc, "thread")?.arg(place(alloc, "channel"))
 }
 
+/// `start SESSION MOMENT`.
 pub fn start_command<'a>(alloc: Global) -> Result<Command<'a>, AllocError>
     ensures shape { IfOk result (λ c. app_of c ≡ start_app) }
     ensures local { IfOk result (λ c. (fields_of c).has_globals ≡ false) }
@@ -97,6 +101,7 @@ pub fn start_command<'a>(alloc: Global) -> Result<Command<'a>, AllocError>
     at_moment(alloc, "start")
 }
 
+/// `stop SESSION`.
 pub fn stop_command<'a>(alloc: Global) -> Result<Command<'a>, AllocError>
     ensures shape { IfOk result (λ c. app_of c ≡ stop_app) }
     ensures local { IfOk result (λ c. (fields_of c).has_globals ≡ false) }
@@ -114,6 +119,7 @@ fn offer_head_command<'a>(alloc: Global) -> Result<Command<'a>, AllocError>
         .arg(place(alloc, "id"))
 }
 
+/// `offer SESSION STREAM MOMENT ID [--text TEXT] [--fill LEN]`.
 pub fn offer_command<'a>(alloc: Global) -> Result<Command<'a>, AllocError>
     ensures shape { IfOk result (λ c. app_of c ≡ offer_app) }
     ensures local { IfOk result (λ c. (fields_of c).has_globals ≡ false) }
@@ -123,6 +129,7 @@ pub fn offer_command<'a>(alloc: Global) -> Result<Command<'a>, AllocError>
         .arg(option(alloc, "fill"))
 }
 
+/// `consume SESSION STREAM`.
 pub fn consume_command<'a>(alloc: Global) -> Result<Command<'a>, AllocError>
     ensures shape { IfOk result (λ c. app_of c ≡ consume_app) }
     ensures local { IfOk result (λ c. (fields_of c).has_globals ≡ false) }
@@ -130,6 +137,7 @@ pub fn consume_command<'a>(alloc: Global) -> Result<Command<'a>, AllocError>
     of_stream(alloc, "consume")
 }
 
+/// `rotate-begin SESSION MOMENT`.
 pub fn rotate_begin_command<'a>(alloc: Global) -> Result<Command<'a>, AllocError>
     ensures shape { IfOk result (λ c. app_of c ≡ rotate_begin_app) }
     ensures local { IfOk result (λ c. (fields_of c).has_globals ≡ false) }
@@ -137,6 +145,7 @@ pub fn rotate_begin_command<'a>(alloc: Global) -> Result<Command<'a>, AllocError
     at_moment(alloc, "rotate-begin")
 }
 
+/// `rotate-next SESSION`.
 pub fn rotate_next_command<'a>(alloc: Global) -> Result<Command<'a>, AllocError>
     ensures shape { IfOk result (λ c. app_of c ≡ rotate_next_app) }
     ensures local { IfOk result (λ c. (fields_of c).has_globals ≡ false) }
@@ -144,6 +153,7 @@ pub fn rotate_next_command<'a>(alloc: Global) -> Result<Command<'a>, AllocError>
     of_session(alloc, "rotate-next")
 }
 
+/// `rotate-finish SESSION`.
 pub fn rotate_finish_command<'a>(alloc: Global) -> Result<Command<'a>, AllocError>
     ensures shape { IfOk result (λ c. app_of c ≡ rotate_finish_app) }
     ensures local { IfOk result (λ c. (fields_of c).has_globals ≡ false) }
@@ -151,6 +161,7 @@ pub fn rotate_finish_command<'a>(alloc: Global) -> Result<Command<'a>, AllocErro
     of_session(alloc, "rotate-finish")
 }
 
+/// `rotate SESSION MOMENT`.
 pub fn rotate_command<'a>(alloc: Global) -> Result<Command<'a>, AllocError>
     ensures shape { IfOk result (λ c. app_of c ≡ rotate_app) }
     ensures local { IfOk result (λ c. (fields_of c).has_globals ≡ false) }
@@ -158,6 +169,7 @@ pub fn rotate_command<'a>(alloc: Global) -> Result<Command<'a>, AllocError>
     at_moment(alloc, "rotate")
 }
 
+/// `snapshot SESSION MOMENT`.
 pub fn snapshot_command<'a>(alloc: Global) -> Result<Command<'a>, AllocError>
     ensures shape { IfOk result (λ c. app_of c ≡ snapshot_app) }
     ensures local { IfOk result (λ c. (fields_of c).has_globals ≡ false) }
@@ -165,6 +177,7 @@ pub fn snapshot_command<'a>(alloc: Global) -> Result<Command<'a>, AllocError>
     at_moment(alloc, "snapshot")
 }
 
+/// `fate SESSION STREAM SERIAL`.
 pub fn fate_command<'a>(alloc: Global) -> Result<Command<'a>, AllocError>
     ensures shape { IfOk result (λ c. app_of c ≡ fate_app) }
     ensures local { IfOk result (λ c. (fields_of c).has_globals ≡ false) }
@@ -172,6 +185,7 @@ pub fn fate_command<'a>(alloc: Global) -> Result<Command<'a>, AllocError>
     of_stream(alloc, "fate")?.arg(place(alloc, "serial"))
 }
 
+/// `schedule SESSION [--every NS] [--size BYTES]`.
 pub fn schedule_command<'a>(alloc: Global) -> Result<Command<'a>, AllocError>
     ensures shape { IfOk result (λ c. app_of c ≡ schedule_app) }
     ensures local { IfOk result (λ c. (fields_of c).has_globals ≡ false) }
@@ -181,6 +195,7 @@ pub fn schedule_command<'a>(alloc: Global) -> Result<Command<'a>, AllocError>
         .arg(option(alloc, "size"))
 }
 
+/// `tick SESSION MOMENT`.
 pub fn tick_command<'a>(alloc: Global) -> Result<Command<'a>, AllocError>
     ensures shape { IfOk result (λ c. app_of c ≡ tick_app) }
     ensures local { IfOk result (λ c. (fields_of c).has_globals ≡ false) }
@@ -188,6 +203,7 @@ pub fn tick_command<'a>(alloc: Global) -> Result<Command<'a>, AllocError>
     at_moment(alloc, "tick")
 }
 
+/// `status SESSION`.
 pub fn status_command<'a>(alloc: Global) -> Result<Command<'a>, AllocError>
     ensures shape { IfOk result (λ c. app_of c ≡ status_app) }
     ensures local { IfOk result (λ c. (fields_of c).has_globals ≡ false) }
@@ -195,6 +211,7 @@ pub fn status_command<'a>(alloc: Global) -> Result<Command<'a>, AllocError>
     of_session(alloc, "status")
 }
 
+/// `archives SESSION`.
 pub fn archives_command<'a>(alloc: Global) -> Result<Command<'a>, AllocError>
     ensures shape { IfOk result (λ c. app_of c ≡ archives_app) }
     ensures local { IfOk result (λ c. (fields_of c).has_globals ≡ false) }
@@ -212,7 +229,7 @@ fn layout_command<'a>(alloc: Global) -> Result<Command<'a>, AllocError>
         .subcommand(thread_command(alloc)?)
 }
 
-/// With those that start and stop it.
+/// And those that start and stop it.
 fn activity_command<'a>(alloc: Global) -> Result<Command<'a>, AllocError>
     ensures { IfOk result (λ c. app_of c ≡ activity_app) }
 {
@@ -221,7 +238,7 @@ fn activity_command<'a>(alloc: Global) -> Result<Command<'a>, AllocError>
         .subcommand(stop_command(alloc)?)
 }
 
-/// With those that its streams meet while it runs.
+/// And those for its streams while it runs.
 fn running_command<'a>(alloc: Global) -> Result<Command<'a>, AllocError>
     ensures { IfOk result (λ c. app_of c ≡ running_app) }
 {
@@ -230,7 +247,7 @@ fn running_command<'a>(alloc: Global) -> Result<Command<'a>, AllocError>
         .subcommand(consume_command(alloc)?)
 }
 
-/// With the steps of a rotation.
+/// And the steps of a rotation.
 fn rotation_steps_command<'a>(alloc: Global) -> Result<Command<'a>, AllocError>
     ensures { IfOk result (λ c. app_of c ≡ rotation_steps_app) }
 {
@@ -240,21 +257,21 @@ fn rotation_steps_command<'a>(alloc: Global) -> Result<Command<'a>, AllocError>
         .subcommand(rotate_finish_command(alloc)?)
 }
 
-/// With all of its steps at once.
+/// And a rotation in all its steps at once.
 fn rotation_command<'a>(alloc: Global) -> Result<Command<'a>, AllocError>
     ensures { IfOk result (λ c. app_of c ≡ rotation_app) }
 {
     rotation_steps_command(alloc)?.subcommand(rotate_command(alloc)?)
 }
 
-/// With snapshots.
+/// And snapshots.
 fn snapshots_command<'a>(alloc: Global) -> Result<Command<'a>, AllocError>
     ensures { IfOk result (λ c. app_of c ≡ snapshots_app) }
 {
     rotation_command(alloc)?.subcommand(snapshot_command(alloc)?)
 }
 
-/// With rotations by a schedule.
+/// And rotations by a schedule.
 fn schedules_command<'a>(alloc: Global) -> Result<Command<'a>, AllocError>
     ensures { IfOk result (λ c. app_of c ≡ schedules_app) }
 {
@@ -263,7 +280,7 @@ fn schedules_command<'a>(alloc: Global) -> Result<Command<'a>, AllocError>
         .subcommand(tick_command(alloc)?)
 }
 
-/// The whole command line of a script's line, with those that ask.
+/// The whole command line of a script's line: all these, and the commands that ask.
 pub fn script_command<'a>(alloc: Global) -> Result<Command<'a>, AllocError>
     ensures { IfOk result (λ c. app_of c ≡ script_app) }
 {

@@ -1,7 +1,7 @@
 //! The command line that is built for a line.
 //!
-//! A command line takes longer to build than its line to read, so a line gets that of its own command alone.
-//! It says the same of the line as the whole one does (`proofs/DispatchLemmas.antt`).
+//! Building a command line takes longer than reading a line, so a line gets that of its own command alone.
+//! It reads the line as the whole one does (`proofs/DispatchLemmas.antt`).
 
 ghost use Rattle.std.specs.Prelude.{◌≡◌, IfOk, false, map, option_map};
 ghost use Rattle.clap.specs.Words.{app_of};
@@ -17,7 +17,7 @@ use crate::command_lines::{
 use clap::Command;
 use std::alloc::{AllocError, Global};
 
-/// The word behind the program's name.
+/// The word after the program's name, if any.
 pub fn command_word<'a>(words: &[&'a str]) -> Option<&'a str>
     ensures { option_map (λ w. w.now) result ≡ command_word (map (λ w. w.now) words.now) }
 {
@@ -35,7 +35,7 @@ fn alone<'a>(alloc: Global, command: Command<'a>) -> Result<Command<'a>, AllocEr
     Command::new(alloc, "tracerd").subcommand(command)
 }
 
-/// The command of this name. `None` where no command has it.
+/// The command of this name. `None` if no command has it.
 fn command_named<'a>(alloc: Global, name: &str) -> Option<Result<Command<'a>, AllocError>>
     ensures { IsBuilt result (command_of name.now) }
 {
@@ -61,7 +61,7 @@ fn command_named<'a>(alloc: Global, name: &str) -> Option<Result<Command<'a>, Al
     }
 }
 
-/// The command line of a line whose command word is this one.
+/// The command line of a line with this command word.
 pub fn command_for<'a>(alloc: Global, word: Option<&str>) -> Result<Command<'a>, AllocError>
     ensures { IfOk result (λ c. app_of c ≡ app_for (option_map (λ w. w.now) word.entry)) }
 {

@@ -1,7 +1,7 @@
 //! The command language of a script: from the words of a line to what they ask for.
-//! What clap's definition of a simple command says of the words decides every corner; [`parse`] is proved against it.
-//! Every line of the language has its [`Request`]: what lays a session out, starts and stops it, what its streams meet,
-//! rotations whole and step by step, snapshots, schedules and their ticks, and what only asks.
+//! Clap's definition of a simple command decides every corner; [`parse`] is proved against it.
+//! Every command has its [`Request`]: those that lay a session out, start and stop it, those for its streams, rotations whole
+//! and step by step, snapshots, schedules and their ticks, and questions.
 #![tactic(auto)]
 
 mod arguments;

@@ -4,15 +4,15 @@ ghost use Rattle.std.specs.Prelude.{◌≡◌};
 ghost use Rattle.std.specs.List.{list_all};
 ghost use Rattle.tr_command.specs.Number.{is_digit, number_of};
 
-/// Whether the text has nothing but digits.
+/// Whether the text has only digits.
 fn has_only_digits(text: &str) -> bool
     ensures { result ≡ list_all is_digit text.now }
 {
     text.bytes().all(|b| b.is_ascii_digit())
 }
 
-/// The number that the text writes in one or more digits `0` to `9` alone, where it is at most `most`.
-/// Zeros before it are fine, a sign is not.
+/// The number that the text writes in one or more digits `0` to `9` alone, if it is at most `most`.
+/// Leading zeros are fine, a sign is not.
 pub fn number(text: &str, most: u64) -> Option<u64>
     ensures { result ≡ number_of most text.now }
 {
@@ -25,7 +25,7 @@ pub fn number(text: &str, most: u64) -> Option<u64>
     }
 }
 
-/// The same, of a number that fits 32 bits.
+/// The same for a number that fits 32 bits.
 pub fn number_u32(text: &str, most: u32) -> Option<u32>
     ensures { result ≡ number_of most text.now }
 {

@@ -3,22 +3,22 @@
 ghost use Rattle.std.specs.Prelude.{◌≡◌, option_map};
 ghost use Rattle.clap.specs.Words.{found_of, rows_of};
 ghost use Rattle.tr_command.specs.Asked.{asked_by};
-ghost use Rattle.tr_command.specs.Reading.{archives_of, asked_as, channel_of, consume_of, create_of, fate_of, offer_of, rotate_begin_of, rotate_finish_of, rotate_next_of, rotate_of, schedule_of, snapshot_of, start_of, status_of, stop_of, thread_of, tick_of};
+ghost use Rattle.tr_command.specs.Reading.{read_archives, read_command, read_channel, read_consume, read_create, read_fate, read_offer, read_rotate_begin, read_rotate_finish, read_rotate_next, read_rotate, read_schedule, read_snapshot, read_start, read_status, read_stop, read_thread, read_tick};
 
 use crate::Request;
 use crate::values::{
-    has_flag, mode_at, moment_at, number_at, number_if_given, number_u32_at, number_u32_or_zero,
-    offset_at, text_at, text_or_empty,
+    has_flag, mode_given, moment_given, number_given, number_if_given, number_u32_given,
+    number_u32_or_zero, offset_given, text_given, text_or_empty,
 };
 use clap::ArgMatches;
 use tr_terms::limits::MOST_FILL;
 
 fn create_request<'a>(matches: &ArgMatches<'a>) -> Option<Request<'a>>
-    ensures { option_map asked_by result ≡ create_of (rows_of (found_of matches.now)) }
+    ensures { option_map asked_by result ≡ read_create (rows_of (found_of matches.now)) }
 {
-    let session = text_at(matches, "session")?;
-    let uuid = text_at(matches, "uuid")?;
-    let offset = offset_at(matches)?;
+    let session = text_given(matches, "session")?;
+    let uuid = text_given(matches, "uuid")?;
+    let offset = offset_given(matches)?;
     let snapshot = has_flag(matches, "snapshot");
     Some(Request::Create {
         session,
@@ -29,13 +29,13 @@ fn create_request<'a>(matches: &ArgMatches<'a>) -> Option<Request<'a>>
 }
 
 fn channel_request<'a>(matches: &ArgMatches<'a>) -> Option<Request<'a>>
-    ensures { option_map asked_by result ≡ channel_of (rows_of (found_of matches.now)) }
+    ensures { option_map asked_by result ≡ read_channel (rows_of (found_of matches.now)) }
 {
-    let session = text_at(matches, "session")?;
-    let channel = text_at(matches, "channel")?;
-    let size = number_u32_at(matches, "size", u32::MAX)?;
-    let count = number_u32_at(matches, "count", u32::MAX)?;
-    let mode = mode_at(matches, "mode")?;
+    let session = text_given(matches, "session")?;
+    let channel = text_given(matches, "channel")?;
+    let size = number_u32_given(matches, "size", u32::MAX)?;
+    let count = number_u32_given(matches, "count", u32::MAX)?;
+    let mode = mode_given(matches, "mode")?;
     Some(Request::Channel {
         session,
         channel,
@@ -46,35 +46,35 @@ fn channel_request<'a>(matches: &ArgMatches<'a>) -> Option<Request<'a>>
 }
 
 fn thread_request<'a>(matches: &ArgMatches<'a>) -> Option<Request<'a>>
-    ensures { option_map asked_by result ≡ thread_of (rows_of (found_of matches.now)) }
+    ensures { option_map asked_by result ≡ read_thread (rows_of (found_of matches.now)) }
 {
-    let session = text_at(matches, "session")?;
-    let channel = text_at(matches, "channel")?;
+    let session = text_given(matches, "session")?;
+    let channel = text_given(matches, "channel")?;
     Some(Request::Thread { session, channel })
 }
 
 fn start_request<'a>(matches: &ArgMatches<'a>) -> Option<Request<'a>>
-    ensures { option_map asked_by result ≡ start_of (rows_of (found_of matches.now)) }
+    ensures { option_map asked_by result ≡ read_start (rows_of (found_of matches.now)) }
 {
-    let session = text_at(matches, "session")?;
-    let moment = moment_at(matches, "moment")?;
+    let session = text_given(matches, "session")?;
+    let moment = moment_given(matches, "moment")?;
     Some(Request::Start { session, moment })
 }
 
 fn stop_request<'a>(matches: &ArgMatches<'a>) -> Option<Request<'a>>
-    ensures { option_map asked_by result ≡ stop_of (rows_of (found_of matches.now)) }
+    ensures { option_map asked_by result ≡ read_stop (rows_of (found_of matches.now)) }
 {
-    let session = text_at(matches, "session")?;
+    let session = text_given(matches, "session")?;
     Some(Request::Stop { session })
 }
 
 fn offer_request<'a>(matches: &ArgMatches<'a>) -> Option<Request<'a>>
-    ensures { option_map asked_by result ≡ offer_of (rows_of (found_of matches.now)) }
+    ensures { option_map asked_by result ≡ read_offer (rows_of (found_of matches.now)) }
 {
-    let session = text_at(matches, "session")?;
-    let stream = number_at(matches, "stream", u64::MAX)?;
-    let moment = moment_at(matches, "moment")?;
-    let id = number_u32_at(matches, "id", u32::MAX)?;
+    let session = text_given(matches, "session")?;
+    let stream = number_given(matches, "stream", u64::MAX)?;
+    let moment = moment_given(matches, "moment")?;
+    let id = number_u32_given(matches, "id", u32::MAX)?;
     let fill = number_u32_or_zero(matches, "fill", MOST_FILL)?;
     let text = text_or_empty(matches, "text");
     Some(Request::Offer {
@@ -88,57 +88,57 @@ fn offer_request<'a>(matches: &ArgMatches<'a>) -> Option<Request<'a>>
 }
 
 fn consume_request<'a>(matches: &ArgMatches<'a>) -> Option<Request<'a>>
-    ensures { option_map asked_by result ≡ consume_of (rows_of (found_of matches.now)) }
+    ensures { option_map asked_by result ≡ read_consume (rows_of (found_of matches.now)) }
 {
-    let session = text_at(matches, "session")?;
-    let stream = number_at(matches, "stream", u64::MAX)?;
+    let session = text_given(matches, "session")?;
+    let stream = number_given(matches, "stream", u64::MAX)?;
     Some(Request::Consume { session, stream })
 }
 
 fn rotate_begin_request<'a>(matches: &ArgMatches<'a>) -> Option<Request<'a>>
-    ensures { option_map asked_by result ≡ rotate_begin_of (rows_of (found_of matches.now)) }
+    ensures { option_map asked_by result ≡ read_rotate_begin (rows_of (found_of matches.now)) }
 {
-    let session = text_at(matches, "session")?;
-    let moment = moment_at(matches, "moment")?;
+    let session = text_given(matches, "session")?;
+    let moment = moment_given(matches, "moment")?;
     Some(Request::RotateBegin { session, moment })
 }
 
 fn rotate_next_request<'a>(matches: &ArgMatches<'a>) -> Option<Request<'a>>
-    ensures { option_map asked_by result ≡ rotate_next_of (rows_of (found_of matches.now)) }
+    ensures { option_map asked_by result ≡ read_rotate_next (rows_of (found_of matches.now)) }
 {
-    let session = text_at(matches, "session")?;
+    let session = text_given(matches, "session")?;
     Some(Request::RotateNext { session })
 }
 
 fn rotate_finish_request<'a>(matches: &ArgMatches<'a>) -> Option<Request<'a>>
-    ensures { option_map asked_by result ≡ rotate_finish_of (rows_of (found_of matches.now)) }
+    ensures { option_map asked_by result ≡ read_rotate_finish (rows_of (found_of matches.now)) }
 {
-    let session = text_at(matches, "session")?;
+    let session = text_given(matches, "session")?;
     Some(Request::RotateFinish { session })
 }
 
 fn rotate_request<'a>(matches: &ArgMatches<'a>) -> Option<Request<'a>>
-    ensures { option_map asked_by result ≡ rotate_of (rows_of (found_of matches.now)) }
+    ensures { option_map asked_by result ≡ read_rotate (rows_of (found_of matches.now)) }
 {
-    let session = text_at(matches, "session")?;
-    let moment = moment_at(matches, "moment")?;
+    let session = text_given(matches, "session")?;
+    let moment = moment_given(matches, "moment")?;
     Some(Request::Rotate { session, moment })
 }
 
 fn snapshot_request<'a>(matches: &ArgMatches<'a>) -> Option<Request<'a>>
-    ensures { option_map asked_by result ≡ snapshot_of (rows_of (found_of matches.now)) }
+    ensures { option_map asked_by result ≡ read_snapshot (rows_of (found_of matches.now)) }
 {
-    let session = text_at(matches, "session")?;
-    let moment = moment_at(matches, "moment")?;
+    let session = text_given(matches, "session")?;
+    let moment = moment_given(matches, "moment")?;
     Some(Request::Snapshot { session, moment })
 }
 
 fn fate_request<'a>(matches: &ArgMatches<'a>) -> Option<Request<'a>>
-    ensures { option_map asked_by result ≡ fate_of (rows_of (found_of matches.now)) }
+    ensures { option_map asked_by result ≡ read_fate (rows_of (found_of matches.now)) }
 {
-    let session = text_at(matches, "session")?;
-    let stream = number_at(matches, "stream", u64::MAX)?;
-    let serial = number_at(matches, "serial", u64::MAX)?;
+    let session = text_given(matches, "session")?;
+    let stream = number_given(matches, "stream", u64::MAX)?;
+    let serial = number_given(matches, "serial", u64::MAX)?;
     Some(Request::Fate {
         session,
         stream,
@@ -147,9 +147,9 @@ fn fate_request<'a>(matches: &ArgMatches<'a>) -> Option<Request<'a>>
 }
 
 fn schedule_request<'a>(matches: &ArgMatches<'a>) -> Option<Request<'a>>
-    ensures { option_map asked_by result ≡ schedule_of (rows_of (found_of matches.now)) }
+    ensures { option_map asked_by result ≡ read_schedule (rows_of (found_of matches.now)) }
 {
-    let session = text_at(matches, "session")?;
+    let session = text_given(matches, "session")?;
     let every = number_if_given(matches, "every", u64::MAX)?;
     let size = number_if_given(matches, "size", u64::MAX)?;
     Some(Request::Schedule {
@@ -160,30 +160,30 @@ fn schedule_request<'a>(matches: &ArgMatches<'a>) -> Option<Request<'a>>
 }
 
 fn tick_request<'a>(matches: &ArgMatches<'a>) -> Option<Request<'a>>
-    ensures { option_map asked_by result ≡ tick_of (rows_of (found_of matches.now)) }
+    ensures { option_map asked_by result ≡ read_tick (rows_of (found_of matches.now)) }
 {
-    let session = text_at(matches, "session")?;
-    let moment = moment_at(matches, "moment")?;
+    let session = text_given(matches, "session")?;
+    let moment = moment_given(matches, "moment")?;
     Some(Request::Tick { session, moment })
 }
 
 fn status_request<'a>(matches: &ArgMatches<'a>) -> Option<Request<'a>>
-    ensures { option_map asked_by result ≡ status_of (rows_of (found_of matches.now)) }
+    ensures { option_map asked_by result ≡ read_status (rows_of (found_of matches.now)) }
 {
-    let session = text_at(matches, "session")?;
+    let session = text_given(matches, "session")?;
     Some(Request::Status { session })
 }
 
 fn archives_request<'a>(matches: &ArgMatches<'a>) -> Option<Request<'a>>
-    ensures { option_map asked_by result ≡ archives_of (rows_of (found_of matches.now)) }
+    ensures { option_map asked_by result ≡ read_archives (rows_of (found_of matches.now)) }
 {
-    let session = text_at(matches, "session")?;
+    let session = text_given(matches, "session")?;
     Some(Request::Archives { session })
 }
 
-/// What the command of this name asks for, where these are the values of its arguments.
+/// What the command of this name asks for with these values of its arguments.
 pub fn request_of<'a>(name: &str, matches: &ArgMatches<'a>) -> Option<Request<'a>>
-    ensures { option_map asked_by result ≡ asked_as name.now (rows_of (found_of matches.now)) }
+    ensures { option_map asked_by result ≡ read_command name.now (rows_of (found_of matches.now)) }
 {
     match name {
         "create" => create_request(matches),

@@ -2,7 +2,7 @@
 
 use tr_terms::Mode;
 
-/// What the words of a line ask for, with its texts as the words have them.
+/// What the words of a line ask for. Its texts are those of the words.
 ///
 /// A moment is in nanoseconds since 1970 and at most `Moment::LAST`, and an offset within -1,439..=1,439, as
 /// [`parse`](crate::parse) ensures: they are plain numbers here, since the check covers no value that holds both a
@@ -10,12 +10,11 @@ use tr_terms::Mode;
 ///
 /// To add a command: a variant here and in `specs/Asked.antt`, its command line in `command_lines` and
 /// `specs/CommandLine.antt`, its reading in `readings` and `specs/Reading.antt`, its arm in `dispatch`
-/// and `specs/Dispatch.antt`, and its lemmas in `proofs/DispatchLemmas.antt`, `proofs/LimitLemmas.antt` and
-/// `proofs/dispatch/command_for/Answers.antt`.
+/// and `specs/Dispatch.antt`, and its lemmas in `proofs/DispatchLemmas.antt` and `proofs/LimitLemmas.antt`.
 #[derive(Clone, Copy, Debug, PartialEq, Eq)]
 pub enum Request<'a> {
     /// `create SESSION UUID [--east MIN] [--west MIN] [--snapshot]`, the offset in minutes ahead of UTC;
-    /// `snapshot` where it is to be a snapshot session
+    /// `snapshot` if it is to be a snapshot session
     Create {
         session: &'a str,
         uuid: &'a str,

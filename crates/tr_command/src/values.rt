@@ -3,25 +3,25 @@
 ghost use Rattle.std.specs.Prelude.{◌≡◌, option_map};
 ghost use Rattle.clap.specs.Words.{first_of, found_of, rows_of};
 ghost use Rattle.tr_terms.specs.declared.limits.TheConstants.{LAST_MOMENT};
-ghost use Rattle.tr_command.specs.Reading.{has_flag, mode_at, mode_named, number_at, number_if_given, number_or_0, offset_at, text_or_empty};
+ghost use Rattle.tr_command.specs.Reading.{has_flag, mode_given, mode_named, number_given, number_if_given, number_or_0, offset_given, text_or_empty};
 
 use crate::numbers::{number, number_u32};
 use clap::ArgMatches;
 use tr_terms::Mode;
 use tr_terms::limits::{LAST_MOMENT, MOST_MINUTES};
 
-/// The text of an argument.
-pub fn text_at<'a>(matches: &ArgMatches<'a>, id: &str) -> Option<&'a str>
+/// The text of an argument, if it is given.
+pub fn text_given<'a>(matches: &ArgMatches<'a>, id: &str) -> Option<&'a str>
     ensures { option_map (λ t. t.now) result ≡ first_of id.now (rows_of (found_of matches.now)) }
 {
     matches.get_str(id)
 }
 
-/// The text of an option, the empty one where it is left out.
+/// The text of an option, empty if it is left out.
 pub fn text_or_empty<'a>(matches: &ArgMatches<'a>, id: &str) -> &'a str
     ensures { result.now ≡ text_or_empty id.now (rows_of (found_of matches.now)) }
 {
-    text_at(matches, id).unwrap_or("")
+    text_given(matches, id).unwrap_or("")
 }
 
 /// Whether a flag is given.
@@ -31,57 +31,57 @@ pub fn has_flag(matches: &ArgMatches<'_>, id: &str) -> bool
     matches.get_one::<bool>(id).unwrap_or(false)
 }
 
-/// The number of an argument, where it is one of at most `most`.
-pub fn number_at(matches: &ArgMatches<'_>, id: &str, most: u64) -> Option<u64>
-    ensures { result ≡ number_at id.now most (rows_of (found_of matches.now)) }
+/// The number of an argument, if it is a number and at most `most`.
+pub fn number_given(matches: &ArgMatches<'_>, id: &str, most: u64) -> Option<u64>
+    ensures { result ≡ number_given id.now most (rows_of (found_of matches.now)) }
 {
-    number(text_at(matches, id)?, most)
+    number(text_given(matches, id)?, most)
 }
 
-/// The same, of a number that fits 32 bits.
-pub fn number_u32_at(matches: &ArgMatches<'_>, id: &str, most: u32) -> Option<u32>
-    ensures { result ≡ number_at id.now most (rows_of (found_of matches.now)) }
+/// The same for a number that fits 32 bits.
+pub fn number_u32_given(matches: &ArgMatches<'_>, id: &str, most: u32) -> Option<u32>
+    ensures { result ≡ number_given id.now most (rows_of (found_of matches.now)) }
 {
-    number_u32(text_at(matches, id)?, most)
+    number_u32(text_given(matches, id)?, most)
 }
 
 /// The moment of an argument, in nanoseconds.
-pub fn moment_at(matches: &ArgMatches<'_>, id: &str) -> Option<u64>
-    ensures { result ≡ number_at id.now LAST_MOMENT (rows_of (found_of matches.now)) }
+pub fn moment_given(matches: &ArgMatches<'_>, id: &str) -> Option<u64>
+    ensures { result ≡ number_given id.now LAST_MOMENT (rows_of (found_of matches.now)) }
 {
-    number_at(matches, id, LAST_MOMENT)
+    number_given(matches, id, LAST_MOMENT)
 }
 
-/// The number of an option, 0 where it is left out.
+/// The number of an option, 0 if it is left out.
 pub fn number_u32_or_zero(matches: &ArgMatches<'_>, id: &str, most: u32) -> Option<u32>
     ensures { result ≡ number_or_0 id.now most (rows_of (found_of matches.now)) }
 {
-    match text_at(matches, id) {
+    match text_given(matches, id) {
         Some(text) => number_u32(text, most),
         None => Some(0),
     }
 }
 
-/// The number of an option, which is none where the option is left out.
+/// The number of an option, which is none if the option is left out.
 pub fn number_if_given(matches: &ArgMatches<'_>, id: &str, most: u64) -> Option<Option<u64>>
     ensures { result ≡ number_if_given id.now most (rows_of (found_of matches.now)) }
 {
-    match text_at(matches, id) {
+    match text_given(matches, id) {
         Some(text) => Some(Some(number(text, most)?)),
         None => Some(None),
     }
 }
 
 /// How many minutes the clock is ahead of UTC: those of `--east`, less those of `--west`.
-pub fn offset_at(matches: &ArgMatches<'_>) -> Option<i32>
-    ensures { result ≡ offset_at (rows_of (found_of matches.now)) }
+pub fn offset_given(matches: &ArgMatches<'_>) -> Option<i32>
+    ensures { result ≡ offset_given (rows_of (found_of matches.now)) }
 {
     let east = number_u32_or_zero(matches, "east", MOST_MINUTES)?;
     let west = number_u32_or_zero(matches, "west", MOST_MINUTES)?;
     Some(east as i32 - west as i32)
 }
 
-/// The mode of this name.
+/// The mode of this name, if any.
 fn mode_named(text: &str) -> Option<Mode>
     ensures { result ≡ mode_named text.now }
 {
@@ -93,8 +93,8 @@ fn mode_named(text: &str) -> Option<Mode>
 }
 
 /// The mode that an argument names.
-pub fn mode_at(matches: &ArgMatches<'_>, id: &str) -> Option<Mode>
-    ensures { result ≡ mode_at id.now (rows_of (found_of matches.now)) }
+pub fn mode_given(matches: &ArgMatches<'_>, id: &str) -> Option<Mode>
+    ensures { result ≡ mode_given id.now (rows_of (found_of matches.now)) }
 {
-    mode_named(text_at(matches, id)?)
+    mode_named(text_given(matches, id)?)
 }

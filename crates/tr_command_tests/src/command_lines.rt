@@ -1,4 +1,4 @@
-//! Lines of which clap's rules say what they ask for, and what a range lets through.
+//! Lines with what clap's rules say that they ask for, and what a range lets through.
 
 mod asking;
 mod layout;
@@ -30,7 +30,7 @@ fn asks(alloc: Global, line: &str, request: Option<&Request<'_>>) -> Result<bool
     Ok(asked.as_ref() == request)
 }
 
-/// Each line has to ask for what stands beside it.
+/// Each line has to ask for the request beside it.
 fn all_ask(
     rt: &impl Abort,
     alloc: Global,

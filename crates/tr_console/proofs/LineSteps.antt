@@ -1,8 +1,8 @@
--- The answers to lines, one line more or some lines more.
+-- The answers to lines: one more line, or some more lines.
 use Rattle.std.proofs.Common.{◌≡◌, ◌∙◌, ◌≤◌, ◌+◌, ℕ, Bool, cond, true, false, refl, sym, ap, arith, List, [], ◌∷◌, ◌++◌, append_assoc, append-nil}
 use Rattle.tr_calls.specs.World.{World}
 use Rattle.tr_console.specs.Script.{answers, line_step, refused_in, text_step, world_after}
-use Rattle.tr_console.specs.Steps.{Step, skipped}
+use Rattle.tr_console.specs.Steps.{Step, skipped_step}
 use Rattle.tr_lines.specs.Lines.{text_of_line, with_last}
 use Rattle.tr_stream.specs.Rules.{StreamRules}
 
@@ -13,7 +13,7 @@ pub one_if-le : (b : Bool) → one_if b ≤ 1
 one_if-le true = omega arith
 one_if-le false = omega arith
 
--- ---- one line more
+-- ---- one more line
 
 pub answers-push : {S : Type 0} → (rules : StreamRules S) (w : World S) (lines : List (List ℕ)) (line : List ℕ)
     → answers rules w (lines ++ line ∷ []) ≡ answers rules w lines ++ (line_step rules (world_after rules w lines) line).text
@@ -32,7 +32,7 @@ pub refused_in-push : {S : Type 0} → (rules : StreamRules S) (w : World S) (li
 refused_in-push rules w [] line = omega arith
 refused_in-push rules w (first ∷ lines) line = omega (arith, refused_in-push rules (line_step rules w first).world lines line)
 
--- ---- some lines more
+-- ---- some more lines
 
 pub answers-append : {S : Type 0} → (rules : StreamRules S) (w : World S) (a b : List (List ℕ))
     → answers rules w (a ++ b) ≡ answers rules w a ++ answers rules (world_after rules w a) b
@@ -46,29 +46,34 @@ pub refused_in-append : {S : Type 0} → (rules : StreamRules S) (w : World S) (
 refused_in-append rules w [] b = omega arith
 refused_in-append rules w (first ∷ a) b = omega (arith, refused_in-append rules (line_step rules w first).world a b)
 
-pub world_after-append : {S : Type 0} → (rules : StreamRules S) (w : World S) (a b : List (List ℕ)) → world_after rules w (a ++ b) ≡ world_after rules (world_after rules w a) b
+pub world_after-append : {S : Type 0} → (rules : StreamRules S) (w : World S) (a b : List (List ℕ))
+    → world_after rules w (a ++ b) ≡ world_after rules (world_after rules w a) b
 world_after-append rules w [] b = refl
 world_after-append rules w (first ∷ a) b = world_after-append rules (line_step rules w first).world a b
 
 -- ---- a line
 
-pub line_step-text : {S : Type 0} → (rules : StreamRules S) (w : World S) (line : List ℕ) → text_step rules w (text_of_line line) ≡ line_step rules w line
+pub line_step-text : {S : Type 0} → (rules : StreamRules S) (w : World S) (line : List ℕ)
+    → text_step rules w (text_of_line line) ≡ line_step rules w line
 unfolding line_step
 line_step-text rules w line = refl
 
 -- an empty line is skipped, so it doesn't matter whether there is a last one
-pub line_step-empty : {S : Type 0} → (rules : StreamRules S) (w : World S) → line_step rules w [] ≡ skipped w
+pub line_step-empty : {S : Type 0} → (rules : StreamRules S) (w : World S) → line_step rules w [] ≡ skipped_step w
 unfolding line_step
 line_step-empty rules w = refl
 
-pub answers-last : {S : Type 0} → (rules : StreamRules S) (w : World S) (line : List ℕ) → answers rules w (line ∷ []) ≡ answers rules w (with_last line)
+pub answers-last : {S : Type 0} → (rules : StreamRules S) (w : World S) (line : List ℕ)
+    → answers rules w (line ∷ []) ≡ answers rules w (with_last line)
 answers-last rules w [] = ap (λ (s : Step _). s.text ++ []) (line_step-empty rules w)
 answers-last rules w (b ∷ line) = refl
 
-pub refused_in-last : {S : Type 0} → (rules : StreamRules S) (w : World S) (line : List ℕ) → refused_in rules w (line ∷ []) ≡ refused_in rules w (with_last line)
+pub refused_in-last : {S : Type 0} → (rules : StreamRules S) (w : World S) (line : List ℕ)
+    → refused_in rules w (line ∷ []) ≡ refused_in rules w (with_last line)
 refused_in-last rules w [] = ap (λ (s : Step _). one_if s.is_refused + 0) (line_step-empty rules w)
 refused_in-last rules w (b ∷ line) = refl
 
-pub world_after-last : {S : Type 0} → (rules : StreamRules S) (w : World S) (line : List ℕ) → world_after rules w (line ∷ []) ≡ world_after rules w (with_last line)
+pub world_after-last : {S : Type 0} → (rules : StreamRules S) (w : World S) (line : List ℕ)
+    → world_after rules w (line ∷ []) ≡ world_after rules w (with_last line)
 world_after-last rules w [] = ap (λ (s : Step _). s.world) (line_step-empty rules w)
 world_after-last rules w (b ∷ line) = refl

@@ -7,12 +7,12 @@ use Rattle.tr_console.proofs.LineSteps.{answers-append, answers-last, answers-pu
 use Rattle.tr_console.proofs.ScriptAgreement.{agree-after, line-agree}
 use Rattle.tr_console.proofs.WorldAgreement.{StepsAgree}
 use Rattle.tr_console.specs.Agreement.{WorldsAgree}
-use Rattle.tr_console.specs.Runs.{AnsweredSome, BrokeOff, Ran, WentTooFar, WroteSome, answers_to, world_left}
+use Rattle.tr_console.specs.Runs.{AnsweredSome, BrokeOff, Ran, WentTooFar, WroteSome, text_answered, world_left}
 use Rattle.tr_console.specs.Script.{answers, line_step, refused_in, script_text, text_step, world_after}
 use Rattle.tr_console.specs.Steps.{Step}
 use Rattle.tr_lines.proofs.LineLemmas.{AreLines, AreLines-push, joined, joined-push, lines_of-joined, lines_of-last, whole_lines-front, whole_lines_of-joined, whole_lines_of-last}
 use Rattle.tr_lines.specs.Lines.{HasNoFeed, lines_of, text_of_line, whole_lines_of, with_last}
-use Rattle.tr_lines.specs.Reading.{GoesTooFar, Reading, ReadsAll, ReadsLine, ReadsOn, budget, longest_piece}
+use Rattle.tr_lines.specs.Reading.{GoesTooFar, Reading, ReadsAll, ReadsLine, ReadsOn, budget}
 use Rattle.tr_lines.specs.declared.reader.Found.{Found}
 use Rattle.tr_lines.specs.declared.reader.Found.TheVariants.{Last, Whole}
 use Rattle.tr_outcome.specs.Text.{Text}
@@ -20,16 +20,16 @@ use Rattle.tr_record.proofs.ByteLemmas.{and_then_bytes-append, and_then_bytes-no
 use Rattle.tr_record.specs.Bytes.{and_then_bytes}
 use Rattle.tr_stream.specs.Rules.{by_history, by_state}
 use Rattle.tr_stream.specs.State.{StreamState}
-use Rattle.tr_terms.specs.declared.limits.TheConstants.{LONGEST_SCRIPT}
+use Rattle.tr_terms.specs.declared.limits.TheConstants.{LONGEST_PIECE, LONGEST_SCRIPT}
 
--- ---- where a run stands between two lines
+-- ---- where a run is between two lines
 
 pub record Going (given now taken wrote_now : Option (List ℕ)) (reader : Reading) (world : World StreamState) (refused : ℕ) : Type 0 where
   pub seen : List (List ℕ)
   pub are_lines : AreLines seen
   pub read : now ≡ and_then_bytes given (joined seen ++ reader.held)
   pub total : reader.total ≡ length (joined seen ++ reader.held)
-  pub wrote : wrote_now ≡ and_then_bytes taken (answers_to seen)
+  pub wrote : wrote_now ≡ and_then_bytes taken (text_answered seen)
   pub left : world ≡ world_after by_state [] seen
   pub refusals : refused ≡ refused_in by_history [] seen
   pub fits : refused + budget reader ≤ LONGEST_SCRIPT
@@ -47,20 +47,32 @@ Going-first given taken reader world empty total none = record {
   fits = omega (arith, total, ap length empty);
 }
 
-module _ (given now taken wrote_now : Option (List ℕ)) (reader : Reading) (world : World StreamState) (refused : ℕ) (g : Going given now taken wrote_now reader world refused) where
+module _ (given now taken wrote_now : Option (List ℕ)) (reader : Reading) (world : World StreamState) (refused : ℕ)
+    (g : Going given now taken wrote_now reader world refused) where
   -- what came so far, and then more
-  more_read : (after : Option (List ℕ)) (more bytes : List ℕ) → after ≡ and_then_bytes now more → reader.held ++ more ≡ bytes → after ≡ and_then_bytes given (joined g.seen ++ bytes)
+  more_read : (after : Option (List ℕ)) (more bytes : List ℕ) → after ≡ and_then_bytes now more
+      → reader.held ++ more ≡ bytes → after ≡ and_then_bytes given (joined g.seen ++ bytes)
   more_read after more bytes came is =
       came ∙ ap (λ k. and_then_bytes k more) g.read ∙ and_then_bytes-append given (joined g.seen ++ reader.held) more
       ∙ ap (and_then_bytes given) (append_assoc (joined g.seen) reader.held more ∙ ap (λ bs. joined g.seen ++ bs) is)
 
-  -- what came so far, and then more, is no longer than a script may be, where the reader counted no more than that
-  within_limit : (reader' : Reading) (more bytes : List ℕ) → reader.held ++ more ≡ bytes → reader'.total ≡ reader.total + length more → reader'.total ≤ LONGEST_SCRIPT
+  -- what came so far, and then more, is no longer than a script may be, if the reader counted no more than that
+  within_limit : (reader' : Reading) (more bytes : List ℕ) → reader.held ++ more ≡ bytes
+      → reader'.total ≡ reader.total + length more → reader'.total ≤ LONGEST_SCRIPT
       → length (joined g.seen ++ bytes) ≤ LONGEST_SCRIPT
   within_limit reader' more bytes is total most =
-      omega (arith, most, total, g.total, length-append (joined g.seen) reader.held, length-append reader.held more, ap length is, length-append (joined g.seen) bytes)
+      omega (
+        arith,
+        most,
+        total,
+        g.total,
+        length-append (joined g.seen) reader.held,
+        length-append reader.held more,
+        ap length is,
+        length-append (joined g.seen) bytes,
+      )
 
-  -- the bytes up to a line feed make one line more
+  -- the bytes up to a newline make one more line
   joined-line : (raw rest : List ℕ) → joined g.seen ++ (raw ++ 10 ∷ rest) ≡ joined (g.seen ++ raw ∷ []) ++ rest
   joined-line raw rest =
       ap (λ bs. joined g.seen ++ bs) (sym (append_assoc raw (10 ∷ []) rest)) ∙ sym (append_assoc (joined g.seen) (raw ++ 10 ∷ []) rest)
@@ -71,35 +83,41 @@ module _ (given now taken wrote_now : Option (List ℕ)) (reader : Reading) (wor
   whole_seen raw = whole_lines_of-joined g.seen raw g.are_lines
 
   -- the step that the text of a line takes, by what streams hold
-  by_states : (raw : List ℕ) (text : Option (List ℕ)) → text ≡ text_of_line raw → text_step by_state world text ≡ line_step by_state (world_after by_state [] g.seen) raw
+  by_states : (raw : List ℕ) (text : Option (List ℕ)) → text ≡ text_of_line raw
+      → text_step by_state world text ≡ line_step by_state (world_after by_state [] g.seen) raw
   by_states raw text is = ap₂ (text_step by_state) g.left is ∙ line_step-text by_state (world_after by_state [] g.seen) raw
 
   -- both say the same
-  agrees : (raw : List ℕ) → StepsAgree (line_step by_state (world_after by_state [] g.seen) raw) (line_step by_history (world_after by_history [] g.seen) raw)
+  agrees : (raw : List ℕ) → StepsAgree (line_step by_state (world_after by_state [] g.seen) raw)
+      (line_step by_history (world_after by_history [] g.seen) raw)
   agrees raw = line-agree raw (world_after by_state [] g.seen) (world_after by_history [] g.seen) (agree-after g.seen [] [] tt)
 
-  same_text : (raw : List ℕ) (text : Option (List ℕ)) → text ≡ text_of_line raw → (text_step by_state world text).text ≡ (line_step by_history (world_after by_history [] g.seen) raw).text
+  same_text : (raw : List ℕ) (text : Option (List ℕ)) → text ≡ text_of_line raw
+      → (text_step by_state world text).text ≡ (line_step by_history (world_after by_history [] g.seen) raw).text
   same_text raw text is = ap (λ (s : Step StreamState). s.text) (by_states raw text is) ∙ (agrees raw).text
 
-  module _ (after wrote' : Option (List ℕ)) (reader' : Reading) (world' : World StreamState) (refused' : ℕ) (text : Option (List ℕ)) (says : text ≡ reader'.line)
+  module _ (after wrote' : Option (List ℕ)) (reader' : Reading) (world' : World StreamState) (refused' : ℕ)
+      (text : Option (List ℕ)) (says : text ≡ reader'.line)
       (wrote : wrote' ≡ and_then_bytes wrote_now (text_step by_state world text).text) (left : world' ≡ (text_step by_state world text).world)
       (refusals : refused' ≡ refused + one_if (text_step by_state world text).is_refused) where
-    wrote_more : (raw : List ℕ) → reader'.line ≡ text_of_line raw → wrote' ≡ and_then_bytes taken (answers_to (g.seen ++ raw ∷ []))
+    wrote_more : (raw : List ℕ) → reader'.line ≡ text_of_line raw → wrote' ≡ and_then_bytes taken (text_answered (g.seen ++ raw ∷ []))
     wrote_more raw is =
         wrote ∙ ap₂ and_then_bytes g.wrote (same_text raw text (says ∙ is))
-        ∙ and_then_bytes-append taken (answers_to g.seen) (line_step by_history (world_after by_history [] g.seen) raw).text
+        ∙ and_then_bytes-append taken (text_answered g.seen) (line_step by_history (world_after by_history [] g.seen) raw).text
         ∙ ap (and_then_bytes taken) (sym (answers-push by_history [] g.seen raw))
 
     refused_more : (raw : List ℕ) → reader'.line ≡ text_of_line raw → refused' ≡ refused_in by_history [] (g.seen ++ raw ∷ [])
     refused_more raw is =
-        refusals ∙ ap₂ (λ n b. n + one_if b) g.refusals (ap (λ (s : Step StreamState). s.is_refused) (by_states raw text (says ∙ is)) ∙ (agrees raw).is_refused)
+        refusals ∙ ap₂ (λ n b. n + one_if b) g.refusals
+        (ap (λ (s : Step StreamState). s.is_refused) (by_states raw text (says ∙ is)) ∙ (agrees raw).is_refused)
         ∙ sym (refused_in-push by_history [] g.seen raw)
 
     left_more : (raw : List ℕ) → reader'.line ≡ text_of_line raw → world' ≡ world_after by_state [] (g.seen ++ raw ∷ [])
     left_more raw is = left ∙ ap (λ (s : Step StreamState). s.world) (by_states raw text (says ∙ is)) ∙ sym (world_after-push by_state [] g.seen raw)
 
     -- the sessions that are left are the script's
-    agree_left : (raw : List ℕ) → reader'.line ≡ text_of_line raw → (script : List ℕ) → lines_of script ≡ g.seen ++ with_last raw → WorldsAgree world' (world_left script)
+    agree_left : (raw : List ℕ) → reader'.line ≡ text_of_line raw → (script : List ℕ)
+        → lines_of script ≡ g.seen ++ with_last raw → WorldsAgree world' (world_left script)
     agree_left raw is script lines =
         let seen : world_after by_history [] (g.seen ++ raw ∷ []) ≡ world_left script =
         world_after-append by_history [] g.seen (raw ∷ []) ∙ world_after-last by_history (world_after by_history [] g.seen) raw
@@ -130,7 +148,8 @@ module _ (given now taken wrote_now : Option (List ℕ)) (reader : Reading) (wor
     }
 
     -- the last line was answered
-    pub Going-last : ReadsOn now after reader reader' → reader'.held ≡ [] → reader'.total ≤ LONGEST_SCRIPT → Ran given after taken wrote' world' refused'
+    pub Going-last : ReadsOn now after reader reader' → reader'.held ≡ [] → reader'.total ≤ LONGEST_SCRIPT
+        → Ran given after taken wrote' world' refused'
     Going-last r none most =
         let lines = lines_of-joined g.seen r.raw g.are_lines ∙ ap (λ ls. g.seen ++ ls) (lines_of-last r.raw r.no_feed) in
         let all : reader.held ++ r.more ≡ r.raw = r.bytes ∙ ap (λ bs. r.raw ++ bs) none ∙ append-nil r.raw in
@@ -139,8 +158,8 @@ module _ (given now taken wrote_now : Option (List ℕ)) (reader : Reading) (wor
           fits = within_limit reader' r.more r.raw all r.total most;
           read = more_read after r.more _ r.came all;
           wrote = wrote_more r.raw r.text ∙ ap (and_then_bytes taken) (answers-append by_history [] g.seen (r.raw ∷ [])
-              ∙ ap (λ t. answers_to g.seen ++ t) (answers-last by_history (world_after by_history [] g.seen) r.raw)
-              ∙ sym (answers-append by_history [] g.seen (with_last r.raw)) ∙ ap answers_to (sym lines));
+              ∙ ap (λ t. text_answered g.seen ++ t) (answers-last by_history (world_after by_history [] g.seen) r.raw)
+              ∙ sym (answers-append by_history [] g.seen (with_last r.raw)) ∙ ap text_answered (sym lines));
           refusals = refused_more r.raw r.text ∙ refused_in-append by_history [] g.seen (r.raw ∷ [])
               ∙ ap (λ n. refused_in by_history [] g.seen + n) (refused_in-last by_history (world_after by_history [] g.seen) r.raw)
               ∙ sym (refused_in-append by_history [] g.seen (with_last r.raw)) ∙ ap (refused_in by_history []) (sym lines);
@@ -154,21 +173,24 @@ module _ (given now taken wrote_now : Option (List ℕ)) (reader : Reading) (wor
   whole_so_far raw none = whole_seen raw ∙ ap (λ ls. g.seen ++ ls) (whole_lines_of-last raw none) ∙ append-nil g.seen
 
   -- the source failed: the line that broke off isn't answered
-  pub Going-breaks : (after : Option (List ℕ)) (reader' : Reading) → reader'.total ≤ LONGEST_SCRIPT → ReadsAll now after reader reader' → BrokeOff given after taken wrote_now
+  pub Going-breaks : (after : Option (List ℕ)) (reader' : Reading) → reader'.total ≤ LONGEST_SCRIPT
+      → ReadsAll now after reader reader' → BrokeOff given after taken wrote_now
   Going-breaks after reader' most r =
       let all : reader.held ++ r.on.more ≡ r.on.raw = r.on.bytes ∙ ap (λ bs. r.on.raw ++ bs) r.nothing_held ∙ append-nil r.on.raw in
       record {
         script = joined g.seen ++ r.on.raw;
         fits = within_limit reader' r.on.more r.on.raw all r.on.total most;
         read = more_read after r.on.more _ r.on.came all;
-        wrote = g.wrote ∙ ap (λ ls. and_then_bytes taken (answers_to ls)) (sym (whole_so_far r.on.raw r.on.no_feed));
+        wrote = g.wrote ∙ ap (λ ls. and_then_bytes taken (text_answered ls)) (sym (whole_so_far r.on.raw r.on.no_feed));
       }
 
   -- the script is too long
   pub Going-too_far : (after : Option (List ℕ)) (reader' : Reading) → GoesTooFar now after reader reader' → WentTooFar given after taken wrote_now
   Going-too_far after reader' r =
       let on = r.all.on in
-      let came : r.within ≡ and_then_bytes given (joined g.seen ++ on.raw) = more_read r.within on.more _ on.came (on.bytes ∙ ap (λ bs. on.raw ++ bs) r.all.nothing_held ∙ append-nil on.raw) in
+      let came : r.within ≡ and_then_bytes given (joined g.seen ++ on.raw) =
+      more_read r.within on.more _ on.came (on.bytes ∙ ap (λ bs. on.raw ++ bs) r.all.nothing_held ∙ append-nil on.raw)
+      in
       record {
         script = joined g.seen ++ on.raw;
         byte = r.byte;
@@ -185,15 +207,15 @@ module _ (given now taken wrote_now : Option (List ℕ)) (reader : Reading) (wor
           length-append (joined g.seen) on.raw,
         );
         read = r.came ∙ ap (λ k. and_then_bytes k (r.byte ∷ [])) came ∙ and_then_bytes-append given (joined g.seen ++ on.raw) (r.byte ∷ []);
-        wrote = g.wrote ∙ ap (λ ls. and_then_bytes taken (answers_to ls)) (sym (whole_so_far on.raw on.no_feed));
+        wrote = g.wrote ∙ ap (λ ls. and_then_bytes taken (text_answered ls)) (sym (whole_so_far on.raw on.no_feed));
       }
 
-  -- of what came before the last piece, no whole line but one isn't seen
-  reached_by : (front rest script : List ℕ) → script ≡ front ++ rest → length rest ≤ longest_piece → length (whole_lines_of front) ≤ length g.seen + 1
-      → length (whole_lines_of (take (length script - longest_piece) script)) ≤ length g.seen + 1
+  -- of what came before the last piece, at most one whole line isn't seen
+  reached_by : (front rest script : List ℕ) → script ≡ front ++ rest → length rest ≤ LONGEST_PIECE → length (whole_lines_of front) ≤ length g.seen + 1
+      → length (whole_lines_of (take (length script - LONGEST_PIECE) script)) ≤ length g.seen + 1
   reached_by front rest script is short few =
-      let before = ap (λ (bs : List ℕ). length (whole_lines_of (take (length bs - longest_piece) bs))) is in
-      omega (arith, before, whole_lines-front front rest longest_piece short, few)
+      let before = ap (λ (bs : List ℕ). length (whole_lines_of (take (length bs - LONGEST_PIECE) bs))) is in
+      omega (arith, before, whole_lines-front front rest LONGEST_PIECE short, few)
 
   -- whole lines end to end are just these
   whole_joined : (lines : List (List ℕ)) → AreLines lines → whole_lines_of (joined lines) ≡ lines
@@ -203,22 +225,26 @@ module _ (given now taken wrote_now : Option (List ℕ)) (reader : Reading) (wor
   first_seen : (rest : List (List ℕ)) → take (length g.seen) (g.seen ++ rest) ≡ g.seen
   first_seen rest = take-append_seam g.seen rest
 
-  -- memory was refused while a line was read
-  pub Going-memory : (after : Option (List ℕ)) (reader' : Reading) → reader'.total ≤ LONGEST_SCRIPT → length reader'.held ≤ longest_piece → ReadsOn now after reader reader'
+  -- an allocation failed while a line was read
+  pub Going-memory : (after : Option (List ℕ)) (reader' : Reading) → reader'.total ≤ LONGEST_SCRIPT
+      → length reader'.held ≤ LONGEST_PIECE → ReadsOn now after reader reader'
       → AnsweredSome given after taken wrote_now
   Going-memory after reader' most held r = record {
     script = joined g.seen ++ (r.raw ++ reader'.held);
     count = length g.seen;
     fits = within_limit reader' r.more (r.raw ++ reader'.held) r.bytes r.total most;
     read = more_read after r.more _ r.came r.bytes;
-    wrote = g.wrote ∙ ap (λ ls. and_then_bytes taken (answers_to ls)) (sym (ap (take (length g.seen)) (whole_seen (r.raw ++ reader'.held)) ∙ first_seen (whole_lines_of (r.raw ++ reader'.held))));
-    reached = reached_by (joined g.seen ++ r.raw) reader'.held (joined g.seen ++ (r.raw ++ reader'.held)) (sym (append_assoc (joined g.seen) r.raw reader'.held)) held
+    wrote = g.wrote ∙ ap (λ ls. and_then_bytes taken (text_answered ls))
+        (sym (ap (take (length g.seen)) (whole_seen (r.raw ++ reader'.held))
+        ∙ first_seen (whole_lines_of (r.raw ++ reader'.held))));
+    reached = reached_by (joined g.seen ++ r.raw) reader'.held (joined g.seen ++ (r.raw ++ reader'.held))
+        (sym (append_assoc (joined g.seen) r.raw reader'.held)) held
         (omega (arith, ap length (whole_so_far r.raw r.no_feed)));
   }
 
   -- ---- a line that came
 
-  -- `raw` came, the next line; what is known of the script begins with it, and is all of it where this is the last line
+  -- `raw` came, the next line; what is known of the script begins with it, and is all of it if this is the last line
   pub record Comes (content after : Option (List ℕ)) (reader' : Reading) : Type 0 where
     pub raw : List ℕ
     pub script : List ℕ
@@ -227,32 +253,41 @@ module _ (given now taken wrote_now : Option (List ℕ)) (reader : Reading) (wor
     pub fits : length script ≤ LONGEST_SCRIPT
     pub text : reader'.line ≡ text_of_line raw
     pub read : after ≡ and_then_bytes given script
-    pub answer : script_text script ≡ answers_to (g.seen ++ raw ∷ []) ++ more
+    pub answer : script_text script ≡ text_answered (g.seen ++ raw ∷ []) ++ more
     pub whole : whole_lines_of script ≡ g.seen ++ lines
-    pub within : (length (answers_to (g.seen ++ raw ∷ [])) ≤ length (answers_to (whole_lines_of script))) ⊎ (after ≡ content)
-    pub reached : length (whole_lines_of (take (length script - longest_piece) script)) ≤ length g.seen + 1
+    pub within : (length (text_answered (g.seen ++ raw ∷ [])) ≤ length (text_answered (whole_lines_of script))) ⊎ (after ≡ content)
+    pub reached : length (whole_lines_of (take (length script - LONGEST_PIECE) script)) ≤ length g.seen + 1
 
-  Comes-whole : (content after : Option (List ℕ)) (reader' : Reading) → reader'.total ≤ LONGEST_SCRIPT → length reader'.held ≤ longest_piece → ReadsLine now after reader reader' → Comes content after reader'
+  Comes-whole : (content after : Option (List ℕ)) (reader' : Reading) → reader'.total ≤ LONGEST_SCRIPT
+      → length reader'.held ≤ LONGEST_PIECE → ReadsLine now after reader reader' → Comes content after reader'
   Comes-whole content after reader' most held r =
       let are = AreLines-push g.seen r.raw g.are_lines r.no_feed in
       let lines = lines_of-joined (g.seen ++ r.raw ∷ []) reader'.held are in
       let whole = whole_lines_of-joined (g.seen ++ r.raw ∷ []) reader'.held are in
-      let reached = ap answers_to whole ∙ answers-append by_history [] (g.seen ++ r.raw ∷ []) (whole_lines_of reader'.held) in
+      let reached = ap text_answered whole ∙ answers-append by_history [] (g.seen ++ r.raw ∷ []) (whole_lines_of reader'.held) in
       record {
         raw = r.raw;
         script = joined (g.seen ++ r.raw ∷ []) ++ reader'.held;
         more = answers by_history (world_after by_history [] (g.seen ++ r.raw ∷ [])) (lines_of reader'.held);
         lines = r.raw ∷ whole_lines_of reader'.held;
-        fits = subst (λ (bs : List ℕ). length bs ≤ LONGEST_SCRIPT) (joined-line r.raw reader'.held) (within_limit reader' r.more (r.raw ++ 10 ∷ reader'.held) r.bytes r.total most);
+        fits = subst (λ (bs : List ℕ). length bs ≤ LONGEST_SCRIPT) (joined-line r.raw reader'.held)
+            (within_limit reader' r.more (r.raw ++ 10 ∷ reader'.held) r.bytes r.total most);
         text = r.text;
         read = more_read after r.more _ r.came r.bytes ∙ ap (and_then_bytes given) (joined-line r.raw reader'.held);
-        answer = ap answers_to lines ∙ answers-append by_history [] (g.seen ++ r.raw ∷ []) (lines_of reader'.held);
+        answer = ap text_answered lines ∙ answers-append by_history [] (g.seen ++ r.raw ∷ []) (lines_of reader'.held);
         whole = whole ∙ append_assoc g.seen (r.raw ∷ []) (whole_lines_of reader'.held);
-        within = inl (omega (arith, ap length reached, length-append (answers_to (g.seen ++ r.raw ∷ [])) (answers by_history (world_after by_history [] (g.seen ++ r.raw ∷ [])) (whole_lines_of reader'.held))));
-        reached = reached_by (joined (g.seen ++ r.raw ∷ [])) reader'.held _ refl held (omega (arith, ap length (whole_joined (g.seen ++ r.raw ∷ []) are), length-append g.seen (r.raw ∷ [])));
+        within = inl (omega (
+          arith,
+          ap length reached,
+          length-append (text_answered (g.seen ++ r.raw ∷ []))
+              (answers by_history (world_after by_history [] (g.seen ++ r.raw ∷ [])) (whole_lines_of reader'.held)),
+        ));
+        reached = reached_by (joined (g.seen ++ r.raw ∷ [])) reader'.held _ refl held
+            (omega (arith, ap length (whole_joined (g.seen ++ r.raw ∷ []) are), length-append g.seen (r.raw ∷ [])));
       }
 
-  Comes-last : (content after : Option (List ℕ)) (reader' : Reading) → reader'.total ≤ LONGEST_SCRIPT → ReadsAll now after reader reader' → after ≡ content → Comes content after reader'
+  Comes-last : (content after : Option (List ℕ)) (reader' : Reading) → reader'.total ≤ LONGEST_SCRIPT
+      → ReadsAll now after reader reader' → after ≡ content → Comes content after reader'
   Comes-last content after reader' most r end =
       let on = r.on in
       let all : reader.held ++ on.more ≡ on.raw = on.bytes ∙ ap (λ bs. on.raw ++ bs) r.nothing_held ∙ append-nil on.raw in
@@ -265,38 +300,44 @@ module _ (given now taken wrote_now : Option (List ℕ)) (reader : Reading) (wor
         fits = within_limit reader' on.more on.raw all on.total most;
         text = on.text;
         read = more_read after on.more _ on.came all;
-        answer = ap answers_to lines ∙ answers-append by_history [] g.seen (with_last on.raw)
-            ∙ ap (λ t. answers_to g.seen ++ t) (sym (answers-last by_history (world_after by_history [] g.seen) on.raw))
-            ∙ sym (answers-append by_history [] g.seen (on.raw ∷ [])) ∙ sym (append-nil (answers_to (g.seen ++ on.raw ∷ [])));
+        answer = ap text_answered lines ∙ answers-append by_history [] g.seen (with_last on.raw)
+            ∙ ap (λ t. text_answered g.seen ++ t) (sym (answers-last by_history (world_after by_history [] g.seen) on.raw))
+            ∙ sym (answers-append by_history [] g.seen (on.raw ∷ [])) ∙ sym (append-nil (text_answered (g.seen ++ on.raw ∷ [])));
         whole = whole_seen on.raw ∙ ap (λ ls. g.seen ++ ls) (whole_lines_of-last on.raw on.no_feed);
         within = inr end;
-        reached = reached_by (joined g.seen ++ on.raw) [] _ (sym (append-nil (joined g.seen ++ on.raw))) (omega arith) (omega (arith, ap length (whole_so_far on.raw on.no_feed)));
+        reached = reached_by (joined g.seen ++ on.raw) [] _ (sym (append-nil (joined g.seen ++ on.raw))) (omega arith)
+            (omega (arith, ap length (whole_so_far on.raw on.no_feed)));
       }
 
-  pub Comes-found : (content : Option (List ℕ)) (found : Found) (after : Option (List ℕ)) (reader' : Reading) → reader'.total ≤ LONGEST_SCRIPT → length reader'.held ≤ longest_piece
-      → (found ≡ Whole → ReadsLine now after reader reader') → (found ≡ Last → ReadsAll now after reader reader' × (after ≡ content)) → Comes content after reader'
+  pub Comes-found : (content : Option (List ℕ)) (found : Found) (after : Option (List ℕ)) (reader' : Reading)
+      → reader'.total ≤ LONGEST_SCRIPT → length reader'.held ≤ LONGEST_PIECE
+      → (found ≡ Whole → ReadsLine now after reader reader')
+      → (found ≡ Last → ReadsAll now after reader reader' × (after ≡ content)) → Comes content after reader'
   Comes-found content Whole after reader' most held whole last = Comes-whole content after reader' most held (whole refl)
   Comes-found content Last after reader' most held whole last = Comes-last content after reader' most (last refl).0 (last refl).1
 
-  -- the sink failed: a front part of the answer went out
-  pub Comes-wrote : (content after wrote' : Option (List ℕ)) (reader' : Reading) (text : Option (List ℕ)) (k : ℕ) → text ≡ reader'.line → k ≤ length (text_step by_state world text).text
-      → wrote' ≡ and_then_bytes wrote_now (take k (text_step by_state world text).text) → Comes content after reader' → WroteSome given after taken wrote' content
+  -- the sink failed: a prefix of the answer went out
+  pub Comes-wrote : (content after wrote' : Option (List ℕ)) (reader' : Reading) (text : Option (List ℕ)) (k : ℕ)
+      → text ≡ reader'.line → k ≤ length (text_step by_state world text).text
+      → wrote' ≡ and_then_bytes wrote_now (take k (text_step by_state world text).text) → Comes content after reader'
+      → WroteSome given after taken wrote' content
   Comes-wrote content after wrote' reader' text k says fits wrote c =
       let line = (line_step by_history (world_after by_history [] g.seen) c.raw).text in
       let step = same_text c.raw text (says ∙ c.text) in
       let short : k ≤ length line = omega (arith, fits, ap length step) in
       let pushed = answers-push by_history [] g.seen c.raw in
-      let reach = ap length pushed ∙ length-append (answers_to g.seen) line in
-      let some : take (length (answers_to g.seen) + k) (script_text c.script) ≡ answers_to g.seen ++ take k line =
-      ap (take (length (answers_to g.seen) + k)) (c.answer ∙ ap (λ t. t ++ c.more) pushed)
-      ∙ take-append-le (length (answers_to g.seen) + k) (answers_to g.seen ++ line) c.more (omega (arith, short, length-append (answers_to g.seen) line))
-      ∙ take-append-add (answers_to g.seen) line k in
+      let reach = ap length pushed ∙ length-append (text_answered g.seen) line in
+      let some : take (length (text_answered g.seen) + k) (script_text c.script) ≡ text_answered g.seen ++ take k line =
+      ap (take (length (text_answered g.seen) + k)) (c.answer ∙ ap (λ t. t ++ c.more) pushed)
+      ∙ take-append-le (length (text_answered g.seen) + k) (text_answered g.seen ++ line) c.more
+      (omega (arith, short, length-append (text_answered g.seen) line))
+      ∙ take-append-add (text_answered g.seen) line k in
       record {
         script = c.script;
-        count = length (answers_to g.seen) + k;
+        count = length (text_answered g.seen) + k;
         fits = c.fits;
         read = c.read;
-        wrote = wrote ∙ ap₂ (λ o t. and_then_bytes o (take k t)) g.wrote step ∙ and_then_bytes-append taken (answers_to g.seen) (take k line)
+        wrote = wrote ∙ ap₂ (λ o t. and_then_bytes o (take k t)) g.wrote step ∙ and_then_bytes-append taken (text_answered g.seen) (take k line)
             ∙ ap (and_then_bytes taken) (sym some);
         within = elim c.within [
           | inl before ↦ inl (omega (arith, before, reach, short))
@@ -304,13 +345,14 @@ module _ (given now taken wrote_now : Option (List ℕ)) (reader : Reading) (wor
         ];
       }
 
-  -- memory was refused while a line was answered
-  pub Comes-memory : (content after wrote' : Option (List ℕ)) (reader' : Reading) → wrote' ≡ wrote_now → Comes content after reader' → AnsweredSome given after taken wrote'
+  -- an allocation failed while a line was answered
+  pub Comes-memory : (content after wrote' : Option (List ℕ)) (reader' : Reading) → wrote' ≡ wrote_now
+      → Comes content after reader' → AnsweredSome given after taken wrote'
   Comes-memory content after wrote' reader' same c = record {
     script = c.script;
     count = length g.seen;
     fits = c.fits;
     read = c.read;
-    wrote = same ∙ g.wrote ∙ ap (λ ls. and_then_bytes taken (answers_to ls)) (sym (ap (take (length g.seen)) c.whole ∙ first_seen c.lines));
+    wrote = same ∙ g.wrote ∙ ap (λ ls. and_then_bytes taken (text_answered ls)) (sym (ap (take (length g.seen)) c.whole ∙ first_seen c.lines));
     reached = c.reached;
   }

@@ -1,4 +1,4 @@
--- The sessions of a console by what their streams hold, and by the histories of these.
+-- The sessions of a console by what their streams hold, and by those streams' histories.
 use Rattle.std.specs.Prelude.{◌≡◌, [], ◌∷◌}
 use Rattle.tr_calls.specs.World.{World}
 use Rattle.tr_session.specs.Agreement.{SessionsAgree}

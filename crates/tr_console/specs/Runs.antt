@@ -6,20 +6,19 @@ use Rattle.tr_console.specs.Agreement.{WorldsAgree}
 use Rattle.tr_console.specs.Script.{answers, refused_in, script_text, text_step, world_after}
 use Rattle.tr_console.specs.Steps.{Step}
 use Rattle.tr_lines.specs.Lines.{lines_of, whole_lines_of}
-use Rattle.tr_lines.specs.Reading.{longest_piece}
 use Rattle.tr_outcome.specs.Text.{Text}
 use Rattle.tr_record.specs.Bytes.{and_then_bytes}
 use Rattle.tr_stream.specs.Rules.{Traced, by_history, by_state}
 use Rattle.tr_stream.specs.State.{StreamState}
-use Rattle.tr_terms.specs.declared.limits.TheConstants.{LONGEST_SCRIPT}
+use Rattle.tr_terms.specs.declared.limits.TheConstants.{LONGEST_PIECE, LONGEST_SCRIPT}
 
 -- what a console that holds these sessions does at a line's text
 abbrev pub step_of_line : World StreamState → Option (Bor (List ℕ)) → Step StreamState
 step_of_line w line = text_step by_state w (option_map (λ t. t.now) line)
 
 -- the answer to lines, the first ones of a script
-abbrev pub answers_to : List (List ℕ) → Text
-answers_to lines = answers by_history [] lines
+abbrev pub text_answered : List (List ℕ) → Text
+text_answered lines = answers by_history [] lines
 
 -- how many lines of a script are refused
 abbrev pub refused_lines : List ℕ → ℕ
@@ -31,8 +30,8 @@ world_left script = world_after by_history [] (lines_of script)
 
 -- what the source had given and the sink taken before the run, and after it
 module _ (given given_now taken taken_now : Option (List ℕ)) where
-  -- the whole script was read, its whole answer written, and so many of its lines refused; the sessions are as the script
-  -- leaves them
+  -- the whole script was read, its whole answer written, and this number of its lines refused; the sessions are as the
+  -- script leaves them
   pub record Ran (world : World StreamState) (refused : ℕ) : Type 0 where
     pub script : List ℕ
     pub fits : length script ≤ LONGEST_SCRIPT
@@ -46,7 +45,7 @@ module _ (given given_now taken taken_now : Option (List ℕ)) where
     pub script : List ℕ
     pub fits : length script ≤ LONGEST_SCRIPT
     pub read : given_now ≡ and_then_bytes given script
-    pub wrote : taken_now ≡ and_then_bytes taken (answers_to (whole_lines_of script))
+    pub wrote : taken_now ≡ and_then_bytes taken (text_answered (whole_lines_of script))
 
   -- a script of the greatest length was read, and one byte more; its whole lines are answered
   pub record WentTooFar : Type 0 where
@@ -54,23 +53,23 @@ module _ (given given_now taken taken_now : Option (List ℕ)) where
     pub byte : ℕ
     pub full : length script ≡ LONGEST_SCRIPT
     pub read : given_now ≡ and_then_bytes given (script ++ byte ∷ [])
-    pub wrote : taken_now ≡ and_then_bytes taken (answers_to (whole_lines_of script))
+    pub wrote : taken_now ≡ and_then_bytes taken (text_answered (whole_lines_of script))
 
-  -- this was read, and a front part of its answer written, which ends within the answer to its whole lines, unless
-  -- the source has nothing else
+  -- this was read, and a prefix of its answer written, which ends within the answer to its whole lines, unless the source
+  -- has nothing else
   pub record WroteSome (content : Option (List ℕ)) : Type 0 where
     pub script : List ℕ
     pub count : ℕ
     pub fits : length script ≤ LONGEST_SCRIPT
     pub read : given_now ≡ and_then_bytes given script
     pub wrote : taken_now ≡ and_then_bytes taken (take count (script_text script))
-    pub within : (count ≤ length (answers_to (whole_lines_of script))) ⊎ (given_now ≡ content)
+    pub within : (count ≤ length (text_answered (whole_lines_of script))) ⊎ (given_now ≡ content)
 
-  -- this was read, and so many of its whole lines answered: all but one, apart from those that end in the last piece
+  -- this was read, and this number of its whole lines answered: at least all but one that end before the last piece
   pub record AnsweredSome : Type 0 where
     pub script : List ℕ
     pub count : ℕ
     pub fits : length script ≤ LONGEST_SCRIPT
     pub read : given_now ≡ and_then_bytes given script
-    pub wrote : taken_now ≡ and_then_bytes taken (answers_to (take count (whole_lines_of script)))
-    pub reached : length (whole_lines_of (take (length script - longest_piece) script)) ≤ count + 1
+    pub wrote : taken_now ≡ and_then_bytes taken (text_answered (take count (whole_lines_of script)))
+    pub reached : length (whole_lines_of (take (length script - LONGEST_PIECE) script)) ≤ count + 1

@@ -4,8 +4,8 @@ use Rattle.std.specs.Prelude.{ℕ, ◌+◌, List, [], ◌∷◌, ◌++◌, Optio
 use Rattle.tr_calls.specs.World.{World}
 use Rattle.tr_command.specs.Asked.{Asked}
 use Rattle.tr_command.specs.Language.{asked_of}
-use Rattle.tr_console.specs.Answers.{answer_to}
-use Rattle.tr_console.specs.Steps.{Step, bad_line, skipped}
+use Rattle.tr_console.specs.Answers.{request_step}
+use Rattle.tr_console.specs.Steps.{Step, bad_line_step, skipped_step}
 use Rattle.tr_lines.specs.Lines.{lines_of, text_of_line}
 use Rattle.tr_lines.specs.Words.{words_of, is_skipped}
 use Rattle.tr_outcome.specs.Text.{Text}
@@ -13,17 +13,17 @@ use Rattle.tr_stream.specs.Rules.{StreamRules, by_history}
 
 -- the answer to what the words of a line ask for; none is a bad line
 abbrev pub asked_step : {S : Type 0} → StreamRules S → World S → Option Asked → Step S
-asked_step rules w asked = option_map_or (answer_to rules w) asked (bad_line w)
+asked_step rules w asked = option_map_or (request_step rules w) asked (bad_line_step w)
 
 -- the answer to the words of a line
 abbrev pub words_step : {S : Type 0} → StreamRules S → World S → List Text → Step S
 words_step rules w words =
-    if is_skipped words then skipped w
+    if is_skipped words then skipped_step w
     else asked_step rules w (asked_of (codes "tracerd" ∷ words))
 
 -- the answer to a line's text; none is a bad line
 abbrev pub text_step : {S : Type 0} → StreamRules S → World S → Option Text → Step S
-text_step rules w text = option_map_or (λ t. words_step rules w (words_of t)) text (bad_line w)
+text_step rules w text = option_map_or (λ t. words_step rules w (words_of t)) text (bad_line_step w)
 
 -- the answer to the bytes of a line
 unfoldable pub line_step : {S : Type 0} → StreamRules S → World S → List ℕ → Step S
@@ -39,7 +39,8 @@ world_after rules w (line ∷ lines) = world_after rules (line_step rules w line
 
 abbrev pub refused_in : {S : Type 0} → StreamRules S → World S → List (List ℕ) → ℕ
 refused_in rules w [] = 0
-refused_in rules w (line ∷ lines) = (if (line_step rules w line).is_refused then 1 else 0) + refused_in rules (line_step rules w line).world lines
+refused_in rules w (line ∷ lines) =
+    (if (line_step rules w line).is_refused then 1 else 0) + refused_in rules (line_step rules w line).world lines
 
 -- the whole answer to the whole script
 abbrev pub script_text : List ℕ → Text

@@ -1,9 +1,10 @@
 //! The sessions of a script, and the answer to each line.
 
 ghost use Rattle.std.specs.Prelude.{◌≡◌, ◌≤◌, [], IfOk, map, option_map, length, slice_get};
-ghost use Rattle.tr_command.specs.Asked.{IsOffset, asked_by, moment_in, offset_in};
+ghost use Rattle.tr_command.specs.Asked.{asked_by, moment_in, offset_in};
+ghost use Rattle.tr_terms.specs.Offsets.{IsOffset};
 ghost use Rattle.tr_command.specs.Language.{asked_of};
-ghost use Rattle.tr_console.specs.Answers.{RotatesOrAsks, answer_to, create_answer, channel_answer, thread_answer, start_answer, stop_answer, offer_answer, consume_answer, rotate_begin_answer, rotate_next_answer, rotate_finish_answer, rotate_answer, snapshot_answer, schedule_answer, tick_answer, fate_answer, status_answer, archives_answer, payload_of};
+ghost use Rattle.tr_console.specs.Answers.{RotatesOrAsks, request_step, create_step, channel_step, thread_step, start_step, stop_step, offer_step, consume_step, rotate_begin_step, rotate_next_step, rotate_finish_step, rotate_step, snapshot_step, schedule_step, tick_step, fate_step, status_step, archives_step, payload_of};
 ghost use Rattle.tr_console.specs.Replies.{Does};
 ghost use Rattle.tr_console.specs.Script.{asked_step, text_step};
 ghost use Rattle.tr_terms.specs.declared.limits.TheConstants.{LAST_MOMENT};
@@ -13,9 +14,9 @@ use indexmap::IndexMap;
 use std::alloc::{AllocError, Allocator, Global};
 use std::marker::Model;
 use tr_calls::{
-    ChannelShape, OfferTo, Sessions, add_channel_at, add_thread_at, fate_at, mode_of, offer_at,
-    rotate_at, rotate_begin_at, rotate_finish_at, rotate_next_at, schedule_at, shape_of,
-    snapshot_at, start_at, stop_at, take_at, tick_at,
+    ChannelShape, OfferTo, Sessions, add_channel_named, add_thread_named, fate_named, mode_of,
+    offer_named, rotate_begin_named, rotate_finish_named, rotate_named, rotate_next_named,
+    schedule_named, shape_of, snapshot_named, start_named, stop_named, take_named, tick_named,
 };
 use tr_command::{Request, parse};
 use tr_lines::{is_skipped_line, push_words};
@@ -52,7 +53,7 @@ impl<A: Allocator> Model for Console<A> {
     ghost invariant = { λ c. AreNamed (by_name c.sessions.entries) };
 }
 
-/// The payload of an offer: a text, and so many bytes `a` behind it.
+/// The payload of an offer: a text, and `fill` bytes `a` after it.
 fn payload<A: Allocator + Copy>(alloc: A, text: &str, fill: u32) -> Result<Vec<u8, A>, AllocError>
     ensures { IfOk result (λ v. v.items ≡ payload_of text.now fill) }
 {
@@ -77,7 +78,7 @@ impl<A: Allocator + Copy> Console<A> {
 
     /// Answers a line; `None` is a bad one. The words of the line are read with memory of `clap`.
     ///
-    /// Where memory is refused the line may have been done, or not, without its answer: the console is then to be dropped.
+    /// If an allocation fails, the line may have been done, or not, without its answer: the console must then be dropped.
     pub(crate) fn answer(
         &mut self,
         clap: Global,
@@ -103,7 +104,8 @@ impl<A: Allocator + Copy> Console<A> {
         clap: Global,
         words: &'a [&'a str],
     ) -> Result<Reply<A>, AllocError>
-        ensures { IfOk result (Does (asked_step by_state self.old (asked_of (map (λ w. w.now) words.entry.now))) self.new) }
+        ensures { IfOk result (Does (asked_step by_state self.old (asked_of (map (λ w. w.now) words.entry.now)))
+            self.new) }
     {
         match parse(clap, words)? {
             Some(request) => self.answer_request(request),
@@ -115,7 +117,7 @@ impl<A: Allocator + Copy> Console<A> {
     fn answer_request(&mut self, request: Request<'_>) -> Result<Reply<A>, AllocError>
         requires moment { moment_in (asked_by request) ≤ LAST_MOMENT }
         requires offset { IsOffset (offset_in (asked_by request)) }
-        ensures { IfOk result (Does (answer_to by_state self.old (asked_by request.entry)) self.new) }
+        ensures { IfOk result (Does (request_step by_state self.old (asked_by request.entry)) self.new) }
     {
         match request {
             Request::Create {
@@ -151,7 +153,7 @@ impl<A: Allocator + Copy> Console<A> {
     fn rotate_or_ask(&mut self, request: Request<'_>) -> Result<Reply<A>, AllocError>
         requires kind { RotatesOrAsks (asked_by request) }
         requires moment { moment_in (asked_by request) ≤ LAST_MOMENT }
-        ensures { IfOk result (Does (answer_to by_state self.old (asked_by request.entry)) self.new) }
+        ensures { IfOk result (Does (request_step by_state self.old (asked_by request.entry)) self.new) }
     {
         match request {
             Request::RotateBegin { session, moment } => self.rotate_begin(session, moment),
@@ -185,7 +187,7 @@ impl<A: Allocator + Copy> Console<A> {
         mode: SessionMode,
     ) -> Result<Reply<A>, AllocError>
         requires { IsOffset offset }
-        ensures { IfOk result (Does (create_answer self.old session.now uuid.now offset mode) self.new) }
+        ensures { IfOk result (Does (create_step self.old session.now uuid.now offset mode) self.new) }
     {
         let Some(offset) = OffsetMinutes::new(offset) else {
             unreachable!()
@@ -216,9 +218,10 @@ impl<A: Allocator + Copy> Console<A> {
         channel: &str,
         shape: ChannelShape,
     ) -> Result<Reply<A>, AllocError>
-        ensures { IfOk result (Does (channel_answer self.old session.now channel.now shape.size shape.count shape.mode) self.new) }
+        ensures { IfOk result (Does (channel_step self.old session.now channel.now shape.size shape.count
+            shape.mode) self.new) }
     {
-        if let Err(fault) = add_channel_at(&mut self.sessions, session, channel, shape) {
+        if let Err(fault) = add_channel_named(&mut self.sessions, session, channel, shape) {
             return refusal(self.alloc, fault);
         }
         let text = format!(in self.alloc; "channel {channel}\n")?;
@@ -227,9 +230,9 @@ impl<A: Allocator + Copy> Console<A> {
 
     /// `thread`
     fn add_thread(&mut self, session: &str, channel: &str) -> Result<Reply<A>, AllocError>
-        ensures { IfOk result (Does (thread_answer by_state self.old session.now channel.now) self.new) }
+        ensures { IfOk result (Does (thread_step by_state self.old session.now channel.now) self.new) }
     {
-        match add_thread_at(&mut self.sessions, session, channel) {
+        match add_thread_named(&mut self.sessions, session, channel) {
             Ok(stream) => {
                 let text = format!(in self.alloc; "stream {stream}\n")?;
                 Ok(Reply::done(text))
@@ -241,20 +244,20 @@ impl<A: Allocator + Copy> Console<A> {
     /// `start`
     fn start(&mut self, session: &str, moment: u64) -> Result<Reply<A>, AllocError>
         requires { moment ≤ LAST_MOMENT }
-        ensures { IfOk result (Does (start_answer by_state self.old session.now moment) self.new) }
+        ensures { IfOk result (Does (start_step by_state self.old session.now moment) self.new) }
     {
         let Some(moment) = Moment::new(moment) else {
             unreachable!()
         };
-        let answer = start_at(&mut self.sessions, session, moment);
+        let answer = start_named(&mut self.sessions, session, moment);
         done_reply(self.alloc, "started", answer)
     }
 
     /// `stop`
     fn stop(&mut self, session: &str) -> Result<Reply<A>, AllocError>
-        ensures { IfOk result (Does (stop_answer by_state self.old session.now) self.new) }
+        ensures { IfOk result (Does (stop_step by_state self.old session.now) self.new) }
     {
-        let answer = stop_at(&mut self.sessions, session);
+        let answer = stop_named(&mut self.sessions, session);
         done_reply(self.alloc, "stopped", answer)
     }
 
@@ -269,74 +272,75 @@ impl<A: Allocator + Copy> Console<A> {
         fill: u32,
     ) -> Result<Reply<A>, AllocError>
         requires { moment ≤ LAST_MOMENT }
-        ensures { IfOk result (Does (offer_answer by_state self.old session.now stream moment id text.now fill) self.new) }
+        ensures { IfOk result (Does (offer_step by_state self.old session.now stream moment id text.now fill)
+            self.new) }
     {
         let Some(moment) = Moment::new(moment) else {
             unreachable!()
         };
         let payload = payload(self.alloc, text, fill)?;
         let offer = OfferTo { stream, moment, id };
-        let answer = offer_at(&mut self.sessions, session, offer, payload.as_slice());
+        let answer = offer_named(&mut self.sessions, session, offer, payload.as_slice());
         offered_reply(self.alloc, answer)
     }
 
     /// `consume`
     fn consume(&mut self, session: &str, stream: u64) -> Result<Reply<A>, AllocError>
-        ensures { IfOk result (Does (consume_answer by_state self.old session.now stream) self.new) }
+        ensures { IfOk result (Does (consume_step by_state self.old session.now stream) self.new) }
     {
-        let answer = take_at(&mut self.sessions, session, stream);
+        let answer = take_named(&mut self.sessions, session, stream);
         taken_reply(self.alloc, answer)
     }
 
     /// `rotate-begin`
     fn rotate_begin(&mut self, session: &str, moment: u64) -> Result<Reply<A>, AllocError>
         requires { moment ≤ LAST_MOMENT }
-        ensures { IfOk result (Does (rotate_begin_answer self.old session.now moment) self.new) }
+        ensures { IfOk result (Does (rotate_begin_step self.old session.now moment) self.new) }
     {
         let Some(moment) = Moment::new(moment) else {
             unreachable!()
         };
-        let answer = rotate_begin_at(&mut self.sessions, session, moment);
+        let answer = rotate_begin_named(&mut self.sessions, session, moment);
         rotating_reply(self.alloc, answer)
     }
 
     /// `rotate-next`
     fn rotate_next(&mut self, session: &str) -> Result<Reply<A>, AllocError>
-        ensures { IfOk result (Does (rotate_next_answer by_state self.old session.now) self.new) }
+        ensures { IfOk result (Does (rotate_next_step by_state self.old session.now) self.new) }
     {
-        let answer = rotate_next_at(&mut self.sessions, session);
+        let answer = rotate_next_named(&mut self.sessions, session);
         next_reply(self.alloc, answer)
     }
 
     /// `rotate-finish`
     fn rotate_finish(&mut self, session: &str) -> Result<Reply<A>, AllocError>
-        ensures { IfOk result (Does (rotate_finish_answer self.old session.now) self.new) }
+        ensures { IfOk result (Does (rotate_finish_step self.old session.now) self.new) }
     {
-        let answer = rotate_finish_at(&mut self.sessions, session);
+        let answer = rotate_finish_named(&mut self.sessions, session);
         archived_reply(self.alloc, answer)
     }
 
     /// `rotate`
     fn rotate(&mut self, session: &str, moment: u64) -> Result<Reply<A>, AllocError>
         requires { moment ≤ LAST_MOMENT }
-        ensures { IfOk result (Does (rotate_answer by_state self.old session.now moment) self.new) }
+        ensures { IfOk result (Does (rotate_step by_state self.old session.now moment) self.new) }
     {
         let Some(moment) = Moment::new(moment) else {
             unreachable!()
         };
-        let answer = rotate_at(&mut self.sessions, session, moment);
+        let answer = rotate_named(&mut self.sessions, session, moment);
         archived_reply(self.alloc, answer)
     }
 
     /// `snapshot`
     fn snapshot(&mut self, session: &str, moment: u64) -> Result<Reply<A>, AllocError>
         requires { moment ≤ LAST_MOMENT }
-        ensures { IfOk result (Does (snapshot_answer by_state self.old session.now moment) self.new) }
+        ensures { IfOk result (Does (snapshot_step by_state self.old session.now moment) self.new) }
     {
         let Some(moment) = Moment::new(moment) else {
             unreachable!()
         };
-        let answer = snapshot_at(&mut self.sessions, session, moment);
+        let answer = snapshot_named(&mut self.sessions, session, moment);
         snapshot_reply(self.alloc, answer)
     }
 
@@ -347,35 +351,35 @@ impl<A: Allocator + Copy> Console<A> {
         every: Option<u64>,
         size: Option<u64>,
     ) -> Result<Reply<A>, AllocError>
-        ensures { IfOk result (Does (schedule_answer self.old session.now every size) self.new) }
+        ensures { IfOk result (Does (schedule_step self.old session.now every size) self.new) }
     {
-        let answer = schedule_at(&mut self.sessions, session, every, size);
+        let answer = schedule_named(&mut self.sessions, session, every, size);
         schedule_reply(self.alloc, answer)
     }
 
     /// `tick`
     fn tick(&mut self, session: &str, moment: u64) -> Result<Reply<A>, AllocError>
         requires { moment ≤ LAST_MOMENT }
-        ensures { IfOk result (Does (tick_answer by_state self.old session.now moment) self.new) }
+        ensures { IfOk result (Does (tick_step by_state self.old session.now moment) self.new) }
     {
         let Some(moment) = Moment::new(moment) else {
             unreachable!()
         };
-        let answer = tick_at(&mut self.sessions, session, moment);
+        let answer = tick_named(&mut self.sessions, session, moment);
         tick_reply(self.alloc, answer)
     }
 
     /// `fate`
     fn fate(&self, session: &str, stream: u64, serial: u64) -> Result<Reply<A>, AllocError>
-        ensures { IfOk result (Does (fate_answer by_state self.now session.now stream serial) self.now) }
+        ensures { IfOk result (Does (fate_step by_state self.now session.now stream serial) self.now) }
     {
-        let answer = fate_at(&self.sessions, session, stream, serial);
+        let answer = fate_named(&self.sessions, session, stream, serial);
         fate_reply(self.alloc, answer)
     }
 
     /// `status`
     fn status(&self, session: &str) -> Result<Reply<A>, AllocError>
-        ensures { IfOk result (Does (status_answer by_state self.now session.now) self.now) }
+        ensures { IfOk result (Does (status_step by_state self.now session.now) self.now) }
     {
         let Some(found) = self.sessions.get(session) else {
             return refusal(self.alloc, LineFault::NoSession);
@@ -387,7 +391,7 @@ impl<A: Allocator + Copy> Console<A> {
 
     /// `archives`
     fn archives(&self, session: &str) -> Result<Reply<A>, AllocError>
-        ensures { IfOk result (Does (archives_answer by_state self.now session.now) self.now) }
+        ensures { IfOk result (Does (archives_step by_state self.now session.now) self.now) }
     {
         let Some(found) = self.sessions.get(session) else {
             return refusal(self.alloc, LineFault::NoSession);
@@ -405,7 +409,7 @@ impl<A: Allocator> Console<A> {
         self.sessions.len()
     }
 
-    /// The session of this number in the order of creation, from 0, with its name. None where there are not so many.
+    /// The session number `k` in the order of creation, counted from 0, with its name. None if there are fewer.
     pub fn session(&self, k: usize) -> Option<(Name<'_>, &Session<A>)>
         ensures { option_map (λ e. (e.0, e.1.now)) result ≡ slice_get self.now k }
     {

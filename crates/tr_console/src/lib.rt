@@ -1,4 +1,4 @@
-//! The command language: a script's lines, each answered at once.
+//! A script's console: its sessions, and the answer to each line.
 //! A whole run is proved equal to a function from the script's bytes to the answer's bytes.
 #![tactic(auto)]
 

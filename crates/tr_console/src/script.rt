@@ -11,9 +11,7 @@ use crate::script_fault::ScriptFault;
 use std::alloc::{Allocator, Global};
 use tr_lines::{Found, LineReader};
 use tr_record::{ByteSink, ByteSource, MemorySink, MemorySource, put_all};
-
-/// How many bytes are moved at once where a script or its answer is in memory.
-const PIECE: usize = 65_536;
+use tr_terms::limits::LONGEST_PIECE;
 
 /// A run that came to the script's end.
 #[derive(Drop)]
@@ -24,19 +22,20 @@ pub struct ScriptDone<A: Allocator = Global> {
     pub console: Console<A>,
 }
 
-/// Answers a line, and says whether it was refused. Where its answer needs memory that is refused, nothing of it
-/// goes out.
+/// Answers a line, and says whether it was refused. If an allocation for its answer fails, nothing of it goes out.
 fn answer_line<A: Allocator + Copy, K: ByteSink>(
     console: &mut Console<A>,
     clap: Global,
     line: Option<&str>,
     sink: &mut K,
 ) -> Result<bool, ScriptFault>
-    ensures text { OnOk result (K.taken sink.new ≡ and_then_bytes (K.taken sink.old) (step_of_line console.old line.entry).text) }
+    ensures text { OnOk result
+        (K.taken sink.new ≡ and_then_bytes (K.taken sink.old) (step_of_line console.old line.entry).text) }
     ensures world { OnOk result (console.new ≡ (step_of_line console.old line.entry).world) }
     ensures refused { IfOk result (λ is_refused. is_refused ≡ (step_of_line console.old line.entry).is_refused) }
 
-    ensures write { result ≡ Err ScriptFault.Write → (k : ℕ) × (k ≤ length (step_of_line console.old line.entry).text)
+    ensures write { result ≡ Err ScriptFault.Write
+        → (k : ℕ) × (k ≤ length (step_of_line console.old line.entry).text)
         × (K.taken sink.new ≡ and_then_bytes (K.taken sink.old) (take k (step_of_line console.old line.entry).text)) }
     ensures memory { result ≡ Err ScriptFault.NoMemory → K.taken sink.new ≡ K.taken sink.old }
     ensures read { result ≡ Err ScriptFault.Read → ⊥ }
@@ -50,29 +49,37 @@ fn answer_line<A: Allocator + Copy, K: ByteSink>(
     Ok(reply.is_refused())
 }
 
-/// Reads a script from its source and answers each line to the sink before it runs the next. `clap` is where the
-/// command line of a line takes its memory.
+/// Reads a script from its source and answers each line to the sink before it runs the next. The command line of a line
+/// takes its memory from `clap`.
 ///
 /// # Errors
 ///
-/// `Read` and `Write` only where the source or the sink failed in this call, `TooLong` where a byte came behind
-/// 16,777,216 others, `NoMemory` where memory was refused. What went out then is said at each of `ScriptFault`.
+/// `Read` and `Write` only if the source or the sink failed in this call, `TooLong` if a byte came after 16,777,216 others,
+/// `NoMemory` if an allocation failed. Each variant of `ScriptFault` says what went out by then.
 pub fn run_script<A: Allocator + Copy, S: ByteSource, K: ByteSink>(
     alloc: A,
     clap: Global,
     source: &mut S,
     sink: &mut K,
 ) -> Result<ScriptDone<A>, ScriptFault>
-    ensures done { IfOk result (λ done. Ran (S.given source.old) (S.given source.new) (K.taken sink.old) (K.taken sink.new) done.console done.refused) }
+    ensures done { IfOk result
+        (λ done. Ran (S.given source.old) (S.given source.new) (K.taken sink.old) (K.taken sink.new) done.console
+        done.refused) }
     ensures end { OnOk result (S.given source.new ≡ S.content source.old) }
     ensures content { S.content source.new ≡ S.content source.old }
 
-    ensures read { result ≡ Err ScriptFault.Read → BrokeOff (S.given source.old) (S.given source.new) (K.taken sink.old) (K.taken sink.new) }
-    ensures too_long { result ≡ Err ScriptFault.TooLong → WentTooFar (S.given source.old) (S.given source.new) (K.taken sink.old) (K.taken sink.new) }
-    ensures write { result ≡ Err ScriptFault.Write → WroteSome (S.given source.old) (S.given source.new) (K.taken sink.old) (K.taken sink.new) (S.content source.old) }
-    ensures memory { result ≡ Err ScriptFault.NoMemory → AnsweredSome (S.given source.old) (S.given source.new) (K.taken sink.old) (K.taken sink.new) }
+    ensures read { result ≡ Err ScriptFault.Read
+        → BrokeOff (S.given source.old) (S.given source.new) (K.taken sink.old) (K.taken sink.new) }
+    ensures too_long { result ≡ Err ScriptFault.TooLong
+        → WentTooFar (S.given source.old) (S.given source.new) (K.taken sink.old) (K.taken sink.new) }
+    ensures write { result ≡ Err ScriptFault.Write
+        → WroteSome (S.given source.old) (S.given source.new) (K.taken sink.old) (K.taken sink.new)
+        (S.content source.old) }
+    ensures memory { result ≡ Err ScriptFault.NoMemory
+        → AnsweredSome (S.given source.old) (S.given source.new) (K.taken sink.old) (K.taken sink.new) }
 
-    ensures source_failed { result ≡ Err ScriptFault.Read → S.failures source.new ≡ once_more (S.failures source.old) }
+    ensures source_failed { result ≡ Err ScriptFault.Read
+        → S.failures source.new ≡ once_more (S.failures source.old) }
     ensures source_works { (result ≡ Err ScriptFault.Read → ⊥) → S.failures source.new ≡ S.failures source.old }
     ensures sink_failed { result ≡ Err ScriptFault.Write → K.failures sink.new ≡ once_more (K.failures sink.old) }
     ensures sink_works { (result ≡ Err ScriptFault.Write → ⊥) → K.failures sink.new ≡ K.failures sink.old }
@@ -95,7 +102,7 @@ pub fn run_script<A: Allocator + Copy, S: ByteSource, K: ByteSink>(
 ///
 /// # Errors
 ///
-/// `TooLong` where the script has more than 16,777,216 bytes, `NoMemory` where memory was refused.
+/// `TooLong` if the script has more than 16,777,216 bytes, `NoMemory` if an allocation failed.
 pub fn run_text<A: Allocator + Copy>(
     alloc: A,
     clap: Global,
@@ -107,12 +114,12 @@ pub fn run_text<A: Allocator + Copy>(
     ensures read { result ≡ Err ScriptFault.Read → ⊥ }
     ensures write { result ≡ Err ScriptFault.Write → ⊥ }
 {
-    let mut source = MemorySource::new(script, PIECE);
-    let mut sink = MemorySink::new(alloc, PIECE);
+    let mut source = MemorySource::new(script, LONGEST_PIECE);
+    let mut sink = MemorySink::new(alloc, LONGEST_PIECE);
     match run_script(alloc, clap, &mut source, &mut sink) {
         Ok(_) => Ok(sink.into_bytes()),
         Err(ScriptFault::TooLong) => Err(ScriptFault::TooLong),
-        // a sink in memory fails where memory is refused
+        // a sink in memory fails if an allocation fails
         Err(ScriptFault::Write | ScriptFault::NoMemory) => Err(ScriptFault::NoMemory),
         Err(ScriptFault::Read) => unreachable!(),
     }

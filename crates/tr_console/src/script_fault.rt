@@ -11,17 +11,17 @@ use tr_record::Failed;
 /// Why a run of a script ended early. No line was run after it.
 #[derive(Clone, Copy, Debug, PartialEq, Eq, Error)]
 pub enum ScriptFault {
-    /// The source failed. All whole lines before are answered, and the one that broke off is not.
+    /// The source failed. All whole lines before are answered, and the one that broke off isn't.
     #[error("Q1 Read")]
     Read,
     /// The script has more than 16,777,216 bytes. All whole lines within these are answered.
     #[error("Q2 TooLong")]
     TooLong,
-    /// The sink failed. A front part of the answer went out.
+    /// The sink failed. A prefix of the answer went out.
     #[error("Q3 Write")]
     Write,
-    /// Memory was refused. Lines that were read whole are answered from the first one on, each of them whole; how many
-    /// isn't said.
+    /// An allocation failed. A prefix of the lines that were read whole is answered, each of them whole: at least all but one
+    /// of those that end before the last 65,536 bytes that were read.
     #[error("Q4 NoMemory")]
     NoMemory,
 }
@@ -39,7 +39,7 @@ impl ScriptFault {
         }
     }
 
-    /// Its name.
+    /// Its name: `Read`, `TooLong`, `Write` or `NoMemory`.
     pub fn name(&self) -> &'static str
         ensures { result.now ≡ script_fault_name self.now }
     {

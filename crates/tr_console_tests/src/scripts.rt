@@ -1,4 +1,4 @@
-//! Whole scripts, of which the command language says the answers.
+//! Whole scripts, with the answers that the command language gives.
 
 mod fates;
 mod lines;
@@ -25,7 +25,7 @@ stream 0
 started
 ";
 
-/// Six offers, of which one is discarded, a take and the status.
+/// Six offers, one of them discarded, a take and the status.
 const SIX_OFFERS: &str = "offer s 0 1 7 --fill 50
 offer s 0 2 7 --fill 50
 offer s 0 3 7 --fill 50
@@ -48,7 +48,7 @@ stream     offered   discarded overwritten     in-ring   in-chunks
      0           6           1           0           3           2
 ";
 
-/// A session with one stream in overwrite mode, started, and six offers, of which the fifth drops two records.
+/// A session with one stream in overwrite mode, started, and six offers; the fifth overwrites two records.
 const OVERWRITING: &str = "create s 00000000-0000-0000-0000-000000000001
 channel s c 256 2 overwrite
 thread s c
@@ -93,7 +93,7 @@ fn joined(alloc: Global, texts: &[&str]) -> Result<Vec<u8>, ScriptFault> {
     Ok(all)
 }
 
-/// Whether a script has this answer, with so many refused lines, whatever pieces it is read and written in.
+/// Whether a script has this answer, with this many refused lines, whatever pieces it is read and written in.
 fn is_answered(
     alloc: Global,
     script: &[u8],
@@ -111,14 +111,14 @@ fn is_answered(
     Ok(run_text(alloc, alloc, script)?.as_slice() == answer)
 }
 
-/// Whether these lines, where a session has one stream and is started, have this answer, with so many refused lines.
+/// Whether these lines, in a session with one stream that is started, have this answer, with this many refused lines.
 fn goes_on(alloc: Global, lines: &str, answer: &str, refused: u64) -> Result<bool, ScriptFault> {
     let script = joined(alloc, &[OPENING, lines])?;
     let text = joined(alloc, &[OPENED, answer])?;
     is_answered(alloc, script.as_slice(), text.as_slice(), refused)
 }
 
-/// The same of lines where a snapshot session has one stream and isn't started.
+/// The same for lines in a snapshot session with one stream that isn't started.
 fn goes_on_shown(
     alloc: Global,
     lines: &str,
@@ -130,7 +130,7 @@ fn goes_on_shown(
     is_answered(alloc, script.as_slice(), text.as_slice(), refused)
 }
 
-/// The same of lines where a session has one stream in overwrite mode and six offers were made.
+/// The same for lines in a session with one stream in overwrite mode, after six offers.
 fn goes_on_overwriting(
     alloc: Global,
     lines: &str,

@@ -37,7 +37,8 @@ pub fn every_example()
 pub fn every_file()
     ensures packet { packet_text one_record ≡ one_record_bytes }
     ensures size { length one_record_bytes ≡ 105 }
-    ensures archived { map outline (first_chunk archives_script) ≡ (0, (0, 0 ∷ 1 ∷ [])) ∷ (1, (1, 2 ∷ 3 ∷ 5 ∷ [])) ∷ [] }
+    ensures archived { map outline (first_chunk archives_script)
+        ≡ (0, (0, 0 ∷ 1 ∷ [])) ∷ (1, (1, 2 ∷ 3 ∷ 5 ∷ [])) ∷ [] }
     ensures file { length archived_file ≡ 484 }
     ensures audit { audit_of {A = Unit {0}} (first_chunk archives_script) ≡ archived_audit }
     ensures gaps { audit_of {A = Unit {0}} (first_chunk gaps_script) ≡ gaps_audit }
@@ -46,7 +47,10 @@ pub fn every_file()
     ensures second { first_fault (drop 228 archived_file) ≡ None }
     ensures short { first_fault (drop 228 (take 483 archived_file)) ≡ Some Short }
     ensures magic { first_fault (0 ∷ drop 1 archived_file) ≡ Some BadMagic }
-    ensures twice { option_map (packet_cause trace 0 (Some 1) (Some 5)) (slice_get (first_chunk archives_script) 0) ≡ Some (Some NumberRepeat) }
-    ensures west { archive_name_text 1700000000000000000 1700000060000000000 (neg_ℤ (pos 300)) 0 ≡ codes "20231114T171320-0500-20231114T171420-0500-0" }
-    ensures before { archive_name_text 0 0 (neg_ℤ (pos 30)) 3 ≡ codes "19691231T233000-0030-19691231T233000-0030-3" }
+    ensures twice { option_map (packet_cause trace 0 (Some 1) (Some 5)) (slice_get (first_chunk archives_script) 0)
+        ≡ Some (Some NumberRepeat) }
+    ensures west { archive_name_text 1700000000000000000 1700000060000000000 (neg_ℤ (pos 300)) 0
+        ≡ codes "20231114T171320-0500-20231114T171420-0500-0" }
+    ensures before { archive_name_text 0 0 (neg_ℤ (pos 30)) 3
+        ≡ codes "19691231T233000-0030-19691231T233000-0030-3" }
 {}

@@ -13,58 +13,80 @@ use Rattle.tr_session_book.specs.declared.archive.Archive.{Archive}
 use Rattle.tr_stream.specs.State.{StreamState}
 
 module _ (folder : List ℕ) (id : ℕ) (s : SessionOf StreamState) where
-  -- k streams more
+  -- k more streams
   files_up : (k i : ℕ) → (rest : Makings) × (stream_files folder id s (k + i) ≡ stream_files folder id s i ++ rest)
   files_up zero i = let none : 0 + i ≡ i = omega arith in ([], ap (stream_files folder id s) none ∙ sym (append-nil (stream_files folder id s i)))
   files_up (suc k) i =
       let more = files_up k i in
       let next : suc k + i ≡ suc (k + i) = omega arith in (
         more.0 ++ stream_file folder id s (k + i),
-        ap (stream_files folder id s) next ∙ ap (λ (ms : Makings). ms ++ stream_file folder id s (k + i)) more.1 ∙ append_assoc (stream_files folder id s i) more.0 (stream_file folder id s (k + i)),
+        ap (stream_files folder id s) next ∙ ap (λ (ms : Makings). ms ++ stream_file folder id s (k + i)) more.1
+            ∙ append_assoc (stream_files folder id s i) more.0 (stream_file folder id s (k + i)),
       )
 
-  -- the files of the first i streams, and a front part of the next one's
-  pub streams_cut : (start now after : Option Makings) (i n : ℕ) → i < n → n ≡ length s.streams → now ≡ and_then_made start (stream_files folder id s i) → MadeFront now after (stream_file folder id s i)
+  -- the files of the first i streams, and a prefix of the next one's
+  pub streams_cut : (start now after : Option Makings) (i n : ℕ) → i < n → n ≡ length s.streams
+      → now ≡ and_then_made start (stream_files folder id s i) → MadeFront now after (stream_file folder id s i)
       → MadeFront start after (stream_files folder id s (length s.streams))
   streams_cut start now after i n within is first made =
       let up = files_up (n - suc i) (suc i) in
       let all : length s.streams ≡ (n - suc i) + suc i = omega (arith, within, is) in
-      let next = front_after start now after (stream_files folder id s i) (stream_file folder id s i) (stream_files folder id s (suc i)) refl first made in
-      front_before start after (stream_files folder id s (suc i)) up.0 (stream_files folder id s (length s.streams)) (ap (stream_files folder id s) all ∙ up.1) next
+      let next = front_after start now after (stream_files folder id s i) (stream_file folder id s i)
+      (stream_files folder id s (suc i)) refl first made in
+      front_before start after (stream_files folder id s (suc i)) up.0 (stream_files folder id s (length s.streams))
+      (ap (stream_files folder id s) all ∙ up.1) next
 
   -- the folder and the metadata
-  headed : (start one two : Option Makings) (path uuid : List ℕ) → path ≡ path_of folder (codes "metadata") → uuid ≡ s.book.uuid → one ≡ and_then_made start (Folder folder ∷ [])
+  headed : (start one two : Option Makings) (path uuid : List ℕ) → path ≡ path_of folder (codes "metadata")
+      → uuid ≡ s.book.uuid → one ≡ and_then_made start (Folder folder ∷ [])
       → two ≡ and_then_made one (File path (metadata_of uuid) ∷ []) → two ≡ and_then_made start (Folder folder ∷ metadata_file folder s)
   headed start one two path uuid at of first second =
-      let text : File path (metadata_of uuid) ∷ [] ≡ metadata_file folder s = ap (λ (p : List ℕ). File p (metadata_of uuid) ∷ []) at ∙ ap (λ (u : List ℕ). File (path_of folder (codes "metadata")) (metadata_of u) ∷ []) of in
+      let text : File path (metadata_of uuid) ∷ [] ≡ metadata_file folder s =
+      ap (λ (p : List ℕ). File p (metadata_of uuid) ∷ []) at
+      ∙ ap (λ (u : List ℕ). File (path_of folder (codes "metadata")) (metadata_of u) ∷ []) of in
       made_after start one two (Folder folder ∷ []) (metadata_file folder s) first (second ∙ ap (and_then_made one) text)
 
   -- and all streams
-  pub chunk_whole : (start one two after : Option Makings) (path uuid : List ℕ) → path ≡ path_of folder (codes "metadata") → uuid ≡ s.book.uuid → one ≡ and_then_made start (Folder folder ∷ [])
-      → two ≡ and_then_made one (File path (metadata_of uuid) ∷ []) → after ≡ and_then_made two (stream_files folder id s (length s.streams)) → after ≡ and_then_made start (chunk_made folder id s)
+  pub chunk_whole : (start one two after : Option Makings) (path uuid : List ℕ) → path ≡ path_of folder (codes "metadata")
+      → uuid ≡ s.book.uuid → one ≡ and_then_made start (Folder folder ∷ [])
+      → two ≡ and_then_made one (File path (metadata_of uuid) ∷ [])
+      → after ≡ and_then_made two (stream_files folder id s (length s.streams))
+      → after ≡ and_then_made start (chunk_made folder id s)
   chunk_whole start one two after path uuid at of first second third =
-      made_after start two after (Folder folder ∷ metadata_file folder s) (stream_files folder id s (length s.streams)) (headed start one two path uuid at of first second) third
+      made_after start two after (Folder folder ∷ metadata_file folder s) (stream_files folder id s (length s.streams))
+      (headed start one two path uuid at of first second) third
 
-  -- and a front part of the streams' files
-  pub chunk_cut : (start one two after : Option Makings) (path uuid : List ℕ) → path ≡ path_of folder (codes "metadata") → uuid ≡ s.book.uuid → one ≡ and_then_made start (Folder folder ∷ [])
-      → two ≡ and_then_made one (File path (metadata_of uuid) ∷ []) → MadeFront two after (stream_files folder id s (length s.streams)) → MadeFront start after (chunk_made folder id s)
+  -- and a prefix of the streams' files
+  pub chunk_cut : (start one two after : Option Makings) (path uuid : List ℕ) → path ≡ path_of folder (codes "metadata")
+      → uuid ≡ s.book.uuid → one ≡ and_then_made start (Folder folder ∷ [])
+      → two ≡ and_then_made one (File path (metadata_of uuid) ∷ [])
+      → MadeFront two after (stream_files folder id s (length s.streams))
+      → MadeFront start after (chunk_made folder id s)
   chunk_cut start one two after path uuid at of first second made =
-      front_after start two after (Folder folder ∷ metadata_file folder s) (stream_files folder id s (length s.streams)) (chunk_made folder id s) refl (headed start one two path uuid at of first second) made
+      front_after start two after (Folder folder ∷ metadata_file folder s) (stream_files folder id s (length s.streams))
+      (chunk_made folder id s) refl (headed start one two path uuid at of first second) made
 
-  -- the folder, and a front part of the metadata
-  pub metadata_cut : (start one after : Option Makings) (path uuid : List ℕ) → path ≡ path_of folder (codes "metadata") → uuid ≡ s.book.uuid → one ≡ and_then_made start (Folder folder ∷ [])
+  -- the folder, and a prefix of the metadata
+  pub metadata_cut : (start one after : Option Makings) (path uuid : List ℕ) → path ≡ path_of folder (codes "metadata")
+      → uuid ≡ s.book.uuid → one ≡ and_then_made start (Folder folder ∷ [])
       → MadeFront one after (File path (metadata_of uuid) ∷ []) → MadeFront start after (chunk_made folder id s)
   metadata_cut start one after path uuid at of first made =
-      let text : File path (metadata_of uuid) ∷ [] ≡ metadata_file folder s = ap (λ (p : List ℕ). File p (metadata_of uuid) ∷ []) at ∙ ap (λ (u : List ℕ). File (path_of folder (codes "metadata")) (metadata_of u) ∷ []) of in
-      let next = front_before one after (metadata_file folder s) (stream_files folder id s (length s.streams)) (metadata_file folder s ++ stream_files folder id s (length s.streams)) refl
+      let text : File path (metadata_of uuid) ∷ [] ≡ metadata_file folder s =
+      ap (λ (p : List ℕ). File p (metadata_of uuid) ∷ []) at
+      ∙ ap (λ (u : List ℕ). File (path_of folder (codes "metadata")) (metadata_of u) ∷ []) of in
+      let next = front_before one after (metadata_file folder s) (stream_files folder id s (length s.streams))
+      (metadata_file folder s ++ stream_files folder id s (length s.streams)) refl
       (subst (λ (ms : Makings). MadeFront one after ms) text made) in
-      front_after start one after (Folder folder ∷ []) (metadata_file folder s ++ stream_files folder id s (length s.streams)) (chunk_made folder id s) refl first next
+      front_after start one after (Folder folder ∷ [])
+      (metadata_file folder s ++ stream_files folder id s (length s.streams)) (chunk_made folder id s) refl first next
 
--- a chunk in the folder that an archive's name names
-pub archive_whole : (start after : Option Makings) (dir name : List ℕ) (s : SessionOf StreamState) (a : Archive) (folder : List ℕ) → folder ≡ folder_of dir name (archive_name_text a.begin a.end s.book.offset a.id)
+-- a chunk in the folder of an archive's name
+pub archive_whole : (start after : Option Makings) (dir name : List ℕ) (s : SessionOf StreamState) (a : Archive)
+    (folder : List ℕ) → folder ≡ folder_of dir name (archive_name_text a.begin a.end s.book.offset a.id)
     → after ≡ and_then_made start (chunk_made folder a.id s) → after ≡ and_then_made start (archive_made dir name s a)
 archive_whole start after dir name s a folder at made = made ∙ ap (λ (f : List ℕ). and_then_made start (chunk_made f a.id s)) at
 
-pub archive_cut : (start after : Option Makings) (dir name : List ℕ) (s : SessionOf StreamState) (a : Archive) (folder : List ℕ) → folder ≡ folder_of dir name (archive_name_text a.begin a.end s.book.offset a.id)
+pub archive_cut : (start after : Option Makings) (dir name : List ℕ) (s : SessionOf StreamState) (a : Archive)
+    (folder : List ℕ) → folder ≡ folder_of dir name (archive_name_text a.begin a.end s.book.offset a.id)
     → MadeFront start after (chunk_made folder a.id s) → MadeFront start after (archive_made dir name s a)
 archive_cut start after dir name s a folder at made = subst (λ (f : List ℕ). MadeFront start after (chunk_made f a.id s)) at made

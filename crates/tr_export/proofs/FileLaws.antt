@@ -1,4 +1,4 @@
--- Where a stream has a part of an archived chunk, it has a file in that archive.
+-- If a stream has a part of an archived chunk, it has a file in that archive.
 use Rattle.std.proofs.Common.{◌≡◌, ◌∙◌, ◌<◌, ℕ, List, Option, Some, None, IsSome, length, slice_get, refl, sym, subst, ap}
 use Rattle.std.proofs.lemmas.Bool.{false≢true}
 use Rattle.std.proofs.lemmas.Option.{slice_get_within}
@@ -17,7 +17,8 @@ filed : (folder : List ℕ) (i : ℕ) (name : List ℕ) (part : Option PartState
 filed folder i name None is = absurd (false≢true is)
 filed folder i name (Some part) is = (path_of folder (file_name name i), packets_text part.packets, refl)
 
-pub one-file : (folder : List ℕ) (id i : ℕ) (s : SessionOf StreamState) (t : StreamState) → slice_get s.streams i ≡ Some t → IsStreamOf s.book i t → IsSome (part_at id t.parts)
+pub one-file : (folder : List ℕ) (id i : ℕ) (s : SessionOf StreamState) (t : StreamState) → slice_get s.streams i ≡ Some t
+    → IsStreamOf s.book i t → IsSome (part_at id t.parts)
     → IsOneFile (stream_file folder id s i)
 one-file folder id i s t at of has =
     let named : channel_of i s.book ≡ Some of.channel.0 =
@@ -27,8 +28,10 @@ one-file folder id i s t at of has =
     rw (named, held) (filed folder i of.channel.0 (part_at id t.parts) has)
 
 -- by what a session shows of its archives and of the stream
-pub in-archive : (folder : List ℕ) (k i : ℕ) (s : SessionOf StreamState) (archives : List Archive) (archive : Archive) (t : StreamState) → archives ≡ s.book.archives
-    → ((n : ℕ) (a : Archive) → slice_get archives n ≡ Some a → a.id ≡ n) → slice_get s.book.archives k ≡ Some archive → slice_get s.streams i ≡ Some t → IsStreamOf s.book i t → HasArchivedParts s.book t
+pub in-archive : (folder : List ℕ) (k i : ℕ) (s : SessionOf StreamState) (archives : List Archive) (archive : Archive)
+    (t : StreamState) → archives ≡ s.book.archives
+    → ((n : ℕ) (a : Archive) → slice_get archives n ≡ Some a → a.id ≡ n) → slice_get s.book.archives k ≡ Some archive
+    → slice_get s.streams i ≡ Some t → IsStreamOf s.book i t → HasArchivedParts s.book t
     → IsOneFile (stream_file folder archive.id s i)
 in-archive folder k i s archives archive t same numbered at its of has =
     let id : archive.id ≡ k = numbered k archive (rw same at) in

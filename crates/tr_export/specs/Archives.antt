@@ -13,13 +13,14 @@ use Rattle.tr_session.specs.Session.{SessionOf}
 use Rattle.tr_session_book.specs.declared.archive.Archive.{Archive}
 use Rattle.tr_stream.specs.State.{StreamState}
 
--- a part's packets, in the file that its stream's channel and number name
+-- a part's packets, in the file with the name of its stream's channel and number
 abbrev pub part_file : List ℕ → ℕ → Option (List ℕ) → Option PartState → Makings
 part_file folder i None part = []
 part_file folder i (Some channel) None = []
-part_file folder i (Some channel) (Some part) = File (path_of folder (file_name channel i)) (packets_text part.packets) ∷ []
+part_file folder i (Some channel) (Some part) =
+    File (path_of folder (file_name channel i)) (packets_text part.packets) ∷ []
 
--- a file is made and nothing else
+-- one file is made and nothing else
 abbrev pub IsOneFile : Makings → Type 0
 IsOneFile made = (path : List ℕ) × (text : List ℕ) × (made ≡ File path text ∷ [])
 
@@ -36,18 +37,18 @@ abbrev pub stream_files : List ℕ → ℕ → SessionOf StreamState → ℕ →
 stream_files folder id s zero = []
 stream_files folder id s (suc i) = stream_files folder id s i ++ stream_file folder id s i
 
--- the metadata beside them
+-- the metadata file beside them
 abbrev pub metadata_file : List ℕ → SessionOf StreamState → Makings
 metadata_file folder s = File (path_of folder (codes "metadata")) (metadata_of s.book.uuid) ∷ []
 
--- a folder of the trace chunk of this number: the folder, the metadata, and a file for each stream
+-- the trace chunk of this number in a folder: the folder, the metadata, and a file for each stream
 abbrev pub chunk_made : List ℕ → ℕ → SessionOf StreamState → Makings
 chunk_made folder id s = Folder folder ∷ (metadata_file folder s ++ stream_files folder id s (length s.streams))
 
--- the folder that an archive's name names
+-- an archive in the folder of its name
 abbrev pub archive_made : List ℕ → List ℕ → SessionOf StreamState → Archive → Makings
 archive_made dir name s a = chunk_made (folder_of dir name (archive_name_text a.begin a.end s.book.offset a.id)) a.id s
 
--- each archive in order; a pending one and the current chunk are none
+-- each archive in order, without a pending one and the current chunk
 abbrev pub archives_made : List ℕ → List ℕ → SessionOf StreamState → Makings
 archives_made dir name s = flat_map (archive_made dir name s) s.book.archives

@@ -1,4 +1,4 @@
--- Where archives lie.
+-- The paths of archives.
 use Rattle.std.specs.Prelude.{ℕ, List, ◌++◌, codes}
 
 -- DIR/NAME/archives/ARCHIVE

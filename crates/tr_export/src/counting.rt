@@ -1,11 +1,11 @@
-//! How failures of a disk and of its files are counted.
+//! Counting failures of a disk and of its files.
 
 ghost use Rattle.std.specs.Prelude.{◌≡◌, option_map};
 ghost use Rattle.tr_record.specs.Bytes.{once_more};
 
 use tr_record::{ByteSink, Failed};
 
-/// One failure more, where the count is known.
+/// One more failure, if the count is known.
 pub fn one_more(failures: Option<u64>) -> Option<u64>
     ensures { result ≡ option_map once_more failures }
 {
@@ -23,7 +23,7 @@ pub struct CountingFile<K: ByteSink + Drop> {
 }
 
 impl<K: ByteSink + Drop> CountingFile<K> {
-    /// A file over this sink, after so many failures of its disk.
+    /// A file over this sink, after `failures` failures of its disk.
     pub(crate) fn new(sink: K, failures: u64) -> Self
         ensures taken { ⟦<CountingFile<K> as ByteSink>⟧.taken result ≡ K.taken sink }
         ensures failures { ⟦<CountingFile<K> as ByteSink>⟧.failures result ≡ failures }

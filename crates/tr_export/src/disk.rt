@@ -8,25 +8,25 @@ ghost use Rattle.tr_record.specs.Bytes.{once_more};
 
 use tr_record::{ByteSink, Failed};
 
-/// Makes folders and files, of which one is open at a time.
+/// Makes folders and files; one file at a time is open.
 pub trait Disk {
     /// An open file.
     type File: ByteSink + Drop;
 
-    /// The folders and files that were made so far, in order, where the type says. A file that was opened is broken
-    /// until it is closed.
+    /// The folders and files that were made so far, in order, if the type says. A file that was opened is broken until it is
+    /// closed.
     ghost made: { Self → Option Makings };
     /// How often it and its files failed, modulo 2^64. None while a file is open, which counts on from there.
     ghost failures: { Self → Option ℕ };
 
-    /// Makes a folder, and those above it, where they aren't there.
+    /// Makes a folder, and those above it, if they don't exist.
     fn make_folder(&mut self, path: &str) -> Result<(), Failed>
         ensures ok { OnOk result (made self.new ≡ and_then_made (made self.old) (Folder path.now ∷ [])) }
         ensures err { OnErr result (made self.new ≡ made self.old) }
         ensures no_failure { OnOk result (HasNotFailed (failures self.old) (failures self.new)) }
         ensures failed { OnErr result (HasFailed (failures self.old) (failures self.new)) };
 
-    /// Opens a file to be written. One that is there loses what it had. It is broken as long as it isn't closed.
+    /// Opens a file for writing. One that exists is emptied. It is broken until it is closed.
     fn open_file(&mut self, path: &str) -> Result<Self::File, Failed>
         ensures ok { OnOk result (made self.new ≡ and_then_made (made self.old) (Broken path.now ∷ [])) }
         ensures err { OnErr result (made self.new ≡ made self.old) }
@@ -35,7 +35,7 @@ pub trait Disk {
         ensures open { OnOk result (failures self.new ≡ None) }
         ensures failed { OnErr result (HasFailed (failures self.old) (failures self.new)) };
 
-    /// Closes the file that was opened last, which has all its bytes now. Where this fails it stays broken.
+    /// Closes the file that was opened last, which has all its bytes now. If this fails, the file stays broken.
     fn close_file(&mut self, file: Self::File) -> Result<(), Failed>
         ensures ok { OnOk result (ClosesLast (made self.old) (made self.new) (Self.File.taken file)) }
         ensures err { OnErr result (made self.new ≡ made self.old) }

@@ -11,7 +11,7 @@ pub enum ExportFault {
     /// A folder or a file couldn't be made, or a file couldn't be written.
     #[error("a folder or a file can't be written")]
     Write,
-    /// Memory was refused.
+    /// An allocation failed.
     #[error("no memory")]
     NoMemory,
 }

@@ -11,16 +11,16 @@ pub trait FileSystem {
     /// An open file.
     type File: ByteSink + Drop;
 
-    /// The folders and files that were made so far, in order, where the type says. A file that was created is broken
-    /// until it is flushed at its end.
+    /// The folders and files that were made so far, in order, if the type says. A file that was created is broken until it is
+    /// flushed at its end.
     ghost made: { Self → Option Makings };
 
-    /// Makes a folder, and those above it, where they aren't there.
+    /// Makes a folder, and those above it, if they don't exist.
     fn make_folder(&mut self, path: &str) -> Result<(), Failed>
         ensures ok { OnOk result (made self.new ≡ and_then_made (made self.old) (Folder path.now ∷ [])) }
         ensures err { OnErr result (made self.new ≡ made self.old) };
 
-    /// Creates a file, or empties the one that is there.
+    /// Creates a file, or empties one that exists.
     fn create(&mut self, path: &str) -> Result<Self::File, Failed>
         ensures ok { OnOk result (made self.new ≡ and_then_made (made self.old) (Broken path.now ∷ [])) }
         ensures err { OnErr result (made self.new ≡ made self.old) }

@@ -7,9 +7,10 @@ ghost use Rattle.tr_session_book.specs.declared.archive.Archive as value;
 use std::alloc::Allocator;
 use tr_session::Session;
 
-/// In the folder of each archive of a session, each stream has a file. Does nothing.
+/// In the folder of each archive of a session, each stream has one file. Does nothing.
 pub fn every_stream_has_its_file<A: Allocator>(session: &Session<A>, i: u64)
-    ensures { (folder : List ℕ) (k : ℕ) (archive : value.Archive) → slice_get session.now.book.archives k ≡ Some archive
+    ensures { (folder : List ℕ) (k : ℕ) (archive : value.Archive)
+        → slice_get session.now.book.archives k ≡ Some archive
         → i < length session.now.streams → IsOneFile (stream_file folder archive.id session.now i) }
 {
     let _ = session.book().archives();

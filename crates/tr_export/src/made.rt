@@ -3,11 +3,11 @@
 /// A folder that was made, or a file that was opened, with its path and its bytes.
 #[derive(Drop)]
 pub enum Made<P, B> {
-    /// A folder.
+    /// A folder that was made.
     Folder(P),
     /// A file that was closed, and so has all its bytes.
     File(P, B),
-    /// A file that was opened and isn't closed. It lost what it had, and may have a front part of its bytes.
+    /// A file that was opened and isn't closed. What it had is gone, and it may have a prefix of its bytes.
     Broken(P),
 }
 
@@ -15,7 +15,7 @@ impl<P, B> Made<P, B> {
     ghost use Rattle.std.specs.Prelude.{◌≡◌};
     ghost use Rattle.tr_export.specs.Making.{closed_with};
 
-    /// A broken file with all its bytes. A folder or another file stays what it is.
+    /// A broken file becomes a file with these bytes. A folder or another file stays what it is.
     pub(crate) fn closed(self, bytes: B) -> Made<P, B>
     where
         B: Drop,

@@ -9,7 +9,7 @@ use crate::made::Made;
 use std::alloc::{Allocator, Global};
 use tr_record::{Failed, MemorySink};
 
-/// Keeps what is made, in order. It fails where memory runs out.
+/// Keeps what is made, in order. It fails if an allocation fails.
 #[derive(Drop)]
 pub struct MemoryDisk<A: Allocator = Global> {
     alloc: A,
@@ -19,7 +19,7 @@ pub struct MemoryDisk<A: Allocator = Global> {
 }
 
 impl<A: Allocator + Copy> MemoryDisk<A> {
-    /// A disk on which nothing is made. Its files take at most `piece` bytes at a time, and one where it is 0.
+    /// A disk on which nothing is made. Its files take at most `piece` bytes at a time, or one if it is 0.
     pub fn new(alloc: A, piece: usize) -> Self
         ensures made { ⟦<MemoryDisk<A> as Disk>⟧.made result ≡ Some [] }
         ensures failures { ⟦<MemoryDisk<A> as Disk>⟧.failures result ≡ Some 0 }

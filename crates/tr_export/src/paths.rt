@@ -1,4 +1,4 @@
-//! Where archives lie.
+//! The paths of archives.
 
 ghost use Rattle.std.specs.Prelude.{◌≡◌, IfOk};
 ghost use Rattle.std.specs.String.{string_bytes};
@@ -7,7 +7,7 @@ ghost use Rattle.tr_export.specs.Paths.{folder_of, path_of};
 use std::alloc::{AllocError, Allocator};
 use tr_terms::Name;
 
-/// The folder of an archive: `DIR/NAME/archives/ARCHIVE`.
+/// The folder of an archive: `DIR/NAME/archives/ARCHIVE`. Fails if an allocation fails.
 pub fn archive_folder<A: Allocator>(
     alloc: A,
     dir: &str,
@@ -20,7 +20,7 @@ pub fn archive_folder<A: Allocator>(
     format!(in alloc; "{dir}/{name}/archives/{archive}")
 }
 
-/// The path of a file in a folder: `FOLDER/FILE`.
+/// The path of a file in a folder: `FOLDER/FILE`. Fails if an allocation fails.
 pub fn file_path<A: Allocator>(alloc: A, folder: &str, file: &str) -> Result<String<A>, AllocError>
     ensures { IfOk result (λ s. string_bytes s ≡ path_of folder.now file.now) }
 {

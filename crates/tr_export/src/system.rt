@@ -26,7 +26,7 @@ impl<F: FileSystem + Drop> SystemDisk<F> {
         }
     }
 
-    /// The file system.
+    /// The file system below the disk.
     pub fn files(&self) -> &F
         ensures { ⟦<SystemDisk<F> as Disk>⟧.made self.now ≡ F.made result.now }
     {

@@ -26,8 +26,10 @@ fn write_metadata_file<B: Allocator, D: Disk>(
     path: &str,
     uuid: &Uuid,
 ) -> Result<(), ExportFault>
-    ensures ok { OnOk result (D.made disk.new ≡ and_then_made (D.made disk.old) (File path.now (metadata_of uuid.now) ∷ [])) }
-    ensures err { OnErr result (MadeFront (D.made disk.old) (D.made disk.new) (File path.now (metadata_of uuid.now) ∷ [])) }
+    ensures ok { OnOk result (D.made disk.new ≡ and_then_made (D.made disk.old)
+        (File path.now (metadata_of uuid.now) ∷ [])) }
+    ensures err { OnErr result
+        (MadeFront (D.made disk.old) (D.made disk.new) (File path.now (metadata_of uuid.now) ∷ [])) }
     ensures failures { FailedByWrite (D.failures disk.old) (D.failures disk.new) result }
 {
     let mut file = disk.open_file(path)?;
@@ -46,8 +48,10 @@ fn write_part_file<A: Allocator, B: Allocator + Copy, D: Disk>(
     path: &str,
     part: &Part<A>,
 ) -> Result<(), ExportFault>
-    ensures ok { OnOk result (D.made disk.new ≡ and_then_made (D.made disk.old) (File path.now (packets_text part.now.packets) ∷ [])) }
-    ensures err { OnErr result (MadeFront (D.made disk.old) (D.made disk.new) (File path.now (packets_text part.now.packets) ∷ [])) }
+    ensures ok { OnOk result (D.made disk.new ≡ and_then_made (D.made disk.old)
+        (File path.now (packets_text part.now.packets) ∷ [])) }
+    ensures err { OnErr result
+        (MadeFront (D.made disk.old) (D.made disk.new) (File path.now (packets_text part.now.packets) ∷ [])) }
     ensures failures { FailedByWrite (D.failures disk.old) (D.failures disk.new) result }
 {
     let mut file = disk.open_file(path)?;
@@ -68,8 +72,10 @@ fn write_stream<A: Allocator, B: Allocator + Copy, D: Disk>(
     session: &Session<A>,
     i: u64,
 ) -> Result<(), ExportFault>
-    ensures ok { OnOk result (D.made disk.new ≡ and_then_made (D.made disk.old) (stream_file folder.now id session.now i)) }
-    ensures err { OnErr result (MadeFront (D.made disk.old) (D.made disk.new) (stream_file folder.now id session.now i)) }
+    ensures ok { OnOk result (D.made disk.new ≡ and_then_made (D.made disk.old)
+        (stream_file folder.now id session.now i)) }
+    ensures err { OnErr result
+        (MadeFront (D.made disk.old) (D.made disk.new) (stream_file folder.now id session.now i)) }
     ensures failures { FailedByWrite (D.failures disk.old) (D.failures disk.new) result }
 {
     let Some(channel) = session.book().channel_of(i) else {
@@ -94,8 +100,11 @@ fn write_streams<A: Allocator, B: Allocator + Copy, D: Disk>(
     id: u64,
     session: &Session<A>,
 ) -> Result<(), ExportFault>
-    ensures ok { OnOk result (D.made disk.new ≡ and_then_made (D.made disk.old) (stream_files folder.now id session.now (length session.now.streams))) }
-    ensures err { OnErr result (MadeFront (D.made disk.old) (D.made disk.new) (stream_files folder.now id session.now (length session.now.streams))) }
+    ensures ok { OnOk result (D.made disk.new ≡ and_then_made (D.made disk.old)
+        (stream_files folder.now id session.now (length session.now.streams))) }
+    ensures err { OnErr result
+        (MadeFront (D.made disk.old) (D.made disk.new)
+        (stream_files folder.now id session.now (length session.now.streams))) }
     ensures failures { FailedByWrite (D.failures disk.old) (D.failures disk.new) result }
 {
     'streams: for i in 0..session.streams() {
@@ -112,8 +121,10 @@ fn write_chunk<A: Allocator, B: Allocator + Copy, D: Disk>(
     id: u64,
     session: &Session<A>,
 ) -> Result<(), ExportFault>
-    ensures ok { OnOk result (D.made disk.new ≡ and_then_made (D.made disk.old) (chunk_made folder.now id session.now)) }
-    ensures err { OnErr result (MadeFront (D.made disk.old) (D.made disk.new) (chunk_made folder.now id session.now)) }
+    ensures ok { OnOk result (D.made disk.new ≡ and_then_made (D.made disk.old)
+        (chunk_made folder.now id session.now)) }
+    ensures err { OnErr result
+        (MadeFront (D.made disk.old) (D.made disk.new) (chunk_made folder.now id session.now)) }
     ensures failures { FailedByWrite (D.failures disk.old) (D.failures disk.new) result }
 {
     let metadata = file_path(alloc, folder, "metadata")?;
@@ -122,7 +133,7 @@ fn write_chunk<A: Allocator, B: Allocator + Copy, D: Disk>(
     write_streams(alloc, disk, folder, id, session)
 }
 
-/// Writes an archive to the folder that its name names.
+/// Writes an archive to the folder of its name.
 fn write_archive<A: Allocator, B: Allocator + Copy, D: Disk>(
     alloc: B,
     disk: &mut D,
@@ -131,8 +142,10 @@ fn write_archive<A: Allocator, B: Allocator + Copy, D: Disk>(
     session: &Session<A>,
     archive: Archive,
 ) -> Result<(), ExportFault>
-    ensures ok { OnOk result (D.made disk.new ≡ and_then_made (D.made disk.old) (archive_made dir.now name.now session.now archive)) }
-    ensures err { OnErr result (MadeFront (D.made disk.old) (D.made disk.new) (archive_made dir.now name.now session.now archive)) }
+    ensures ok { OnOk result (D.made disk.new ≡ and_then_made (D.made disk.old)
+        (archive_made dir.now name.now session.now archive)) }
+    ensures err { OnErr result
+        (MadeFront (D.made disk.old) (D.made disk.new) (archive_made dir.now name.now session.now archive)) }
     ensures failures { FailedByWrite (D.failures disk.old) (D.failures disk.new) result }
 {
     let offset = session.book().offset();
@@ -142,14 +155,14 @@ fn write_archive<A: Allocator, B: Allocator + Copy, D: Disk>(
 }
 
 /// Writes each archive of a session, in order: the folder `DIR/NAME/archives/ARCHIVE` (see `archive_name`), in it the
-/// file `metadata`, and for each stream the file `CHANNEL_NUMBER` with the packets of its part of that chunk, empty where
-/// there are none. What isn't an archive yet, the current chunk and a pending rotation's, isn't written. Folders that
-/// aren't there are made, and files that are there lose what they had.
+/// file `metadata`, and for each stream the file `CHANNEL_NUMBER` with the packets of its part of that chunk, empty if
+/// there are none. What isn't an archive yet, the current chunk and a pending rotation's, isn't written. Folders that don't
+/// exist are made, and files that exist are emptied before they are written.
 ///
 /// # Errors
 ///
-/// `Write` where a folder or a file can't be made or written, `NoMemory`: what was written before stays, and the file that
-/// comes next may be broken, with a front part of its bytes in place of what it had. No other file is touched.
+/// `Write` if a folder or a file can't be made or written, `NoMemory` if an allocation fails: what was written before stays,
+/// and the next file may be broken, with a prefix of its bytes in place of what it had. No other file is touched.
 pub fn write_archives<A: Allocator, B: Allocator + Copy, D: Disk>(
     alloc: B,
     disk: &mut D,
@@ -157,8 +170,10 @@ pub fn write_archives<A: Allocator, B: Allocator + Copy, D: Disk>(
     name: &Name<'_>,
     session: &Session<A>,
 ) -> Result<(), ExportFault>
-    ensures ok { OnOk result (D.made disk.new ≡ and_then_made (D.made disk.old) (archives_made dir.now name.now session.now)) }
-    ensures err { OnErr result (MadeFront (D.made disk.old) (D.made disk.new) (archives_made dir.now name.now session.now)) }
+    ensures ok { OnOk result (D.made disk.new ≡ and_then_made (D.made disk.old)
+        (archives_made dir.now name.now session.now)) }
+    ensures err { OnErr result
+        (MadeFront (D.made disk.old) (D.made disk.new) (archives_made dir.now name.now session.now)) }
     ensures failures { FailedByWrite (D.failures disk.old) (D.failures disk.new) result }
 {
     'archives: for archive in session.book().archives() {

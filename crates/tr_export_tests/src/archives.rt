@@ -12,12 +12,13 @@ use std::test::Fail;
 use tr_export::{Made, MemoryDisk, write_archives};
 use tr_packet::metadata_text;
 use tr_session::Session;
-use tr_terms::{Mode, Moment, Name, OffsetMinutes, SessionMode};
+use tr_terms::{Mode, Name, OffsetMinutes, SessionMode};
+use tr_testing::moment;
 use uuid::Uuid;
 
-/// Holds what a test found to what it wanted. As a call without clauses it keeps the proofs of the tests short.
-fn assert_same<T: PartialEq + Debug + Drop>(rt: &impl Abort, found: T, wanted: T) {
-    assert_eq!(rt; found, wanted);
+/// Compares what a test found with what it expects. As a call without clauses it keeps the proofs of the tests short.
+fn assert_same<T: PartialEq + Debug + Drop>(rt: &impl Abort, found: T, expected: T) {
+    assert_eq!(rt; found, expected);
 }
 
 /// The paths in the archive of a chunk that begins at 0 and ends at 10.
@@ -26,10 +27,6 @@ const FOLDER: &str = "d/s/archives/19700101T000000+0000-19700101T000000+0000-0";
 const METADATA: &str = "d/s/archives/19700101T000000+0000-19700101T000000+0000-0/metadata";
 
 const STREAM: &str = "d/s/archives/19700101T000000+0000-19700101T000000+0000-0/c_0";
-
-fn moment(nanoseconds: u64) -> Moment {
-    Moment::new(nanoseconds).unwrap_or(Moment::zero())
-}
 
 fn uuid() -> Uuid {
     Uuid::from_u128(1)
@@ -107,7 +104,7 @@ fn an_archive_is_a_folder_with_its_files(rt: HostRuntime) -> Result<(), Fail> {
     Ok(())
 }
 
-// the packets are of 228 and of 256 bytes; numbers stand at 64, and what was discarded at 72
+// the packets are of 228 and of 256 bytes; numbers are at 64, and what was discarded at 72
 #[test]
 fn a_stream_s_file_has_its_packets(rt: HostRuntime) -> Result<(), Fail> {
     let session = rotated(rt.alloc())?;

@@ -1,4 +1,4 @@
--- Lines, and how they stand in a script.
+-- Lines, and how they make up a script.
 use Rattle.std.proofs.Common.{◌≡◌, ◌∙◌, ◌<◌, ◌≤◌, ◌+◌, ◌-◌, ◌&&◌, ℕ, Bool, zero, suc, cond, true, false, refl, sym, ap, ap₂, inl, inr, length-append, arith, List, [], ◌∷◌, ◌++◌, Some, None, length, take, get_or, nat_le, true≢false, lit<, lt-ltb, append_assoc, append-nil, add-one, drop-cons}
 use Rattle.std.specs.List.{flat_map, list_all, onto_first, position, position_or_len}
 use Rattle.std.specs.Str.{IsAscii}
@@ -43,7 +43,7 @@ keep_more-text line part = go (nat_le (length line) 4096 && list_all is_printabl
         true≢false (sym (rw (long_stays (length line) (length part) size, front.0) refl) ∙ e)) in
         rw (e, still) refl
 
--- ---- line feeds
+-- ---- newlines
 
 pub no_feed_before : (bytes : List ℕ) (i : ℕ) → position is_feed bytes ≡ Some i → HasNoFeed (take i bytes)
 no_feed_before bytes i e =
@@ -55,7 +55,8 @@ no_feed_before bytes i e =
 
 pub no_feed_at_all : (bytes : List ℕ) → position is_feed bytes ≡ None → HasNoFeed bytes
 no_feed_at_all bytes none = elim (cases_lt (position_or_len is_feed bytes) (length bytes)) [
-  | inl inside ↦ let found : Some (position_or_len is_feed bytes) ≡ None = rw (lt-ltb (position_or_len is_feed bytes) (length bytes) inside) at none in cc
+  | inl inside ↦ let found : Some (position_or_len is_feed bytes) ≡ None =
+      rw (lt-ltb (position_or_len is_feed bytes) (length bytes) inside) at none in cc
   | inr past ↦ All-from_get_or (λ b. is_feed b ≡ false) bytes 0 (λ k lt. fails_before_first is_feed bytes k 0 (omega arith))
 ]
 
@@ -63,7 +64,9 @@ pub feed_splits : (bytes : List ℕ) (i : ℕ) → position is_feed bytes ≡ So
 feed_splits bytes i e =
     let first = position-Some is_feed bytes i 0 e in
     let feed : get_or bytes i 0 ≡ 10 = (Decides-eqb (get_or bytes i 0) 10).0 first.1 in
-    sym (take-append-drop i bytes) ∙ ap (λ bs. take i bytes ++ bs) (drop-cons bytes i 0 first.0 ∙ ap₂ (λ (b : ℕ) (n : ℕ). b ∷ drop n bytes) feed (sym (add-one i)))
+    sym (take-append-drop i bytes)
+    ∙ ap (λ bs. take i bytes ++ bs)
+    (drop-cons bytes i 0 first.0 ∙ ap₂ (λ (b : ℕ) (n : ℕ). b ∷ drop n bytes) feed (sym (add-one i)))
 
 -- ---- the lines of a script
 
@@ -96,12 +99,12 @@ lines_of-last line none = ap lines_of_parts (slice_split_none is_feed line none)
 pub whole_lines_of-last : (line : List ℕ) → HasNoFeed line → whole_lines_of line ≡ []
 whole_lines_of-last line none = ap all_but_last (slice_split_none is_feed line none)
 
--- no line has a line feed in it
+-- no line has a newline in it
 abbrev pub AreLines : List (List ℕ) → Type 0
 AreLines [] = Unit {0}
 AreLines (line ∷ lines) = HasNoFeed line × AreLines lines
 
--- the lines, each with its line feed
+-- the lines, each with its newline
 abbrev pub joined : List (List ℕ) → List ℕ
 joined lines = flat_map (λ line. line ++ 10 ∷ []) lines
 
@@ -112,7 +115,8 @@ lines_of-joined (line ∷ lines) rest h =
     ap lines_of (append_assoc (line ++ 10 ∷ []) (joined lines) rest ∙ append_assoc line (10 ∷ []) (joined lines ++ rest))
     ∙ lines_of-line line (joined lines ++ rest) h.0 ∙ ap (λ ls. line ∷ ls) (lines_of-joined lines rest h.1)
 
-pub whole_lines_of-joined : (lines : List (List ℕ)) (rest : List ℕ) → AreLines lines → whole_lines_of (joined lines ++ rest) ≡ lines ++ whole_lines_of rest
+pub whole_lines_of-joined : (lines : List (List ℕ)) (rest : List ℕ) → AreLines lines
+    → whole_lines_of (joined lines ++ rest) ≡ lines ++ whole_lines_of rest
 whole_lines_of-joined [] rest h = refl
 whole_lines_of-joined (line ∷ lines) rest h =
     ap whole_lines_of (append_assoc (line ++ 10 ∷ []) (joined lines) rest ∙ append_assoc line (10 ∷ []) (joined lines ++ rest))
@@ -127,7 +131,9 @@ parts-more : (bytes more : List ℕ) → length (parts_of bytes) ≤ length (par
 parts-more [] more = omega (arith, ap length (some_parts more).2)
 parts-more (b ∷ bytes) more = go (is_feed b) (parts-more bytes more)
   where
-    go : (t : Bool) → length (parts_of bytes) ≤ length (parts_of (bytes ++ more)) → length (cond t ([] ∷ parts_of bytes) (onto_first b (parts_of bytes))) ≤ length (cond t ([] ∷ parts_of (bytes ++ more)) (onto_first b (parts_of (bytes ++ more))))
+    go : (t : Bool) → length (parts_of bytes) ≤ length (parts_of (bytes ++ more))
+        → length (cond t ([] ∷ parts_of bytes) (onto_first b (parts_of bytes)))
+        ≤ length (cond t ([] ∷ parts_of (bytes ++ more)) (onto_first b (parts_of (bytes ++ more))))
     go true rest = omega (arith, rest)
     go false rest = omega (arith, rest, onto_first-length b bytes, onto_first-length b (bytes ++ more))
 
@@ -140,7 +146,7 @@ whole_lines-parts bytes =
     let h = some_parts bytes in
     omega (arith, ap (λ (ps : List (List ℕ)). length (all_but_last ps)) h.2, all_but_last-length h.0 h.1, ap length h.2)
 
--- without the last bytes no more lines are whole than in front of them
+-- without at least as many bytes as the rest has, no more lines are whole than in the front
 pub whole_lines-front : (front rest : List ℕ) (n : ℕ) → length rest ≤ n
     → length (whole_lines_of (take (length (front ++ rest) - n) (front ++ rest))) ≤ length (whole_lines_of front)
 whole_lines-front front rest n short =
@@ -160,7 +166,9 @@ whole_lines-front front rest n short =
 
 pub joined-push : (lines : List (List ℕ)) (line : List ℕ) → joined (lines ++ line ∷ []) ≡ joined lines ++ (line ++ 10 ∷ [])
 joined-push [] line = append-nil (line ++ 10 ∷ [])
-joined-push (first ∷ lines) line = ap (λ bs. (first ++ 10 ∷ []) ++ bs) (joined-push lines line) ∙ sym (append_assoc (first ++ 10 ∷ []) (joined lines) (line ++ 10 ∷ []))
+joined-push (first ∷ lines) line =
+    ap (λ bs. (first ++ 10 ∷ []) ++ bs) (joined-push lines line)
+    ∙ sym (append_assoc (first ++ 10 ∷ []) (joined lines) (line ++ 10 ∷ []))
 
 pub AreLines-push : (lines : List (List ℕ)) (line : List ℕ) → AreLines lines → HasNoFeed line → AreLines (lines ++ line ∷ [])
 AreLines-push [] line h none = (none, tt)

@@ -28,7 +28,7 @@ held_after bytes start stop place = go (cases_lt (place + 1) (stop - start))
         let none : stop - (start + (place + 1)) ≡ 0 = omega arith in
         rw none (sym (drop_of_length-le (take (stop - start) (drop start bytes)) (grind (arith, common_steps))))
 
--- the part before the first line feed goes to the line
+-- the part before the first newline goes to the line
 pub TakesPart-feed : (old new : Reading) (i : ℕ) → position is_feed old.held ≡ Some i → new.held ≡ drop (i + 1) old.held
     → new.line ≡ keep_more old.line (take i old.held) → new.total ≡ old.total → TakesPart old new true
 TakesPart-feed old new i at rest text total = record {
@@ -103,11 +103,13 @@ module _ (before now : Option (List ℕ)) (old mid new : Reading) (s : ReadsOn b
   }
 
 -- nothing was given since
-pub ReadsOn-still : (before now after : Option (List ℕ)) (old mid new : Reading) → ReadsOn before now old mid → after ≡ now → new ≡ mid → ReadsOn before after old new
+pub ReadsOn-still : (before now after : Option (List ℕ)) (old mid new : Reading) → ReadsOn before now old mid → after ≡ now
+    → new ≡ mid → ReadsOn before after old new
 ReadsOn-still before now after old mid new s given same = rw (given, same) s
 
--- one byte more came than there may be
-pub ReadsAll-too_far : (before now after : Option (List ℕ)) (old mid new : Reading) (byte : ℕ) → ReadsOn before now old mid → mid.held ≡ [] → new ≡ mid
+-- one byte more came than is allowed
+pub ReadsAll-too_far : (before now after : Option (List ℕ)) (old mid new : Reading) (byte : ℕ) → ReadsOn before now old mid
+    → mid.held ≡ [] → new ≡ mid
     → mid.total ≡ LONGEST_SCRIPT → after ≡ and_then_bytes now (byte ∷ []) → GoesTooFar before after old new
 ReadsAll-too_far before now after old mid new byte s empty same full came = record {
   within = now;
@@ -117,7 +119,8 @@ ReadsAll-too_far before now after old mid new byte s empty same full came = reco
   came = came;
 }
 
--- a line takes its line feed at least
-pub ReadsLine-shrinks : (before after : Option (List ℕ)) (old new : Reading) → ReadsLine before after old new → new.total ≤ LONGEST_SCRIPT → budget new < budget old
+-- a line takes at least its newline
+pub ReadsLine-shrinks : (before after : Option (List ℕ)) (old new : Reading) → ReadsLine before after old new
+    → new.total ≤ LONGEST_SCRIPT → budget new < budget old
 ReadsLine-shrinks before after old new r within =
     omega (arith, r.total, within, ap length r.bytes, length-append old.held r.more, length-append r.raw (10 ∷ new.held))

@@ -16,15 +16,17 @@ words_in parts count = filter is_word (take count parts)
 one-part : (part : List ℕ) (t : Bool) → is_word part ≡ t → filter is_word (part ∷ []) ≡ cond t (part ∷ []) []
 one-part part t e = rw e refl
 
--- one part more
-pub words_in-more : (parts : List (List ℕ)) (count : ℕ) (part : List ℕ) (t : Bool) → count < length parts → part ≡ get_or parts count part → is_word part ≡ t
+-- one more part
+pub words_in-more : (parts : List (List ℕ)) (count : ℕ) (part : List ℕ) (t : Bool) → count < length parts
+    → part ≡ get_or parts count part → is_word part ≡ t
     → words_in parts (count + 1) ≡ words_in parts count ++ cond t (part ∷ []) []
 words_in-more parts count part t inside is word =
     ap (λ n. filter is_word (take n parts)) (add-one count) ∙ ap (filter is_word) (take-suc parts count part inside)
     ∙ filter-append is_word (take count parts) (get_or parts count part ∷ [])
     ∙ ap (λ p. words_in parts count ++ filter is_word (p ∷ [])) (sym is) ∙ ap (λ ws. words_in parts count ++ ws) (one-part part t word)
 
-module _ (old now new : List (Bor (List ℕ))) (parts : List (List ℕ)) (count more : ℕ) (part : Bor (List ℕ)) (kept : map (λ w. w.now) now ≡ map (λ w. w.now) old ++ words_in parts count)
+module _ (old now new : List (Bor (List ℕ))) (parts : List (List ℕ)) (count more : ℕ) (part : Bor (List ℕ))
+    (kept : map (λ w. w.now) now ≡ map (λ w. w.now) old ++ words_in parts count)
     (inside : count < length parts) (is : part.now ≡ get_or parts count part.now) (one : more ≡ count + 1) where
   -- a word is added
   pub words_in-push : is_word part.now ≡ true → new ≡ now ++ part ∷ [] → map (λ w. w.now) new ≡ map (λ w. w.now) old ++ words_in parts more
@@ -33,10 +35,12 @@ module _ (old now new : List (Bor (List ℕ))) (parts : List (List ℕ)) (count 
       ∙ append_assoc (map (λ w. w.now) old) (words_in parts count) (part.now ∷ [])
       ∙ ap (λ ws. map (λ w. w.now) old ++ ws) (sym (ap (words_in parts) one ∙ words_in-more parts count part.now true inside is word))
 
-  -- what is empty is no word
+  -- an empty part is no word
   pub words_in-same : is_word part.now ≡ false → map (λ w. w.now) now ≡ map (λ w. w.now) old ++ words_in parts more
   words_in-same word =
-      kept ∙ ap (λ ws. map (λ w. w.now) old ++ ws) (sym (ap (words_in parts) one ∙ words_in-more parts count part.now false inside is word ∙ append-nil (words_in parts count)))
+      kept ∙ ap (λ ws. map (λ w. w.now) old ++ ws)
+      (sym (ap (words_in parts) one ∙ words_in-more parts count part.now false inside is word
+      ∙ append-nil (words_in parts count)))
 
 -- all parts came
 pub words_in-all : (parts : List (List ℕ)) (count : ℕ) → count ≡ length parts → words_in parts count ≡ filter is_word parts

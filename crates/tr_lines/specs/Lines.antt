@@ -6,7 +6,7 @@ use Rattle.tr_terms.specs.declared.limits.TheConstants.{LONGEST_LINE}
 abbrev pub is_feed : ℕ → Bool
 is_feed b = b == 10
 
--- what stands between the line feeds; the last part has none behind it
+-- the parts between newlines; the last one has no newline after it
 abbrev pub parts_of : List ℕ → List (List ℕ)
 parts_of bytes = slice_split is_feed bytes
 
@@ -15,7 +15,7 @@ all_but_last [] = []
 all_but_last (part ∷ []) = []
 all_but_last (part ∷ next ∷ parts) = part ∷ all_but_last (next ∷ parts)
 
--- a last part counts where it isn't empty
+-- a last part counts unless it is empty
 abbrev pub with_last : List ℕ → List (List ℕ)
 with_last [] = []
 with_last (b ∷ bytes) = (b ∷ bytes) ∷ []
@@ -25,7 +25,7 @@ lines_of_parts [] = []
 lines_of_parts (part ∷ []) = with_last part
 lines_of_parts (part ∷ next ∷ parts) = part ∷ lines_of_parts (next ∷ parts)
 
--- the lines that end with a line feed
+-- the lines that end with a newline
 abbrev pub whole_lines_of : List ℕ → List (List ℕ)
 whole_lines_of bytes = all_but_last (parts_of bytes)
 
@@ -45,6 +45,6 @@ abbrev pub keep_more : Option (List ℕ) → List ℕ → Option (List ℕ)
 keep_more None part = None
 keep_more (Some text) part = text_of_line (text ++ part)
 
--- no line feed is among the bytes
+-- no newline is among the bytes
 abbrev pub HasNoFeed : List ℕ → Type 0
 HasNoFeed bytes = All (λ b. is_feed b ≡ false) bytes

@@ -10,21 +10,17 @@ pub record Reading : Type 0 where
   pub held : List ℕ
   -- how many bytes came
   pub total : ℕ
-  -- the text of the line that was read; none of a bad line
+  -- the text of the line that was read; none for a bad line
   pub line : Option (List ℕ)
 
 abbrev pub reading : List ℕ → ℕ → Option (List ℕ) → Reading
 reading held total line = record { held = held; total = total; line = line }
 
--- how many bytes are asked of the source at once
-abbrev pub longest_piece : ℕ
-longest_piece = 65536
-
 -- how many bytes may still go into lines
 abbrev pub budget : Reading → ℕ
 budget r = (LONGEST_SCRIPT - r.total) + length r.held
 
--- the source, which had given `before`, gave `more`, and the line `raw` came out with its line feed
+-- the source, which had given `before`, gave `more`, and the line `raw` came out with its newline
 pub record ReadsLine (before after : Option (List ℕ)) (old new : Reading) : Type 0 where
   pub raw : List ℕ
   pub more : List ℕ
@@ -34,7 +30,7 @@ pub record ReadsLine (before after : Option (List ℕ)) (old new : Reading) : Ty
   pub text : new.line ≡ text_of_line raw
   pub total : new.total ≡ old.total + length more
 
--- the source gave `more`, and `raw` is what there is of a line whose line feed did not come
+-- the source gave `more`, and `raw` is what there is of a line whose newline did not come
 pub record ReadsOn (before after : Option (List ℕ)) (old new : Reading) : Type 0 where
   pub raw : List ℕ
   pub more : List ℕ
@@ -44,12 +40,12 @@ pub record ReadsOn (before after : Option (List ℕ)) (old new : Reading) : Type
   pub text : new.line ≡ text_of_line raw
   pub total : new.total ≡ old.total + length more
 
--- and nothing else is held
+-- as above, and nothing else is held
 pub record ReadsAll (before after : Option (List ℕ)) (old new : Reading) : Type 0 where
   pub on : ReadsOn before after old new
   pub nothing_held : new.held ≡ []
 
--- so it is where the script is as long as it may be, and then one byte more came
+-- as above, with a script as long as it may be, and then one more byte came
 pub record GoesTooFar (before after : Option (List ℕ)) (old new : Reading) : Type 0 where
   pub within : Option (List ℕ)
   pub byte : ℕ
@@ -57,7 +53,7 @@ pub record GoesTooFar (before after : Option (List ℕ)) (old new : Reading) : T
   pub full : new.total ≡ LONGEST_SCRIPT
   pub came : after ≡ and_then_bytes within (byte ∷ [])
 
--- a part of what is held goes to the line, up to a line feed if there is one
+-- a part of what is held goes to the line, up to a newline if there is one
 pub record TakesPart (old new : Reading) (found : Bool) : Type 0 where
   pub part : List ℕ
   pub no_feed : HasNoFeed part

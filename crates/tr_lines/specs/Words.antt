@@ -2,7 +2,7 @@
 use Rattle.std.specs.Prelude.{ℕ, List, [], ◌∷◌, ◌==◌, Bool, true, false, filter, length, not}
 use Rattle.std.specs.List.{slice_split}
 
--- what stands between the spaces, without what is empty
+-- the parts between spaces, without empty ones
 abbrev pub words_of : List ℕ → List (List ℕ)
 words_of text = filter (λ word. not (length word == 0)) (slice_split (λ b. b == 32) text)
 
@@ -11,7 +11,7 @@ abbrev pub is_comment : List ℕ → Bool
 is_comment [] = false
 is_comment (b ∷ word) = b == 35
 
--- a line with these words gets no answer: there is none, or the first one begins a comment
+-- a line with these words gets no answer: there are none, or the first one begins a comment
 abbrev pub is_skipped : List (List ℕ) → Bool
 is_skipped [] = true
 is_skipped (word ∷ words) = is_comment word

@@ -14,8 +14,8 @@ fn has_only_printable(part: &[u8]) -> bool
     part.iter().all(|b| *b >= 0x20 && *b <= 0x7e)
 }
 
-/// The text of a line, as far as it came. Of a bad line nothing more is kept. Contracts see the text, none of a
-/// bad line.
+/// The text of a line, as far as it came. Nothing more is kept of a bad line. Contracts see the text, or none for a bad
+/// line.
 #[derive(Drop)]
 pub struct Line<A: Allocator = Global> {
     text: Vec<u8, A>,
@@ -46,7 +46,7 @@ impl<A: Allocator> Line<A> {
         }
     }
 
-    /// Begins a line anew.
+    /// Starts a line anew.
     pub fn clear(&mut self)
         ensures { self.new ≡ Some [] }
     {
@@ -54,7 +54,7 @@ impl<A: Allocator> Line<A> {
         self.is_bad = false;
     }
 
-    /// Adds a part.
+    /// Adds a part. If an allocation fails, the line is as it was.
     pub fn keep(&mut self, part: &[u8]) -> Result<(), AllocError>
         ensures ok { OnOk result (self.new ≡ keep_more self.old part.now) }
         ensures err { OnErr result (self.new ≡ self.old) }
@@ -69,7 +69,7 @@ impl<A: Allocator> Line<A> {
         self.text.extend_from_slice(part)
     }
 
-    /// The text, where it is a good line.
+    /// The text, if the line is good.
     pub fn text(&self) -> Option<&str>
         ensures { option_map (λ t. t.now) result ≡ self.now }
     {

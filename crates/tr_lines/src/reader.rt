@@ -3,18 +3,15 @@
 ghost use Rattle.std.specs.Prelude.{◌≡◌, ◌+◌, ◌<◌, ◌≤◌, ◌∷◌, [], ℕ, Some, true, false, Ok, Err, IfOk, OnOk, OnErr, length, take, option_map, position};
 ghost use Rattle.tr_record.specs.Bytes.{and_then_bytes, once_more};
 ghost use Rattle.tr_lines.specs.Lines.{is_feed};
-ghost use Rattle.tr_lines.specs.Reading.{GoesTooFar, ReadsAll, ReadsLine, ReadsOn, TakesPart, budget, longest_piece, reading};
+ghost use Rattle.tr_lines.specs.Reading.{GoesTooFar, ReadsAll, ReadsLine, ReadsOn, TakesPart, budget, reading};
 ghost use Rattle.tr_lines.specs.declared.reader.ReadFault.TheVariants.{Read, NoMemory};
-ghost use Rattle.tr_terms.specs.declared.limits.TheConstants.{LONGEST_SCRIPT};
+ghost use Rattle.tr_terms.specs.declared.limits.TheConstants.{LONGEST_PIECE, LONGEST_SCRIPT};
 
 use crate::line::Line;
 use std::alloc::{AllocError, Allocator, Global};
 use std::marker::Model;
 use tr_record::{ByteSource, Failed};
-use tr_terms::limits::LONGEST_SCRIPT;
-
-/// How many bytes are asked of the source at once.
-const PIECE: usize = 65_536;
+use tr_terms::limits::{LONGEST_PIECE, LONGEST_SCRIPT};
 
 /// Why no line was read.
 #[derive(Clone, Copy, Debug, PartialEq, Eq)]
@@ -23,7 +20,7 @@ pub enum ReadFault {
     Read,
     /// The script has more than 16,777,216 bytes.
     TooLong,
-    /// Memory was refused.
+    /// An allocation failed.
     NoMemory,
 }
 
@@ -46,20 +43,20 @@ impl From<AllocError> for ReadFault {
 /// What was read.
 #[derive(Clone, Copy, Debug, PartialEq, Eq)]
 pub enum Found {
-    /// A line with its line feed.
+    /// A line with its newline.
     Whole,
-    /// What stands behind the last line feed, nothing in most scripts.
+    /// What follows the last newline, nothing in most scripts.
     Last,
 }
 
-/// The place of the first line feed.
+/// The place of the first newline, if any.
 fn feed_at(bytes: &[u8]) -> Option<usize>
     ensures { result ≡ position is_feed bytes.now }
 {
     bytes.iter().position(|b| *b == b'\n')
 }
 
-/// Gets bytes to the front of the buffer, at most `room`.
+/// Gets bytes from the source to the front of the buffer, at most `room`.
 fn fill<S: ByteSource>(piece: &mut [u8], room: usize, source: &mut S) -> Result<usize, Failed>
     requires some { 0 < room }
     requires fits { room ≤ length piece.old }
@@ -87,19 +84,20 @@ pub struct LineReader<A: Allocator = Global> {
 
 impl<A: Allocator> Model for LineReader<A> {
     ghost use Rattle.std.specs.Prelude.{◌-◌, ◌<◌, ◌≤◌, drop, take, vec_len};
-    ghost use Rattle.tr_lines.specs.Reading.{Reading, longest_piece, reading};
-    ghost use Rattle.tr_terms.specs.declared.limits.TheConstants.{LONGEST_SCRIPT};
+    ghost use Rattle.tr_lines.specs.Reading.{Reading, reading};
+    ghost use Rattle.tr_terms.specs.declared.limits.TheConstants.{LONGEST_PIECE, LONGEST_SCRIPT};
 
     ghost Value = { Reading };
 
     ghost view = { λ r. reading (take (r.end - r.start) (drop r.start r.piece.items)) r.total r.line };
 
-    ghost invariant = { λ r. (r.start ≤ r.end) × (r.end ≤ vec_len r.piece) × (0 < vec_len r.piece) × (r.total ≤ LONGEST_SCRIPT) × (vec_len r.piece ≤ longest_piece) };
+    ghost invariant = { λ r. (r.start ≤ r.end) × (r.end ≤ vec_len r.piece) × (0 < vec_len r.piece)
+        × (r.total ≤ LONGEST_SCRIPT) × (vec_len r.piece ≤ LONGEST_PIECE) };
 }
 
 impl<A: Allocator> LineReader<A> {
-    /// The text of the line that was read last. None is a bad line: it has more than 4,096 bytes without its line
-    /// feed, or a byte outside 0x20 to 0x7E.
+    /// The text of the line that was read last. None for a bad line: it has more than 4,096 bytes without its newline, or a
+    /// byte outside 0x20 to 0x7E.
     pub fn text(&self) -> Option<&str>
         ensures { option_map (λ t. t.now) result ≡ self.now.line }
     {
@@ -113,12 +111,11 @@ impl<A: Allocator> LineReader<A> {
         self.line.clear();
     }
 
-    /// Moves what is held up to a line feed into the line, and answers whether there was one. Without one it moves
-    /// all.
+    /// Moves what is held, up to a newline, into the line, and answers whether there was one. Without one it moves all.
     fn take_part(&mut self) -> Result<bool, AllocError>
         ensures ok { IfOk result (TakesPart self.old self.new) }
         ensures within { self.new.total ≤ LONGEST_SCRIPT }
-        ensures held { length self.new.held ≤ longest_piece }
+        ensures held { length self.new.held ≤ LONGEST_PIECE }
         ensures err { OnErr result (self.new ≡ self.old) }
     {
         let held = &self.piece[self.start..self.end];
@@ -136,19 +133,24 @@ impl<A: Allocator> LineReader<A> {
         }
     }
 
-    /// Gets the next piece, where nothing is held, and answers whether there was one.
+    /// Gets the next piece when nothing is held, and answers whether there was one.
     fn refill<S: ByteSource>(&mut self, source: &mut S) -> Result<bool, ReadFault>
         requires { self.old.held ≡ [] }
         ensures given { OnOk result (S.given source.new ≡ and_then_bytes (S.given source.old) self.new.held) }
-        ensures total { OnOk result (self.new ≡ reading self.new.held (self.old.total + length self.new.held) self.old.line) }
+        ensures total { OnOk result
+            (self.new ≡ reading self.new.held (self.old.total + length self.new.held) self.old.line) }
         ensures some { result ≡ Ok true → 0 < length self.new.held }
         ensures within { self.new.total ≤ LONGEST_SCRIPT }
         ensures content { S.content source.new ≡ S.content source.old }
         ensures end { result ≡ Ok false → (self.new.held ≡ []) × (S.given source.new ≡ S.content source.new) }
         ensures err { OnErr result (self.new ≡ self.old) }
         ensures no_failure { (result ≡ Err ReadFault.Read → ⊥) → S.failures source.new ≡ S.failures source.old }
-        ensures read { result ≡ Err ReadFault.Read → (S.given source.new ≡ S.given source.old) × (S.failures source.new ≡ once_more (S.failures source.old)) }
-        ensures too_long { result ≡ Err ReadFault.TooLong → (self.old.total ≡ LONGEST_SCRIPT) × ((byte : ℕ) × (S.given source.new ≡ and_then_bytes (S.given source.old) (byte ∷ []))) }
+        ensures read { result ≡ Err ReadFault.Read
+            → (S.given source.new ≡ S.given source.old)
+            × (S.failures source.new ≡ once_more (S.failures source.old)) }
+        ensures too_long { result ≡ Err ReadFault.TooLong
+            → (self.old.total ≡ LONGEST_SCRIPT)
+            × ((byte : ℕ) × (S.given source.new ≡ and_then_bytes (S.given source.old) (byte ∷ []))) }
         ensures memory { result ≡ Err ReadFault.NoMemory → ⊥ }
     {
         let room = self.piece.len().min(LONGEST_SCRIPT - self.total).max(1);
@@ -162,23 +164,30 @@ impl<A: Allocator> LineReader<A> {
         Ok(count > 0)
     }
 
-    /// Reads the next line, or what stands behind the last line feed.
+    /// Reads the next line, or what follows the last newline.
     ///
     /// # Errors
     ///
-    /// `Read` where the source failed, `TooLong` where a byte came behind the longest script, `NoMemory` where memory
-    /// was refused. What had come of the line is then lost to the next call, and nothing else.
+    /// `Read` if the source failed, `TooLong` if a byte came after the longest script, `NoMemory` if an allocation failed.
+    /// The next call then goes without what had come of the line, and nothing else.
     pub fn read_line<S: ByteSource>(&mut self, source: &mut S) -> Result<Found, ReadFault>
-        ensures whole { result ≡ Ok Found.Whole → ReadsLine (S.given source.old) (S.given source.new) self.old self.new }
+        ensures whole { result ≡ Ok Found.Whole
+            → ReadsLine (S.given source.old) (S.given source.new) self.old self.new }
         ensures shrinks { result ≡ Ok Found.Whole → budget self.new < budget self.old }
-        ensures last { result ≡ Ok Found.Last → ReadsAll (S.given source.old) (S.given source.new) self.old self.new × (S.given source.new ≡ S.content source.new) }
+        ensures last { result ≡ Ok Found.Last
+            → ReadsAll (S.given source.old) (S.given source.new) self.old self.new
+            × (S.given source.new ≡ S.content source.new) }
         ensures content { S.content source.new ≡ S.content source.old }
 
-        ensures read { result ≡ Err ReadFault.Read → ReadsAll (S.given source.old) (S.given source.new) self.old self.new × (S.failures source.new ≡ once_more (S.failures source.old)) }
-        ensures too_long { result ≡ Err ReadFault.TooLong → GoesTooFar (S.given source.old) (S.given source.new) self.old self.new }
-        ensures memory { result ≡ Err ReadFault.NoMemory → ReadsOn (S.given source.old) (S.given source.new) self.old self.new }
+        ensures read { result ≡ Err ReadFault.Read
+            → ReadsAll (S.given source.old) (S.given source.new) self.old self.new
+            × (S.failures source.new ≡ once_more (S.failures source.old)) }
+        ensures too_long { result ≡ Err ReadFault.TooLong
+            → GoesTooFar (S.given source.old) (S.given source.new) self.old self.new }
+        ensures memory { result ≡ Err ReadFault.NoMemory
+            → ReadsOn (S.given source.old) (S.given source.new) self.old self.new }
         ensures no_failure { (result ≡ Err ReadFault.Read → ⊥) → S.failures source.new ≡ S.failures source.old }
-        ensures held { length self.new.held ≤ longest_piece }
+        ensures held { length self.new.held ≤ LONGEST_PIECE }
     {
         self.begin();
         'pieces: loop {
@@ -193,12 +202,12 @@ impl<A: Allocator> LineReader<A> {
 }
 
 impl<A: Allocator + Copy> LineReader<A> {
-    /// A reader that has read nothing.
+    /// A reader that has read nothing. Fails if an allocation fails.
     pub fn new(alloc: A) -> Result<Self, AllocError>
         ensures { IfOk result (λ r. r ≡ reading [] 0 (Some [])) }
     {
         Ok(LineReader {
-            piece: vec![in alloc; 0; PIECE]?,
+            piece: vec![in alloc; 0; LONGEST_PIECE]?,
             start: 0,
             end: 0,
             total: 0,

@@ -5,17 +5,20 @@ ghost use Rattle.tr_lines.specs.Words.{is_skipped, words_of};
 
 use std::alloc::{AllocError, Allocator};
 
-/// Adds the words of a text to a list, parted by spaces.
+/// Adds the words of a text to a list. Spaces separate them.
 ///
 /// # Errors
 ///
-/// Where memory is refused. Some first ones of the words are added then.
+/// An allocation failed. A prefix of the words is added then.
 pub fn push_words<'a, A: Allocator>(
     words: &mut Vec<&'a str, A>,
     text: &'a str,
 ) -> Result<(), AllocError>
-    ensures ok { OnOk result (map (λ w. w.now) words.new.items ≡ map (λ w. w.now) words.old.items ++ words_of text.entry.now) }
-    ensures err { OnErr result ((count : ℕ) × (map (λ w. w.now) words.new.items ≡ map (λ w. w.now) words.old.items ++ take count (words_of text.entry.now))) }
+    ensures ok { OnOk result (map (λ w. w.now) words.new.items
+        ≡ map (λ w. w.now) words.old.items ++ words_of text.entry.now) }
+    ensures err { OnErr result
+        ((count : ℕ) × (map (λ w. w.now) words.new.items ≡ map (λ w. w.now) words.old.items
+        ++ take count (words_of text.entry.now))) }
 {
     'parts: for part in text.split(' ') {
         if !part.is_empty() {

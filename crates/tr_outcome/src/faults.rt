@@ -8,7 +8,8 @@ use tr_schedule::ScheduleFault;
 use tr_session::StepFault;
 use tr_session_book::SessionFault;
 
-/// Why a line is refused: by the console, by a session, or by a stream. Nothing changed.
+/// Why a line is refused: by the console, by a session, or by a stream. Nothing changed, except that a rotation whose
+/// allocation failed may be pending.
 #[derive(Clone, Copy, Debug, PartialEq, Eq, Error)]
 pub enum LineFault {
     /// There is no session of this name.
@@ -23,10 +24,10 @@ pub enum LineFault {
     /// There is no such schedule.
     #[error("{0}")]
     Schedule(ScheduleFault),
-    /// By the session, or by the console in a session's words.
+    /// The session refused, or the console did with a session's fault.
     #[error("{0}")]
     Session(SessionFault),
-    /// By the session or the stream of a step.
+    /// The session or the stream refused a step.
     #[error("{0}")]
     Step(StepFault),
 }
@@ -60,8 +61,8 @@ impl LineFault {
         }
     }
 
-    /// Whether memory was refused, which ends the run.
-    pub fn is_want_of_memory(&self) -> bool
+    /// Whether an allocation failed, which ends the run.
+    pub fn wants_memory(&self) -> bool
         ensures { result ≡ wants_memory self.now }
     {
         match self {

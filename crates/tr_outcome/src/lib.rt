@@ -1,5 +1,5 @@
-//! What a line's call can come to: why it is refused, and how archives and ticks are told.
-//! The calls of sessions by their names and the texts of their answers both stand on this.
+//! What a line's call can come to: why it is refused, and how it answers archives and ticks.
+//! The calls of sessions by their names and the texts of their answers both use this.
 #![tactic(auto)]
 
 mod archives;

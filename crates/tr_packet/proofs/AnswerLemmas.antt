@@ -19,7 +19,8 @@ refused f = Err f
 abbrev IsFound : List ℕ → Contents → ℕ → Type 0
 IsFound bytes p n = Begins p (drop n bytes) bytes × (n ≡ packet_size p)
 
-pub answer_found : (bytes : List ℕ) (answer : Answer) → AreBytes bytes → IfOk answer (λ _. first_fault bytes ≡ None) → IfOk answer (λ x. x.0 ≡ contents_in bytes) → IfOk answer (λ x. x.1 ≡ packet_bits_in bytes / 8)
+pub answer_found : (bytes : List ℕ) (answer : Answer) → AreBytes bytes → IfOk answer (λ _. first_fault bytes ≡ None)
+    → IfOk answer (λ x. x.0 ≡ contents_in bytes) → IfOk answer (λ x. x.1 ≡ packet_bits_in bytes / 8)
     → IfOk answer (λ x. Begins x.0 (drop x.1 bytes) bytes × (x.1 ≡ packet_size x.0))
 answer_found bytes (Err f) small sound packet size = tt
 answer_found bytes (Ok x) small sound packet size =
@@ -30,7 +31,8 @@ answer_found bytes (Ok x) small sound packet size =
 none_is_some : (f : PacketFault) → None ≡ Some f → ⊥
 none_is_some f e = cc
 
-pub answer_only : (bytes : List ℕ) (answer : Answer) → IfOk answer (λ x. x.0 ≡ contents_in bytes) → IfOk answer (λ x. x.1 ≡ packet_bits_in bytes / 8) → IfErr answer (λ f. first_fault bytes ≡ Some f)
+pub answer_only : (bytes : List ℕ) (answer : Answer) → IfOk answer (λ x. x.0 ≡ contents_in bytes)
+    → IfOk answer (λ x. x.1 ≡ packet_bits_in bytes / 8) → IfErr answer (λ f. first_fault bytes ≡ Some f)
     → (p : Contents) (rest : List ℕ) → Begins p rest bytes → answer ≡ Ok (p, packet_size p)
 answer_only bytes (Ok x) packet size fault p rest begins =
     let r = packet_read p rest bytes begins in

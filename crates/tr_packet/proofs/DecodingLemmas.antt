@@ -16,8 +16,8 @@ use Rattle.tr_record.proofs.RecordLemmas.{all_weaken, fits_has_text, weight_of-r
 use Rattle.tr_record.proofs.WholeLemmas.{at_records, records_at, records_of}
 use Rattle.tr_packet.specs.Order.{serials_rise, last_serial_after, starts_at, in_order, moments_hold}
 use Rattle.tr_packet.specs.Packets.{Contents, magic, header_text, context_text, packet_text, packet_size, IsPacket}
-use Rattle.tr_packet.specs.Decoding.{Begins, number_from, bytes_from, stream_id_in, begin_in, end_in, content_bits_in, packet_bits_in, body_in, contents_in, sizes_hold, front_fault, records_fault, first_fault}
-use Rattle.tr_packet.specs.Seen.{verdict, judged}
+use Rattle.tr_packet.specs.Decoding.{Begins, number_from, bytes_from, stream_id_in, begin_in, end_in, content_bits_in, packet_bits_in, body_in, contents_in, sizes_hold, fields_fault, front_fault, records_fault, first_fault}
+use Rattle.tr_packet.specs.Seen.{verdict, verdict_on}
 use Rattle.tr_packet.specs.declared.fault.PacketFault.{PacketFault}
 use Rattle.tr_packet.specs.declared.fault.PacketFault.TheVariants.{Short, BadMagic, BadStreamId, BadSize, BadRecord, SerialOrder, MomentOrder}
 use Rattle.tr_packet.specs.declared.head.Head.{Head}
@@ -28,7 +28,7 @@ use Rattle.tr_terms.specs.declared.limits.TheConstants.{LAST_MOMENT}
 
 -- ---- the front
 
--- what is said where no fault of the front applies
+-- what holds if no fault of the front applies
 pub record Passes (bytes : List ℕ) : Type 0 where
   pub long : 80 ≤ length bytes
   pub front : take 4 bytes ≡ magic
@@ -45,6 +45,10 @@ some_is_none x e = cc
 no_fault : (test : Bool) (f : PacketFault) (o : Option PacketFault) → cond test (Some f) o ≡ None → (test ≡ false) × (o ≡ None)
 no_fault true f o e = absurd (some_is_none f e)
 no_fault false f o e = (refl, e)
+
+first_none : (f g : Option PacketFault) → option_or f g ≡ None → (f ≡ None) × (g ≡ None)
+first_none None g e = (refl, e)
+first_none (Some f) g e = absurd (some_is_none f e)
 
 holds : (test : Bool) → not test ≡ false → test ≡ true
 holds true e = refl
@@ -73,20 +77,21 @@ sizes_from : (content size : ℕ) → Sizes content size → sizes_hold content 
 sizes_from content size s =
     let limits = leb (8 * 104) size && leb size (8 * 65536) in
     both (eqb content size) (eqb (size % 8) 0 && limits) (eq-eqb content size s.same)
-    (both (eqb (size % 8) 0) limits (eq-eqb (size % 8) 0 s.whole) (both (leb (8 * 104) size) (leb size (8 * 65536)) (le-leb (8 * 104) size s.low) (le-leb size (8 * 65536) s.high)))
+    (both (eqb (size % 8) 0) limits (eq-eqb (size % 8) 0 s.whole)
+    (both (leb (8 * 104) size) (leb size (8 * 65536)) (le-leb (8 * 104) size s.low) (le-leb size (8 * 65536) s.high)))
 
 pub front_passes : (bytes : List ℕ) → front_fault bytes ≡ None → Passes bytes
-unfolding front_fault
+unfolding front_fault fields_fault
 front_passes bytes none =
-    let there = cond (ltb (length bytes) (packet_bits_in bytes / 8)) (Some Short) None in
-    let sizes = cond (not (sizes_hold (content_bits_in bytes) (packet_bits_in bytes))) (Some BadSize) there in
+    let sizes = cond (not (sizes_hold (content_bits_in bytes) (packet_bits_in bytes))) (Some BadSize) None in
     let id = cond (not (eqb (stream_id_in bytes) 0)) (Some BadStreamId) sizes in
     let front = cond (not (starts_with eqb bytes magic)) (Some BadMagic) id in
-    let a = no_fault (ltb (length bytes) 80) Short front none in
+    let parts = first_none (fields_fault bytes) (cond (ltb (length bytes) (packet_bits_in bytes / 8)) (Some Short) None) none in
+    let a = no_fault (ltb (length bytes) 80) Short front parts.0 in
     let b = no_fault (not (starts_with eqb bytes magic)) BadMagic id a.1 in
     let c = no_fault (not (eqb (stream_id_in bytes) 0)) BadStreamId sizes b.1 in
-    let d = no_fault (not (sizes_hold (content_bits_in bytes) (packet_bits_in bytes))) BadSize there c.1 in
-    let e = no_fault (ltb (length bytes) (packet_bits_in bytes / 8)) Short None d.1 in
+    let d = no_fault (not (sizes_hold (content_bits_in bytes) (packet_bits_in bytes))) BadSize None c.1 in
+    let e = no_fault (ltb (length bytes) (packet_bits_in bytes / 8)) Short None parts.1 in
     let s = sizes_say (content_bits_in bytes) (packet_bits_in bytes) (holds (sizes_hold (content_bits_in bytes) (packet_bits_in bytes)) d.0) in
     record {
       long = ltb-false (length bytes) 80 a.0;
@@ -100,14 +105,19 @@ front_passes bytes none =
     }
 
 passed_front : (bytes : List ℕ) → ltb (length bytes) 80 ≡ false → starts_with eqb bytes magic ≡ true → eqb (stream_id_in bytes) 0 ≡ true
-    → sizes_hold (content_bits_in bytes) (packet_bits_in bytes) ≡ true → ltb (length bytes) (packet_bits_in bytes / 8) ≡ false → front_fault bytes ≡ None
-unfolding front_fault
+    → sizes_hold (content_bits_in bytes) (packet_bits_in bytes) ≡ true
+    → ltb (length bytes) (packet_bits_in bytes / 8) ≡ false → front_fault bytes ≡ None
+unfolding front_fault fields_fault
 passed_front bytes long front id sizes there = rw (long, front, id, sizes, there) refl
 
 pub passes_front : (bytes : List ℕ) → Passes bytes → front_fault bytes ≡ None
 passes_front bytes p =
-    passed_front bytes (le-ltb (length bytes) 80 p.long) (ap (λ (t : List ℕ). starts_with eqb t magic) (sym (take-append-drop 4 bytes) ∙ ap (λ (t : List ℕ). t ++ drop 4 bytes) p.front))
-    (eq-eqb (stream_id_in bytes) 0 p.id) (sizes_from (content_bits_in bytes) (packet_bits_in bytes) (record { same = p.sizes; whole = p.whole; low = p.low; high = p.high }))
+    passed_front bytes (le-ltb (length bytes) 80 p.long)
+    (ap (λ (t : List ℕ). starts_with eqb t magic)
+    (sym (take-append-drop 4 bytes) ∙ ap (λ (t : List ℕ). t ++ drop 4 bytes) p.front))
+    (eq-eqb (stream_id_in bytes) 0 p.id)
+    (sizes_from (content_bits_in bytes) (packet_bits_in bytes)
+    (record { same = p.sizes; whole = p.whole; low = p.low; high = p.high }))
     (le-ltb (length bytes) (packet_bits_in bytes / 8) p.there)
 
 -- ---- the records
@@ -138,7 +148,7 @@ same_fault f g e = cc
 same_count : (n m : ℕ × ℕ) → counted n ≡ counted m → n ≡ m
 same_count n m e = cc
 
--- records without a fault but for the limit of moments
+-- records without a fault except for the limit of moments
 verdict_ok : (rise starts order limit : Bool) (n : ℕ) (last : Option ℕ) (m : ℕ × ℕ) → verdict rise (starts && order) n last ≡ Ok m
     → (order_fault rise (starts && (order && limit)) ≡ order_fault true limit) × (m ≡ (n, unwrap_or last 0))
 verdict_ok true true true limit n last m e = (refl, sym (same_count (n, unwrap_or last 0) m e))
@@ -150,13 +160,16 @@ verdict_ok false starts order limit n last m e = absurd (err_is_ok m SerialOrder
 abbrev told : List Entry → ℕ × ℕ
 told es = (length es, unwrap_or (last_serial_after None es) 0)
 
-pub judged_ok : (begin end : ℕ) (n : ℕ × ℕ) (o : Option (List Entry)) → judged begin end o ≡ Ok n → end ≤ LAST_MOMENT → (records_fault begin end o ≡ None) × (n ≡ told (unwrap_or o []))
+pub judged_ok : (begin end : ℕ) (n : ℕ × ℕ) (o : Option (List Entry)) → verdict_on begin end o ≡ Ok n → end ≤ LAST_MOMENT
+    → (records_fault begin end o ≡ None) × (n ≡ told (unwrap_or o []))
 judged_ok begin end n None e within = absurd (err_is_ok n BadRecord e)
 judged_ok begin end n (Some es) e within =
-    let v = verdict_ok (serials_rise es) (starts_at begin es) (in_order begin end es) (leb end LAST_MOMENT) (length es) (last_serial_after None es) n e in
+    let v = verdict_ok (serials_rise es) (starts_at begin es) (in_order begin end es) (leb end LAST_MOMENT) (length es)
+    (last_serial_after None es) n e in
     (v.0 ∙ ap (order_fault true) (le-leb end LAST_MOMENT within), v.1)
 
-above : (begin end : ℕ) (es : List Entry) → starts_at begin es && in_order begin end es ≡ true → (LAST_MOMENT < begin) ⊎ (LAST_MOMENT < end) → leb end LAST_MOMENT ≡ false
+above : (begin end : ℕ) (es : List Entry) → starts_at begin es && in_order begin end es ≡ true
+    → (LAST_MOMENT < begin) ⊎ (LAST_MOMENT < end) → leb end LAST_MOMENT ≡ false
 above begin end es h late =
     let order = in_order-within begin end es (second_holds (starts_at begin es) (in_order begin end es) h) in
     elim late [
@@ -170,21 +183,24 @@ verdict_holds true false n last m e = absurd (err_is_ok m MomentOrder e)
 verdict_holds false hold n last m e = absurd (err_is_ok m SerialOrder e)
 
 -- a moment above the limit is the fault of records that have no other
-pub judged_late : (begin end : ℕ) (n : ℕ × ℕ) (o : Option (List Entry)) → judged begin end o ≡ Ok n → (LAST_MOMENT < begin) ⊎ (LAST_MOMENT < end) → records_fault begin end o ≡ Some MomentOrder
+pub judged_late : (begin end : ℕ) (n : ℕ × ℕ) (o : Option (List Entry)) → verdict_on begin end o ≡ Ok n
+    → (LAST_MOMENT < begin) ⊎ (LAST_MOMENT < end) → records_fault begin end o ≡ Some MomentOrder
 judged_late begin end n None e late = absurd (err_is_ok n BadRecord e)
 judged_late begin end n (Some es) e late =
     let hold = verdict_holds (serials_rise es) (starts_at begin es && in_order begin end es) (length es) (last_serial_after None es) n e in
     (verdict_ok (serials_rise es) (starts_at begin es) (in_order begin end es) (leb end LAST_MOMENT) (length es) (last_serial_after None es) n e).0
     ∙ ap (order_fault true) (above begin end es hold late)
 
--- ---- where no fault applies, a packet stands in front
+-- ---- if no fault applies, the bytes start with a packet
 
 in_time : (from to : ℕ) (es : List Entry) → AllByRecursion HasText es → IsTrue (in_order from to es) → to ≤ LAST_MOMENT → AllByRecursion Fits es
 in_time from to [] text order limit = tt
 in_time from to (e ∷ es) text order limit =
     let others = second_holds (leb from e.moment) (in_order e.moment to es) order in
-    let below = in_order-within e.moment to es others in
-    (record { serial = text.0.serial; moment = omega (arith, below, limit); id = text.0.id; payload = text.0.payload }, in_time e.moment to es text.1 others limit)
+    let below = in_order-within e.moment to es others in (
+      record { serial = text.0.serial; moment = omega (arith, below, limit); id = text.0.id; payload = text.0.payload },
+      in_time e.moment to es text.1 others limit,
+    )
 
 -- records without a fault
 record Sound (begin end : ℕ) (body : List ℕ) : Type 0 where
@@ -193,7 +209,8 @@ record Sound (begin end : ℕ) (body : List ℕ) : Type 0 where
   serials : IsTrue (serials_rise (entries_of body))
   moments : IsTrue (moments_hold begin end (entries_of body))
 
-sound_by : (begin end : ℕ) (body : List ℕ) (o : Option (List Entry)) → AreBytes body → entries_at body ≡ o → records_fault begin end o ≡ None → Sound begin end body
+sound_by : (begin end : ℕ) (body : List ℕ) (o : Option (List Entry)) → AreBytes body → entries_at body ≡ o
+    → records_fault begin end o ≡ None → Sound begin end body
 sound_by begin end body None small is none = absurd (some_is_none BadRecord none)
 sound_by begin end body (Some es) small is none =
     let are = at_records body es small is in
@@ -207,16 +224,12 @@ sound_by begin end body (Some es) small is none =
       moments = subst (λ (l : List Entry). IsTrue (moments_hold begin end l)) (sym same) h.1;
     }
 
-first_none : (f g : Option PacketFault) → option_or f g ≡ None → (f ≡ None) × (g ≡ None)
-first_none None g e = (refl, e)
-first_none (Some f) g e = absurd (some_is_none f e)
-
 body_length : (bytes : List ℕ) → Passes bytes → 80 + length (body_in bytes) ≡ packet_bits_in bytes / 8
 body_length bytes p =
     let size = packet_bits_in bytes / 8 in
     omega (arith, p.low, p.there, length-drop 80 (take size bytes), length-take size bytes)
 
--- a packet in front: what it obeys, and that the bytes of its records are whole
+-- a packet at the front: what it obeys, and that the bytes of its records are whole
 pub record Decoded (bytes : List ℕ) : Type 0 where
   pub packet : IsPacket (contents_in bytes)
   pub whole : AreWhole (body_in bytes)
@@ -245,7 +258,7 @@ packet_decoded bytes small none =
         uuid = omega (arith, passes.long, length-take 16 (drop 4 bytes), length-drop 4 bytes);
         stream = numeral_64.below (bytes_from 8 24 bytes) (AreBytes-take 8 (drop 24 bytes) (AreBytes-drop 24 bytes small));
         seq = numeral_64.below (bytes_from 8 64 bytes) (AreBytes-take 8 (drop 64 bytes) (AreBytes-drop 64 bytes small));
-        lost = numeral_64.below (bytes_from 8 72 bytes) (AreBytes-take 8 (drop 72 bytes) (AreBytes-drop 72 bytes small));
+        discarded = numeral_64.below (bytes_from 8 72 bytes) (AreBytes-take 8 (drop 72 bytes) (AreBytes-drop 72 bytes small));
         records = record { fits = sound.fits; serials = sound.serials; moments = sound.moments; small = omega (arith, weight, passes.high) };
       };
       whole = record { are = sound.are; fits = sound.fits };
@@ -260,7 +273,7 @@ packet_decoded bytes small none =
     regroup : (h c r rest : List ℕ) → h ++ (c ++ (r ++ rest)) ≡ (h ++ (c ++ r)) ++ rest
     regroup h c r rest = simp append_assoc
 
--- ---- where a packet stands in front, no fault applies
+-- ---- if the bytes start with a packet, no fault applies
 
 nonempty : (begin end : ℕ) (es : List Entry) → IsTrue (moments_hold begin end es) → 104 ≤ weight_of es
 nonempty begin end [] h = absurd (false≢true (moments_hold_says begin end [] h).starts)
@@ -272,11 +285,16 @@ pub record IsRead (p : Contents) (bytes : List ℕ) : Type 0 where
   pub size : packet_bits_in bytes / 8 ≡ packet_size p
 
 abbrev made : List ℕ → ℕ → ℕ → ℕ → ℕ → ℕ → List Entry → Contents
-made uuid stream begin end seq lost es = record { head = record { uuid = uuid; stream = stream; begin = begin; end = end; seq = seq; lost = lost }; records = es }
+made uuid stream begin end seq discarded es =
+    record {
+      head = record { uuid = uuid; stream = stream; begin = begin; end = end; seq = seq; discarded = discarded };
+      records = es;
+    }
 
-same_contents : (p : Contents) (u : List ℕ) (s b e q l : ℕ) (es : List Entry) → u ≡ p.head.uuid → s ≡ p.head.stream → b ≡ p.head.begin → e ≡ p.head.end → q ≡ p.head.seq → l ≡ p.head.lost → es ≡ p.records
+same_contents : (p : Contents) (u : List ℕ) (s b e q l : ℕ) (es : List Entry) → u ≡ p.head.uuid → s ≡ p.head.stream
+    → b ≡ p.head.begin → e ≡ p.head.end → q ≡ p.head.seq → l ≡ p.head.discarded → es ≡ p.records
     → made u s b e q l es ≡ p
-same_contents p u s b e q l es uuid stream begin end seq lost records = rw (uuid, stream, begin, end, seq, lost, records) refl
+same_contents p u s b e q l es uuid stream begin end seq discarded records = rw (uuid, stream, begin, end, seq, discarded, records) refl
 
 pub packet_read : (p : Contents) (rest bytes : List ℕ) → Begins p rest bytes → IsRead p bytes
 packet_read p rest bytes b =
@@ -289,14 +307,16 @@ packet_read p rest bytes b =
       begin = omega (arith, order, m.limit);
       end = omega (arith, m.limit);
       seq = b.packet.seq;
-      lost = b.packet.lost;
+      discarded = b.packet.discarded;
     } in
     let bits = 8 * packet_size p in
     let f = fields_read p rest bytes b.parts fits (omega (arith, made.small)) in
     let size : packet_bits_in bytes / 8 ≡ packet_size p = omega (arith, f.size) in
     let text = records_text p.records in
     let len : packet_size p ≡ 80 + length text = weight_of-records_text p.records in
-    let long : length bytes ≡ packet_size p + length rest = ap length b.parts ∙ length-append (packet_text p) rest ∙ ap (λ (n : ℕ). n + length rest) (length-packet_text p b.packet.uuid) in
+    let long : length bytes ≡ packet_size p + length rest =
+    ap length b.parts ∙ length-append (packet_text p) rest
+    ∙ ap (λ (n : ℕ). n + length rest) (length-packet_text p b.packet.uuid) in
     let some = nonempty p.head.begin p.head.end p.records made.moments in
     let body : body_in bytes ≡ text =
     ap (λ (n : ℕ). drop 80 (take n bytes)) (size ∙ len)
@@ -317,50 +337,63 @@ packet_read p rest bytes b =
     } in
     record {
       sound =
-          ap (λ (o : Option PacketFault). option_or o (records_fault (begin_in bytes) (end_in bytes) (entries_at (body_in bytes)))) (passes_front bytes passes)
+          ap (λ (o : Option PacketFault). option_or o
+          (records_fault (begin_in bytes) (end_in bytes) (entries_at (body_in bytes)))) (passes_front bytes passes)
           ∙ ap (records_fault (begin_in bytes) (end_in bytes)) read
           ∙ ap (λ (n : ℕ). records_fault n (end_in bytes) (Some p.records)) f.begin
           ∙ ap (λ (n : ℕ). records_fault p.head.begin n (Some p.records)) f.end
           ∙ rw (made.serials, made.moments) refl;
-      contents = same_contents p (bytes_from 16 4 bytes) (number_from w64 24 bytes) (begin_in bytes) (end_in bytes) (number_from w64 64 bytes) (number_from w64 72 bytes) (entries_of (body_in bytes))
-          f.uuid f.stream f.begin f.end f.seq f.lost (ap entries_of body ∙ records_of text p.records are);
+      contents = same_contents p (bytes_from 16 4 bytes) (number_from w64 24 bytes) (begin_in bytes) (end_in bytes)
+          (number_from w64 64 bytes) (number_from w64 72 bytes) (entries_of (body_in bytes))
+          f.uuid f.stream f.begin f.end f.seq f.discarded (ap entries_of body ∙ records_of text p.records are);
       size = size;
     }
 
 -- ---- what the decoder knows
 
 -- the bytes of the records, as they were cut out
-pub body_is : (bytes text body : List ℕ) (size : ℕ) → size ≡ packet_bits_in bytes / 8 → text ≡ take size bytes → body ≡ drop 80 text → body ≡ body_in bytes
+pub body_is : (bytes text body : List ℕ) (size : ℕ) → size ≡ packet_bits_in bytes / 8 → text ≡ take size bytes
+    → body ≡ drop 80 text → body ≡ body_in bytes
 body_is bytes text body size size-is text-is is = is ∙ ap (drop 80) (text-is ∙ ap (λ (n : ℕ). take n bytes) size-is)
 
-judged_in : (bytes body : List ℕ) (begin end : ℕ) → body ≡ body_in bytes → begin ≡ begin_in bytes → end ≡ end_in bytes → judged begin end (entries_at body) ≡ judged (begin_in bytes) (end_in bytes) (entries_at (body_in bytes))
+judged_in : (bytes body : List ℕ) (begin end : ℕ) → body ≡ body_in bytes → begin ≡ begin_in bytes → end ≡ end_in bytes
+    → verdict_on begin end (entries_at body) ≡ verdict_on (begin_in bytes) (end_in bytes) (entries_at (body_in bytes))
 judged_in bytes body begin end is begin-is end-is = rw (is, begin-is, end-is) refl
 
-fault_behind : (bytes : List ℕ) → front_fault bytes ≡ None → first_fault bytes ≡ records_fault (begin_in bytes) (end_in bytes) (entries_at (body_in bytes))
-fault_behind bytes none = ap (λ (o : Option PacketFault). option_or o (records_fault (begin_in bytes) (end_in bytes) (entries_at (body_in bytes)))) none
+fault_behind : (bytes : List ℕ) → front_fault bytes ≡ None
+    → first_fault bytes ≡ records_fault (begin_in bytes) (end_in bytes) (entries_at (body_in bytes))
+fault_behind bytes none = ap (λ (o : Option PacketFault). option_or o
+    (records_fault (begin_in bytes) (end_in bytes) (entries_at (body_in bytes)))) none
 
-pub sound_records : (bytes body : List ℕ) (begin end : ℕ) (n : ℕ × ℕ) → front_fault bytes ≡ None → body ≡ body_in bytes → begin ≡ begin_in bytes → end ≡ end_in bytes
-    → Ok n ≡ judged begin end (entries_at body) → end_in bytes ≤ LAST_MOMENT → (first_fault bytes ≡ None) × (n ≡ told (entries_of body))
+pub sound_records : (bytes body : List ℕ) (begin end : ℕ) (n : ℕ × ℕ) → front_fault bytes ≡ None → body ≡ body_in bytes
+    → begin ≡ begin_in bytes → end ≡ end_in bytes
+    → Ok n ≡ verdict_on begin end (entries_at body) → end_in bytes ≤ LAST_MOMENT → (first_fault bytes ≡ None) × (n ≡ told (entries_of body))
 unfolding entries_of
 sound_records bytes body begin end n none is begin-is end-is judged-is within =
-    let ok = judged_ok (begin_in bytes) (end_in bytes) n (entries_at (body_in bytes)) (sym (judged-is ∙ judged_in bytes body begin end is begin-is end-is)) within in
+    let ok = judged_ok (begin_in bytes) (end_in bytes) n (entries_at (body_in bytes))
+    (sym (judged-is ∙ judged_in bytes body begin end is begin-is end-is)) within in
     (fault_behind bytes none ∙ ok.0, ok.1 ∙ ap (λ (b : List ℕ). told (unwrap_or (entries_at b) [])) (sym is))
 
-pub late_records : (bytes body : List ℕ) (begin end : ℕ) (n : ℕ × ℕ) → front_fault bytes ≡ None → body ≡ body_in bytes → begin ≡ begin_in bytes → end ≡ end_in bytes
-    → Ok n ≡ judged begin end (entries_at body) → (LAST_MOMENT < begin_in bytes) ⊎ (LAST_MOMENT < end_in bytes) → first_fault bytes ≡ Some MomentOrder
+pub late_records : (bytes body : List ℕ) (begin end : ℕ) (n : ℕ × ℕ) → front_fault bytes ≡ None → body ≡ body_in bytes
+    → begin ≡ begin_in bytes → end ≡ end_in bytes
+    → Ok n ≡ verdict_on begin end (entries_at body) → (LAST_MOMENT < begin_in bytes) ⊎ (LAST_MOMENT < end_in bytes)
+    → first_fault bytes ≡ Some MomentOrder
 late_records bytes body begin end n none is begin-is end-is judged-is late =
-    fault_behind bytes none ∙ judged_late (begin_in bytes) (end_in bytes) n (entries_at (body_in bytes)) (sym (judged-is ∙ judged_in bytes body begin end is begin-is end-is)) late
+    fault_behind bytes none ∙ judged_late (begin_in bytes) (end_in bytes) n (entries_at (body_in bytes))
+    (sym (judged-is ∙ judged_in bytes body begin end is begin-is end-is)) late
 
 last_some : (before : ℕ) (es : List Entry) → last_serial_after (Some before) es ≡ Some (unwrap_or (last_serial_after (Some before) es) 0)
 last_some before [] = refl
 last_some before (e ∷ es) = last_some e.serial es
 
 -- a packet has a last record, and this is its serial
-pub last_is : (h : Head) (es : List Entry) (last : ℕ) → IsPacket (record { head = h; records = es }) → last ≡ unwrap_or (last_serial_after None es) 0 → last_serial_after None es ≡ Some last
+pub last_is : (h : Head) (es : List Entry) (last : ℕ) → IsPacket (record { head = h; records = es })
+    → last ≡ unwrap_or (last_serial_after None es) 0 → last_serial_after None es ≡ Some last
 last_is h [] last packet is = absurd (false≢true (moments_hold_says h.begin h.end [] packet.records.moments).starts)
 last_is h (e ∷ es) last packet is = last_some e.serial es ∙ ap Some (sym is)
 
-pub packet_of : (bytes body : List ℕ) (h : Head) → IsPacket (contents_in bytes) → h ≡ (contents_in bytes).head → body ≡ body_in bytes → IsPacket (record { head = h; records = entries_of body })
+pub packet_of : (bytes body : List ℕ) (h : Head) → IsPacket (contents_in bytes) → h ≡ (contents_in bytes).head
+    → body ≡ body_in bytes → IsPacket (record { head = h; records = entries_of body })
 packet_of bytes body h packet head-is is =
     subst (λ (x : Head). IsPacket (record { head = x; records = entries_of body })) (sym head-is)
     (subst (λ (b : List ℕ). IsPacket (record { head = (contents_in bytes).head; records = entries_of b })) (sym is) packet)
@@ -368,7 +401,8 @@ packet_of bytes body h packet head-is is =
 pub whole_of : (bytes body : List ℕ) → AreWhole (body_in bytes) → body ≡ body_in bytes → AreWhole body
 whole_of bytes body whole is = subst AreWhole (sym is) whole
 
-pub contents_are : (bytes body : List ℕ) (h : Head) (p : Contents) → p ≡ record { head = h; records = entries_of body } → h ≡ (contents_in bytes).head → body ≡ body_in bytes → p ≡ contents_in bytes
+pub contents_are : (bytes body : List ℕ) (h : Head) (p : Contents) → p ≡ record { head = h; records = entries_of body }
+    → h ≡ (contents_in bytes).head → body ≡ body_in bytes → p ≡ contents_in bytes
 contents_are bytes body h p p-is head-is is =
     p-is ∙ ap (λ (x : Head). with_head x (entries_of body)) head-is ∙ ap (λ (b : List ℕ). with_head (contents_in bytes).head (entries_of b)) is
   where

@@ -6,7 +6,7 @@ use Rattle.tr_packet.specs.Decoding.{Begins}
 use Rattle.tr_packet.proofs.TextLemmas.{length-packet_text}
 use Rattle.tr_packet.proofs.DecodingLemmas.{packet_read}
 
--- what is behind a packet
+-- what follows a packet
 behind_is : (p : Contents) (rest bytes : List ℕ) → Begins p rest bytes → drop (packet_size p) bytes ≡ rest
 behind_is p rest bytes b = ap (drop (packet_size p)) b.parts ∙ drop_at (packet_text p) rest (packet_size p) (length-packet_text p b.packet.uuid)
 
@@ -17,4 +17,5 @@ one_in_front p q after behind bytes first second =
 
 pub none_begins_another : (p q : Contents) (rest : List ℕ) → IsPacket p → IsPacket q → packet_text q ≡ packet_text p ++ rest → (p ≡ q) × (rest ≡ [])
 none_begins_another p q rest first second e =
-    one_in_front p q rest [] (packet_text q) (record { packet = first; parts = e }) (record { packet = second; parts = sym (append-nil (packet_text q)) })
+    one_in_front p q rest [] (packet_text q) (record { packet = first; parts = e })
+    (record { packet = second; parts = sym (append-nil (packet_text q)) })

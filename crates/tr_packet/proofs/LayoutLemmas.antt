@@ -1,4 +1,4 @@
--- The fields of a packet's header and context: what stands at each place, and what is read there.
+-- The fields of a packet's header and context: what is at each place, and what is read there.
 use Rattle.std.proofs.Common.{◌≡◌, ℕ, ◌+◌, ◌*◌, ◌^◌, ◌<◌, ◌≤◌, List, ◌++◌, length, take, drop, refl, sym, ap, ◌∙◌, append_assoc, arith}
 use Rattle.std.specs.Int.{Width, w32, w64, byte_len, from_le_bytes, to_le_bytes}
 use Rattle.std.proofs.lemmas.List.{take_at, drop_at, drop-drop, take-append-drop, length-take, length-drop}
@@ -9,14 +9,15 @@ use Rattle.tr_packet.specs.declared.head.Head.{Head}
 use Rattle.tr_packet.specs.Packets.{Contents, magic, header_text, context_text, packet_text, packet_size}
 use Rattle.tr_packet.specs.Decoding.{number_from, bytes_from, stream_id_in, begin_in, end_in, content_bits_in, packet_bits_in, contents_in}
 
--- ---- what is read where a text stands
+-- ---- what is read of a text
 
--- what stands behind a text
+-- what follows a text
 behind : (k n j : ℕ) (text tail bytes : List ℕ) → drop k bytes ≡ text ++ tail → length text ≡ n → k + n ≡ j → drop j bytes ≡ tail
 behind k n j text tail bytes stands len j-is =
     ap (λ (i : ℕ). drop i bytes) (sym j-is) ∙ sym (drop-drop n k bytes) ∙ ap (drop n) stands ∙ drop_at text tail n len
 
-reads : (w : Width) (limit : ℕ) → IsNumeral w limit → (k n : ℕ) (tail bytes : List ℕ) → drop k bytes ≡ to_le_bytes w n ++ tail → n < limit → number_from w k bytes ≡ n
+reads : (w : Width) (limit : ℕ) → IsNumeral w limit → (k n : ℕ) (tail bytes : List ℕ)
+    → drop k bytes ≡ to_le_bytes w n ++ tail → n < limit → number_from w k bytes ≡ n
 reads w limit numeral k n tail bytes stands below =
     ap (λ (t : List ℕ). from_le_bytes w (take (byte_len w) t)) stands
     ∙ ap (from_le_bytes w) (take_at (to_le_bytes w n) tail (byte_len w) (numeral.len n))
@@ -24,7 +25,8 @@ reads w limit numeral k n tail bytes stands below =
 
 -- ten fields, one after another
 in_a_row : (m u i s b e c z q l r rest : List ℕ)
-    → ((m ++ (u ++ (i ++ s))) ++ (((b ++ (e ++ (c ++ z))) ++ (q ++ l)) ++ r)) ++ rest ≡ m ++ (u ++ (i ++ (s ++ (b ++ (e ++ (c ++ (z ++ (q ++ (l ++ (r ++ rest))))))))))
+    → ((m ++ (u ++ (i ++ s))) ++ (((b ++ (e ++ (c ++ z))) ++ (q ++ l)) ++ r)) ++ rest
+    ≡ m ++ (u ++ (i ++ (s ++ (b ++ (e ++ (c ++ (z ++ (q ++ (l ++ (r ++ rest))))))))))
 in_a_row m u i s b e c z q l r rest = simp append_assoc
 
 in_parts : (m u i s b e c z q l r : List ℕ)
@@ -42,7 +44,7 @@ pub record Fields (p : Contents) (bits : ℕ) (back bytes : List ℕ) : Type 0 w
   pub content : content_bits_in bytes ≡ bits
   pub size : packet_bits_in bytes ≡ bits
   pub seq : number_from w64 64 bytes ≡ p.head.seq
-  pub lost : number_from w64 72 bytes ≡ p.head.lost
+  pub discarded : number_from w64 72 bytes ≡ p.head.discarded
   pub tail : drop 80 bytes ≡ back
 
 -- what fits the fields
@@ -52,15 +54,16 @@ pub record HeadFits (h : Head) : Type 0 where
   pub begin : h.begin < 2 ^ 64
   pub end : h.end < 2 ^ 64
   pub seq : h.seq < 2 ^ 64
-  pub lost : h.lost < 2 ^ 64
+  pub discarded : h.discarded < 2 ^ 64
 
--- where a packet's text stands in front, its fields are read
-pub fields_read : (p : Contents) (rest bytes : List ℕ) → bytes ≡ packet_text p ++ rest → HeadFits p.head → 8 * packet_size p < 2 ^ 64 → Fields p (8 * packet_size p) (records_text p.records ++ rest) bytes
+-- if the bytes start with a packet's text, its fields are read
+pub fields_read : (p : Contents) (rest bytes : List ℕ) → bytes ≡ packet_text p ++ rest → HeadFits p.head
+    → 8 * packet_size p < 2 ^ 64 → Fields p (8 * packet_size p) (records_text p.records ++ rest) bytes
 fields_read p rest bytes is fits small =
     let h = p.head in
     let bits = 8 * packet_size p in
     let t80 = records_text p.records ++ rest in
-    let t72 = to_le_bytes w64 h.lost ++ t80 in
+    let t72 = to_le_bytes w64 h.discarded ++ t80 in
     let t64 = to_le_bytes w64 h.seq ++ t72 in
     let t56 = to_le_bytes w64 bits ++ t64 in
     let t48 = to_le_bytes w64 bits ++ t56 in
@@ -70,8 +73,9 @@ fields_read p rest bytes is fits small =
     let t20 = to_le_bytes w32 0 ++ t24 in
     let t4 = h.uuid ++ t20 in
     let at0 : bytes ≡ magic ++ t4 =
-    is ∙ in_a_row magic h.uuid (to_le_bytes w32 0) (to_le_bytes w64 h.stream) (to_le_bytes w64 h.begin) (to_le_bytes w64 h.end) (to_le_bytes w64 bits) (to_le_bytes w64 bits)
-    (to_le_bytes w64 h.seq) (to_le_bytes w64 h.lost) (records_text p.records) rest in
+    is ∙ in_a_row magic h.uuid (to_le_bytes w32 0) (to_le_bytes w64 h.stream) (to_le_bytes w64 h.begin)
+    (to_le_bytes w64 h.end) (to_le_bytes w64 bits) (to_le_bytes w64 bits)
+    (to_le_bytes w64 h.seq) (to_le_bytes w64 h.discarded) (records_text p.records) rest in
     let at4 : drop 4 bytes ≡ t4 = behind 0 4 4 magic t4 bytes at0 refl refl in
     let at20 : drop 20 bytes ≡ t20 = behind 4 16 20 h.uuid t20 bytes at4 fits.uuid refl in
     let at24 : drop 24 bytes ≡ t24 = behind 20 4 24 (to_le_bytes w32 0) t24 bytes at20 refl refl in
@@ -91,18 +95,20 @@ fields_read p rest bytes is fits small =
       content = reads w64 (2 ^ 64) numeral_64 48 bits t56 bytes at48 small;
       size = reads w64 (2 ^ 64) numeral_64 56 bits t64 bytes at56 small;
       seq = reads w64 (2 ^ 64) numeral_64 64 h.seq t72 bytes at64 fits.seq;
-      lost = reads w64 (2 ^ 64) numeral_64 72 h.lost t80 bytes at72 fits.lost;
-      tail = behind 72 8 80 (to_le_bytes w64 h.lost) t80 bytes at72 refl refl;
+      discarded = reads w64 (2 ^ 64) numeral_64 72 h.discarded t80 bytes at72 fits.discarded;
+      tail = behind 72 8 80 (to_le_bytes w64 h.discarded) t80 bytes at72 refl refl;
     }
 
--- ---- what stands where fields are read
+-- ---- what the bytes are if fields are read
 
--- a part of the bytes, and what is behind it
+-- a part of the bytes, and what follows it
 cut : (k n j : ℕ) (bytes : List ℕ) → k + n ≡ j → drop k bytes ≡ bytes_from n k bytes ++ drop j bytes
-cut k n j bytes j-is = sym (take-append-drop n (drop k bytes)) ∙ ap (λ (t : List ℕ). bytes_from n k bytes ++ t) (drop-drop n k bytes ∙ ap (λ (i : ℕ). drop i bytes) j-is)
+cut k n j bytes j-is = sym (take-append-drop n (drop k bytes))
+    ∙ ap (λ (t : List ℕ). bytes_from n k bytes ++ t) (drop-drop n k bytes ∙ ap (λ (i : ℕ). drop i bytes) j-is)
 
--- where a number is read, its text stands
-stands : (w : Width) (limit : ℕ) → IsNumeral w limit → (k j : ℕ) (bytes : List ℕ) → AreBytes bytes → k + byte_len w ≡ j → j ≤ length bytes → drop k bytes ≡ to_le_bytes w (number_from w k bytes) ++ drop j bytes
+-- if a number is read, its text is there
+stands : (w : Width) (limit : ℕ) → IsNumeral w limit → (k j : ℕ) (bytes : List ℕ) → AreBytes bytes → k + byte_len w ≡ j
+    → j ≤ length bytes → drop k bytes ≡ to_le_bytes w (number_from w k bytes) ++ drop j bytes
 stands w limit numeral k j bytes small j-is long =
     let part = bytes_from (byte_len w) k bytes in
     let len : length part ≡ byte_len w = omega (arith, length-take (byte_len w) (drop k bytes), length-drop k bytes) in
@@ -110,7 +116,8 @@ stands w limit numeral k j bytes small j-is long =
     cut k (byte_len w) j bytes j-is ∙ ap (λ (t : List ℕ). t ++ drop j bytes) (sym text)
 
 -- bytes with the magic, the stream_id 0 and equal sizes begin with a header and a context
-pub fields_stand : (bytes : List ℕ) → AreBytes bytes → 80 ≤ length bytes → take 4 bytes ≡ magic → stream_id_in bytes ≡ 0 → content_bits_in bytes ≡ packet_bits_in bytes
+pub fields_stand : (bytes : List ℕ) → AreBytes bytes → 80 ≤ length bytes → take 4 bytes ≡ magic → stream_id_in bytes ≡ 0
+    → content_bits_in bytes ≡ packet_bits_in bytes
     → bytes ≡ header_text (contents_in bytes).head ++ (context_text (contents_in bytes).head (packet_bits_in bytes) ++ drop 80 bytes)
 fields_stand bytes small long front id sizes =
     let h = (contents_in bytes).head in
@@ -134,5 +141,6 @@ fields_stand bytes small long front id sizes =
     let s20 = at20 ∙ ap (λ (t : List ℕ). to_le_bytes w32 0 ++ t) s24 in
     let s4 = at4 ∙ ap (λ (t : List ℕ). h.uuid ++ t) s20 in
     at0 ∙ ap (λ (t : List ℕ). magic ++ t) s4
-    ∙ sym (in_parts magic h.uuid (to_le_bytes w32 0) (to_le_bytes w64 h.stream) (to_le_bytes w64 h.begin) (to_le_bytes w64 h.end) (to_le_bytes w64 bits) (to_le_bytes w64 bits)
-    (to_le_bytes w64 h.seq) (to_le_bytes w64 h.lost) (drop 80 bytes))
+    ∙ sym (in_parts magic h.uuid (to_le_bytes w32 0) (to_le_bytes w64 h.stream) (to_le_bytes w64 h.begin)
+    (to_le_bytes w64 h.end) (to_le_bytes w64 bits) (to_le_bytes w64 bits)
+    (to_le_bytes w64 h.seq) (to_le_bytes w64 h.discarded) (drop 80 bytes))

@@ -9,7 +9,8 @@ three_parts old a b c x y z first second third =
     regroup : (old a b c : List ℕ) → ((old ++ a) ++ b) ++ c ≡ old ++ (a ++ (b ++ c))
     regroup old a b c = simp append_assoc
 
--- where the last part was written
-pub three_if_ok : {T E : Type 0} (r : Result T E) (old a b c x y z : List ℕ) → x ≡ old ++ a → y ≡ x ++ b → OnOk r (z ≡ y ++ c) → OnOk r (z ≡ old ++ (a ++ (b ++ c)))
+-- if the last part was written
+pub three_if_ok : {T E : Type 0} (r : Result T E) (old a b c x y z : List ℕ) → x ≡ old ++ a → y ≡ x ++ b
+    → OnOk r (z ≡ y ++ c) → OnOk r (z ≡ old ++ (a ++ (b ++ c)))
 three_if_ok (Ok t) old a b c x y z first second third = three_parts old a b c x y z first second third
 three_if_ok (Err e) old a b c x y z first second third = tt

@@ -27,15 +27,20 @@ second_holds false b h = absurd cc
 pub below_more : (n m : ℕ) (es : List Entry) → n ≤ m → AllByRecursion (IsBelow n) es → AllByRecursion (IsBelow m) es
 below_more n m es le = all_weaken (IsBelow n) (IsBelow m) (λ e below. let h : e.serial < n = below in omega arith) es
 
-serials_rise_after-push : (before : Option ℕ) (es : List Entry) (e : Entry) → IsTrue (serials_rise_after before es) → follows before e.serial ≡ true → AllByRecursion (IsBelow e.serial) es
+serials_rise_after-push : (before : Option ℕ) (es : List Entry) (e : Entry) → IsTrue (serials_rise_after before es)
+    → follows before e.serial ≡ true → AllByRecursion (IsBelow e.serial) es
     → IsTrue (serials_rise_after before (es ++ e ∷ []))
 serials_rise_after-push before [] e rise after below = both (follows before e.serial) true after refl
 serials_rise_after-push before (x ∷ xs) e rise after below =
-    both (follows before x.serial) (serials_rise_after (Some x.serial) (xs ++ e ∷ [])) (first_holds (follows before x.serial) (serials_rise_after (Some x.serial) xs) rise)
-    (serials_rise_after-push (Some x.serial) xs e (second_holds (follows before x.serial) (serials_rise_after (Some x.serial) xs) rise) (lt-ltb x.serial e.serial below.0) below.1)
+    both (follows before x.serial) (serials_rise_after (Some x.serial) (xs ++ e ∷ []))
+    (first_holds (follows before x.serial) (serials_rise_after (Some x.serial) xs) rise)
+    (serials_rise_after-push (Some x.serial) xs e
+    (second_holds (follows before x.serial) (serials_rise_after (Some x.serial) xs) rise)
+    (lt-ltb x.serial e.serial below.0) below.1)
 
--- a record with a greater serial may come behind
-pub serials_rise-push : (es : List Entry) (e : Entry) → IsTrue (serials_rise es) → AllByRecursion (IsBelow e.serial) es → IsTrue (serials_rise (es ++ e ∷ []))
+-- a record with a greater serial may follow
+pub serials_rise-push : (es : List Entry) (e : Entry) → IsTrue (serials_rise es) → AllByRecursion (IsBelow e.serial) es
+    → IsTrue (serials_rise (es ++ e ∷ []))
 serials_rise-push es e rise below = serials_rise_after-push None es e rise refl below
 
 -- ---- moments
@@ -53,7 +58,8 @@ in_order-later from to later (e ∷ es) h le =
     both (leb from e.moment) (in_order e.moment later es) (first_holds (leb from e.moment) (in_order e.moment to es) h)
     (in_order-later e.moment to later es (second_holds (leb from e.moment) (in_order e.moment to es) h) le)
 
-pub in_order-push : (from to : ℕ) (es : List Entry) (e : Entry) → IsTrue (in_order from to es) → to ≤ e.moment → IsTrue (in_order from e.moment (es ++ e ∷ []))
+pub in_order-push : (from to : ℕ) (es : List Entry) (e : Entry) → IsTrue (in_order from to es) → to ≤ e.moment
+    → IsTrue (in_order from e.moment (es ++ e ∷ []))
 in_order-push from to [] e h le =
     let low = leb-true from to h in
     both (leb from e.moment) (leb e.moment e.moment) (le-leb from e.moment (omega arith)) (le-leb e.moment e.moment (omega arith))
@@ -100,8 +106,9 @@ MakePacket-one e fits small = record {
   small = small;
 }
 
--- and so does one record more, with a greater serial and no earlier moment
-pub MakePacket-push : (begin end : ℕ) (es : List Entry) (e : Entry) → MakePacket begin end es → Fits e → AllByRecursion (IsBelow e.serial) es → end ≤ e.moment → weight_of es + record_weight e ≤ 65536
+-- and so does one more record, with a greater serial and no earlier moment
+pub MakePacket-push : (begin end : ℕ) (es : List Entry) (e : Entry) → MakePacket begin end es → Fits e
+    → AllByRecursion (IsBelow e.serial) es → end ≤ e.moment → weight_of es + record_weight e ≤ 65536
     → MakePacket begin e.moment (es ++ e ∷ [])
 MakePacket-push begin end es e p fits below le small =
     let h = moments_hold_says begin end es p.moments in
@@ -117,7 +124,8 @@ MakePacket-push begin end es e p fits below le small =
     }
 
 -- a packet may be closed later
-pub MakePacket-later : (begin end later : ℕ) (es : List Entry) → MakePacket begin end es → end ≤ later → later ≤ LAST_MOMENT → MakePacket begin later es
+pub MakePacket-later : (begin end later : ℕ) (es : List Entry) → MakePacket begin end es → end ≤ later → later ≤ LAST_MOMENT
+    → MakePacket begin later es
 MakePacket-later begin end later es p le limit =
     let h = moments_hold_says begin end es p.moments in
     record {

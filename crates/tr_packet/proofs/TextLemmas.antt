@@ -1,8 +1,7 @@
 -- A packet's text, written part by part, and its length.
-use Rattle.std.proofs.Common.{◌≡◌, ℕ, ◌+◌, ◌*◌, ◌<◌, List, ◌++◌, length, get_or, take, append_assoc, length-append, arith, sym, ap, ◌∙◌}
+use Rattle.std.proofs.Common.{◌≡◌, ℕ, ◌*◌, List, ◌++◌, length, append_assoc, length-append, arith, ap, ◌∙◌}
 use Rattle.std.specs.Int.{w32, w64, to_le_bytes}
-use Rattle.std.proofs.lemmas.List.{flat_map_more, take_more}
-use Rattle.tr_record.specs.Records.{Entry, record_text, records_text}
+use Rattle.tr_record.specs.Records.{records_text}
 use Rattle.tr_record.proofs.RecordLemmas.{length-records_text}
 use Rattle.tr_packet.specs.declared.head.Head.{Head}
 use Rattle.tr_packet.specs.Packets.{Contents, magic, header_text, context_text, packet_text, packet_size}
@@ -10,10 +9,12 @@ use Rattle.tr_packet.specs.Packets.{Contents, magic, header_text, context_text, 
 four_parts : (out a b c d : List ℕ) → (((out ++ a) ++ b) ++ c) ++ d ≡ out ++ (a ++ (b ++ (c ++ d)))
 four_parts out a b c d = simp append_assoc
 
-pub header_written : (h : Head) (out a b c d uuid : List ℕ) → uuid ≡ h.uuid → a ≡ out ++ magic → b ≡ a ++ uuid → c ≡ b ++ to_le_bytes w32 0 → d ≡ c ++ to_le_bytes w64 h.stream → d ≡ out ++ header_text h
+pub header_written : (h : Head) (out a b c d uuid : List ℕ) → uuid ≡ h.uuid → a ≡ out ++ magic → b ≡ a ++ uuid
+    → c ≡ b ++ to_le_bytes w32 0 → d ≡ c ++ to_le_bytes w64 h.stream → d ≡ out ++ header_text h
 header_written h out a b c d uuid uuid-is first second third last =
     last
-    ∙ ap (λ (t : List ℕ). t ++ to_le_bytes w64 h.stream) (third ∙ ap (λ (t : List ℕ). t ++ to_le_bytes w32 0) (second ∙ ap (λ (t : List ℕ). t ++ uuid) first))
+    ∙ ap (λ (t : List ℕ). t ++ to_le_bytes w64 h.stream)
+    (third ∙ ap (λ (t : List ℕ). t ++ to_le_bytes w32 0) (second ∙ ap (λ (t : List ℕ). t ++ uuid) first))
     ∙ four_parts out magic uuid (to_le_bytes w32 0) (to_le_bytes w64 h.stream)
     ∙ ap (λ (u : List ℕ). out ++ (magic ++ (u ++ (to_le_bytes w32 0 ++ to_le_bytes w64 h.stream)))) uuid-is
 
@@ -28,13 +29,3 @@ length-packet_text p sixteen =
       length-append p.head.uuid (to_le_bytes w32 0 ++ to_le_bytes w64 p.head.stream),
       length-records_text p.records,
     )
-
--- the text of one record more
-pub records_more : (before now after : List ℕ) (es : List Entry) (i : ℕ) (r v : Entry) → i < length es → r ≡ get_or es i r → v ≡ r → now ≡ before ++ records_text (take i es) → after ≡ now ++ record_text v
-    → after ≡ before ++ records_text (take (i + 1) es)
-records_more before now after es i r v within r-is v-is so_far one =
-    one
-    ∙ ap (λ (t : List ℕ). t ++ record_text v) so_far
-    ∙ ap (λ (e : Entry). (before ++ records_text (take i es)) ++ record_text e) (v-is ∙ r-is)
-    ∙ flat_map_more record_text before (take i es) (get_or es i r)
-    ∙ ap (λ (l : List Entry). before ++ records_text l) (sym (take_more es i r within))

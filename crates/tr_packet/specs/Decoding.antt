@@ -11,9 +11,9 @@ use Rattle.tr_packet.specs.declared.fault.PacketFault.{PacketFault}
 use Rattle.tr_packet.specs.declared.fault.PacketFault.TheVariants.{Short, BadMagic, BadStreamId, BadSize, BadRecord, SerialOrder, MomentOrder}
 use Rattle.tr_terms.specs.declared.limits.TheConstants.{LARGEST_PACKET, PACKET_HEADER, SMALLEST_PACKET}
 
--- ---- a packet that stands in front
+-- ---- a packet that bytes start with
 
--- the text of the packet p stands in front, and these bytes behind it
+-- the bytes start with the text of the packet p, and the rest follows
 pub record Begins (p : Contents) (rest bytes : List ℕ) : Type 0 where
   pub packet : IsPacket p
   pub parts : bytes ≡ packet_text p ++ rest
@@ -24,7 +24,7 @@ pub record Begins (p : Contents) (rest bytes : List ℕ) : Type 0 where
 abbrev pub number_from : Width → ℕ → List ℕ → ℕ
 number_from w at bytes = from_le_bytes w (take (byte_len w) (drop at bytes))
 
--- so many bytes from this one on
+-- a number of bytes, from a place on
 abbrev pub bytes_from : ℕ → ℕ → List ℕ → List ℕ
 bytes_from count at bytes = take count (drop at bytes)
 
@@ -43,7 +43,7 @@ content_bits_in = number_from w64 48
 abbrev pub packet_bits_in : List ℕ → ℕ
 packet_bits_in = number_from w64 56
 
--- the bytes of the records: from behind the header to the packet's end
+-- the bytes of the records: from the header's end to the packet's end
 abbrev pub body_in : List ℕ → List ℕ
 body_in bytes = drop PACKET_HEADER (take (packet_bits_in bytes / 8) bytes)
 
@@ -56,7 +56,7 @@ contents_in bytes = record {
     begin = begin_in bytes;
     end = end_in bytes;
     seq = number_from w64 64 bytes;
-    lost = number_from w64 72 bytes;
+    discarded = number_from w64 72 bytes;
   };
   records = entries_of (body_in bytes);
 }
@@ -65,17 +65,22 @@ contents_in bytes = record {
 
 -- the sizes, in bits, are equal and a multiple of 8, and say 104 to 65,536 bytes
 abbrev pub sizes_hold : ℕ → ℕ → Bool
-sizes_hold content size = nat_eq content size && (nat_eq (size % 8) 0 && (nat_le (8 * SMALLEST_PACKET) size && nat_le size (8 * LARGEST_PACKET)))
+sizes_hold content size = nat_eq content size && (nat_eq (size % 8) 0
+    && (nat_le (8 * SMALLEST_PACKET) size && nat_le size (8 * LARGEST_PACKET)))
 
--- the first fault of the fields and of the number of bytes
-unfoldable pub front_fault : List ℕ → Option PacketFault
-front_fault bytes =
+-- the first fault of the 80 bytes of the header and context, whatever follows them
+unfoldable pub fields_fault : List ℕ → Option PacketFault
+fields_fault bytes =
     if nat_lt (length bytes) PACKET_HEADER then Some Short
     else if not (starts_with nat_eq bytes magic) then Some BadMagic
     else if not (nat_eq (stream_id_in bytes) 0) then Some BadStreamId
     else if not (sizes_hold (content_bits_in bytes) (packet_bits_in bytes)) then Some BadSize
-    else if nat_lt (length bytes) (packet_bits_in bytes / 8) then Some Short
     else None
+
+-- and then that of the number of bytes
+unfoldable pub front_fault : List ℕ → Option PacketFault
+front_fault bytes = option_or (fields_fault bytes) (if nat_lt (length bytes) (packet_bits_in bytes / 8) then Some Short
+    else None)
 
 -- the first fault of the records of a packet that begins and ends at these moments; None: the bytes aren't whole records
 abbrev pub records_fault : ℕ → ℕ → Option (List Entry) → Option PacketFault
@@ -85,6 +90,7 @@ records_fault begin end (Some es) =
     else if not (moments_hold begin end es) then Some MomentOrder
     else None
 
--- the first fault of the bytes; None: a packet stands in front
+-- the first fault of the bytes; None: they start with a packet
 abbrev pub first_fault : List ℕ → Option PacketFault
-first_fault bytes = option_or (front_fault bytes) (records_fault (begin_in bytes) (end_in bytes) (entries_at (body_in bytes)))
+first_fault bytes = option_or (front_fault bytes) (records_fault (begin_in bytes) (end_in bytes)
+    (entries_at (body_in bytes)))

@@ -1,4 +1,4 @@
--- Why no packet stands in front of bytes, as answers print it.
+-- Why bytes don't start with a packet, as documents name it.
 use Rattle.std.specs.Prelude.{ℕ, List, codes}
 use Rattle.tr_packet.specs.declared.fault.PacketFault.{PacketFault}
 use Rattle.tr_packet.specs.declared.fault.PacketFault.TheVariants.{Short, BadMagic, BadStreamId, BadSize, BadRecord, SerialOrder, MomentOrder}

@@ -1,9 +1,9 @@
--- The metadata text: what tells readers of the trace how its packets are laid out.
+-- The metadata text, which describes to readers of the trace how its packets are laid out.
 use Rattle.std.specs.Prelude.{ℕ, List, [], ◌∷◌, ◌++◌, codes}
 use Rattle.std.specs.List.{flat_map}
 use Rattle.uuid.specs.Text.{lower, hyphenated_text}
 
--- lines, each with a line feed behind it
+-- lines, each with a newline after it
 abbrev pub lines : List (List ℕ) → List ℕ
 lines = flat_map (λ line. line ++ 10 ∷ [])
 
@@ -36,7 +36,7 @@ packet_header_text =
     ∷ []
     )
 
--- the trace: the standard's number, the identifier, and those
+-- the trace: the standard's version, the identifier, the order of bytes and the packet header
 abbrev pub trace_text : List ℕ → List ℕ
 trace_text uuid =
     lines (codes "trace {" ∷ codes "  major = 1;" ∷ codes "  minor = 8;" ∷ [])

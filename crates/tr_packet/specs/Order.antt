@@ -9,7 +9,7 @@ abbrev pub follows : Option ℕ → ℕ → Bool
 follows None n = true
 follows (Some before) n = nat_lt before n
 
--- the serials rise strictly, the first one from above the one before it
+-- the serials rise strictly, the first one above the one before it, if any
 abbrev pub serials_rise_after : Option ℕ → List Entry → Bool
 serials_rise_after before [] = true
 serials_rise_after before (e ∷ es) = follows before e.serial && serials_rise_after (Some e.serial) es
@@ -17,7 +17,7 @@ serials_rise_after before (e ∷ es) = follows before e.serial && serials_rise_a
 abbrev pub serials_rise : List Entry → Bool
 serials_rise es = serials_rise_after None es
 
--- the last record's serial, or else the one before, if any
+-- the last record's serial, or the one before if there are no records
 abbrev pub last_serial_after : Option ℕ → List Entry → Option ℕ
 last_serial_after before es = last_or before (map (λ (e : Entry). e.serial) es)
 
@@ -31,7 +31,7 @@ abbrev pub starts_at : ℕ → List Entry → Bool
 starts_at begin [] = false
 starts_at begin (e ∷ es) = nat_eq e.moment begin
 
--- begin is the first record's moment, the moments don't fall up to end, and end is no moment above the limit
+-- begin is the first record's moment, the moments don't fall up to end, and end isn't above the limit
 abbrev pub moments_hold : ℕ → ℕ → List Entry → Bool
 moments_hold begin end es = starts_at begin es && (in_order begin end es && nat_le end LAST_MOMENT)
 

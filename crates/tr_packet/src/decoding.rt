@@ -10,7 +10,7 @@ use crate::seen::judge_records;
 use crate::view::PacketView;
 use tr_terms::limits::PACKET_HEADER;
 
-/// The packet that the fields in front give, and how many bytes they say that it has, or the first fault.
+/// The packet that the first fields give, and the number of bytes that they say it has, or the first fault.
 fn packet_in(bytes: &[u8]) -> Result<(PacketView<'_>, usize), PacketFault>
     ensures sound { IfOk result (λ _. first_fault bytes.now ≡ None) }
     ensures packet { IfOk result (λ x. x.0 ≡ contents_in bytes.now) }
@@ -27,8 +27,8 @@ fn packet_in(bytes: &[u8]) -> Result<(PacketView<'_>, usize), PacketFault>
     Ok((PacketView::new(head, count, last_serial, body), size))
 }
 
-/// The packet whose text stands in front, and how many bytes that is, whatever follows. Where no packet's text stands
-/// there, the first fault of the decoder's order. It takes no memory.
+/// The packet that the bytes start with, and how many bytes it has, whatever follows. If they don't start with a packet,
+/// the first fault in the decoder's order. It takes no memory.
 pub fn decode_packet(bytes: &[u8]) -> Result<(PacketView<'_>, usize), PacketFault>
     ensures found { IfOk result (λ x. Begins x.0 (drop x.1 bytes.now) bytes.now × (x.1 ≡ packet_size x.0)) }
     ensures only { (p : Contents) (rest : List ℕ) → Begins p rest bytes.now → result ≡ Ok (p, packet_size p) }

@@ -9,7 +9,7 @@ use crate::fields::MAGIC;
 use crate::head::Head;
 use crate::packet::Packet;
 use std::alloc::{AllocError, Allocator};
-use tr_record::{Rec, put_bytes, put_rec, put_u32, put_u64};
+use tr_record::{RecViews, put_bytes, put_rec, put_u32, put_u64};
 
 fn put_header<A: Allocator>(out: &mut Vec<u8, A>, head: &Head)
     requires uuid { length head.now.uuid ≡ 16 }
@@ -24,7 +24,7 @@ fn put_header<A: Allocator>(out: &mut Vec<u8, A>, head: &Head)
     put_u64(out, head.stream);
 }
 
-/// Writes the moments, and twice the size in bits.
+/// Writes the moments, and the size in bits twice.
 fn put_times<A: Allocator>(out: &mut Vec<u8, A>, head: &Head, bits: u64)
     requires { vec_len out.old + 32 ≤ vec_capacity out.old }
     ensures items { out.new.items ≡ out.old.items ++ times_text head.now bits }
@@ -45,20 +45,20 @@ fn put_context<A: Allocator>(out: &mut Vec<u8, A>, head: &Head, bits: u64)
 {
     put_times(out, head, bits);
     put_u64(out, head.seq);
-    put_u64(out, head.lost);
+    put_u64(out, head.discarded);
 }
 
-fn put_records<A: Allocator, B: Allocator>(out: &mut Vec<u8, B>, records: &[Rec<A>])
-    requires { vec_len out.old + sum_by record_weight records.now ≤ vec_capacity out.old }
-    ensures items { out.new.items ≡ out.old.items ++ records_text records.now }
-    ensures len { vec_len out.new ≡ vec_len out.old + sum_by record_weight records.now }
+fn put_records<A: Allocator, B: Allocator>(out: &mut Vec<u8, B>, records: RecViews<'_, A>)
+    requires { vec_len out.old + sum_by record_weight records ≤ vec_capacity out.old }
+    ensures items { out.new.items ≡ out.old.items ++ records_text records.entry }
+    ensures len { vec_len out.new ≡ vec_len out.old + sum_by record_weight records.entry }
 {
     for r in records {
-        put_rec(out, &r.view());
+        put_rec(out, &r);
     }
 }
 
-/// The bytes of a packet, in memory of their own.
+/// The bytes of a packet, in memory of their own. Fails if an allocation fails.
 pub fn encode_packet<A: Allocator, B: Allocator>(
     alloc: B,
     packet: &Packet<A>,

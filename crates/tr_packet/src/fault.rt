@@ -1,11 +1,11 @@
-//! Why no packet stands in front of bytes.
+//! Why bytes don't start with a packet.
 
 ghost use Rattle.std.specs.Prelude.{◌≡◌};
 ghost use Rattle.tr_packet.specs.Faults.{packet_fault_code, packet_fault_name};
 
 use thiserror::Error;
 
-/// Why no packet stands in front of bytes. Where several apply, a decoder answers the first one of its order.
+/// Why bytes don't start with a packet. If several apply, a decoder answers the first one in its order.
 #[derive(Clone, Copy, Debug, PartialEq, Eq, Error)]
 pub enum PacketFault {
     /// There are fewer than 80 bytes, or fewer than packet_size says.
@@ -17,7 +17,7 @@ pub enum PacketFault {
     /// The stream_id isn't 0.
     #[error("P3 BadStreamId")]
     BadStreamId,
-    /// content_size and packet_size aren't one number of whole bytes, from 104 to 65,536.
+    /// content_size and packet_size aren't equal, or aren't a number of whole bytes from 104 to 65,536.
     #[error("P4 BadSize")]
     BadSize,
     /// The bytes from 80 to the packet's end aren't whole records.
@@ -32,7 +32,7 @@ pub enum PacketFault {
 }
 
 impl PacketFault {
-    /// The code that answers and documents call it by.
+    /// The code that documents call it by.
     pub fn code(&self) -> &'static str
         ensures { result.now ≡ packet_fault_code self.now }
     {
@@ -47,7 +47,7 @@ impl PacketFault {
         }
     }
 
-    /// Its name, as answers print it.
+    /// Its name in documents.
     pub fn name(&self) -> &'static str
         ensures { result.now ≡ packet_fault_name self.now }
     {

@@ -3,7 +3,7 @@
 ghost use Rattle.std.specs.Prelude.{◌≡◌, ◌+◌, ◌≤◌, ◌/◌, ◌<◌, ◌⊎◌, length, IfSome, IfNone, IfOk, IfErr, Some, None, true, false};
 ghost use Rattle.std.specs.Int.{w32, w64};
 ghost use Rattle.tr_terms.specs.declared.limits.TheConstants.{LAST_MOMENT, PACKET_HEADER};
-ghost use Rattle.tr_packet.specs.Decoding.{number_from, bytes_from, packet_bits_in, sizes_hold, front_fault, begin_in, end_in, contents_in};
+ghost use Rattle.tr_packet.specs.Decoding.{number_from, bytes_from, packet_bits_in, sizes_hold, fields_fault, front_fault, begin_in, end_in, contents_in};
 
 use crate::fault::PacketFault;
 use crate::head::Head;
@@ -51,7 +51,7 @@ fn uuid_in(bytes: &[u8]) -> Uuid
     }
 }
 
-/// How many bytes these sizes say: both are one multiple of 8, in bits, from 104 bytes to 65,536. None of others.
+/// The number of bytes that these sizes, in bits, say. None unless they are equal, a multiple of 8, and 104 to 65,536 bytes.
 fn bytes_of(content: u64, size: u64) -> Option<usize>
     ensures some { IfSome result (λ n. (sizes_hold content size ≡ true) × (n ≡ size / 8)) }
     ensures none { IfNone result (sizes_hold content size ≡ false) }
@@ -66,11 +66,12 @@ fn bytes_of(content: u64, size: u64) -> Option<usize>
     Some(bytes as usize)
 }
 
-/// How many bytes the packet in front has, by its fields, or the first fault of these.
-#[tactic(auto, unfolding(crate::specs::Decoding::front_fault))]
-pub(crate) fn size_of_front(bytes: &[u8]) -> Result<usize, PacketFault>
-    ensures size { IfOk result (λ n. (front_fault bytes.now ≡ None) × (n ≡ packet_bits_in bytes.now / 8)) }
-    ensures fault { IfErr result (λ f. front_fault bytes.now ≡ Some f) }
+/// The size of the packet at the front, by the 80 bytes of its header and context, or the first fault of these. It doesn't
+/// look whether that many bytes are there.
+#[tactic(auto, unfolding(crate::specs::Decoding::fields_fault))]
+fn size_by_fields(bytes: &[u8]) -> Result<usize, PacketFault>
+    ensures size { IfOk result (λ n. (fields_fault bytes.now ≡ None) × (n ≡ packet_bits_in bytes.now / 8)) }
+    ensures fault { IfErr result (λ f. fields_fault bytes.now ≡ Some f) }
 {
     if bytes.len() < PACKET_HEADER {
         return Err(PacketFault::Short);
@@ -84,13 +85,23 @@ pub(crate) fn size_of_front(bytes: &[u8]) -> Result<usize, PacketFault>
     let Some(size) = bytes_of(u64_from(bytes, 48), u64_from(bytes, 56)) else {
         return Err(PacketFault::BadSize);
     };
+    Ok(size)
+}
+
+/// The size of the packet at the front, if that many bytes are there, or the first fault of its fields and of that.
+#[tactic(auto, unfolding(crate::specs::Decoding::front_fault))]
+pub(crate) fn size_of_front(bytes: &[u8]) -> Result<usize, PacketFault>
+    ensures size { IfOk result (λ n. (front_fault bytes.now ≡ None) × (n ≡ packet_bits_in bytes.now / 8)) }
+    ensures fault { IfErr result (λ f. front_fault bytes.now ≡ Some f) }
+{
+    let size = size_by_fields(bytes)?;
     if bytes.len() < size {
         return Err(PacketFault::Short);
     }
     Ok(size)
 }
 
-/// What the packet in front says beside its records. None where a moment is above the limit.
+/// What the packet at the front says beside its records. None if a moment is above the limit.
 pub(crate) fn head_in(bytes: &[u8]) -> Option<Head>
     requires { PACKET_HEADER ≤ length bytes.now }
     ensures some { IfSome result (λ h. h ≡ (contents_in bytes.now).head) }
@@ -105,6 +116,6 @@ pub(crate) fn head_in(bytes: &[u8]) -> Option<Head>
         begin,
         end,
         seq: u64_from(bytes, 64),
-        lost: u64_from(bytes, 72),
+        discarded: u64_from(bytes, 72),
     })
 }

@@ -17,5 +17,5 @@ pub struct Head {
     /// The number of the packet in its stream.
     pub seq: u64,
     /// How many records the stream had discarded by then.
-    pub lost: u64,
+    pub discarded: u64,
 }

@@ -10,6 +10,7 @@ pub mod laws;
 mod metadata;
 mod order;
 mod packet;
+mod packets;
 mod seen;
 mod view;
 
@@ -19,4 +20,5 @@ pub use fault::PacketFault;
 pub use head::Head;
 pub use metadata::metadata_text;
 pub use packet::Packet;
+pub use packets::Packets;
 pub use view::PacketView;

@@ -8,10 +8,10 @@ ghost use Rattle.tr_packet.specs.Metadata.{trace_text, clock_text, stream_text, 
 use std::alloc::{AllocError, Allocator};
 use uuid::Uuid;
 
-/// How many bytes a metadata text has.
+/// The bytes of a metadata text.
 const BYTES: usize = 1082;
 
-/// The words for numbers.
+/// The types of numbers.
 const PREFACE: &str = "\
 /* CTF 1.8 */
 
@@ -28,7 +28,7 @@ trace {
   minor = 8;
   uuid = \"";
 
-/// The trace behind its identifier.
+/// The trace, after its identifier.
 const TRACE_END: &str = "\
 \";
   byte_order = le;
@@ -42,7 +42,7 @@ const TRACE_END: &str = "\
 
 ";
 
-/// The clock, and the word for moments.
+/// The clock, and the type of moments.
 const CLOCK: &str = "\
 clock {
   name = \"moment\";
@@ -90,14 +90,13 @@ event {
 };
 ";
 
-/// Adds these bytes.
 fn push<A: Allocator>(text: &mut String<A>, more: &str) -> Result<(), AllocError>
     ensures { OnOk result (string_bytes text.new ≡ string_bytes text.old ++ more.now) }
 {
     text.push_str(more)
 }
 
-/// Adds the identifier, in lower-case hyphenated form.
+/// Appends the identifier, in lower-case hyphenated form.
 fn push_identifier<A: Allocator>(text: &mut String<A>, uuid: &Uuid) -> Result<(), AllocError>
     ensures { OnOk result (string_bytes text.new ≡ string_bytes text.old ++ hyphenated_text lower uuid.now) }
 {
@@ -114,14 +113,15 @@ fn push_trace<A: Allocator>(text: &mut String<A>, uuid: &Uuid) -> Result<(), All
 }
 
 fn push_classes<A: Allocator>(text: &mut String<A>) -> Result<(), AllocError>
-    ensures { OnOk result (string_bytes text.new ≡ string_bytes text.old ++ (clock_text ++ (stream_text ++ event_text))) }
+    ensures { OnOk result (string_bytes text.new ≡ string_bytes text.old
+        ++ (clock_text ++ (stream_text ++ event_text))) }
 {
     push(text, CLOCK)?;
     push(text, STREAM)?;
     push(text, EVENT)
 }
 
-/// The text that tells readers of a trace how its packets are laid out, with the trace's identifier in lower-case
+/// The text that describes to readers of a trace how its packets are laid out, with the trace's identifier in lower-case
 /// hyphenated form.
 pub fn metadata_text<A: Allocator>(alloc: A, uuid: &Uuid) -> Result<String<A>, AllocError>
     ensures { IfOk result (λ s. string_bytes s ≡ metadata_of uuid.now) }

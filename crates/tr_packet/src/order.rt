@@ -12,7 +12,7 @@ use std::alloc::Allocator;
 use tr_record::{Moment, Rec};
 use tr_terms::limits::{LARGEST_PACKET, PACKET_HEADER};
 
-/// How many bytes a packet of these records has.
+/// The bytes of a packet of these records.
 pub(crate) fn size_of<A: Allocator>(records: &[Rec<A>]) -> usize
     requires { weight_of records.now ≤ LARGEST_PACKET }
     ensures { result ≡ weight_of records.now }

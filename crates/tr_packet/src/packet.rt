@@ -1,13 +1,13 @@
 //! A packet with its records.
 
 ghost use Rattle.std.specs.Prelude.{◌≡◌, ◌↔◌, IsSome, IfSome};
-ghost use Rattle.tr_packet.specs.Packets.{IsPacket, MakePacket, packet_size};
+ghost use Rattle.tr_packet.specs.Packets.{IsPacket, MakePacket, packet_size, contents};
 
 use crate::head::Head;
 use crate::order::{make_packet, size_of};
 use std::alloc::{Allocator, Global};
 use std::marker::Model;
-use tr_record::Rec;
+use tr_record::{Rec, RecViews};
 
 /// A packet: a head, and at least one record. The serials rise strictly, the moments don't fall from `begin`, the
 /// first record's, to `end`, and the text has at most 65,536 bytes. Contracts see it as `Contents`.
@@ -18,20 +18,20 @@ pub struct Packet<A: Allocator = Global> {
 }
 
 impl<A: Allocator> Model for Packet<A> {
-    ghost use Rattle.tr_packet.specs.Packets.{Contents, IsPacket};
+    ghost use Rattle.tr_packet.specs.Packets.{Contents, IsPacket, contents};
 
     ghost Value = { Contents };
 
-    ghost view = { λ p. record { head = p.head; records = p.records.items } };
+    ghost view = { λ p. contents p.head p.records.items };
 
-    ghost invariant = { λ p. IsPacket (record { head = p.head; records = p.records.items }) };
+    ghost invariant = { λ p. IsPacket (contents p.head p.records.items) };
 }
 
 impl<A: Allocator> Packet<A> {
     /// A packet of these records, which make one. It takes no memory.
     pub fn new(head: Head, records: Vec<Rec<A>, A>) -> Packet<A>
         requires { MakePacket head.begin head.end records.items }
-        ensures value { result ≡ record { head = head; records = records.items } }
+        ensures value { result ≡ contents head records.items }
         ensures packet { IsPacket result }
     {
         // A uuid has 16 bytes.
@@ -39,10 +39,10 @@ impl<A: Allocator> Packet<A> {
         Packet { head, records }
     }
 
-    /// A packet of these records, where they make one. It takes no memory.
+    /// A packet of these records. None if they make no packet. It takes no memory.
     pub fn checked(head: Head, records: Vec<Rec<A>, A>) -> Option<Packet<A>>
         ensures exact { IsSome result ↔ MakePacket head.begin head.end records.items }
-        ensures value { IfSome result (λ p. p ≡ record { head = head; records = records.items }) }
+        ensures value { IfSome result (λ p. p ≡ contents head records.items) }
     {
         if !make_packet(head.begin, head.end, &records) {
             return None;
@@ -59,11 +59,11 @@ impl<A: Allocator> Packet<A> {
     }
 
     /// Its records, in order.
-    pub fn records(&self) -> &[Rec<A>]
-        ensures value { result.now ≡ self.now.records }
+    pub fn records(&self) -> RecViews<'_, A>
+        ensures value { result ≡ self.now.records }
         ensures packet { IsPacket self.now }
     {
-        self.records.as_slice()
+        RecViews::new(self.records.as_slice())
     }
 
     /// How many bytes its text has, at most 65,536.

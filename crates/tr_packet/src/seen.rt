@@ -3,7 +3,7 @@
 ghost use Rattle.std.specs.Prelude.{◌≡◌, ◌+◌, ◌<◌, ◌^◌, ◌≤◌, [], Some, length};
 ghost use Rattle.tr_record.specs.Raw.{entry_of};
 ghost use Rattle.tr_record.specs.Whole.{entries_at};
-ghost use Rattle.tr_packet.specs.Seen.{seen_first, seen_next, judged_after, judged};
+ghost use Rattle.tr_packet.specs.Seen.{seen_first, seen_next, verdict_after, verdict_on};
 
 use crate::fault::PacketFault;
 use tr_record::{RawRec, read_raw};
@@ -24,7 +24,7 @@ pub(crate) struct Seen {
 }
 
 impl Seen {
-    /// The first record was read, of a packet that begins at this moment.
+    /// What is known after the first record of a packet that begins at this moment.
     fn first(begin: u64, raw: RawRec<'_>) -> Seen
         ensures { result ≡ seen_first begin (entry_of raw.entry) }
     {
@@ -37,7 +37,7 @@ impl Seen {
         }
     }
 
-    /// One record more was read.
+    /// What is known after one more record.
     fn next(self, raw: RawRec<'_>) -> Seen
         requires { self.count + 1 < 2 ^ 64 }
         ensures { result ≡ seen_next self (entry_of raw.entry) }
@@ -51,10 +51,10 @@ impl Seen {
         }
     }
 
-    /// All were read, of a packet that ends at this moment: how many they are and the last one's serial, or the first
-    /// fault of their order.
+    /// The verdict after all records of a packet that ends at this moment: how many they are and the last one's serial, or
+    /// the first fault of their order.
     fn judge(self, end: u64) -> Result<(usize, u64), PacketFault>
-        ensures { result ≡ judged_after self end (Some []) }
+        ensures { result ≡ verdict_after self end (Some []) }
     {
         if !self.serials_rise {
             return Err(PacketFault::SerialOrder);
@@ -66,11 +66,11 @@ impl Seen {
     }
 }
 
-/// How many records the bytes are, with serials that rise, and moments that begin with `begin` and don't fall up to
-/// `end`; and the last one's serial. Else the first fault. The limit of moments isn't looked at.
+/// How many records the bytes are, and the last one's serial, if the serials rise, the first moment is `begin` and the
+/// moments don't fall up to `end`. Otherwise the first fault. The limit of moments isn't tested.
 pub(crate) fn judge_records(body: &[u8], begin: u64, end: u64) -> Result<(usize, u64), PacketFault>
     requires { 0 < length body.now }
-    ensures { result ≡ judged begin end (entries_at body.now) }
+    ensures { result ≡ verdict_on begin end (entries_at body.now) }
 {
     let Some((first, after)) = read_raw(body) else {
         return Err(PacketFault::BadRecord);

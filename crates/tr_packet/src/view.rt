@@ -3,14 +3,14 @@
 ghost use Rattle.std.specs.Prelude.{◌≡◌, Some, None, length};
 ghost use Rattle.tr_record.specs.Whole.{AreWhole, entries_of};
 ghost use Rattle.tr_packet.specs.Order.{last_serial_after};
-ghost use Rattle.tr_packet.specs.Packets.{IsPacket};
+ghost use Rattle.tr_packet.specs.Packets.{IsPacket, contents};
 
 use crate::head::Head;
 use std::marker::Model;
 use tr_record::Records;
 
-/// A packet that borrows the bytes of its records, and reads these as they are asked for. It takes no memory. Contracts
-/// see it as `Contents`.
+/// A packet that borrows the bytes of its records, and reads them on demand. It takes no memory. Contracts see it as
+/// `Contents`.
 #[derive(Drop, Debug)]
 pub struct PacketView<'a> {
     head: Head,
@@ -23,23 +23,25 @@ impl<'a> Model for PacketView<'a> {
     ghost use Rattle.std.specs.Prelude.{◌≡◌, Some, None, length};
     ghost use Rattle.tr_record.specs.Whole.{AreWhole, entries_of};
     ghost use Rattle.tr_packet.specs.Order.{last_serial_after};
-    ghost use Rattle.tr_packet.specs.Packets.{Contents, IsPacket};
+    ghost use Rattle.tr_packet.specs.Packets.{Contents, IsPacket, contents};
 
     ghost Value = { Contents };
 
-    ghost view = { λ p. record { head = p.head; records = entries_of p.body.now } };
+    ghost view = { λ p. contents p.head (entries_of p.body.now) };
 
-    ghost invariant = { λ p. IsPacket (record { head = p.head; records = entries_of p.body.now }) × AreWhole p.body.now × (p.count ≡ length (entries_of p.body.now)) × (last_serial_after None (entries_of p.body.now) ≡ Some p.last_serial) };
+    ghost invariant = { λ p. IsPacket (contents p.head (entries_of p.body.now)) × AreWhole p.body.now
+        × (p.count ≡ length (entries_of p.body.now))
+        × (last_serial_after None (entries_of p.body.now) ≡ Some p.last_serial) };
 }
 
 impl<'a> PacketView<'a> {
-    /// The packet of so many records with this last serial, whose texts these bytes are.
+    /// The packet of `count` records with this last serial, whose texts these bytes are.
     pub(crate) fn new(head: Head, count: usize, last_serial: u64, body: &'a [u8]) -> PacketView<'a>
-        requires packet { IsPacket (record { head = head; records = entries_of body.now }) }
+        requires packet { IsPacket (contents head (entries_of body.now)) }
         requires whole { AreWhole body.now }
         requires count { count ≡ length (entries_of body.now) }
         requires last_serial { last_serial_after None (entries_of body.now) ≡ Some last_serial }
-        ensures { result ≡ record { head = head; records = entries_of body.entry.now } }
+        ensures { result ≡ contents head (entries_of body.entry.now) }
     {
         PacketView {
             head,
@@ -65,7 +67,7 @@ impl<'a> PacketView<'a> {
         self.count
     }
 
-    /// The serial of its last record. It has one at least.
+    /// The serial of its last record. It has at least one.
     pub fn last_serial(&self) -> u64
         ensures value { last_serial_after None self.now.records ≡ Some result }
         ensures packet { IsPacket self.now }

@@ -4,16 +4,17 @@ use std::alloc::Global;
 use std::fmt::Debug;
 use std::process::Abort;
 use std::test::Fail;
-use tr_packet::{Head, Packet, PacketFault, decode_packet, encode_packet, metadata_text};
-use tr_record::{Moment, Rec};
+use tr_packet::{Head, Packet, PacketFault, Packets, decode_packet, encode_packet, metadata_text};
+use tr_record::Rec;
+use tr_testing::moment;
 use uuid::Uuid;
 
-/// Holds what a test found to what it wanted. As a call without clauses it keeps the proofs of the tests short.
-fn assert_same<T: PartialEq + Debug + Drop>(rt: &impl Abort, found: T, wanted: T) {
-    assert_eq!(rt; found, wanted);
+/// Compares what a test found with what it expects. As a call without clauses it keeps the proofs of the tests short.
+fn assert_same<T: PartialEq + Debug + Drop>(rt: &impl Abort, found: T, expected: T) {
+    assert_eq!(rt; found, expected);
 }
 
-/// A packet of one record, as it is written: the trace 1, stream 0, closed at moment 9, number 0, nothing lost, and the
+/// A packet of one record, as it is written: the trace 1, stream 0, closed at moment 9, number 0, nothing discarded, and the
 /// record of id 7, moment 1 and serial 0 with the payload `A`.
 const ONE: [u8; 105] = [
     0xc1, 0x1f, 0xfc, 0xc1, 0, 0, 0, 0, 0, 0, 0, 0, 0, 0, 0, 0, 0, 0, 0, 1, 0, 0, 0, 0, 0, 0, 0, 0,
@@ -22,10 +23,6 @@ const ONE: [u8; 105] = [
     0, 0, 0, 0, 0, 0, 0, 0, 0, 0, 1, 0, 0, 0, 0x41,
 ];
 
-fn moment(nanoseconds: u64) -> Moment {
-    Moment::new(nanoseconds).unwrap_or(Moment::zero())
-}
-
 fn head() -> Head {
     Head {
         uuid: Uuid::from_u128(1),
@@ -33,7 +30,7 @@ fn head() -> Head {
         begin: moment(1),
         end: moment(9),
         seq: 0,
-        lost: 0,
+        discarded: 0,
     }
 }
 
@@ -59,6 +56,28 @@ fn a_packet_of_one_record(rt: HostRuntime) -> Result<(), Fail> {
     assert_same(&rt, packet.head(), head());
     assert_same(&rt, packet.size(), 105);
     assert_same(&rt, packet.records().len(), 1);
+    Ok(())
+}
+
+#[test]
+fn packets_are_shown_by_place_and_one_after_another(rt: HostRuntime) -> Result<(), Fail> {
+    let alloc = rt.alloc();
+    let mut packets = Vec::new(alloc);
+    for seq in [3, 5] {
+        let mut head = head();
+        head.seq = seq;
+        packets.push(Packet::checked(head, records(alloc, &[(seq, 1, 1)])?).ok_or("a packet")?)?;
+    }
+    let mut shown = Packets::new(&packets);
+    assert_same(&rt, shown.len(), 2);
+    let second = shown.at(1).expect(&rt, "a packet");
+    assert_same(&rt, second.head().seq, 5);
+    assert!(rt; second.records().has(5) && !second.records().has(3));
+    assert!(rt; shown.at(2).is_none());
+    assert_same(&rt, shown.next().map(|p| p.head().seq), Some(3));
+    assert_same(&rt, shown.len(), 1);
+    assert_same(&rt, shown.next().map(|p| p.head().seq), Some(5));
+    assert!(rt; shown.next().is_none());
     Ok(())
 }
 
@@ -131,7 +150,7 @@ fn what_was_written_is_read_whatever_follows(rt: HostRuntime) -> Result<(), Fail
     let mut head = head();
     head.stream = 255;
     head.seq = u64::MAX;
-    head.lost = 1 << 63;
+    head.discarded = 1 << 63;
     let packet = Packet::checked(head, records(alloc, &rows)?).expect(&rt, "a packet");
     let mut bytes = encode_packet(alloc, &packet).expect(&rt, "memory");
     bytes.extend_from_slice(&ONE).expect(&rt, "memory");
@@ -238,7 +257,7 @@ fn the_least_and_the_greatest_packet(rt: HostRuntime) -> Result<(), Fail> {
     Ok(())
 }
 
-// All faults at once, in the decoder's order; with the first so many of them mended the next one shows.
+// All faults at once, in the decoder's order; when the first of them are mended, the next one shows.
 #[test]
 fn the_first_fault_is_answered(rt: HostRuntime) -> Result<(), Fail> {
     let whole = two_records(rt.alloc())?;

@@ -9,7 +9,7 @@ use Rattle.clap.specs.declared.error.kind.ErrorKind.TheVariants.{OutOfMemory}
 use Rattle.tr_command.specs.Language.{is_free_of_faults}
 use Rattle.tr_program.specs.CommandLine.{job_named, job_of, program_app}
 
--- clap's definition speaks of the program's command line
+-- clap's definition covers the program's command line
 pub program-simple : (is_simple program_app ≡ true) × (is_simple_and_free program_app ≡ true)
 unfolding clap_on_literals
 program-simple = (refl, refl)

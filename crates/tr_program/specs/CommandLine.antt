@@ -23,7 +23,7 @@ script_app = with_rule (new_app (codes "script")) (option (codes "out"))
 abbrev pub program_app : App
 program_app = with_subcommand (new_app (codes "tracerd")) script_app.top
 
--- a folder that is named has a name
+-- a named folder has a name that isn't empty
 abbrev pub script_of : Option Text → Option Folder
 script_of None = Some None
 script_of (Some []) = None
@@ -38,14 +38,14 @@ unfoldable pub job_of : List Text → Option Folder
 job_of words = if is_free_of_faults (fault_of program_app words)
     then option_and_then (λ entered. job_named entered.0 entered.1) (subcommand_of program_app words) else None
 
--- what the words behind the program's name ask for
+-- what the words after the program's name ask for
 abbrev pub job_asked : List Text → Option Folder
 job_asked words = job_of (codes "tracerd" ∷ words)
 
-abbrev pub without_first : {A : Type 0} → List A → List A
-without_first [] = []
-without_first (x ∷ xs) = xs
+abbrev pub after_first : {A : Type 0} → List A → List A
+after_first [] = []
+after_first (x ∷ xs) = xs
 
--- the words of arguments, of which the first is the program's name
+-- the words of arguments, without the first one, the program's name
 abbrev pub words_of : {Z : Type 0} → List (String Z) → List Text
-words_of arguments = map string_bytes (without_first arguments)
+words_of arguments = map string_bytes (after_first arguments)

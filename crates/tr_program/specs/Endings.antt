@@ -24,13 +24,13 @@ message_of BadCommandLine = Some (codes "tracerd: bad command line" ++ 10 ∷ []
 message_of ReadOrWrite = Some (codes "tracerd: read or write fault" ++ 10 ∷ [])
 message_of NoMemory = Some (codes "tracerd: no memory" ++ 10 ∷ [])
 
-abbrev pub ending_of : ScriptFault → Ending
-ending_of fault.Read = ReadOrWrite
-ending_of fault.TooLong = ReadOrWrite
-ending_of fault.Write = ReadOrWrite
-ending_of fault.NoMemory = NoMemory
+abbrev pub ending_of_script : ScriptFault → Ending
+ending_of_script fault.Read = ReadOrWrite
+ending_of_script fault.TooLong = ReadOrWrite
+ending_of_script fault.Write = ReadOrWrite
+ending_of_script fault.NoMemory = NoMemory
 
--- the arguments couldn't be taken: for want of memory, or because one isn't UTF-8
+-- the arguments couldn't be taken: an allocation failed, or one isn't UTF-8
 abbrev pub ending_of_arguments : ErrorKind → Ending
 ending_of_arguments OutOfMemory = NoMemory
 ending_of_arguments _ = BadCommandLine
@@ -39,7 +39,7 @@ abbrev pub ending_of_export : ExportFault → Ending
 ending_of_export export.Write = ReadOrWrite
 ending_of_export export.NoMemory = NoMemory
 
--- a script that came to its end, with so many refused lines
+-- a script that came to its end, with this number of refused lines
 abbrev pub ending_of_refused : ℕ → Ending
 ending_of_refused zero = Done
 ending_of_refused (suc n) = Refused

@@ -10,7 +10,7 @@ use Rattle.tr_stream.specs.State.{StreamState}
 abbrev pub all_made : List ℕ → World StreamState → Makings
 all_made dir w = flat_map (λ e. archives_made dir e.0 e.1) w
 
--- these archives were made below the folder; nothing, where none is named
+-- these archives were made below the folder; nothing, if none is named
 abbrev pub IsMadeBelow : Option (List ℕ) → World StreamState → Option Makings → Option Makings → Type 0
 IsMadeBelow None w before after = after ≡ before
 IsMadeBelow (Some dir) w before after = after ≡ and_then_made before (all_made dir w)

@@ -4,7 +4,10 @@ use Rattle.tr_calls.specs.World.{World}
 use Rattle.tr_console.specs.Runs.{AnsweredSome, BrokeOff, Ran, WentTooFar, WroteSome}
 use Rattle.tr_export.specs.Failures.{HasFailed, HasNotFailed}
 use Rattle.tr_export.specs.Making.{MadeFront, Makings}
+use Rattle.tr_export.specs.declared.disk.Disk as Disk
 use Rattle.tr_record.specs.Bytes.{and_then_bytes, once_more}
+use Rattle.tr_record.specs.declared.bytes.ByteSink as Sink
+use Rattle.tr_record.specs.declared.bytes.ByteSource as Source
 use Rattle.tr_stream.specs.State.{StreamState}
 use Rattle.tr_program.specs.CommandLine.{Folder}
 use Rattle.tr_program.specs.Endings.{ending_of_refused, message_of, status_of}
@@ -17,50 +20,87 @@ abbrev pub GotLine : Option (List ℕ) → Option (List ℕ) → Option (List �
 GotLine before after None = after ≡ before
 GotLine before after (Some line) = after ≡ and_then_bytes before line
 
--- what the input holds, what it had given, the output taken and the disk made, and how often each of them had failed, before
--- the run and after it
-module _ (content given given_now taken taken_now : Option (List ℕ)) (made made_now : Option Makings) (input input_now output output_now : ℕ) (disk disk_now : Option ℕ) where
+-- what is known of an input, an output and a disk at one step: all that the input holds and what it gave, what the output took,
+-- what was made on the disk, and how often each of them failed
+pub record Host : Type 0 where
+  pub content : Option (List ℕ)
+  pub given : Option (List ℕ)
+  pub taken : Option (List ℕ)
+  pub made : Option Makings
+  pub input_failures : ℕ
+  pub output_failures : ℕ
+  pub disk_failures : Option ℕ
+
+abbrev pub host_of : {S K D F : Type 0} → Source.Ghosts S → Sink.Ghosts K → Disk.Ghosts D F → S → K → D → Host
+host_of source sink disks input out disk = record {
+  content = source.content input;
+  given = source.given input;
+  taken = sink.taken out;
+  made = disks.made disk;
+  input_failures = source.failures input;
+  output_failures = sink.failures out;
+  disk_failures = disks.failures disk;
+}
+
+-- what is known of standard error at one step: what it took, and how often it failed
+pub record Told : Type 0 where
+  pub taken : Option (List ℕ)
+  pub failures : ℕ
+
+abbrev pub told_of : {E : Type 0} → Sink.Ghosts E → E → Told
+told_of sink err = record { taken = sink.taken err; failures = sink.failures err }
+
+-- the host before a run and after it
+module _ (old new : Host) where
   -- the input was read to its end and answered whole, the archives of its sessions were made below the folder, if one is
-  -- named, and the ending tells whether lines were refused
+  -- named, and the ending says whether lines were refused
   pub record CameToEnd (dir : Folder) (ending : Ending) : Type 0 where
     pub world : World StreamState
     pub refused : ℕ
-    pub ran : Ran given given_now taken taken_now world refused
-    pub whole : given_now ≡ content
-    pub archived : IsMadeBelow dir world made made_now
+    pub ran : Ran old.given new.given old.taken new.taken world refused
+    pub whole : new.given ≡ old.content
+    pub archived : IsMadeBelow dir world old.made new.made
     pub tells : ending ≡ ending_of_refused refused
 
-  -- the input was read to its end and answered whole, and of the archives below the folder, which is named, a front part
-  -- was made
+  -- the input was read to its end and answered whole, and a prefix of the archives below the folder, which is named, was
+  -- made
   pub record MadeSome (dir : Folder) : Type 0 where
     pub world : World StreamState
     pub refused : ℕ
     pub folder : List ℕ
     pub named : dir ≡ Some folder
-    pub ran : Ran given given_now taken taken_now world refused
-    pub whole : given_now ≡ content
-    pub front : MadeFront made made_now (all_made folder world)
+    pub ran : Ran old.given new.given old.taken new.taken world refused
+    pub whole : new.given ≡ old.content
+    pub front : MadeFront old.made new.made (all_made folder world)
+
+  -- neither the input nor the output failed
+  abbrev pub NeitherFailed : Type 0
+  NeitherFailed = (new.input_failures ≡ old.input_failures) × (new.output_failures ≡ old.output_failures)
 
   -- the input failed, or the script was too long, or the output failed: what was read and answered until then
   abbrev pub HasBrokenOff : Type 0
-  HasBrokenOff = (BrokeOff given given_now taken taken_now × (input_now ≡ once_more input) × (output_now ≡ output))
-      ⊎ ((WentTooFar given given_now taken taken_now × (input_now ≡ input) × (output_now ≡ output))
-      ⊎ (WroteSome given given_now taken taken_now content × (input_now ≡ input) × (output_now ≡ once_more output)))
+  HasBrokenOff =
+      (BrokeOff old.given new.given old.taken new.taken
+      × (new.input_failures ≡ once_more old.input_failures) × (new.output_failures ≡ old.output_failures))
+      ⊎ ((WentTooFar old.given new.given old.taken new.taken × NeitherFailed)
+      ⊎ (WroteSome old.given new.given old.taken new.taken old.content
+      × (new.input_failures ≡ old.input_failures) × (new.output_failures ≡ once_more old.output_failures)))
 
   -- the script broke off and the disk is as it was, or the disk failed while the archives were made
   abbrev pub EndsByFault : Folder → Type 0
-  EndsByFault dir = (HasBrokenOff × (made_now ≡ made) × (disk_now ≡ disk))
-      ⊎ (MadeSome dir × (input_now ≡ input) × (output_now ≡ output) × HasFailed disk disk_now)
+  EndsByFault dir = (HasBrokenOff × (new.made ≡ old.made) × (new.disk_failures ≡ old.disk_failures))
+      ⊎ (MadeSome dir × NeitherFailed × HasFailed old.disk_failures new.disk_failures)
 
-  -- nothing is read, answered and made
+  -- nothing was read, answered or made
   abbrev pub IsUntouched : Type 0
-  IsUntouched = (given_now ≡ given) × (taken_now ≡ taken) × (made_now ≡ made)
+  IsUntouched = (new.given ≡ old.given) × (new.taken ≡ old.taken) × (new.made ≡ old.made)
 
-  -- memory was refused before the script was begun, within it, or while its archives were made
+  -- an allocation failed before the script was begun, within it, or while its archives were made
   abbrev pub EndsByMemory : Folder → Type 0
-  EndsByMemory dir = IsUntouched ⊎ ((AnsweredSome given given_now taken taken_now × (made_now ≡ made)) ⊎ MadeSome dir)
+  EndsByMemory dir =
+      IsUntouched ⊎ ((AnsweredSome old.given new.given old.taken new.taken × (new.made ≡ old.made)) ⊎ MadeSome dir)
 
-  -- a run of a script came to its end, or says what kept it from it
+  -- a run of a script came to its end, or says why not
   abbrev pub EndsAs : Folder → Ending → Type 0
   EndsAs dir Done = CameToEnd dir Done
   EndsAs dir Refused = CameToEnd dir Refused
@@ -77,25 +117,24 @@ module _ (content given given_now taken taken_now : Option (List ℕ)) (made mad
   EndsSo None ending = IsNoRun ending
   EndsSo (Some dir) ending = EndsAs dir ending
 
--- how often the input, the output and the disk had failed, before the run and after it: one of them failed in it, or the
--- script was too long
-abbrev pub HasCause : (input input_now output output_now : ℕ) → (disk disk_now : Option ℕ) → Type 0 → Type 0
-HasCause input input_now output output_now disk disk_now too_long =
-    ((input_now ≡ once_more input) ⊎ (output_now ≡ once_more output)) ⊎ (HasFailed disk disk_now ⊎ too_long)
+  -- the input, the output or the disk failed, or the script was too long
+  abbrev pub HasCause : Type 0
+  HasCause =
+      ((new.input_failures ≡ once_more old.input_failures) ⊎ (new.output_failures ≡ once_more old.output_failures))
+      ⊎ (HasFailed old.disk_failures new.disk_failures ⊎ WentTooFar old.given new.given old.taken new.taken)
 
--- none of them failed
-abbrev pub HasNoFault : (input input_now output output_now : ℕ) → (disk disk_now : Option ℕ) → Type 0
-HasNoFault input input_now output output_now disk disk_now = (input_now ≡ input) × (output_now ≡ output) × HasNotFailed disk disk_now
+  -- none of them failed
+  abbrev pub HasNoFault : Type 0
+  HasNoFault = (new.input_failures ≡ old.input_failures) × (new.output_failures ≡ old.output_failures)
+      × HasNotFailed old.disk_failures new.disk_failures
 
--- what standard error had taken and how often it had failed, before the run and after it: it got the ending's line, if it
--- didn't fail
-abbrev pub IsTold : Ending → (told told_now : Option (List ℕ)) → (failures failures_now : ℕ) → Type 0
-IsTold ending told told_now failures failures_now = GotLine told told_now (message_of ending) ⊎ (failures_now ≡ once_more failures)
+-- standard error before and after: it got the ending's line, if it didn't fail
+abbrev pub IsTold : Ending → Told → Told → Type 0
+IsTold ending old new = GotLine old.taken new.taken (message_of ending) ⊎ (new.failures ≡ once_more old.failures)
 
 -- the run ended as what was asked for does: its status and its line say how
-pub record HasEnded (asked : Option Folder) (content given given_now taken taken_now told told_now : Option (List ℕ)) (made made_now : Option Makings)
-    (input input_now output output_now : ℕ) (disk disk_now : Option ℕ) (failures failures_now status : ℕ) : Type 0 where
+pub record HasEnded (asked : Option Folder) (old new : Host) (told told_now : Told) (status : ℕ) : Type 0 where
   pub ending : Ending
   pub says : status ≡ status_of ending
-  pub line : IsTold ending told told_now failures failures_now
-  pub ends : EndsSo content given given_now taken taken_now made made_now input input_now output output_now disk disk_now asked ending
+  pub line : IsTold ending told told_now
+  pub ends : EndsSo old new asked ending

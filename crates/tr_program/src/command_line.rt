@@ -15,14 +15,14 @@ use std::env::Args;
 /// What the program is asked to do.
 #[derive(Clone, Copy, Debug, PartialEq, Eq)]
 pub enum Job<'a> {
-    /// To run the script that standard input gives, and then to write its archives below a folder, if one is named.
+    /// Runs the script from standard input, and then writes its archives below a folder, if one is named.
     Script {
-        /// The folder.
+        /// The folder for the archives, if one is named.
         out: Option<&'a str>,
     },
 }
 
-/// `--out DIR`.
+/// The option `--out DIR`.
 fn out_argument<'a>(alloc: Global) -> Arg<'a>
     ensures rule { rule_of result ≡ option (codes "out") }
     ensures local { result.global ≡ false }
@@ -68,7 +68,7 @@ fn texts_of<'a>(alloc: Global, strings: &'a [String]) -> Result<Vec<&'a str>, Al
     Ok(texts)
 }
 
-/// The words behind the program's name, which stands first.
+/// The words after the program's name, which comes first.
 pub fn words_behind<'a>(alloc: Global, given: &'a [String]) -> Result<Vec<&'a str>, AllocError>
     ensures { IfOk result (λ words. map (λ w. w.now) words.items ≡ words_of given.now) }
 {
@@ -88,8 +88,8 @@ pub fn with_program<'a>(alloc: Global, words: &[&'a str]) -> Result<Vec<&'a str>
     Ok(all)
 }
 
-/// What the words ask for, the program's name first. None: they are no command line of this program's, help and a folder
-/// without a name among them.
+/// What the words ask for, the program's name first. None: they are no command line of this program. Neither is help, or a
+/// folder with an empty name.
 pub fn job_of<'a>(alloc: Global, words: &'a [&'a str]) -> Result<Option<Job<'a>>, AllocError>
     ensures { IfOk result (λ job. option_map folder_of job ≡ job_of (map (λ w. w.now) words.entry.now)) }
 {
@@ -104,7 +104,7 @@ pub fn job_of<'a>(alloc: Global, words: &'a [&'a str]) -> Result<Option<Job<'a>>
     }
 }
 
-/// What the command of this name asks for.
+/// What the command of this name asks for, if there is one.
 fn job_named<'a>(name: &str, matches: &ArgMatches<'a>) -> Option<Job<'a>>
     ensures { option_map folder_of result ≡ job_named name.now (rows_of (found_of matches.now)) }
 {

@@ -1,7 +1,7 @@
 //! How a run of the program ends.
 
 ghost use Rattle.std.specs.Prelude.{◌≡◌, option_map};
-ghost use Rattle.tr_program.specs.Endings.{ending_of, ending_of_arguments, ending_of_export, ending_of_refused, message_of, status_of};
+ghost use Rattle.tr_program.specs.Endings.{ending_of_script, ending_of_arguments, ending_of_export, ending_of_refused, message_of, status_of};
 
 use std::io::ErrorKind;
 use tr_console::ScriptFault;
@@ -18,7 +18,7 @@ pub enum Ending {
     BadCommandLine,
     /// The input couldn't be read or was too long, or the output or an archive couldn't be written.
     ReadOrWrite,
-    /// Memory was refused.
+    /// An allocation failed.
     NoMemory,
 }
 
@@ -48,7 +48,7 @@ impl Ending {
         }
     }
 
-    /// How a script of which so many lines were refused ends the program.
+    /// How a script ends the program if this number of its lines was refused.
     pub fn of_refused(refused: u64) -> Ending
         ensures { result ≡ ending_of_refused refused }
     {
@@ -59,7 +59,7 @@ impl Ending {
         }
     }
 
-    /// How arguments that can't be taken end the program: where it isn't for want of memory, one of them isn't UTF-8.
+    /// How arguments that can't be taken end the program: an allocation failed, or one of them isn't UTF-8.
     pub fn of_arguments(kind: ErrorKind) -> Ending
         ensures { result ≡ ending_of_arguments kind }
     {
@@ -70,7 +70,7 @@ impl Ending {
     }
 
     /// How archives that can't be written end the program.
-    pub fn of_export_fault(fault: ExportFault) -> Ending
+    pub fn of_export(fault: ExportFault) -> Ending
         ensures { result ≡ ending_of_export fault }
     {
         match fault {
@@ -80,8 +80,8 @@ impl Ending {
     }
 
     /// How a script that ended early ends the program.
-    pub fn of_fault(fault: ScriptFault) -> Ending
-        ensures { result ≡ ending_of fault }
+    pub fn of_script(fault: ScriptFault) -> Ending
+        ensures { result ≡ ending_of_script fault }
     {
         match fault {
             ScriptFault::Read | ScriptFault::TooLong | ScriptFault::Write => Ending::ReadOrWrite,

@@ -4,13 +4,12 @@ ghost use Rattle.std.specs.Prelude.{◌≡◌, OnOk, OnErr, IfErr, map, option_a
 ghost use Rattle.std.specs.IoError.{error_kind};
 ghost use Rattle.std.specs.Result.{result_ok};
 ghost use Rattle.std.specs.Vec.Iter.{into_iter_items};
-ghost use Rattle.tr_console.specs.Runs.{WentTooFar};
 ghost use Rattle.tr_export.specs.Failures.{FailedByWrite};
 ghost use Rattle.tr_export.specs.Making.{MadeFront, and_then_made};
 ghost use Rattle.tr_program.specs.CommandLine.{job_asked, words_of};
 ghost use Rattle.tr_program.specs.Endings.{ending_of_arguments, status_of};
 ghost use Rattle.tr_program.specs.Exports.{all_made};
-ghost use Rattle.tr_program.specs.Runs.{EndsAs, EndsSo, HasCause, HasEnded, HasNoFault, IsTold};
+ghost use Rattle.tr_program.specs.Runs.{EndsAs, EndsSo, HasCause, HasEnded, HasNoFault, IsTold, host_of, told_of};
 
 use crate::command_line::{Job, collected, job_of, with_program, words_behind};
 use crate::ending::Ending;
@@ -41,7 +40,7 @@ fn write_all<D: Disk>(
     Ok(())
 }
 
-/// Runs a script, and writes its archives where it came to its end.
+/// Runs a script, and writes its archives if it came to its end.
 fn end_script<S: ByteSource, K: ByteSink, D: Disk>(
     alloc: Global,
     input: &mut S,
@@ -49,17 +48,23 @@ fn end_script<S: ByteSource, K: ByteSink, D: Disk>(
     disk: &mut D,
     dir: Option<&str>,
 ) -> Ending
-    ensures ends { EndsAs (S.content input.old) (S.given input.old) (S.given input.new) (K.taken out.old) (K.taken out.new) (D.made disk.old) (D.made disk.new) (S.failures input.old) (S.failures input.new) (K.failures out.old) (K.failures out.new) (D.failures disk.old) (D.failures disk.new) (option_map (λ d. d.now) dir.entry) result }
-    ensures fault { result ≡ Ending.ReadOrWrite → HasCause (S.failures input.old) (S.failures input.new) (K.failures out.old) (K.failures out.new) (D.failures disk.old) (D.failures disk.new) (WentTooFar (S.given input.old) (S.given input.new) (K.taken out.old) (K.taken out.new)) }
-    ensures no_fault { (result ≡ Ending.ReadOrWrite → ⊥) → HasNoFault (S.failures input.old) (S.failures input.new) (K.failures out.old) (K.failures out.new) (D.failures disk.old) (D.failures disk.new) }
+    ensures ends { EndsAs (host_of S.ByteSource K.ByteSink D.Disk input.old out.old disk.old)
+        (host_of S.ByteSource K.ByteSink D.Disk input.new out.new disk.new) (option_map (λ d. d.now) dir.entry)
+        result }
+    ensures fault { result ≡ Ending.ReadOrWrite
+        → HasCause (host_of S.ByteSource K.ByteSink D.Disk input.old out.old disk.old)
+        (host_of S.ByteSource K.ByteSink D.Disk input.new out.new disk.new) }
+    ensures no_fault { (result ≡ Ending.ReadOrWrite → ⊥)
+        → HasNoFault (host_of S.ByteSource K.ByteSink D.Disk input.old out.old disk.old)
+        (host_of S.ByteSource K.ByteSink D.Disk input.new out.new disk.new) }
 {
     let done = match run_script(alloc, alloc, input, out) {
         Ok(done) => done,
-        Err(fault) => return Ending::of_fault(fault),
+        Err(fault) => return Ending::of_script(fault),
     };
     if let Some(dir) = dir {
         if let Err(fault) = write_all(alloc, disk, dir, &done.console) {
-            return Ending::of_export_fault(fault);
+            return Ending::of_export(fault);
         }
     }
     Ending::of_refused(done.refused)
@@ -73,9 +78,15 @@ fn end<S: ByteSource, K: ByteSink, D: Disk>(
     out: &mut K,
     disk: &mut D,
 ) -> Ending
-    ensures ends { EndsSo (S.content input.old) (S.given input.old) (S.given input.new) (K.taken out.old) (K.taken out.new) (D.made disk.old) (D.made disk.new) (S.failures input.old) (S.failures input.new) (K.failures out.old) (K.failures out.new) (D.failures disk.old) (D.failures disk.new) (job_asked (map (λ w. w.now) words.now)) result }
-    ensures fault { result ≡ Ending.ReadOrWrite → HasCause (S.failures input.old) (S.failures input.new) (K.failures out.old) (K.failures out.new) (D.failures disk.old) (D.failures disk.new) (WentTooFar (S.given input.old) (S.given input.new) (K.taken out.old) (K.taken out.new)) }
-    ensures no_fault { (result ≡ Ending.ReadOrWrite → ⊥) → HasNoFault (S.failures input.old) (S.failures input.new) (K.failures out.old) (K.failures out.new) (D.failures disk.old) (D.failures disk.new) }
+    ensures ends { EndsSo (host_of S.ByteSource K.ByteSink D.Disk input.old out.old disk.old)
+        (host_of S.ByteSource K.ByteSink D.Disk input.new out.new disk.new) (job_asked (map (λ w. w.now) words.now))
+        result }
+    ensures fault { result ≡ Ending.ReadOrWrite
+        → HasCause (host_of S.ByteSource K.ByteSink D.Disk input.old out.old disk.old)
+        (host_of S.ByteSource K.ByteSink D.Disk input.new out.new disk.new) }
+    ensures no_fault { (result ≡ Ending.ReadOrWrite → ⊥)
+        → HasNoFault (host_of S.ByteSource K.ByteSink D.Disk input.old out.old disk.old)
+        (host_of S.ByteSource K.ByteSink D.Disk input.new out.new disk.new) }
 {
     let Ok(words) = with_program(alloc, words) else {
         return Ending::NoMemory;
@@ -87,22 +98,22 @@ fn end<S: ByteSource, K: ByteSink, D: Disk>(
     }
 }
 
-/// Says on standard error what kept the program from its end, if anything did, and answers the exit status.
+/// Writes why the run failed, if it did, to standard error, and answers the exit status.
 fn tell<E: ByteSink>(ending: Ending, err: &mut E) -> u8
     ensures status { result ≡ status_of ending }
-    ensures told { IsTold ending (E.taken err.old) (E.taken err.new) (E.failures err.old) (E.failures err.new) }
+    ensures told { IsTold ending (told_of E.ByteSink err.old) (told_of E.ByteSink err.new) }
 {
     if let Some(message) = ending.message() {
-        // Where this can't be written either, the status still tells.
+        // If this can't be written either, the status still says it.
         let _ = put_all(err, message.as_bytes());
     }
     ending.status()
 }
 
-/// Runs the program: `words` are those behind its name. The answer is the exit status: 0 where all was done, 1 where a
-/// line was refused, 2 for a bad command line, 3 for a fault of input, output or a file, or a script that is too long,
-/// 4 for want of memory. From 2 on `err` gets one line. Archives are made only once the input was read to its end and
-/// answered whole; where one can't be made, those before it stay, and a front part of its own folder and files.
+/// Runs the program with the words after its name. The answer is the exit status: 0 if all was done, 1 if a line was
+/// refused, 2 for a bad command line, 3 for a fault of input, output or a file, or a script that is too long, 4 for a
+/// failed allocation. From 2 on `err` gets one line. Archives are made only once the input was read to its end and answered
+/// whole; if one can't be made, those before it stay, and a prefix of its own folder and files.
 pub fn run<S: ByteSource, K: ByteSink, E: ByteSink, D: Disk>(
     alloc: Global,
     words: &[&str],
@@ -111,15 +122,22 @@ pub fn run<S: ByteSource, K: ByteSink, E: ByteSink, D: Disk>(
     err: &mut E,
     disk: &mut D,
 ) -> u8
-    ensures ends { HasEnded (job_asked (map (λ w. w.now) words.now)) (S.content input.old) (S.given input.old) (S.given input.new) (K.taken out.old) (K.taken out.new) (E.taken err.old) (E.taken err.new) (D.made disk.old) (D.made disk.new) (S.failures input.old) (S.failures input.new) (K.failures out.old) (K.failures out.new) (D.failures disk.old) (D.failures disk.new) (E.failures err.old) (E.failures err.new) result }
-    ensures fault { result ≡ 3 → HasCause (S.failures input.old) (S.failures input.new) (K.failures out.old) (K.failures out.new) (D.failures disk.old) (D.failures disk.new) (WentTooFar (S.given input.old) (S.given input.new) (K.taken out.old) (K.taken out.new)) }
-    ensures no_fault { (result ≡ 3 → ⊥) → HasNoFault (S.failures input.old) (S.failures input.new) (K.failures out.old) (K.failures out.new) (D.failures disk.old) (D.failures disk.new) }
+    ensures ends { HasEnded (job_asked (map (λ w. w.now) words.now))
+        (host_of S.ByteSource K.ByteSink D.Disk input.old out.old disk.old)
+        (host_of S.ByteSource K.ByteSink D.Disk input.new out.new disk.new) (told_of E.ByteSink err.old)
+        (told_of E.ByteSink err.new) result }
+    ensures fault { result ≡ 3
+        → HasCause (host_of S.ByteSource K.ByteSink D.Disk input.old out.old disk.old)
+        (host_of S.ByteSource K.ByteSink D.Disk input.new out.new disk.new) }
+    ensures no_fault { (result ≡ 3 → ⊥)
+        → HasNoFault (host_of S.ByteSource K.ByteSink D.Disk input.old out.old disk.old)
+        (host_of S.ByteSource K.ByteSink D.Disk input.new out.new disk.new) }
 {
     let ending = end(alloc, words, input, out, disk);
     tell(ending, err)
 }
 
-/// Runs the program by its arguments, its name first.
+/// Runs the program with its arguments, its name first.
 fn run_arguments<S: ByteSource, K: ByteSink, E: ByteSink, D: Disk>(
     alloc: Global,
     given: Args,
@@ -128,9 +146,16 @@ fn run_arguments<S: ByteSource, K: ByteSink, E: ByteSink, D: Disk>(
     err: &mut E,
     disk: &mut D,
 ) -> u8
-    ensures ends { HasEnded (job_asked (words_of (into_iter_items given))) (S.content input.old) (S.given input.old) (S.given input.new) (K.taken out.old) (K.taken out.new) (E.taken err.old) (E.taken err.new) (D.made disk.old) (D.made disk.new) (S.failures input.old) (S.failures input.new) (K.failures out.old) (K.failures out.new) (D.failures disk.old) (D.failures disk.new) (E.failures err.old) (E.failures err.new) result }
-    ensures fault { result ≡ 3 → HasCause (S.failures input.old) (S.failures input.new) (K.failures out.old) (K.failures out.new) (D.failures disk.old) (D.failures disk.new) (WentTooFar (S.given input.old) (S.given input.new) (K.taken out.old) (K.taken out.new)) }
-    ensures no_fault { (result ≡ 3 → ⊥) → HasNoFault (S.failures input.old) (S.failures input.new) (K.failures out.old) (K.failures out.new) (D.failures disk.old) (D.failures disk.new) }
+    ensures ends { HasEnded (job_asked (words_of (into_iter_items given)))
+        (host_of S.ByteSource K.ByteSink D.Disk input.old out.old disk.old)
+        (host_of S.ByteSource K.ByteSink D.Disk input.new out.new disk.new) (told_of E.ByteSink err.old)
+        (told_of E.ByteSink err.new) result }
+    ensures fault { result ≡ 3
+        → HasCause (host_of S.ByteSource K.ByteSink D.Disk input.old out.old disk.old)
+        (host_of S.ByteSource K.ByteSink D.Disk input.new out.new disk.new) }
+    ensures no_fault { (result ≡ 3 → ⊥)
+        → HasNoFault (host_of S.ByteSource K.ByteSink D.Disk input.old out.old disk.old)
+        (host_of S.ByteSource K.ByteSink D.Disk input.new out.new disk.new) }
 {
     let Ok(given) = collected(alloc, given) else {
         return tell(Ending::NoMemory, err);
@@ -141,8 +166,8 @@ fn run_arguments<S: ByteSource, K: ByteSink, E: ByteSink, D: Disk>(
     }
 }
 
-/// Runs the program by the arguments that it got, its name first: `run` with the words behind it. One that isn't UTF-8 makes
-/// a bad command line.
+/// Runs the program with the arguments that it got, its name first: `run` with the words after the name. An argument that
+/// isn't UTF-8 makes a bad command line.
 pub fn run_given<S: ByteSource, K: ByteSink, E: ByteSink, D: Disk>(
     alloc: Global,
     given: io::Result<Args>,
@@ -151,10 +176,17 @@ pub fn run_given<S: ByteSource, K: ByteSink, E: ByteSink, D: Disk>(
     err: &mut E,
     disk: &mut D,
 ) -> u8
-    ensures ends { HasEnded (option_and_then (λ arguments. job_asked (words_of (into_iter_items arguments))) (result_ok given)) (S.content input.old) (S.given input.old) (S.given input.new) (K.taken out.old) (K.taken out.new) (E.taken err.old) (E.taken err.new) (D.made disk.old) (D.made disk.new) (S.failures input.old) (S.failures input.new) (K.failures out.old) (K.failures out.new) (D.failures disk.old) (D.failures disk.new) (E.failures err.old) (E.failures err.new) result }
+    ensures ends { HasEnded (option_and_then (λ arguments. job_asked (words_of (into_iter_items arguments)))
+        (result_ok given)) (host_of S.ByteSource K.ByteSink D.Disk input.old out.old disk.old)
+        (host_of S.ByteSource K.ByteSink D.Disk input.new out.new disk.new) (told_of E.ByteSink err.old)
+        (told_of E.ByteSink err.new) result }
     ensures arguments { IfErr given (λ error. result ≡ status_of (ending_of_arguments (error_kind error))) }
-    ensures fault { result ≡ 3 → HasCause (S.failures input.old) (S.failures input.new) (K.failures out.old) (K.failures out.new) (D.failures disk.old) (D.failures disk.new) (WentTooFar (S.given input.old) (S.given input.new) (K.taken out.old) (K.taken out.new)) }
-    ensures no_fault { (result ≡ 3 → ⊥) → HasNoFault (S.failures input.old) (S.failures input.new) (K.failures out.old) (K.failures out.new) (D.failures disk.old) (D.failures disk.new) }
+    ensures fault { result ≡ 3
+        → HasCause (host_of S.ByteSource K.ByteSink D.Disk input.old out.old disk.old)
+        (host_of S.ByteSource K.ByteSink D.Disk input.new out.new disk.new) }
+    ensures no_fault { (result ≡ 3 → ⊥)
+        → HasNoFault (host_of S.ByteSource K.ByteSink D.Disk input.old out.old disk.old)
+        (host_of S.ByteSource K.ByteSink D.Disk input.new out.new disk.new) }
 {
     match given {
         Ok(given) => run_arguments(alloc, given, input, out, err, disk),

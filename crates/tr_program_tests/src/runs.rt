@@ -11,9 +11,9 @@ use tr_export::MemoryDisk;
 use tr_program::{run, run_given};
 use tr_record::{MemorySink, MemorySource};
 
-/// Holds what a test found to what it wanted. As a call without clauses it keeps the proofs of the tests short.
-fn assert_same<T: PartialEq + Debug + Drop>(rt: &impl Abort, found: T, wanted: T) {
-    assert_eq!(rt; found, wanted);
+/// Compares what a test found with what it expects. As a call without clauses it keeps the proofs of the tests short.
+fn assert_same<T: PartialEq + Debug + Drop>(rt: &impl Abort, found: T, expected: T) {
+    assert_eq!(rt; found, expected);
 }
 
 /// The status, and whether these bytes went out and these to standard error, and no file was made.
@@ -182,7 +182,7 @@ fn a_bad_folder_is_told(rt: HostRuntime) {
     );
 }
 
-/// The status where the arguments can't be taken, and whether nothing went out but this line to standard error.
+/// The status if the arguments can't be taken, and whether nothing went out but this line to standard error.
 fn ends_without_arguments(alloc: Global, kind: io::ErrorKind, fault: &[u8]) -> (u8, bool) {
     let mut input = MemorySource::new(b"", 4096);
     let mut out = MemorySink::new(alloc, 4096);

@@ -1,4 +1,4 @@
--- A record is read exactly where its text stands in front.
+-- A record is read exactly when the bytes start with its text.
 use Rattle.std.proofs.Common.{◌≡◌, ℕ, ◌+◌, ◌<◌, ◌≤◌, List, ◌++◌, length, take, drop, Option, Some, None, IfSome, IsSomeAnd, Bor, refl, sym, ap, ◌∙◌, arith}
 use Rattle.std.proofs.lemmas.List.{take_at, take-append-drop, length-append}
 use Rattle.tr_record.specs.Records.{Entry, record_text, Stands}
@@ -16,7 +16,8 @@ read_begins bytes e rest small read = let t = entry_takes bytes (e, rest) small 
 pub begins_read : (bytes : List ℕ) (e : Entry) (rest : List ℕ) → Begins e rest bytes → entry_at bytes ≡ Some (e, rest)
 begins_read bytes e rest b = ap entry_at b.parts ∙ entry_again e rest b.text
 
-pub begins_stands : (bytes : List ℕ) (e : Entry) (rest : List ℕ) → Begins e rest bytes → e.moment ≤ LAST_MOMENT → Stands e (24 + length e.payload) bytes
+pub begins_stands : (bytes : List ℕ) (e : Entry) (rest : List ℕ) → Begins e rest bytes → e.moment ≤ LAST_MOMENT
+    → Stands e (24 + length e.payload) bytes
 begins_stands bytes e rest b in_time =
     let len = length-record_text e in
     let whole = ap length b.parts in
@@ -33,12 +34,14 @@ stands_begins bytes e n s = record {
   parts = sym (take-append-drop n bytes) ∙ ap (λ (t : List ℕ). t ++ drop n bytes) s.text;
 }
 
--- what is read stands there
-pub read_stands : (bytes : List ℕ) (e : Entry) (rest : List ℕ) → AreBytes bytes → entry_at bytes ≡ Some (e, rest) → e.moment ≤ LAST_MOMENT → Stands e (24 + length e.payload) bytes
+-- the bytes start with what is read
+pub read_stands : (bytes : List ℕ) (e : Entry) (rest : List ℕ) → AreBytes bytes → entry_at bytes ≡ Some (e, rest)
+    → e.moment ≤ LAST_MOMENT → Stands e (24 + length e.payload) bytes
 read_stands bytes e rest small read in_time = begins_stands bytes e rest (read_begins bytes e rest small read) in_time
 
--- where fewer bytes are there than stand before a payload, no record is read
-pub short_reads_none : (bytes : List ℕ) (found : Option (Entry × List ℕ)) → AreBytes bytes → length bytes < 24 → entry_at bytes ≡ found → entry_at bytes ≡ None
+-- if there are fewer bytes than come before a payload, no record is read
+pub short_reads_none : (bytes : List ℕ) (found : Option (Entry × List ℕ)) → AreBytes bytes → length bytes < 24
+    → entry_at bytes ≡ found → entry_at bytes ≡ None
 short_reads_none bytes None small short is = is
 short_reads_none bytes (Some x) small short is =
     let begins = read_begins bytes x.0 x.1 small is in
@@ -46,7 +49,8 @@ short_reads_none bytes (Some x) small short is =
 
 -- ---- what the code's reader answers
 
-pub raw_found : (bytes : List ℕ) (answer : Option (RawRec × Bor (List ℕ))) → AreBytes bytes → Gives (λ x. (entry_of x.0, x.1.now)) answer (entry_at bytes)
+pub raw_found : (bytes : List ℕ) (answer : Option (RawRec × Bor (List ℕ))) → AreBytes bytes
+    → Gives (λ x. (entry_of x.0, x.1.now)) answer (entry_at bytes)
     → IfSome answer (λ x. Begins (entry_of x.0) x.1.now bytes)
 raw_found bytes None small gives = tt
 raw_found bytes (Some x) small gives = read_begins bytes (entry_of x.0) x.1.now small gives
@@ -54,7 +58,8 @@ raw_found bytes (Some x) small gives = read_begins bytes (entry_of x.0) x.1.now 
 none_is_some : {A : Type 0} (x : A) → None ≡ Some x → ⊥
 none_is_some x e = cc
 
-pub raw_only : (bytes : List ℕ) (answer : Option (RawRec × Bor (List ℕ))) (e : Entry) (rest : List ℕ) → Begins e rest bytes → Gives (λ x. (entry_of x.0, x.1.now)) answer (entry_at bytes)
+pub raw_only : (bytes : List ℕ) (answer : Option (RawRec × Bor (List ℕ))) (e : Entry) (rest : List ℕ) → Begins e rest bytes
+    → Gives (λ x. (entry_of x.0, x.1.now)) answer (entry_at bytes)
     → IsSomeAnd answer (λ x. (entry_of x.0 ≡ e) × (x.1.now ≡ rest))
 raw_only bytes None e rest b gives = absurd (none_is_some (e, rest) (sym gives ∙ begins_read bytes e rest b))
 raw_only bytes (Some x) e rest b gives =

@@ -1,4 +1,4 @@
--- Lists of records: their texts, what they weigh, and one record more.
+-- Lists of records: their texts, what they weigh, and one more record.
 use Rattle.std.proofs.Common.{◌≡◌, ℕ, ◌+◌, List, [], ◌∷◌, ◌++◌, length, refl, ap, ◌∙◌, arith, length-append, append-nil}
 use Rattle.std.specs.List.{AllByRecursion, sum_by}
 use Rattle.std.proofs.lemmas.List.Concat.{flat_map-append}

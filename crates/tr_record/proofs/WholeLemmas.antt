@@ -13,7 +13,8 @@ use Rattle.tr_record.proofs.RecordLemmas.{all_push, fits_has_text, length-record
 
 -- ---- what is read is whole records
 
-nothing_or_more : {A : Type 0} (none : Bool) (x y : A) (more : Option A) → cond none (Some x) more ≡ Some y → (P : A → Type 0) → (none ≡ true → P x) → (more ≡ Some y → P y) → P y
+nothing_or_more : {A : Type 0} (none : Bool) (x y : A) (more : Option A) → cond none (Some x) more ≡ Some y
+    → (P : A → Type 0) → (none ≡ true → P x) → (more ≡ Some y → P y) → P y
 nothing_or_more true x y more e P nothing some = subst P (some_is x y e) (nothing refl)
 nothing_or_more false x y more e P nothing some = some e
 
@@ -30,7 +31,9 @@ up_to_records zero bytes es small e =
     (λ none. record { text = tt; parts = nil_from_length bytes (eqb-true (length bytes) 0 none) })
     (λ never. absurd (none_is_some es never))
 up_to_records (suc k) bytes es small e =
-    nothing_or_more (eqb (length bytes) 0) [] es (entry_at bytes >>= λ first. entries_up_to k first.1 >>= λ others. Some (first.0 ∷ others)) e (λ l. AreRecords l bytes)
+    nothing_or_more (eqb (length bytes) 0) [] es
+    (entry_at bytes >>= λ first. entries_up_to k first.1 >>= λ others. Some (first.0 ∷ others)) e
+    (λ l. AreRecords l bytes)
     (λ none. record { text = tt; parts = nil_from_length bytes (eqb-true (length bytes) 0 none) })
     (λ more.
     let a = some_step (entry_at bytes) (λ first. entries_up_to k first.1 >>= λ others. Some (first.0 ∷ others)) es more in
@@ -89,8 +92,9 @@ whole_none =
     let is = records_of [] [] are_none in
     (record { are = subst (λ (l : List Entry). AreRecords l []) (sym is) are_none; fits = subst (AllByRecursion Fits) (sym is) tt }, is)
 
--- and a record may be written behind whole records
-pub whole_push : (bytes : List ℕ) (e : Entry) → AreWhole bytes → Fits e → AreWhole (bytes ++ record_text e) × (entries_of (bytes ++ record_text e) ≡ entries_of bytes ++ e ∷ [])
+-- and a record may be written after whole records
+pub whole_push : (bytes : List ℕ) (e : Entry) → AreWhole bytes → Fits e
+    → AreWhole (bytes ++ record_text e) × (entries_of (bytes ++ record_text e) ≡ entries_of bytes ++ e ∷ [])
 whole_push bytes e whole fits =
     let are = are_push (entries_of bytes) e bytes whole.are (fits_has_text e fits) in
     let is = records_of (bytes ++ record_text e) (entries_of bytes ++ e ∷ []) are in (
@@ -110,11 +114,13 @@ record Split (e : Entry) (es : List Entry) (rest : List ℕ) : Type 0 where
   are : AreRecords others rest
   fits : AllByRecursion Fits others
 
-split_first : (es : List Entry) (bytes : List ℕ) (e : Entry) (rest : List ℕ) → AreRecords es bytes → AllByRecursion Fits es → Begins e rest bytes → Split e es rest
+split_first : (es : List Entry) (bytes : List ℕ) (e : Entry) (rest : List ℕ) → AreRecords es bytes → AllByRecursion Fits es
+    → Begins e rest bytes → Split e es rest
 split_first [] bytes e rest are fits begins =
     absurd (omega (arith, ap length are.parts, ap length begins.parts, length-append (record_text e) rest, length-record_text e))
 split_first (x ∷ xs) bytes e rest are fits begins =
-    let both = some_is (x, records_text xs) (e, rest) (sym (begins_read bytes x (records_text xs) (are_first x xs bytes are)) ∙ begins_read bytes e rest begins) in
+    let both = some_is (x, records_text xs) (e, rest)
+    (sym (begins_read bytes x (records_text xs) (are_first x xs bytes are)) ∙ begins_read bytes e rest begins) in
     record {
       others = xs;
       first = subst Fits (ap (λ (p : Entry × List ℕ). p.0) both) fits.0;
@@ -129,7 +135,7 @@ pub record First (e : Entry) (rest bytes : List ℕ) : Type 0 where
   pub others : AreWhole rest
   pub is : entries_of bytes ≡ e ∷ entries_of rest
 
--- a record whose text stands in front of whole records is the first of them, and the others are whole
+-- a record that whole records start with is the first of them, and the others are whole
 pub whole_begins : (bytes rest : List ℕ) (e : Entry) → AreWhole bytes → Begins e rest bytes → First e rest bytes
 whole_begins bytes rest e whole begins =
     let s = split_first (entries_of bytes) bytes e rest whole.are whole.fits begins in
@@ -142,21 +148,23 @@ whole_begins bytes rest e whole begins =
       is = s.is ∙ ap (λ (l : List Entry). e ∷ l) (sym is);
     }
 
-pub whole_first : (bytes rest : List ℕ) (e : Entry) (n : ℕ) → AreWhole bytes → Stands e n bytes → rest ≡ drop n bytes → AreWhole rest × (entries_of bytes ≡ e ∷ entries_of rest)
+pub whole_first : (bytes rest : List ℕ) (e : Entry) (n : ℕ) → AreWhole bytes → Stands e n bytes → rest ≡ drop n bytes
+    → AreWhole rest × (entries_of bytes ≡ e ∷ entries_of rest)
 whole_first bytes rest e n whole stands rest-is =
     let first = whole_begins bytes rest e whole (subst (λ (t : List ℕ). Begins e t bytes) (sym rest-is) (stands_begins bytes e n stands)) in
     (first.others, first.is)
 
-nothing_stands : (es : List Entry) (bytes : List ℕ) → AreRecords es bytes → AllByRecursion Fits es → ((e : Entry) (n : ℕ) → Stands e n bytes → ⊥) → es ≡ []
+nothing_stands : (es : List Entry) (bytes : List ℕ) → AreRecords es bytes → AllByRecursion Fits es
+    → ((e : Entry) (n : ℕ) → Stands e n bytes → ⊥) → es ≡ []
 nothing_stands [] bytes are fits never = refl
 nothing_stands (x ∷ xs) bytes are fits never =
     absurd (never x (24 + length x.payload) (begins_stands bytes x (records_text xs) (are_first x xs bytes are) fits.0.moment))
 
--- where no record stands in front of whole records, none is left
+-- if whole records start with no record, none is left
 pub whole_end : (bytes : List ℕ) → AreWhole bytes → ((e : Entry) (n : ℕ) → Stands e n bytes → None ≡ some_answer e n) → entries_of bytes ≡ []
 whole_end bytes whole never = nothing_stands (entries_of bytes) bytes whole.are whole.fits (λ e n stands. none_is_some (e, n) (never e n stands))
 
--- behind a record that stands in front, the bytes are whole exactly where all of them are
+-- after a record that the bytes start with, they are whole exactly when all of them are
 pub whole_behind : (bytes : List ℕ) (e : Entry) (n : ℕ) → Stands e n bytes → AreWhole (drop n bytes) → AreWhole bytes
 whole_behind bytes e n stands whole =
     let others = entries_of (drop n bytes) in
@@ -171,6 +179,6 @@ whole_behind bytes e n stands whole =
       fits = subst (AllByRecursion Fits) (sym is) (stands.fits, whole.fits);
     }
 
--- whole records with none in front are no bytes
+-- whole records that start with none are no bytes
 pub whole_nothing : (bytes : List ℕ) → AreWhole bytes → ((e : Entry) (n : ℕ) → Stands e n bytes → None ≡ some_answer e n) → bytes ≡ []
 whole_nothing bytes whole never = whole.are.parts ∙ ap records_text (whole_end bytes whole never)

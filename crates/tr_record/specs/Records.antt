@@ -11,6 +11,9 @@ pub record Entry : Type 0 where
   pub id : ℕ
   pub payload : List ℕ
 
+abbrev pub entry : ℕ → ℕ → ℕ → List ℕ → Entry
+entry serial moment id payload = record { serial = serial; moment = moment; id = id; payload = payload }
+
 -- id, moment, serial and the payload's length, lowest byte first, and then the payload
 abbrev pub record_text : Entry → List ℕ
 record_text e =
@@ -32,14 +35,14 @@ pub record HasText (e : Entry) : Type 0 where
   pub id : e.id < 2 ^ 32
   pub payload : length e.payload < 2 ^ 32
 
--- what a record obeys: beside that, its moment is within the limit
+-- what a record obeys: also, its moment is within the limit
 pub record Fits (e : Entry) : Type 0 where
   pub serial : e.serial < 2 ^ 64
   pub moment : e.moment ≤ LAST_MOMENT
   pub id : e.id < 2 ^ 32
   pub payload : length e.payload < 2 ^ 32
 
--- the text of the record e stands at the front of the bytes, and is n bytes long
+-- the bytes start with the text of the record e, which is n bytes long
 pub record Stands (e : Entry) (n : ℕ) (bytes : List ℕ) : Type 0 where
   pub fits : Fits e
   pub size : n ≡ RECORD_HEADER + length e.payload

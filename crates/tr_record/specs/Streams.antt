@@ -1,4 +1,4 @@
--- What stands behind a source and a sink over std's streams.
+-- The std streams of a source and a sink.
 use Rattle.tr_record.specs.declared.streams.ReaderSource.{ReaderSource}
 use Rattle.tr_record.specs.declared.streams.WriterSink.{WriterSink}
 

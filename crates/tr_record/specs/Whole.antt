@@ -4,14 +4,14 @@ use Rattle.std.specs.List.{AllByRecursion}
 use Rattle.tr_record.specs.Records.{Entry, records_text, HasText, Fits}
 use Rattle.tr_record.specs.Reading.{◌>>=◌, entry_at}
 
--- whole records, at most k of them, and nothing behind them
+-- whole records, at most k of them, and nothing after them
 unfoldable pub entries_up_to : ℕ → List ℕ → Option (List Entry)
 entries_up_to zero bytes = if length bytes == 0 then Some [] else None
 entries_up_to (suc k) bytes =
     if length bytes == 0 then Some []
     else (entry_at bytes >>= λ first. entries_up_to k first.1 >>= λ others. Some (first.0 ∷ others))
 
--- the records, where the bytes are whole records; each has a byte at least, so there are no more than bytes
+-- the records, if the bytes are whole records; each has at least one byte, so there are no more records than bytes
 unfoldable pub entries_at : List ℕ → Option (List Entry)
 entries_at bytes = entries_up_to (length bytes) bytes
 

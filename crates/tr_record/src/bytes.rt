@@ -1,4 +1,4 @@
-//! Where bytes come from and where they go, for code that must not know whether it is a file.
+//! Sources and sinks of bytes, for code that must not know whether they are files.
 
 ghost use Rattle.std.specs.Prelude.{◌≡◌, ◌+◌, ◌<◌, ◌≤◌, ℕ, List, Option, Some, None, Ok, IfOk, OnOk, OnErr, take, length};
 ghost use Rattle.tr_record.specs.Bytes.{and_then_bytes, once_more};
@@ -9,14 +9,14 @@ pub struct Failed;
 
 /// Gives bytes, in pieces of its own choice.
 pub trait ByteSource {
-    /// The bytes that it gave so far, where the type says.
+    /// The bytes that it gave so far, if the type says.
     ghost given: { Self → Option (List ℕ) };
-    /// All its bytes, those to come among them, where the type says.
+    /// All its bytes, with those to come, if the type says.
     ghost content: { Self → Option (List ℕ) };
     /// How often it failed, modulo 2^64.
     ghost failures: { Self → ℕ };
 
-    /// Puts its next bytes at the front of `b` and answers how many. 0 is the end. A failure gives no bytes.
+    /// Puts its next bytes at the front of `b` and returns how many. 0 is the end. A failure gives no bytes.
     fn get(&mut self, b: &mut [u8]) -> Result<usize, Failed>
         requires { 0 < length b.old }
         ensures count { IfOk result (λ n. n ≤ length b.new) }
@@ -30,12 +30,12 @@ pub trait ByteSource {
 
 /// Takes bytes, as many at a time as it chooses.
 pub trait ByteSink {
-    /// The bytes that it took so far, where the type says.
+    /// The bytes that it took so far, if the type says.
     ghost taken: { Self → Option (List ℕ) };
     /// How often it failed, modulo 2^64.
     ghost failures: { Self → ℕ };
 
-    /// Takes bytes from the front of `b`, at least one, and answers how many. A failure takes none.
+    /// Takes bytes from the front of `b`, at least one, and returns how many. A failure takes none.
     fn put(&mut self, b: &[u8]) -> Result<usize, Failed>
         requires { 0 < length b.now }
         ensures some { IfOk result (λ n. 0 < n) }
@@ -46,11 +46,12 @@ pub trait ByteSink {
         ensures failed { OnErr result (failures self.new ≡ once_more (failures self.old)) };
 }
 
-/// Puts all the bytes, however few the sink takes at a time. After a failure a front part of them went out.
+/// Puts all the bytes, however few the sink takes at a time. After a failure, a prefix of them went out.
 pub fn put_all<K: ByteSink>(sink: &mut K, b: &[u8]) -> Result<(), Failed>
     ensures ok { OnOk result (K.taken sink.new ≡ and_then_bytes (K.taken sink.old) b.now) }
     ensures no_failure { OnOk result (K.failures sink.new ≡ K.failures sink.old) }
-    ensures err { OnErr result ((k : ℕ) × (k ≤ length b.now) × (K.taken sink.new ≡ and_then_bytes (K.taken sink.old) (take k b.now))) }
+    ensures err { OnErr result
+        ((k : ℕ) × (k ≤ length b.now) × (K.taken sink.new ≡ and_then_bytes (K.taken sink.old) (take k b.now))) }
     ensures failed { OnErr result (K.failures sink.new ≡ once_more (K.failures sink.old)) }
 {
     let mut at = 0;

@@ -1,5 +1,4 @@
 //! Records of a trace and their bytes, and the traits by which bytes come in and go out.
-//! Every other crate of the daemon stands on these words.
 #![tactic(auto)]
 
 mod bytes;
@@ -7,6 +6,7 @@ pub mod laws;
 mod memory;
 mod raw;
 mod reading;
+mod rec_views;
 mod record;
 mod records;
 mod streams;
@@ -17,6 +17,7 @@ pub use bytes::{ByteSink, ByteSource, Failed, put_all};
 pub use memory::{MemorySink, MemorySource};
 pub use raw::RawRec;
 pub use reading::{read_raw, read_rec, u32_at, u64_at};
+pub use rec_views::RecViews;
 pub use record::Rec;
 pub use records::Records;
 pub use streams::{ReaderSource, WriterSink};

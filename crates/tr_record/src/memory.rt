@@ -5,7 +5,7 @@ ghost use Rattle.std.specs.Prelude.{◌≡◌, ◌%◌, ◌^◌, ◌≤◌, ◌<
 use crate::bytes::{ByteSink, ByteSource, Failed};
 use std::alloc::{Allocator, Global};
 
-/// Gives the bytes of a slice, at most `piece` at a time, and never fails. A piece of 0 is one of 1.
+/// Gives the bytes of a slice, at most `piece` at a time, and never fails. A `piece` of 0 counts as 1.
 #[derive(Drop)]
 pub struct MemorySource<'a> {
     bytes: &'a [u8],
@@ -47,12 +47,22 @@ impl<'a> ByteSource for MemorySource<'a> {
         ensures count { IfOk result (λ n. n ≤ length b.new) }
         ensures piece { IfOk result (λ n. n ≤ max (piece_given self.old) 1) }
         ensures kept { piece_given self.new ≡ piece_given self.old }
-        ensures given { IfOk result (λ n. ⟦<MemorySource<'a> as ByteSource>⟧.given self.new ≡ and_then_bytes (⟦<MemorySource<'a> as ByteSource>⟧.given self.old) (take n b.new)) }
-        ensures content { ⟦<MemorySource<'a> as ByteSource>⟧.content self.new ≡ ⟦<MemorySource<'a> as ByteSource>⟧.content self.old }
-        ensures end { result ≡ Ok 0 → ⟦<MemorySource<'a> as ByteSource>⟧.given self.new ≡ ⟦<MemorySource<'a> as ByteSource>⟧.content self.new }
-        ensures ok { OnOk result (⟦<MemorySource<'a> as ByteSource>⟧.failures self.new ≡ ⟦<MemorySource<'a> as ByteSource>⟧.failures self.old) }
-        ensures err { OnErr result (⟦<MemorySource<'a> as ByteSource>⟧.given self.new ≡ ⟦<MemorySource<'a> as ByteSource>⟧.given self.old) }
-        ensures failed { OnErr result (⟦<MemorySource<'a> as ByteSource>⟧.failures self.new ≡ once_more (⟦<MemorySource<'a> as ByteSource>⟧.failures self.old)) }
+        ensures given { IfOk result
+            (λ n. ⟦<MemorySource<'a> as ByteSource>⟧.given self.new
+            ≡ and_then_bytes (⟦<MemorySource<'a> as ByteSource>⟧.given self.old) (take n b.new)) }
+        ensures content { ⟦<MemorySource<'a> as ByteSource>⟧.content self.new
+            ≡ ⟦<MemorySource<'a> as ByteSource>⟧.content self.old }
+        ensures end { result ≡ Ok 0
+            → ⟦<MemorySource<'a> as ByteSource>⟧.given self.new
+            ≡ ⟦<MemorySource<'a> as ByteSource>⟧.content self.new }
+        ensures ok { OnOk result
+            (⟦<MemorySource<'a> as ByteSource>⟧.failures self.new
+            ≡ ⟦<MemorySource<'a> as ByteSource>⟧.failures self.old) }
+        ensures err { OnErr result
+            (⟦<MemorySource<'a> as ByteSource>⟧.given self.new ≡ ⟦<MemorySource<'a> as ByteSource>⟧.given self.old) }
+        ensures failed { OnErr result
+            (⟦<MemorySource<'a> as ByteSource>⟧.failures self.new
+            ≡ once_more (⟦<MemorySource<'a> as ByteSource>⟧.failures self.old)) }
     {
         let left = &self.bytes[self.at..];
         let count = left.len().min(b.len()).min(self.piece.max(1));
@@ -62,7 +72,7 @@ impl<'a> ByteSource for MemorySource<'a> {
     }
 }
 
-/// Keeps the bytes, at most `piece` at a time. It fails where memory runs out. A piece of 0 is one of 1.
+/// Keeps the bytes, at most `piece` at a time. It fails if an allocation fails. A `piece` of 0 counts as 1.
 #[derive(Drop)]
 pub struct MemorySink<A: Allocator = Global> {
     bytes: Vec<u8, A>,
@@ -73,7 +83,7 @@ pub struct MemorySink<A: Allocator = Global> {
 impl<A: Allocator> MemorySink<A> {
     ghost use Rattle.tr_record.specs.Pieces.{piece_taken};
 
-    /// A sink that took nothing yet.
+    /// A sink that has taken nothing yet.
     pub fn new(alloc: A, piece: usize) -> Self
         ensures taken { ⟦<MemorySink<A> as ByteSink>⟧.taken result ≡ Some [] }
         ensures failures { ⟦<MemorySink<A> as ByteSink>⟧.failures result ≡ 0 }
@@ -86,7 +96,7 @@ impl<A: Allocator> MemorySink<A> {
         }
     }
 
-    /// What it took.
+    /// The bytes that it took.
     pub fn into_bytes(self) -> Vec<u8, A>
         ensures { ⟦<MemorySink<A> as ByteSink>⟧.taken self ≡ Some result.items }
     {
@@ -109,10 +119,16 @@ impl<A: Allocator> ByteSink for MemorySink<A> {
         ensures count { IfOk result (λ n. n ≤ length b.now) }
         ensures piece { IfOk result (λ n. n ≤ max (piece_taken self.old) 1) }
         ensures kept { piece_taken self.new ≡ piece_taken self.old }
-        ensures taken { IfOk result (λ n. ⟦<MemorySink<A> as ByteSink>⟧.taken self.new ≡ and_then_bytes (⟦<MemorySink<A> as ByteSink>⟧.taken self.old) (take n b.now)) }
-        ensures ok { OnOk result (⟦<MemorySink<A> as ByteSink>⟧.failures self.new ≡ ⟦<MemorySink<A> as ByteSink>⟧.failures self.old) }
-        ensures err { OnErr result (⟦<MemorySink<A> as ByteSink>⟧.taken self.new ≡ ⟦<MemorySink<A> as ByteSink>⟧.taken self.old) }
-        ensures failed { OnErr result (⟦<MemorySink<A> as ByteSink>⟧.failures self.new ≡ once_more (⟦<MemorySink<A> as ByteSink>⟧.failures self.old)) }
+        ensures taken { IfOk result
+            (λ n. ⟦<MemorySink<A> as ByteSink>⟧.taken self.new
+            ≡ and_then_bytes (⟦<MemorySink<A> as ByteSink>⟧.taken self.old) (take n b.now)) }
+        ensures ok { OnOk result
+            (⟦<MemorySink<A> as ByteSink>⟧.failures self.new ≡ ⟦<MemorySink<A> as ByteSink>⟧.failures self.old) }
+        ensures err { OnErr result
+            (⟦<MemorySink<A> as ByteSink>⟧.taken self.new ≡ ⟦<MemorySink<A> as ByteSink>⟧.taken self.old) }
+        ensures failed { OnErr result
+            (⟦<MemorySink<A> as ByteSink>⟧.failures self.new
+            ≡ once_more (⟦<MemorySink<A> as ByteSink>⟧.failures self.old)) }
     {
         let count = b.len().min(self.piece.max(1));
         match self.bytes.extend_from_slice(&b[..count]) {

@@ -11,7 +11,7 @@ use crate::view::RecView;
 use tr_terms::Moment;
 use tr_terms::limits::RECORD_HEADER;
 
-/// The number in the first four bytes, lowest byte first, and the bytes behind it. None of fewer bytes.
+/// The number in the first four bytes, lowest byte first, and the bytes after it. None if there are fewer bytes.
 pub fn u32_at(bytes: &[u8]) -> Option<(u32, &[u8])>
     ensures { Gives (λ x. (x.0, x.1.now)) result (number_at w32 bytes.now) }
 {
@@ -19,7 +19,7 @@ pub fn u32_at(bytes: &[u8]) -> Option<(u32, &[u8])>
     Some((u32::from_le_bytes(*front), rest))
 }
 
-/// The number in the first eight bytes, lowest byte first, and the bytes behind it. None of fewer bytes.
+/// The number in the first eight bytes, lowest byte first, and the bytes after it. None if there are fewer bytes.
 pub fn u64_at(bytes: &[u8]) -> Option<(u64, &[u8])>
     ensures { Gives (λ x. (x.0, x.1.now)) result (number_at w64 bytes.now) }
 {
@@ -56,11 +56,12 @@ fn fields_of(bytes: &[u8]) -> Option<(RawRec<'_>, &[u8])>
     Some((raw, rest))
 }
 
-/// The record whose text stands in front, whatever its moment, and the bytes behind it. None where fewer than 24 bytes
-/// are there, or the payload is cut.
+/// The record that the bytes start with, whatever its moment, and the bytes after it. None if there are fewer than 24
+/// bytes, or the payload is cut.
 pub fn read_raw(bytes: &[u8]) -> Option<(RawRec<'_>, &[u8])>
     ensures found { IfSome result (λ x. Begins (entry_of x.0) x.1.now bytes.now) }
-    ensures only { (e : Entry) (rest : List ℕ) → Begins e rest bytes.now → IsSomeAnd result (λ x. (entry_of x.0 ≡ e) × (x.1.now ≡ rest)) }
+    ensures only { (e : Entry) (rest : List ℕ) → Begins e rest bytes.now
+        → IsSomeAnd result (λ x. (entry_of x.0 ≡ e) × (x.1.now ≡ rest)) }
 
     // What is read, field by field.
     ensures exact { Gives (λ x. (entry_of x.0, x.1.now)) result (entry_at bytes.now) }
@@ -68,7 +69,7 @@ pub fn read_raw(bytes: &[u8]) -> Option<(RawRec<'_>, &[u8])>
     fields_of(bytes)
 }
 
-/// The record whose text stands in front, and how many bytes that is. None where fewer than 24 bytes are there, the
+/// The record that the bytes start with, and how many bytes its text has. None if there are fewer than 24 bytes, the
 /// payload is cut, or the moment is above the limit.
 pub fn read_rec(bytes: &[u8]) -> Option<(RecView<'_>, usize)>
     ensures found { IfSome result (λ x. Stands x.0 x.1 bytes.now) }

@@ -1,7 +1,7 @@
 //! A record with its payload.
 
 ghost use Rattle.std.specs.Prelude.{◌≡◌, ◌<◌, ◌^◌, IfOk, length, vec_len};
-ghost use Rattle.tr_record.specs.Records.{Fits};
+ghost use Rattle.tr_record.specs.Records.{Fits, entry};
 ghost use Rattle.tr_record.specs.Weight.{record_weight};
 
 use crate::view::RecView;
@@ -20,20 +20,20 @@ pub struct Rec<A: Allocator = Global> {
 }
 
 impl<A: Allocator> Model for Rec<A> {
-    ghost use Rattle.tr_record.specs.Records.{Entry, Fits};
+    ghost use Rattle.tr_record.specs.Records.{Entry, Fits, entry};
 
     ghost Value = { Entry };
 
-    ghost view = { λ r. record { serial = r.serial; moment = r.moment; id = r.id; payload = r.payload.items } };
+    ghost view = { λ r. entry r.serial r.moment r.id r.payload.items };
 
-    ghost invariant = { λ r. Fits (record { serial = r.serial; moment = r.moment; id = r.id; payload = r.payload.items }) };
+    ghost invariant = { λ r. Fits (entry r.serial r.moment r.id r.payload.items) };
 }
 
 impl<A: Allocator> Rec<A> {
     /// A record that keeps this payload, of fewer than 2^32 bytes. It takes no memory.
     pub fn new(serial: u64, moment: Moment, id: u32, payload: Vec<u8, A>) -> Rec<A>
         requires { vec_len payload < 2 ^ 32 }
-        ensures value { result ≡ record { serial = serial; moment = moment; id = id; payload = payload.items } }
+        ensures value { result ≡ entry serial moment id payload.items }
         ensures fits { Fits result }
     {
         // The moment is within its limit.
@@ -46,7 +46,7 @@ impl<A: Allocator> Rec<A> {
         }
     }
 
-    /// A record with a copy of this payload, of fewer than 2^32 bytes.
+    /// A record with a copy of this payload, of fewer than 2^32 bytes. Fails if an allocation fails.
     pub fn copy_of(
         alloc: A,
         serial: u64,
@@ -55,7 +55,7 @@ impl<A: Allocator> Rec<A> {
         payload: &[u8],
     ) -> Result<Rec<A>, AllocError>
         requires { length payload.now < 2 ^ 32 }
-        ensures value { IfOk result (λ r. r ≡ record { serial = serial; moment = moment; id = id; payload = payload.now }) }
+        ensures value { IfOk result (λ r. r ≡ entry serial moment id payload.now) }
         ensures fits { IfOk result (λ r. Fits r) }
     {
         let payload = Vec::from_slice(alloc, payload)?;
@@ -78,7 +78,7 @@ impl<A: Allocator> Rec<A> {
         self.moment
     }
 
-    /// Which kind of event it tells of.
+    /// The kind of event that it records.
     pub fn id(&self) -> u32
         ensures value { result ≡ self.now.id }
         ensures fits { Fits self.now }
@@ -86,7 +86,7 @@ impl<A: Allocator> Rec<A> {
         self.id
     }
 
-    /// Its bytes.
+    /// The bytes of its payload.
     pub fn payload(&self) -> &[u8]
         ensures value { result.now ≡ self.now.payload }
         ensures fits { Fits self.now }
@@ -94,7 +94,7 @@ impl<A: Allocator> Rec<A> {
         self.payload.as_slice()
     }
 
-    /// The bytes of its text: 24 and its payload's.
+    /// The bytes of its text: 24, and the payload's.
     pub fn size(&self) -> usize
         ensures value { result ≡ record_weight self.now }
         ensures fits { Fits self.now }
@@ -102,7 +102,7 @@ impl<A: Allocator> Rec<A> {
         RECORD_HEADER + self.payload.len()
     }
 
-    /// The same record, with its payload left where it is.
+    /// The same record, with its payload borrowed.
     pub fn view(&self) -> RecView<'_>
         ensures value { result ≡ self.now }
         ensures fits { Fits self.now }
@@ -110,7 +110,7 @@ impl<A: Allocator> Rec<A> {
         RecView::new(self.serial, self.moment, self.id, self.payload.as_slice())
     }
 
-    /// Its payload, given back.
+    /// Its payload, moved out.
     pub fn into_payload(self) -> Vec<u8, A>
         ensures { result.items ≡ self.payload }
     {

@@ -9,8 +9,7 @@ use crate::view::RecView;
 use std::marker::Model;
 use tr_terms::Moment;
 
-/// The records whose texts stand end to end in bytes, read as they are asked for. Contracts see the list of those that
-/// are left.
+/// The records whose texts lie end to end in bytes, read one at a time. Contracts see the list of those that are left.
 #[derive(Drop, Debug)]
 pub struct Records<'a> {
     rest: &'a [u8],
@@ -37,7 +36,7 @@ impl<'a> Records<'a> {
         Records { rest: bytes }
     }
 
-    /// The records in bytes, where these are whole records, each with a moment within the limit.
+    /// The records in bytes. None unless the bytes are whole records, each with a moment within the limit.
     pub fn checked(bytes: &'a [u8]) -> Option<Records<'a>>
         ensures exact { IsSome result ↔ AreWhole bytes.entry.now }
         ensures value { IfSome result (λ r. r ≡ entries_of bytes.entry.now) }

@@ -1,5 +1,5 @@
-//! A reader of std as a source, and a writer as a sink. As a source and a sink they tell no bytes; their calls tell what
-//! they did to the reader and to the writer.
+//! A reader of std as a source, and a writer as a sink. `given`, `content` and `taken` say nothing of them; the clauses of
+//! their calls say what they did to the reader and to the writer.
 
 ghost use Rattle.std.specs.Prelude.{◌≡◌, ◌≤◌, ◌<◌, None, IfOk, OnOk, OnErr, length};
 ghost use Rattle.std.specs.Io.KnownBytes.{Keeps, ReadConsumes, WriteAppends};
@@ -9,7 +9,7 @@ ghost use Rattle.tr_record.specs.Streams.{reader_of, writer_of};
 use crate::bytes::{ByteSink, ByteSource, Failed};
 use std::io::{Read, Write};
 
-/// The bytes of a reader.
+/// A source that reads from a reader.
 #[derive(Drop)]
 pub struct ReaderSource<R: Read + Drop> {
     reader: R,
@@ -36,12 +36,17 @@ impl<R: Read + Drop> ByteSource for ReaderSource<R> {
 
     ghost failures = { λ s. s.failures };
 
-    // What is given was read, and a failure read nothing.
+    // What is given was read; a failure read nothing.
     fn get(&mut self, b: &mut [u8]) -> Result<usize, Failed>
         ensures count { IfOk result (λ n. n ≤ length b.new) }
-        ensures read { ReadConsumes (R.remaining (reader_of self.old)) (R.remaining (reader_of self.new)) result b.new }
-        ensures ok { OnOk result (⟦<ReaderSource<R> as ByteSource>⟧.failures self.new ≡ ⟦<ReaderSource<R> as ByteSource>⟧.failures self.old) }
-        ensures failed { OnErr result (⟦<ReaderSource<R> as ByteSource>⟧.failures self.new ≡ once_more (⟦<ReaderSource<R> as ByteSource>⟧.failures self.old)) }
+        ensures read { ReadConsumes (R.remaining (reader_of self.old)) (R.remaining (reader_of self.new)) result
+            b.new }
+        ensures ok { OnOk result
+            (⟦<ReaderSource<R> as ByteSource>⟧.failures self.new
+            ≡ ⟦<ReaderSource<R> as ByteSource>⟧.failures self.old) }
+        ensures failed { OnErr result
+            (⟦<ReaderSource<R> as ByteSource>⟧.failures self.new
+            ≡ once_more (⟦<ReaderSource<R> as ByteSource>⟧.failures self.old)) }
     {
         match self.reader.read(b) {
             Ok(count) => Ok(count),
@@ -53,7 +58,7 @@ impl<R: Read + Drop> ByteSource for ReaderSource<R> {
     }
 }
 
-/// Writes to a writer. A write of nothing is a failure.
+/// A sink that writes to a writer. A write of nothing is a failure.
 #[derive(Drop)]
 pub struct WriterSink<W: Write + Drop> {
     writer: W,
@@ -72,10 +77,13 @@ impl<W: Write + Drop> WriterSink<W> {
         }
     }
 
-    /// Hands on what the writer may hold back.
+    /// Flushes the writer, which may hold bytes back.
     pub fn flush(&mut self) -> Result<(), Failed>
-        ensures ok { OnOk result (⟦<WriterSink<W> as ByteSink>⟧.failures self.new ≡ ⟦<WriterSink<W> as ByteSink>⟧.failures self.old) }
-        ensures failed { OnErr result (⟦<WriterSink<W> as ByteSink>⟧.failures self.new ≡ once_more (⟦<WriterSink<W> as ByteSink>⟧.failures self.old)) }
+        ensures ok { OnOk result
+            (⟦<WriterSink<W> as ByteSink>⟧.failures self.new ≡ ⟦<WriterSink<W> as ByteSink>⟧.failures self.old) }
+        ensures failed { OnErr result
+            (⟦<WriterSink<W> as ByteSink>⟧.failures self.new
+            ≡ once_more (⟦<WriterSink<W> as ByteSink>⟧.failures self.old)) }
         ensures kept { Keeps (W.contents (writer_of self.old)) (W.contents (writer_of self.new)) }
     {
         match self.writer.flush() {
@@ -93,13 +101,17 @@ impl<W: Write + Drop> ByteSink for WriterSink<W> {
 
     ghost failures = { λ s. s.failures };
 
-    // What is taken was written, and a failure wrote nothing.
+    // What is taken was written; a failure wrote nothing.
     fn put(&mut self, b: &[u8]) -> Result<usize, Failed>
         ensures some { IfOk result (λ n. 0 < n) }
         ensures count { IfOk result (λ n. n ≤ length b.now) }
-        ensures written { WriteAppends (W.contents (writer_of self.old)) (W.contents (writer_of self.new)) result b.now }
-        ensures ok { OnOk result (⟦<WriterSink<W> as ByteSink>⟧.failures self.new ≡ ⟦<WriterSink<W> as ByteSink>⟧.failures self.old) }
-        ensures failed { OnErr result (⟦<WriterSink<W> as ByteSink>⟧.failures self.new ≡ once_more (⟦<WriterSink<W> as ByteSink>⟧.failures self.old)) }
+        ensures written { WriteAppends (W.contents (writer_of self.old)) (W.contents (writer_of self.new)) result
+            b.now }
+        ensures ok { OnOk result
+            (⟦<WriterSink<W> as ByteSink>⟧.failures self.new ≡ ⟦<WriterSink<W> as ByteSink>⟧.failures self.old) }
+        ensures failed { OnErr result
+            (⟦<WriterSink<W> as ByteSink>⟧.failures self.new
+            ≡ once_more (⟦<WriterSink<W> as ByteSink>⟧.failures self.old)) }
     {
         match self.writer.write(b) {
             Ok(count) if count > 0 => Ok(count),

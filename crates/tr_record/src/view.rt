@@ -1,7 +1,7 @@
 //! A record whose payload lies elsewhere.
 
 ghost use Rattle.std.specs.Prelude.{◌≡◌, ◌<◌, ◌^◌, length};
-ghost use Rattle.tr_record.specs.Records.{Fits};
+ghost use Rattle.tr_record.specs.Records.{Fits, entry};
 ghost use Rattle.tr_record.specs.Weight.{record_weight};
 
 use std::marker::Model;
@@ -18,20 +18,20 @@ pub struct RecView<'a> {
 }
 
 impl<'a> Model for RecView<'a> {
-    ghost use Rattle.tr_record.specs.Records.{Entry, Fits};
+    ghost use Rattle.tr_record.specs.Records.{Entry, Fits, entry};
 
     ghost Value = { Entry };
 
-    ghost view = { λ r. record { serial = r.serial; moment = r.moment; id = r.id; payload = r.payload.now } };
+    ghost view = { λ r. entry r.serial r.moment r.id r.payload.now };
 
-    ghost invariant = { λ r. Fits (record { serial = r.serial; moment = r.moment; id = r.id; payload = r.payload.now }) };
+    ghost invariant = { λ r. Fits (entry r.serial r.moment r.id r.payload.now) };
 }
 
 impl<'a> RecView<'a> {
     /// A record with this payload, of fewer than 2^32 bytes.
     pub fn new(serial: u64, moment: Moment, id: u32, payload: &'a [u8]) -> RecView<'a>
         requires { length payload.now < 2 ^ 32 }
-        ensures value { result ≡ record { serial = serial; moment = moment; id = id; payload = payload.entry.now } }
+        ensures value { result ≡ entry serial moment id payload.entry.now }
         ensures fits { Fits result }
     {
         // The moment is within its limit.
@@ -60,7 +60,7 @@ impl<'a> RecView<'a> {
         self.moment
     }
 
-    /// Which kind of event it tells of.
+    /// The kind of event that it records.
     pub fn id(&self) -> u32
         ensures value { result ≡ self.now.id }
         ensures fits { Fits self.now }
@@ -68,7 +68,7 @@ impl<'a> RecView<'a> {
         self.id
     }
 
-    /// Its bytes.
+    /// The bytes of its payload.
     pub fn payload(&self) -> &'a [u8]
         ensures value { result.now ≡ self.now.payload }
         ensures fits { Fits self.now }
@@ -76,7 +76,7 @@ impl<'a> RecView<'a> {
         self.payload
     }
 
-    /// The bytes of its text: 24 and its payload's.
+    /// The bytes of its text: 24, and the payload's.
     pub fn size(&self) -> usize
         ensures value { result ≡ record_weight self.now }
         ensures fits { Fits self.now }

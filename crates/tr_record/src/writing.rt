@@ -1,4 +1,4 @@
-//! Writing numbers and records behind bytes, where there is room.
+//! Appending numbers and records to bytes, into room that is reserved.
 
 ghost use Rattle.std.specs.Prelude.{◌≡◌, ◌+◌, ◌≤◌, ◌<◌, ◌^◌, ◌++◌, length, vec_len, vec_capacity};
 ghost use Rattle.std.specs.Int.{w32, w64, to_le_bytes};
@@ -18,7 +18,7 @@ pub fn rec_size(len: usize) -> usize
     RECORD_HEADER + len
 }
 
-/// Writes these bytes behind the others, into room that is reserved.
+/// Appends these bytes, into room that is reserved.
 pub fn put_bytes<A: Allocator>(out: &mut Vec<u8, A>, bytes: &[u8])
     requires { vec_len out.old + length bytes.now ≤ vec_capacity out.old }
     ensures items { out.new.items ≡ out.old.items ++ bytes.now }
@@ -28,7 +28,7 @@ pub fn put_bytes<A: Allocator>(out: &mut Vec<u8, A>, bytes: &[u8])
     let _ = out.extend_from_slice(bytes);
 }
 
-/// Writes a number in four bytes, lowest byte first, into room that is reserved.
+/// Appends a number in four bytes, lowest byte first, into room that is reserved.
 pub fn put_u32<A: Allocator>(out: &mut Vec<u8, A>, n: u32)
     requires { vec_len out.old + 4 ≤ vec_capacity out.old }
     ensures items { out.new.items ≡ out.old.items ++ to_le_bytes w32 n }
@@ -38,7 +38,7 @@ pub fn put_u32<A: Allocator>(out: &mut Vec<u8, A>, n: u32)
     put_bytes(out, &n.to_le_bytes());
 }
 
-/// Writes a number in eight bytes, lowest byte first, into room that is reserved.
+/// Appends a number in eight bytes, lowest byte first, into room that is reserved.
 pub fn put_u64<A: Allocator>(out: &mut Vec<u8, A>, number: u64)
     requires { vec_len out.old + 8 ≤ vec_capacity out.old }
     ensures items { out.new.items ≡ out.old.items ++ to_le_bytes w64 number }
@@ -48,7 +48,7 @@ pub fn put_u64<A: Allocator>(out: &mut Vec<u8, A>, number: u64)
     put_bytes(out, &number.to_le_bytes());
 }
 
-/// Writes a record's text behind the bytes, into room that is reserved. It takes no memory and can't fail.
+/// Appends a record's text, into room that is reserved. It takes no memory and can't fail.
 pub fn put_rec<A: Allocator>(out: &mut Vec<u8, A>, r: &RecView<'_>)
     requires { vec_len out.old + record_weight r.now ≤ vec_capacity out.old }
     ensures items { out.new.items ≡ out.old.items ++ record_text r.now }

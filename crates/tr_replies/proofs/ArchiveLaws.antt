@@ -11,7 +11,8 @@ use Rattle.tr_stream.specs.State.{StreamState}
 
 module _ (s : SessionOf StreamState) where
   -- the lines that are written, and those that are left
-  pub goes_on : (archives : List Archive) (i : ℕ) (a : Archive) (text more whole : Text) → slice_get archives i ≡ Some a → text ++ archive_lines by_state s (drop i archives) ≡ whole → more ≡ text ++ (archive_line by_state s a ++ 10 ∷ [])
+  pub goes_on : (archives : List Archive) (i : ℕ) (a : Archive) (text more whole : Text) → slice_get archives i ≡ Some a
+      → text ++ archive_lines by_state s (drop i archives) ≡ whole → more ≡ text ++ (archive_line by_state s a ++ 10 ∷ [])
       → more ++ archive_lines by_state s (drop (i + 1) archives) ≡ whole
   goes_on archives i a text more whole got so pushed =
       let line = archive_line by_state s a in
@@ -19,10 +20,13 @@ module _ (s : SessionOf StreamState) where
       ap (λ (m : Text). m ++ rest) pushed ∙ append_assoc text (line ++ 10 ∷ []) rest ∙ ap (λ (t : Text). text ++ t) (append_assoc line (10 ∷ []) rest)
       ∙ sym (ap (λ (bs : List Archive). text ++ archive_lines by_state s bs) (drop-got archives i a got)) ∙ so
 
-  pub ends : (archives : List Archive) (i : ℕ) (text whole : Text) → i ≡ length archives → text ++ archive_lines by_state s (drop i archives) ≡ whole → text ≡ whole
-  ends archives i text whole end so = sym (append-nil text) ∙ ap (λ (bs : List Archive). text ++ archive_lines by_state s bs) (sym (drop-all archives i end)) ∙ so
+  pub ends : (archives : List Archive) (i : ℕ) (text whole : Text) → i ≡ length archives
+      → text ++ archive_lines by_state s (drop i archives) ≡ whole → text ≡ whole
+  ends archives i text whole end so =
+      sym (append-nil text) ∙ ap (λ (bs : List Archive). text ++ archive_lines by_state s bs)
+      (sym (drop-all archives i end)) ∙ so
 
-  -- where there are archives, their lines are told
+  -- if there are archives, their lines are the answer
   pub told : (archives : List Archive) → (archives ≡ [] → ⊥) → archive_lines by_state s archives ≡ lines_or_none by_state s archives
   told [] some = absurd (some refl)
   told (a ∷ archives) some = refl

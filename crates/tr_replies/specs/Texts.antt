@@ -1,4 +1,4 @@
--- The texts of answers: without the line feed behind the last line, but for `archives_text`, in which each line has its own.
+-- The texts of answers, without their last newline; but in `archives_text` each line has its newline.
 use Rattle.std.specs.Fmt.{decimal}
 use Rattle.std.specs.Prelude.{ℕ, ℤ, ◌+◌, ◌-◌, List, [], ◌∷◌, ◌++◌, length, slice_get, replicate, codes, Option, Some, None, Result, Ok, Err}
 use Rattle.tr_book.specs.Snaps.{SnapState}
@@ -23,7 +23,7 @@ use Rattle.tr_session_book.specs.declared.archive.Archive.{Archive}
 use Rattle.tr_session_book.specs.declared.archive.Pending.{Pending}
 use Rattle.tr_session_book.specs.declared.state.State.{State}
 use Rattle.tr_session_book.specs.declared.state.State.TheVariants.{New, Active, Inactive}
-use Rattle.tr_snapshot.specs.Snapshots.{SnapshotState, records_shown}
+use Rattle.tr_snapshot.specs.Snapshots.{SnapshotState, entries_shown}
 use Rattle.tr_stream.specs.Rules.{StreamRules}
 use Rattle.tr_stream.specs.declared.answers.Offered.{Offered}
 use Rattle.tr_stream.specs.declared.answers.Offered.TheVariants.{Stored, StoredOver, Discarded}
@@ -36,12 +36,12 @@ use Rattle.tr_stream.specs.declared.fate.Fate.TheVariants as fate
 abbrev pub refusal_text : LineFault → Text
 refusal_text fault = codes "refused " ++ (line_fault_code fault ++ (32 ∷ line_fault_name fault))
 
--- the line of an answer, by what is said of a result
+-- the line of an answer, by the words for a result
 abbrev pub line_of : {R : Type 0} → (R → Text) → Result R LineFault → Text
 line_of words (Ok result) = words result
 line_of words (Err fault) = refusal_text fault
 
--- of a call that tells nothing but that it is done
+-- for a call that only says that it is done
 abbrev pub started_text : Unit {0} → Text
 started_text done = codes "started"
 
@@ -52,12 +52,14 @@ stopped_text done = codes "stopped"
 abbrev pub offered_text : Offered → Text
 offered_text (Stored serial seq) = codes "stored " ++ (decimal serial ++ (codes " in " ++ decimal seq))
 offered_text (StoredOver serial seq gone_seq gone_count) =
-    codes "stored " ++ (decimal serial ++ (codes " in " ++ (decimal seq ++ (codes " over " ++ (decimal gone_seq ++ (32 ∷ decimal gone_count))))))
+    codes "stored " ++ (decimal serial ++ (codes " in " ++ (decimal seq
+    ++ (codes " over " ++ (decimal gone_seq ++ (32 ∷ decimal gone_count))))))
 offered_text (Discarded serial) = codes "discarded " ++ decimal serial
 
 -- what a take took
 abbrev pub taken_text : Taken → Text
-taken_text taken = codes "taken " ++ (decimal taken.seq ++ (codes " records " ++ (decimal taken.count ++ (codes " chunk " ++ decimal taken.chunk))))
+taken_text taken = codes "taken " ++ (decimal taken.seq ++
+    (codes " records " ++ (decimal taken.count ++ (codes " chunk " ++ decimal taken.chunk))))
 
 -- what became of an offer; none: there was no such offer yet
 abbrev pub fate_text : Option Fate → Text
@@ -76,7 +78,7 @@ abbrev pub next_text : Next → Text
 next_text (next.Cut stream records) = codes "cut " ++ (decimal stream ++ (codes " records " ++ decimal records))
 next_text next.AllCut = codes "all cut"
 
--- the number of an archive and its name, by a clock so many minutes ahead of UTC
+-- the number of an archive and its name, by a clock this number of minutes ahead of UTC
 abbrev pub archive_text : ℤ → Archive → Text
 archive_text offset archive = decimal archive.id ++ (32 ∷ archive_name_text archive.begin archive.end offset archive.id)
 
@@ -89,24 +91,26 @@ abbrev pub serial_text : Option Entry → Text
 serial_text None = []
 serial_text (Some e) = decimal e.serial
 
--- the line of a packet that a snapshot shows: its number, how many records it has, and the serials of the first and the last one
+-- a packet's line in a snapshot: its number, how many records it has, and the serials of the first and the last one
 abbrev pub packet_line : Contents → Text
 packet_line p =
     codes "packet " ++ (decimal p.head.seq ++ (codes " records " ++ (decimal (length p.records)
-    ++ (codes " first " ++ (serial_text (slice_get p.records 0) ++ (codes " last " ++ serial_text (slice_get p.records (length p.records - 1))))))))
+    ++ (codes " first " ++ (serial_text (slice_get p.records 0)
+    ++ (codes " last " ++ serial_text (slice_get p.records (length p.records - 1))))))))
 
--- the lines of packets, a line feed before each
+-- the lines of packets, a newline before each
 abbrev pub packet_lines : List Contents → Text
 packet_lines [] = []
 packet_lines (p ∷ ps) = 10 ∷ (packet_line p ++ packet_lines ps)
 
--- the line of a stream that a snapshot shows: its number, how many offers it had accepted, and how many packets and records are shown
+-- a stream's line in a snapshot: its number, how many offers it had accepted, how many packets and records are shown
 abbrev pub stream_line : SnapState → Text
 stream_line s =
     codes "stream " ++ (decimal s.stream ++ (codes " offered " ++ (decimal s.offered
-    ++ (codes " packets " ++ (decimal (length s.packets) ++ (codes " records " ++ decimal (length (records_shown s))))))))
+    ++ (codes " packets " ++ (decimal (length s.packets)
+    ++ (codes " records " ++ decimal (length (entries_shown s))))))))
 
--- the lines of streams, each with those of its packets behind it, a line feed before each line
+-- the lines of streams, each followed by those of its packets, a newline before each line
 abbrev pub stream_lines : List SnapState → Text
 stream_lines [] = []
 stream_lines (s ∷ ss) = 10 ∷ (stream_line s ++ (packet_lines s.packets ++ stream_lines ss))
@@ -115,33 +119,35 @@ stream_lines (s ∷ ss) = 10 ∷ (stream_line s ++ (packet_lines s.packets ++ st
 abbrev pub snapshot_text : SnapshotState → Text
 snapshot_text s = codes "snapshot " ++ (decimal s.moment ++ stream_lines s.streams)
 
--- what is said of the schedule that was set, or that there is none now
+-- that a schedule was set, or that there is none now
 abbrev pub schedule_text : Option ScheduleState → Text
 schedule_text None = codes "schedule off"
 schedule_text (Some schedule) = codes "schedule set"
 
 abbrev pub tick_text : TickTold → Text
 tick_text told.Idle = codes "idle"
-tick_text (told.Rotated cause named) = codes "rotated " ++ (cause_word cause ++ (32 ∷ archive_text named.offset named.archive))
+tick_text (told.Rotated cause named) =
+    codes "rotated " ++ (cause_word cause ++ (32 ∷ archive_text named.offset named.archive))
 
--- a number, right in so many places; a longer one takes the places that it needs
-abbrev pub right : ℕ → ℕ → Text
-right places n = replicate (places - length (decimal n)) 32 ++ decimal n
+-- a number, right-aligned in this many places; a longer one takes the places that it needs
+abbrev pub right_aligned : ℕ → ℕ → Text
+right_aligned places n = replicate (places - length (decimal n)) 32 ++ decimal n
 
--- the heads of the columns of a status: the first is right in 6 places, each other one space and right in 11 places
+-- the heads of the columns of a status: the first is right-aligned in 6 places, each other one in 11 after one space
 abbrev pub status_head : Text
 status_head = codes "stream     offered   discarded overwritten     in-ring   in-chunks"
 
 -- a stream's line in these columns
 abbrev pub status_row : ℕ → Counts → Text
 status_row i counts =
-    right 6 i ++ (32 ∷ (right 11 counts.offered ++ (32 ∷ (right 11 counts.discarded ++ (32 ∷ (right 11 counts.overwritten
-    ++ (32 ∷ (right 11 counts.in_ring ++ (32 ∷ right 11 counts.consumed)))))))))
+    right_aligned 6 i ++ (32 ∷ (right_aligned 11 counts.offered
+    ++ (32 ∷ (right_aligned 11 counts.discarded ++ (32 ∷ (right_aligned 11 counts.overwritten
+    ++ (32 ∷ (right_aligned 11 counts.in_ring ++ (32 ∷ right_aligned 11 counts.consumed)))))))))
 
--- the lines of streams, numbered from here on, a line feed before each
+-- the lines of streams, numbered from here on, a newline before each
 abbrev pub status_rows : {S : Type 0} → StreamRules S → ℕ → List S → Text
 status_rows rules i [] = []
-status_rows rules i (t ∷ ts) = 10 ∷ (status_row i (rules.counted t) ++ status_rows rules (i + 1) ts)
+status_rows rules i (t ∷ ts) = 10 ∷ (status_row i (rules.counts t) ++ status_rows rules (i + 1) ts)
 
 abbrev pub mode_text : SessionMode → Text
 mode_text Local = codes "local"
@@ -160,11 +166,13 @@ pending_text (Some pending) = codes " pending " ++ decimal pending.archive.id
 -- how many channels, streams and archives there are
 abbrev pub sizes_text : SessionBookState → Text
 sizes_text b =
-    codes " channels " ++ (decimal (length b.channels) ++ (codes " streams " ++ (decimal (length b.threads) ++ (codes " archives " ++ decimal (length b.archives)))))
+    codes " channels " ++ (decimal (length b.channels) ++ (codes " streams "
+    ++ (decimal (length b.threads) ++ (codes " archives " ++ decimal (length b.archives)))))
 
 -- what is said of the session as a whole
 abbrev pub status_line : Text → SessionBookState → Text
-status_line name b = codes "session " ++ (name ++ (32 ∷ (mode_text b.mode ++ (32 ∷ (state_text b.state ++ (sizes_text b ++ pending_text b.pending))))))
+status_line name b = codes "session " ++ (name ++ (32 ∷ (mode_text b.mode
+    ++ (32 ∷ (state_text b.state ++ (sizes_text b ++ pending_text b.pending))))))
 
 abbrev pub status_text : {S : Type 0} → StreamRules S → Text → SessionOf S → Text
 status_text rules name s = status_line name s.book ++ (10 ∷ (status_head ++ status_rows rules 0 s.streams))
@@ -172,9 +180,11 @@ status_text rules name s = status_line name s.book ++ (10 ∷ (status_head ++ st
 -- the line of an archive: how many packets it holds over all streams, and how many bytes
 abbrev pub archive_line : {S : Type 0} → StreamRules S → SessionOf S → Archive → Text
 archive_line rules s archive =
-    archive_text s.book.offset archive ++ (codes " packets " ++ (decimal (archive_packets rules archive.id s) ++ (codes " bytes " ++ decimal (archive_bytes rules archive.id s))))
+    archive_text s.book.offset archive
+    ++ (codes " packets " ++ (decimal (archive_packets rules archive.id s)
+    ++ (codes " bytes " ++ decimal (archive_bytes rules archive.id s))))
 
--- the lines of archives, each with its line feed
+-- the lines of archives, each with its newline
 abbrev pub archive_lines : {S : Type 0} → StreamRules S → SessionOf S → List Archive → Text
 archive_lines rules s [] = []
 archive_lines rules s (archive ∷ archives) = archive_line rules s archive ++ (10 ∷ archive_lines rules s archives)
@@ -184,6 +194,6 @@ abbrev pub lines_or_none : {S : Type 0} → StreamRules S → SessionOf S → Li
 lines_or_none rules s [] = codes "none" ++ 10 ∷ []
 lines_or_none rules s (archive ∷ archives) = archive_lines rules s (archive ∷ archives)
 
--- the answer about archives, with its line feeds
+-- the answer about archives, with its newlines
 abbrev pub archives_text : {S : Type 0} → StreamRules S → SessionOf S → Text
 archives_text rules s = lines_or_none rules s s.book.archives

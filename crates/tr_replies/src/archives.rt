@@ -1,4 +1,4 @@
-//! Archives as answers tell them.
+//! Archives in answers.
 
 ghost use Rattle.std.specs.Prelude.{◌≡◌, ◌∷◌, ◌++◌, [], IfOk, OnOk};
 ghost use Rattle.std.specs.String.{string_bytes};
@@ -18,7 +18,8 @@ fn push_archive<A: Allocator + Copy>(
     session: &Session<A>,
     archive: &Archive,
 ) -> Result<(), AllocError>
-    ensures { OnOk result (string_bytes text.new ≡ string_bytes text.old ++ (archive_line by_state session.now archive.now ++ 10 ∷ [])) }
+    ensures { OnOk result (string_bytes text.new ≡ string_bytes text.old
+        ++ (archive_line by_state session.now archive.now ++ 10 ∷ [])) }
 {
     let id = archive.id;
     let offset = session.book().offset();
@@ -32,7 +33,7 @@ fn push_archive<A: Allocator + Copy>(
     }
 }
 
-/// A line for each archive of a session, with its line feed, or one that says that there is none.
+/// A line for each archive of a session, with its newline, or one that says that there is none.
 pub fn archives_of<A: Allocator + Copy>(
     alloc: A,
     session: &Session<A>,

@@ -1,5 +1,5 @@
 //! The answers to the lines of a script, as texts.
-//! Each is proved to be, byte for byte, the text that its definition gives of what the line's call came to.
+//! Each is proved to be, byte for byte, the text that its definition gives for what the line's call came to.
 #![tactic(auto)]
 
 mod archives;

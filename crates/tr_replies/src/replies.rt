@@ -9,17 +9,17 @@ use std::alloc::{AllocError, Allocator, Global};
 use tr_outcome::LineFault;
 use tr_stream::{Fate, Offered, Taken};
 
-/// The answer to a line: its text, with its line feeds, and whether it says that the line was refused.
+/// The answer to a line: its text, with its newlines, and whether it says that the line was refused.
 #[derive(Drop)]
 pub struct Reply<A: Allocator = Global> {
-    /// The text, with its line feeds. It is empty for a line that gets no answer.
+    /// The text, with its newlines. It is empty for a line that gets no answer.
     pub text: String<A>,
     /// Whether the line was refused, or was a bad one.
     pub is_refused: bool,
 }
 
 impl<A: Allocator> Reply<A> {
-    /// The text, with its line feeds. It is empty for a line that gets no answer.
+    /// The text, with its newlines. It is empty for a line that gets no answer.
     pub fn text(&self) -> &str
         ensures { result.now ≡ string_bytes self.now.text }
     {
@@ -45,13 +45,13 @@ impl<A: Allocator> Reply<A> {
     }
 }
 
-/// The answer to a line that was refused. Where memory was refused there is none.
+/// The answer to a line that was refused. If an allocation failed there is none.
 pub fn refusal<A: Allocator + Copy>(alloc: A, fault: LineFault) -> Result<Reply<A>, AllocError>
     ensures text { IfOk result (λ r. string_bytes r.text ≡ refusal_text fault ++ 10 ∷ []) }
     ensures refused { IfOk result (λ r. r.is_refused ≡ true) }
     ensures memory { OnOk result (wants_memory fault ≡ false) }
 {
-    if fault.is_want_of_memory() {
+    if fault.wants_memory() {
         return Err(AllocError);
     }
     let code = fault.code();
@@ -75,7 +75,7 @@ pub fn bad_line<A: Allocator + Copy>(alloc: A) -> Result<Reply<A>, AllocError>
     })
 }
 
-/// The answer to a line that gets none.
+/// The empty answer to a line that gets none.
 pub fn skipped<A: Allocator + Copy>(alloc: A) -> Reply<A>
     ensures text { string_bytes result.text ≡ [] }
     ensures done { result.is_refused ≡ false }
@@ -86,7 +86,7 @@ pub fn skipped<A: Allocator + Copy>(alloc: A) -> Reply<A>
     }
 }
 
-/// The answer to a call that tells nothing but that it is done, in these words. Where memory was refused there is none.
+/// The answer, in these words, to a call that only says that it is done. If an allocation failed there is none.
 pub fn done_reply<A: Allocator + Copy>(
     alloc: A,
     words: &str,
@@ -105,7 +105,7 @@ pub fn done_reply<A: Allocator + Copy>(
     }
 }
 
-/// The answer to an offer. Where memory was refused there is none.
+/// The answer to an offer. If an allocation failed there is none.
 pub fn offered_reply<A: Allocator + Copy>(
     alloc: A,
     answer: Result<Offered, LineFault>,
@@ -130,7 +130,7 @@ pub fn offered_reply<A: Allocator + Copy>(
     Ok(Reply::done(text))
 }
 
-/// The answer to a take. Where memory was refused there is none.
+/// The answer to a take. If an allocation failed there is none.
 pub fn taken_reply<A: Allocator + Copy>(
     alloc: A,
     answer: Result<Taken, LineFault>,
@@ -148,7 +148,7 @@ pub fn taken_reply<A: Allocator + Copy>(
     }
 }
 
-/// What became of an accepted offer.
+/// The words for what became of an accepted offer.
 fn fate_words<A: Allocator + Copy>(alloc: A, fate: Fate) -> Result<String<A>, AllocError>
     ensures { IfOk result (λ s. string_bytes s ≡ fate_text (Some fate) ++ 10 ∷ []) }
 {
@@ -161,7 +161,7 @@ fn fate_words<A: Allocator + Copy>(alloc: A, fate: Fate) -> Result<String<A>, Al
     Ok(text)
 }
 
-/// The answer to a question for a fate.
+/// The answer to a question about a fate.
 pub fn fate_reply<A: Allocator + Copy>(
     alloc: A,
     answer: Result<Option<Fate>, LineFault>,

@@ -1,4 +1,4 @@
-//! What is answered to rotations.
+//! The answers to rotations.
 
 ghost use Rattle.std.specs.Prelude.{◌≡◌, ◌∷◌, ◌++◌, [], IfOk, OnOk, is_err};
 ghost use Rattle.std.specs.String.{string_bytes};
@@ -11,7 +11,7 @@ use tr_chunk::archive_name;
 use tr_outcome::{LineFault, NamedArchive};
 use tr_session::Next;
 
-/// The answer to the begin of a rotation. Where memory was refused there is none.
+/// The answer to the begin of a rotation. If an allocation failed there is none.
 pub fn rotating_reply<A: Allocator + Copy>(
     alloc: A,
     answer: Result<u64, LineFault>,
@@ -29,7 +29,7 @@ pub fn rotating_reply<A: Allocator + Copy>(
     }
 }
 
-/// The answer to a cut of a rotation. Where memory was refused there is none.
+/// The answer to a cut of a rotation. If an allocation failed there is none.
 pub fn next_reply<A: Allocator + Copy>(
     alloc: A,
     answer: Result<Next, LineFault>,
@@ -46,7 +46,7 @@ pub fn next_reply<A: Allocator + Copy>(
     Ok(Reply::done(text))
 }
 
-/// The answer to a rotation that made an archive. Where memory was refused there is none.
+/// The answer to a rotation that made an archive. If an allocation failed there is none.
 pub fn archived_reply<A: Allocator + Copy>(
     alloc: A,
     answer: Result<NamedArchive, LineFault>,

@@ -1,4 +1,4 @@
-//! What is answered to schedules and ticks.
+//! The answers to schedules and ticks.
 
 ghost use Rattle.std.specs.Prelude.{◌≡◌, ◌∷◌, ◌++◌, [], IfOk, OnOk, is_err};
 ghost use Rattle.std.specs.String.{string_bytes};
@@ -11,7 +11,7 @@ use tr_chunk::archive_name;
 use tr_outcome::{LineFault, NamedArchive, TickTold};
 use tr_schedule::Schedule;
 
-/// The answer to a schedule. Where memory was refused there is none.
+/// The answer to a schedule. If an allocation failed there is none.
 pub fn schedule_reply<A: Allocator + Copy>(
     alloc: A,
     answer: Result<Option<Schedule>, LineFault>,
@@ -28,7 +28,7 @@ pub fn schedule_reply<A: Allocator + Copy>(
     Ok(Reply::done(text))
 }
 
-/// The answer to a tick. Where memory was refused there is none.
+/// The answer to a tick. If an allocation failed there is none.
 pub fn tick_reply<A: Allocator + Copy>(
     alloc: A,
     answer: Result<TickTold, LineFault>,

@@ -1,4 +1,4 @@
-//! What is answered to snapshots.
+//! The answers to snapshots.
 
 ghost use Rattle.std.specs.Prelude.{◌≡◌, ◌∷◌, ◌++◌, [], IfOk, OnOk, is_err};
 ghost use Rattle.std.specs.String.{string_bytes};
@@ -11,7 +11,7 @@ use std::fmt::Write;
 use tr_book::StreamSnap;
 use tr_outcome::LineFault;
 use tr_packet::Packet;
-use tr_snapshot::{Snapshot, count};
+use tr_snapshot::{Snapshot, records_shown};
 
 /// Adds the line of a packet.
 fn push_packet<A: Allocator, B: Allocator>(
@@ -37,7 +37,7 @@ fn push_packet<A: Allocator, B: Allocator>(
     }
 }
 
-/// Adds the line of a stream alone.
+/// Adds the line of a stream without its packets.
 fn push_head<A: Allocator, B: Allocator>(
     text: &mut String<A>,
     snap: &StreamSnap<B>,
@@ -47,7 +47,7 @@ fn push_head<A: Allocator, B: Allocator>(
     let stream = snap.stream();
     let offered = snap.offered();
     let packets = snap.packets().len();
-    let records = count(snap);
+    let records = records_shown(snap);
     match write!(
         text,
         "\nstream {stream} offered {offered} packets {packets} records {records}"
@@ -62,7 +62,8 @@ fn push_stream<A: Allocator, B: Allocator>(
     text: &mut String<A>,
     snap: &StreamSnap<B>,
 ) -> Result<(), AllocError>
-    ensures { OnOk result (string_bytes text.new ≡ string_bytes text.old ++ (10 ∷ (stream_line snap.now ++ packet_lines snap.now.packets))) }
+    ensures { OnOk result (string_bytes text.new ≡ string_bytes text.old
+        ++ (10 ∷ (stream_line snap.now ++ packet_lines snap.now.packets))) }
 {
     push_head(text, snap)?;
     let packets = snap.packets();
@@ -72,7 +73,7 @@ fn push_stream<A: Allocator, B: Allocator>(
     Ok(())
 }
 
-/// What is said of a snapshot, without the line feed behind it.
+/// What is said of a snapshot, without the last newline.
 fn snapshot_of<A: Allocator + Copy, B: Allocator>(
     alloc: A,
     snapshot: &Snapshot<B>,
@@ -88,7 +89,7 @@ fn snapshot_of<A: Allocator + Copy, B: Allocator>(
     Ok(text)
 }
 
-/// The answer to a snapshot. Where memory was refused there is none.
+/// The answer to a snapshot. If an allocation failed there is none.
 pub fn snapshot_reply<A: Allocator + Copy>(
     alloc: A,
     answer: Result<Snapshot<A>, LineFault>,

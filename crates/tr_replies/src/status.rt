@@ -2,7 +2,7 @@
 
 ghost use Rattle.std.specs.Prelude.{◌≡◌, ◌∷◌, ◌++◌, [], OnOk, IfOk, codes};
 ghost use Rattle.std.specs.String.{string_bytes};
-ghost use Rattle.tr_replies.specs.Texts.{mode_text, pending_text, right, sizes_text, state_text, status_head, status_line, status_row, status_rows, status_text};
+ghost use Rattle.tr_replies.specs.Texts.{mode_text, pending_text, right_aligned, sizes_text, state_text, status_head, status_line, status_row, status_rows, status_text};
 ghost use Rattle.tr_stream.specs.Rules.{by_state};
 
 use std::alloc::{AllocError, Allocator};
@@ -34,13 +34,14 @@ fn state_word(state: State) -> &'static str
     }
 }
 
-/// What is said of the session by name, mode and state.
+/// The session's name, mode and state.
 fn session_head<A: Allocator + Copy>(
     alloc: A,
     name: &str,
     book: &SessionBook<A>,
 ) -> Result<String<A>, AllocError>
-    ensures { IfOk result (λ s. string_bytes s ≡ codes "session " ++ (name.now ++ (32 ∷ (mode_text book.now.mode ++ (32 ∷ state_text book.now.state))))) }
+    ensures { IfOk result (λ s. string_bytes s ≡ codes "session "
+        ++ (name.now ++ (32 ∷ (mode_text book.now.mode ++ (32 ∷ state_text book.now.state))))) }
 {
     let mode = mode_word(book.mode());
     let state = state_word(book.state());
@@ -100,7 +101,9 @@ fn session_line<A: Allocator + Copy>(
 
 /// Adds a stream's first columns.
 fn push_first<A: Allocator>(text: &mut String<A>, i: u64, counts: &Counts) -> Result<(), AllocError>
-    ensures { OnOk result (string_bytes text.new ≡ string_bytes text.old ++ (10 ∷ (right 6 i ++ (32 ∷ (right 11 counts.now.offered ++ (32 ∷ right 11 counts.now.discarded)))))) }
+    ensures { OnOk result (string_bytes text.new ≡ string_bytes text.old
+        ++ (10 ∷ (right_aligned 6 i
+        ++ (32 ∷ (right_aligned 11 counts.now.offered ++ (32 ∷ right_aligned 11 counts.now.discarded)))))) }
 {
     let offered = counts.offered;
     let discarded = counts.discarded;
@@ -112,7 +115,9 @@ fn push_first<A: Allocator>(text: &mut String<A>, i: u64, counts: &Counts) -> Re
 
 /// Adds a stream's last columns.
 fn push_last<A: Allocator>(text: &mut String<A>, counts: &Counts) -> Result<(), AllocError>
-    ensures { OnOk result (string_bytes text.new ≡ string_bytes text.old ++ (32 ∷ (right 11 counts.now.overwritten ++ (32 ∷ (right 11 counts.now.in_ring ++ (32 ∷ right 11 counts.now.consumed)))))) }
+    ensures { OnOk result (string_bytes text.new ≡ string_bytes text.old
+        ++ (32 ∷ (right_aligned 11 counts.now.overwritten
+        ++ (32 ∷ (right_aligned 11 counts.now.in_ring ++ (32 ∷ right_aligned 11 counts.now.consumed)))))) }
 {
     let overwritten = counts.overwritten;
     let in_ring = counts.in_ring;
@@ -131,7 +136,7 @@ fn push_row<A: Allocator>(text: &mut String<A>, i: u64, counts: &Counts) -> Resu
     push_last(text, counts)
 }
 
-/// What `status` says of a session, without the line feed behind it.
+/// What `status` says of a session, without the last newline.
 pub fn status_of<A: Allocator + Copy>(
     alloc: A,
     name: &str,

@@ -1,11 +1,12 @@
 //! A sub-buffer that takes no more records.
 
-ghost use Rattle.std.specs.Prelude.{◌≡◌, length, slice_get};
+ghost use Rattle.std.specs.Prelude.{◌≡◌, length};
 ghost use Rattle.tr_record.specs.Records.{has_serial};
+ghost use Rattle.tr_ring.specs.ClosedBuffer.{closed_buffer};
 
 use std::alloc::{Allocator, Global};
 use std::marker::Model;
-use tr_record::{Moment, RecView};
+use tr_record::{Moment, RecViews};
 use tr_subbuf::SubBuf;
 
 /// A closed sub-buffer, which waits to be consumed. Contracts see a `ClosedBuffer`.
@@ -14,26 +15,26 @@ pub struct ClosedSubBuf<A: Allocator = Global> {
     buffer: SubBuf<A>,
     seq: u64,
     end: Moment,
-    lost: u64,
+    discarded: u64,
 }
 
 impl<A: Allocator> Model for ClosedSubBuf<A> {
-    ghost use Rattle.tr_ring.specs.ClosedBuffer.{ClosedBuffer};
+    ghost use Rattle.tr_ring.specs.ClosedBuffer.{ClosedBuffer, closed_buffer};
 
     ghost Value = { ClosedBuffer };
 
-    ghost view = { λ c. record { seq = c.seq; end = c.end; lost = c.lost; records = c.buffer.records } };
+    ghost view = { λ c. closed_buffer c.seq c.end c.discarded c.buffer.records };
 }
 
 impl<A: Allocator> ClosedSubBuf<A> {
-    pub(crate) fn new(buffer: SubBuf<A>, seq: u64, end: Moment, lost: u64) -> ClosedSubBuf<A>
-        ensures { result ≡ record { seq = seq; end = end; lost = lost; records = buffer.records } }
+    pub(crate) fn new(buffer: SubBuf<A>, seq: u64, end: Moment, discarded: u64) -> ClosedSubBuf<A>
+        ensures { result ≡ closed_buffer seq end discarded buffer.records }
     {
         ClosedSubBuf {
             buffer,
             seq,
             end,
-            lost,
+            discarded,
         }
     }
 
@@ -51,11 +52,11 @@ impl<A: Allocator> ClosedSubBuf<A> {
         self.end
     }
 
-    /// How many records its ring had refused until then.
-    pub fn lost(&self) -> u64
-        ensures { result ≡ self.now.lost }
+    /// How many records its ring had discarded by then.
+    pub fn discarded(&self) -> u64
+        ensures { result ≡ self.now.discarded }
     {
-        self.lost
+        self.discarded
     }
 
     /// How many records it has.
@@ -65,18 +66,11 @@ impl<A: Allocator> ClosedSubBuf<A> {
         self.buffer.count()
     }
 
-    /// Its records.
-    pub fn records(&self) -> &SubBuf<A>
-        ensures { result.now.records ≡ self.now.records }
+    /// Its records, in order.
+    pub fn records(&self) -> RecViews<'_, A>
+        ensures { result ≡ self.now.records }
     {
-        &self.buffer
-    }
-
-    /// The record number `i`, from 0 on.
-    pub fn at(&self, i: usize) -> Option<RecView<'_>>
-        ensures { result ≡ slice_get self.now.records i }
-    {
-        self.buffer.at(i)
+        self.buffer.records()
     }
 
     /// Whether one of its records has this serial.

@@ -1,5 +1,5 @@
 //! A ring of sub-buffers: the current one takes records, the closed ones wait to be consumed.
-//! Where none is left, either the newest record or the oldest closed sub-buffer goes.
+//! If none is free, either the newest record is discarded or the oldest closed sub-buffer is overwritten.
 #![tactic(auto)]
 
 mod closed;

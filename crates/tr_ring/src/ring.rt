@@ -4,8 +4,10 @@ ghost use Rattle.std.specs.Prelude.{◌≡◌, ◌≢◌, ◌+◌, ◌≤◌, �
 ghost use Rattle.tr_record.specs.Weight.{weight_of};
 ghost use Rattle.circular_buffer.specs.Buffer.{buffer};
 ghost use Rattle.tr_subbuf.specs.SubBuffer.{empty_buffer, with_record};
-ghost use Rattle.tr_ring.specs.Ring.{IsRing, empty_ring, current_buffer, after_push, push_answer, without_first, closed_at, emptied, seq_waiting, seq_of};
-ghost use Rattle.tr_terms.specs.declared.limits.TheConstants.{LARGEST_PACKET, SMALLEST_PACKET};
+ghost use Rattle.tr_ring.specs.Ring.{IsRing, empty_ring, current_buffer, after_push, push_answer, remove_oldest, close_current, clear_ring, seq_waiting, seq_of};
+ghost use Rattle.tr_terms.specs.declared.limits.TheConstants.{FEWEST_SUB_BUFFERS, LARGEST_PACKET, SMALLEST_PACKET};
+ghost use Rattle.tr_record.specs.Records.{entry};
+ghost use Rattle.tr_ring.specs.ClosedBuffer.{closed_buffer};
 
 use crate::closed::ClosedSubBuf;
 use crate::pushed::Pushed;
@@ -22,37 +24,42 @@ pub struct Ring<A: Allocator = Global> {
     alloc: A,
     overwrite: bool,
     seq: u64,
-    refused: u64,
+    discarded: u64,
     current: SubBuf<A>,
     waiting: HeapCircularBuffer<ClosedSubBuf<A>, A>,
 }
 
 impl<A: Allocator> Model for Ring<A> {
     ghost use Rattle.std.specs.Prelude.{◌+◌};
-    ghost use Rattle.tr_ring.specs.Ring.{RingState, IsRing};
+    ghost use Rattle.tr_ring.specs.Ring.{RingState, IsRing, ring_state};
 
     ghost Value = { RingState };
 
-    ghost view = { λ r. record { waiting = r.waiting.items; current = r.current.records; seq = r.seq; refused = r.refused; size = r.current.size; count = r.waiting.capacity + 1; overwrite = r.overwrite } };
+    ghost view = { λ r. ring_state r.waiting.items r.current.records r.seq r.discarded r.current.size
+        (r.waiting.capacity + 1) r.overwrite };
 
-    ghost invariant = { λ r. IsRing (record { waiting = r.waiting.items; current = r.current.records; seq = r.seq; refused = r.refused; size = r.current.size; count = r.waiting.capacity + 1; overwrite = r.overwrite }) };
+    ghost invariant = { λ r. IsRing
+        (ring_state r.waiting.items r.current.records r.seq r.discarded r.current.size (r.waiting.capacity + 1)
+        r.overwrite) };
 }
 
-/// Closes the current sub-buffer, in whose place the next one comes.
+/// Closes the current sub-buffer, and puts the next one in its place.
 fn close<A: Allocator>(
     current: &mut SubBuf<A>,
     waiting: &mut HeapCircularBuffer<ClosedSubBuf<A>, A>,
     next: SubBuf<A>,
     seq: u64,
     end: Moment,
-    lost: u64,
+    discarded: u64,
 )
     requires { length waiting.old.items < waiting.old.capacity }
-    ensures waiting { waiting.new ≡ buffer (waiting.old.items ++ record { seq = seq; end = end; lost = lost; records = current.old.records } ∷ []) waiting.old.capacity }
+    ensures waiting { waiting.new
+        ≡ buffer (waiting.old.items ++ closed_buffer seq end discarded current.old.records ∷ [])
+        waiting.old.capacity }
     ensures current { current.new ≡ next }
 {
     let buffer = mem::replace(current, next);
-    let _ = waiting.push_back(ClosedSubBuf::new(buffer, seq, end, lost));
+    let _ = waiting.push_back(ClosedSubBuf::new(buffer, seq, end, discarded));
 }
 
 /// The number of the closed sub-buffer that has the record of this serial.
@@ -66,10 +73,10 @@ fn seq_waiting<A: Allocator>(
 }
 
 impl<A: Allocator + Copy> Ring<A> {
-    /// An empty ring of `n` sub-buffers of `size` bytes each, in which `overwrite` says whether the oldest gives way.
+    /// An empty ring of `n` sub-buffers of `size` bytes each. `overwrite`: whether a full ring overwrites the oldest.
     pub fn new(alloc: A, size: usize, n: usize, overwrite: bool) -> Result<Ring<A>, AllocError>
         requires size { (SMALLEST_PACKET ≤ size) × (size ≤ LARGEST_PACKET) }
-        requires n { 2 ≤ n }
+        requires n { FEWEST_SUB_BUFFERS ≤ n }
         ensures { IfOk result (λ r. r ≡ empty_ring size n overwrite) }
     {
         let waiting = HeapCircularBuffer::with_capacity(alloc, n - 1)?;
@@ -77,15 +84,15 @@ impl<A: Allocator + Copy> Ring<A> {
             alloc,
             overwrite,
             seq: 0,
-            refused: 0,
+            discarded: 0,
             current: SubBuf::new(alloc, size),
             waiting,
         })
     }
 
-    /// Stores a record whose text fits an empty sub-buffer, or refuses it. Where memory runs out, nothing changes;
-    /// a record that is refused takes none.
-    // (one caller makes it, at each offer)
+    /// Stores a record whose text fits an empty sub-buffer, or discards it. If an allocation fails, nothing changes;
+    /// discarding a record takes no memory.
+    // It has one caller, which calls it for each offer.
     #[inline(always)]
     pub fn push(
         &mut self,
@@ -96,11 +103,11 @@ impl<A: Allocator + Copy> Ring<A> {
     ) -> Result<Pushed, AllocError>
         requires fits { SMALLEST_PACKET + length payload.now ≤ self.old.size }
         requires numbers { self.old.seq + 1 < 2 ^ 64 }
-        requires refusals { self.old.refused + 1 < 2 ^ 64 }
-        ensures answer { IfOk result (λ p. p ≡ push_answer (record { serial = serial; moment = moment; id = id; payload = payload.now }) self.old) }
-        ensures ok { OnOk result (self.new ≡ after_push (record { serial = serial; moment = moment; id = id; payload = payload.now }) self.old) }
+        requires discards { self.old.discarded + 1 < 2 ^ 64 }
+        ensures answer { IfOk result (λ p. p ≡ push_answer (entry serial moment id payload.now) self.old) }
+        ensures ok { OnOk result (self.new ≡ after_push (entry serial moment id payload.now) self.old) }
         ensures err { OnErr result (self.new ≡ self.old) }
-        ensures taking { OnErr result (push_answer (record { serial = serial; moment = moment; id = id; payload = payload.now }) self.old ≢ Pushed.Refused) }
+        ensures taking { OnErr result (push_answer (entry serial moment id payload.now) self.old ≢ Pushed.Discarded) }
     {
         let joins = self.current.fits(payload.len());
         let entry = RecView::new(serial, moment, id, payload);
@@ -114,8 +121,8 @@ impl<A: Allocator + Copy> Ring<A> {
             return Ok(Pushed::Stored { seq: self.seq });
         }
         if !self.overwrite {
-            self.refused += 1;
-            return Ok(Pushed::Refused);
+            self.discarded += 1;
+            return Ok(Pushed::Discarded);
         }
         let next = self.begun(&entry)?;
         let Some(gone) = self.waiting.pop_front() else {
@@ -144,7 +151,7 @@ impl<A: Allocator + Copy> Ring<A> {
         requires room { length self.old.waiting + 1 < self.old.count }
         requires some { 1 ≤ length self.old.current }
         requires numbers { self.old.seq + 1 < 2 ^ 64 }
-        ensures { self.new ≡ closed_at end self.old }
+        ensures { self.new ≡ close_current end self.old }
     {
         let next = SubBuf::new(self.alloc, self.current.size());
         self.follow(next, end);
@@ -157,7 +164,7 @@ impl<A: Allocator + Copy> Ring<A> {
         requires numbers { self.old.seq + 1 < 2 ^ 64 }
         requires size { next.size ≡ self.old.size }
         requires within { weight_of next.records ≤ next.size }
-        ensures { self.new ≡ record (closed_at end self.old) { current = next.records } }
+        ensures { self.new ≡ record (close_current end self.old) { current = next.records } }
     {
         close(
             &mut self.current,
@@ -165,40 +172,39 @@ impl<A: Allocator + Copy> Ring<A> {
             next,
             self.seq,
             end,
-            self.refused,
+            self.discarded,
         );
         self.seq += 1;
     }
 }
 
 impl<A: Allocator> Ring<A> {
-    /// The oldest closed sub-buffer.
+    /// The oldest closed sub-buffer, if any.
     pub fn front(&self) -> Option<&ClosedSubBuf<A>>
         ensures { option_copied result ≡ slice_get self.now.waiting 0 }
     {
         self.waiting.front()
     }
 
-    /// The closed sub-buffer number `i`, the oldest being number 0.
+    /// The closed sub-buffer number `i`, counted from the oldest, which is number 0.
     pub fn closed(&self, i: usize) -> Option<&ClosedSubBuf<A>>
         ensures { option_copied result ≡ slice_get self.now.waiting i }
     {
         self.waiting.get(i)
     }
 
-    /// Gives up the oldest closed sub-buffer. It takes no memory.
-    pub fn drop_front(&mut self)
+    /// Removes the oldest closed sub-buffer. It takes no memory.
+    pub fn remove_oldest(&mut self)
         requires { 1 ≤ length self.old.waiting }
-        ensures { self.new ≡ without_first self.old }
+        ensures { self.new ≡ remove_oldest self.old }
     {
         let _ = self.waiting.pop_front();
     }
 
-    /// Gives up all records. The next sub-buffer gets the first number that none with a record has had. It takes no
-    /// memory.
-    pub fn empty(&mut self)
+    /// Removes all records. The next sub-buffer gets the first number that none with a record has had. It takes no memory.
+    pub fn clear(&mut self)
         requires { self.old.seq + 1 < 2 ^ 64 }
-        ensures { self.new ≡ emptied self.old }
+        ensures { self.new ≡ clear_ring self.old }
     {
         self.seq += u64::from(!self.current.is_empty());
         self.current.reset();
@@ -240,11 +246,11 @@ impl<A: Allocator> Ring<A> {
         self.seq
     }
 
-    /// How many records were refused so far.
-    pub fn refused(&self) -> u64
-        ensures { result ≡ self.now.refused }
+    /// How many records were discarded so far.
+    pub fn discarded(&self) -> u64
+        ensures { result ≡ self.now.discarded }
     {
-        self.refused
+        self.discarded
     }
 
     /// The bytes of each sub-buffer.
@@ -262,7 +268,7 @@ impl<A: Allocator> Ring<A> {
         self.waiting.capacity() + 1
     }
 
-    /// Whether the oldest closed sub-buffer gives way to a record that has no room.
+    /// Whether a record that has no room overwrites the oldest closed sub-buffer.
     pub fn overwrites(&self) -> bool
         ensures { result ≡ self.now.overwrite }
     {

@@ -18,14 +18,14 @@ abbrev pub is_filled : Option ℕ → List ℕ → Bool
 is_filled (Some limit) sizes = nat_le limit (total_of sizes)
 is_filled None sizes = false
 
--- the timer's cause comes first
+-- the timer comes first
 abbrev pub due_cause : ScheduleState → ℕ → ℕ → List ℕ → Option Cause
 due_cause s begin now sizes =
     if is_elapsed s.every begin now then Some Timer
     else if is_filled s.size sizes then Some Size
     else None
 
--- what an answer says of a cause
+-- a cause's word in answers
 abbrev pub cause_word : Cause → List ℕ
 cause_word Timer = codes "timer"
 cause_word Size = codes "size"

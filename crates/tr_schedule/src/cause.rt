@@ -8,12 +8,12 @@ ghost use Rattle.tr_schedule.specs.Due.{cause_word};
 pub enum Cause {
     /// The period is over.
     Timer,
-    /// The streams have as many bytes as the limit says, or more.
+    /// The streams have at least as many bytes as the limit says.
     Size,
 }
 
 impl Cause {
-    /// The word that an answer gives: `timer` or `size`.
+    /// Its word in answers: `timer` or `size`.
     pub fn word(self) -> &'static str
         ensures { result.now ≡ cause_word self }
     {

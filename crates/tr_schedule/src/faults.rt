@@ -1,11 +1,11 @@
-//! Why there is no such schedule.
+//! Why a period and a size limit make no schedule.
 
 ghost use Rattle.std.specs.Prelude.{◌≡◌};
-ghost use Rattle.tr_schedule.specs.Schedules.{fault_code, fault_name};
+ghost use Rattle.tr_schedule.specs.Schedules.{schedule_fault_code, schedule_fault_name};
 
 use thiserror::Error;
 
-/// Why there is no such schedule.
+/// Why a period and a size limit make no schedule.
 #[derive(Clone, Copy, Debug, PartialEq, Eq, Error)]
 pub enum ScheduleFault {
     /// The period is zero.
@@ -17,9 +17,9 @@ pub enum ScheduleFault {
 }
 
 impl ScheduleFault {
-    /// The code that an answer gives: `D1` or `D2`.
+    /// Its code in answers: `D1` or `D2`.
     pub fn code(self) -> &'static str
-        ensures { result.now ≡ fault_code self }
+        ensures { result.now ≡ schedule_fault_code self }
     {
         match self {
             ScheduleFault::ZeroPeriod => "D1",
@@ -27,9 +27,9 @@ impl ScheduleFault {
         }
     }
 
-    /// The name that an answer gives: `ZeroPeriod` or `ZeroSize`.
+    /// Its name in answers: `ZeroPeriod` or `ZeroSize`.
     pub fn name(self) -> &'static str
-        ensures { result.now ≡ fault_name self }
+        ensures { result.now ≡ schedule_fault_name self }
     {
         match self {
             ScheduleFault::ZeroPeriod => "ZeroPeriod",

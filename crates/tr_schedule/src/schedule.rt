@@ -9,8 +9,7 @@ use crate::faults::ScheduleFault;
 use std::marker::Model;
 use tr_terms::Moment;
 
-/// After which time, and at how many bytes, a rotation is due; either of them, both or none. Contracts see a
-/// `ScheduleState`.
+/// The period and the size limit at which a rotation is due: either of them, both or none. Contracts see a `ScheduleState`.
 #[derive(Clone, Copy, Debug, PartialEq, Eq)]
 pub struct Schedule {
     every: Option<u64>,
@@ -19,11 +18,11 @@ pub struct Schedule {
 
 impl Model for Schedule {
     ghost use Rattle.std.specs.Prelude.{◌≢◌, Some};
-    ghost use Rattle.tr_schedule.specs.Schedules.{ScheduleState};
+    ghost use Rattle.tr_schedule.specs.Schedules.{ScheduleState, schedule_state};
 
     ghost Value = { ScheduleState };
 
-    ghost view = { λ s. record { every = s.every; size = s.size } };
+    ghost view = { λ s. schedule_state s.every s.size };
 
     ghost invariant = { λ s. (s.every ≢ Some 0) × (s.size ≢ Some 0) };
 
@@ -31,7 +30,7 @@ impl Model for Schedule {
 }
 
 impl Schedule {
-    /// A rotation every so many nanoseconds, and at so many bytes; without either number, it is never due for that cause.
+    /// A rotation every `every` nanoseconds, and at `size` bytes; without either number, it is never due for that cause.
     /// D1 ZeroPeriod: the period is zero, which is judged first. D2 ZeroSize: the size limit is zero.
     pub fn new(every: Option<u64>, size: Option<u64>) -> Result<Schedule, ScheduleFault>
         ensures { result ≡ schedule_of every size }
@@ -61,7 +60,7 @@ impl Schedule {
         self.size
     }
 
-    /// Why a rotation is due now, if it is, of a chunk that began at `begin` and whose streams have so many bytes each.
+    /// Why a rotation is due now, if it is, for a chunk that began at `begin` and whose streams have these sizes in bytes.
     /// The period is judged first. The sum of the sizes stops at the greatest u64. It takes no memory.
     pub fn due(&self, begin: Moment, now: Moment, sizes: &[u64]) -> Option<Cause>
         ensures { result ≡ due_cause self.now begin now sizes.now }
@@ -76,7 +75,7 @@ impl Schedule {
     }
 }
 
-/// Whether a period is over that began at `begin`.
+/// Whether a period that began at `begin` is over.
 fn has_elapsed(every: Option<u64>, begin: Moment, now: Moment) -> bool
     ensures { result ≡ is_elapsed every begin now }
 {
@@ -89,7 +88,7 @@ fn has_elapsed(every: Option<u64>, begin: Moment, now: Moment) -> bool
     period <= elapsed
 }
 
-/// Whether the sum of the sizes is at the limit.
+/// Whether the sum of the sizes reaches the limit.
 fn has_filled(limit: Option<u64>, sizes: &[u64]) -> bool
     ensures { result ≡ is_filled limit sizes.now }
 {
@@ -99,7 +98,7 @@ fn has_filled(limit: Option<u64>, sizes: &[u64]) -> bool
     }
 }
 
-/// The sum of the sizes, or the greatest u64 where it is more.
+/// The sum of the sizes, or the greatest u64 if it is more.
 fn total(sizes: &[u64]) -> u64
     ensures { result ≡ total_of sizes.now }
 {

@@ -39,23 +39,29 @@ all-front P (x ∷ xs) ys all = (all.0, all-front P xs ys all.1)
 
 numbers-front : (before : Option ℕ) (ns ms : List ℕ) → numbers_rise_after before (ns ++ ms) ≡ true → numbers_rise_after before ns ≡ true
 numbers-front before [] ms rise = refl
-numbers-front before (n ∷ ns) ms rise = let h = both (follows before n) (numbers_rise_after (Some n) (ns ++ ms)) rise in rw (h.0) (numbers-front (Some n) ns ms h.1)
+numbers-front before (n ∷ ns) ms rise = let h =
+    both (follows before n) (numbers_rise_after (Some n) (ns ++ ms)) rise in rw (h.0) (numbers-front (Some n) ns ms h.1)
 
 serials-front : (before : Option ℕ) (es fs : List Entry) → serials_rise_after before (es ++ fs) ≡ true → serials_rise_after before es ≡ true
 serials-front before [] fs rise = refl
-serials-front before (e ∷ es) fs rise = let h = both (follows before e.serial) (serials_rise_after (Some e.serial) (es ++ fs)) rise in rw (h.0) (serials-front (Some e.serial) es fs h.1)
+serials-front before (e ∷ es) fs rise = let h =
+    both (follows before e.serial) (serials_rise_after (Some e.serial) (es ++ fs)) rise
+    in rw (h.0) (serials-front (Some e.serial) es fs h.1)
 
 module _ (uuid : List ℕ) (stream : ℕ) (ps qs : List Contents) where
   of_stream-front : AreOfStream uuid stream (ps ++ qs) → AreOfStream uuid stream ps
   of_stream-front all = record {
     packets = all-front IsPacket ps qs all.packets;
     belong = all-front (BelongsTo uuid stream) ps qs all.belong;
-    numbers = numbers-front None (numbers_of ps) (numbers_of qs) (ap (numbers_rise_after None) (sym (map-append (λ (p : Contents). p.head.seq) ps qs)) ∙ all.numbers);
-    serials = serials-front None (records_of_packets ps) (records_of_packets qs) (ap (serials_rise_after None) (sym (flat_map-append (λ (p : Contents). p.records) ps qs)) ∙ all.serials);
+    numbers = numbers-front None (numbers_of ps) (numbers_of qs)
+        (ap (numbers_rise_after None) (sym (map-append (λ (p : Contents). p.head.seq) ps qs)) ∙ all.numbers);
+    serials = serials-front None (records_of_packets ps) (records_of_packets qs)
+        (ap (serials_rise_after None) (sym (flat_map-append (λ (p : Contents). p.records) ps qs)) ∙ all.serials);
   }
 
 -- the first files of a stream pass their audit
-pub front-passes : (s : StreamState) (h : History) (k : ℕ) → IsSound s → StandsFor s h → AreAudited s.config.uuid s.config.number (take k (files_of s)) (take k (packets_by_part s))
+pub front-passes : (s : StreamState) (h : History) (k : ℕ) → IsSound s → StandsFor s h
+    → AreAudited s.config.uuid s.config.number (take k (files_of s)) (take k (packets_by_part s))
 front-passes s h k sound is =
     let pss = packets_by_part s in
     let split : all_of pss ≡ all_of (take k pss) ++ all_of (drop k pss) =
@@ -75,8 +81,11 @@ chunks-front k (suc n) h le = go (cases_lt k (suc n)) (λ below. chunks-front k 
     go : ((k < suc n) ⊎ (suc n ≤ k)) → (k ≤ n → (rest : List ClosedBuffer) × (chunks_below n h ≡ chunks_below k h ++ rest))
         → (rest : List ClosedBuffer) × (chunks_below (suc n) h ≡ chunks_below k h ++ rest)
     go (inl below) fewer =
-        let front = fewer (omega (arith, below)) in
-        (front.0 ++ chunk_of n h, ap (λ (bs : List ClosedBuffer). bs ++ chunk_of n h) front.1 ∙ append_assoc (chunks_below k h) front.0 (chunk_of n h))
+        let front = fewer (omega (arith, below)) in (
+          front.0 ++ chunk_of n h,
+          ap (λ (bs : List ClosedBuffer). bs ++ chunk_of n h) front.1
+              ∙ append_assoc (chunks_below k h) front.0 (chunk_of n h),
+        )
     go (inr past) fewer = let all : k ≡ suc n = omega (arith, le, past) in ([], rw all (sym (append-nil (chunks_below (suc n) h))))
 
 parts-front : (c : StreamConfig) (k n : ℕ) (h : History) → k ≤ n → (rest : List PartState) × (parts_below c n h ≡ parts_below c k h ++ rest)
@@ -96,10 +105,12 @@ parts-front c k (suc n) h le = go (cases_lt k (suc n)) (λ below. parts-front c 
 first-parts : (c : StreamConfig) (k n : ℕ) (h : History) → k ≤ n → take k (parts_below c n h) ≡ parts_below c k h
 first-parts c k n h le =
     let front = parts-front c k n h le in
-    ap (take k) front.1 ∙ ap (λ (m : ℕ). take m (parts_below c k h ++ front.0)) (sym (length-parts_below c k h)) ∙ take-append_seam (parts_below c k h) front.0
+    ap (take k) front.1 ∙ ap (λ (m : ℕ). take m (parts_below c k h ++ front.0)) (sym (length-parts_below c k h))
+    ∙ take-append_seam (parts_below c k h) front.0
 
 -- the packets of the first chunks are those of the blocks kept in them
-pub front-packets : (s : StreamState) (h : History) (k : ℕ) → StandsFor s h → k ≤ h.cuts + 1 → all_of (take k (packets_by_part s)) ≡ map (packet_of s.config) (chunks_below k h)
+pub front-packets : (s : StreamState) (h : History) (k : ℕ) → StandsFor s h → k ≤ h.cuts + 1
+    → all_of (take k (packets_by_part s)) ≡ map (packet_of s.config) (chunks_below k h)
 front-packets s h k is within =
     let packets = λ (p : PartState). p.packets in
     ap all_of (
@@ -111,7 +122,7 @@ front-packets s h k is within =
 
 -- ---- the gaps
 
--- the gaps behind a number lie above it
+-- the gaps after a number are above it
 gaps-above : (q n : ℕ) (ns : List ℕ) → numbers_rise_after (Some q) ns ≡ true → n ≤ q → is_in_runs n (gaps_behind (Some q) ns) ≡ false
 gaps-above q n [] rise le = refl
 gaps-above q n (m ∷ ns) rise le =
@@ -143,19 +154,20 @@ gaps-front before n (m ∷ ns) ms rise =
     ∙ ap (λ (g : Bool). g || some) gap
     ∙ bool_front (low before) n m some all (list_any (nat_lt n) ns) (gaps-front (Some m) n ns ms h.1) (gaps-above m n (ns ++ ms) h.1)
     ∙ ap (λ (g : Bool). (g || all) && (nat_lt n m || list_any (nat_lt n) ns)) (sym gap)
-    ∙ ap (λ (g : Bool). g && (nat_lt n m || list_any (nat_lt n) ns)) (sym (list_any-append is_in (gap_before before m) (gaps_behind (Some m) (ns ++ ms))))
+    ∙ ap (λ (g : Bool). g && (nat_lt n m || list_any (nat_lt n) ns))
+    (sym (list_any-append is_in (gap_before before m) (gaps_behind (Some m) (ns ++ ms))))
 
 below-seqs : (n : ℕ) (bs : List ClosedBuffer) → list_any (nat_lt n) (seqs bs) ≡ is_below_one n bs
 below-seqs n [] = refl
 below-seqs n (b ∷ bs) = ap (λ (t : Bool). nat_lt n b.seq || t) (below-seqs n bs)
 
 -- below a kept one, by its sub-buffer
-below-kept : (n lost : ℕ) (cs : List Closed) → is_below_one n (buffers_where is_kept lost cs) ≡ kept_above n cs
-below-kept n lost [] = refl
-below-kept n lost (c ∷ cs) = go c.status refl (below-kept n (lost + length c.block.missed) cs)
+below-kept : (n discarded : ℕ) (cs : List Closed) → is_below_one n (buffers_where is_kept discarded cs) ≡ kept_above n cs
+below-kept n discarded [] = refl
+below-kept n discarded (c ∷ cs) = go c.status refl (below-kept n (discarded + length c.block.discarded) cs)
   where
-    go : (st : Status) → c.status ≡ st → is_below_one n (buffers_where is_kept (lost + length c.block.missed) cs) ≡ kept_above n cs
-        → is_below_one n (buffers_where is_kept lost (c ∷ cs)) ≡ kept_above n (c ∷ cs)
+    go : (st : Status) → c.status ≡ st → is_below_one n (buffers_where is_kept (discarded + length c.block.discarded) cs) ≡ kept_above n cs
+        → is_below_one n (buffers_where is_kept discarded (c ∷ cs)) ≡ kept_above n (c ∷ cs)
     go Waiting e rest = rw e (grind (arith, nat_tests, rest))
     go Dropped e rest = rw e (grind (arith, nat_tests, rest))
     go (Kept k) e rest = rw e (grind (arith, nat_tests, rest))

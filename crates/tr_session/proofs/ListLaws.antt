@@ -5,7 +5,7 @@ use Rattle.std.proofs.lemmas.Option.{slice_get_past, slice_get_read}
 use Rattle.std.specs.Borrow.{MutBor}
 use Rattle.std.specs.List.{IsItemAtMut}
 use Rattle.std.specs.Prelude.{slice_get}
-use Rattle.tr_session.specs.Steps.{changed_at}
+use Rattle.tr_session.specs.Steps.{change_at}
 
 module _ {X : Type 0} where
   pub lent-some : (xs : List X) (i : ℕ) (x : MutBor X) → IsItemAtMut xs i (Some x) → slice_get xs i ≡ Some x.now
@@ -15,13 +15,13 @@ module _ {X : Type 0} where
   lent-none xs i is = slice_get_past xs i is.3
 
   -- the element at a place is changed by a write
-  pub changed_at-set : (f : X → X) (i : ℕ) (xs : List X) (x y : X) → slice_get xs i ≡ Some x → y ≡ f x → set xs i y ≡ changed_at i f xs
+  pub changed_at-set : (f : X → X) (i : ℕ) (xs : List X) (x y : X) → slice_get xs i ≡ Some x → y ≡ f x → set xs i y ≡ change_at i f xs
   changed_at-set f i [] x y at is = refl
   changed_at-set f zero (z ∷ xs) x y at is = let same : z ≡ x = cc in ap (λ (w : X). w ∷ xs) (is ∙ ap f (sym same))
   changed_at-set f (suc i) (z ∷ xs) x y at is = ap (λ (ys : List X). z ∷ ys) (changed_at-set f i xs x y at is)
 
-  -- past the end nothing is
-  pub changed_at-past : (f : X → X) (i : ℕ) (xs : List X) → slice_get xs i ≡ None → xs ≡ changed_at i f xs
+  -- past the end nothing is changed
+  pub changed_at-past : (f : X → X) (i : ℕ) (xs : List X) → slice_get xs i ≡ None → xs ≡ change_at i f xs
   changed_at-past f i [] past = refl
   changed_at-past f zero (x ∷ xs) past = cc
   changed_at-past f (suc i) (x ∷ xs) past = ap (λ (ys : List X). x ∷ ys) (changed_at-past f i xs past)
@@ -32,7 +32,7 @@ module _ {X : Type 0} where
   set-same zero (z ∷ xs) x y at is = let same : z ≡ x = cc in ap (λ (w : X). w ∷ xs) (is ∙ sym same)
   set-same (suc i) (z ∷ xs) x y at is = ap (λ (ys : List X). z ∷ ys) (set-same i xs x y at is)
 
-  pub length-changed_at : (f : X → X) (i : ℕ) (xs : List X) → length (changed_at i f xs) ≡ length xs
+  pub length-changed_at : (f : X → X) (i : ℕ) (xs : List X) → length (change_at i f xs) ≡ length xs
   length-changed_at f i [] = refl
   length-changed_at f zero (x ∷ xs) = refl
   length-changed_at f (suc i) (x ∷ xs) = ap suc (length-changed_at f i xs)
@@ -41,16 +41,17 @@ module _ {X : Type 0} where
   abbrev pub changed_before : ℕ → (X → X) → List X → List X
   changed_before i f xs = map f (take i xs) ++ drop i xs
 
-  changed-next : (f : X → X) (i : ℕ) (xs : List X) → i < length xs → changed_at i f (changed_before i f xs) ≡ changed_before (suc i) f xs
+  changed-next : (f : X → X) (i : ℕ) (xs : List X) → i < length xs → change_at i f (changed_before i f xs) ≡ changed_before (suc i) f xs
   changed-next f i [] within = absurd (omega (arith, within))
   changed-next f zero (x ∷ xs) within = refl
   changed-next f (suc i) (x ∷ xs) within = ap (λ (ys : List X). f x ∷ ys) (changed-next f i xs (omega (arith, within)))
 
   -- and the next one
-  pub changed_before-more : (f : X → X) (i : ℕ) (xs now next : List X) → i < length xs → now ≡ changed_before i f xs → next ≡ changed_at i f now → next ≡ changed_before (i + 1) f xs
+  pub changed_before-more : (f : X → X) (i : ℕ) (xs now next : List X) → i < length xs → now ≡ changed_before i f xs
+      → next ≡ change_at i f now → next ≡ changed_before (i + 1) f xs
   changed_before-more f i xs now next within so is =
       let one : suc i ≡ i + 1 = omega arith in
-      is ∙ ap (changed_at i f) so ∙ changed-next f i xs within ∙ ap (λ (n : ℕ). changed_before n f xs) one
+      is ∙ ap (change_at i f) so ∙ changed-next f i xs within ∙ ap (λ (n : ℕ). changed_before n f xs) one
 
   -- and all of them
   pub changed_before-all : (f : X → X) (n : ℕ) (xs : List X) → n ≡ length xs → changed_before n f xs ≡ map f xs
@@ -60,8 +61,9 @@ module _ {X : Type 0} where
       go [] = refl
       go (y ∷ ys) = ap (λ (zs : List X). f y ∷ zs) (go ys)
 
--- the first elements of a list as they are seen, and one more
-pub mapped-more : {X Y : Type 0} (f : X → Y) (xs : List X) (i : ℕ) (x : X) (y : Y) (seen more : List Y) → i < length xs → x ≡ get_or xs i x → y ≡ f x → seen ≡ map f (take i xs) → more ≡ seen ++ y ∷ [] → more ≡ map f (take (i + 1) xs)
+-- the first elements of a list, mapped, and one more
+pub mapped-more : {X Y : Type 0} (f : X → Y) (xs : List X) (i : ℕ) (x : X) (y : Y) (seen more : List Y) → i < length xs
+    → x ≡ get_or xs i x → y ≡ f x → seen ≡ map f (take i xs) → more ≡ seen ++ y ∷ [] → more ≡ map f (take (i + 1) xs)
 mapped-more f xs i x y seen more within item is so pushed =
     pushed ∙ ap (λ ys. ys ++ y ∷ []) so ∙ ap (λ z. map f (take i xs) ++ z ∷ []) is
     ∙ sym (map-append f (take i xs) (x ∷ []))

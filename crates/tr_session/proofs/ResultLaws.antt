@@ -1,4 +1,4 @@
--- What is said of a result, by what was said of it.
+-- What holds of a result, by what is known of it.
 use Rattle.std.proofs.Common.{Result, Ok, Err}
 use Rattle.std.specs.Prelude.{IfOk, OnOk, OnErr, IfErr}
 

@@ -6,9 +6,9 @@ use Rattle.std.specs.Prelude.{IsOk, if◌then◌else◌, nat_lt, option_map, sli
 use Rattle.tr_session_book.proofs.BookLaws.{due-within}
 use Rattle.tr_session.proofs.StreamLaws.{mode-at, noted-is, wants-memory}
 use Rattle.tr_session_book.specs.Book.{SessionBookState}
-use Rattle.tr_session_book.specs.BookSteps.{channel_named, noted_at, thread_noted, thread_place, unless_refused, cut_moment, with_cut, after_note_cut}
+use Rattle.tr_session_book.specs.BookSteps.{channel_named, with_thread_at, book_add_thread, thread_place, unless_refused, cut_moment, with_cut, book_after_note_cut}
 use Rattle.tr_session.specs.Session.{SessionOf, HasItsStreams}
-use Rattle.tr_session.specs.Steps.{with_book, next_config, stream_made, thread_added, changed_at, cut_as_step, cut_step, after_cut_step, cut_first, as_next, next_in, next_answer, after_next}
+use Rattle.tr_session.specs.Steps.{with_book, next_config, session_add_stream, session_add_thread, change_at, cut_as_step, session_cut_answer, session_after_cut, cut_first, as_next, next_in, session_next_answer, session_after_next}
 use Rattle.tr_session_book.specs.declared.archive.Pending.{Pending}
 use Rattle.tr_session_book.specs.declared.channel.Channel.{Channel}
 use Rattle.tr_session_book.specs.declared.faults.SessionFault.{SessionFault}
@@ -19,7 +19,7 @@ use Rattle.tr_session.specs.declared.rotation.Next.TheVariants as next
 use Rattle.tr_stream.proofs.SessionLaws.{in-local}
 use Rattle.tr_stream.specs.Rules.{StreamRules, by_state}
 use Rattle.tr_stream.specs.State.{StreamState}
-use Rattle.tr_stream.specs.StateSteps.{new_state, cut_done, cut_result, state_after_cut}
+use Rattle.tr_stream.specs.StateSteps.{new_state, cut_done, state_cut_answer, state_after_cut}
 use Rattle.tr_stream.specs.declared.answers.CutDone.{CutDone}
 use Rattle.tr_stream.specs.declared.answers.CutFault.{CutFault}
 use Rattle.tr_terms.specs.declared.session_mode.SessionMode.{SessionMode}
@@ -34,17 +34,19 @@ added-ok ts (Err fault) is = is
 pub ok-not-err : {R F : Type 0} {x : R} {y : F} → (let r : Result R F = Ok x in r) ≡ Err y → ⊥
 ok-not-err same = absurd cc
 
--- in a local session only want of memory refuses a stream's cut
+-- in a local session only a failed allocation refuses a stream's cut
 pub only-memory : (s : SessionOf StreamState) (i moment : ℕ) (f : CutFault) → HasItsStreams s → s.book.mode ≡ Local
-    → ((let r : Result CutDone CutFault = Err f in r) ≢ Err CutFault.NoMemory → option_map (cut_result moment) (slice_get s.streams i) ≡ Some (Err f)) → f ≡ CutFault.NoMemory
+    → ((let r : Result CutDone CutFault = Err f in r) ≢ Err CutFault.NoMemory
+    → option_map (state_cut_answer moment) (slice_get s.streams i) ≡ Some (Err f)) → f ≡ CutFault.NoMemory
 only-memory s i moment CutFault.NoMemory is local given = refl
 only-memory s i moment CutFault.SnapshotMode is local given = absurd (go (slice_get s.streams i) refl (given (λ e. cc)))
   where
-    go : (o : Option StreamState) → slice_get s.streams i ≡ o → option_map (cut_result moment) o ≡ Some (Err CutFault.SnapshotMode) → ⊥
+    go : (o : Option StreamState) → slice_get s.streams i ≡ o → option_map (state_cut_answer moment) o ≡ Some (Err CutFault.SnapshotMode) → ⊥
     go None at refused = cc
     go (Some t) at refused =
         let mode : t.config.session ≡ Local = mode-at s i t is at ∙ local in
-        let cuts : cut_result moment t ≡ Ok (cut_done (max moment t.book.last) t) = in-local t.config.session (Ok (cut_done (max moment t.book.last) t)) (Err CutFault.SnapshotMode) mode in
+        let cuts : state_cut_answer moment t ≡ Ok (cut_done (max moment t.counters.last) t) =
+        in-local t.config.session (Ok (cut_done (max moment t.counters.last) t)) (Err CutFault.SnapshotMode) mode in
         cc
 
 told : {X R Y : Type 0} (f : X → R) (g : R → Y) (o : Option X) (r : R) (d : Y) → option_map f o ≡ Some r → option_map_or (λ t. g (f t)) o d ≡ g r
@@ -52,70 +54,95 @@ told f g None r d is = absurd cc
 told f g (Some x) r d is = let same : f x ≡ r = cc in ap g same
 
 -- a stream whose cut was due was cut, and that is noted
-pub cut-noted : (s : SessionOf StreamState) (i moment : ℕ) (done : CutDone) (b : SessionBookState) (ts : List StreamState) → cut_moment i s.book ≡ Ok moment
-    → option_map (cut_result moment) (slice_get s.streams i) ≡ Some (Ok done) → ts ≡ changed_at i (state_after_cut moment) s.streams → b ≡ with_cut s.book
-    → ((let r : Result CutDone StepFault = Ok done in r) ≡ cut_step by_state i s) × ((let t : SessionOf StreamState = record { book = b; streams = ts } in t) ≡ after_cut_step by_state i s)
-cut-noted s i moment done b ts due at streams book = (rw due (sym (told (cut_result moment) cut_as_step (slice_get s.streams i) (Ok done) _ at)), rw due (rw (streams, book) refl))
+pub cut-noted : (s : SessionOf StreamState) (i moment : ℕ) (done : CutDone) (b : SessionBookState) (ts : List StreamState)
+    → cut_moment i s.book ≡ Ok moment
+    → option_map (state_cut_answer moment) (slice_get s.streams i) ≡ Some (Ok done)
+    → ts ≡ change_at i (state_after_cut moment) s.streams → b ≡ with_cut s.book
+    → ((let r : Result CutDone StepFault = Ok done in r) ≡ session_cut_answer by_state i s)
+    × ((let t : SessionOf StreamState = record { book = b; streams = ts } in t) ≡ session_after_cut by_state i s)
+cut-noted s i moment done b ts due at streams book = (
+  rw due (sym (told (state_cut_answer moment) cut_as_step (slice_get s.streams i) (Ok done) _ at)),
+  rw due (rw (streams, book) refl),
+)
 
 -- ---- rotations
 
--- one stream more is cut
-pub cut_first-more : {S : Type 0} (rules : StreamRules S) (i : ℕ) (s now next : SessionOf S) → now ≡ cut_first rules i s → next ≡ after_cut_step rules i now → next ≡ cut_first rules (i + 1) s
+-- one more stream is cut
+pub cut_first-more : {S : Type 0} (rules : StreamRules S) (i : ℕ) (s now next : SessionOf S) → now ≡ cut_first rules i s
+    → next ≡ session_after_cut rules i now → next ≡ cut_first rules (i + 1) s
 cut_first-more rules i s now next so is =
     let one : suc i ≡ i + 1 = omega arith in
-    is ∙ ap (after_cut_step rules i) so ∙ ap (λ (n : ℕ). cut_first rules n s) one
+    is ∙ ap (session_after_cut rules i) so ∙ ap (λ (n : ℕ). cut_first rules n s) one
 
 -- the next stream of a pending rotation
-pub next-cut : (s t : SessionOf StreamState) (p : Pending) (r : Result CutDone StepFault) → s.book.pending ≡ Some p → p.cut < length s.book.threads → r ≡ cut_step by_state p.cut s
-    → t ≡ after_cut_step by_state p.cut s → (as_next p.cut r ≡ next_answer by_state s) × (t ≡ after_next by_state s)
+pub next-cut : (s t : SessionOf StreamState) (p : Pending) (r : Result CutDone StepFault) → s.book.pending ≡ Some p
+    → p.cut < length s.book.threads → r ≡ session_cut_answer by_state p.cut s
+    → t ≡ session_after_cut by_state p.cut s → (as_next p.cut r ≡ session_next_answer by_state s) × (t ≡ session_after_next by_state s)
 next-cut s t p r pending within is after =
     let left : nat_lt p.cut (length s.book.threads) ≡ true = grind (arith, nat_tests, within) in
-    let cuts : (if nat_lt p.cut (length s.book.threads) then as_next p.cut (cut_step by_state p.cut s) else Ok next.AllCut) ≡ as_next p.cut (cut_step by_state p.cut s) =
-    ap (λ (b : Bool). if b then as_next p.cut (cut_step by_state p.cut s) else Ok next.AllCut) left in (
+    let cuts : (if nat_lt p.cut (length s.book.threads) then as_next p.cut (session_cut_answer by_state p.cut s)
+    else Ok next.AllCut) ≡ as_next p.cut (session_cut_answer by_state p.cut s) =
+    ap (λ (b : Bool). if b then as_next p.cut (session_cut_answer by_state p.cut s) else Ok next.AllCut) left in (
       ap (as_next p.cut) is ∙ sym cuts ∙ sym (ap (λ (o : Option Pending). next_in by_state o s) pending),
-      after ∙ sym (ap (λ (o : Option Pending). option_map_or (λ (q : Pending). after_cut_step by_state q.cut s) o s) pending),
+      after ∙ sym (ap (λ (o : Option Pending). option_map_or (λ (q : Pending). session_after_cut by_state q.cut s) o s) pending),
     )
 
--- there is none
+-- there is no next stream
 pub next-none : (s : SessionOf StreamState) (p : Pending) → s.book.pending ≡ Some p → length s.book.threads ≤ p.cut
-    → ((let r : Result Next StepFault = Ok next.AllCut in r) ≡ next_answer by_state s) × (s ≡ after_next by_state s)
+    → ((let r : Result Next StepFault = Ok next.AllCut in r) ≡ session_next_answer by_state s) × (s ≡ session_after_next by_state s)
 next-none s p pending past =
     let left : nat_lt p.cut (length s.book.threads) ≡ false = grind (arith, nat_tests, past) in
     (rw (pending, left) refl, rw (pending, left) refl)
 
 -- ---- threads
 
--- a thread whose channel is there is added
-pub thread-made : (s t : SessionOf StreamState) (name uuid : List ℕ) (number : ℕ) (channel : Channel) (mode : SessionMode) (stream : StreamState) → HasItsStreams s → channel_named name s.book ≡ Some channel
+-- a thread whose channel exists is added
+pub thread-made : (s t : SessionOf StreamState) (name uuid : List ℕ) (number : ℕ) (channel : Channel) (mode : SessionMode)
+    (stream : StreamState) → HasItsStreams s → channel_named name s.book ≡ Some channel
     → uuid ≡ s.book.uuid → number ≡ length s.streams → mode ≡ s.book.mode
-    → stream ≡ new_state (record { uuid = uuid; number = number; geometry = channel.geometry; mode = channel.mode; session = mode }) → t.streams ≡ s.streams ++ stream ∷ [] → thread_noted name s.book ≡ Ok t.book
-    → thread_added by_state name s ≡ Ok t
+    → stream ≡ new_state (record {
+      uuid = uuid;
+      number = number;
+      geometry = channel.geometry;
+      mode = channel.mode;
+      session = mode;
+    }) → t.streams ≡ s.streams ++ stream ∷ [] → book_add_thread name s.book ≡ Ok t.book
+    → session_add_thread by_state name s ≡ Ok t
 thread-made s t name uuid number channel mode stream is named uuid_is number_is mode_is stream_is pushed noted =
     let count : number ≡ length s.book.threads = number_is ∙ is.as_many in
-    let config : (let c : StreamConfig = record { uuid = uuid; number = number; geometry = channel.geometry; mode = channel.mode; session = mode } in c) ≡ next_config channel s.book = cc in
+    let config : (let c : StreamConfig =
+    record { uuid = uuid; number = number; geometry = channel.geometry; mode = channel.mode; session = mode } in c)
+    ≡ next_config channel s.book = cc in
     let kept = noted-is name s.book t.book noted in
-    let made : t.streams ≡ s.streams ++ new_state (next_config channel s.book) ∷ [] = pushed ∙ ap (λ (u : StreamState). s.streams ++ u ∷ []) (stream_is ∙ ap new_state config) in
-    ap (λ (o : Option Channel). stream_made by_state o (thread_place name s.book) s) named
-    ∙ ap (λ (r : Result ℕ SessionFault). stream_made by_state (Some channel) r s) kept.1
-    ∙ ap (λ (b : SessionBookState). (let r : Result (SessionOf StreamState) SessionFault = Ok (record { book = b; streams = s.streams ++ new_state (next_config channel s.book) ∷ [] }) in r)) (sym kept.2)
-    ∙ ap (λ (us : List StreamState). (let r : Result (SessionOf StreamState) SessionFault = Ok (record { book = t.book; streams = us }) in r)) (sym made)
+    let made : t.streams ≡ s.streams ++ new_state (next_config channel s.book) ∷ [] =
+    pushed ∙ ap (λ (u : StreamState). s.streams ++ u ∷ []) (stream_is ∙ ap new_state config) in
+    ap (λ (o : Option Channel). session_add_stream by_state o (thread_place name s.book) s) named
+    ∙ ap (λ (r : Result ℕ SessionFault). session_add_stream by_state (Some channel) r s) kept.1
+    ∙ ap (λ (b : SessionBookState).
+    (let r : Result (SessionOf StreamState) SessionFault =
+    Ok (record { book = b; streams = s.streams ++ new_state (next_config channel s.book) ∷ [] }) in r)) (sym kept.2)
+    ∙ ap (λ (us : List StreamState).
+    (let r : Result (SessionOf StreamState) SessionFault = Ok (record { book = t.book; streams = us }) in r)) (sym made)
 
-only_wants : (r : Result ℕ SessionFault) (b : SessionBookState) (f : SessionFault) → IsOk r → noted_at r b ≡ Err f → ⊥
+only_wants : (r : Result ℕ SessionFault) (b : SessionBookState) (f : SessionFault) → IsOk r → with_thread_at r b ≡ Err f → ⊥
 only_wants (Ok place) b f placed refused = cc
 only_wants (Err fault) b f placed refused = cc
 
--- where there is a place, only want of memory refuses a thread
-pub thread-wants : (b : SessionBookState) (name : List ℕ) (f : SessionFault) → IsOk (thread_place name b) → (f ≢ NoMemory → thread_noted name b ≡ Err f) → f ≡ NoMemory
+-- if there is a place, only a failed allocation refuses a thread
+pub thread-wants : (b : SessionBookState) (name : List ℕ) (f : SessionFault) → IsOk (thread_place name b)
+    → (f ≢ NoMemory → book_add_thread name b ≡ Err f) → f ≡ NoMemory
 thread-wants b name f placed refused =
     ⊎_elim
     (λ is. cc)
-    (λ isnt. absurd (only_wants (thread_place name b) b f placed (refused (λ (e : f ≡ NoMemory). isnt (ap (λ (g : SessionFault). (let r : Result SessionBookState SessionFault = Err g in r)) e)))))
+    (λ isnt. absurd (only_wants (thread_place name b) b f placed
+    (refused (λ (e : f ≡ NoMemory). isnt
+    (ap (λ (g : SessionFault). (let r : Result SessionBookState SessionFault = Err g in r)) e)))))
     (wants-memory (let r : Result SessionBookState SessionFault = Err f in r))
 
 -- ---- cuts that are due
 
 -- a cut that is due is noted
-pub noted-due : (i moment : ℕ) (b : SessionBookState) → cut_moment i b ≡ Ok moment → after_note_cut i b ≡ with_cut b
+pub noted-due : (i moment : ℕ) (b : SessionBookState) → cut_moment i b ≡ Ok moment → book_after_note_cut i b ≡ with_cut b
 noted-due i moment b due = ap (λ (r : Result ℕ SessionFault). unless_refused r (with_cut b) b) due
 
 at-there : (i : ℕ) (ts : List StreamState) → i < length ts → (t : StreamState) × (slice_get ts i ≡ Some t)
@@ -124,11 +151,13 @@ at-there zero (t ∷ ts) within = (t, refl)
 at-there (suc i) (t ∷ ts) within = at-there i ts (omega (arith, within))
 
 -- in a local session a cut that is due can be done
-pub cut-can : (s : SessionOf StreamState) (i moment : ℕ) → HasItsStreams s → s.book.mode ≡ Local → cut_moment i s.book ≡ Ok moment → IsOk (cut_step by_state i s)
+pub cut-can : (s : SessionOf StreamState) (i moment : ℕ) → HasItsStreams s → s.book.mode ≡ Local
+    → cut_moment i s.book ≡ Ok moment → IsOk (session_cut_answer by_state i s)
 cut-can s i moment is local due =
     let within : i < length s.streams = subst (λ (n : ℕ). i < n) (sym (is.as_many)) (due-within i moment s.book due) in
     let there = at-there i s.streams within in
     let t = there.0 in
     let mode : t.config.session ≡ Local = mode-at s i t is there.1 ∙ local in
-    let cuts : cut_result moment t ≡ Ok (cut_done (max moment t.book.last) t) = in-local t.config.session (Ok (cut_done (max moment t.book.last) t)) (Err CutFault.SnapshotMode) mode in
+    let cuts : state_cut_answer moment t ≡ Ok (cut_done (max moment t.counters.last) t) =
+    in-local t.config.session (Ok (cut_done (max moment t.counters.last) t)) (Err CutFault.SnapshotMode) mode in
     rw (due, there.1, cuts) refl

@@ -16,27 +16,34 @@ use Rattle.tr_stream.specs.State.{StreamState}
 sum-more : {X : Type 0} (f : X → ℕ) (n : ℕ) (xs : List X) (x : X) → slice_get xs n ≡ Some x → sum_by f (take (n + 1) xs) ≡ sum_by f (take n xs) + f x
 sum-more f n [] x at = absurd cc
 sum-more f zero (y ∷ ys) x at = let same : y ≡ x = cc in grind (arith, common_steps, same)
-sum-more f (suc n) (y ∷ ys) x at = let rest = sum-more f n ys x at in let one : suc n + 1 ≡ suc (n + 1) = omega arith in grind (arith, common_steps, rest, one)
+sum-more f (suc n) (y ∷ ys) x at = let rest = sum-more f n ys x at in let one : suc n + 1 ≡ suc (n + 1) =
+    omega arith in grind (arith, common_steps, rest, one)
 
--- the sizes of the first streams, each fewer than these
+-- the sizes of the first streams, at most these
 pub record TalliesSo (n id : ℕ) (s : SessionOf StreamState) (size : ArchiveSize) : Type 0 where
-  pub packets : size.packets ≡ sum_by (λ t. part_packets (by_state.parted id t)) (take n s.streams)
-  pub records : size.records ≡ sum_by (λ t. part_records (by_state.parted id t)) (take n s.streams)
-  pub bytes : size.bytes ≡ sum_by (λ t. part_bytes (by_state.parted id t)) (take n s.streams)
+  pub packets : size.packets ≡ sum_by (λ t. part_packets (by_state.part id t)) (take n s.streams)
+  pub records : size.records ≡ sum_by (λ t. part_records (by_state.part id t)) (take n s.streams)
+  pub bytes : size.bytes ≡ sum_by (λ t. part_bytes (by_state.part id t)) (take n s.streams)
   pub few : (size.packets ≤ n * 2 ^ 64) × (size.records ≤ n * 2 ^ 64) × (size.bytes ≤ n * 2 ^ 80)
 
-pub tallies-more : (n id : ℕ) (s : SessionOf StreamState) (size part : ArchiveSize) (t : StreamState) → TalliesSo n id s size → slice_get s.streams n ≡ Some t
-    → part.packets ≡ part_packets (by_state.parted id t) → part.records ≡ part_records (by_state.parted id t) → part.bytes ≡ part_bytes (by_state.parted id t)
+pub tallies-more : (n id : ℕ) (s : SessionOf StreamState) (size part : ArchiveSize) (t : StreamState)
+    → TalliesSo n id s size → slice_get s.streams n ≡ Some t
+    → part.packets ≡ part_packets (by_state.part id t) → part.records ≡ part_records (by_state.part id t)
+    → part.bytes ≡ part_bytes (by_state.part id t)
     → (part.packets < 2 ^ 64) × (part.records < 2 ^ 64) × (part.bytes < 2 ^ 80)
-    → TalliesSo (n + 1) id s (record { packets = size.packets + part.packets; records = size.records + part.records; bytes = size.bytes + part.bytes })
+    → TalliesSo (n + 1) id s (record {
+      packets = size.packets + part.packets;
+      records = size.records + part.records;
+      bytes = size.bytes + part.bytes;
+    })
 tallies-more n id s size part t so at packets records bytes few = record {
-  packets = let more = sum-more (λ u. part_packets (by_state.parted id u)) n s.streams t at in rw (so.packets, packets) (sym more);
-  records = let more = sum-more (λ u. part_records (by_state.parted id u)) n s.streams t at in rw (so.records, records) (sym more);
-  bytes = let more = sum-more (λ u. part_bytes (by_state.parted id u)) n s.streams t at in rw (so.bytes, bytes) (sym more);
+  packets = let more = sum-more (λ u. part_packets (by_state.part id u)) n s.streams t at in rw (so.packets, packets) (sym more);
+  records = let more = sum-more (λ u. part_records (by_state.part id u)) n s.streams t at in rw (so.records, records) (sym more);
+  bytes = let more = sum-more (λ u. part_bytes (by_state.part id u)) n s.streams t at in rw (so.bytes, bytes) (sym more);
   few = (omega (arith, so.few.0, few.0), omega (arith, so.few.1, few.1), omega (arith, so.few.2, few.2));
 }
 
--- so few streams that the sums fit
+-- the sums fit, since there are few streams
 pub fits-count : (i n size part : ℕ) → i < n → n ≤ 256 → size ≤ i * 2 ^ 64 → part < 2 ^ 64 → size + part < 2 ^ 128
 fits-count i n size part within few all one = omega (arith, within, few, all, one)
 
@@ -61,7 +68,8 @@ part-closed ps id within = go (id == length ps.closed)
     go true = refl
     go false = item-within ps.closed id within
 
-pub archived-parts : (b : SessionBookState) (i : ℕ) (o : Option (Bor StreamState)) → IfSome o (λ t. IsStreamOf b i t.now) → IfSome o (λ t. HasArchivedParts b t.now)
+pub archived-parts : (b : SessionBookState) (i : ℕ) (o : Option (Bor StreamState)) → IfSome o (λ t. IsStreamOf b i t.now)
+    → IfSome o (λ t. HasArchivedParts b t.now)
 archived-parts b i None is = tt
 archived-parts b i (Some t) is = λ id below.
     let closed : length t.now.parts.closed ≡ length b.archives + (if is_cut i b.pending then 1 else 0) = is.closed in

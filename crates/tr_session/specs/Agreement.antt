@@ -1,6 +1,7 @@
 -- A session by what its streams hold, and the same by their histories.
 use Rattle.std.specs.Prelude.{◌≡◌, ℕ, ◌≤◌, List, [], ◌∷◌}
 use Rattle.tr_terms.specs.Geometry.{GeometryState}
+use Rattle.tr_terms.specs.declared.limits.TheConstants.{FEWEST_SUB_BUFFERS, SMALLEST_SUB_BUFFER}
 use Rattle.tr_session.specs.Session.{SessionOf}
 use Rattle.tr_session_book.specs.declared.channel.Channel.{Channel}
 use Rattle.tr_stream.specs.Rules.{Traced, Agrees}
@@ -13,9 +14,9 @@ AllAgree [] (t ∷ ts) = ⊥
 AllAgree (s ∷ ss) [] = ⊥
 AllAgree (s ∷ ss) (t ∷ ts) = Agrees s t × AllAgree ss ts
 
--- rings of these sub-buffers can be made
+-- rings of such sub-buffers can be made
 abbrev pub CanBeMade : GeometryState → Type 0
-CanBeMade g = (256 ≤ g.size) × (2 ≤ g.count)
+CanBeMade g = (SMALLEST_SUB_BUFFER ≤ g.size) × (FEWEST_SUB_BUFFERS ≤ g.count)
 
 abbrev pub AllCanBeMade : List (List ℕ × Channel) → Type 0
 AllCanBeMade [] = Unit {0}

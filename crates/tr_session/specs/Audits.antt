@@ -1,4 +1,4 @@
--- What an audit of a stream's files tells of its history.
+-- What an audit of a stream's files says of its history.
 use Rattle.std.specs.Prelude.{◌≡◌, ℕ, Bool, ◌&&◌, nat_eq, nat_lt, List, map, None, unwrap_or}
 use Rattle.std.specs.List.{flat_map, last_or, list_any}
 use Rattle.tr_book.specs.Parts.{PartState}
@@ -23,11 +23,12 @@ packets_in s = all_of (packets_by_part s)
 abbrev pub files_of : StreamState → List (List ℕ)
 files_of s = map packets_text (packets_by_part s)
 
--- what an audit tells of the last packet is what its sub-buffer had
+-- what an audit says of the last packet is what its sub-buffer had
 pub record LastIs {A : Type 0} (a : StreamAudit A) (bs : List ClosedBuffer) : Type 0 where
   pub seq : a.last_seq ≡ last_or None (map (λ (b : ClosedBuffer). b.seq) bs)
-  pub serial : a.last_serial ≡ last_or None (map (λ (e : Entry). e.serial) (flat_map (λ (b : ClosedBuffer). b.records) bs))
-  pub lost : a.last_lost ≡ unwrap_or (last_or None (map (λ (b : ClosedBuffer). b.lost) bs)) 0
+  pub serial : a.last_serial
+      ≡ last_or None (map (λ (e : Entry). e.serial) (flat_map (λ (b : ClosedBuffer). b.records) bs))
+  pub discarded : a.last_discarded ≡ unwrap_or (last_or None (map (λ (b : ClosedBuffer). b.discarded) bs)) 0
 
 -- the block of this number was dropped
 abbrev pub was_dropped : ℕ → List Closed → Bool

@@ -23,7 +23,7 @@ step_fault_name (Offer fault) = offer_fault_name fault
 step_fault_name (Take fault) = take_fault_name fault
 step_fault_name (Cut fault) = cut_fault_name fault
 
--- memory was refused
+-- an allocation failed
 abbrev pub step_wants_memory : StepFault → Bool
 step_wants_memory (Session fault) = session_wants_memory fault
 step_wants_memory (Offer offer.NoMemory) = true

@@ -2,6 +2,7 @@ pub mod Agreement
 pub mod Audits
 pub mod Events
 pub mod Faults
+pub mod Laws
 pub mod Runs
 pub mod Session
 pub mod Sizes

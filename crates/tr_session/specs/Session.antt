@@ -1,4 +1,4 @@
--- A session over whatever stands for its streams.
+-- A session over whatever represents its streams.
 use Rattle.std.specs.Prelude.{◌≡◌, ◌<◌, ℕ, ℤ, List, [], length, Some, IsSome, slice_get}
 use Rattle.tr_book.specs.Parts.{part_at}
 use Rattle.tr_session_book.specs.Book.{SessionBookState, new_book}
@@ -12,6 +12,9 @@ pub record SessionOf (S : Type 0) : Type 0 where
   pub book : SessionBookState
   pub streams : List S
 
+abbrev pub session_of : {S : Type 0} → SessionBookState → List S → SessionOf S
+session_of book streams = record { book = book; streams = streams }
+
 -- the stream of number i
 pub record IsStreamOf (b : SessionBookState) (i : ℕ) (t : StreamState) : Type 0 where
   pub place : ℕ
@@ -19,11 +22,17 @@ pub record IsStreamOf (b : SessionBookState) (i : ℕ) (t : StreamState) : Type 
   pub has_place : slice_get b.threads i ≡ Some place
   pub has_channel : slice_get b.channels place ≡ Some channel
   -- it was made for this channel, in this session
-  pub config : t.config ≡ record { uuid = b.uuid; number = i; geometry = channel.1.geometry; mode = channel.1.mode; session = b.mode }
-  -- it has closed a part for each archive, and one more where the pending rotation has cut it
+  pub config : t.config ≡ record {
+    uuid = b.uuid;
+    number = i;
+    geometry = channel.1.geometry;
+    mode = channel.1.mode;
+    session = b.mode;
+  }
+  -- it has closed a part for each archive, and one more if the pending rotation has cut it
   pub closed : length t.parts.closed ≡ chunks_closed i b
 
--- it has a part of each archived chunk
+-- it has a part for each archived chunk
 abbrev pub HasArchivedParts : SessionBookState → StreamState → Type 0
 HasArchivedParts b t = (id : ℕ) → id < length b.archives → IsSome (part_at id t.parts)
 
@@ -34,4 +43,4 @@ pub record HasItsStreams (s : SessionOf StreamState) : Type 0 where
 
 -- a session without channels and streams
 abbrev pub new_session : {S : Type 0} → List ℕ → ℤ → SessionMode → SessionOf S
-new_session uuid offset mode = record { book = new_book uuid offset mode; streams = [] }
+new_session uuid offset mode = session_of (new_book uuid offset mode) []

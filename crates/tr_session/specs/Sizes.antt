@@ -6,7 +6,7 @@ use Rattle.tr_book.specs.Parts.{PartState, bytes_of, records_of}
 use Rattle.tr_session.specs.Session.{SessionOf}
 use Rattle.tr_stream.specs.Rules.{StreamRules}
 
--- how many packets a part has, how many records and how many bytes; no part has none
+-- how many packets, records and bytes a part has; 0 if there is no part
 abbrev pub part_packets : Option PartState → ℕ
 part_packets part = option_map_or (λ (p : PartState). length p.packets) part 0
 
@@ -16,12 +16,12 @@ part_records part = option_map_or (λ (p : PartState). records_of p.packets) par
 abbrev pub part_bytes : Option PartState → ℕ
 part_bytes part = option_map_or (λ (p : PartState). bytes_of p.packets) part 0
 
--- how many packets the parts of a chunk have over all streams, how many records and how many bytes
+-- how many packets, records and bytes the parts of a chunk have over all streams
 abbrev pub archive_packets : {S : Type 0} → StreamRules S → ℕ → SessionOf S → ℕ
-archive_packets rules id s = sum_by (λ t. part_packets (rules.parted id t)) s.streams
+archive_packets rules id s = sum_by (λ t. part_packets (rules.part id t)) s.streams
 
 abbrev pub archive_records : {S : Type 0} → StreamRules S → ℕ → SessionOf S → ℕ
-archive_records rules id s = sum_by (λ t. part_records (rules.parted id t)) s.streams
+archive_records rules id s = sum_by (λ t. part_records (rules.part id t)) s.streams
 
 abbrev pub archive_bytes : {S : Type 0} → StreamRules S → ℕ → SessionOf S → ℕ
-archive_bytes rules id s = sum_by (λ t. part_bytes (rules.parted id t)) s.streams
+archive_bytes rules id s = sum_by (λ t. part_bytes (rules.part id t)) s.streams

@@ -11,7 +11,7 @@ use tr_stream::Stream;
 /// How many packets an archive holds over all streams, how many records these have, and how many bytes.
 #[derive(Clone, Copy, Debug, PartialEq, Eq)]
 pub struct ArchiveSize {
-    /// How many packets.
+    /// How many packets the archive has.
     pub packets: u128,
     /// How many records the packets have.
     pub records: u128,
@@ -21,9 +21,9 @@ pub struct ArchiveSize {
 
 /// How much a stream's part of a chunk holds.
 fn part_size<A: Allocator>(stream: &Stream<A>, id: u64) -> ArchiveSize
-    ensures packets { result.packets ≡ part_packets (by_state.parted id stream.now) }
-    ensures records { result.records ≡ part_records (by_state.parted id stream.now) }
-    ensures bytes { result.bytes ≡ part_bytes (by_state.parted id stream.now) }
+    ensures packets { result.packets ≡ part_packets (by_state.part id stream.now) }
+    ensures records { result.records ≡ part_records (by_state.part id stream.now) }
+    ensures bytes { result.bytes ≡ part_bytes (by_state.part id stream.now) }
     ensures few { (result.packets < 2 ^ 64) × (result.records < 2 ^ 64) × (result.bytes < 2 ^ 80) }
 {
     match stream.part(id) {

@@ -13,13 +13,13 @@ use tr_stream::{CutDone, Offered, Payload, Taken};
 /// What is done to one stream of a session, by its number, or to the session itself.
 #[derive(Drop)]
 pub enum Event<A: Allocator = Global> {
-    /// An offer to a stream at a moment, of an id and a payload.
+    /// An offer to a stream at a moment, with an id and a payload.
     Offer(u64, Moment, u32, Payload<A>),
     /// A take from a stream.
     Take(u64),
     /// The pending rotation cuts a stream.
     Cut(u64),
-    /// A stream of a snapshot session is seen at a moment.
+    /// A stream of a snapshot session is shown at a moment.
     Snap(u64, Moment),
     /// A stream of an active session takes offers from now on.
     Start(u64),
@@ -38,30 +38,30 @@ pub enum Event<A: Allocator = Global> {
 /// What an event answered.
 #[derive(Drop)]
 pub enum Answer<A: Allocator = Global> {
-    /// To an offer.
+    /// The answer to an offer.
     Offer(Result<Offered, StepFault>),
-    /// To a take.
+    /// The answer to a take.
     Take(Result<Taken, StepFault>),
-    /// To a cut.
+    /// The answer to a cut.
     Cut(Result<CutDone, StepFault>),
-    /// To a look at a stream.
+    /// The answer to a snap of a stream.
     Snap(Result<StreamSnap<A>, SessionFault>),
-    /// To the start of a stream.
+    /// The answer to the start of a stream.
     Start(Result<(), SessionFault>),
-    /// To the stop of a stream.
+    /// The answer to the stop of a stream.
     Stop(Result<(), SessionFault>),
-    /// To the start of the session.
+    /// The answer to the start of the session.
     SessionStart(Result<(), SessionFault>),
-    /// To the stop of the session.
+    /// The answer to the stop of the session.
     SessionStop(Result<(), SessionFault>),
-    /// To the begin of a rotation: the number of the chunk that it archives.
+    /// The answer to the begin of a rotation: the number of the chunk that it archives.
     RotateBegin(Result<u64, SessionFault>),
-    /// To the end of a rotation.
+    /// The answer to the end of a rotation.
     RotateFinish(Result<Archive, SessionFault>),
 }
 
 impl<A: Allocator> Answer<A> {
-    /// Whether memory was refused.
+    /// Whether an allocation failed.
     pub fn wants_memory(&self) -> bool
         ensures { result ≡ answer_wants_memory self.now }
     {

@@ -10,22 +10,22 @@ use tr_stream::{CutFault, OfferFault, TakeFault};
 /// Why a step of a stream was refused: by the session, or by the stream. Nothing changed.
 #[derive(Clone, Copy, Debug, PartialEq, Eq, Error)]
 pub enum StepFault {
-    /// By the session.
+    /// The session refused the step.
     #[error("{0}")]
     Session(SessionFault),
-    /// An offer, by the stream.
+    /// The stream refused an offer.
     #[error("{0}")]
     Offer(OfferFault),
-    /// A take, by the stream.
+    /// The stream refused a take.
     #[error("{0}")]
     Take(TakeFault),
-    /// A cut, by the stream.
+    /// The stream refused a cut.
     #[error("{0}")]
     Cut(CutFault),
 }
 
 impl StepFault {
-    /// Whether memory was refused.
+    /// Whether an allocation failed.
     pub fn wants_memory(&self) -> bool
         ensures { result ≡ step_wants_memory self.now }
     {

@@ -1,40 +1,33 @@
-//! What an audit of a stream's files tells of its history.
+//! What an audit of a stream's files says of its history.
 
 ghost use Rattle.std.specs.Prelude.{◌≡◌, ◌≤◌, ◌+◌, ◌&&◌, ℕ, List, map, take};
-ghost use Rattle.tr_chunk.specs.Audit.{AreAudited, all_of, audit_of, is_in_runs};
-ghost use Rattle.tr_ring.specs.ClosedBuffer.{ClosedBuffer};
-ghost use Rattle.tr_session.specs.Audits.{LastIs, files_of, is_below_one, kept_above, packets_by_part, packets_in, was_dropped};
-ghost use Rattle.tr_stream.specs.Chunks.{consumed_of, packet_of};
-ghost use Rattle.tr_stream.specs.History.{History};
-ghost use Rattle.tr_stream.specs.Runs.{after_events};
-ghost use Rattle.tr_stream.specs.Sound.{IsSound, IsUsable};
-ghost use Rattle.tr_stream.specs.StandsFor.{StandsFor};
-ghost use Rattle.tr_stream.specs.State.{StreamState};
-ghost use Rattle.tr_stream.specs.Steps.{start};
-ghost use Rattle.tr_stream.specs.WellFormed.{IsWellFormed, chunks_below};
-ghost use Rattle.tr_stream.specs.declared.config.StreamConfig.{StreamConfig};
-ghost use Rattle.tr_stream.specs.declared.events.StreamEvent.{StreamEvent};
+ghost use Rattle.tr_session.specs.Laws.{AreAudited, all_of, audit_of, is_in_runs, ClosedBuffer, LastIs, files_of, is_below_one, kept_above, packets_by_part, packets_in, was_dropped, consumed_of, packet_of, History, history_after_events, IsSound, IsUsable, StandsFor, StreamState, new_history, IsWellFormed, chunks_below, StreamConfig, StreamEvent};
 
 use std::alloc::Allocator;
 
 /// The files of every stream pass their audit; they hold the packets of the blocks that were kept, in order; and in every
 /// well-formed history, and so in every run, the gaps that the audit finds are exactly the blocks that were dropped below
-/// the last kept one. The same of the files of its first chunks alone, as a session's archives are: their gaps are the
-/// blocks that were dropped below one that is kept in these chunks. Does nothing.
+/// the last kept one. The same holds for the files of its first chunks alone, as a session's archives are: their gaps are
+/// the blocks that were dropped below one that is kept in these chunks. Does nothing.
 pub fn every_audit<A: Allocator>()
     ensures passes { (s : StreamState) (h : History) → IsSound s → StandsFor s h
         → AreAudited s.config.uuid s.config.number (files_of s) (packets_by_part s) }
-    ensures packets { (s : StreamState) (h : History) → StandsFor s h → packets_in s ≡ map (packet_of s.config) (consumed_of h) }
-    ensures last { (c : StreamConfig) (bs : List ClosedBuffer) → LastIs (audit_of {A = A} (map (packet_of c) bs)) bs }
+    ensures packets { (s : StreamState) (h : History) → StandsFor s h
+        → packets_in s ≡ map (packet_of s.config) (consumed_of h) }
+    ensures last { (c : StreamConfig) (bs : List ClosedBuffer)
+        → LastIs (audit_of {A = A} (map (packet_of c) bs)) bs }
     ensures gaps_of_histories { (c : StreamConfig) (h : History) (n : ℕ) → IsWellFormed h
-        → is_in_runs n (audit_of {A = A} (map (packet_of c) (consumed_of h))).gaps ≡ (was_dropped n h.closed && kept_above n h.closed) }
+        → is_in_runs n (audit_of {A = A} (map (packet_of c) (consumed_of h))).gaps
+        ≡ (was_dropped n h.closed && kept_above n h.closed) }
     ensures gaps { (c : StreamConfig) (events : List (StreamEvent A)) (n : ℕ) → IsUsable c
-        → (let h = after_events c events start in
-        is_in_runs n (audit_of {A = A} (map (packet_of c) (consumed_of h))).gaps ≡ (was_dropped n h.closed && kept_above n h.closed)) }
+        → (let h = history_after_events c events new_history in
+        is_in_runs n (audit_of {A = A} (map (packet_of c) (consumed_of h))).gaps
+        ≡ (was_dropped n h.closed && kept_above n h.closed)) }
     ensures first_pass { (s : StreamState) (h : History) (k : ℕ) → IsSound s → StandsFor s h
         → AreAudited s.config.uuid s.config.number (take k (files_of s)) (take k (packets_by_part s)) }
     ensures first_packets { (s : StreamState) (h : History) (k : ℕ) → StandsFor s h → k ≤ h.cuts + 1
         → all_of (take k (packets_by_part s)) ≡ map (packet_of s.config) (chunks_below k h) }
     ensures first_gaps { (c : StreamConfig) (h : History) (k n : ℕ) → IsWellFormed h → k ≤ h.cuts + 1
-        → is_in_runs n (audit_of {A = A} (map (packet_of c) (chunks_below k h))).gaps ≡ (was_dropped n h.closed && is_below_one n (chunks_below k h)) }
+        → is_in_runs n (audit_of {A = A} (map (packet_of c) (chunks_below k h))).gaps
+        ≡ (was_dropped n h.closed && is_below_one n (chunks_below k h)) }
 {}

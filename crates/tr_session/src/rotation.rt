@@ -1,8 +1,8 @@
 //! A whole rotation of a session, and each of its cuts.
 
 ghost use Rattle.std.specs.Prelude.{◌≡◌, ◌≢◌, Err, IsOk, IfOk, IfErr, OnOk, OnErr, length};
-ghost use Rattle.tr_session_book.specs.BookSteps.{archive_at, rotate_begin_answer};
-ghost use Rattle.tr_session.specs.Steps.{NextTakesMemory, next_answer, after_next, rotate_answer, after_rotate, rotated, cut_first, IsCutSome, IsHeldUp};
+ghost use Rattle.tr_session_book.specs.BookSteps.{archive_ended, book_rotate_begin_answer};
+ghost use Rattle.tr_session.specs.Steps.{NextTakesMemory, session_next_answer, session_after_next, session_rotate_answer, session_after_rotate, with_rotation, cut_first, IsCutSome, IsHeldUp};
 ghost use Rattle.tr_stream.specs.Rules.{by_state};
 
 use crate::faults::StepFault;
@@ -34,9 +34,10 @@ impl<A: Allocator + Copy> Session<A> {
     /// `Session(NotPending)`, `Cut(NoMemory)`: the stream is uncut, the rotation pending.
     pub fn rotate_next(&mut self) -> Result<Next, StepFault>
         ensures value { result ≢ Err (StepFault.Cut CutFault.NoMemory) →
-            (result ≡ next_answer by_state self.old) × (self.new ≡ after_next by_state self.old) }
+            (result ≡ session_next_answer by_state self.old) × (self.new ≡ session_after_next by_state self.old) }
         ensures no_memory { result ≡ Err (StepFault.Cut CutFault.NoMemory) → self.new ≡ self.old }
-        ensures memory { result ≡ Err (StepFault.Cut CutFault.NoMemory) → NextTakesMemory (next_answer by_state self.old) }
+        ensures memory { result ≡ Err (StepFault.Cut CutFault.NoMemory)
+            → NextTakesMemory (session_next_answer by_state self.old) }
     {
         let Some(pending) = self.book().pending() else {
             return Err(StepFault::Session(SessionFault::NotPending));
@@ -61,11 +62,15 @@ impl<A: Allocator + Copy> Session<A> {
     /// the rotation is pending with the cuts that were made, and `rotate_next` goes on.
     pub fn rotate(&mut self, moment: Moment) -> Result<Archive, SessionFault>
         ensures value { result ≢ Err SessionFault.NoMemory →
-            (result ≡ rotate_answer by_state moment self.old) × (self.new ≡ after_rotate by_state moment self.old) }
+            (result ≡ session_rotate_answer by_state moment self.old)
+            × (self.new ≡ session_after_rotate by_state moment self.old) }
         ensures no_memory { result ≡ Err SessionFault.NoMemory → IsHeldUp by_state moment self.old self.new }
-        ensures memory { result ≡ Err SessionFault.NoMemory → IsOk (rotate_begin_answer self.old.book) }
-        ensures refused { IfErr result (λ fault. fault ≢ SessionFault.NoMemory → rotate_begin_answer self.old.book ≡ Err fault) }
-        ensures whole { IfOk result (λ archive. (archive ≡ archive_at moment self.old.book) × (self.new ≡ rotated by_state moment self.old)) }
+        ensures memory { result ≡ Err SessionFault.NoMemory → IsOk (book_rotate_begin_answer self.old.book) }
+        ensures refused { IfErr result
+            (λ fault. fault ≢ SessionFault.NoMemory → book_rotate_begin_answer self.old.book ≡ Err fault) }
+        ensures whole { IfOk result
+            (λ archive. (archive ≡ archive_ended moment self.old.book)
+            × (self.new ≡ with_rotation by_state moment self.old)) }
     {
         if let Err(fault) = self.rotate_begin(moment) {
             return Err(fault);

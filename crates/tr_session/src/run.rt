@@ -1,9 +1,9 @@
 //! A session over a configuration and a list of events.
 
 ghost use Rattle.std.specs.Prelude.{◌≡◌, ◌≢◌, true, false, Ok, Err, IfOk, OnOk, IfErr};
-ghost use Rattle.tr_session.specs.Events.{MayWantMemory, answer_to, after_event};
+ghost use Rattle.tr_session.specs.Events.{MayWantMemory, session_answer, session_after_event};
 ghost use Rattle.tr_session.specs.Faults.{answer_wants_memory};
-ghost use Rattle.tr_session.specs.Runs.{threads_added, channel_configured, configured, HasRun};
+ghost use Rattle.tr_session.specs.Runs.{add_threads, configure_channel, session_of_config, HasRun};
 ghost use Rattle.tr_stream.specs.Rules.{by_state, by_history};
 
 use crate::config::{ChannelConfig, Config};
@@ -13,12 +13,14 @@ use std::alloc::Allocator;
 use tr_session_book::SessionFault;
 
 impl<A: Allocator + Copy> Session<A> {
-    /// One event, answered as its call answers. A refusal, also for want of memory, changes nothing.
+    /// One event, answered as its call answers. A refusal, also one for a failed allocation, changes nothing.
     pub fn step(&mut self, event: &Event<A>) -> Answer<A>
         ensures value { answer_wants_memory result ≡ false →
-            (result ≡ answer_to by_state event.now self.old) × (self.new ≡ after_event by_state event.now self.old) }
+            (result ≡ session_answer by_state event.now self.old)
+            × (self.new ≡ session_after_event by_state event.now self.old) }
         ensures no_memory { answer_wants_memory result ≡ true → self.new ≡ self.old }
-        ensures memory { answer_wants_memory result ≡ true → MayWantMemory result (answer_to by_state event.now self.old) }
+        ensures memory { answer_wants_memory result ≡ true
+            → MayWantMemory result (session_answer by_state event.now self.old) }
     {
         match event {
             Event::Offer(i, moment, id, payload) => {
@@ -37,14 +39,15 @@ impl<A: Allocator + Copy> Session<A> {
     }
 }
 
-/// Adds so many threads to a channel.
+/// Adds `threads` threads to a channel.
 fn add_threads<A: Allocator + Copy>(
     session: &mut Session<A>,
     channel: &str,
     threads: u64,
 ) -> Result<(), SessionFault>
-    ensures ok { OnOk result (threads_added by_state channel.now threads session.old ≡ Ok session.new) }
-    ensures refused { IfErr result (λ fault. fault ≢ SessionFault.NoMemory → threads_added by_state channel.now threads session.old ≡ Err fault) }
+    ensures ok { OnOk result (add_threads by_state channel.now threads session.old ≡ Ok session.new) }
+    ensures refused { IfErr result
+        (λ fault. fault ≢ SessionFault.NoMemory → add_threads by_state channel.now threads session.old ≡ Err fault) }
 {
     'threads: for added in 0..threads {
         let _ = added;
@@ -60,8 +63,9 @@ fn add_configured<A: Allocator + Copy>(
     session: &mut Session<A>,
     channel: &ChannelConfig<'_>,
 ) -> Result<(), SessionFault>
-    ensures ok { OnOk result (channel_configured by_state channel.now session.old ≡ Ok session.new) }
-    ensures refused { IfErr result (λ fault. fault ≢ SessionFault.NoMemory → channel_configured by_state channel.now session.old ≡ Err fault) }
+    ensures ok { OnOk result (configure_channel by_state channel.now session.old ≡ Ok session.new) }
+    ensures refused { IfErr result
+        (λ fault. fault ≢ SessionFault.NoMemory → configure_channel by_state channel.now session.old ≡ Err fault) }
 {
     let added = session.add_channel(&channel.name, channel.size, channel.count, channel.mode);
     if let Err(fault) = added {
@@ -75,8 +79,9 @@ fn configure<A: Allocator + Copy>(
     alloc: A,
     config: &Config<'_, A>,
 ) -> Result<Session<A>, SessionFault>
-    ensures ok { IfOk result (λ s. configured by_state config.now ≡ Ok s) }
-    ensures refused { IfErr result (λ fault. fault ≢ SessionFault.NoMemory → configured by_history config.now ≡ Err fault) }
+    ensures ok { IfOk result (λ s. session_of_config by_state config.now ≡ Ok s) }
+    ensures refused { IfErr result
+        (λ fault. fault ≢ SessionFault.NoMemory → session_of_config by_history config.now ≡ Err fault) }
 {
     let mut session = Session::new(alloc, config.uuid, config.offset, config.mode);
     'channels: for channel in config.channels.iter() {
@@ -87,19 +92,20 @@ fn configure<A: Allocator + Copy>(
     Ok(session)
 }
 
-/// A new session over a list of events, and what each answered.
+/// Runs a new session over a list of events: the session, and what each event answered.
 ///
 /// # Errors
 ///
 /// Those of `add_channel` and `add_thread` for the first channel or thread of the configuration that is refused;
-/// `NoMemory` also where an event wants memory, which ends the run.
+/// `NoMemory` also if an event's allocation fails, which ends the run.
 pub fn run_session<A: Allocator + Copy>(
     alloc: A,
     config: &Config<'_, A>,
     events: &[Event<A>],
 ) -> Result<(Session<A>, Vec<Answer<A>, A>), SessionFault>
     ensures ran { IfOk result (λ r. HasRun config.now events.now r.0 r.1.items) }
-    ensures refused { IfErr result (λ fault. fault ≢ SessionFault.NoMemory → configured by_history config.now ≡ Err fault) }
+    ensures refused { IfErr result
+        (λ fault. fault ≢ SessionFault.NoMemory → session_of_config by_history config.now ≡ Err fault) }
 {
     let mut session = configure(alloc, config)?;
     let mut answers = Vec::new(alloc);

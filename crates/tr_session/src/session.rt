@@ -1,9 +1,9 @@
 //! A session, and its rules.
 
 ghost use Rattle.std.specs.Prelude.{◌≡◌, ◌≢◌, ◌≤◌, ◌<◌, [], true, false, None, Some, Ok, Err, IsOk, IfSome, IfOk, OnOk, IfErr, OnErr, length, map, option_copied, slice_get};
-ghost use Rattle.tr_session_book.specs.BookSteps.{channel_named, thread_place, start_answer, after_start, stop_answer, after_stop, switch_answer, rotate_begin_answer, cut_moment, rotate_finish_answer, snapshot_begin_answer, after_snapshot_begin, schedule_answer, after_schedule};
+ghost use Rattle.tr_session_book.specs.BookSteps.{channel_named, thread_place, book_start_answer, book_after_start, book_stop_answer, book_after_stop, book_switch_answer, book_rotate_begin_answer, cut_moment, book_rotate_finish_answer, book_snapshot_begin_answer, book_after_snapshot_begin, book_schedule_answer, book_after_schedule};
 ghost use Rattle.tr_session.specs.Session.{HasArchivedParts, IsStreamOf, new_session};
-ghost use Rattle.tr_session.specs.Steps.{session_channel_added, thread_added, StepTakesMemory, offer_step, after_offer_step, take_step, after_take_step, cut_step, after_cut_step, snap_step, ShowsPackets, after_switch_step, all_started, all_stopped, begun, finished, current_sizes, fate_asked};
+ghost use Rattle.tr_session.specs.Steps.{session_add_channel, session_add_thread, StepTakesMemory, session_offer_answer, session_after_offer, session_take_answer, session_after_take, session_cut_answer, session_after_cut, session_snap_answer, ShowsPackets, session_after_switch, session_after_start, session_after_stop, session_after_rotate_begin, session_after_rotate_finish, current_sizes, session_fate_answer};
 ghost use Rattle.tr_stream.specs.Rules.{by_state};
 ghost use Rattle.tr_stream.specs.StateSteps.{state_snap};
 ghost use Rattle.tr_terms.specs.declared.limits.TheConstants.{MOST_STREAMS};
@@ -28,17 +28,17 @@ pub struct Session<A: Allocator = Global> {
 }
 
 impl<A: Allocator> Model for Session<A> {
-    ghost use Rattle.tr_session.specs.Session.{SessionOf};
+    ghost use Rattle.tr_session.specs.Session.{SessionOf, session_of};
     ghost use Rattle.tr_stream.specs.State.{StreamState};
 
     ghost Value = { SessionOf StreamState };
 
-    ghost view = { λ s. record { book = s.book; streams = s.streams.items } };
+    ghost view = { λ s. session_of s.book s.streams.items };
 
     ghost use Rattle.tr_session.specs.Session.{HasItsStreams};
 
     // each thread of the book has its stream
-    ghost invariant = { λ s. HasItsStreams (record { book = s.book; streams = s.streams.items }) };
+    ghost invariant = { λ s. HasItsStreams (session_of s.book s.streams.items) };
 }
 
 impl<A: Allocator + Copy> Session<A> {
@@ -65,9 +65,12 @@ impl<A: Allocator + Copy> Session<A> {
         count: u64,
         mode: Mode,
     ) -> Result<(), SessionFault>
-        ensures ok { OnOk result (session_channel_added name.now size count mode self.old ≡ Ok self.new) }
-        ensures refused { IfErr result (λ fault. fault ≢ SessionFault.NoMemory → session_channel_added name.now size count mode self.old ≡ Err fault) }
-        ensures memory { result ≡ Err SessionFault.NoMemory → IsOk (session_channel_added name.now size count mode self.old) }
+        ensures ok { OnOk result (session_add_channel name.now size count mode self.old ≡ Ok self.new) }
+        ensures refused { IfErr result
+            (λ fault. fault ≢ SessionFault.NoMemory
+            → session_add_channel name.now size count mode self.old ≡ Err fault) }
+        ensures memory { result ≡ Err SessionFault.NoMemory
+            → IsOk (session_add_channel name.now size count mode self.old) }
         ensures unchanged { OnErr result (self.new ≡ self.old) }
     {
         self.book.add_channel(name, size, count, mode)
@@ -80,24 +83,26 @@ impl<A: Allocator + Copy> Session<A> {
     /// `AlreadyStarted`, `NoChannel`, `TooMany`, `NoMemory`: nothing changed.
     pub fn add_thread(&mut self, channel: &str) -> Result<u64, SessionFault>
         ensures number { IfOk result (λ number. number ≡ length self.old.streams) }
-        ensures ok { OnOk result (thread_added by_state channel.now self.old ≡ Ok self.new) }
-        ensures refused { IfErr result (λ fault. fault ≢ SessionFault.NoMemory → thread_added by_state channel.now self.old ≡ Err fault) }
-        ensures memory { result ≡ Err SessionFault.NoMemory → IsOk (thread_added by_state channel.now self.old) }
+        ensures ok { OnOk result (session_add_thread by_state channel.now self.old ≡ Ok self.new) }
+        ensures refused { IfErr result
+            (λ fault. fault ≢ SessionFault.NoMemory → session_add_thread by_state channel.now self.old ≡ Err fault) }
+        ensures memory { result ≡ Err SessionFault.NoMemory
+            → IsOk (session_add_thread by_state channel.now self.old) }
         ensures unchanged { OnErr result (self.new ≡ self.old) }
     {
         let made = self.book.thread_channel(channel)?;
         self.keep_stream(channel, made)
     }
 
-    /// Adds a thread to a channel of this name, which is there. All memory is taken before anything changes.
+    /// Adds a thread to the channel of this name, which exists. All memory is taken before anything changes.
     fn keep_stream(&mut self, name: &str, channel: Channel) -> Result<u64, SessionFault>
         requires named { channel_named name.now self.old.book ≡ Some channel }
         requires placed { IsOk (thread_place name.now self.old.book) }
         requires bare { (self.old.book.pending ≡ None) × (self.old.book.archives ≡ []) }
         ensures number { IfOk result (λ number. number ≡ length self.old.streams) }
-        ensures ok { OnOk result (thread_added by_state name.now self.old ≡ Ok self.new) }
+        ensures ok { OnOk result (session_add_thread by_state name.now self.old ≡ Ok self.new) }
         ensures reason { IfErr result (λ fault. fault ≡ SessionFault.NoMemory) }
-        ensures able { IsOk (thread_added by_state name.now self.old) }
+        ensures able { IsOk (session_add_thread by_state name.now self.old) }
         ensures unchanged { OnErr result (self.new ≡ self.old) }
     {
         let stream = Stream::new(
@@ -131,10 +136,11 @@ impl<A: Allocator + Copy> Session<A> {
         payload: &[u8],
     ) -> Result<Offered, StepFault>
         ensures value { result ≢ Err (StepFault.Offer OfferFault.NoMemory) →
-            (result ≡ offer_step by_state i moment id payload.now self.old)
-            × (self.new ≡ after_offer_step by_state i moment id payload.now self.old) }
+            (result ≡ session_offer_answer by_state i moment id payload.now self.old)
+            × (self.new ≡ session_after_offer by_state i moment id payload.now self.old) }
         ensures no_memory { result ≡ Err (StepFault.Offer OfferFault.NoMemory) → self.new ≡ self.old }
-        ensures memory { result ≡ Err (StepFault.Offer OfferFault.NoMemory) → StepTakesMemory (offer_step by_state i moment id payload.now self.old) }
+        ensures memory { result ≡ Err (StepFault.Offer OfferFault.NoMemory)
+            → StepTakesMemory (session_offer_answer by_state i moment id payload.now self.old) }
     {
         offer_at(&mut self.streams, i, moment, id, payload)
     }
@@ -146,9 +152,11 @@ impl<A: Allocator + Copy> Session<A> {
     /// `Session(NoStream)`, and those of the stream: nothing changed.
     pub fn take(&mut self, i: u64) -> Result<Taken, StepFault>
         ensures value { result ≢ Err (StepFault.Take TakeFault.NoMemory) →
-            (result ≡ take_step by_state i self.old) × (self.new ≡ after_take_step by_state i self.old) }
+            (result ≡ session_take_answer by_state i self.old)
+            × (self.new ≡ session_after_take by_state i self.old) }
         ensures no_memory { result ≡ Err (StepFault.Take TakeFault.NoMemory) → self.new ≡ self.old }
-        ensures memory { result ≡ Err (StepFault.Take TakeFault.NoMemory) → IsOk (take_step by_state i self.old) }
+        ensures memory { result ≡ Err (StepFault.Take TakeFault.NoMemory)
+            → IsOk (session_take_answer by_state i self.old) }
     {
         take_at(&mut self.streams, i)
     }
@@ -157,13 +165,15 @@ impl<A: Allocator + Copy> Session<A> {
     ///
     /// # Errors
     ///
-    /// `Session(NoStream)`, `Session(NotPending)` where none is pending or it has cut the stream, `Session(CutMissing)` where
-    /// one of a smaller number isn't cut, `Cut(NoMemory)`: the stream is uncut, the rotation pending.
+    /// `Session(NoStream)`, `Session(NotPending)` if no rotation is pending or it has already cut the stream,
+    /// `Session(CutMissing)` if a stream with a smaller number isn't cut, `Cut(NoMemory)`: the stream is uncut, the rotation
+    /// pending.
     pub fn cut(&mut self, i: u64) -> Result<CutDone, StepFault>
         ensures value { result ≢ Err (StepFault.Cut CutFault.NoMemory) →
-            (result ≡ cut_step by_state i self.old) × (self.new ≡ after_cut_step by_state i self.old) }
+            (result ≡ session_cut_answer by_state i self.old) × (self.new ≡ session_after_cut by_state i self.old) }
         ensures no_memory { result ≡ Err (StepFault.Cut CutFault.NoMemory) → self.new ≡ self.old }
-        ensures memory { result ≡ Err (StepFault.Cut CutFault.NoMemory) → IsOk (cut_step by_state i self.old) }
+        ensures memory { result ≡ Err (StepFault.Cut CutFault.NoMemory)
+            → IsOk (session_cut_answer by_state i self.old) }
     {
         match self.book.cut_moment(i) {
             Ok(moment) => self.cut_now(i, moment),
@@ -176,13 +186,13 @@ impl<A: Allocator + Copy> Session<A> {
         requires due { cut_moment i self.old.book ≡ Ok moment }
         requires local { self.old.book.mode ≡ SessionMode.Local }
         ensures value { result ≢ Err (StepFault.Cut CutFault.NoMemory) →
-            (result ≡ cut_step by_state i self.old) × (self.new ≡ after_cut_step by_state i self.old) }
+            (result ≡ session_cut_answer by_state i self.old) × (self.new ≡ session_after_cut by_state i self.old) }
         ensures no_memory { result ≡ Err (StepFault.Cut CutFault.NoMemory) → self.new ≡ self.old }
-        ensures can { IsOk (cut_step by_state i self.old) }
+        ensures can { IsOk (session_cut_answer by_state i self.old) }
     {
         match cut_at(&mut self.streams, i, moment) {
             Ok(done) => {
-                // It was due, so this isn't refused.
+                // The cut was due, so this isn't refused.
                 let _ = self.book.note_cut(i);
                 Ok(done)
             }
@@ -194,10 +204,12 @@ impl<A: Allocator + Copy> Session<A> {
     ///
     /// # Errors
     ///
-    /// `NoStream`, `NotSnapshotMode`, `NeverStarted`, `NoMemory`, which a look without packets never is.
+    /// `NoStream`, `NotSnapshotMode`, `NeverStarted`; `NoMemory` only if there are packets to show.
     pub fn snap(&self, i: u64, moment: Moment) -> Result<StreamSnap<A>, SessionFault>
-        ensures value { result ≢ Err SessionFault.NoMemory → result ≡ snap_step by_state i moment self.now }
-        ensures memory { result ≡ Err SessionFault.NoMemory → ShowsPackets (snap_step by_state i moment self.now) }
+        ensures value { result ≢ Err SessionFault.NoMemory
+            → result ≡ session_snap_answer by_state i moment self.now }
+        ensures memory { result ≡ Err SessionFault.NoMemory
+            → ShowsPackets (session_snap_answer by_state i moment self.now) }
     {
         if let Err(fault) = self.book.can_snap(i) {
             return Err(fault);
@@ -215,7 +227,7 @@ impl<A: Allocator + Copy> Session<A> {
         snap_all(self.alloc, &self.streams, moment)
     }
 
-    /// The bytes of each stream's current part, or the greatest u64 where they are more.
+    /// The bytes of each stream's current part, or the greatest u64 if they are more.
     pub(crate) fn current_sizes(&self) -> Result<Vec<u64, A>, AllocError>
         ensures { IfOk result (λ sizes. sizes.items ≡ current_sizes by_state self.now) }
     {
@@ -229,23 +241,24 @@ impl<A: Allocator + Copy> Session<A> {
     /// `SnapshotMode`, `NeverStarted`, `RotationPending`, `AlreadyRotated`, `NoMemory`: nothing changed.
     pub fn rotate_begin(&mut self, moment: Moment) -> Result<u64, SessionFault>
         ensures value { result ≢ Err SessionFault.NoMemory →
-            (result ≡ rotate_begin_answer self.old.book) × (self.new ≡ begun moment self.old) }
+            (result ≡ book_rotate_begin_answer self.old.book)
+            × (self.new ≡ session_after_rotate_begin moment self.old) }
         ensures no_memory { result ≡ Err SessionFault.NoMemory → self.new ≡ self.old }
-        ensures memory { result ≡ Err SessionFault.NoMemory → IsOk (rotate_begin_answer self.old.book) }
+        ensures memory { result ≡ Err SessionFault.NoMemory → IsOk (book_rotate_begin_answer self.old.book) }
     {
         self.book.rotate_begin(moment)
     }
 }
 
 impl<A: Allocator> Session<A> {
-    /// Lets a stream of an active session take offers, or lets one of a stopped session refuse them. It takes no memory.
+    /// Lets a stream of an active session take offers, or makes one of a stopped session refuse them. It takes no memory.
     ///
     /// # Errors
     ///
     /// `NoStream`; `NotActive` to switch it on, `AlreadyActive` to switch it off: nothing changed.
     pub fn switch_stream(&mut self, active: bool, i: u64) -> Result<(), SessionFault>
-        ensures answer { result ≡ switch_answer active i self.old.book }
-        ensures after { self.new ≡ after_switch_step by_state active i self.old }
+        ensures answer { result ≡ book_switch_answer active i self.old.book }
+        ensures after { self.new ≡ session_after_switch by_state active i self.old }
     {
         match self.book.can_switch(active, i) {
             Ok(()) => {
@@ -256,18 +269,18 @@ impl<A: Allocator> Session<A> {
         }
     }
 
-    /// Starts the session, and none of its streams yet.
+    /// Starts the session, but none of its streams yet.
     pub(crate) fn start_alone(&mut self, moment: Moment) -> Result<(), SessionFault>
-        ensures answer { result ≡ start_answer self.old.book }
-        ensures after { self.new ≡ record self.old { book = after_start moment self.old.book } }
+        ensures answer { result ≡ book_start_answer self.old.book }
+        ensures after { self.new ≡ record self.old { book = book_after_start moment self.old.book } }
     {
         self.book.start(moment)
     }
 
-    /// Stops the session, and none of its streams yet.
+    /// Stops the session, but none of its streams yet.
     pub(crate) fn stop_alone(&mut self) -> Result<(), SessionFault>
-        ensures answer { result ≡ stop_answer self.old.book }
-        ensures after { self.new ≡ record self.old { book = after_stop self.old.book } }
+        ensures answer { result ≡ book_stop_answer self.old.book }
+        ensures after { self.new ≡ record self.old { book = book_after_stop self.old.book } }
     {
         self.book.stop()
     }
@@ -278,8 +291,8 @@ impl<A: Allocator> Session<A> {
     ///
     /// `RotationPending`, `AlreadyActive`: nothing changed.
     pub fn start(&mut self, moment: Moment) -> Result<(), SessionFault>
-        ensures answer { result ≡ start_answer self.old.book }
-        ensures after { self.new ≡ all_started by_state moment self.old }
+        ensures answer { result ≡ book_start_answer self.old.book }
+        ensures after { self.new ≡ session_after_start by_state moment self.old }
     {
         match self.book.start(moment) {
             Ok(()) => {
@@ -296,8 +309,8 @@ impl<A: Allocator> Session<A> {
     ///
     /// `RotationPending`, `NotActive`: nothing changed.
     pub fn stop(&mut self) -> Result<(), SessionFault>
-        ensures answer { result ≡ stop_answer self.old.book }
-        ensures after { self.new ≡ all_stopped by_state self.old }
+        ensures answer { result ≡ book_stop_answer self.old.book }
+        ensures after { self.new ≡ session_after_stop by_state self.old }
     {
         match self.book.stop() {
             Ok(()) => {
@@ -314,8 +327,8 @@ impl<A: Allocator> Session<A> {
     ///
     /// `NotPending`, `CutMissing`: nothing changed.
     pub fn rotate_finish(&mut self) -> Result<Archive, SessionFault>
-        ensures answer { result ≡ rotate_finish_answer self.old.book }
-        ensures after { self.new ≡ finished self.old }
+        ensures answer { result ≡ book_rotate_finish_answer self.old.book }
+        ensures after { self.new ≡ session_after_rotate_finish self.old }
     {
         self.book.rotate_finish()
     }
@@ -327,8 +340,8 @@ impl<A: Allocator> Session<A> {
     ///
     /// `NotSnapshotMode`, `NeverStarted`: nothing changed.
     pub fn snapshot_begin(&mut self, moment: Moment) -> Result<Moment, SessionFault>
-        ensures answer { result ≡ snapshot_begin_answer moment self.old.book }
-        ensures after { self.new ≡ record self.old { book = after_snapshot_begin moment self.old.book } }
+        ensures answer { result ≡ book_snapshot_begin_answer moment self.old.book }
+        ensures after { self.new ≡ record self.old { book = book_after_snapshot_begin moment self.old.book } }
     {
         self.book.snapshot_begin(moment)
     }
@@ -339,19 +352,19 @@ impl<A: Allocator> Session<A> {
     ///
     /// `SnapshotMode`: nothing changed.
     pub fn set_schedule(&mut self, schedule: Option<Schedule>) -> Result<(), SessionFault>
-        ensures answer { result ≡ schedule_answer self.old.book }
-        ensures after { self.new ≡ record self.old { book = after_schedule schedule self.old.book } }
+        ensures answer { result ≡ book_schedule_answer self.old.book }
+        ensures after { self.new ≡ record self.old { book = book_after_schedule schedule self.old.book } }
     {
         self.book.set_schedule(schedule)
     }
 
-    /// What became of the offer of this serial to the stream of this number, none where there was no such offer yet.
+    /// What became of the offer with this serial to the stream of this number. None if there was no such offer yet.
     ///
     /// # Errors
     ///
     /// `Session(NoStream)`. It takes no memory.
     pub fn fate_of(&self, i: u64, serial: u64) -> Result<Option<Fate>, StepFault>
-        ensures { result ≡ fate_asked by_state i serial self.now }
+        ensures { result ≡ session_fate_answer by_state i serial self.now }
     {
         match self.stream(i) {
             Some(stream) => Ok(stream.fate_of(serial)),
@@ -375,7 +388,7 @@ impl<A: Allocator> Session<A> {
         self.book.streams() as u64
     }
 
-    /// The stream of this number. It has a part of each archived chunk.
+    /// The stream of this number, if any. It has a part for each archived chunk.
     pub fn stream(&self, i: u64) -> Option<&Stream<A>>
         ensures value { option_copied result ≡ slice_get self.now.streams i }
         ensures is { IfSome result (λ t. IsStreamOf self.now.book i t.now) }

@@ -1,7 +1,7 @@
 //! A whole snapshot of a session.
 
 ghost use Rattle.std.specs.Prelude.{◌≡◌, ◌≢◌, Err, IsOk};
-ghost use Rattle.tr_session.specs.Steps.{snapshot_answer, after_snapshot};
+ghost use Rattle.tr_session.specs.Steps.{session_snapshot_answer, session_after_snapshot};
 ghost use Rattle.tr_stream.specs.Rules.{by_state};
 
 use crate::session::Session;
@@ -19,9 +19,11 @@ impl<A: Allocator + Copy> Session<A> {
     /// `NotSnapshotMode`, `NeverStarted`, `NoMemory`: nothing changed.
     pub fn snapshot(&mut self, moment: Moment) -> Result<Snapshot<A>, SessionFault>
         ensures value { result ≢ Err SessionFault.NoMemory →
-            (result ≡ snapshot_answer by_state moment self.old) × (self.new ≡ after_snapshot moment self.old) }
+            (result ≡ session_snapshot_answer by_state moment self.old)
+            × (self.new ≡ session_after_snapshot moment self.old) }
         ensures no_memory { result ≡ Err SessionFault.NoMemory → self.new ≡ self.old }
-        ensures memory { result ≡ Err SessionFault.NoMemory → IsOk (snapshot_answer by_state moment self.old) }
+        ensures memory { result ≡ Err SessionFault.NoMemory
+            → IsOk (session_snapshot_answer by_state moment self.old) }
     {
         let stored = match self.book().snapshot_moment(moment) {
             Ok(stored) => stored,

@@ -1,9 +1,9 @@
-//! Steps of streams that stand in order of number.
+//! Steps of streams in order of number.
 
 ghost use Rattle.std.specs.Prelude.{◌≡◌, ◌≢◌, ◌<◌, Some, Err, IfOk, IsOk, length, map, option_map, slice_get};
 ghost use Rattle.std.specs.Option.{option_map_or};
-ghost use Rattle.tr_session.specs.Steps.{changed_at, offer_as_step, take_as_step, StepTakesMemory};
-ghost use Rattle.tr_stream.specs.StateSteps.{offer_result, state_after_offer, take_result, state_after_take, cut_result, state_after_cut, state_snap, state_switched, state_counts};
+ghost use Rattle.tr_session.specs.Steps.{change_at, offer_as_step, take_as_step, StepTakesMemory};
+ghost use Rattle.tr_stream.specs.StateSteps.{state_offer_answer, state_after_offer, state_take_answer, state_after_take, state_cut_answer, state_after_cut, state_snap, state_after_switch, state_counts};
 
 use crate::faults::StepFault;
 use std::alloc::{AllocError, Allocator};
@@ -12,17 +12,17 @@ use tr_record::Moment;
 use tr_session_book::SessionFault;
 use tr_stream::{CutDone, CutFault, OfferFault, Offered, Stream, TakeFault, Taken};
 
-/// Lets the stream of this number take offers, or lets it refuse them.
+/// Lets the stream of this number take offers, or makes it refuse them.
 pub fn switch_at<A: Allocator>(streams: &mut Vec<Stream<A>, A>, active: bool, i: usize)
     requires { i < length streams.old.items }
-    ensures { streams.new.items ≡ changed_at i (state_switched active) streams.old.items }
+    ensures { streams.new.items ≡ change_at i (state_after_switch active) streams.old.items }
 {
     streams[i].set_active(active);
 }
 
-/// Lets each stream take offers, or lets each refuse them.
+/// Lets each stream take offers, or makes each refuse them.
 pub fn switch<A: Allocator>(streams: &mut Vec<Stream<A>, A>, active: bool)
-    ensures { streams.new.items ≡ map (state_switched active) streams.old.items }
+    ensures { streams.new.items ≡ map (state_after_switch active) streams.old.items }
 {
     'each: for i in 0..streams.len() {
         switch_at(streams, active, i);
@@ -37,10 +37,11 @@ fn offer_to<A: Allocator + Copy>(
     payload: &[u8],
 ) -> Result<Offered, StepFault>
     ensures value { result ≢ Err (StepFault.Offer OfferFault.NoMemory) →
-        (result ≡ offer_as_step (offer_result moment id payload.now stream.old))
+        (result ≡ offer_as_step (state_offer_answer moment id payload.now stream.old))
         × (stream.new ≡ state_after_offer moment id payload.now stream.old) }
     ensures no_memory { result ≡ Err (StepFault.Offer OfferFault.NoMemory) → stream.new ≡ stream.old }
-    ensures memory { result ≡ Err (StepFault.Offer OfferFault.NoMemory) → StepTakesMemory (offer_as_step (offer_result moment id payload.now stream.old)) }
+    ensures memory { result ≡ Err (StepFault.Offer OfferFault.NoMemory)
+        → StepTakesMemory (offer_as_step (state_offer_answer moment id payload.now stream.old)) }
 {
     Ok(stream.offer(moment, id, payload)?)
 }
@@ -54,11 +55,13 @@ pub fn offer_at<A: Allocator + Copy>(
     payload: &[u8],
 ) -> Result<Offered, StepFault>
     ensures value { result ≢ Err (StepFault.Offer OfferFault.NoMemory) →
-        (result ≡ option_map_or (λ s. offer_as_step (offer_result moment id payload.now s)) (slice_get streams.old.items i) (Err (StepFault.Session SessionFault.NoStream)))
-        × (streams.new.items ≡ changed_at i (state_after_offer moment id payload.now) streams.old.items) }
+        (result ≡ option_map_or (λ s. offer_as_step (state_offer_answer moment id payload.now s))
+        (slice_get streams.old.items i) (Err (StepFault.Session SessionFault.NoStream)))
+        × (streams.new.items ≡ change_at i (state_after_offer moment id payload.now) streams.old.items) }
     ensures no_memory { result ≡ Err (StepFault.Offer OfferFault.NoMemory) → streams.new.items ≡ streams.old.items }
     ensures memory { result ≡ Err (StepFault.Offer OfferFault.NoMemory) →
-        StepTakesMemory (option_map_or (λ s. offer_as_step (offer_result moment id payload.now s)) (slice_get streams.old.items i) (Err (StepFault.Session SessionFault.NoStream))) }
+        StepTakesMemory (option_map_or (λ s. offer_as_step (state_offer_answer moment id payload.now s))
+        (slice_get streams.old.items i) (Err (StepFault.Session SessionFault.NoStream))) }
 {
     let Some(stream) = streams.get_mut(i as usize) else {
         return Err(StepFault::Session(SessionFault::NoStream));
@@ -69,9 +72,10 @@ pub fn offer_at<A: Allocator + Copy>(
 /// Takes the oldest packet of a stream.
 fn take_from<A: Allocator + Copy>(stream: &mut Stream<A>) -> Result<Taken, StepFault>
     ensures value { result ≢ Err (StepFault.Take TakeFault.NoMemory) →
-        (result ≡ take_as_step (take_result stream.old)) × (stream.new ≡ state_after_take stream.old) }
+        (result ≡ take_as_step (state_take_answer stream.old)) × (stream.new ≡ state_after_take stream.old) }
     ensures no_memory { result ≡ Err (StepFault.Take TakeFault.NoMemory) → stream.new ≡ stream.old }
-    ensures memory { result ≡ Err (StepFault.Take TakeFault.NoMemory) → IsOk (take_as_step (take_result stream.old)) }
+    ensures memory { result ≡ Err (StepFault.Take TakeFault.NoMemory)
+        → IsOk (take_as_step (state_take_answer stream.old)) }
 {
     Ok(stream.take()?)
 }
@@ -82,11 +86,13 @@ pub fn take_at<A: Allocator + Copy>(
     i: u64,
 ) -> Result<Taken, StepFault>
     ensures value { result ≢ Err (StepFault.Take TakeFault.NoMemory) →
-        (result ≡ option_map_or (λ s. take_as_step (take_result s)) (slice_get streams.old.items i) (Err (StepFault.Session SessionFault.NoStream)))
-        × (streams.new.items ≡ changed_at i state_after_take streams.old.items) }
+        (result ≡ option_map_or (λ s. take_as_step (state_take_answer s)) (slice_get streams.old.items i)
+        (Err (StepFault.Session SessionFault.NoStream)))
+        × (streams.new.items ≡ change_at i state_after_take streams.old.items) }
     ensures no_memory { result ≡ Err (StepFault.Take TakeFault.NoMemory) → streams.new.items ≡ streams.old.items }
     ensures memory { result ≡ Err (StepFault.Take TakeFault.NoMemory) →
-        IsOk (option_map_or (λ s. take_as_step (take_result s)) (slice_get streams.old.items i) (Err (StepFault.Session SessionFault.NoStream))) }
+        IsOk (option_map_or (λ s. take_as_step (state_take_answer s)) (slice_get streams.old.items i)
+        (Err (StepFault.Session SessionFault.NoStream))) }
 {
     let Some(stream) = streams.get_mut(i as usize) else {
         return Err(StepFault::Session(SessionFault::NoStream));
@@ -102,8 +108,8 @@ pub fn cut_at<A: Allocator + Copy>(
 ) -> Result<CutDone, CutFault>
     requires { i < length streams.old.items }
     ensures value { result ≢ Err CutFault.NoMemory →
-        (option_map (cut_result moment) (slice_get streams.old.items i) ≡ Some result)
-        × (streams.new.items ≡ changed_at i (state_after_cut moment) streams.old.items) }
+        (option_map (state_cut_answer moment) (slice_get streams.old.items i) ≡ Some result)
+        × (streams.new.items ≡ change_at i (state_after_cut moment) streams.old.items) }
     ensures no_memory { result ≡ Err CutFault.NoMemory → streams.new.items ≡ streams.old.items }
 {
     streams[i as usize].cut(moment)
@@ -124,7 +130,7 @@ pub fn snap_all<A: Allocator + Copy>(
     Ok(snaps)
 }
 
-/// The bytes of each stream's current part, or the greatest u64 where they are more.
+/// The bytes of each stream's current part, or the greatest u64 if they are more.
 pub fn sizes_of<A: Allocator + Copy>(
     alloc: A,
     streams: &[Stream<A>],

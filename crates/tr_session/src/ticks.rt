@@ -2,7 +2,7 @@
 
 ghost use Rattle.std.specs.Prelude.{◌≡◌, ◌≢◌, true, None, Err, is_some, IfErr};
 ghost use Rattle.tr_session_book.specs.BookSteps.{schedule_in_force};
-ghost use Rattle.tr_session.specs.Steps.{tick_answer, after_tick, tick_cause, IsHeldUp};
+ghost use Rattle.tr_session.specs.Steps.{session_tick_answer, session_after_tick, tick_cause, IsHeldUp};
 ghost use Rattle.tr_stream.specs.Rules.{by_state};
 
 use crate::session::Session;
@@ -18,7 +18,7 @@ pub enum Ticked {
     Idle,
     /// It rotated the session.
     Rotated {
-        /// Why that was due.
+        /// Why the rotation was due.
         cause: Cause,
         /// The archive that the rotation made.
         archive: Archive,
@@ -26,14 +26,16 @@ pub enum Ticked {
 }
 
 impl<A: Allocator + Copy> Session<A> {
-    /// Rotates the session where its schedule says at this moment that a rotation is due. An idle tick stores no moment.
+    /// Rotates the session if its schedule says that a rotation is due at this moment. An idle tick stores no moment.
     ///
     /// # Errors
     ///
-    /// `NoMemory`: nothing changed, or a rotation was due and is pending with the cuts that were made, and `rotate_next` goes on.
+    /// `NoMemory`: nothing changed, or a rotation was due and is pending with the cuts that were made, and `rotate_next` goes
+    /// on.
     pub fn tick(&mut self, now: Moment) -> Result<Ticked, SessionFault>
         ensures value { result ≢ Err SessionFault.NoMemory →
-            (result ≡ tick_answer by_state now self.old) × (self.new ≡ after_tick by_state now self.old) }
+            (result ≡ session_tick_answer by_state now self.old)
+            × (self.new ≡ session_after_tick by_state now self.old) }
         ensures no_memory { result ≡ Err SessionFault.NoMemory → IsHeldUp by_state now self.old self.new }
         ensures refused { IfErr result (λ fault. fault ≡ SessionFault.NoMemory) }
         ensures idle { tick_cause by_state now self.old ≡ None → self.new ≡ self.old }

@@ -27,19 +27,23 @@ pub record SessionBookState : Type 0 where
   -- when rotations are due
   pub schedule : Option ScheduleState
 
--- before anything is added
-abbrev pub new_book : List ℕ → ℤ → SessionMode → SessionBookState
-new_book uuid offset mode = record {
+abbrev pub session_book_state : List ℕ → ℤ → SessionMode → State → Bool → ℕ → ℕ → List (List ℕ × Channel) → List ℕ
+    → Option Pending → List Archive → Option ScheduleState → SessionBookState
+session_book_state uuid offset mode state rotated last begin channels threads pending archives schedule = record {
   uuid = uuid;
   offset = offset;
   mode = mode;
-  state = New;
-  rotated = false;
-  last = 0;
-  begin = 0;
-  channels = [];
-  threads = [];
-  pending = None;
-  archives = [];
-  schedule = None;
+  state = state;
+  rotated = rotated;
+  last = last;
+  begin = begin;
+  channels = channels;
+  threads = threads;
+  pending = pending;
+  archives = archives;
+  schedule = schedule;
 }
+
+-- before anything is added
+abbrev pub new_book : List ℕ → ℤ → SessionMode → SessionBookState
+new_book uuid offset mode = session_book_state uuid offset mode New false 0 0 [] [] None [] None

@@ -18,7 +18,7 @@ use Rattle.tr_session_book.specs.declared.faults.SessionFault.{SessionFault}
 use Rattle.tr_session_book.specs.declared.faults.SessionFault.TheVariants.{SnapshotMode, NotSnapshotMode, NeverStarted, RotationPending, AlreadyRotated, AlreadyActive, NotActive, NoStream, DiscardInSnapshot, AlreadyStarted, BadGeometry, TooMany, NotPending, CutMissing, NameTaken, NoChannel}
 use Rattle.tr_session_book.specs.declared.state.State.{State}
 use Rattle.tr_session_book.specs.declared.state.State.TheVariants.{New, Active, Inactive}
-use Rattle.tr_terms.specs.SessionModes.{by_session}
+use Rattle.tr_terms.specs.SessionModes.{by_session_mode}
 use Rattle.tr_terms.specs.declared.session_mode.SessionMode.{SessionMode}
 use Rattle.tr_terms.specs.declared.session_mode.SessionMode.TheVariants.{Local, Snapshot}
 use Rattle.tr_terms.specs.declared.limits.TheConstants.{MOST_CHANNELS, MOST_STREAMS}
@@ -38,14 +38,14 @@ is_inactive New = false
 is_inactive Active = false
 is_inactive Inactive = true
 
--- what is so after a step, and what stays so where it was refused
+-- what holds after a step, and what stays if it was refused
 abbrev pub unless_refused : {R F X : Type 0} → Result R F → X → X → X
 unless_refused (Ok r) done old = done
 unless_refused (Err fault) done old = old
 
--- ---- channels and streams, which are added before the first start only
+-- ---- channels and streams, which are only added before the first start
 
--- as many as there may be
+-- no more than are allowed
 abbrev pub IsWithinLimits : SessionBookState → Type 0
 IsWithinLimits b = (length b.channels ≤ MOST_CHANNELS) × (length b.threads ≤ MOST_STREAMS)
 
@@ -53,13 +53,15 @@ IsWithinLimits b = (length b.channels ≤ MOST_CHANNELS) × (length b.threads �
 abbrev pub BeginsBare : SessionBookState → Type 0
 BeginsBare b = is_new b.state ≡ true → (b.pending ≡ None) × (b.archives ≡ [])
 
--- each archive's number is its place, and the pending one's is how many there are
+-- each archive's number is its place, and the pending one's is the number of archives
 abbrev pub AreNumbered : SessionBookState → Type 0
-AreNumbered b = ((k : ℕ) (archive : Archive) → slice_get b.archives k ≡ Some archive → archive.id ≡ k) × ((pending : Pending) → b.pending ≡ Some pending → pending.archive.id ≡ length b.archives)
+AreNumbered b = ((k : ℕ) (archive : Archive) → slice_get b.archives k ≡ Some archive → archive.id ≡ k)
+    × ((pending : Pending) → b.pending ≡ Some pending → pending.archive.id ≡ length b.archives)
 
--- what every book keeps to; a rotation is pending in local sessions alone
+-- what every book obeys; only a local session has a pending rotation
 abbrev pub IsBook : SessionBookState → Type 0
-IsBook b = IsWithinLimits b × BeginsBare b × AreNumbered b × (is_some b.pending ≡ true → b.mode ≡ Local) × AreNamed b.channels
+IsBook b = IsWithinLimits b × BeginsBare b × AreNumbered b × (is_some b.pending ≡ true → b.mode ≡ Local)
+    × AreNamed b.channels
 
 abbrev pub channel_named : List ℕ → SessionBookState → Option Channel
 channel_named name b = lookup (bytes_eq name) b.channels
@@ -74,17 +76,20 @@ is_allowed Snapshot Overwrite = true
 is_allowed Snapshot Discard = false
 
 -- a channel of this geometry, if there is such a geometry
-abbrev pub channel_made : List ℕ → Mode → Result GeometryState GeometryFault → SessionBookState → Result SessionBookState SessionFault
-channel_made name mode (Err fault) b = Err BadGeometry
-channel_made name mode (Ok geometry) b = if is_allowed b.mode mode then Ok (with_channel name (record { geometry = geometry; mode = mode }) b) else Err DiscardInSnapshot
+abbrev pub channel_of_geometry : List ℕ → Mode → Result GeometryState GeometryFault → SessionBookState
+    → Result SessionBookState SessionFault
+channel_of_geometry name mode (Err fault) b = Err BadGeometry
+channel_of_geometry name mode (Ok geometry) b =
+    if is_allowed b.mode mode then Ok (with_channel name (record { geometry = geometry; mode = mode }) b)
+    else Err DiscardInSnapshot
 
 -- a channel is added
-abbrev pub channel_added : List ℕ → ℕ → ℕ → Mode → SessionBookState → Result SessionBookState SessionFault
-channel_added name size count mode b =
+abbrev pub book_add_channel : List ℕ → ℕ → ℕ → Mode → SessionBookState → Result SessionBookState SessionFault
+book_add_channel name size count mode b =
     if is_new b.state then
     (if is_some (channel_named name b) then Err NameTaken
     else (if nat_le MOST_CHANNELS (length b.channels) then Err TooMany
-    else channel_made name mode (geometry_of size count) b))
+    else channel_of_geometry name mode (geometry_of size count) b))
     else Err AlreadyStarted
 
 abbrev pub place_free : Option ℕ → SessionBookState → Result ℕ SessionFault
@@ -94,55 +99,63 @@ place_free (Some place) b = if nat_le MOST_STREAMS (length b.threads) then Err T
 -- the place of the channel that a thread is added to
 abbrev pub thread_place : List ℕ → SessionBookState → Result ℕ SessionFault
 thread_place channel b =
-    if is_new b.state then place_free (position (bytes_eq channel) (map (λ (c : List ℕ × Channel). c.0) b.channels)) b else Err AlreadyStarted
+    if is_new b.state then place_free (position (bytes_eq channel) (map (λ (c : List ℕ × Channel). c.0) b.channels)) b
+    else Err AlreadyStarted
 
 -- the next stream is of the channel at this place
 abbrev pub with_thread : ℕ → SessionBookState → SessionBookState
 with_thread place b = record b { threads = b.threads ++ place ∷ [] }
 
-abbrev pub noted_at : Result ℕ SessionFault → SessionBookState → Result SessionBookState SessionFault
-noted_at (Ok place) b = Ok (with_thread place b)
-noted_at (Err fault) b = Err fault
+abbrev pub with_thread_at : Result ℕ SessionFault → SessionBookState → Result SessionBookState SessionFault
+with_thread_at (Ok place) b = Ok (with_thread place b)
+with_thread_at (Err fault) b = Err fault
 
 -- a thread of a channel is noted
-abbrev pub thread_noted : List ℕ → SessionBookState → Result SessionBookState SessionFault
-thread_noted channel b = noted_at (thread_place channel b) b
+abbrev pub book_add_thread : List ℕ → SessionBookState → Result SessionBookState SessionFault
+book_add_thread channel b = with_thread_at (thread_place channel b) b
 
 -- the name of the channel of stream i
 abbrev pub channel_of : ℕ → SessionBookState → Option (List ℕ)
-channel_of i b = option_and_then (λ place. option_map (λ (c : List ℕ × Channel). c.0) (slice_get b.channels place)) (slice_get b.threads i)
+channel_of i b = option_and_then (λ place. option_map (λ (c : List ℕ × Channel). c.0) (slice_get b.channels place))
+    (slice_get b.threads i)
 
 -- ---- starts and stops
 
-abbrev pub start_answer : SessionBookState → Result Unit SessionFault
-start_answer b =
+abbrev pub book_start_answer : SessionBookState → Result Unit SessionFault
+book_start_answer b =
     if is_some b.pending then Err RotationPending
     else (if is_active b.state then Err AlreadyActive
     else Ok tt)
 
 -- the first start begins the first chunk
-abbrev pub started : ℕ → SessionBookState → SessionBookState
-started moment b = record b { state = Active; last = max moment b.last; begin = if is_new b.state then max moment b.last else b.begin }
+abbrev pub with_start : ℕ → SessionBookState → SessionBookState
+with_start moment b = record b {
+  state = Active;
+  last = max moment b.last;
+  begin = if is_new b.state then max moment b.last else b.begin;
+}
 
-abbrev pub after_start : ℕ → SessionBookState → SessionBookState
-after_start moment b = unless_refused (start_answer b) (started moment b) b
+abbrev pub book_after_start : ℕ → SessionBookState → SessionBookState
+book_after_start moment b = unless_refused (book_start_answer b) (with_start moment b) b
 
-abbrev pub stop_answer : SessionBookState → Result Unit SessionFault
-stop_answer b =
+abbrev pub book_stop_answer : SessionBookState → Result Unit SessionFault
+book_stop_answer b =
     if is_some b.pending then Err RotationPending
     else (if is_active b.state then Ok tt
     else Err NotActive)
 
-abbrev pub stopped : SessionBookState → SessionBookState
-stopped b = record b { state = Inactive; rotated = false }
+abbrev pub with_stop : SessionBookState → SessionBookState
+with_stop b = record b { state = Inactive; rotated = false }
 
-abbrev pub after_stop : SessionBookState → SessionBookState
-after_stop b = unless_refused (stop_answer b) (stopped b) b
+abbrev pub book_after_stop : SessionBookState → SessionBookState
+book_after_stop b = unless_refused (book_stop_answer b) (with_stop b) b
 
 -- a stream is switched as the session was
-abbrev pub switch_answer : Bool → ℕ → SessionBookState → Result Unit SessionFault
-switch_answer true i b = if nat_lt i (length b.threads) then (if is_active b.state then Ok tt else Err NotActive) else Err NoStream
-switch_answer false i b = if nat_lt i (length b.threads) then (if is_inactive b.state then Ok tt else Err AlreadyActive) else Err NoStream
+abbrev pub book_switch_answer : Bool → ℕ → SessionBookState → Result Unit SessionFault
+book_switch_answer true i b =
+    if nat_lt i (length b.threads) then (if is_active b.state then Ok tt else Err NotActive) else Err NoStream
+book_switch_answer false i b =
+    if nat_lt i (length b.threads) then (if is_inactive b.state then Ok tt else Err AlreadyActive) else Err NoStream
 
 -- ---- rotations
 
@@ -155,24 +168,24 @@ local_rotation b =
     else Ok (length b.archives)))
 
 -- a snapshot session isn't rotated
-abbrev pub rotate_begin_answer : SessionBookState → Result ℕ SessionFault
-rotate_begin_answer b = by_session b.mode (local_rotation b) (Err SnapshotMode)
+abbrev pub book_rotate_begin_answer : SessionBookState → Result ℕ SessionFault
+book_rotate_begin_answer b = by_session_mode b.mode (local_rotation b) (Err SnapshotMode)
 
 -- the archive that a rotation at this moment makes
-abbrev pub archive_at : ℕ → SessionBookState → Archive
-archive_at moment b = record { id = length b.archives; begin = b.begin; end = max moment b.last }
+abbrev pub archive_ended : ℕ → SessionBookState → Archive
+archive_ended moment b = record { id = length b.archives; begin = b.begin; end = max moment b.last }
 
 -- the current chunk ends now, and the next one begins
-abbrev pub rotating : ℕ → SessionBookState → SessionBookState
-rotating moment b = record b {
+abbrev pub with_pending : ℕ → SessionBookState → SessionBookState
+with_pending moment b = record b {
   rotated = true;
   last = max moment b.last;
   begin = max moment b.last;
-  pending = Some (record { archive = archive_at moment b; cut = 0 });
+  pending = Some (record { archive = archive_ended moment b; cut = 0 });
 }
 
-abbrev pub after_rotate_begin : ℕ → SessionBookState → SessionBookState
-after_rotate_begin moment b = unless_refused (rotate_begin_answer b) (rotating moment b) b
+abbrev pub book_after_rotate_begin : ℕ → SessionBookState → SessionBookState
+book_after_rotate_begin moment b = unless_refused (book_rotate_begin_answer b) (with_pending moment b) b
 
 abbrev pub cut_in : ℕ → Option Pending → Result ℕ SessionFault
 cut_in i None = Err NotPending
@@ -188,7 +201,7 @@ cut_moment i b = if nat_lt i (length b.threads) then cut_in i b.pending else Err
 abbrev pub one_more : Pending → Pending
 one_more p = record p { cut = p.cut + 1 }
 
--- one stream more is cut
+-- one more stream is cut
 abbrev pub with_cut : SessionBookState → SessionBookState
 with_cut b = record b { pending = option_map one_more b.pending }
 
@@ -197,33 +210,33 @@ as_noted (Ok moment) = Ok tt
 as_noted (Err fault) = Err fault
 
 -- the cut of stream i is noted, if it is due
-abbrev pub note_cut_answer : ℕ → SessionBookState → Result Unit SessionFault
-note_cut_answer i b = as_noted (cut_moment i b)
+abbrev pub book_note_cut_answer : ℕ → SessionBookState → Result Unit SessionFault
+book_note_cut_answer i b = as_noted (cut_moment i b)
 
-abbrev pub after_note_cut : ℕ → SessionBookState → SessionBookState
-after_note_cut i b = unless_refused (cut_moment i b) (with_cut b) b
+abbrev pub book_after_note_cut : ℕ → SessionBookState → SessionBookState
+book_after_note_cut i b = unless_refused (cut_moment i b) (with_cut b) b
 
-abbrev pub finished_of : ℕ → Option Pending → Result Archive SessionFault
-finished_of streams None = Err NotPending
-finished_of streams (Some p) = if nat_lt p.cut streams then Err CutMissing else Ok p.archive
+abbrev pub archive_if_cut : ℕ → Option Pending → Result Archive SessionFault
+archive_if_cut streams None = Err NotPending
+archive_if_cut streams (Some p) = if nat_lt p.cut streams then Err CutMissing else Ok p.archive
 
 -- a rotation that has cut every stream answers the archive that it made
-abbrev pub rotate_finish_answer : SessionBookState → Result Archive SessionFault
-rotate_finish_answer b = finished_of (length b.threads) b.pending
+abbrev pub book_rotate_finish_answer : SessionBookState → Result Archive SessionFault
+book_rotate_finish_answer b = archive_if_cut (length b.threads) b.pending
 
-abbrev pub archived : Result Archive SessionFault → SessionBookState → SessionBookState
-archived (Ok archive) b = record b { pending = None; archives = b.archives ++ archive ∷ [] }
-archived (Err fault) b = b
+abbrev pub with_archive : Result Archive SessionFault → SessionBookState → SessionBookState
+with_archive (Ok archive) b = record b { pending = None; archives = b.archives ++ archive ∷ [] }
+with_archive (Err fault) b = b
 
-abbrev pub after_rotate_finish : SessionBookState → SessionBookState
-after_rotate_finish b = archived (rotate_finish_answer b) b
+abbrev pub book_after_rotate_finish : SessionBookState → SessionBookState
+book_after_rotate_finish b = with_archive (book_rotate_finish_answer b) b
 
 -- the pending rotation has cut stream i
 abbrev pub is_cut : ℕ → Option Pending → Bool
 is_cut i None = false
 is_cut i (Some p) = nat_lt i p.cut
 
--- how many chunks of stream i are closed: one for each archive, and the pending one where it is cut
+-- how many chunks of stream i are closed: one for each archive, and the pending one if it is cut
 abbrev pub chunks_closed : ℕ → SessionBookState → ℕ
 chunks_closed i b = length b.archives + (if is_cut i b.pending then 1 else 0)
 
@@ -231,36 +244,38 @@ chunks_closed i b = length b.archives + (if is_cut i b.pending then 1 else 0)
 
 -- whether snapshots can be taken: of a snapshot session that was started once
 abbrev pub snapshot_allowed : SessionBookState → Result Unit SessionFault
-snapshot_allowed b = by_session b.mode (Err NotSnapshotMode) (if is_new b.state then Err NeverStarted else Ok tt)
+snapshot_allowed b = by_session_mode b.mode (Err NotSnapshotMode) (if is_new b.state then Err NeverStarted else Ok tt)
 
 abbrev pub moment_stored : Result Unit SessionFault → ℕ → SessionBookState → Result ℕ SessionFault
 moment_stored (Ok done) moment b = Ok (max moment b.last)
 moment_stored (Err fault) moment b = Err fault
 
 -- a snapshot begins: its moment is stored, and answered
-abbrev pub snapshot_begin_answer : ℕ → SessionBookState → Result ℕ SessionFault
-snapshot_begin_answer moment b = moment_stored (snapshot_allowed b) moment b
+abbrev pub book_snapshot_begin_answer : ℕ → SessionBookState → Result ℕ SessionFault
+book_snapshot_begin_answer moment b = moment_stored (snapshot_allowed b) moment b
 
-abbrev pub after_snapshot_begin : ℕ → SessionBookState → SessionBookState
-after_snapshot_begin moment b = unless_refused (snapshot_allowed b) (record b { last = max moment b.last }) b
+abbrev pub book_after_snapshot_begin : ℕ → SessionBookState → SessionBookState
+book_after_snapshot_begin moment b = unless_refused (snapshot_allowed b) (record b { last = max moment b.last }) b
 
--- whether stream i can be seen
+-- whether stream i can be shown
 abbrev pub snap_allowed : ℕ → SessionBookState → Result Unit SessionFault
 snap_allowed i b = if nat_lt i (length b.threads) then snapshot_allowed b else Err NoStream
 
 -- ---- schedules
 
 -- a snapshot session has no schedule
-abbrev pub schedule_answer : SessionBookState → Result Unit SessionFault
-schedule_answer b = by_session b.mode (Ok tt) (Err SnapshotMode)
+abbrev pub book_schedule_answer : SessionBookState → Result Unit SessionFault
+book_schedule_answer b = by_session_mode b.mode (Ok tt) (Err SnapshotMode)
 
-abbrev pub after_schedule : Option ScheduleState → SessionBookState → SessionBookState
-after_schedule schedule b = unless_refused (schedule_answer b) (record b { schedule = schedule }) b
+abbrev pub book_after_schedule : Option ScheduleState → SessionBookState → SessionBookState
+book_after_schedule schedule b = unless_refused (book_schedule_answer b) (record b { schedule = schedule }) b
 
 -- the schedule by which a local session rotates now: it is active, and no rotation is pending
 abbrev pub schedule_in_force : SessionBookState → Option ScheduleState
-schedule_in_force b = if is_active b.state && not (is_some b.pending) then by_session b.mode b.schedule None else None
+schedule_in_force b = if is_active b.state && not (is_some b.pending) then by_session_mode b.mode b.schedule None
+    else None
 
 -- why a rotation of the current chunk is due, if it is
 abbrev pub due_now : ℕ → List ℕ → SessionBookState → Option Cause
-due_now now sizes b = option_and_then (λ (schedule : ScheduleState). due_cause schedule b.begin now sizes) (schedule_in_force b)
+due_now now sizes b = option_and_then (λ (schedule : ScheduleState). due_cause schedule b.begin now sizes)
+    (schedule_in_force b)

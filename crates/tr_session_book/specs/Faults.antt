@@ -41,7 +41,7 @@ session_fault_name NameTaken = codes "NameTaken"
 session_fault_name NoMemory = codes "NoMemory"
 session_fault_name NoChannel = codes "NoChannel"
 
--- memory was refused
+-- an allocation failed
 abbrev pub session_wants_memory : SessionFault → Bool
 session_wants_memory NoMemory = true
 session_wants_memory SnapshotMode = false

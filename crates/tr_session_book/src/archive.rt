@@ -2,12 +2,12 @@
 
 use tr_terms::Moment;
 
-/// An archived trace chunk: its number, and from when to when it lasted.
+/// An archived trace chunk: its number, its begin and its end.
 #[derive(Clone, Copy, Debug, PartialEq, Eq)]
 pub struct Archive {
     /// How many chunks were archived before it.
     pub id: u64,
-    /// The moment of the first start, or of the rotation before.
+    /// The moment of the first start, or of the previous rotation.
     pub begin: Moment,
     /// The moment of the rotation that made it.
     pub end: Moment,

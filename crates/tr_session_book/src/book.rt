@@ -2,9 +2,8 @@
 
 ghost use Rattle.std.specs.Prelude.{◌≡◌, ◌≢◌, ◌<◌, [], false, None, Some, Ok, Err, IsOk, IfOk, OnOk, IfErr, OnErr, is_some, length};
 ghost use Rattle.tr_session_book.specs.Book.{new_book};
-ghost use Rattle.tr_session_book.specs.BookSteps.{is_new, channel_named, channel_added, with_channel, thread_place, thread_noted, with_thread, start_answer, after_start, stop_answer, after_stop, switch_answer, rotate_begin_answer, rotating, after_rotate_begin, cut_moment, with_cut, note_cut_answer, after_note_cut, rotate_finish_answer, after_rotate_finish};
+ghost use Rattle.tr_session_book.specs.BookSteps.{is_new, channel_named, book_add_channel, with_channel, thread_place, book_add_thread, with_thread, book_start_answer, book_after_start, book_stop_answer, book_after_stop, book_switch_answer, book_rotate_begin_answer, with_pending, book_after_rotate_begin, cut_moment, with_cut, book_note_cut_answer, book_after_note_cut, book_rotate_finish_answer, book_after_rotate_finish, is_allowed};
 ghost use Rattle.tr_terms.specs.declared.limits.TheConstants.{MOST_CHANNELS, MOST_STREAMS};
-ghost use Rattle.tr_session_book.specs.BookSteps as rules;
 
 use crate::archive::{Archive, Pending};
 use crate::channel::Channel;
@@ -23,9 +22,9 @@ mod readers;
 mod schedules;
 mod snapshots;
 
-/// Whether a session of this mode may have a channel of that one: in a snapshot session every ring overwrites.
+/// Whether a session of this mode may have a channel of that mode: in a snapshot session every ring overwrites.
 fn is_allowed(session: SessionMode, mode: Mode) -> bool
-    ensures { result ≡ rules.is_allowed session mode }
+    ensures { result ≡ is_allowed session mode }
 {
     match (session, mode) {
         (SessionMode::Snapshot, Mode::Discard) => false,
@@ -53,46 +52,22 @@ pub struct SessionBook<A: Allocator = Global> {
 }
 
 impl<A: Allocator> Model for SessionBook<A> {
-    ghost use Rattle.tr_session_book.specs.Book.{SessionBookState};
+    ghost use Rattle.tr_session_book.specs.Book.{SessionBookState, session_book_state};
     ghost use Rattle.tr_session_book.specs.Names.{by_name};
 
     ghost Value = { SessionBookState };
 
-    ghost view = { λ b. record {
-      uuid = b.uuid;
-      offset = b.offset;
-      mode = b.mode;
-      state = b.state;
-      rotated = b.rotated;
-      last = b.last;
-      begin = b.begin;
-      channels = by_name b.channels.entries;
-      threads = b.threads.items;
-      pending = b.pending;
-      archives = b.archives.items;
-      schedule = b.schedule;
-    } };
+    ghost view = { λ b. session_book_state b.uuid b.offset b.mode b.state b.rotated b.last b.begin
+        (by_name b.channels.entries) b.threads.items b.pending b.archives.items b.schedule };
 
     ghost use Rattle.std.specs.Prelude.{◌≡◌, ◌<◌, true, is_some, vec_capacity, vec_len};
     ghost use Rattle.tr_session_book.specs.BookSteps.{IsBook};
 
-    // the place of the pending archive is reserved
+    // room for the pending archive is reserved
     ghost invariant = { λ b.
         (is_some b.pending ≡ true → vec_len b.archives < vec_capacity b.archives)
-        × IsBook (record {
-          uuid = b.uuid;
-          offset = b.offset;
-          mode = b.mode;
-          state = b.state;
-          rotated = b.rotated;
-          last = b.last;
-          begin = b.begin;
-          channels = by_name b.channels.entries;
-          threads = b.threads.items;
-          pending = b.pending;
-          archives = b.archives.items;
-          schedule = b.schedule;
-        }) };
+        × IsBook (session_book_state b.uuid b.offset b.mode b.state b.rotated b.last b.begin
+        (by_name b.channels.entries) b.threads.items b.pending b.archives.items b.schedule) };
 }
 
 impl<A: Allocator + Copy> SessionBook<A> {
@@ -129,9 +104,12 @@ impl<A: Allocator + Copy> SessionBook<A> {
         count: u64,
         mode: Mode,
     ) -> Result<(), SessionFault>
-        ensures ok { OnOk result (channel_added name.now size count mode self.old ≡ Ok self.new) }
-        ensures refused { IfErr result (λ fault. fault ≢ SessionFault.NoMemory → channel_added name.now size count mode self.old ≡ Err fault) }
-        ensures memory { result ≡ Err SessionFault.NoMemory → IsOk (channel_added name.now size count mode self.old) }
+        ensures ok { OnOk result (book_add_channel name.now size count mode self.old ≡ Ok self.new) }
+        ensures refused { IfErr result
+            (λ fault. fault ≢ SessionFault.NoMemory
+            → book_add_channel name.now size count mode self.old ≡ Err fault) }
+        ensures memory { result ≡ Err SessionFault.NoMemory
+            → IsOk (book_add_channel name.now size count mode self.old) }
         ensures streams { self.new.threads ≡ self.old.threads }
         ensures mode { self.new.mode ≡ self.old.mode }
         ensures unchanged { OnErr result (self.new ≡ self.old) }
@@ -140,7 +118,7 @@ impl<A: Allocator + Copy> SessionBook<A> {
         Ok(self.keep_channel(name, channel)?)
     }
 
-    /// Puts a channel of a new name behind the others.
+    /// Adds a channel with a new name after the others.
     fn keep_channel(&mut self, name: &Name<'_>, channel: Channel) -> Result<(), AllocError>
         requires free { is_some (channel_named name.now self.old) ≡ false }
         requires room { length self.old.channels < MOST_CHANNELS }
@@ -159,9 +137,10 @@ impl<A: Allocator + Copy> SessionBook<A> {
     /// `AlreadyStarted`, `NoChannel`, `TooMany`, `NoMemory`: nothing changed.
     pub fn add_thread(&mut self, channel: &str) -> Result<u64, SessionFault>
         ensures number { IfOk result (λ number. number ≡ length self.old.threads) }
-        ensures ok { OnOk result (thread_noted channel.now self.old ≡ Ok self.new) }
-        ensures refused { IfErr result (λ fault. fault ≢ SessionFault.NoMemory → thread_noted channel.now self.old ≡ Err fault) }
-        ensures memory { result ≡ Err SessionFault.NoMemory → IsOk (thread_noted channel.now self.old) }
+        ensures ok { OnOk result (book_add_thread channel.now self.old ≡ Ok self.new) }
+        ensures refused { IfErr result
+            (λ fault. fault ≢ SessionFault.NoMemory → book_add_thread channel.now self.old ≡ Err fault) }
+        ensures memory { result ≡ Err SessionFault.NoMemory → IsOk (book_add_thread channel.now self.old) }
         ensures unchanged { OnErr result (self.new ≡ self.old) }
     {
         let (place, _) = self.channel_at(channel)?;
@@ -170,7 +149,7 @@ impl<A: Allocator + Copy> SessionBook<A> {
         Ok(number)
     }
 
-    /// Puts a thread of the channel at this place behind the others.
+    /// Adds a thread of the channel at this place after the others.
     fn keep_thread(&mut self, place: usize) -> Result<(), AllocError>
         requires { length self.old.threads < MOST_STREAMS }
         ensures ok { OnOk result (self.new ≡ with_thread place self.old) }
@@ -180,17 +159,17 @@ impl<A: Allocator + Copy> SessionBook<A> {
         Ok(())
     }
 
-    /// Begins a rotation at a moment, and answers with the number of the chunk that it archives. The place of its archive
-    /// is reserved.
+    /// Begins a rotation at a moment, and answers with the number of the chunk that it archives. Room for its archive is
+    /// reserved.
     ///
     /// # Errors
     ///
     /// `SnapshotMode`, `NeverStarted`, `RotationPending`, `AlreadyRotated`, `NoMemory`: nothing changed.
     pub fn rotate_begin(&mut self, moment: Moment) -> Result<u64, SessionFault>
         ensures value { result ≢ Err SessionFault.NoMemory →
-            (result ≡ rotate_begin_answer self.old) × (self.new ≡ after_rotate_begin moment self.old) }
+            (result ≡ book_rotate_begin_answer self.old) × (self.new ≡ book_after_rotate_begin moment self.old) }
         ensures no_memory { result ≡ Err SessionFault.NoMemory → self.new ≡ self.old }
-        ensures memory { result ≡ Err SessionFault.NoMemory → IsOk (rotate_begin_answer self.old) }
+        ensures memory { result ≡ Err SessionFault.NoMemory → IsOk (book_rotate_begin_answer self.old) }
         ensures streams { self.new.threads ≡ self.old.threads }
         ensures mode { self.new.mode ≡ self.old.mode }
     {
@@ -204,7 +183,7 @@ impl<A: Allocator + Copy> SessionBook<A> {
         requires id { id ≡ length self.old.archives }
         requires local { self.old.mode ≡ SessionMode.Local }
         requires started { is_new self.old.state ≡ false }
-        ensures ok { OnOk result (self.new ≡ rotating moment self.old) }
+        ensures ok { OnOk result (self.new ≡ with_pending moment self.old) }
         ensures err { OnErr result (self.new ≡ self.old) }
     {
         self.archives.reserve(1)?;
@@ -223,7 +202,7 @@ impl<A: Allocator + Copy> SessionBook<A> {
 }
 
 impl<A: Allocator> SessionBook<A> {
-    /// The channel that is to be added, or why there is none.
+    /// The channel to add, or why it can't be added.
     fn channel_for(
         &self,
         name: &Name<'_>,
@@ -231,10 +210,12 @@ impl<A: Allocator> SessionBook<A> {
         count: u64,
         mode: Mode,
     ) -> Result<Channel, SessionFault>
-        ensures ok { IfOk result (λ channel. channel_added name.now size count mode self.now ≡ Ok (with_channel name.now channel self.now)) }
+        ensures ok { IfOk result
+            (λ channel. book_add_channel name.now size count mode self.now
+            ≡ Ok (with_channel name.now channel self.now)) }
         ensures free { OnOk result (is_some (channel_named name.now self.now) ≡ false) }
         ensures room { OnOk result (length self.now.channels < MOST_CHANNELS) }
-        ensures err { IfErr result (λ fault. channel_added name.now size count mode self.now ≡ Err fault) }
+        ensures err { IfErr result (λ fault. book_add_channel name.now size count mode self.now ≡ Err fault) }
         ensures reason { IfErr result (λ fault. fault ≢ SessionFault.NoMemory) }
     {
         if self.state != State::New {
@@ -255,7 +236,7 @@ impl<A: Allocator> SessionBook<A> {
         Ok(Channel { geometry, mode })
     }
 
-    /// The channel that a thread is to be added to, with its place, or why there is none.
+    /// The channel to which a thread is to be added, with its place, or why the thread can't be added.
     fn channel_at(&self, name: &str) -> Result<(usize, Channel), SessionFault>
         ensures place { IfOk result (λ found. thread_place name.now self.now ≡ Ok found.0) }
         ensures channel { IfOk result (λ found. channel_named name.now self.now ≡ Some found.1) }
@@ -275,7 +256,7 @@ impl<A: Allocator> SessionBook<A> {
         Ok((place, *channel))
     }
 
-    /// The channel that a thread of this name would be added to.
+    /// The channel of this name, to which a thread can be added.
     ///
     /// # Errors
     ///
@@ -290,9 +271,9 @@ impl<A: Allocator> SessionBook<A> {
         Ok(channel)
     }
 
-    /// The number of the chunk that a rotation would archive, or why there can be no rotation.
+    /// The number of the chunk that a rotation would archive, or why the session can't rotate.
     fn next_chunk(&self) -> Result<u64, SessionFault>
-        ensures value { result ≡ rotate_begin_answer self.now }
+        ensures value { result ≡ book_rotate_begin_answer self.now }
         ensures local { OnOk result (self.now.mode ≡ SessionMode.Local) }
         ensures started { OnOk result (is_new self.now.state ≡ false) }
     {
@@ -318,8 +299,8 @@ impl<A: Allocator> SessionBook<A> {
     ///
     /// `RotationPending`, `AlreadyActive`: nothing changed.
     pub fn start(&mut self, moment: Moment) -> Result<(), SessionFault>
-        ensures answer { result ≡ start_answer self.old }
-        ensures after { self.new ≡ after_start moment self.old }
+        ensures answer { result ≡ book_start_answer self.old }
+        ensures after { self.new ≡ book_after_start moment self.old }
         ensures streams { self.new.threads ≡ self.old.threads }
         ensures mode { self.new.mode ≡ self.old.mode }
     {
@@ -343,8 +324,8 @@ impl<A: Allocator> SessionBook<A> {
     ///
     /// `RotationPending`, `NotActive`: nothing changed.
     pub fn stop(&mut self) -> Result<(), SessionFault>
-        ensures answer { result ≡ stop_answer self.old }
-        ensures after { self.new ≡ after_stop self.old }
+        ensures answer { result ≡ book_stop_answer self.old }
+        ensures after { self.new ≡ book_after_stop self.old }
         ensures streams { self.new.threads ≡ self.old.threads }
         ensures mode { self.new.mode ≡ self.old.mode }
     {
@@ -365,7 +346,7 @@ impl<A: Allocator> SessionBook<A> {
     ///
     /// `NoStream`; `NotActive` to switch it on, `AlreadyActive` to switch it off.
     pub fn can_switch(&self, active: bool, i: u64) -> Result<(), SessionFault>
-        ensures { result ≡ switch_answer active i self.now }
+        ensures { result ≡ book_switch_answer active i self.now }
     {
         if i >= self.threads.len() as u64 {
             return Err(SessionFault::NoStream);
@@ -384,8 +365,8 @@ impl<A: Allocator> SessionBook<A> {
     ///
     /// # Errors
     ///
-    /// `NoStream`, `NotPending` where none is pending or it has cut the stream, `CutMissing` where one of a smaller number
-    /// isn't cut.
+    /// `NoStream`, `NotPending` if no rotation is pending or it has already cut the stream, `CutMissing` if a stream with a
+    /// smaller number isn't cut.
     pub fn cut_moment(&self, i: u64) -> Result<Moment, SessionFault>
         ensures value { result ≡ cut_moment i self.now }
         ensures local { OnOk result (self.now.mode ≡ SessionMode.Local) }
@@ -411,8 +392,8 @@ impl<A: Allocator> SessionBook<A> {
     ///
     /// Those of `cut_moment`: nothing changed.
     pub fn note_cut(&mut self, i: u64) -> Result<(), SessionFault>
-        ensures answer { result ≡ note_cut_answer i self.old }
-        ensures after { self.new ≡ after_note_cut i self.old }
+        ensures answer { result ≡ book_note_cut_answer i self.old }
+        ensures after { self.new ≡ book_after_note_cut i self.old }
     {
         match self.cut_moment(i) {
             Ok(_) => {
@@ -423,7 +404,7 @@ impl<A: Allocator> SessionBook<A> {
         }
     }
 
-    /// One stream more is cut, that of this number.
+    /// Counts the cut of the stream of this number.
     fn count_cut(&mut self, i: u64)
         requires { IsOk (cut_moment i self.old) }
         ensures { self.new ≡ with_cut self.old }
@@ -439,8 +420,8 @@ impl<A: Allocator> SessionBook<A> {
     ///
     /// `NotPending`, `CutMissing`: nothing changed.
     pub fn rotate_finish(&mut self) -> Result<Archive, SessionFault>
-        ensures answer { result ≡ rotate_finish_answer self.old }
-        ensures after { self.new ≡ after_rotate_finish self.old }
+        ensures answer { result ≡ book_rotate_finish_answer self.old }
+        ensures after { self.new ≡ book_after_rotate_finish self.old }
         ensures streams { self.new.threads ≡ self.old.threads }
         ensures mode { self.new.mode ≡ self.old.mode }
     {

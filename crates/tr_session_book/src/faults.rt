@@ -6,13 +6,13 @@ ghost use Rattle.tr_session_book.specs.Faults.{session_fault_code, session_fault
 use std::alloc::AllocError;
 use thiserror::Error;
 
-/// Why a call was refused. The session is as it was.
+/// Why a call was refused. The session is as it was, except that a whole rotation may be pending after `NoMemory`.
 #[derive(Clone, Copy, Debug, PartialEq, Eq, Error)]
 pub enum SessionFault {
     /// A snapshot session isn't rotated.
     #[error("S1 SnapshotMode")]
     SnapshotMode,
-    /// Snapshots are of snapshot sessions.
+    /// Only a snapshot session has snapshots.
     #[error("S2 NotSnapshotMode")]
     NotSnapshotMode,
     /// The session was never started.
@@ -21,7 +21,7 @@ pub enum SessionFault {
     /// A rotation is pending.
     #[error("S4 RotationPending")]
     RotationPending,
-    /// The session was rotated once since its stop.
+    /// The session was already rotated since its last stop.
     #[error("S5 AlreadyRotated")]
     AlreadyRotated,
     /// The session is active already.
@@ -39,22 +39,22 @@ pub enum SessionFault {
     /// The session was started, so nothing can be added.
     #[error("S10 AlreadyStarted")]
     AlreadyStarted,
-    /// No ring has such sub-buffers.
+    /// No ring can have such sub-buffers.
     #[error("S11 BadGeometry")]
     BadGeometry,
-    /// There are as many as there may be.
+    /// There are as many as are allowed.
     #[error("S12 TooMany")]
     TooMany,
-    /// No rotation is pending that hasn't cut the stream.
+    /// No rotation is pending, or it has already cut this stream.
     #[error("S13 NotPending")]
     NotPending,
-    /// A stream is still to be cut, which comes first.
+    /// A stream that must be cut first isn't cut.
     #[error("S14 CutMissing")]
     CutMissing,
     /// The name is taken.
     #[error("S15 NameTaken")]
     NameTaken,
-    /// Memory was refused.
+    /// An allocation failed.
     #[error("S16 NoMemory")]
     NoMemory,
     /// There is no channel of this name.
@@ -115,7 +115,7 @@ impl SessionFault {
 }
 
 impl SessionFault {
-    /// Whether memory was refused.
+    /// Whether an allocation failed.
     pub fn wants_memory(&self) -> bool
         ensures { result ≡ session_wants_memory self.now }
     {

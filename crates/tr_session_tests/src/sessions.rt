@@ -14,19 +14,16 @@ use std::process::Abort;
 use tr_session::{Session, StepFault};
 use tr_session_book::{SessionFault, State};
 use tr_stream::{CutFault, Fate, OfferFault, Offered, TakeFault, Taken};
-use tr_terms::{Mode, Moment, Name, OffsetMinutes, SessionMode};
+use tr_terms::{Mode, Name, OffsetMinutes, SessionMode};
+use tr_testing::moment;
 use uuid::Uuid;
 
-/// Holds what a test found to what it wanted. As a call without clauses it keeps the proofs of the tests short.
-fn assert_same<T: PartialEq + Debug + Drop>(rt: &impl Abort, found: T, wanted: T) {
-    assert_eq!(rt; found, wanted);
+/// Compares what a test found with what it expects. As a call without clauses it keeps the proofs of the tests short.
+fn assert_same<T: PartialEq + Debug + Drop>(rt: &impl Abort, found: T, expected: T) {
+    assert_eq!(rt; found, expected);
 }
 
 const PAYLOAD: [u8; 153] = [0x61; 153];
-
-fn moment(nanoseconds: u64) -> Moment {
-    Moment::new(nanoseconds).unwrap_or(Moment::zero())
-}
 
 /// A session of the nil identifier, at no offset.
 fn new_session<A: Allocator + Copy>(rt: &impl Abort, alloc: A, mode: SessionMode) -> Session<A> {
@@ -34,7 +31,7 @@ fn new_session<A: Allocator + Copy>(rt: &impl Abort, alloc: A, mode: SessionMode
     Session::new(alloc, Uuid::nil(), offset, mode)
 }
 
-/// Adds a channel of so many sub-buffers of this size.
+/// Adds a channel of this many sub-buffers of this size.
 fn add_channel<A: Allocator + Copy>(
     rt: &impl Abort,
     session: &mut Session<A>,
@@ -60,7 +57,7 @@ fn add_threads<A: Allocator + Copy>(
     }
 }
 
-/// A session of so many streams of one channel `c` with two sub-buffers of 256 bytes each. It isn't started.
+/// A session of this many streams of one channel `c` with two sub-buffers of 256 bytes each. It isn't started.
 fn with_streams<A: Allocator + Copy>(
     rt: &impl Abort,
     alloc: A,
@@ -86,7 +83,7 @@ fn offer<A: Allocator + Copy>(
     session.offer(i, moment(at), 7, payload)
 }
 
-/// Offers a payload of `len` bytes at each of these moments, which must be taken.
+/// Offers a payload of `len` bytes at each of these moments, which must be accepted.
 fn make_offers<A: Allocator + Copy>(
     rt: &impl Abort,
     session: &mut Session<A>,
@@ -98,12 +95,12 @@ fn make_offers<A: Allocator + Copy>(
     }
 }
 
-/// Holds the moment that the session stored last.
+/// Asserts the last moment that the session stored.
 fn assert_last<A: Allocator + Copy>(rt: &impl Abort, session: &Session<A>, moment: u64) {
     assert_same(rt, session.book().last().get(), moment);
 }
 
-/// Holds the fate of each record, told by its stream and its serial, to what it is.
+/// Asserts the fate of each record, by its stream and its serial.
 fn assert_fates(rt: &impl Abort, session: &Session, rows: &[(u64, u64, Option<Fate>)]) {
     for (i, serial, fate) in rows {
         let found = session.fate_of(*i, *serial);
@@ -111,14 +108,14 @@ fn assert_fates(rt: &impl Abort, session: &Session, rows: &[(u64, u64, Option<Fa
     }
 }
 
-/// Holds the number of a stream and how many offers it took.
+/// Asserts the number of a stream and how many offers it accepted.
 fn assert_offered(rt: &impl Abort, session: &Session, i: u64, offered: u64) {
     let stream = session.stream(i).expect(rt, "a stream");
     let found = (stream.config().number, stream.counts().offered);
     assert_same(rt, found, (i, offered));
 }
 
-/// Holds the sub-buffers of a stream and its mode, and its identifier to the session's.
+/// Asserts the sub-buffers of a stream and its mode, and that its identifier is the session's.
 fn assert_made(rt: &impl Abort, session: &Session, i: u64, size: usize, count: usize, mode: Mode) {
     let config = session.stream(i).expect(rt, "a stream").config();
     let geometry = (config.geometry.size(), config.geometry.count());
@@ -127,7 +124,7 @@ fn assert_made(rt: &impl Abort, session: &Session, i: u64, size: usize, count: u
     assert_same(rt, config.uuid, session.book().uuid());
 }
 
-// of the 176 bytes beside a packet's 80, two records of 74 leave room for one of 28 and for no third of 74
+// beside a packet's 80 bytes there are 176: two records of 74 leave room for one of 28 and for no third of 74
 #[test]
 fn one_stream_from_the_start_to_a_packet(rt: HostRuntime) {
     let mut session = with_streams(&rt, rt.alloc(), SessionMode::Local, Mode::Discard, 1);
@@ -199,7 +196,7 @@ fn streams_stand_apart(rt: HostRuntime) {
     assert!(rt; session.stream(3).is_none());
 }
 
-// two records of 88 bytes fill a sub-buffer, and the fifth drops the first one's two
+// two records of 88 bytes fill a sub-buffer, and the fifth overwrites the first two
 #[test]
 fn fates_tell_where_records_are(rt: HostRuntime) {
     let mut session = new_session(&rt, rt.alloc(), SessionMode::Local);
@@ -309,7 +306,7 @@ fn streams_are_refused_in_order(rt: HostRuntime) {
     assert_same(&rt, session.take(u64::MAX), Err(none));
 }
 
-/// Holds what a fault prints, and its code and its name, to this text.
+/// Asserts what a fault prints, and its code and its name.
 fn assert_printed(rt: &impl Abort, alloc: Global, fault: StepFault, text: &str) {
     let printed = format!(in alloc; "{fault}").expect(rt, "memory");
     assert_same(rt, printed.as_str(), text);

@@ -1,4 +1,4 @@
-//! The tests of the crates that are cheap to prove, a module for each: records, sub-buffers, rings, books of streams,
+//! The tests of the crates that are cheap to prove, a module for each: names, records, sub-buffers, rings, parts of streams,
 //! schedules, snapshots, books of sessions, and lines.
 #![tactic(auto)]
 

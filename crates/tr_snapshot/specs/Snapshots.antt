@@ -11,10 +11,13 @@ pub record SnapshotState : Type 0 where
   pub moment : ℕ
   pub streams : List SnapState
 
+abbrev pub snapshot_state : ℕ → List SnapState → SnapshotState
+snapshot_state moment streams = record { moment = moment; streams = streams }
+
 -- the records of all packets that are shown, in order
-abbrev pub records_shown : SnapState → List Entry
-records_shown s = flat_map (λ (p : Contents). p.records) s.packets
+abbrev pub entries_shown : SnapState → List Entry
+entries_shown s = flat_map (λ (p : Contents). p.records) s.packets
 
 -- the first record's serial
 abbrev pub oldest_in : SnapState → Option ℕ
-oldest_in s = option_map (λ (e : Entry). e.serial) (slice_get (records_shown s) 0)
+oldest_in s = option_map (λ (e : Entry). e.serial) (slice_get (entries_shown s) 0)

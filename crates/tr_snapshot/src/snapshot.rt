@@ -1,6 +1,7 @@
 //! A snapshot of a session.
 
 ghost use Rattle.std.specs.Prelude.{◌≡◌};
+ghost use Rattle.tr_snapshot.specs.Snapshots.{snapshot_state};
 
 use std::alloc::{Allocator, Global};
 use std::marker::Model;
@@ -15,17 +16,17 @@ pub struct Snapshot<A: Allocator = Global> {
 }
 
 impl<A: Allocator> Model for Snapshot<A> {
-    ghost use Rattle.tr_snapshot.specs.Snapshots.{SnapshotState};
+    ghost use Rattle.tr_snapshot.specs.Snapshots.{SnapshotState, snapshot_state};
 
     ghost Value = { SnapshotState };
 
-    ghost view = { λ s. record { moment = s.moment; streams = s.streams.items } };
+    ghost view = { λ s. snapshot_state s.moment s.streams.items };
 }
 
 impl<A: Allocator> Snapshot<A> {
     /// A snapshot of these streams at this moment. It takes no memory.
     pub fn new(moment: Moment, streams: Vec<StreamSnap<A>, A>) -> Snapshot<A>
-        ensures { result ≡ record { moment = moment; streams = streams.items } }
+        ensures { result ≡ snapshot_state moment streams.items }
     {
         Snapshot { moment, streams }
     }

@@ -1,16 +1,15 @@
--- What the bodies of a stream's calls owe, from what the ring, the parts and the book did.
+-- What is to be proved for the bodies of a stream's calls, from what the ring, the parts and the counters did.
 use Rattle.std.proofs.Common.{◌≡◌, ◌≢◌, ℕ, ◌+◌, ◌^◌, ◌≤◌, ◌<◌, zero, suc, Bool, false, List, [], ◌∷◌, ◌++◌, length, map, max, take, Option, Some, None, Result, Ok, Err, refl, sym, ◌∙◌, ap, subst, arith}
 use Rattle.std.proofs.lemmas.Grind.{common_steps}
 use Rattle.std.proofs.lemmas.List.{append-nil, map-append, length-map, take_more}
 use Rattle.std.proofs.lemmas.Option.{slice_get_within, get_or_from_slice_get}
 use Rattle.std.specs.Prelude.{slice_get}
-use Rattle.tr_book.specs.Book as noted
-use Rattle.tr_book.specs.Book.{BookState}
-use Rattle.tr_book.specs.Parts.{PartsState, records_of, no_parts, with_packet, with_packets, closed_part}
+use Rattle.tr_book.specs.Counters.{CountersState, at_moment, new_counters, with_consumed, with_offer, with_overwritten}
+use Rattle.tr_book.specs.Parts.{PartsState, records_of, no_parts, with_packet, with_packets, close_part}
 use Rattle.tr_packet.specs.Packets.{Contents, IsPacket}
 use Rattle.tr_record.specs.Records.{Entry}
 use Rattle.tr_ring.specs.ClosedBuffer.{ClosedBuffer}
-use Rattle.tr_ring.specs.Ring.{RingState, after_push, closing, emptied, empty_ring, push_answer, without_first}
+use Rattle.tr_ring.specs.Ring.{RingState, after_push, closed_current, clear_ring, empty_ring, push_answer, remove_oldest}
 use Rattle.tr_ring.specs.declared.pushed.Pushed.{Pushed}
 use Rattle.tr_ring.specs.declared.pushed.Pushed.TheVariants as pushed
 use Rattle.tr_stream.proofs.CutLaws.{cuts, records_in-ring}
@@ -20,14 +19,14 @@ use Rattle.tr_stream.proofs.Refinement.{with_moved}
 use Rattle.tr_stream.proofs.SessionLaws.{in-local}
 use Rattle.tr_stream.proofs.SoundLaws.{records_of-packets}
 use Rattle.tr_stream.proofs.TakeLaws.{takes}
-use Rattle.tr_stream.specs.Chunks.{packet_of, closing_if_any, ring_buffers}
+use Rattle.tr_stream.specs.Chunks.{packet_of, closed_if_any, ring_buffers}
 use Rattle.tr_stream.specs.History.{History}
 use Rattle.tr_stream.specs.Kept.{IsKept}
 use Rattle.tr_stream.specs.Sound.{IsMade, ArePackets}
 use Rattle.tr_stream.specs.StandsFor.{StandsFor}
 use Rattle.tr_stream.specs.State.{StreamState, in_ring}
-use Rattle.tr_stream.specs.StateSteps.{new_state, overwrites, booked, entered, refusal_of, offer_unless, state_unless, with_offer, offered_as, offer_result, state_after_offer, TakesMemory, moved_oldest, take_result, state_after_take, state_cut_at, cut_done, cut_result, state_after_cut}
-use Rattle.tr_stream.specs.Steps.{offer_answer, after_offer, take_answer, after_take, cut_answer, after_cut, taken_from}
+use Rattle.tr_stream.specs.StateSteps.{new_state, overwrites, counters_after_push, state_entry, refusal_of, state_answer_unless, state_unless, state_with_offer, offered_as, state_offer_answer, state_after_offer, TakesMemory, move_oldest, state_take_answer, state_after_take, state_cut_ring, cut_done, state_cut_answer, state_after_cut}
+use Rattle.tr_stream.specs.Steps.{history_offer_answer, history_after_offer, history_take_answer, history_after_take, history_cut_answer, history_after_cut, taken_from}
 use Rattle.tr_stream.specs.declared.answers.CutDone.{CutDone}
 use Rattle.tr_stream.specs.declared.answers.CutFault.{CutFault}
 use Rattle.tr_stream.specs.declared.answers.CutFault.TheVariants as cut_fault
@@ -41,71 +40,107 @@ use Rattle.tr_terms.specs.declared.session_mode.SessionMode.TheVariants.{Local}
 use Rattle.tr_stream.specs.declared.config.StreamConfig.{StreamConfig}
 use Rattle.tr_terms.specs.declared.limits.TheConstants.{LAST_MOMENT}
 
--- what is left of an offer once the ring has it
-pub kept-pushed : (s : StreamState) (moment id : ℕ) (payload : List ℕ) (e : Entry) (ring : RingState) (p : Pushed) (book : BookState) → IsKept s → refusal_of (length payload) s ≡ None → IsOffer moment id payload → e ≡ entered moment id payload s → p ≡ push_answer e s.ring → ring ≡ after_push e s.ring → book ≡ booked p e.moment s.book → IsKept (record { config = s.config; ring = ring; parts = s.parts; book = book; active = s.active })
-kept-pushed s moment id payload e ring p book is open_ offer entry pushed_is ring_is book_is =
+-- the rest of an offer, once the ring has it
+pub kept-pushed : (s : StreamState) (moment id : ℕ) (payload : List ℕ) (e : Entry) (ring : RingState) (p : Pushed)
+    (counters : CountersState) → IsKept s → refusal_of (length payload) s ≡ None → IsOffer moment id payload
+    → e ≡ state_entry moment id payload s → p ≡ push_answer e s.ring → ring ≡ after_push e s.ring
+    → counters ≡ counters_after_push p e.moment s.counters
+    → IsKept (record { config = s.config; ring = ring; parts = s.parts; counters = counters; active = s.active })
+kept-pushed s moment id payload e ring p counters is open_ offer entry pushed_is ring_is counters_is =
     let whole : IsKept (state_after_offer moment id payload s) = kept-offered s moment id payload offer is in
-    let accepts : state_after_offer moment id payload s ≡ with_offer (entered moment id payload s) s = ap (λ (r : Option OfferFault). state_unless r (entered moment id payload s) s) open_ in
-    let same : (let t : StreamState = record { config = s.config; ring = ring; parts = s.parts; book = book; active = s.active } in t) ≡ with_offer (entered moment id payload s) s = cc in
+    let accepts : state_after_offer moment id payload s ≡ state_with_offer (state_entry moment id payload s) s =
+    ap (λ (r : Option OfferFault). state_unless r (state_entry moment id payload s) s) open_ in
+    let same : (let t : StreamState =
+    record { config = s.config; ring = ring; parts = s.parts; counters = counters; active = s.active } in t)
+    ≡ state_with_offer (state_entry moment id payload s) s = cc in
     subst (λ (t : StreamState). IsKept t) (accepts ∙ sym same) whole
 
--- the book, by the ring's answer
-pub booked-stored : (p : Pushed) (seq moment : ℕ) (old new : BookState) → p ≡ pushed.Stored seq → new ≡ noted.with_offer moment old → new ≡ booked p moment old
+-- the counters, by the ring's answer
+pub booked-stored : (p : Pushed) (seq moment : ℕ) (old new : CountersState) → p ≡ pushed.Stored seq
+    → new ≡ with_offer moment old → new ≡ counters_after_push p moment old
 booked-stored p seq moment old new is noted = rw is noted
 
-pub booked-refused : (p : Pushed) (moment : ℕ) (old new : BookState) → p ≡ pushed.Refused → new ≡ noted.with_offer moment old → new ≡ booked p moment old
+pub booked-refused : (p : Pushed) (moment : ℕ) (old new : CountersState) → p ≡ pushed.Discarded
+    → new ≡ with_offer moment old → new ≡ counters_after_push p moment old
 booked-refused p moment old new is noted = rw is noted
 
-pub booked-over : (p : Pushed) (seq gone_seq gone_count moment : ℕ) (old between new : BookState) → p ≡ pushed.StoredOver seq gone_seq gone_count → between ≡ noted.with_offer moment old → new ≡ noted.with_overwritten gone_count between → new ≡ booked p moment old
+pub booked-over : (p : Pushed) (seq gone_seq gone_count moment : ℕ) (old between new : CountersState)
+    → p ≡ pushed.StoredOver seq gone_seq gone_count → between ≡ with_offer moment old
+    → new ≡ with_overwritten gone_count between → new ≡ counters_after_push p moment old
 booked-over p seq gone_seq gone_count moment old between new is first then =
-    then ∙ ap (noted.with_overwritten gone_count) first ∙ sym (ap (λ (q : Pushed). booked q moment old) is)
+    then ∙ ap (with_overwritten gone_count) first ∙ sym (ap (λ (q : Pushed). counters_after_push q moment old) is)
 
 -- a ring that stores takes memory
-pub takes-memory : (p : Pushed) (serial : ℕ) → p ≢ pushed.Refused → TakesMemory (Ok (offered_as serial p))
+pub takes-memory : (p : Pushed) (serial : ℕ) → p ≢ pushed.Discarded → TakesMemory (Ok (offered_as serial p))
 takes-memory (pushed.Stored seq) serial stores = tt
 takes-memory (pushed.StoredOver seq gone_seq gone_count) serial stores = tt
-takes-memory pushed.Refused serial stores = absurd (stores refl)
+takes-memory pushed.Discarded serial stores = absurd (stores refl)
 
--- an offer that isn't refused takes memory where the ring stores its record, by the state and by the history
-pub accepted-takes : (s : StreamState) (moment id : ℕ) (payload : List ℕ) → refusal_of (length payload) s ≡ None → TakesMemory (Ok (offered_as s.book.offered (push_answer (entered moment id payload s) s.ring))) → TakesMemory (offer_result moment id payload s)
+-- an offer that isn't refused takes memory if the ring stores its record, by the state and by the history
+pub accepted-takes : (s : StreamState) (moment id : ℕ) (payload : List ℕ) → refusal_of (length payload) s ≡ None
+    → TakesMemory (Ok (offered_as s.counters.offered (push_answer (state_entry moment id payload s) s.ring)))
+    → TakesMemory (state_offer_answer moment id payload s)
 accepted-takes s moment id payload open_ stores =
-    subst (λ (r : Option OfferFault). TakesMemory (offer_unless r (entered moment id payload s) s)) (sym open_) stores
+    subst (λ (r : Option OfferFault). TakesMemory (state_answer_unless r (state_entry moment id payload s) s)) (sym open_) stores
 
-pub step-takes : (s : StreamState) (h : History) (moment id : ℕ) (payload : List ℕ) → IsMade s.config s.ring → StandsFor s h → refusal_of (length payload) s ≡ None → TakesMemory (Ok (offered_as s.book.offered (push_answer (entered moment id payload s) s.ring))) → TakesMemory (offer_answer s.config payload h)
+pub step-takes : (s : StreamState) (h : History) (moment id : ℕ) (payload : List ℕ) → IsMade s.config s.ring → StandsFor s h
+    → refusal_of (length payload) s ≡ None
+    → TakesMemory (Ok (offered_as s.counters.offered (push_answer (state_entry moment id payload s) s.ring)))
+    → TakesMemory (history_offer_answer s.config payload h)
 step-takes s h moment id payload made is open_ stores =
-    subst (λ (r : Result Offered OfferFault). TakesMemory r) (offers s h moment id payload made is).0 (accepted-takes s moment id payload open_ stores)
+    subst (λ (r : Result Offered OfferFault). TakesMemory r) (offers s h moment id payload made is).0
+    (accepted-takes s moment id payload open_ stores)
 
 -- an accepted offer is the history's offer
-pub step-accepted : (s new : StreamState) (h : History) (moment id : ℕ) (payload : List ℕ) (answer : Offered) → IsMade s.config s.ring → StandsFor s h → refusal_of (length payload) s ≡ None → (let e = entered moment id payload s in (answer ≡ offered_as s.book.offered (push_answer e s.ring)) → new ≡ with_offer e s → ((let r : Result Offered OfferFault = Ok answer in r) ≡ offer_answer s.config payload h) × StandsFor new (after_offer s.config moment id payload h))
+pub step-accepted : (s new : StreamState) (h : History) (moment id : ℕ) (payload : List ℕ) (answer : Offered)
+    → IsMade s.config s.ring → StandsFor s h → refusal_of (length payload) s ≡ None
+    → (let e = state_entry moment id payload s in (answer ≡ offered_as s.counters.offered (push_answer e s.ring))
+    → new ≡ state_with_offer e s
+    → ((let r : Result Offered OfferFault = Ok answer in r) ≡ history_offer_answer s.config payload h)
+    × StandsFor new (history_after_offer s.config moment id payload h))
 step-accepted s new h moment id payload answer made is open_ told moved =
-    let e = entered moment id payload s in
+    let e = state_entry moment id payload s in
     let steps = offers s h moment id payload made is in
-    let accepts : state_after_offer moment id payload s ≡ with_offer e s = ap (λ (r : Option OfferFault). state_unless r e s) open_ in
-    let answers : offer_result moment id payload s ≡ Ok (offered_as s.book.offered (push_answer e s.ring)) = ap (λ (r : Option OfferFault). offer_unless r e s) open_ in
-    (ap (λ (o : Offered). (let r : Result Offered OfferFault = Ok o in r)) told ∙ sym answers ∙ steps.0, subst (λ (t : StreamState). StandsFor t (after_offer s.config moment id payload h)) (accepts ∙ sym moved) steps.1)
+    let accepts : state_after_offer moment id payload s ≡ state_with_offer e s = ap (λ (r : Option OfferFault). state_unless r e s) open_ in
+    let answers : state_offer_answer moment id payload s ≡ Ok (offered_as s.counters.offered (push_answer e s.ring)) =
+    ap (λ (r : Option OfferFault). state_answer_unless r e s) open_ in (
+      ap (λ (o : Offered). (let r : Result Offered OfferFault = Ok o in r)) told ∙ sym answers ∙ steps.0,
+      subst (λ (t : StreamState). StandsFor t (history_after_offer s.config moment id payload h)) (accepts ∙ sym moved)
+          steps.1,
+    )
 
 -- a take is the history's take
-pub step-taken : (s new : StreamState) (h : History) (answer : Result Taken TakeFault) → StandsFor s h → answer ≡ take_result s → new ≡ state_after_take s → (answer ≡ take_answer s.config h) × StandsFor new (after_take s.config h)
-step-taken s new h answer is told moved = (told ∙ (takes s h is).0, subst (λ (t : StreamState). StandsFor t (after_take s.config h)) (sym moved) (takes s h is).1)
+pub step-taken : (s new : StreamState) (h : History) (answer : Result Taken TakeFault) → StandsFor s h
+    → answer ≡ state_take_answer s → new ≡ state_after_take s
+    → (answer ≡ history_take_answer s.config h) × StandsFor new (history_after_take s.config h)
+step-taken s new h answer is told moved = (
+  told ∙ (takes s h is).0,
+  subst (λ (t : StreamState). StandsFor t (history_after_take s.config h)) (sym moved)
+      (takes s h is).1,
+)
 
-take-local : (s : StreamState) → s.config.session ≡ Local → take_result s ≡ taken_from s.parts.current.id s.ring.waiting
+take-local : (s : StreamState) → s.config.session ≡ Local → state_take_answer s ≡ taken_from s.parts.current.id s.ring.waiting
 take-local s local = in-local s.config.session (taken_from s.parts.current.id s.ring.waiting) (Err take_fault.SnapshotMode) local
 
-after-local : (s : StreamState) → s.config.session ≡ Local → state_after_take s ≡ moved_oldest s.ring.waiting s
-after-local s local = in-local s.config.session (moved_oldest s.ring.waiting s) s local
+after-local : (s : StreamState) → s.config.session ≡ Local → state_after_take s ≡ move_oldest s.ring.waiting s
+after-local s local = in-local s.config.session (move_oldest s.ring.waiting s) s local
 
-none_waits : (s : StreamState) (waiting : List ClosedBuffer) → length waiting ≡ 0 → ((let r : Result Taken TakeFault = Err Nothing in r) ≡ taken_from s.parts.current.id waiting) × (s ≡ moved_oldest waiting s)
+none_waits : (s : StreamState) (waiting : List ClosedBuffer) → length waiting ≡ 0
+    → ((let r : Result Taken TakeFault = Err Nothing in r) ≡ taken_from s.parts.current.id waiting)
+    × (s ≡ move_oldest waiting s)
 none_waits s [] none = (refl, refl)
 none_waits s (b ∷ bs) none = absurd (grind (arith, common_steps, none))
 
 -- nothing waits
-pub nothing-taken : (s : StreamState) → s.config.session ≡ Local → length s.ring.waiting ≡ 0 → ((let r : Result Taken TakeFault = Err Nothing in r) ≡ take_result s) × (s ≡ state_after_take s)
+pub nothing-taken : (s : StreamState) → s.config.session ≡ Local → length s.ring.waiting ≡ 0
+    → ((let r : Result Taken TakeFault = Err Nothing in r) ≡ state_take_answer s) × (s ≡ state_after_take s)
 nothing-taken s local none =
     let is = none_waits s s.ring.waiting none in
     (is.0 ∙ sym (take-local s local), is.1 ∙ sym (after-local s local))
 
 -- what waits can be sent
-pub waiting-at : (c : StreamConfig) (waiting : List ClosedBuffer) (i : ℕ) (b : ClosedBuffer) → slice_get waiting i ≡ Some b → ArePackets c waiting → IsPacket (packet_of c b)
+pub waiting-at : (c : StreamConfig) (waiting : List ClosedBuffer) (i : ℕ) (b : ClosedBuffer) → slice_get waiting i ≡ Some b
+    → ArePackets c waiting → IsPacket (packet_of c b)
 waiting-at c [] i b at are = cc
 waiting-at c (x ∷ xs) zero b at are = let e : x ≡ b = cc in subst (λ (y : ClosedBuffer). IsPacket (packet_of c y)) e are.0
 waiting-at c (x ∷ xs) (suc i) b at are = waiting-at c xs i b at are.1
@@ -114,34 +149,52 @@ waiting-at c (x ∷ xs) (suc i) b at are = waiting-at c xs i b at are.1
 pub oldest-is_packet : (s : StreamState) (b : ClosedBuffer) → IsKept s → slice_get s.ring.waiting 0 ≡ Some b → IsPacket (packet_of s.config b)
 oldest-is_packet s b is first = waiting-at s.config s.ring.waiting 0 b first is.sound.packets
 
-moved_first : (s : StreamState) (waiting : List ClosedBuffer) (b : ClosedBuffer) → slice_get waiting 0 ≡ Some b → moved_oldest waiting s ≡ with_moved b s
+moved_first : (s : StreamState) (waiting : List ClosedBuffer) (b : ClosedBuffer) → slice_get waiting 0 ≡ Some b
+    → move_oldest waiting s ≡ with_moved b s
 moved_first s [] b first = cc
 moved_first s (x ∷ xs) b first = let e : x ≡ b = cc in ap (λ (y : ClosedBuffer). with_moved y s) e
 
--- what is left of a take once the part has the packet
-pub moved-is : (s : StreamState) (b : ClosedBuffer) (ring : RingState) (parts : PartsState) (book : BookState) → slice_get s.ring.waiting 0 ≡ Some b → ring ≡ without_first s.ring → parts ≡ with_packet (packet_of s.config b) s.parts → book ≡ noted.with_consumed (length b.records) s.book → (let t : StreamState = record { config = s.config; ring = ring; parts = parts; book = book; active = s.active } in t) ≡ moved_oldest s.ring.waiting s
-moved-is s b ring parts book first ring_is parts_is book_is = let e = moved_first s s.ring.waiting b first in cc
+-- the rest of a take, once the part has the packet
+pub moved-is : (s : StreamState) (b : ClosedBuffer) (ring : RingState) (parts : PartsState) (counters : CountersState)
+    → slice_get s.ring.waiting 0 ≡ Some b → ring ≡ remove_oldest s.ring → parts ≡ with_packet (packet_of s.config b) s.parts
+    → counters ≡ with_consumed (length b.records) s.counters
+    → (let t : StreamState = record {
+      config = s.config;
+      ring = ring;
+      parts = parts;
+      counters = counters;
+      active = s.active;
+    } in t) ≡ move_oldest s.ring.waiting s
+moved-is s b ring parts counters first ring_is parts_is counters_is = let e = moved_first s s.ring.waiting b first in cc
 
-pub moved-local : (s : StreamState) (b : ClosedBuffer) (ring : RingState) (parts : PartsState) (book : BookState) → s.config.session ≡ Local → slice_get s.ring.waiting 0 ≡ Some b → ring ≡ without_first s.ring → parts ≡ with_packet (packet_of s.config b) s.parts → book ≡ noted.with_consumed (length b.records) s.book → (let t : StreamState = record { config = s.config; ring = ring; parts = parts; book = book; active = s.active } in t) ≡ state_after_take s
-moved-local s b ring parts book local first ring_is parts_is book_is = moved-is s b ring parts book first ring_is parts_is book_is ∙ sym (after-local s local)
+pub moved-local : (s : StreamState) (b : ClosedBuffer) (ring : RingState) (parts : PartsState) (counters : CountersState)
+    → s.config.session ≡ Local → slice_get s.ring.waiting 0 ≡ Some b → ring ≡ remove_oldest s.ring
+    → parts ≡ with_packet (packet_of s.config b) s.parts → counters ≡ with_consumed (length b.records) s.counters
+    → (let t : StreamState = record {
+      config = s.config;
+      ring = ring;
+      parts = parts;
+      counters = counters;
+      active = s.active;
+    } in t) ≡ state_after_take s
+moved-local s b ring parts counters local first ring_is parts_is counters_is =
+    moved-is s b ring parts counters first ring_is parts_is counters_is ∙ sym (after-local s local)
 
-pub kept-moved : (s : StreamState) (b : ClosedBuffer) (ring : RingState) (parts : PartsState) (book : BookState) → s.config.session ≡ Local → IsKept s → slice_get s.ring.waiting 0 ≡ Some b → ring ≡ without_first s.ring → parts ≡ with_packet (packet_of s.config b) s.parts → book ≡ noted.with_consumed (length b.records) s.book → IsKept (record { config = s.config; ring = ring; parts = parts; book = book; active = s.active })
-kept-moved s b ring parts book local is first ring_is parts_is book_is = subst (λ (t : StreamState). IsKept t) (sym (moved-is s b ring parts book first ring_is parts_is book_is)) (kept-oldest s local is)
-
--- a record with the fields of another
-pub copied-is : (e f : Entry) (serial moment id : ℕ) (payload : List ℕ) → f ≡ record { serial = serial; moment = moment; id = id; payload = payload } → serial ≡ e.serial → moment ≡ e.moment → id ≡ e.id → payload ≡ e.payload → f ≡ e
-copied-is e f serial moment id payload is a b c d = rw (a, b, c, d) at is
-
--- one record more is copied
-pub copied-more : (records copies more : List Entry) (i : ℕ) (e f : Entry) → slice_get records i ≡ Some e → f ≡ e → copies ≡ take i records → more ≡ copies ++ f ∷ [] → more ≡ take (i + 1) records
-copied-more records copies more i e f got same so pushed =
-    let next : take (i + 1) records ≡ take i records ++ e ∷ [] =
-    take_more records i e (slice_get_within records i e got) ∙ ap (λ (x : Entry). take i records ++ x ∷ []) (get_or_from_slice_get records i e e got) in
-    cc
+pub kept-moved : (s : StreamState) (b : ClosedBuffer) (ring : RingState) (parts : PartsState) (counters : CountersState)
+    → s.config.session ≡ Local → IsKept s → slice_get s.ring.waiting 0 ≡ Some b → ring ≡ remove_oldest s.ring
+    → parts ≡ with_packet (packet_of s.config b) s.parts → counters ≡ with_consumed (length b.records) s.counters
+    → IsKept (record { config = s.config; ring = ring; parts = parts; counters = counters; active = s.active })
+kept-moved s b ring parts counters local is first ring_is parts_is counters_is =
+    subst (λ (t : StreamState). IsKept t) (sym (moved-is s b ring parts counters first ring_is parts_is counters_is))
+    (kept-oldest s local is)
 
 -- what a new stream is made of
-pub new-is : (c : StreamConfig) (ring : RingState) (parts : PartsState) (book : BookState) (size count : ℕ) (over : Bool) → ring ≡ empty_ring size count over → parts ≡ no_parts → book ≡ noted.empty_book → size ≡ c.geometry.size → count ≡ c.geometry.count → over ≡ overwrites c.mode → (let t : StreamState = record { config = c; ring = ring; parts = parts; book = book; active = false } in t) ≡ new_state c
-new-is c ring parts book size count over a b d e f g = cc
+pub new-is : (c : StreamConfig) (ring : RingState) (parts : PartsState) (counters : CountersState) (size count : ℕ)
+    (over : Bool) → ring ≡ empty_ring size count over → parts ≡ no_parts → counters ≡ new_counters → size ≡ c.geometry.size
+    → count ≡ c.geometry.count → over ≡ overwrites c.mode
+    → (let t : StreamState = record { config = c; ring = ring; parts = parts; counters = counters; active = false } in t)
+    ≡ new_state c
+new-is c ring parts counters size count over a b d e f g = cc
 
 -- there is one at each place
 pub is-there : (waiting : List ClosedBuffer) (i : ℕ) → i < length waiting → slice_get waiting i ≡ None → ⊥
@@ -149,64 +202,109 @@ is-there [] i within none = absurd (omega (arith, within))
 is-there (b ∷ bs) zero within none = cc
 is-there (b ∷ bs) (suc i) within none = is-there bs i (grind (arith, common_steps, within)) none
 
--- one packet more
-pub packed-more : (c : StreamConfig) (waiting : List ClosedBuffer) (packets more : List Contents) (i : ℕ) (b : ClosedBuffer) (p : Contents) → slice_get waiting i ≡ Some b → p ≡ packet_of c b → packets ≡ map (packet_of c) (take i waiting) → more ≡ packets ++ p ∷ [] → more ≡ map (packet_of c) (take (i + 1) waiting)
+-- one more packet
+pub packed-more : (c : StreamConfig) (waiting : List ClosedBuffer) (packets more : List Contents) (i : ℕ) (b : ClosedBuffer)
+    (p : Contents) → slice_get waiting i ≡ Some b → p ≡ packet_of c b → packets ≡ map (packet_of c) (take i waiting)
+    → more ≡ packets ++ p ∷ [] → more ≡ map (packet_of c) (take (i + 1) waiting)
 packed-more c waiting packets more i b p got same so pushed =
     let next : take (i + 1) waiting ≡ take i waiting ++ b ∷ [] =
-    take_more waiting i b (slice_get_within waiting i b got) ∙ ap (λ (x : ClosedBuffer). take i waiting ++ x ∷ []) (get_or_from_slice_get waiting i b b got) in
-    let joined : map (packet_of c) (take i waiting ++ b ∷ []) ≡ map (packet_of c) (take i waiting) ++ packet_of c b ∷ [] = map-append (packet_of c) (take i waiting) (b ∷ []) in
+    take_more waiting i b (slice_get_within waiting i b got)
+    ∙ ap (λ (x : ClosedBuffer). take i waiting ++ x ∷ []) (get_or_from_slice_get waiting i b b got) in
+    let joined : map (packet_of c) (take i waiting ++ b ∷ []) ≡ map (packet_of c) (take i waiting) ++ packet_of c b ∷ [] =
+    map-append (packet_of c) (take i waiting) (b ∷ []) in
     cc
 
--- the ring's packets, the current sub-buffer's among them if it has a record
-pub packed-waiting : (c : StreamConfig) (ring : RingState) (end : ℕ) (packets : List Contents) → packets ≡ map (packet_of c) ring.waiting → length ring.current ≡ 0 → packets ≡ map (packet_of c) (ring_buffers end ring)
+-- the ring's packets, with the current sub-buffer's if it has a record
+pub packed-waiting : (c : StreamConfig) (ring : RingState) (end : ℕ) (packets : List Contents)
+    → packets ≡ map (packet_of c) ring.waiting → length ring.current ≡ 0
+    → packets ≡ map (packet_of c) (ring_buffers end ring)
 packed-waiting c ring end packets are none =
-    let nothing : closing_if_any ring.seq end ring.refused ring.current ≡ [] = none_closing ring.current none in
-    are ∙ ap (map (packet_of c)) (sym (append-nil ring.waiting)) ∙ ap (λ (bs : List ClosedBuffer). map (packet_of c) (ring.waiting ++ bs)) (sym nothing)
+    let nothing : closed_if_any ring.seq end ring.discarded ring.current ≡ [] = none_closing ring.current none in
+    are ∙ ap (map (packet_of c)) (sym (append-nil ring.waiting))
+    ∙ ap (λ (bs : List ClosedBuffer). map (packet_of c) (ring.waiting ++ bs)) (sym nothing)
   where
-    none_closing : (es : List Entry) → length es ≡ 0 → closing_if_any ring.seq end ring.refused es ≡ []
+    none_closing : (es : List Entry) → length es ≡ 0 → closed_if_any ring.seq end ring.discarded es ≡ []
     none_closing [] e = refl
     none_closing (x ∷ es) e = absurd (grind (arith, common_steps, e))
 
-pub packed-all : (c : StreamConfig) (ring : RingState) (end : ℕ) (packets more : List Contents) (p : Contents) → packets ≡ map (packet_of c) ring.waiting → length ring.current ≢ 0 → p ≡ packet_of c (closing end ring) → more ≡ packets ++ p ∷ [] → more ≡ map (packet_of c) (ring_buffers end ring)
+pub packed-all : (c : StreamConfig) (ring : RingState) (end : ℕ) (packets more : List Contents) (p : Contents)
+    → packets ≡ map (packet_of c) ring.waiting → length ring.current ≢ 0 → p ≡ packet_of c (closed_current end ring)
+    → more ≡ packets ++ p ∷ [] → more ≡ map (packet_of c) (ring_buffers end ring)
 packed-all c ring end packets more p are some last pushed =
-    let it : closing_if_any ring.seq end ring.refused ring.current ≡ closing end ring ∷ [] = one_closing ring.current some in
-    let joined : map (packet_of c) (ring.waiting ++ closing end ring ∷ []) ≡ map (packet_of c) ring.waiting ++ packet_of c (closing end ring) ∷ [] = map-append (packet_of c) ring.waiting (closing end ring ∷ []) in
+    let it : closed_if_any ring.seq end ring.discarded ring.current ≡ closed_current end ring ∷ [] = one_closing ring.current some in
+    let joined : map (packet_of c) (ring.waiting ++ closed_current end ring ∷ [])
+    ≡ map (packet_of c) ring.waiting ++ packet_of c (closed_current end ring) ∷ [] =
+    map-append (packet_of c) ring.waiting (closed_current end ring ∷ []) in
     cc
   where
-    one_closing : (es : List Entry) → length es ≢ 0 → closing_if_any ring.seq end ring.refused es ≡ record { seq = ring.seq; end = end; lost = ring.refused; records = es } ∷ []
+    one_closing : (es : List Entry) → length es ≢ 0
+        → closed_if_any ring.seq end ring.discarded es
+        ≡ record { seq = ring.seq; end = end; discarded = ring.discarded; records = es } ∷ []
     one_closing [] some = absurd (some refl)
     one_closing (e ∷ es) some = refl
 
--- the packets of a ring have its records, which fit a counter beside those of the part
-pub cut-fits : (s : StreamState) (end : ℕ) (packets : List Contents) → IsKept s → packets ≡ map (packet_of s.config) (ring_buffers end s.ring) → records_of s.parts.current.packets + records_of packets < 2 ^ 64
+-- the packets of a ring have its records, and a counter has room for these and those of the part
+pub cut-fits : (s : StreamState) (end : ℕ) (packets : List Contents) → IsKept s
+    → packets ≡ map (packet_of s.config) (ring_buffers end s.ring)
+    → records_of s.parts.current.packets + records_of packets < 2 ^ 64
 cut-fits s end packets is are =
     let sound = is.sound in
-    let count : records_of packets ≡ in_ring s.ring = ap records_of are ∙ records_of-packets s.config (ring_buffers end s.ring) ∙ records_in-ring s end in
+    let count : records_of packets ≡ in_ring s.ring =
+    ap records_of are ∙ records_of-packets s.config (ring_buffers end s.ring) ∙ records_in-ring s end in
     omega (arith, count, sound.total, sound.consumed, sound.few)
 
--- what a cut tells
-pub cut-told : (s : StreamState) (end k len count : ℕ) (packets : List Contents) → packets ≡ map (packet_of s.config) (ring_buffers end s.ring) → k ≡ s.parts.current.id → len ≡ length packets → count ≡ in_ring s.ring → (let d : CutDone = record { chunk = k; packets = len; records = count } in d) ≡ cut_done end s
+-- what a cut answers
+pub cut-told : (s : StreamState) (end k len count : ℕ) (packets : List Contents)
+    → packets ≡ map (packet_of s.config) (ring_buffers end s.ring) → k ≡ s.parts.current.id → len ≡ length packets
+    → count ≡ in_ring s.ring → (let d : CutDone = record { chunk = k; packets = len; records = count } in d)
+    ≡ cut_done end s
 cut-told s end k len count packets are chunk_is len_is count_is =
     let e : length packets ≡ length (ring_buffers end s.ring) = ap length are ∙ length-map (ring_buffers end s.ring) (packet_of s.config) in
     let f = records_in-ring s end in
     cc
 
--- what is left of a cut once the parts have the packets
-pub cut-is : (s : StreamState) (end count : ℕ) (packets : List Contents) (ring : RingState) (parts : PartsState) (noted_ book : BookState) → packets ≡ map (packet_of s.config) (ring_buffers end s.ring) → ring ≡ emptied s.ring → parts ≡ closed_part (with_packets packets s.parts) → count ≡ in_ring s.ring → noted_ ≡ noted.with_consumed count s.book → book ≡ noted.at_moment end noted_ → (let t : StreamState = record { config = s.config; ring = ring; parts = parts; book = book; active = s.active } in t) ≡ state_cut_at end s
-cut-is s end count packets ring parts noted_ book packets_are ring_is parts_is count_is first then = cc
+-- the rest of a cut, once the parts have the packets
+pub cut-is : (s : StreamState) (end count : ℕ) (packets : List Contents) (ring : RingState) (parts : PartsState)
+    (noted_ counters : CountersState) → packets ≡ map (packet_of s.config) (ring_buffers end s.ring)
+    → ring ≡ clear_ring s.ring → parts ≡ close_part (with_packets packets s.parts) → count ≡ in_ring s.ring
+    → noted_ ≡ with_consumed count s.counters → counters ≡ at_moment end noted_
+    → (let t : StreamState = record {
+      config = s.config;
+      ring = ring;
+      parts = parts;
+      counters = counters;
+      active = s.active;
+    } in t) ≡ state_cut_ring end s
+cut-is s end count packets ring parts noted_ counters packets_are ring_is parts_is count_is first then = cc
 
-pub kept-cut_now : (s : StreamState) (end count : ℕ) (packets : List Contents) (ring : RingState) (parts : PartsState) (noted_ book : BookState) → s.config.session ≡ Local → IsKept s → s.book.last ≤ end → end ≤ LAST_MOMENT → packets ≡ map (packet_of s.config) (ring_buffers end s.ring) → ring ≡ emptied s.ring → parts ≡ closed_part (with_packets packets s.parts) → count ≡ in_ring s.ring → noted_ ≡ noted.with_consumed count s.book → book ≡ noted.at_moment end noted_ → IsKept (record { config = s.config; ring = ring; parts = parts; book = book; active = s.active })
-kept-cut_now s end count packets ring parts noted_ book local is later in_time packets_are ring_is parts_is count_is first then =
-    subst (λ (t : StreamState). IsKept t) (sym (cut-is s end count packets ring parts noted_ book packets_are ring_is parts_is count_is first then)) (kept-cut s end local later in_time is)
+pub kept-cut_now : (s : StreamState) (end count : ℕ) (packets : List Contents) (ring : RingState) (parts : PartsState)
+    (noted_ counters : CountersState) → s.config.session ≡ Local → IsKept s → s.counters.last ≤ end → end ≤ LAST_MOMENT
+    → packets ≡ map (packet_of s.config) (ring_buffers end s.ring) → ring ≡ clear_ring s.ring
+    → parts ≡ close_part (with_packets packets s.parts) → count ≡ in_ring s.ring → noted_ ≡ with_consumed count s.counters
+    → counters ≡ at_moment end noted_
+    → IsKept (record { config = s.config; ring = ring; parts = parts; counters = counters; active = s.active })
+kept-cut_now s end count packets ring parts noted_ counters local is later in_time packets_are ring_is parts_is count_is first then =
+    subst (λ (t : StreamState). IsKept t)
+    (sym (cut-is s end count packets ring parts noted_ counters packets_are ring_is parts_is count_is first then))
+    (kept-cut s end local later in_time is)
 
 -- a cut is the history's cut
-pub step-cut : (s new : StreamState) (h : History) (moment : ℕ) (answer : Result CutDone CutFault) → StandsFor s h → answer ≡ cut_result moment s → new ≡ state_after_cut moment s → (answer ≡ cut_answer s.config moment h) × StandsFor new (after_cut s.config moment h)
-step-cut s new h moment answer is told moved = (told ∙ (cuts s h moment is).0, subst (λ (t : StreamState). StandsFor t (after_cut s.config moment h)) (sym moved) (cuts s h moment is).1)
+pub step-cut : (s new : StreamState) (h : History) (moment : ℕ) (answer : Result CutDone CutFault) → StandsFor s h
+    → answer ≡ state_cut_answer moment s → new ≡ state_after_cut moment s
+    → (answer ≡ history_cut_answer s.config moment h) × StandsFor new (history_after_cut s.config moment h)
+step-cut s new h moment answer is told moved = (
+  told ∙ (cuts s h moment is).0,
+  subst (λ (t : StreamState). StandsFor t (history_after_cut s.config moment h)) (sym moved) (cuts s h moment is).1,
+)
 
 -- in a local session a cut is done
-pub cut-local : (s new : StreamState) (moment end : ℕ) (done : CutDone) → s.config.session ≡ Local → end ≡ max moment s.book.last → done ≡ cut_done end s → new ≡ state_cut_at end s → ((let r : Result CutDone CutFault = Ok done in r) ≡ cut_result moment s) × (new ≡ state_after_cut moment s)
+pub cut-local : (s new : StreamState) (moment end : ℕ) (done : CutDone) → s.config.session ≡ Local
+    → end ≡ max moment s.counters.last → done ≡ cut_done end s → new ≡ state_cut_ring end s
+    → ((let r : Result CutDone CutFault = Ok done in r) ≡ state_cut_answer moment s) × (new ≡ state_after_cut moment s)
 cut-local s new moment end done local at told moved =
-    let end_is : max moment s.book.last ≡ end = sym at in (
-      ap (λ (d : CutDone). (let r : Result CutDone CutFault = Ok d in r)) (told ∙ ap (λ (m : ℕ). cut_done m s) at) ∙ sym (in-local s.config.session (Ok (cut_done (max moment s.book.last) s)) (Err cut_fault.SnapshotMode) local),
-      moved ∙ ap (λ (m : ℕ). state_cut_at m s) at ∙ sym (in-local s.config.session (state_cut_at (max moment s.book.last) s) s local),
+    let end_is : max moment s.counters.last ≡ end = sym at in (
+      ap (λ (d : CutDone). (let r : Result CutDone CutFault = Ok d in r)) (told ∙ ap (λ (m : ℕ). cut_done m s) at)
+          ∙ sym (in-local s.config.session (Ok (cut_done (max moment s.counters.last) s)) (Err cut_fault.SnapshotMode)
+          local),
+      moved ∙ ap (λ (m : ℕ). state_cut_ring m s) at ∙ sym (in-local s.config.session (state_cut_ring (max moment s.counters.last) s) s local),
     )

@@ -39,9 +39,15 @@ not_kept_above cuts k Dropped le old = refl
 not_kept_above cuts k (Kept j) le old = grind (arith, nat_tests)
 
 -- a chunk that wasn't begun is empty
-pub none_above : (cuts k lost : ℕ) (cs : List Closed) → cuts < k → AllWithinCuts cuts cs → buffers_where (is_kept_in k) lost cs ≡ []
-none_above cuts k lost [] lt old = refl
-none_above cuts k lost (c ∷ cs) lt old = grind (arith, common_steps, not_kept_above cuts k c.status lt old.0, none_above cuts k (lost + length c.block.missed) cs lt old.1)
+pub none_above : (cuts k discarded : ℕ) (cs : List Closed) → cuts < k → AllWithinCuts cuts cs → buffers_where (is_kept_in k) discarded cs ≡ []
+none_above cuts k discarded [] lt old = refl
+none_above cuts k discarded (c ∷ cs) lt old =
+    grind (
+      arith,
+      common_steps,
+      not_kept_above cuts k c.status lt old.0,
+      none_above cuts k (discarded + length c.block.discarded) cs lt old.1,
+    )
 
 pub CoversFrom-keep_waiting : (low k : ℕ) (cs : List Closed) → CoversFrom low cs → CoversFrom low (keep_waiting k cs)
 CoversFrom-keep_waiting low k [] old = tt
@@ -61,5 +67,5 @@ LastHeld-push [] c new = new
 LastHeld-push (d ∷ []) c new = new
 LastHeld-push (d ∷ e ∷ es) c new = LastHeld-push (e ∷ es) c new
 
-pub Covers-none : (low number : ℕ) → Covers low (record { number = number; records = []; missed = [] })
+pub Covers-none : (low number : ℕ) → Covers low (record { number = number; records = []; discarded = [] })
 Covers-none low number = record { starts = refl; rise = tt; within = omega arith }

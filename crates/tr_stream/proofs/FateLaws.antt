@@ -13,10 +13,10 @@ use Rattle.tr_terms.specs.declared.mode.Mode.TheVariants as mode
 use Rattle.tr_record.specs.Records.{Entry, has_serial}
 use Rattle.tr_ring.specs.ClosedBuffer.{ClosedBuffer}
 use Rattle.tr_ring.specs.Ring.{seq_waiting, seq_of}
-use Rattle.tr_stream.proofs.ChunkLaws.{records_where-cons, missed_in-cons}
+use Rattle.tr_stream.proofs.ChunkLaws.{records_where-cons, discarded_in-cons}
 use Rattle.tr_stream.specs.Chunks.{buffers_where, chunk_of, waiting_of, packet_of, part_of, parts_below}
-use Rattle.tr_stream.specs.Fates.{misses, holder, status_fate, holder_fate, fate_of, all_parts, fate_in_parts, fate_in_ring, held_fate, loss_of, state_fate}
-use Rattle.tr_stream.specs.History.{Status, Waiting, Dropped, Kept, Block, Closed, History, is_waiting, is_dropped, is_kept_in, missed_in, records_where, discarded_of, times_in}
+use Rattle.tr_stream.specs.Fates.{is_discarded_in, holder, status_fate, holder_fate, history_fate, all_parts, fate_in_parts, fate_in_ring, held_fate, loss_of, state_fate}
+use Rattle.tr_stream.specs.History.{Status, Waiting, Dropped, Kept, Block, Closed, History, is_waiting, is_dropped, is_kept_in, discarded_in, records_where, discarded_of, times_in}
 use Rattle.tr_stream.specs.Kept.{IsKept}
 use Rattle.tr_stream.specs.Sound.{LosesByMode}
 use Rattle.tr_stream.specs.StandsFor.{StandsFor}
@@ -34,22 +34,30 @@ counts_none : {X : Type 0} (p : X → Bool) (xs : List X) → list_any p xs ≡ 
 counts_none p [] none = refl
 counts_none p (x ∷ xs) none = grind (arith, common_steps, counts_none p xs, sum_by-cons (λ y. cond (p y) 1 0) x xs)
 
--- how often the records of blocks have a serial, and how often blocks miss it
+-- how often the records of blocks have a serial, and how often it was discarded while blocks were filling
 abbrev held_times : ℕ → List Closed → ℕ
 held_times n cs = sum_by (λ (c : Closed). count_by (λ (r : Entry). eqb r.serial n) c.block.records) cs
 
-abbrev missed_times : ℕ → List Closed → ℕ
-missed_times n cs = sum_by (λ (c : Closed). count_by (λ (m : ℕ). eqb m n) c.block.missed) cs
+abbrev discarded_times : ℕ → List Closed → ℕ
+discarded_times n cs = sum_by (λ (c : Closed). count_by (λ (m : ℕ). eqb m n) c.block.discarded) cs
 
-held_times-cons : (n : ℕ) (c : Closed) (cs : List Closed) → held_times n (c ∷ cs) ≡ count_by (λ (r : Entry). eqb r.serial n) c.block.records + held_times n cs
+held_times-cons : (n : ℕ) (c : Closed) (cs : List Closed)
+    → held_times n (c ∷ cs) ≡ count_by (λ (r : Entry). eqb r.serial n) c.block.records + held_times n cs
 held_times-cons n c cs = sum_by-cons (λ (c : Closed). count_by (λ (r : Entry). eqb r.serial n) c.block.records) c cs
 
-missed_times-cons : (n : ℕ) (c : Closed) (cs : List Closed) → missed_times n (c ∷ cs) ≡ count_by (λ (m : ℕ). eqb m n) c.block.missed + missed_times n cs
-missed_times-cons n c cs = sum_by-cons (λ (c : Closed). count_by (λ (m : ℕ). eqb m n) c.block.missed) c cs
+discarded_times-cons : (n : ℕ) (c : Closed) (cs : List Closed)
+    → discarded_times n (c ∷ cs) ≡ count_by (λ (m : ℕ). eqb m n) c.block.discarded + discarded_times n cs
+discarded_times-cons n c cs = sum_by-cons (λ (c : Closed). count_by (λ (m : ℕ). eqb m n) c.block.discarded) c cs
 
-times-split : (n : ℕ) (cs : List Closed) → sum_by (λ (c : Closed). times_in n c.block) cs ≡ held_times n cs + missed_times n cs
+times-split : (n : ℕ) (cs : List Closed) → sum_by (λ (c : Closed). times_in n c.block) cs ≡ held_times n cs + discarded_times n cs
 times-split n [] = refl
-times-split n (c ∷ cs) = omega (arith, times-split n cs, held_times-cons n c cs, missed_times-cons n c cs, sum_by-cons (λ (c : Closed). times_in n c.block) c cs)
+times-split n (c ∷ cs) = omega (
+  arith,
+  times-split n cs,
+  held_times-cons n c cs,
+  discarded_times-cons n c cs,
+  sum_by-cons (λ (c : Closed). times_in n c.block) c cs,
+)
 
 has_counts : (n : ℕ) (rs : List Entry) → has_serial n rs ≡ true → 0 < count_by (λ (r : Entry). eqb r.serial n) rs
 has_counts n rs has = counts_any (λ (r : Entry). eqb r.serial n) rs has
@@ -58,19 +66,40 @@ hasn't_count : (n : ℕ) (rs : List Entry) → has_serial n rs ≡ false → cou
 hasn't_count n rs not = counts_none (λ (r : Entry). eqb r.serial n) rs not
 
 -- what the search finds is held
-found_counts : (wanted : Status → Bool) (n lost : ℕ) (cs : List Closed) (q : ℕ) → seq_waiting n (buffers_where wanted lost cs) ≡ Some q → 0 < held_times n cs
-found_counts wanted n lost [] q found = cc
-found_counts wanted n lost (c ∷ cs) q found = grind (arith, common_steps, found_counts wanted n (lost + length c.block.missed) cs q, held_times-cons n c cs, has_counts n c.block.records)
+found_counts : (wanted : Status → Bool) (n discarded : ℕ) (cs : List Closed) (q : ℕ)
+    → seq_waiting n (buffers_where wanted discarded cs) ≡ Some q → 0 < held_times n cs
+found_counts wanted n discarded [] q found = cc
+found_counts wanted n discarded (c ∷ cs) q found =
+    grind (
+      arith,
+      common_steps,
+      found_counts wanted n (discarded + length c.block.discarded) cs q,
+      held_times-cons n c cs,
+      has_counts n c.block.records,
+    )
 
--- what the search finds among the blocks of a status tells the fate
-found : (wanted : Status → Bool) (F : ℕ → Fate) → ((st : Status) (q : ℕ) → wanted st ≡ true → status_fate st q ≡ F q) → (n lost : ℕ) (cs : List Closed) (filling : Block) (q : ℕ) → held_times n cs ≤ 1 → seq_waiting n (buffers_where wanted lost cs) ≡ Some q → holder_fate (holder n cs) filling ≡ F q
-found wanted F tells n lost [] filling q once there = cc
-found wanted F tells n lost (c ∷ cs) filling q once there =
-    grind (arith, common_steps, found wanted F tells n (lost + length c.block.missed) cs filling q, found_counts wanted n (lost + length c.block.missed) cs q, held_times-cons n c cs, has_counts n c.block.records, tells c.status c.block.number)
+-- what the search finds among the blocks of a status gives the fate
+found : (wanted : Status → Bool) (F : ℕ → Fate) → ((st : Status) (q : ℕ) → wanted st ≡ true → status_fate st q ≡ F q)
+    → (n discarded : ℕ) (cs : List Closed) (filling : Block) (q : ℕ) → held_times n cs ≤ 1
+    → seq_waiting n (buffers_where wanted discarded cs) ≡ Some q → holder_fate (holder n cs) filling ≡ F q
+found wanted F tells n discarded [] filling q once there = cc
+found wanted F tells n discarded (c ∷ cs) filling q once there =
+    grind (
+      arith,
+      common_steps,
+      found wanted F tells n (discarded + length c.block.discarded) cs filling q,
+      found_counts wanted n (discarded + length c.block.discarded) cs q,
+      held_times-cons n c cs,
+      has_counts n c.block.records,
+      tells c.status c.block.number,
+    )
 
 -- none is found among the others either
-tail_none : (wanted : Status → Bool) (n lost : ℕ) (c : Closed) (cs : List Closed) → seq_waiting n (buffers_where wanted lost (c ∷ cs)) ≡ None → (seq_waiting n (buffers_where wanted (lost + length c.block.missed) cs) ≡ None) × (wanted c.status ≡ true → has_serial n c.block.records ≡ false)
-tail_none wanted n lost c cs none = grind (arith, common_steps)
+tail_none : (wanted : Status → Bool) (n discarded : ℕ) (c : Closed) (cs : List Closed)
+    → seq_waiting n (buffers_where wanted discarded (c ∷ cs)) ≡ None
+    → (seq_waiting n (buffers_where wanted (discarded + length c.block.discarded) cs) ≡ None)
+    × (wanted c.status ≡ true → has_serial n c.block.records ≡ false)
+tail_none wanted n discarded c cs none = grind (arith, common_steps)
 
 -- a block that is neither waiting nor kept was dropped
 dropped_else : (cuts : ℕ) (st : Status) → IsWithin cuts st → is_waiting st ≡ false → ((k : ℕ) → k ≤ cuts → is_kept_in k st ≡ false) → st ≡ Dropped
@@ -79,55 +108,96 @@ dropped_else cuts Dropped within waits kept = refl
 dropped_else cuts (Kept k) within waits kept = let e = kept k within in grind (arith, nat_tests)
 
 -- no packet that is held has it
-pub record NotFound (n cuts lost : ℕ) (cs : List Closed) : Type 0 where
+pub record NotFound (n cuts discarded : ℕ) (cs : List Closed) : Type 0 where
   pub within : AllWithinCuts cuts cs
-  pub waiting : seq_waiting n (buffers_where is_waiting lost cs) ≡ None
-  pub kept : (k : ℕ) → k ≤ cuts → seq_waiting n (buffers_where (is_kept_in k) lost cs) ≡ None
+  pub waiting : seq_waiting n (buffers_where is_waiting discarded cs) ≡ None
+  pub kept : (k : ℕ) → k ≤ cuts → seq_waiting n (buffers_where (is_kept_in k) discarded cs) ≡ None
 
-not_found_more : (n cuts lost : ℕ) (c : Closed) (cs : List Closed) → NotFound n cuts lost (c ∷ cs) → NotFound n cuts (lost + length c.block.missed) cs
-not_found_more n cuts lost c cs not = record {
+not_found_more : (n cuts discarded : ℕ) (c : Closed) (cs : List Closed) → NotFound n cuts discarded (c ∷ cs)
+    → NotFound n cuts (discarded + length c.block.discarded) cs
+not_found_more n cuts discarded c cs not = record {
   within = not.within.1;
-  waiting = (tail_none is_waiting n lost c cs not.waiting).0;
-  kept = λ k le. (tail_none (is_kept_in k) n lost c cs (not.kept k le)).0;
+  waiting = (tail_none is_waiting n discarded c cs not.waiting).0;
+  kept = λ k le. (tail_none (is_kept_in k) n discarded c cs (not.kept k le)).0;
 }
 
 -- then the block that has it was dropped
-has_dropped : (n cuts lost : ℕ) (c : Closed) (cs : List Closed) → NotFound n cuts lost (c ∷ cs) → has_serial n c.block.records ≡ true → c.status ≡ Dropped
-has_dropped n cuts lost c cs not has = dropped_else cuts c.status not.within.0 waits kept
+has_dropped : (n cuts discarded : ℕ) (c : Closed) (cs : List Closed) → NotFound n cuts discarded (c ∷ cs)
+    → has_serial n c.block.records ≡ true → c.status ≡ Dropped
+has_dropped n cuts discarded c cs not has = dropped_else cuts c.status not.within.0 waits kept
   where
     waits : is_waiting c.status ≡ false
-    waits = let t = (tail_none is_waiting n lost c cs not.waiting).1 in grind (arith, t)
+    waits = let t = (tail_none is_waiting n discarded c cs not.waiting).1 in grind (arith, t)
 
     kept : (k : ℕ) → k ≤ cuts → is_kept_in k c.status ≡ false
-    kept k le = let t = (tail_none (is_kept_in k) n lost c cs (not.kept k le)).1 in grind (arith, t)
+    kept k le = let t = (tail_none (is_kept_in k) n discarded c cs (not.kept k le)).1 in grind (arith, t)
 
 -- the fate of a serial that some block has and that isn't found
-dropped_fate : (n cuts lost : ℕ) (cs : List Closed) (filling : Block) → NotFound n cuts lost cs → 0 < held_times n cs → holder_fate (holder n cs) filling ≡ Overwritten
-dropped_fate n cuts lost [] filling not some = absurd (omega arith)
-dropped_fate n cuts lost (c ∷ cs) filling not some =
-    grind (arith, common_steps, dropped_fate n cuts (lost + length c.block.missed) cs filling (not_found_more n cuts lost c cs not), held_times-cons n c cs, hasn't_count n c.block.records, has_dropped n cuts lost c cs not)
+dropped_fate : (n cuts discarded : ℕ) (cs : List Closed) (filling : Block) → NotFound n cuts discarded cs
+    → 0 < held_times n cs → holder_fate (holder n cs) filling ≡ Overwritten
+dropped_fate n cuts discarded [] filling not some = absurd (omega arith)
+dropped_fate n cuts discarded (c ∷ cs) filling not some =
+    grind (
+      arith,
+      common_steps,
+      dropped_fate n cuts (discarded + length c.block.discarded) cs filling (not_found_more n cuts discarded c cs not),
+      held_times-cons n c cs,
+      hasn't_count n c.block.records,
+      has_dropped n cuts discarded c cs not,
+    )
 
--- where no record was dropped, none has it
-none_held : (n cuts lost : ℕ) (cs : List Closed) → NotFound n cuts lost cs → records_where is_dropped cs ≡ 0 → held_times n cs ≡ 0
-none_held n cuts lost [] not stored = refl
-none_held n cuts lost (c ∷ cs) not stored =
-    grind (arith, common_steps, none_held n cuts (lost + length c.block.missed) cs (not_found_more n cuts lost c cs not), held_times-cons n c cs, hasn't_count n c.block.records, has_dropped n cuts lost c cs not, records_where-cons is_dropped c cs, count_by-le-length (λ (r : Entry). eqb r.serial n) c.block.records)
+-- if no record was dropped, none has it
+none_held : (n cuts discarded : ℕ) (cs : List Closed) → NotFound n cuts discarded cs → records_where is_dropped cs ≡ 0 → held_times n cs ≡ 0
+none_held n cuts discarded [] not stored = refl
+none_held n cuts discarded (c ∷ cs) not stored =
+    grind (
+      arith,
+      common_steps,
+      none_held n cuts (discarded + length c.block.discarded) cs (not_found_more n cuts discarded c cs not),
+      held_times-cons n c cs,
+      hasn't_count n c.block.records,
+      has_dropped n cuts discarded c cs not,
+      records_where-cons is_dropped c cs,
+      count_by-le-length (λ (r : Entry). eqb r.serial n) c.block.records,
+    )
 
--- what is never missed isn't missed by a block
-none_missed : (n : ℕ) (cs : List Closed) → missed_times n cs ≡ 0 → list_any (λ (c : Closed). misses n c.block) cs ≡ false
-none_missed n [] never = refl
-none_missed n (c ∷ cs) never = grind (arith, common_steps, none_missed n cs, missed_times-cons n c cs, counts_any (λ (m : ℕ). eqb m n) c.block.missed)
+-- what is never discarded isn't discarded by a block
+none_discarded : (n : ℕ) (cs : List Closed) → discarded_times n cs ≡ 0 → list_any (λ (c : Closed). is_discarded_in n c.block) cs ≡ false
+none_discarded n [] never = refl
+none_discarded n (c ∷ cs) never =
+    grind (
+      arith,
+      common_steps,
+      none_discarded n cs,
+      discarded_times-cons n c cs,
+      counts_any (λ (m : ℕ). eqb m n) c.block.discarded,
+    )
 
-some_missed : (n : ℕ) (cs : List Closed) → list_any (λ (c : Closed). misses n c.block) cs ≡ false → missed_times n cs ≡ 0
-some_missed n [] none = refl
-some_missed n (c ∷ cs) none = grind (arith, common_steps, some_missed n cs, missed_times-cons n c cs, counts_none (λ (m : ℕ). eqb m n) c.block.missed)
+some_discarded : (n : ℕ) (cs : List Closed) → list_any (λ (c : Closed). is_discarded_in n c.block) cs ≡ false → discarded_times n cs ≡ 0
+some_discarded n [] none = refl
+some_discarded n (c ∷ cs) none =
+    grind (
+      arith,
+      common_steps,
+      some_discarded n cs,
+      discarded_times-cons n c cs,
+      counts_none (λ (m : ℕ). eqb m n) c.block.discarded,
+    )
 
--- where nothing is missed at all, neither is this
-missed_in_counts : (n : ℕ) (cs : List Closed) → missed_in cs ≡ 0 → missed_times n cs ≡ 0
-missed_in_counts n [] never = refl
-missed_in_counts n (c ∷ cs) never = grind (arith, common_steps, missed_in_counts n cs, missed_times-cons n c cs, missed_in-cons c cs, count_by-le-length (λ (m : ℕ). eqb m n) c.block.missed)
+-- if nothing is discarded at all, neither is this
+discarded_in_counts : (n : ℕ) (cs : List Closed) → discarded_in cs ≡ 0 → discarded_times n cs ≡ 0
+discarded_in_counts n [] never = refl
+discarded_in_counts n (c ∷ cs) never =
+    grind (
+      arith,
+      common_steps,
+      discarded_in_counts n cs,
+      discarded_times-cons n c cs,
+      discarded_in-cons c cs,
+      count_by-le-length (λ (m : ℕ). eqb m n) c.block.discarded,
+    )
 
--- where no block has it, the search ends at the filling one
+-- if no block has it, the search ends at the filling one
 none_holds : (n : ℕ) (cs : List Closed) → held_times n cs ≡ 0 → holder n cs ≡ None
 none_holds n [] never = refl
 none_holds n (c ∷ cs) never = grind (arith, common_steps, none_holds n cs, held_times-cons n c cs, has_counts n c.block.records)
@@ -137,8 +207,10 @@ seq_among-packets : (n : ℕ) (c : StreamConfig) (bs : List ClosedBuffer) → se
 seq_among-packets n c [] = refl
 seq_among-packets n c (b ∷ bs) = grind (arith, common_steps, seq_among-packets n c bs)
 
--- one part more
-fate_in_parts-push : (n : ℕ) (parts : List PartState) (part : PartState) → fate_in_parts n (parts ++ part ∷ []) ≡ option_or (fate_in_parts n parts) (option_map (InChunk part.id) (seq_among n part.packets))
+-- one more part
+fate_in_parts-push : (n : ℕ) (parts : List PartState) (part : PartState)
+    → fate_in_parts n (parts ++ part ∷ [])
+    ≡ option_or (fate_in_parts n parts) (option_map (InChunk part.id) (seq_among n part.packets))
 fate_in_parts-push n [] part = or_none (option_map (InChunk part.id) (seq_among n part.packets))
   where
     or_none : (a : Option Fate) → option_or a None ≡ a
@@ -151,29 +223,38 @@ fate_in_parts-push n (p ∷ parts) part = or_before (option_map (InChunk p.id) (
     or_before None b c d e = e
 
 -- what the chunk of one more cut adds
-fate_in_chunks : (n k : ℕ) (c : StreamConfig) (h : History) → fate_in_parts n (parts_below c (suc k) h) ≡ option_or (fate_in_parts n (parts_below c k h)) (option_map (InChunk k) (seq_waiting n (chunk_of k h)))
-fate_in_chunks n k c h = fate_in_parts-push n (parts_below c k h) (part_of c k (chunk_of k h)) ∙ ap (λ (q : Option ℕ). option_or (fate_in_parts n (parts_below c k h)) (option_map (InChunk k) q)) (seq_among-packets n c (chunk_of k h))
+fate_in_chunks : (n k : ℕ) (c : StreamConfig) (h : History)
+    → fate_in_parts n (parts_below c (suc k) h)
+    ≡ option_or (fate_in_parts n (parts_below c k h)) (option_map (InChunk k) (seq_waiting n (chunk_of k h)))
+fate_in_chunks n k c h = fate_in_parts-push n (parts_below c k h) (part_of c k (chunk_of k h))
+    ∙ ap (λ (q : Option ℕ). option_or (fate_in_parts n (parts_below c k h)) (option_map (InChunk k) q))
+    (seq_among-packets n c (chunk_of k h))
 
--- a chunk that has the serial, and the fate that it tells
+-- a chunk that has the serial, and the fate that it gives
 abbrev InSomeChunk : ℕ → History → Fate → Type 0
 InSomeChunk n h fate = (j : ℕ) × (q : ℕ) × (seq_waiting n (chunk_of j h) ≡ Some q) × (fate ≡ InChunk j q)
 
-found_split : (n k : ℕ) (h : History) (fate : Fate) (a : Option Fate) (b : Option ℕ) → (a ≡ Some fate → InSomeChunk n h fate) → seq_waiting n (chunk_of k h) ≡ b → option_or a (option_map (InChunk k) b) ≡ Some fate → InSomeChunk n h fate
+found_split : (n k : ℕ) (h : History) (fate : Fate) (a : Option Fate) (b : Option ℕ)
+    → (a ≡ Some fate → InSomeChunk n h fate) → seq_waiting n (chunk_of k h) ≡ b
+    → option_or a (option_map (InChunk k) b) ≡ Some fate → InSomeChunk n h fate
 found_split n k h fate (Some other) b before here there = before there
 found_split n k h fate None (Some q) before here there = (k, q, here, cc)
 found_split n k h fate None None before here there = cc
 
--- what parts tell is some chunk's answer
+-- what parts give is some chunk's answer
 parts_found : (n k : ℕ) (c : StreamConfig) (h : History) (fate : Fate) → fate_in_parts n (parts_below c k h) ≡ Some fate → InSomeChunk n h fate
 parts_found n zero c h fate there = cc
-parts_found n (suc k) c h fate there = found_split n k h fate (fate_in_parts n (parts_below c k h)) (seq_waiting n (chunk_of k h)) (parts_found n k c h fate) refl (sym (fate_in_chunks n k c h) ∙ there)
+parts_found n (suc k) c h fate there =
+    found_split n k h fate (fate_in_parts n (parts_below c k h)) (seq_waiting n (chunk_of k h)) (parts_found n k c h fate)
+    refl (sym (fate_in_chunks n k c h) ∙ there)
 
 none_split : (k : ℕ) (a : Option Fate) (b : Option ℕ) → option_or a (option_map (InChunk k) b) ≡ None → (a ≡ None) × (b ≡ None)
 none_split k (Some other) b none = cc
 none_split k None (Some q) none = cc
 none_split k None None none = (refl, refl)
 
-parts_none : (n k : ℕ) (c : StreamConfig) (h : History) → fate_in_parts n (parts_below c k h) ≡ None → (j : ℕ) → j < k → seq_waiting n (chunk_of j h) ≡ None
+parts_none : (n k : ℕ) (c : StreamConfig) (h : History) → fate_in_parts n (parts_below c k h) ≡ None → (j : ℕ) → j < k
+    → seq_waiting n (chunk_of j h) ≡ None
 parts_none n zero c h none j lt = absurd (omega arith)
 parts_none n (suc k) c h none j lt =
     let both = none_split k (fate_in_parts n (parts_below c k h)) (seq_waiting n (chunk_of k h)) (sym (fate_in_chunks n k c h) ∙ none) in
@@ -183,22 +264,29 @@ parts_none n (suc k) c h none j lt =
     ]
 
 -- a serial that was accepted is in one place
-in_one_place : (s : StreamState) (h : History) (n : ℕ) → StandsFor s h → n < s.book.offered → held_times n h.closed + missed_times n h.closed + times_in n h.filling ≡ 1
+in_one_place : (s : StreamState) (h : History) (n : ℕ) → StandsFor s h → n < s.counters.offered
+    → held_times n h.closed + discarded_times n h.closed + times_in n h.filling ≡ 1
 in_one_place s h n is below = grind (arith, nat_tests, is.model.serials n, is.offered, times-split n h.closed)
 
--- a serial whose record is there isn't missed
-record_fate : (s : StreamState) (h : History) (n : ℕ) → StandsFor s h → n < s.book.offered → 0 < held_times n h.closed + count_by (λ (r : Entry). eqb r.serial n) h.filling.records → fate_of n h ≡ Some (holder_fate (holder n h.closed) h.filling)
+-- a serial whose record is there isn't discarded
+record_fate : (s : StreamState) (h : History) (n : ℕ) → StandsFor s h → n < s.counters.offered
+    → 0 < held_times n h.closed + count_by (λ (r : Entry). eqb r.serial n) h.filling.records
+    → history_fate n h ≡ Some (holder_fate (holder n h.closed) h.filling)
 record_fate s h n is below some =
     let one = in_one_place s h n is below in
-    let closed : list_any (λ (c : Closed). misses n c.block) h.closed ≡ false = none_missed n h.closed (omega (arith, one)) in
-    let filling : misses n h.filling ≡ false = grind (arith, one, counts_any (λ (m : ℕ). eqb m n) h.filling.missed) in
+    let closed : list_any (λ (c : Closed). is_discarded_in n c.block) h.closed ≡ false = none_discarded n h.closed (omega (arith, one)) in
+    let filling : is_discarded_in n h.filling ≡ false = grind (arith, one, counts_any (λ (m : ℕ). eqb m n) h.filling.discarded) in
     grind (arith, nat_tests, is.offered, below)
 
 -- found in a chunk
-chunk_fate : (s : StreamState) (h : History) (n k q : ℕ) → StandsFor s h → n < s.book.offered → seq_waiting n (chunk_of k h) ≡ Some q → fate_of n h ≡ Some (InChunk k q)
+chunk_fate : (s : StreamState) (h : History) (n k q : ℕ) → StandsFor s h → n < s.counters.offered
+    → seq_waiting n (chunk_of k h) ≡ Some q → history_fate n h ≡ Some (InChunk k q)
 chunk_fate s h n k q is below there =
     let some = found_counts (is_kept_in k) n 0 h.closed q there in
-    record_fate s h n is below (omega (arith, some)) ∙ ap (λ (f : Fate). Some f) (found (is_kept_in k) (InChunk k) (kept_tells k) n 0 h.closed h.filling q (omega (arith, in_one_place s h n is below)) there)
+    record_fate s h n is below (omega (arith, some))
+    ∙ ap (λ (f : Fate). Some f)
+    (found (is_kept_in k) (InChunk k) (kept_tells k) n 0 h.closed h.filling q
+    (omega (arith, in_one_place s h n is below)) there)
   where
     kept_tells : (k : ℕ) (st : Status) (q : ℕ) → is_kept_in k st ≡ true → status_fate st q ≡ InChunk k q
     kept_tells k Waiting q e = cc
@@ -206,17 +294,21 @@ chunk_fate s h n k q is below there =
     kept_tells k (Kept j) q e = grind (arith, nat_tests)
 
 -- found in the ring
-waiting_fate : (s : StreamState) (h : History) (n q : ℕ) → StandsFor s h → n < s.book.offered → seq_waiting n (waiting_of h) ≡ Some q → fate_of n h ≡ Some (InRing q)
+waiting_fate : (s : StreamState) (h : History) (n q : ℕ) → StandsFor s h → n < s.counters.offered
+    → seq_waiting n (waiting_of h) ≡ Some q → history_fate n h ≡ Some (InRing q)
 waiting_fate s h n q is below there =
     let some = found_counts is_waiting n 0 h.closed q there in
-    record_fate s h n is below (omega (arith, some)) ∙ ap (λ (f : Fate). Some f) (found is_waiting InRing tells n 0 h.closed h.filling q (omega (arith, in_one_place s h n is below)) there)
+    record_fate s h n is below (omega (arith, some))
+    ∙ ap (λ (f : Fate). Some f)
+    (found is_waiting InRing tells n 0 h.closed h.filling q (omega (arith, in_one_place s h n is below)) there)
   where
     tells : (st : Status) (q : ℕ) → is_waiting st ≡ true → status_fate st q ≡ InRing q
     tells Waiting q e = refl
     tells Dropped q e = cc
     tells (Kept j) q e = cc
 
-filling_fate : (s : StreamState) (h : History) (n : ℕ) → StandsFor s h → n < s.book.offered → has_serial n h.filling.records ≡ true → fate_of n h ≡ Some (InRing h.filling.number)
+filling_fate : (s : StreamState) (h : History) (n : ℕ) → StandsFor s h → n < s.counters.offered
+    → has_serial n h.filling.records ≡ true → history_fate n h ≡ Some (InRing h.filling.number)
 filling_fate s h n is below has =
     let some = has_counts n h.filling.records has in
     let none : holder n h.closed ≡ None = none_holds n h.closed (omega (arith, in_one_place s h n is below, some)) in
@@ -224,26 +316,29 @@ filling_fate s h n is below has =
 
 -- what the search doesn't find
 pub record IsNotHeld (n : ℕ) (h : History) : Type 0 where
-  pub lost : NotFound n h.cuts 0 h.closed
+  pub discarded : NotFound n h.cuts 0 h.closed
   pub filling : has_serial n h.filling.records ≡ false
 
-overwritten_fate : (s : StreamState) (h : History) (n : ℕ) → StandsFor s h → n < s.book.offered → IsNotHeld n h → s.ring.refused ≡ 0 → fate_of n h ≡ Some Overwritten
+overwritten_fate : (s : StreamState) (h : History) (n : ℕ) → StandsFor s h → n < s.counters.offered → IsNotHeld n h
+    → s.ring.discarded ≡ 0 → history_fate n h ≡ Some Overwritten
 overwritten_fate s h n is below not never =
-    let lost : discarded_of h ≡ 0 = sym is.discarded ∙ never in
-    let none = missed_in_counts n h.closed (omega (arith, lost)) in
-    let few = count_by-le-length (λ (m : ℕ). eqb m n) h.filling.missed in
+    let discarded : discarded_of h ≡ 0 = sym is.discarded ∙ never in
+    let none = discarded_in_counts n h.closed (omega (arith, discarded)) in
+    let few = count_by-le-length (λ (m : ℕ). eqb m n) h.filling.discarded in
     let absent = hasn't_count n h.filling.records not.filling in
-    let some : 0 < held_times n h.closed = omega (arith, in_one_place s h n is below, none, few, lost, absent) in
-    record_fate s h n is below (omega (arith, some)) ∙ ap (λ (f : Fate). Some f) (dropped_fate n h.cuts 0 h.closed h.filling not.lost some)
+    let some : 0 < held_times n h.closed = omega (arith, in_one_place s h n is below, none, few, discarded, absent) in
+    record_fate s h n is below (omega (arith, some)) ∙ ap (λ (f : Fate). Some f) (dropped_fate n h.cuts 0 h.closed h.filling not.discarded some)
 
-discarded_fate : (s : StreamState) (h : History) (n : ℕ) → StandsFor s h → n < s.book.offered → IsNotHeld n h → s.book.overwritten ≡ 0 → fate_of n h ≡ Some Discarded
+discarded_fate : (s : StreamState) (h : History) (n : ℕ) → StandsFor s h → n < s.counters.offered → IsNotHeld n h
+    → s.counters.overwritten ≡ 0 → history_fate n h ≡ Some Discarded
 discarded_fate s h n is below not never =
-    let none = none_held n h.cuts 0 h.closed not.lost (sym is.overwritten ∙ never) in
+    let none = none_held n h.cuts 0 h.closed not.discarded (sym is.overwritten ∙ never) in
     let absent = hasn't_count n h.filling.records not.filling in
     let one = in_one_place s h n is below in
-    grind (arith, nat_tests, is.offered, below, one, none, absent, some_missed n h.closed, counts_none (λ (m : ℕ). eqb m n) h.filling.missed)
+    grind (arith, nat_tests, is.offered, below, one, none, absent, some_discarded n h.closed, counts_none (λ (m : ℕ). eqb m n) h.filling.discarded)
 
-loss_fate : (s : StreamState) (h : History) (n : ℕ) (m : Mode) → s.config.mode ≡ m → StandsFor s h → LosesByMode s → n < s.book.offered → IsNotHeld n h → fate_of n h ≡ Some (loss_of m)
+loss_fate : (s : StreamState) (h : History) (n : ℕ) (m : Mode) → s.config.mode ≡ m → StandsFor s h → LosesByMode s
+    → n < s.counters.offered → IsNotHeld n h → history_fate n h ≡ Some (loss_of m)
 loss_fate s h n mode.Discard e is losses below not = discarded_fate s h n is below not (losses.discarding e).0
 loss_fate s h n mode.Overwrite e is losses below not = overwritten_fate s h n is below not (losses.overwriting e)
 
@@ -252,42 +347,54 @@ pub parts-are : (s : StreamState) (h : History) → StandsFor s h → all_parts 
 parts-are s h is = let a = is.closed in let b = is.current in cc
 
 -- by where the record is found
-by_place : (s : StreamState) (h : History) (n : ℕ) (part : Option Fate) (waits : Option ℕ) (fills : Bool) → StandsFor s h → LosesByMode s → n < s.book.offered → fate_in_parts n (parts_below s.config (suc h.cuts) h) ≡ part → seq_waiting n (waiting_of h) ≡ waits → has_serial n h.filling.records ≡ fills
-    → Some (unwrap_or (option_or part (option_map InRing (option_or waits (cond fills (Some h.filling.number) None)))) (loss_of s.config.mode)) ≡ fate_of n h
+by_place : (s : StreamState) (h : History) (n : ℕ) (part : Option Fate) (waits : Option ℕ) (fills : Bool) → StandsFor s h
+    → LosesByMode s → n < s.counters.offered → fate_in_parts n (parts_below s.config (suc h.cuts) h) ≡ part
+    → seq_waiting n (waiting_of h) ≡ waits → has_serial n h.filling.records ≡ fills
+    → Some (unwrap_or (option_or part (option_map InRing (option_or waits (cond fills (Some h.filling.number) None))))
+    (loss_of s.config.mode)) ≡ history_fate n h
 by_place s h n (Some fate) waits fills is losses below a b c =
     let at = parts_found n (suc h.cuts) s.config h fate a in
     sym (chunk_fate s h n at.0 at.1 is below at.2 ∙ ap (λ (f : Fate). Some f) (sym at.3))
 by_place s h n None (Some q) fills is losses below a b c = sym (waiting_fate s h n q is below b)
 by_place s h n None None true is losses below a b c = sym (filling_fate s h n is below c)
 by_place s h n None None false is losses below a b c = sym (loss_fate s h n s.config.mode refl is losses below (record {
-  lost = record { within = is.model.kept; waiting = b; kept = λ k le. parts_none n (suc h.cuts) s.config h a k (omega arith) };
+  discarded = record { within = is.model.kept; waiting = b; kept = λ k le. parts_none n (suc h.cuts) s.config h a k (omega arith) };
   filling = c;
 }))
 
-accepted_fate : (s : StreamState) (h : History) (n : ℕ) → StandsFor s h → LosesByMode s → n < s.book.offered → Some (unwrap_or (held_fate n s) (loss_of s.config.mode)) ≡ fate_of n h
+accepted_fate : (s : StreamState) (h : History) (n : ℕ) → StandsFor s h → LosesByMode s → n < s.counters.offered
+    → Some (unwrap_or (held_fate n s) (loss_of s.config.mode)) ≡ history_fate n h
 accepted_fate s h n is losses below =
     rw (parts-are s h is, is.waiting, is.filling, is.number)
-    (by_place s h n (fate_in_parts n (parts_below s.config (suc h.cuts) h)) (seq_waiting n (waiting_of h)) (has_serial n h.filling.records) is losses below refl refl refl)
+    (by_place s h n (fate_in_parts n (parts_below s.config (suc h.cuts) h)) (seq_waiting n (waiting_of h))
+    (has_serial n h.filling.records) is losses below refl refl refl)
 
 -- a serial's fate is the history's
-pub fates : (s : StreamState) (h : History) (n : ℕ) → StandsFor s h → LosesByMode s → state_fate n s ≡ fate_of n h
-fates s h n is losses = by_test (nat_lt n s.book.offered) refl
+pub fates : (s : StreamState) (h : History) (n : ℕ) → StandsFor s h → LosesByMode s → state_fate n s ≡ history_fate n h
+fates s h n is losses = by_test (nat_lt n s.counters.offered) refl
   where
-    by_test : (b : Bool) → nat_lt n s.book.offered ≡ b → state_fate n s ≡ fate_of n h
+    by_test : (b : Bool) → nat_lt n s.counters.offered ≡ b → state_fate n s ≡ history_fate n h
     by_test true below = rw below (accepted_fate s h n is losses (grind (arith, nat_tests, below)))
     by_test false above = grind (arith, nat_tests, is.offered, above)
 
 -- what the search does
-in_all_parts : (n : ℕ) (s : StreamState) → held_fate n s ≡ option_or (option_or (fate_in_parts n s.parts.closed) (option_map (InChunk s.parts.current.id) (seq_among n s.parts.current.packets))) (fate_in_ring n s.ring)
+in_all_parts : (n : ℕ) (s : StreamState)
+    → held_fate n s ≡ option_or (option_or (fate_in_parts n s.parts.closed)
+    (option_map (InChunk s.parts.current.id) (seq_among n s.parts.current.packets))) (fate_in_ring n s.ring)
 in_all_parts n s = ap (λ (f : Option Fate). option_or f (fate_in_ring n s.ring)) (fate_in_parts-push n s.parts.closed s.parts.current)
 
 pub held-closed : (n : ℕ) (s : StreamState) (fate : Fate) → fate_in_parts n s.parts.closed ≡ Some fate → Some fate ≡ held_fate n s
-held-closed n s fate there = sym (in_all_parts n s ∙ ap (λ (f : Option Fate). option_or (option_or f (option_map (InChunk s.parts.current.id) (seq_among n s.parts.current.packets))) (fate_in_ring n s.ring)) there)
+held-closed n s fate there =
+    sym (in_all_parts n s ∙ ap (λ (f : Option Fate). option_or
+    (option_or f (option_map (InChunk s.parts.current.id) (seq_among n s.parts.current.packets))) (fate_in_ring n s.ring))
+    there)
 
-pub held-current : (n : ℕ) (s : StreamState) (k q : ℕ) → fate_in_parts n s.parts.closed ≡ None → seq_among n s.parts.current.packets ≡ Some q → k ≡ s.parts.current.id → Some (InChunk k q) ≡ held_fate n s
+pub held-current : (n : ℕ) (s : StreamState) (k q : ℕ) → fate_in_parts n s.parts.closed ≡ None
+    → seq_among n s.parts.current.packets ≡ Some q → k ≡ s.parts.current.id → Some (InChunk k q) ≡ held_fate n s
 held-current n s k q none there at = sym (in_all_parts n s ∙ (let a = none in let b = there in let c = at in cc))
 
-pub held-ring : (n : ℕ) (s : StreamState) (q : Option ℕ) → fate_in_parts n s.parts.closed ≡ None → seq_among n s.parts.current.packets ≡ None → seq_of n s.ring ≡ q → option_map InRing q ≡ held_fate n s
+pub held-ring : (n : ℕ) (s : StreamState) (q : Option ℕ) → fate_in_parts n s.parts.closed ≡ None
+    → seq_among n s.parts.current.packets ≡ None → seq_of n s.ring ≡ q → option_map InRing q ≡ held_fate n s
 held-ring n s q none not there = sym (in_all_parts n s ∙ (let a = none in let b = not in let c = there in cc))
 
 -- a kept value loses records as its mode says

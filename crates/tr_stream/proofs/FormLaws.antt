@@ -32,19 +32,23 @@ pub WaitLast-settle_first : (status : Status) (cs : List Closed) → is_waiting 
 WaitLast-settle_first status [] settled old = tt
 WaitLast-settle_first status (c ∷ cs) settled old = grind (arith, common_steps, WaitLast-settle_first status cs settled old.1)
 
-pub AllWithinCuts-push : (cuts : ℕ) (cs : List Closed) (c : Closed) → AllWithinCuts cuts cs → IsWithin cuts c.status → AllWithinCuts cuts (cs ++ c ∷ [])
+pub AllWithinCuts-push : (cuts : ℕ) (cs : List Closed) (c : Closed) → AllWithinCuts cuts cs → IsWithin cuts c.status
+    → AllWithinCuts cuts (cs ++ c ∷ [])
 AllWithinCuts-push cuts [] c old new = (new, tt)
 AllWithinCuts-push cuts (d ∷ cs) c old new = (old.0, AllWithinCuts-push cuts cs c old.1 new)
 
-pub AllWithinCuts-settle_first : (cuts : ℕ) (status : Status) (cs : List Closed) → IsWithin cuts status → AllWithinCuts cuts cs → AllWithinCuts cuts (settle_first status cs)
+pub AllWithinCuts-settle_first : (cuts : ℕ) (status : Status) (cs : List Closed) → IsWithin cuts status
+    → AllWithinCuts cuts cs → AllWithinCuts cuts (settle_first status cs)
 AllWithinCuts-settle_first cuts status [] new old = tt
 AllWithinCuts-settle_first cuts status (c ∷ cs) new old = grind (arith, common_steps, AllWithinCuts-settle_first cuts status cs new old.1)
 
 -- one more serial
-pub serials_more : (n serial offered offered' before after : ℕ) → serial ≡ offered → offered' ≡ offered + 1 → before ≡ cond (ltb n offered) 1 0 → after ≡ before + cond (eqb serial n) 1 0 → after ≡ cond (ltb n offered') 1 0
+pub serials_more : (n serial offered offered' before after : ℕ) → serial ≡ offered → offered' ≡ offered + 1
+    → before ≡ cond (ltb n offered) 1 0 → after ≡ before + cond (eqb serial n) 1 0 → after ≡ cond (ltb n offered') 1 0
 serials_more n serial offered offered' before after next more old new = grind (arith, nat_tests)
 
-pub serials_same : (n offered offered' before after : ℕ) → offered' ≡ offered → before ≡ cond (ltb n offered) 1 0 → after ≡ before → after ≡ cond (ltb n offered') 1 0
+pub serials_same : (n offered offered' before after : ℕ) → offered' ≡ offered → before ≡ cond (ltb n offered) 1 0
+    → after ≡ before → after ≡ cond (ltb n offered') 1 0
 serials_same n offered offered' before after same old new = new ∙ old ∙ ap (λ (k : ℕ). cond (ltb n k) 1 0) (sym same)
 
 RecordsRise-push : (low : ℕ) (rs : List Entry) (r : Entry) → RecordsRise low rs → next_serial low rs ≤ r.serial → RecordsRise low (rs ++ r ∷ [])
@@ -55,34 +59,46 @@ next_serial-push : (low : ℕ) (rs : List Entry) (r : Entry) → next_serial low
 next_serial-push low [] r = refl
 next_serial-push low (q ∷ rs) r = next_serial-push (q.serial + 1) rs r
 
-starts-join : (low : ℕ) (rs : List Entry) (missed : List ℕ) (r : Entry) → r.serial ≡ low + (length rs + length missed) → StartsAt low rs missed → StartsAt low (rs ++ r ∷ []) missed
-starts-join low [] missed r next old = let e : length missed ≡ 0 = ap length old in omega (arith, e)
-starts-join low (q ∷ rs) missed r next old = old
+starts-join : (low : ℕ) (rs : List Entry) (discarded : List ℕ) (r : Entry) → r.serial ≡ low + (length rs + length discarded)
+    → StartsAt low rs discarded → StartsAt low (rs ++ r ∷ []) discarded
+starts-join low [] discarded r next old = let e : length discarded ≡ 0 = ap length old in omega (arith, e)
+starts-join low (q ∷ rs) discarded r next old = old
 
-starts-miss : (low : ℕ) (rs : List Entry) (missed more : List ℕ) → rs ≢ [] → StartsAt low rs missed → StartsAt low rs more
-starts-miss low [] missed more used old = absurd (used refl)
-starts-miss low (q ∷ rs) missed more used old = old
+starts-discard : (low : ℕ) (rs : List Entry) (discarded more : List ℕ) → rs ≢ [] → StartsAt low rs discarded → StartsAt low rs more
+starts-discard low [] discarded more used old = absurd (used refl)
+starts-discard low (q ∷ rs) discarded more used old = old
 
-pub Covers-join : (low : ℕ) (b : Block) (r : Entry) → r.serial ≡ low + offers_in b → Covers low b → Covers low (record b { records = b.records ++ r ∷ [] })
+pub Covers-join : (low : ℕ) (b : Block) (r : Entry) → r.serial ≡ low + offers_in b → Covers low b
+    → Covers low (record b { records = b.records ++ r ∷ [] })
 Covers-join low b r next old = record {
-  starts = starts-join low b.records b.missed r next old.starts;
+  starts = starts-join low b.records b.discarded r next old.starts;
   rise = RecordsRise-push low b.records r old.rise (omega (arith, old.within));
   within = grind (arith, common_steps, next, next_serial-push low b.records r);
 }
 
-pub Covers-miss : (low : ℕ) (b : Block) (serial : ℕ) → b.records ≢ [] → Covers low b → Covers low (record b { missed = b.missed ++ serial ∷ [] })
-Covers-miss low b serial used old = record { starts = starts-miss low b.records b.missed (b.missed ++ serial ∷ []) used old.starts; rise = old.rise; within = grind (arith, common_steps, old.within) }
+pub Covers-discard : (low : ℕ) (b : Block) (serial : ℕ) → b.records ≢ [] → Covers low b
+    → Covers low (record b { discarded = b.discarded ++ serial ∷ [] })
+Covers-discard low b serial used old =
+    record {
+      starts = starts-discard low b.records b.discarded (b.discarded ++ serial ∷ []) used old.starts;
+      rise = old.rise;
+      within = grind (arith, common_steps, old.within);
+    }
 
-pub Covers-one : (low number : ℕ) (r : Entry) → r.serial ≡ low → Covers low (record { number = number; records = r ∷ []; missed = [] })
+pub Covers-one : (low number : ℕ) (r : Entry) → r.serial ≡ low → Covers low (record { number = number; records = r ∷ []; discarded = [] })
 Covers-one low number r next = record { starts = next; rise = (omega arith, tt); within = grind (arith, next) }
 
 pub offers_before-push : (cs : List Closed) (c : Closed) → offers_before (cs ++ c ∷ []) ≡ offers_before cs + offers_in c.block
 offers_before-push cs c = sum_by_push (λ (c : Closed). offers_in c.block) cs c
 
-pub CoversFrom-push : (low : ℕ) (cs : List Closed) (c : Closed) → CoversFrom low cs → Covers (low + offers_before cs) c.block → CoversFrom low (cs ++ c ∷ [])
+pub CoversFrom-push : (low : ℕ) (cs : List Closed) (c : Closed) → CoversFrom low cs
+    → Covers (low + offers_before cs) c.block → CoversFrom low (cs ++ c ∷ [])
 CoversFrom-push low [] c old new = (subst (λ (n : ℕ). Covers n c.block) (omega arith) new, tt)
-CoversFrom-push low (d ∷ cs) c old new =
-    (old.0, CoversFrom-push (low + offers_in d.block) cs c old.1 (subst (λ (n : ℕ). Covers n c.block) (omega (arith, sum_by-cons (λ (c : Closed). offers_in c.block) d cs)) new))
+CoversFrom-push low (d ∷ cs) c old new = (
+  old.0,
+  CoversFrom-push (low + offers_in d.block) cs c old.1
+      (subst (λ (n : ℕ). Covers n c.block) (omega (arith, sum_by-cons (λ (c : Closed). offers_in c.block) d cs)) new),
+)
 
 pub CoversFrom-settle_first : (low : ℕ) (status : Status) (cs : List Closed) → CoversFrom low cs → CoversFrom low (settle_first status cs)
 CoversFrom-settle_first low status [] old = tt

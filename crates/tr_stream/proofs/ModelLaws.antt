@@ -11,29 +11,57 @@ use Rattle.tr_stream.proofs.TakeLaws.{starts, takes}
 use Rattle.tr_stream.specs.Chunks.{chunk_of, part_of, parts_below, waiting_of, consumed_of}
 use Rattle.tr_stream.specs.Consistent.{Rising}
 use Rattle.tr_stream.specs.History.{Status, Waiting, Dropped, Kept, Closed, History, is_waiting, is_dropped, is_kept, offered_of, discarded_of, records_where, blocks_where, times}
-use Rattle.tr_stream.specs.Runs.{after_event, after_events}
+use Rattle.tr_stream.specs.Runs.{history_after_event, history_after_events}
 use Rattle.tr_stream.specs.Sound.{IsMade, IsUsable}
 use Rattle.tr_stream.specs.StandsFor.{StandsFor}
 use Rattle.tr_stream.specs.State.{StreamState}
 use Rattle.tr_stream.specs.StateSteps.{overwrites}
-use Rattle.tr_stream.specs.Steps.{start}
+use Rattle.tr_stream.specs.Steps.{new_history}
 use Rattle.tr_stream.specs.WellFormed.{IsWellFormed, NumberedFrom, AllWait, WaitLast}
 use Rattle.tr_stream.specs.declared.config.StreamConfig.{StreamConfig}
 use Rattle.tr_stream.specs.declared.events.StreamEvent.{StreamEvent}
 use Rattle.tr_stream.specs.declared.events.StreamEvent.TheVariants.{Offer, Take, Cut, Peek, Start, Stop}
 
--- what a stream would hold that stands for a history
+-- what a stream that stands for a history would hold
 abbrev held_by : StreamConfig → History → StreamState
 held_by c h = record {
   config = c;
-  ring = record { waiting = waiting_of h; current = h.filling.records; seq = h.filling.number; refused = discarded_of h; size = c.geometry.size; count = c.geometry.count; overwrite = overwrites c.mode };
+  ring = record {
+    waiting = waiting_of h;
+    current = h.filling.records;
+    seq = h.filling.number;
+    discarded = discarded_of h;
+    size = c.geometry.size;
+    count = c.geometry.count;
+    overwrite = overwrites c.mode;
+  };
   parts = record { closed = parts_below c h.cuts h; current = part_of c h.cuts (chunk_of h.cuts h) };
-  book = record { offered = offered_of h; overwritten = records_where is_dropped h.closed; overwritten_packets = blocks_where is_dropped h.closed; consumed = records_where is_kept h.closed; last = h.last };
+  counters = record {
+    offered = offered_of h;
+    overwritten = records_where is_dropped h.closed;
+    overwritten_packets = blocks_where is_dropped h.closed;
+    consumed = records_where is_kept h.closed;
+    last = h.last;
+  };
   active = h.active;
 }
 
 stands : (c : StreamConfig) (h : History) → IsWellFormed h → StandsFor (held_by c h) h
-stands c h well = record { model = well; closed = refl; current = refl; waiting = refl; filling = refl; number = refl; discarded = refl; offered = refl; overwritten = refl; overwritten_packets = refl; consumed = refl; last = refl; active = refl }
+stands c h well = record {
+  model = well;
+  closed = refl;
+  current = refl;
+  waiting = refl;
+  filling = refl;
+  number = refl;
+  discarded = refl;
+  offered = refl;
+  overwritten = refl;
+  overwritten_packets = refl;
+  consumed = refl;
+  last = refl;
+  active = refl;
+}
 
 made : (c : StreamConfig) (h : History) → IsUsable c → IsMade (held_by c h).config (held_by c h).ring
 made c h is = record { size = refl; count = refl; mode = refl; size_low = is.size; count_low = is.count }
@@ -56,7 +84,8 @@ kept-waits b kept waits = by_status b.status kept waits
     by_status Dropped kept waits = cc
     by_status (Kept k) kept waits = cc
 
-none-waits : (cs : List Closed) (i j : ℕ) (b d : Closed) → WaitLast cs → slice_get cs i ≡ Some b → slice_get cs j ≡ Some d → is_kept d.status ≡ true → i < j → is_waiting b.status ≡ false
+none-waits : (cs : List Closed) (i j : ℕ) (b d : Closed) → WaitLast cs → slice_get cs i ≡ Some b → slice_get cs j ≡ Some d
+    → is_kept d.status ≡ true → i < j → is_waiting b.status ≡ false
 none-waits [] i j b d order at later kept below = cc
 none-waits (c ∷ cs) i zero b d order at later kept below = absurd (omega arith)
 none-waits (c ∷ cs) (suc i) (suc j) b d order at later kept below = none-waits cs i j b d order.1 at later kept (omega arith)
@@ -67,7 +96,7 @@ none-waits (c ∷ cs) zero (suc j) b d order at later kept below = by_test (is_w
     by_test true e = absurd (kept-waits d kept (waits-at cs j d (order.0 (grind (arith, common_steps, at, e))) later))
 
 module _ {A : Type 0} where
-  pub well_event : (c : StreamConfig) (e : StreamEvent A) (h : History) → IsUsable c → IsWellFormed h → IsWellFormed (after_event c e h)
+  pub well_event : (c : StreamConfig) (e : StreamEvent A) (h : History) → IsUsable c → IsWellFormed h → IsWellFormed (history_after_event c e h)
   well_event c (Offer moment id payload) h usable well = (offers (held_by c h) h moment id payload (made c h usable) (stands c h well)).1.model
   well_event c Take h usable well = (takes (held_by c h) h (stands c h well)).1.model
   well_event c (Cut moment) h usable well = (cuts (held_by c h) h moment (stands c h well)).1.model
@@ -75,27 +104,33 @@ module _ {A : Type 0} where
   well_event c Start h usable well = (stands-switched (held_by c h) h true (stands c h well)).model
   well_event c Stop h usable well = (stands-switched (held_by c h) h false (stands c h well)).model
 
-  well_events : (c : StreamConfig) (es : List (StreamEvent A)) (h : History) → IsUsable c → IsWellFormed h → IsWellFormed (after_events c es h)
+  well_events : (c : StreamConfig) (es : List (StreamEvent A)) (h : History) → IsUsable c → IsWellFormed h
+      → IsWellFormed (history_after_events c es h)
   well_events c [] h usable well = well
-  well_events c (e ∷ es) h usable well = well_events c es (after_event c e h) usable (well_event c e h usable well)
+  well_events c (e ∷ es) h usable well = well_events c es (history_after_event c e h) usable (well_event c e h usable well)
 
-  pub well_run : (c : StreamConfig) (es : List (StreamEvent A)) → IsUsable c → IsWellFormed (after_events c es start)
-  well_run c es usable = well_events c es start usable (starts c).model
+  pub well_run : (c : StreamConfig) (es : List (StreamEvent A)) → IsUsable c → IsWellFormed (history_after_events c es new_history)
+  well_run c es usable = well_events c es new_history usable (starts c).model
 
   -- each serial is in one place
-  pub in_one_place : (c : StreamConfig) (es : List (StreamEvent A)) (n : ℕ) → IsUsable c → n < offered_of (after_events c es start) → times n (after_events c es start) ≡ 1
+  pub in_one_place : (c : StreamConfig) (es : List (StreamEvent A)) (n : ℕ) → IsUsable c
+      → n < offered_of (history_after_events c es new_history) → times n (history_after_events c es new_history) ≡ 1
   in_one_place c es n usable below = let e = (well_run c es usable).serials n in grind (arith, nat_tests, e, below)
 
   -- the numbers and serials of what was consumed rise
-  pub consumed_rise : (c : StreamConfig) (es : List (StreamEvent A)) → IsUsable c → (let h = after_events c es start in Rising 0 0 (consumed_of h) h.filling.number (offered_of h))
+  pub consumed_rise : (c : StreamConfig) (es : List (StreamEvent A)) → IsUsable c
+      → (let h = history_after_events c es new_history in Rising 0 0 (consumed_of h) h.filling.number (offered_of h))
   consumed_rise c es usable =
-      let h = after_events c es start in
+      let h = history_after_events c es new_history in
       let well = well_run c es usable in
-      rising-where is_kept 0 0 0 0 0 h.closed h.filling.number (offered_of h) well.numbers well.covers (omega arith) (omega arith) (omega (arith, well.filling)) (omega arith)
+      rising-where is_kept 0 0 0 0 0 h.closed h.filling.number (offered_of h) well.numbers well.covers (omega arith)
+      (omega arith) (omega (arith, well.filling)) (omega arith)
 
   -- below what was consumed, all was consumed or dropped
-  pub settled_below : (c : StreamConfig) (es : List (StreamEvent A)) (i j : ℕ) (b d : Closed) → IsUsable c → (let h = after_events c es start in slice_get h.closed i ≡ Some b → slice_get h.closed j ≡ Some d → is_kept d.status ≡ true → i < j → (b.block.number ≡ i) × (is_waiting b.status ≡ false))
+  pub settled_below : (c : StreamConfig) (es : List (StreamEvent A)) (i j : ℕ) (b d : Closed) → IsUsable c
+      → (let h = history_after_events c es new_history in slice_get h.closed i ≡ Some b → slice_get h.closed j ≡ Some d
+      → is_kept d.status ≡ true → i < j → (b.block.number ≡ i) × (is_waiting b.status ≡ false))
   settled_below c es i j b d usable at later kept below =
-      let h = after_events c es start in
+      let h = history_after_events c es new_history in
       let well = well_run c es usable in
       (number-at 0 h.closed i b well.numbers at ∙ omega arith, none-waits h.closed i j b d well.order at later kept below)

@@ -11,16 +11,20 @@ use Rattle.tr_stream.specs.Chunks.{begin_of}
 use Rattle.tr_stream.specs.Sound.{IsOpen}
 use Rattle.tr_terms.specs.declared.limits.TheConstants.{LAST_MOMENT}
 
-below-push : (serial : ℕ) (es : List Entry) (e : Entry) → e.serial ≡ serial → AllByRecursion (IsBelow serial) es → AllByRecursion (IsBelow (serial + 1)) (es ++ e ∷ [])
+below-push : (serial : ℕ) (es : List Entry) (e : Entry) → e.serial ≡ serial → AllByRecursion (IsBelow serial) es
+    → AllByRecursion (IsBelow (serial + 1)) (es ++ e ∷ [])
 below-push serial [] e next old = (omega arith, tt)
 below-push serial (x ∷ es) e next old = (let h : x.serial < serial = old.0 in omega arith, below-push serial es e next old.1)
 
-makes-joined : (serial last : ℕ) (es : List Entry) (e : Entry) → Fits e → AllByRecursion (IsBelow e.serial) es → last ≤ e.moment → weight_of es + record_weight e ≤ 65536 → (es ≢ [] → MakePacket (begin_of es) last es) → MakePacket (begin_of (es ++ e ∷ [])) e.moment (es ++ e ∷ [])
+makes-joined : (serial last : ℕ) (es : List Entry) (e : Entry) → Fits e → AllByRecursion (IsBelow e.serial) es
+    → last ≤ e.moment → weight_of es + record_weight e ≤ 65536 → (es ≢ [] → MakePacket (begin_of es) last es)
+    → MakePacket (begin_of (es ++ e ∷ [])) e.moment (es ++ e ∷ [])
 makes-joined serial last [] e fits below le small old = MakePacket-one e fits (grind (arith, common_steps, small))
 makes-joined serial last (x ∷ es) e fits below le small old = MakePacket-push x.moment last (x ∷ es) e (old (λ none. cc)) fits below le small
 
 -- one more record
-pub open-joined : (serial last : ℕ) (es : List Entry) (e : Entry) → Fits e → e.serial ≡ serial → last ≤ e.moment → weight_of es + record_weight e ≤ 65536 → IsOpen serial last es → IsOpen (serial + 1) e.moment (es ++ e ∷ [])
+pub open-joined : (serial last : ℕ) (es : List Entry) (e : Entry) → Fits e → e.serial ≡ serial → last ≤ e.moment
+    → weight_of es + record_weight e ≤ 65536 → IsOpen serial last es → IsOpen (serial + 1) e.moment (es ++ e ∷ [])
 open-joined serial last es e fits next le small old = record {
   below = below-push serial es e next old.below;
   makes = λ used. makes-joined serial last es e fits (subst (λ (n : ℕ). AllByRecursion (IsBelow n) es) (sym next) old.below) le small old.makes;
@@ -31,8 +35,9 @@ pub open-one : (serial : ℕ) (e : Entry) → Fits e → e.serial ≡ serial →
 open-one serial e fits next small = record { below = (omega arith, tt); makes = λ used. MakePacket-one e fits small }
 
 -- a serial is spent, and the moment may have risen
-pub open-missed : (serial last moment : ℕ) (es : List Entry) → last ≤ moment → moment ≤ LAST_MOMENT → IsOpen serial last es → IsOpen (serial + 1) moment es
-open-missed serial last moment es le in_time old = record {
+pub open-discarded : (serial last moment : ℕ) (es : List Entry) → last ≤ moment → moment ≤ LAST_MOMENT
+    → IsOpen serial last es → IsOpen (serial + 1) moment es
+open-discarded serial last moment es le in_time old = record {
   below = below_more serial (serial + 1) es (omega arith) old.below;
   makes = λ used. MakePacket-later (begin_of es) last moment es (old.makes used) le in_time;
 }

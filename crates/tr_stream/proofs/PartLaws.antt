@@ -17,9 +17,16 @@ get-push [] x (suc k) = grind (arith, nat_tests)
 get-push (y ∷ xs) x zero = grind (arith, nat_tests, common_steps)
 get-push (y ∷ xs) x (suc k) = grind (arith, nat_tests, common_steps, get-push xs x k)
 
-below-is : (c : StreamConfig) (n k : ℕ) (h : History) → slice_get (parts_below c n h) k ≡ cond (leb (k + 1) n) (Some (part_of c k (chunk_of k h))) None
+below-is : (c : StreamConfig) (n k : ℕ) (h : History)
+    → slice_get (parts_below c n h) k ≡ cond (leb (k + 1) n) (Some (part_of c k (chunk_of k h))) None
 below-is c zero k h = grind (arith, nat_tests)
-below-is c (suc n) k h = grind (arith, nat_tests, get-push (parts_below c n h) (part_of c n (chunk_of n h)) k, length-parts_below c n h, below-is c n k h)
+below-is c (suc n) k h = grind (
+  arith,
+  nat_tests,
+  get-push (parts_below c n h) (part_of c n (chunk_of n h)) k,
+  length-parts_below c n h,
+  below-is c n k h,
+)
 
 -- a part by its place
 pub part-is : (s : StreamState) (h : History) (k : ℕ) → StandsFor s h → part_at k s.parts ≡ part_in s.config k h

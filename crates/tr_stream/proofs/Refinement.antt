@@ -7,37 +7,37 @@ use Rattle.std.proofs.lemmas.List.Sums.{sum_by_push}
 use Rattle.tr_book.specs.Parts.{with_packet}
 use Rattle.tr_packet.specs.Packets.{Contents}
 use Rattle.tr_record.specs.Records.{Entry}
-use Rattle.tr_ring.specs.Ring.{joined, followed, refusing, without_first}
+use Rattle.tr_ring.specs.Ring.{join_current, follow_current, discard_newest, remove_oldest}
 use Rattle.tr_ring.specs.ClosedBuffer.{ClosedBuffer}
 use Rattle.tr_stream.proofs.ChunkLaws.{buffers_where-push, waiting-settle_first, other-settle_first, new-settle_first, records_where-push, blocks_where-push, records-settle_first, other_records-settle_first, blocks-settle_first, other_blocks-settle_first, sum-settle_first}
-use Rattle.tr_stream.proofs.FormLaws.{NumberedFrom-push, NumberedFrom-settle_first, length-settle_first, WaitLast-push, WaitLast-settle_first, AllWithinCuts-push, AllWithinCuts-settle_first, serials_more, serials_same, AllUsed-push, AllUsed-settle_first, LastHeld-settle_first, nil-push, Covers-join, Covers-miss, Covers-one, CoversFrom-push, CoversFrom-settle_first, offers_before-push}
+use Rattle.tr_stream.proofs.FormLaws.{NumberedFrom-push, NumberedFrom-settle_first, length-settle_first, WaitLast-push, WaitLast-settle_first, AllWithinCuts-push, AllWithinCuts-settle_first, serials_more, serials_same, AllUsed-push, AllUsed-settle_first, LastHeld-settle_first, nil-push, Covers-join, Covers-discard, Covers-one, CoversFrom-push, CoversFrom-settle_first, offers_before-push}
 use Rattle.tr_stream.specs.Chunks.{chunk_of, waiting_of, consumed_of, packet_of, part_of, parts_below}
 use Rattle.tr_stream.specs.History.{Status, Waiting, Dropped, Kept, Block, Closed, History, is_waiting, is_dropped, is_kept, is_kept_in, offers_in, offers_before, offered_of, times_in, times}
 use Rattle.tr_stream.specs.StandsFor.{StandsFor}
 use Rattle.tr_stream.specs.State.{StreamState, records_in}
-use Rattle.tr_stream.specs.StateSteps.{state_switched}
-use Rattle.tr_stream.specs.Steps.{followed_by, settle_first, after_course, Join, Miss, switched}
+use Rattle.tr_stream.specs.StateSteps.{state_after_switch}
+use Rattle.tr_stream.specs.Steps.{follow_filling, settle_first, after_course, Join, DiscardNewest, history_after_switch}
 use Rattle.tr_stream.specs.WellFormed.{IsWellFormed, IsWithin, Covers, LastHeld, chunks_below}
 use Rattle.tr_stream.specs.declared.config.StreamConfig.{StreamConfig}
 
 -- a record is in the ring, and counted
 abbrev pub with_joined : Entry → StreamState → StreamState
-with_joined e s = record s { ring = joined e s.ring; book = record s.book { offered = s.book.offered + 1; last = e.moment } }
+with_joined e s = record s { ring = join_current e s.ring; counters = record s.counters { offered = s.counters.offered + 1; last = e.moment } }
 
 abbrev pub with_followed : Entry → StreamState → StreamState
-with_followed e s = record s { ring = followed e s.ring; book = record s.book { offered = s.book.offered + 1; last = e.moment } }
+with_followed e s = record s { ring = follow_current e s.ring; counters = record s.counters { offered = s.counters.offered + 1; last = e.moment } }
 
--- an offer is refused by the ring, and counted
-abbrev pub with_missed : ℕ → StreamState → StreamState
-with_missed moment s = record s { ring = refusing s.ring; book = record s.book { offered = s.book.offered + 1; last = moment } }
+-- a record is discarded by the ring, and counted
+abbrev pub with_discarded : ℕ → StreamState → StreamState
+with_discarded moment s = record s { ring = discard_newest s.ring; counters = record s.counters { offered = s.counters.offered + 1; last = moment } }
 
--- the oldest sub-buffer that waits is gone, and counted
+-- the oldest sub-buffer that waits is overwritten, and counted
 abbrev pub without_oldest : StreamState → StreamState
 without_oldest s = record s {
-  ring = without_first s.ring;
-  book = record s.book {
-    overwritten = s.book.overwritten + records_in (take 1 s.ring.waiting);
-    overwritten_packets = s.book.overwritten_packets + 1;
+  ring = remove_oldest s.ring;
+  counters = record s.counters {
+    overwritten = s.counters.overwritten + records_in (take 1 s.ring.waiting);
+    overwritten_packets = s.counters.overwritten_packets + 1;
   };
 }
 
@@ -48,7 +48,8 @@ chunks_below-same (suc k) h g same =
     let f : chunk_of k g ≡ chunk_of k h = same k (omega arith) in
     cc
 
-pub parts_below-same : (c : StreamConfig) (k : ℕ) (h g : History) → ((j : ℕ) → j < k → chunk_of j g ≡ chunk_of j h) → parts_below c k g ≡ parts_below c k h
+pub parts_below-same : (c : StreamConfig) (k : ℕ) (h g : History) → ((j : ℕ) → j < k → chunk_of j g ≡ chunk_of j h)
+    → parts_below c k g ≡ parts_below c k h
 parts_below-same c zero h g same = refl
 parts_below-same c (suc k) h g same =
     let e = parts_below-same c k h g (λ j l. same j (omega arith)) in
@@ -58,19 +59,35 @@ parts_below-same c (suc k) h g same =
 times-joined : (n : ℕ) (h : History) (e : Entry) → times n (after_course Join e h) ≡ times n h + cond (eqb e.serial n) 1 0
 times-joined n h e = omega (arith, sum_by_push (λ (e : Entry). cond (eqb e.serial n) 1 0) h.filling.records e)
 
-times-missed : (n : ℕ) (h : History) (e : Entry) → times n (after_course Miss e h) ≡ times n h + cond (eqb e.serial n) 1 0
-times-missed n h e = omega (arith, sum_by_push (λ (m : ℕ). cond (eqb m n) 1 0) h.filling.missed e.serial)
+times-discarded : (n : ℕ) (h : History) (e : Entry) → times n (after_course DiscardNewest e h) ≡ times n h + cond (eqb e.serial n) 1 0
+times-discarded n h e = omega (arith, sum_by_push (λ (m : ℕ). cond (eqb m n) 1 0) h.filling.discarded e.serial)
 
 -- the chunks in order stay the kept blocks
-pub chunks_same : (h g : History) → ((j : ℕ) → chunk_of j g ≡ chunk_of j h) → consumed_of g ≡ consumed_of h → chunks_below h.cuts h ++ chunk_of h.cuts h ≡ consumed_of h → chunks_below h.cuts g ++ chunk_of h.cuts g ≡ consumed_of g
+pub chunks_same : (h g : History) → ((j : ℕ) → chunk_of j g ≡ chunk_of j h) → consumed_of g ≡ consumed_of h
+    → chunks_below h.cuts h ++ chunk_of h.cuts h ≡ consumed_of h
+    → chunks_below h.cuts g ++ chunk_of h.cuts g ≡ consumed_of g
 chunks_same h g same consumed old =
     let a = chunks_below-same h.cuts h g (λ j l. same j) in
     let b = same h.cuts in
     cc
 
-pub stands-joined : (s : StreamState) (h : History) (e : Entry) → e.serial ≡ offered_of h → StandsFor s h → StandsFor (with_joined e s) (after_course Join e h)
+pub stands-joined : (s : StreamState) (h : History) (e : Entry) → e.serial ≡ offered_of h → StandsFor s h
+    → StandsFor (with_joined e s) (after_course Join e h)
 stands-joined s h e next is = record {
-  model = record { numbers = is.model.numbers; filling = is.model.filling; order = is.model.order; kept = is.model.kept; used = is.model.used; room = λ none. absurd (nil-push h.filling.records e none); covers = is.model.covers; covers_filling = Covers-join (offers_before h.closed) h.filling e next is.model.covers_filling; chunks = chunks_same h (after_course Join e h) (λ j. refl) refl is.model.chunks; serials = λ n. serials_more n e.serial (offered_of h) (offered_of (after_course Join e h)) (times n h) (times n (after_course Join e h)) next (grind (arith, common_steps)) (is.model.serials n) (times-joined n h e) };
+  model = record {
+    numbers = is.model.numbers;
+    filling = is.model.filling;
+    order = is.model.order;
+    kept = is.model.kept;
+    used = is.model.used;
+    room = λ none. absurd (nil-push h.filling.records e none);
+    covers = is.model.covers;
+    covers_filling = Covers-join (offers_before h.closed) h.filling e next is.model.covers_filling;
+    chunks = chunks_same h (after_course Join e h) (λ j. refl) refl is.model.chunks;
+    serials =
+        λ n. serials_more n e.serial (offered_of h) (offered_of (after_course Join e h)) (times n h)
+        (times n (after_course Join e h)) next (grind (arith, common_steps)) (is.model.serials n) (times-joined n h e);
+  };
   closed = is.closed ∙ parts_below-same s.config h.cuts (after_course Join e h) h (λ j l. refl);
   current = is.current;
   waiting = is.waiting;
@@ -85,10 +102,26 @@ stands-joined s h e next is = record {
   active = is.active;
 }
 
-pub stands-missed : (s : StreamState) (h : History) (e : Entry) → s.ring.current ≢ [] → e.serial ≡ offered_of h → StandsFor s h → StandsFor (with_missed e.moment s) (after_course Miss e h)
-stands-missed s h e used next is = record {
-  model = record { numbers = is.model.numbers; filling = is.model.filling; order = is.model.order; kept = is.model.kept; used = is.model.used; room = is.model.room; covers = is.model.covers; covers_filling = Covers-miss (offers_before h.closed) h.filling e.serial (λ none. used (is.filling ∙ none)) is.model.covers_filling; chunks = chunks_same h (after_course Miss e h) (λ j. refl) refl is.model.chunks; serials = λ n. serials_more n e.serial (offered_of h) (offered_of (after_course Miss e h)) (times n h) (times n (after_course Miss e h)) next (grind (arith, common_steps)) (is.model.serials n) (times-missed n h e) };
-  closed = is.closed ∙ parts_below-same s.config h.cuts (after_course Miss e h) h (λ j l. refl);
+pub stands-discarded : (s : StreamState) (h : History) (e : Entry) → s.ring.current ≢ [] → e.serial ≡ offered_of h
+    → StandsFor s h → StandsFor (with_discarded e.moment s) (after_course DiscardNewest e h)
+stands-discarded s h e used next is = record {
+  model = record {
+    numbers = is.model.numbers;
+    filling = is.model.filling;
+    order = is.model.order;
+    kept = is.model.kept;
+    used = is.model.used;
+    room = is.model.room;
+    covers = is.model.covers;
+    covers_filling =
+        Covers-discard (offers_before h.closed) h.filling e.serial (λ none. used (is.filling ∙ none)) is.model.covers_filling;
+    chunks = chunks_same h (after_course DiscardNewest e h) (λ j. refl) refl is.model.chunks;
+    serials =
+        λ n. serials_more n e.serial (offered_of h) (offered_of (after_course DiscardNewest e h)) (times n h)
+        (times n (after_course DiscardNewest e h)) next (grind (arith, common_steps)) (is.model.serials n)
+        (times-discarded n h e);
+  };
+  closed = is.closed ∙ parts_below-same s.config h.cuts (after_course DiscardNewest e h) h (λ j l. refl);
   current = is.current;
   waiting = is.waiting;
   filling = is.filling;
@@ -107,13 +140,14 @@ abbrev closed_now : Entry → History → Closed
 closed_now e h = record { block = h.filling; end = e.moment; status = Waiting }
 
 -- a block that waits adds nothing to chunks
-chunk_of-followed_by : (k : ℕ) (e : Entry) (h : History) → chunk_of k (followed_by e h) ≡ chunk_of k h
+chunk_of-followed_by : (k : ℕ) (e : Entry) (h : History) → chunk_of k (follow_filling e h) ≡ chunk_of k h
 chunk_of-followed_by k e h = buffers_where-push (is_kept_in k) 0 h.closed (closed_now e h) ∙ append-nil (chunk_of k h)
 
-pub stands-followed : (s : StreamState) (h : History) (e : Entry) → h.filling.records ≢ [] → e.serial ≡ offered_of h → StandsFor s h → StandsFor (with_followed e s) (followed_by e h)
+pub stands-followed : (s : StreamState) (h : History) (e : Entry) → h.filling.records ≢ [] → e.serial ≡ offered_of h
+    → StandsFor s h → StandsFor (with_followed e s) (follow_filling e h)
 stands-followed s h e used next is =
     let offers = sum_by_push (λ (c : Closed). offers_in c.block) h.closed (closed_now e h) in
-    let misses = sum_by_push (λ (c : Closed). length c.block.missed) h.closed (closed_now e h) in
+    let discards = sum_by_push (λ (c : Closed). length c.block.discarded) h.closed (closed_now e h) in
     record {
       model = record {
         numbers = NumberedFrom-push 0 h.closed (closed_now e h) is.model.numbers (grind (arith, is.model.filling));
@@ -122,17 +156,30 @@ stands-followed s h e used next is =
         kept = AllWithinCuts-push h.cuts h.closed (closed_now e h) is.model.kept tt;
         used = AllUsed-push h.closed (closed_now e h) is.model.used used;
         room = λ none. absurd (nil-push [] e none);
-        covers = CoversFrom-push 0 h.closed (closed_now e h) is.model.covers (subst (λ (n : ℕ). Covers n h.filling) (omega arith) is.model.covers_filling);
-        covers_filling = Covers-one (offers_before (h.closed ++ closed_now e h ∷ [])) (h.filling.number + 1) e (next ∙ sym (offers_before-push h.closed (closed_now e h)));
-        chunks = chunks_same h (followed_by e h) (λ j. chunk_of-followed_by j e h) (buffers_where-push is_kept 0 h.closed (closed_now e h) ∙ append-nil (consumed_of h)) is.model.chunks;
-        serials = λ n. serials_more n e.serial (offered_of h) (offered_of (followed_by e h)) (times n h) (times n (followed_by e h)) next (grind (arith, common_steps, offers)) (is.model.serials n) (omega (arith, sum_by_push (λ (c : Closed). times_in n c.block) h.closed (closed_now e h)));
+        covers = CoversFrom-push 0 h.closed (closed_now e h) is.model.covers
+            (subst (λ (n : ℕ). Covers n h.filling) (omega arith) is.model.covers_filling);
+        covers_filling = Covers-one (offers_before (h.closed ++ closed_now e h ∷ [])) (h.filling.number + 1) e
+            (next ∙ sym (offers_before-push h.closed (closed_now e h)));
+        chunks = chunks_same h (follow_filling e h) (λ j. chunk_of-followed_by j e h)
+            (buffers_where-push is_kept 0 h.closed (closed_now e h) ∙ append-nil (consumed_of h)) is.model.chunks;
+        serials = λ n. serials_more n e.serial (offered_of h) (offered_of (follow_filling e h)) (times n h)
+            (times n (follow_filling e h)) next (grind (arith, common_steps, offers)) (is.model.serials n)
+            (omega (arith, sum_by_push (λ (c : Closed). times_in n c.block) h.closed (closed_now e h)));
       };
-      closed = is.closed ∙ sym (parts_below-same s.config h.cuts h (followed_by e h) (λ j l. chunk_of-followed_by j e h));
+      closed = is.closed ∙ sym (parts_below-same s.config h.cuts h (follow_filling e h) (λ j l. chunk_of-followed_by j e h));
       current = is.current ∙ ap (part_of s.config h.cuts) (sym (chunk_of-followed_by h.cuts e h));
-      waiting = grind (arith, common_steps, is.waiting, is.discarded, is.number, is.filling, buffers_where-push is_waiting 0 h.closed (closed_now e h));
+      waiting = grind (
+        arith,
+        common_steps,
+        is.waiting,
+        is.discarded,
+        is.number,
+        is.filling,
+        buffers_where-push is_waiting 0 h.closed (closed_now e h),
+      );
       filling = refl;
       number = ap (λ (n : ℕ). n + 1) is.number;
-      discarded = grind (arith, common_steps, is.discarded, misses);
+      discarded = grind (arith, common_steps, is.discarded, discards);
       offered = grind (arith, common_steps, is.offered, offers);
       overwritten = grind (arith, is.overwritten, records_where-push is_dropped h.closed (closed_now e h));
       overwritten_packets = grind (arith, is.overwritten_packets, blocks_where-push is_dropped h.closed (closed_now e h));
@@ -145,7 +192,10 @@ stands-followed s h e used next is =
 abbrev pub settled : Status → History → History
 settled status h = record h { closed = settle_first status h.closed }
 
-settled_well : (status : Status) (h : History) → (h.filling.records ≡ [] → LastHeld (settle_first status h.closed)) → is_waiting status ≡ false → IsWithin h.cuts status → chunks_below h.cuts (settled status h) ++ chunk_of h.cuts (settled status h) ≡ consumed_of (settled status h) → IsWellFormed h → IsWellFormed (settled status h)
+settled_well : (status : Status) (h : History) → (h.filling.records ≡ [] → LastHeld (settle_first status h.closed))
+    → is_waiting status ≡ false → IsWithin h.cuts status
+    → chunks_below h.cuts (settled status h) ++ chunk_of h.cuts (settled status h) ≡ consumed_of (settled status h)
+    → IsWellFormed h → IsWellFormed (settled status h)
 settled_well status h room stops within chunks is = record {
   numbers = NumberedFrom-settle_first 0 status h.closed is.numbers;
   filling = is.filling ∙ sym (length-settle_first status h.closed);
@@ -156,7 +206,9 @@ settled_well status h room stops within chunks is = record {
   covers = CoversFrom-settle_first 0 status h.closed is.covers;
   covers_filling = subst (λ (n : ℕ). Covers n h.filling) (sym (sum-settle_first offers_in status h.closed)) is.covers_filling;
   chunks = chunks;
-  serials = λ n. serials_same n (offered_of h) (offered_of (settled status h)) (times n h) (times n (settled status h)) (omega (arith, sum-settle_first offers_in status h.closed)) (is.serials n) (omega (arith, sum-settle_first (times_in n) status h.closed));
+  serials = λ n. serials_same n (offered_of h) (offered_of (settled status h)) (times n h) (times n (settled status h))
+      (omega (arith, sum-settle_first offers_in status h.closed)) (is.serials n)
+      (omega (arith, sum-settle_first (times_in n) status h.closed));
 }
 
 pub kept_in : (j k : ℕ) → j < k → is_kept_in j (Kept k) ≡ false
@@ -165,22 +217,25 @@ kept_in j k below = grind (arith, nat_tests)
 pub kept_in-same : (k : ℕ) → is_kept_in k (Kept k) ≡ true
 kept_in-same k = grind (arith, nat_tests)
 
-map-first : (c : StreamConfig) (before bs : List ClosedBuffer) (b : ClosedBuffer) → map (packet_of c) (before ++ take 1 (b ∷ bs)) ≡ map (packet_of c) before ++ packet_of c b ∷ []
+map-first : (c : StreamConfig) (before bs : List ClosedBuffer) (b : ClosedBuffer)
+    → map (packet_of c) (before ++ take 1 (b ∷ bs)) ≡ map (packet_of c) before ++ packet_of c b ∷ []
 map-first c [] bs b = refl
 map-first c (d ∷ before) bs b = ap (λ (ps : List Contents). packet_of c d ∷ ps) (map-first c before bs b)
 
 -- the oldest sub-buffer that waits, as a packet of the current part
 abbrev pub with_moved : ClosedBuffer → StreamState → StreamState
 with_moved b s = record s {
-  ring = without_first s.ring;
+  ring = remove_oldest s.ring;
   parts = with_packet (packet_of s.config b) s.parts;
-  book = record s.book { consumed = s.book.consumed + length b.records };
+  counters = record s.counters { consumed = s.counters.consumed + length b.records };
 }
 
-pub stands-moved : (s : StreamState) (h : History) (b : ClosedBuffer) (bs : List ClosedBuffer) → s.ring.waiting ≡ b ∷ bs → StandsFor s h → StandsFor (with_moved b s) (settled (Kept h.cuts) h)
+pub stands-moved : (s : StreamState) (h : History) (b : ClosedBuffer) (bs : List ClosedBuffer) → s.ring.waiting ≡ b ∷ bs
+    → StandsFor s h → StandsFor (with_moved b s) (settled (Kept h.cuts) h)
 stands-moved s h b bs oldest is =
     let g = settled (Kept h.cuts) h in
-    let grown : chunk_of h.cuts g ≡ chunk_of h.cuts h ++ take 1 (waiting_of h) = new-settle_first (is_kept_in h.cuts) (Kept h.cuts) 0 h.closed (kept_in-same h.cuts) refl is.model.order in
+    let grown : chunk_of h.cuts g ≡ chunk_of h.cuts h ++ take 1 (waiting_of h) =
+    new-settle_first (is_kept_in h.cuts) (Kept h.cuts) 0 h.closed (kept_in-same h.cuts) refl is.model.order in
     let waiting : waiting_of h ≡ b ∷ bs = sym is.waiting ∙ oldest in
     record {
       model = settled_well (Kept h.cuts) h (λ none. LastHeld-settle_first h.cuts h.closed (is.model.room none)) refl (grind arith)
@@ -191,21 +246,24 @@ stands-moved s h b bs oldest is =
           let e = is.model.chunks in
           cc)
           is.model;
-      closed = is.closed ∙ sym (parts_below-same s.config h.cuts h g (λ j l. other-settle_first (is_kept_in j) (Kept h.cuts) 0 h.closed (kept_in j h.cuts l) refl));
+      closed = is.closed ∙ sym (parts_below-same s.config h.cuts h g
+          (λ j l. other-settle_first (is_kept_in j) (Kept h.cuts) 0 h.closed (kept_in j h.cuts l) refl));
       current =
           let p : map (packet_of s.config) (chunk_of h.cuts g) ≡ map (packet_of s.config) (chunk_of h.cuts h) ++ packet_of s.config b ∷ [] =
-          ap (map (packet_of s.config)) (grown ∙ ap (λ (ws : List ClosedBuffer). chunk_of h.cuts h ++ take 1 ws) waiting) ∙ map-first s.config (chunk_of h.cuts h) bs b in
+          ap (map (packet_of s.config)) (grown ∙ ap (λ (ws : List ClosedBuffer). chunk_of h.cuts h ++ take 1 ws) waiting)
+          ∙ map-first s.config (chunk_of h.cuts h) bs b in
           let q = is.current in
           cc;
       waiting = grind (arith, is.waiting, waiting-settle_first (Kept h.cuts) 0 h.closed refl);
       filling = is.filling;
       number = is.number;
-      discarded = grind (arith, is.discarded, sum-settle_first (λ (b : Block). length b.missed) (Kept h.cuts) h.closed);
+      discarded = grind (arith, is.discarded, sum-settle_first (λ (b : Block). length b.discarded) (Kept h.cuts) h.closed);
       offered = grind (arith, is.offered, sum-settle_first offers_in (Kept h.cuts) h.closed);
       overwritten = grind (arith, is.overwritten, other_records-settle_first is_dropped (Kept h.cuts) h.closed refl refl);
       overwritten_packets = grind (arith, is.overwritten_packets, other_blocks-settle_first is_dropped (Kept h.cuts) h.closed refl refl);
       consumed =
-          let count : records_in (take 1 (waiting_of h)) ≡ length b.records = ap (λ (ws : List ClosedBuffer). records_in (take 1 ws)) waiting ∙ one b bs in
+          let count : records_in (take 1 (waiting_of h)) ≡ length b.records =
+          ap (λ (ws : List ClosedBuffer). records_in (take 1 ws)) waiting ∙ one b bs in
           omega (arith, is.consumed, count, records-settle_first is_kept (Kept h.cuts) 0 h.closed refl refl);
       last = is.last;
       active = is.active;
@@ -214,29 +272,51 @@ stands-moved s h b bs oldest is =
     one : (b : ClosedBuffer) (bs : List ClosedBuffer) → records_in (take 1 (b ∷ bs)) ≡ length b.records
     one b bs = grind (arith, common_steps)
 
-pub stands-without_oldest : (s : StreamState) (h : History) → s.ring.current ≢ [] → StandsFor s h → 0 < length s.ring.waiting → StandsFor (without_oldest s) (settled Dropped h)
+pub stands-without_oldest : (s : StreamState) (h : History) → s.ring.current ≢ [] → StandsFor s h
+    → 0 < length s.ring.waiting → StandsFor (without_oldest s) (settled Dropped h)
 stands-without_oldest s h used is some =
     let g = settled Dropped h in
     record {
-      model = settled_well Dropped h (λ none. absurd (used (is.filling ∙ none))) refl tt (chunks_same h g (λ j. other-settle_first (is_kept_in j) Dropped 0 h.closed refl refl) (other-settle_first is_kept Dropped 0 h.closed refl refl) is.model.chunks) is.model;
+      model = settled_well Dropped h (λ none. absurd (used (is.filling ∙ none))) refl tt
+          (chunks_same h g (λ j. other-settle_first (is_kept_in j) Dropped 0 h.closed refl refl)
+          (other-settle_first is_kept Dropped 0 h.closed refl refl) is.model.chunks) is.model;
       closed = is.closed ∙ sym (parts_below-same s.config h.cuts h g (λ j l. other-settle_first (is_kept_in j) Dropped 0 h.closed refl refl));
       current = is.current ∙ ap (part_of s.config h.cuts) (sym (other-settle_first (is_kept_in h.cuts) Dropped 0 h.closed refl refl));
       waiting = grind (arith, is.waiting, waiting-settle_first Dropped 0 h.closed refl);
       filling = is.filling;
       number = is.number;
-      discarded = grind (arith, is.discarded, sum-settle_first (λ (b : Block). length b.missed) Dropped h.closed);
+      discarded = grind (arith, is.discarded, sum-settle_first (λ (b : Block). length b.discarded) Dropped h.closed);
       offered = grind (arith, is.offered, sum-settle_first offers_in Dropped h.closed);
       overwritten = grind (arith, is.overwritten, is.waiting, records-settle_first is_dropped Dropped 0 h.closed refl refl);
-      overwritten_packets = grind (arith, common_steps, some, is.waiting, is.overwritten_packets, blocks-settle_first is_dropped Dropped 0 h.closed refl refl);
+      overwritten_packets = grind (
+        arith,
+        common_steps,
+        some,
+        is.waiting,
+        is.overwritten_packets,
+        blocks-settle_first is_dropped Dropped 0 h.closed refl refl,
+      );
       consumed = grind (arith, is.consumed, other_records-settle_first is_kept Dropped h.closed refl refl);
       last = is.last;
       active = is.active;
     }
 
-pub stands-switched : (s : StreamState) (h : History) (active : Bool) → StandsFor s h → StandsFor (state_switched active s) (switched active h)
+pub stands-switched : (s : StreamState) (h : History) (active : Bool) → StandsFor s h
+    → StandsFor (state_after_switch active s) (history_after_switch active h)
 stands-switched s h active is = record {
-  model = record { numbers = is.model.numbers; filling = is.model.filling; order = is.model.order; kept = is.model.kept; used = is.model.used; room = is.model.room; covers = is.model.covers; covers_filling = is.model.covers_filling; chunks = chunks_same h (switched active h) (λ j. refl) refl is.model.chunks; serials = is.model.serials };
-  closed = is.closed ∙ parts_below-same s.config h.cuts (switched active h) h (λ j l. refl);
+  model = record {
+    numbers = is.model.numbers;
+    filling = is.model.filling;
+    order = is.model.order;
+    kept = is.model.kept;
+    used = is.model.used;
+    room = is.model.room;
+    covers = is.model.covers;
+    covers_filling = is.model.covers_filling;
+    chunks = chunks_same h (history_after_switch active h) (λ j. refl) refl is.model.chunks;
+    serials = is.model.serials;
+  };
+  closed = is.closed ∙ parts_below-same s.config h.cuts (history_after_switch active h) h (λ j l. refl);
   current = is.current;
   waiting = is.waiting;
   filling = is.filling;

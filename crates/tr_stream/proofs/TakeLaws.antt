@@ -8,18 +8,29 @@ use Rattle.tr_stream.specs.Chunks.{buffers_where, parts_below, waiting_of}
 use Rattle.tr_stream.specs.History.{Status, Kept, Closed, History, is_waiting}
 use Rattle.tr_stream.specs.StandsFor.{StandsFor}
 use Rattle.tr_stream.specs.State.{StreamState}
-use Rattle.tr_stream.specs.StateSteps.{take_result, moved_oldest, state_after_take, state_counts, new_state}
-use Rattle.tr_stream.specs.Steps.{taken_from, settle_first, oldest_kept, take_answer, after_take, counts_of, start}
+use Rattle.tr_stream.specs.StateSteps.{state_take_answer, move_oldest, state_after_take, state_counts, new_state}
+use Rattle.tr_stream.specs.Steps.{taken_from, settle_first, keep_oldest, history_take_answer, history_after_take, history_counts, new_history}
 use Rattle.tr_stream.specs.declared.answers.TakeFault.TheVariants.{SnapshotMode}
 use Rattle.tr_terms.specs.declared.session_mode.SessionMode.{SessionMode}
 use Rattle.tr_terms.specs.declared.session_mode.SessionMode.TheVariants.{Local, Snapshot}
 use Rattle.tr_stream.specs.declared.config.StreamConfig.{StreamConfig}
-use Rattle.tr_terms.specs.SessionModes.{by_session}
+use Rattle.tr_terms.specs.SessionModes.{by_session_mode}
 
 -- a new stream stands for a history that begins
-pub starts : (c : StreamConfig) → StandsFor (new_state c) start
+pub starts : (c : StreamConfig) → StandsFor (new_state c) new_history
 starts c = record {
-  model = record { numbers = tt; filling = refl; order = tt; kept = tt; used = tt; room = λ none. tt; covers = tt; covers_filling = record { starts = refl; rise = tt; within = omega arith }; chunks = refl; serials = λ n. grind (arith, nat_tests) };
+  model = record {
+    numbers = tt;
+    filling = refl;
+    order = tt;
+    kept = tt;
+    used = tt;
+    room = λ none. tt;
+    covers = tt;
+    covers_filling = record { starts = refl; rise = tt; within = omega arith };
+    chunks = refl;
+    serials = λ n. grind (arith, nat_tests);
+  };
   closed = refl;
   current = refl;
   waiting = refl;
@@ -34,11 +45,12 @@ starts c = record {
   active = refl;
 }
 
-nothing_settled : (status : Status) (lost : ℕ) (cs : List Closed) → buffers_where is_waiting lost cs ≡ [] → settle_first status cs ≡ cs
-nothing_settled status lost [] none = refl
-nothing_settled status lost (c ∷ cs) none = grind (arith, common_steps, nothing_settled status (lost + length c.block.missed) cs)
+nothing_settled : (status : Status) (discarded : ℕ) (cs : List Closed) → buffers_where is_waiting discarded cs ≡ [] → settle_first status cs ≡ cs
+nothing_settled status discarded [] none = refl
+nothing_settled status discarded (c ∷ cs) none = grind (arith, common_steps, nothing_settled status (discarded + length c.block.discarded) cs)
 
-pub taken : (s : StreamState) (h : History) (waiting : List ClosedBuffer) → s.ring.waiting ≡ waiting → StandsFor s h → StandsFor (moved_oldest waiting s) (oldest_kept h)
+pub taken : (s : StreamState) (h : History) (waiting : List ClosedBuffer) → s.ring.waiting ≡ waiting → StandsFor s h
+    → StandsFor (move_oldest waiting s) (keep_oldest h)
 taken s h [] waiting_is is =
     let same : settle_first (Kept h.cuts) h.closed ≡ h.closed = nothing_settled (Kept h.cuts) 0 h.closed (sym is.waiting ∙ waiting_is) in
     subst (λ (cs : List Closed). StandsFor s (record h { closed = cs })) (sym same) is
@@ -46,12 +58,15 @@ taken s h (b ∷ bs) waiting_is is = stands-moved s h b bs waiting_is is
 
 -- a take from a stream is the history's take
 takes_in : (m : SessionMode) (s : StreamState) (h : History) → StandsFor s h
-    → (by_session m (taken_from s.parts.current.id s.ring.waiting) (Err SnapshotMode) ≡ by_session m (taken_from h.cuts (waiting_of h)) (Err SnapshotMode))
-    × StandsFor (by_session m (moved_oldest s.ring.waiting s) s) (by_session m (oldest_kept h) h)
+    → (by_session_mode m (taken_from s.parts.current.id s.ring.waiting) (Err SnapshotMode)
+    ≡ by_session_mode m (taken_from h.cuts (waiting_of h)) (Err SnapshotMode))
+    × StandsFor (by_session_mode m (move_oldest s.ring.waiting s) s) (by_session_mode m (keep_oldest h) h)
 takes_in Local s h is = (let a = is.current in let b = is.waiting in cc, taken s h s.ring.waiting refl is)
 takes_in Snapshot s h is = (refl, is)
 
-pub takes : (s : StreamState) (h : History) → StandsFor s h → (take_result s ≡ take_answer s.config h) × StandsFor (state_after_take s) (after_take s.config h)
+pub takes : (s : StreamState) (h : History) → StandsFor s h
+    → (state_take_answer s ≡ history_take_answer s.config h)
+    × StandsFor (state_after_take s) (history_after_take s.config h)
 takes s h is = takes_in s.config.session s h is
 
 pub length-parts_below : (c : StreamConfig) (k : ℕ) (h : History) → length (parts_below c k h) ≡ k
@@ -59,7 +74,7 @@ length-parts_below c zero h = refl
 length-parts_below c (suc k) h = grind (arith, common_steps, length-parts_below c k h)
 
 -- the counts of a stream are the history's
-pub counts-are : (s : StreamState) (h : History) → StandsFor s h → state_counts s ≡ counts_of s.config h
+pub counts-are : (s : StreamState) (h : History) → StandsFor s h → state_counts s ≡ history_counts s.config h
 counts-are s h is =
     let a = is.offered in let b = is.discarded in let c = is.overwritten in let d = is.overwritten_packets in
     let e = is.consumed in let f = is.waiting in let g = is.filling in

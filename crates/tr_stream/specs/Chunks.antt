@@ -1,40 +1,40 @@
 -- The ring and the trace chunks of a history: its blocks, by what became of them, and their packets.
 use Rattle.std.specs.Prelude.{ℕ, ◌+◌, zero, suc, Bool, List, [], ◌∷◌, ◌++◌, length, map, nat_le, Option, Some, None, if◌then◌else◌}
-use Rattle.tr_book.specs.Parts.{PartState}
+use Rattle.tr_book.specs.Parts.{PartState, part_state}
 use Rattle.tr_packet.specs.Packets.{Contents}
 use Rattle.tr_record.specs.Records.{Entry}
-use Rattle.tr_ring.specs.ClosedBuffer.{ClosedBuffer}
+use Rattle.tr_ring.specs.ClosedBuffer.{ClosedBuffer, closed_buffer}
 use Rattle.tr_ring.specs.Ring.{RingState}
 use Rattle.tr_stream.specs.History.{Status, Closed, History, is_waiting, is_kept, is_kept_in, discarded_of}
 use Rattle.tr_stream.specs.declared.config.StreamConfig.{StreamConfig}
 
--- the sub-buffer of a closed block, before which that many records were discarded
+-- the sub-buffer of a closed block, with the number of records discarded before the block
 abbrev pub buffer_of : ℕ → Closed → ClosedBuffer
-buffer_of lost c = record { seq = c.block.number; end = c.end; lost = lost + length c.block.missed; records = c.block.records }
+buffer_of discarded c = closed_buffer c.block.number c.end (discarded + length c.block.discarded) c.block.records
 
 -- the sub-buffers of the blocks of this status, in order
 abbrev pub buffers_where : (Status → Bool) → ℕ → List Closed → List ClosedBuffer
-buffers_where wanted lost [] = []
-buffers_where wanted lost (c ∷ cs) =
-    let rest = buffers_where wanted (lost + length c.block.missed) cs in
-    if wanted c.status then buffer_of lost c ∷ rest else rest
+buffers_where wanted discarded [] = []
+buffers_where wanted discarded (c ∷ cs) =
+    let rest = buffers_where wanted (discarded + length c.block.discarded) cs in
+    if wanted c.status then buffer_of discarded c ∷ rest else rest
 
 -- the closed sub-buffers that wait
 abbrev pub waiting_of : History → List ClosedBuffer
 waiting_of h = buffers_where is_waiting 0 h.closed
 
--- a current sub-buffer as it is when it is closed now, left out where it has no record
-abbrev pub closing_if_any : (seq end lost : ℕ) → List Entry → List ClosedBuffer
-closing_if_any seq end lost [] = []
-closing_if_any seq end lost (e ∷ es) = record { seq = seq; end = end; lost = lost; records = e ∷ es } ∷ []
+-- a current sub-buffer as if closed now, left out if it has no record
+abbrev pub closed_if_any : (seq end discarded : ℕ) → List Entry → List ClosedBuffer
+closed_if_any seq end discarded [] = []
+closed_if_any seq end discarded (e ∷ es) = closed_buffer seq end discarded (e ∷ es) ∷ []
 
 -- the ring, the filling block as if it were closed at this moment
 abbrev pub ring_of : ℕ → History → List ClosedBuffer
-ring_of end h = waiting_of h ++ closing_if_any h.filling.number end (discarded_of h) h.filling.records
+ring_of end h = waiting_of h ++ closed_if_any h.filling.number end (discarded_of h) h.filling.records
 
--- the same of a ring
+-- the same for a ring
 abbrev pub ring_buffers : ℕ → RingState → List ClosedBuffer
-ring_buffers end r = r.waiting ++ closing_if_any r.seq end r.refused r.current
+ring_buffers end r = r.waiting ++ closed_if_any r.seq end r.discarded r.current
 
 -- what was consumed into a chunk
 abbrev pub chunk_of : ℕ → History → List ClosedBuffer
@@ -52,13 +52,20 @@ begin_of (e ∷ es) = e.moment
 -- the packet that a closed sub-buffer becomes
 abbrev pub packet_of : StreamConfig → ClosedBuffer → Contents
 packet_of c b = record {
-  head = record { uuid = c.uuid; stream = c.number; begin = begin_of b.records; end = b.end; seq = b.seq; lost = b.lost };
+  head = record {
+    uuid = c.uuid;
+    stream = c.number;
+    begin = begin_of b.records;
+    end = b.end;
+    seq = b.seq;
+    discarded = b.discarded;
+  };
   records = b.records;
 }
 
 -- a part: the packets of a chunk
 abbrev pub part_of : StreamConfig → ℕ → List ClosedBuffer → PartState
-part_of c k buffers = record { id = k; packets = map (packet_of c) buffers }
+part_of c k buffers = part_state k (map (packet_of c) buffers)
 
 -- the parts of the chunks below a number, in order
 abbrev pub parts_below : StreamConfig → ℕ → History → List PartState

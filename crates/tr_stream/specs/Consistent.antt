@@ -5,7 +5,7 @@ use Rattle.tr_book.specs.Parts.{PartState}
 use Rattle.tr_terms.specs.declared.mode.Mode.TheVariants.{Discard, Overwrite}
 use Rattle.tr_packet.specs.Packets.{Contents}
 use Rattle.tr_record.specs.Records.{Entry}
-use Rattle.tr_ring.specs.ClosedBuffer.{ClosedBuffer}
+use Rattle.tr_ring.specs.ClosedBuffer.{ClosedBuffer, closed_buffer}
 use Rattle.tr_ring.specs.Ring.{seq_after}
 use Rattle.tr_stream.specs.Chunks.{ring_buffers}
 use Rattle.tr_stream.specs.Fates.{all_parts}
@@ -14,16 +14,16 @@ use Rattle.tr_stream.specs.WellFormed.{RecordsRise, next_serial}
 
 -- the sub-buffer that a packet was
 abbrev pub buffer_in : Contents → ClosedBuffer
-buffer_in p = record { seq = p.head.seq; end = p.head.end; lost = p.head.lost; records = p.records }
+buffer_in p = closed_buffer p.head.seq p.head.end p.head.discarded p.records
 
 abbrev pub buffers_in : List PartState → List ClosedBuffer
 buffers_in parts = flat_map (λ (p : PartState). map buffer_in p.packets) parts
 
 -- all that is held: the packets of the parts in order, and then the ring
 abbrev pub held_buffers : StreamState → List ClosedBuffer
-held_buffers s = buffers_in (all_parts s.parts) ++ ring_buffers s.book.last s.ring
+held_buffers s = buffers_in (all_parts s.parts) ++ ring_buffers s.counters.last s.ring
 
--- numbers and serials rise from these, and stay below those
+-- numbers and serials rise from the first two, and stay below the last two
 abbrev pub Rising : ℕ → ℕ → List ClosedBuffer → ℕ → ℕ → Type 0
 Rising seq serial [] next_seq next = (seq ≤ next_seq) × (serial ≤ next)
 Rising seq serial (b ∷ bs) next_seq next =
@@ -39,7 +39,7 @@ abbrev pub PartsFrom : ℕ → List PartState → Type 0
 PartsFrom k [] = Unit {0}
 PartsFrom k (p ∷ ps) = (p.id ≡ k) × PartsFrom (k + 1) ps
 
--- the first serial, or else this one
+-- the first serial, or this one if there is none
 abbrev pub first_in : List Entry → ℕ → ℕ
 first_in [] next = next
 first_in (e ∷ es) next = e.serial
@@ -48,34 +48,36 @@ abbrev pub first_serial : List ClosedBuffer → ℕ → ℕ
 first_serial [] next = next
 first_serial (b ∷ bs) next = first_in b.records next
 
--- what is lost up to a sub-buffer is what is absent below the next one; `seen` serials are there before it
-abbrev pub LostAgrees : ℕ → List ClosedBuffer → ℕ → Type 0
-LostAgrees seen [] next = Unit {0}
-LostAgrees seen (b ∷ bs) next =
-    (b.lost + (seen + length b.records) ≡ first_serial bs next) × LostAgrees (seen + length b.records) bs next
+-- the records discarded up to a sub-buffer are those absent below the next one; `seen` serials are there before it
+abbrev pub DiscardsAgree : ℕ → List ClosedBuffer → ℕ → Type 0
+DiscardsAgree seen [] next = Unit {0}
+DiscardsAgree seen (b ∷ bs) next =
+    (b.discarded + (seen + length b.records) ≡ first_serial bs next) × DiscardsAgree (seen + length b.records) bs next
 
 -- serials follow each other
 abbrev pub SerialsFollow : ℕ → List Entry → Type 0
 SerialsFollow n [] = Unit {0}
 SerialsFollow n (e ∷ es) = (e.serial ≡ n) × SerialsFollow (n + 1) es
 
--- nothing is lost within a sub-buffer, serials are absent before it exactly where numbers are, and neither behind the last
+-- nothing is lost within a sub-buffer, serials are absent before it exactly where numbers are, and neither after the last
 abbrev pub GapsAgree : ℕ → ℕ → List ClosedBuffer → ℕ → ℕ → Type 0
 GapsAgree seq serial [] next_seq next = (seq ≡ next_seq) × (serial ≡ next)
 GapsAgree seq serial (b ∷ bs) next_seq next =
-    (b.lost ≡ 0) × SerialsFollow (first_in b.records next) b.records
+    (b.discarded ≡ 0) × SerialsFollow (first_in b.records next) b.records
     × ((b.seq ≡ seq) ↔ (first_in b.records next ≡ serial))
     × GapsAgree (b.seq + 1) (next_serial serial b.records) bs next_seq next
 
 pub record IsConsistent (s : StreamState) : Type 0 where
   -- numbers and serials rise strictly, below the next of each
-  pub rising : Rising 0 0 (held_buffers s) (seq_after s.ring.seq s.ring.current) s.book.offered
+  pub rising : Rising 0 0 (held_buffers s) (seq_after s.ring.seq s.ring.current) s.counters.offered
   pub parts : PartsFrom 0 (all_parts s.parts)
   -- the numbers of the ring follow each other up to the current one
   pub ring : (first : ℕ) × (first + length s.ring.waiting ≡ s.ring.seq) × CountUp first s.ring.waiting
   -- as many numbers are absent as sub-buffers were overwritten
-  pub absent : length (held_buffers s) + s.book.overwritten_packets ≡ seq_after s.ring.seq s.ring.current
-  -- in discard mode no number is absent, and each `lost` tells how many serials are
-  pub discards : s.config.mode ≡ Discard → CountUp 0 (held_buffers s) × LostAgrees 0 (held_buffers s) s.book.offered
+  pub absent : length (held_buffers s) + s.counters.overwritten_packets ≡ seq_after s.ring.seq s.ring.current
+  -- in discard mode no number is absent, and each `discarded` says how many serials are
+  pub discards : s.config.mode ≡ Discard
+      → CountUp 0 (held_buffers s) × DiscardsAgree 0 (held_buffers s) s.counters.offered
   -- in overwrite mode serials are absent only between sub-buffers, exactly where numbers are
-  pub overwrites : s.config.mode ≡ Overwrite → GapsAgree 0 0 (held_buffers s) (seq_after s.ring.seq s.ring.current) s.book.offered
+  pub overwrites : s.config.mode ≡ Overwrite
+      → GapsAgree 0 0 (held_buffers s) (seq_after s.ring.seq s.ring.current) s.counters.offered

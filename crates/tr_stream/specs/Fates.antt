@@ -12,12 +12,12 @@ use Rattle.tr_stream.specs.State.{StreamState}
 use Rattle.tr_stream.specs.declared.fate.Fate.{Fate}
 use Rattle.tr_stream.specs.declared.fate.Fate.TheVariants.{Discarded, Overwritten, InRing, InChunk}
 
--- the block misses it
-abbrev pub misses : ℕ → Block → Bool
-misses n b = list_any (λ (m : ℕ). m == n) b.missed
+-- it was discarded while the block was filling
+abbrev pub is_discarded_in : ℕ → Block → Bool
+is_discarded_in n b = list_any (λ (m : ℕ). m == n) b.discarded
 
-abbrev pub is_missed : ℕ → History → Bool
-is_missed n h = list_any (λ (c : Closed). misses n c.block) h.closed || misses n h.filling
+abbrev pub is_discarded : ℕ → History → Bool
+is_discarded n h = list_any (λ (c : Closed). is_discarded_in n c.block) h.closed || is_discarded_in n h.filling
 
 -- the closed block that has its record
 abbrev pub holder : ℕ → List Closed → Option Closed
@@ -34,11 +34,11 @@ abbrev pub holder_fate : Option Closed → Block → Fate
 holder_fate None filling = InRing filling.number
 holder_fate (Some c) filling = status_fate c.status c.block.number
 
--- by the history: none where no offer of this serial was accepted
-abbrev pub fate_of : ℕ → History → Option Fate
-fate_of n h =
+-- by the history; none if no offer with this serial was accepted
+abbrev pub history_fate : ℕ → History → Option Fate
+history_fate n h =
     if nat_lt n (offered_of h)
-    then Some (if is_missed n h then Discarded else holder_fate (holder n h.closed) h.filling)
+    then Some (if is_discarded n h then Discarded else holder_fate (holder n h.closed) h.filling)
     else None
 
 -- the parts in order, the current one last
@@ -57,11 +57,11 @@ fate_in_ring n r = option_map InRing (seq_of n r)
 abbrev pub held_fate : ℕ → StreamState → Option Fate
 held_fate n s = option_or (fate_in_parts n (all_parts s.parts)) (fate_in_ring n s.ring)
 
--- what becomes of a record that is held no more
+-- the fate of a record that is no longer held
 abbrev pub loss_of : Mode → Fate
 loss_of mode.Discard = Discarded
 loss_of mode.Overwrite = Overwritten
 
 -- by what a stream holds
 abbrev pub state_fate : ℕ → StreamState → Option Fate
-state_fate n s = if nat_lt n s.book.offered then Some (unwrap_or (held_fate n s) (loss_of s.config.mode)) else None
+state_fate n s = if nat_lt n s.counters.offered then Some (unwrap_or (held_fate n s) (loss_of s.config.mode)) else None

@@ -12,7 +12,7 @@ pub data Status : Type 0 where
 pub record Block : Type 0 where
   pub number : ℕ
   pub records : List Entry
-  pub missed : List ℕ
+  pub discarded : List ℕ
 
 -- a block that was closed at a moment
 pub record Closed : Type 0 where
@@ -20,7 +20,7 @@ pub record Closed : Type 0 where
   pub end : ℕ
   pub status : Status
 
--- the closed blocks in order, and then the one that is filling; the cuts; the last moment that was stored
+-- the closed blocks in order, and the one that is filling; the cuts; the last stored moment; whether offers are taken
 pub record History : Type 0 where
   pub closed : List Closed
   pub filling : Block
@@ -50,7 +50,7 @@ is_kept_in k (Kept j) = j == k
 
 -- how many offers a block accounts for
 abbrev pub offers_in : Block → ℕ
-offers_in b = length b.records + length b.missed
+offers_in b = length b.records + length b.discarded
 
 -- how many offers closed blocks account for
 abbrev pub offers_before : List Closed → ℕ
@@ -60,13 +60,13 @@ offers_before cs = sum_by (λ (c : Closed). offers_in c.block) cs
 abbrev pub offered_of : History → ℕ
 offered_of h = offers_before h.closed + offers_in h.filling
 
--- how many serials closed blocks miss
-abbrev pub missed_in : List Closed → ℕ
-missed_in cs = sum_by (λ (c : Closed). length c.block.missed) cs
+-- how many serials were discarded while closed blocks were filling
+abbrev pub discarded_in : List Closed → ℕ
+discarded_in cs = sum_by (λ (c : Closed). length c.block.discarded) cs
 
--- how many serials are missed in all
+-- how many serials were discarded in all
 abbrev pub discarded_of : History → ℕ
-discarded_of h = missed_in h.closed + length h.filling.missed
+discarded_of h = discarded_in h.closed + length h.filling.discarded
 
 -- how many records the blocks of this status hold
 abbrev pub records_where : (Status → Bool) → List Closed → ℕ
@@ -76,10 +76,10 @@ records_where wanted cs = sum_by (λ (c : Closed). if wanted c.status then lengt
 abbrev pub blocks_where : (Status → Bool) → List Closed → ℕ
 blocks_where wanted cs = count_by (λ (c : Closed). wanted c.status) cs
 
--- how often a block has or misses a serial
+-- how often a serial is a block's, as a record or as discarded
 abbrev pub times_in : ℕ → Block → ℕ
-times_in n b = count_by (λ (r : Entry). r.serial == n) b.records + count_by (λ (m : ℕ). m == n) b.missed
+times_in n b = count_by (λ (r : Entry). r.serial == n) b.records + count_by (λ (m : ℕ). m == n) b.discarded
 
--- how often all blocks do
+-- how often it is any block's
 abbrev pub times : ℕ → History → ℕ
 times n h = sum_by (λ (c : Closed). times_in n c.block) h.closed + times_in n h.filling

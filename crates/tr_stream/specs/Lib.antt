@@ -1,9 +1,11 @@
+pub mod Calls
 pub mod Chunks
 pub mod Consistent
 pub mod Fates
 pub mod Faults
 pub mod History
 pub mod Kept
+pub mod Laws
 pub mod Rules
 pub mod Runs
 pub mod Sound

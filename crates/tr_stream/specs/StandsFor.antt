@@ -7,17 +7,17 @@ use Rattle.tr_stream.specs.WellFormed.{IsWellFormed}
 
 pub record StandsFor (s : StreamState) (h : History) : Type 0 where
   pub model : IsWellFormed h
-  -- the closed parts are the chunks below the cuts, and the current part is the chunk behind them
+  -- the closed parts are the chunks below the cuts, and the current part is the chunk after them
   pub closed : s.parts.closed ≡ parts_below s.config h.cuts h
   pub current : s.parts.current ≡ part_of s.config h.cuts (chunk_of h.cuts h)
   -- the ring is the blocks that wait, and the one that is filling
   pub waiting : s.ring.waiting ≡ waiting_of h
   pub filling : s.ring.current ≡ h.filling.records
   pub number : s.ring.seq ≡ h.filling.number
-  pub discarded : s.ring.refused ≡ discarded_of h
-  pub offered : s.book.offered ≡ offered_of h
-  pub overwritten : s.book.overwritten ≡ records_where is_dropped h.closed
-  pub overwritten_packets : s.book.overwritten_packets ≡ blocks_where is_dropped h.closed
-  pub consumed : s.book.consumed ≡ records_where is_kept h.closed
-  pub last : s.book.last ≡ h.last
+  pub discarded : s.ring.discarded ≡ discarded_of h
+  pub offered : s.counters.offered ≡ offered_of h
+  pub overwritten : s.counters.overwritten ≡ records_where is_dropped h.closed
+  pub overwritten_packets : s.counters.overwritten_packets ≡ blocks_where is_dropped h.closed
+  pub consumed : s.counters.consumed ≡ records_where is_kept h.closed
+  pub last : s.counters.last ≡ h.last
   pub active : s.active ≡ h.active

@@ -1,6 +1,6 @@
 -- What a stream holds.
 use Rattle.std.specs.Prelude.{ℕ, ◌+◌, Bool, List, length, sum_by}
-use Rattle.tr_book.specs.Book.{BookState}
+use Rattle.tr_book.specs.Counters.{CountersState}
 use Rattle.tr_book.specs.Parts.{PartState, PartsState, records_of}
 use Rattle.tr_ring.specs.Ring.{RingState}
 use Rattle.tr_ring.specs.ClosedBuffer.{ClosedBuffer}
@@ -11,8 +11,12 @@ pub record StreamState : Type 0 where
   pub config : StreamConfig
   pub ring : RingState
   pub parts : PartsState
-  pub book : BookState
+  pub counters : CountersState
   pub active : Bool
+
+abbrev pub stream_state : StreamConfig → RingState → PartsState → CountersState → Bool → StreamState
+stream_state config ring parts counters active =
+    record { config = config; ring = ring; parts = parts; counters = counters; active = active }
 
 -- how many records closed sub-buffers hold
 abbrev pub records_in : List ClosedBuffer → ℕ

@@ -1,11 +1,11 @@
 -- What each call does to the history, and what it answers.
 use Rattle.std.specs.Prelude.{ℕ, ◌+◌, ◌-◌, ◌^◌, max, min, Bool, false, nat_lt, nat_le, not, List, [], ◌∷◌, ◌++◌, length, map, Result, Ok, Err, if◌then◌else◌}
 use Rattle.tr_book.specs.Parts.{bytes_of}
-use Rattle.tr_book.specs.Snaps.{SnapState}
+use Rattle.tr_book.specs.Snaps.{SnapState, snap_state}
 use Rattle.tr_book.specs.declared.counts.Counts.{Counts}
 use Rattle.tr_terms.specs.declared.mode.Mode.{Mode}
 use Rattle.tr_terms.specs.declared.mode.Mode.TheVariants.{Discard, Overwrite}
-use Rattle.tr_record.specs.Records.{Entry}
+use Rattle.tr_record.specs.Records.{Entry, entry}
 use Rattle.tr_record.specs.Weight.{weight_of}
 use Rattle.tr_ring.specs.ClosedBuffer.{ClosedBuffer}
 use Rattle.tr_stream.specs.Chunks.{waiting_of, ring_of, chunk_of, packet_of}
@@ -22,28 +22,34 @@ use Rattle.tr_stream.specs.declared.answers.TakeFault.{TakeFault}
 use Rattle.tr_stream.specs.declared.answers.TakeFault.TheVariants as take_fault
 use Rattle.tr_stream.specs.declared.answers.Taken.{Taken}
 use Rattle.tr_stream.specs.declared.config.StreamConfig.{StreamConfig}
-use Rattle.tr_terms.specs.SessionModes.{by_session}
+use Rattle.tr_terms.specs.SessionModes.{by_session_mode}
 use Rattle.tr_terms.specs.declared.limits.TheConstants.{MOST_OFFERS, RECORD_HEADER, SMALLEST_PACKET}
 
 -- at the start: one empty block is filling
-abbrev pub start : History
-start = record { closed = []; filling = record { number = 0; records = []; missed = [] }; cuts = 0; last = 0; active = false }
+abbrev pub new_history : History
+new_history = record {
+  closed = [];
+  filling = record { number = 0; records = []; discarded = [] };
+  cuts = 0;
+  last = 0;
+  active = false;
+}
 
 -- an offer as it is stored
-abbrev pub entry_of : History → ℕ → ℕ → List ℕ → Entry
-entry_of h moment id payload = record { serial = offered_of h; moment = max moment h.last; id = id; payload = payload }
+abbrev pub history_entry : History → ℕ → ℕ → List ℕ → Entry
+history_entry h moment id payload = entry (offered_of h) (max moment h.last) id payload
 
 -- what an offer comes to
 pub data Course : Type 0 where
   Refuse : (fault : OfferFault) → Course
   Join : Course
   Follow : Course
-  Miss : Course
+  DiscardNewest : Course
   Replace : Course
 
--- where there is no room
+-- when there is no room
 abbrev pub course_when_full : Mode → Course
-course_when_full Discard = Miss
+course_when_full Discard = DiscardNewest
 course_when_full Overwrite = Replace
 
 -- the first of these that applies
@@ -57,26 +63,31 @@ course_of c h len =
     else course_when_full c.mode))))
 
 -- the filling block is closed and waits, and a block with this record alone follows
-abbrev pub followed_by : Entry → History → History
-followed_by e h = record h {
+abbrev pub follow_filling : Entry → History → History
+follow_filling e h = record h {
   closed = h.closed ++ record { block = h.filling; end = e.moment; status = Waiting } ∷ [];
-  filling = record { number = h.filling.number + 1; records = e ∷ []; missed = [] };
+  filling = record { number = h.filling.number + 1; records = e ∷ []; discarded = [] };
   last = e.moment;
 }
 
 -- the first block that waits gets this status
 abbrev pub settle_first : Status → List Closed → List Closed
 settle_first status [] = []
-settle_first status (c ∷ cs) = if is_waiting c.status then record c { status = status } ∷ cs else c ∷ settle_first status cs
+settle_first status (c ∷ cs) =
+    if is_waiting c.status then record c { status = status } ∷ cs else c ∷ settle_first status cs
 
 abbrev pub after_course : Course → Entry → History → History
 after_course (Refuse fault) e h = h
-after_course Join e h = record h { filling = record h.filling { records = h.filling.records ++ e ∷ [] }; last = e.moment }
-after_course Follow e h = followed_by e h
-after_course Miss e h = record h { filling = record h.filling { missed = h.filling.missed ++ e.serial ∷ [] }; last = e.moment }
-after_course Replace e h = followed_by e (record h { closed = settle_first Dropped h.closed })
+after_course Join e h = record h {
+  filling = record h.filling { records = h.filling.records ++ e ∷ [] };
+  last = e.moment;
+}
+after_course Follow e h = follow_filling e h
+after_course DiscardNewest e h =
+    record h { filling = record h.filling { discarded = h.filling.discarded ++ e.serial ∷ [] }; last = e.moment }
+after_course Replace e h = follow_filling e (record h { closed = settle_first Dropped h.closed })
 
--- the number and count of the first block that waits go with the answer
+-- the answer gives the number and the count of the first block that waits
 abbrev pub over_oldest : ℕ → ℕ → List ClosedBuffer → Offered
 over_oldest serial seq [] = Stored serial seq
 over_oldest serial seq (b ∷ bs) = StoredOver serial seq b.seq (length b.records)
@@ -85,14 +96,15 @@ abbrev pub course_answer : Course → History → Result Offered OfferFault
 course_answer (Refuse fault) h = Err fault
 course_answer Join h = Ok (Stored (offered_of h) h.filling.number)
 course_answer Follow h = Ok (Stored (offered_of h) (h.filling.number + 1))
-course_answer Miss h = Ok (Discarded (offered_of h))
+course_answer DiscardNewest h = Ok (Discarded (offered_of h))
 course_answer Replace h = Ok (over_oldest (offered_of h) (h.filling.number + 1) (waiting_of h))
 
-abbrev pub after_offer : StreamConfig → ℕ → ℕ → List ℕ → History → History
-after_offer c moment id payload h = after_course (course_of c h (length payload)) (entry_of h moment id payload) h
+abbrev pub history_after_offer : StreamConfig → ℕ → ℕ → List ℕ → History → History
+history_after_offer c moment id payload h =
+    after_course (course_of c h (length payload)) (history_entry h moment id payload) h
 
-abbrev pub offer_answer : StreamConfig → List ℕ → History → Result Offered OfferFault
-offer_answer c payload h = course_answer (course_of c h (length payload)) h
+abbrev pub history_offer_answer : StreamConfig → List ℕ → History → Result Offered OfferFault
+history_offer_answer c payload h = course_answer (course_of c h (length payload)) h
 
 -- the oldest of these, for the chunk
 abbrev pub taken_from : ℕ → List ClosedBuffer → Result Taken TakeFault
@@ -100,22 +112,22 @@ taken_from k [] = Err take_fault.Nothing
 taken_from k (b ∷ bs) = Ok (record { seq = b.seq; count = length b.records; chunk = k })
 
 -- the first block that waits is kept
-abbrev pub oldest_kept : History → History
-oldest_kept h = record h { closed = settle_first (Kept h.cuts) h.closed }
+abbrev pub keep_oldest : History → History
+keep_oldest h = record h { closed = settle_first (Kept h.cuts) h.closed }
 
 -- in a snapshot session nothing is taken
-abbrev pub take_answer : StreamConfig → History → Result Taken TakeFault
-take_answer c h = by_session c.session (taken_from h.cuts (waiting_of h)) (Err take_fault.SnapshotMode)
+abbrev pub history_take_answer : StreamConfig → History → Result Taken TakeFault
+history_take_answer c h = by_session_mode c.session (taken_from h.cuts (waiting_of h)) (Err take_fault.SnapshotMode)
 
-abbrev pub after_take : StreamConfig → History → History
-after_take c h = by_session c.session (oldest_kept h) h
+abbrev pub history_after_take : StreamConfig → History → History
+history_after_take c h = by_session_mode c.session (keep_oldest h) h
 
 -- the filling block, if it has a record, is closed and waits, and an empty one follows
-abbrev pub flushed_with : List Entry → ℕ → History → History
-flushed_with [] end h = record h { last = end }
-flushed_with (e ∷ es) end h = record h {
+abbrev pub close_filling : List Entry → ℕ → History → History
+close_filling [] end h = record h { last = end }
+close_filling (e ∷ es) end h = record h {
   closed = h.closed ++ record { block = h.filling; end = end; status = Waiting } ∷ [];
-  filling = record { number = h.filling.number + 1; records = []; missed = [] };
+  filling = record { number = h.filling.number + 1; records = []; discarded = [] };
   last = end;
 }
 
@@ -125,32 +137,34 @@ keep_waiting k [] = []
 keep_waiting k (c ∷ cs) = (if is_waiting c.status then record c { status = Kept k } else c) ∷ keep_waiting k cs
 
 -- all is kept in the chunk, and the next one begins
-abbrev pub all_kept : History → History
-all_kept h = record h { closed = keep_waiting h.cuts h.closed; cuts = h.cuts + 1 }
+abbrev pub keep_all : History → History
+keep_all h = record h { closed = keep_waiting h.cuts h.closed; cuts = h.cuts + 1 }
 
-abbrev pub cut_at : ℕ → History → History
-cut_at end h = all_kept (flushed_with h.filling.records end h)
+abbrev pub history_cut_ring : ℕ → History → History
+history_cut_ring end h = keep_all (close_filling h.filling.records end h)
 
 -- in a snapshot session nothing is cut
-abbrev pub after_cut : StreamConfig → ℕ → History → History
-after_cut c moment h = by_session c.session (cut_at (max moment h.last) h) h
+abbrev pub history_after_cut : StreamConfig → ℕ → History → History
+history_after_cut c moment h = by_session_mode c.session (history_cut_ring (max moment h.last) h) h
 
--- how many blocks and records that keeps
+-- how many blocks and records a cut keeps
 abbrev pub done_with : ℕ → List ClosedBuffer → CutDone
 done_with k buffers = record { chunk = k; packets = length buffers; records = records_in buffers }
 
-abbrev pub cut_answer : StreamConfig → ℕ → History → Result CutDone CutFault
-cut_answer c moment h = by_session c.session (Ok (done_with h.cuts (ring_of (max moment h.last) h))) (Err cut_fault.SnapshotMode)
+abbrev pub history_cut_answer : StreamConfig → ℕ → History → Result CutDone CutFault
+history_cut_answer c moment h =
+    by_session_mode c.session (Ok (done_with h.cuts (ring_of (max moment h.last) h))) (Err cut_fault.SnapshotMode)
 
--- what is seen of the stream at a moment: the filling block, if it has a record, as if it were closed
-abbrev pub snap_of : StreamConfig → ℕ → History → SnapState
-snap_of c moment h = record { stream = c.number; offered = offered_of h; lost = discarded_of h; packets = map (packet_of c) (ring_of (max moment h.last) h) }
+-- what a peek shows of the stream at a moment: the filling block, if it has a record, as if it were closed
+abbrev pub history_snap : StreamConfig → ℕ → History → SnapState
+history_snap c moment h = snap_state c.number (offered_of h) (discarded_of h)
+    (map (packet_of c) (ring_of (max moment h.last) h))
 
-abbrev pub switched : Bool → History → History
-switched active h = record h { active = active }
+abbrev pub history_after_switch : Bool → History → History
+history_after_switch active h = record h { active = active }
 
-abbrev pub counts_of : StreamConfig → History → Counts
-counts_of c h = record {
+abbrev pub history_counts : StreamConfig → History → Counts
+history_counts c h = record {
   offered = offered_of h;
   discarded = discarded_of h;
   overwritten = records_where is_dropped h.closed;

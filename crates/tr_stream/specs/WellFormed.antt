@@ -10,7 +10,7 @@ abbrev pub NumberedFrom : ℕ → List Closed → Type 0
 NumberedFrom n [] = Unit {0}
 NumberedFrom n (c ∷ cs) = (c.block.number ≡ n) × NumberedFrom (n + 1) cs
 
--- behind a block that waits, all wait
+-- after a block that waits, all wait
 abbrev pub AllWait : List Closed → Type 0
 AllWait [] = Unit {0}
 AllWait (c ∷ cs) = (is_waiting c.status ≡ true) × AllWait cs
@@ -29,7 +29,7 @@ abbrev pub AllWithinCuts : ℕ → List Closed → Type 0
 AllWithinCuts cuts [] = Unit {0}
 AllWithinCuts cuts (c ∷ cs) = IsWithin cuts c.status × AllWithinCuts cuts cs
 
--- serials at or above this one, each above the one before
+-- serials from this one on, each above the one before
 abbrev pub RecordsRise : ℕ → List Entry → Type 0
 RecordsRise low [] = Unit {0}
 RecordsRise low (e ∷ es) = (low ≤ e.serial) × RecordsRise (e.serial + 1) es
@@ -39,14 +39,14 @@ abbrev pub next_serial : ℕ → List Entry → ℕ
 next_serial low [] = low
 next_serial low (e ∷ es) = next_serial (e.serial + 1) es
 
--- the first record has this serial; without a record, none is missed
+-- the first record has this serial; without a record, none was discarded
 abbrev pub StartsAt : ℕ → List Entry → List ℕ → Type 0
-StartsAt low [] missed = missed ≡ []
-StartsAt low (e ∷ es) missed = e.serial ≡ low
+StartsAt low [] discarded = discarded ≡ []
+StartsAt low (e ∷ es) discarded = e.serial ≡ low
 
--- a block's records have serials from this one on, within as many as it accounts for, and its first one that very serial
+-- a block's serials start at this one, which its first record has, and rise within as many as the block accounts for
 pub record Covers (low : ℕ) (b : Block) : Type 0 where
-  pub starts : StartsAt low b.records b.missed
+  pub starts : StartsAt low b.records b.discarded
   pub rise : RecordsRise low b.records
   pub within : next_serial low b.records ≤ low + offers_in b
 

@@ -9,25 +9,25 @@ use thiserror::Error;
 /// What became of an accepted offer.
 #[derive(Clone, Copy, Debug, PartialEq, Eq)]
 pub enum Offered {
-    /// It is in the sub-buffer of this number.
+    /// Stored in the sub-buffer with this number.
     Stored {
         /// How many offers were accepted before it.
         serial: u64,
         /// The number of its sub-buffer.
         seq: u64,
     },
-    /// It is in the sub-buffer of this number, and the oldest one that waited is gone with all its records.
+    /// Stored in the sub-buffer with this number; the oldest one that waited was overwritten, with all its records.
     StoredOver {
         /// How many offers were accepted before it.
         serial: u64,
         /// The number of its sub-buffer.
         seq: u64,
-        /// The number of the sub-buffer that is gone.
+        /// The number of the overwritten sub-buffer.
         gone_seq: u64,
-        /// How many records that one had.
+        /// How many records that sub-buffer had.
         gone_count: u64,
     },
-    /// It is lost: the ring had no room.
+    /// The ring was full and discarded it.
     Discarded {
         /// How many offers were accepted before it.
         serial: u64,
@@ -46,7 +46,7 @@ pub enum OfferFault {
     /// The stream has accepted 2^62 offers.
     #[error("O3 Spent")]
     Spent,
-    /// Memory was refused.
+    /// An allocation failed.
     #[error("O4 NoMemory")]
     NoMemory,
 }
@@ -91,9 +91,9 @@ impl From<AllocError> for OfferFault {
 /// The packet that a take moved.
 #[derive(Clone, Copy, Debug, PartialEq, Eq)]
 pub struct Taken {
-    /// Its number.
+    /// The packet's number.
     pub seq: u64,
-    /// How many records it has.
+    /// How many records the packet has.
     pub count: u64,
     /// The trace chunk that it is in.
     pub chunk: u64,
@@ -108,7 +108,7 @@ pub enum TakeFault {
     /// In a snapshot session nothing is taken.
     #[error("T2 SnapshotMode")]
     SnapshotMode,
-    /// Memory was refused.
+    /// An allocation failed.
     #[error("T3 NoMemory")]
     NoMemory,
 }
@@ -151,11 +151,11 @@ impl From<AllocError> for TakeFault {
 /// The trace chunk that a cut closed, and what the cut added to it.
 #[derive(Clone, Copy, Debug, PartialEq, Eq)]
 pub struct CutDone {
-    /// Its number.
+    /// The chunk's number.
     pub chunk: u64,
     /// How many packets the cut added.
     pub packets: u64,
-    /// How many records these have.
+    /// How many records these packets have.
     pub records: u64,
 }
 
@@ -165,7 +165,7 @@ pub enum CutFault {
     /// In a snapshot session nothing is cut.
     #[error("C1 SnapshotMode")]
     SnapshotMode,
-    /// Memory was refused.
+    /// An allocation failed.
     #[error("C2 NoMemory")]
     NoMemory,
 }

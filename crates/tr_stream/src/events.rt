@@ -9,13 +9,13 @@ use tr_record::Moment;
 /// A call of a stream.
 #[derive(Drop)]
 pub enum StreamEvent<A: Allocator = Global> {
-    /// An offer at a moment, of an id and a payload.
+    /// An offer at a moment, with an id and a payload.
     Offer(Moment, u32, Payload<A>),
-    /// A take.
+    /// A take of the oldest sub-buffer that waits.
     Take,
     /// A cut at a moment.
     Cut(Moment),
-    /// A look at a moment.
+    /// A peek at a moment.
     Peek(Moment),
     /// The stream takes offers from now on.
     Start,
@@ -26,16 +26,16 @@ pub enum StreamEvent<A: Allocator = Global> {
 /// What a call answered.
 #[derive(Drop)]
 pub enum StreamAnswer<A: Allocator = Global> {
-    /// To an offer.
+    /// The answer to an offer.
     Offer(Result<Offered, OfferFault>),
-    /// To a take.
+    /// The answer to a take.
     Take(Result<Taken, TakeFault>),
-    /// To a cut.
+    /// The answer to a cut.
     Cut(Result<CutDone, CutFault>),
-    /// To a look.
+    /// The answer to a peek.
     Peek(Result<StreamSnap<A>, AllocError>),
-    /// To a start, which is never refused.
+    /// The answer to a start, which is never refused.
     Start,
-    /// To a stop, which is never refused.
+    /// The answer to a stop, which is never refused.
     Stop,
 }

@@ -9,9 +9,9 @@ use tr_book::{Mode, Part};
 /// What became of an accepted offer, as things stand.
 #[derive(Clone, Copy, Debug, PartialEq, Eq)]
 pub enum Fate {
-    /// It was lost as it came: the ring had no room.
+    /// The ring was full and discarded it.
     Discarded,
-    /// Its record was stored, and lost with its sub-buffer to a later one.
+    /// Its record was stored, and later overwritten with its sub-buffer.
     Overwritten,
     /// Its record is in the ring.
     InRing {
@@ -27,7 +27,7 @@ pub enum Fate {
     },
 }
 
-/// By the part that has the record of this serial.
+/// The fate of the record with this serial, by the part that has it, if any.
 pub fn fate_in_parts<A: Allocator>(parts: &[Part<A>], serial: u64) -> Option<Fate>
     ensures { result ≡ fate_in_parts serial parts.now }
 {
@@ -42,7 +42,7 @@ pub fn fate_in_parts<A: Allocator>(parts: &[Part<A>], serial: u64) -> Option<Fat
     None
 }
 
-/// What becomes of a record that is held no more: each mode loses records in one way alone.
+/// The fate of a record that is no longer held: each mode loses records in only one way.
 pub fn loss(mode: Mode) -> Fate
     ensures { result ≡ loss_of mode }
 {

@@ -2,45 +2,41 @@
 
 ghost use Rattle.std.specs.Prelude.{◌≡◌, ◌≢◌, [], map, IfOk, OnErr};
 ghost use Rattle.tr_packet.specs.Packets.{IsPacket};
-ghost use Rattle.tr_ring.specs.Ring.{closing};
+ghost use Rattle.tr_ring.specs.Ring.{closed_current};
 ghost use Rattle.tr_stream.specs.Chunks.{begin_of, packet_of, ring_buffers};
 ghost use Rattle.tr_stream.specs.Sound.{ArePackets};
 
 use crate::config::StreamConfig;
 use std::alloc::{AllocError, Allocator};
 use tr_packet::{Head, Packet};
-use tr_record::{Moment, Rec};
+use tr_record::{Moment, Rec, RecViews};
 use tr_ring::{ClosedSubBuf, Ring};
-use tr_subbuf::SubBuf;
 
-/// Copies of its records, in order.
+/// Copies of records, in order.
 fn copy_records<A: Allocator + Copy>(
     alloc: A,
-    buffer: &SubBuf<A>,
+    records: RecViews<'_, A>,
 ) -> Result<Vec<Rec<A>, A>, AllocError>
-    ensures { IfOk result (λ v. v.items ≡ buffer.now.records) }
+    ensures { IfOk result (λ v. v.items ≡ records.entry) }
 {
-    let mut records = Vec::with_capacity(alloc, buffer.count())?;
-    for i in 0..buffer.count() {
-        let Some(r) = buffer.at(i) else {
-            unreachable!()
-        };
-        records.push(Rec::copy_of(alloc, r.serial(), r.moment(), r.id(), r.payload())?)?;
+    let mut copies = Vec::with_capacity(alloc, records.len())?;
+    for r in records {
+        copies.push(Rec::copy_of(alloc, r.serial(), r.moment(), r.id(), r.payload())?)?;
     }
-    Ok(records)
+    Ok(copies)
 }
 
-/// The moment of its first record.
-fn begin<A: Allocator>(buffer: &SubBuf<A>) -> Moment
-    ensures { result ≡ begin_of buffer.now.records }
+/// The moment of the first record.
+fn begin<A: Allocator>(records: RecViews<'_, A>) -> Moment
+    ensures { result ≡ begin_of records.entry }
 {
-    match buffer.at(0) {
+    match records.first() {
         Some(first) => first.moment(),
         None => Moment::zero(),
     }
 }
 
-/// The packet of a closed sub-buffer, with copies of its records.
+/// The packet of a closed sub-buffer, with copies of its records. Fails if an allocation fails.
 pub fn packet_from<A: Allocator + Copy>(
     alloc: A,
     config: StreamConfig,
@@ -56,7 +52,7 @@ pub fn packet_from<A: Allocator + Copy>(
         begin: begin(buffer.records()),
         end: buffer.end(),
         seq: buffer.seq(),
-        lost: buffer.lost(),
+        discarded: buffer.discarded(),
     };
     Ok(Packet::new(head, records))
 }
@@ -68,17 +64,17 @@ fn packet_of_current<A: Allocator + Copy>(
     ring: &Ring<A>,
     end: Moment,
 ) -> Result<Packet<A>, AllocError>
-    requires { IsPacket (packet_of config (closing end ring.now)) }
-    ensures { IfOk result (λ p. p ≡ packet_of config (closing end ring.now)) }
+    requires { IsPacket (packet_of config (closed_current end ring.now)) }
+    ensures { IfOk result (λ p. p ≡ packet_of config (closed_current end ring.now)) }
 {
-    let records = copy_records(alloc, ring.current())?;
+    let records = copy_records(alloc, ring.current().records())?;
     let head = Head {
         uuid: config.uuid,
         stream: config.number,
-        begin: begin(ring.current()),
+        begin: begin(ring.current().records()),
         end,
         seq: ring.seq(),
-        lost: ring.refused(),
+        discarded: ring.discarded(),
     };
     Ok(Packet::new(head, records))
 }
@@ -102,8 +98,8 @@ fn waiting_packets<A: Allocator + Copy>(
     Ok(packets)
 }
 
-/// The packets of a ring, the oldest first: of those that wait, and of the current sub-buffer, as if it were closed at
-/// this moment, where it has a record. It takes memory only where there are some.
+/// The packets of a ring, the oldest first: those of the sub-buffers that wait, and that of the current one, as if it were
+/// closed at this moment, if it has a record. It takes memory only if there are some.
 pub fn ring_packets<A: Allocator + Copy>(
     alloc: A,
     config: StreamConfig,
@@ -111,7 +107,7 @@ pub fn ring_packets<A: Allocator + Copy>(
     end: Moment,
 ) -> Result<Vec<Packet<A>, A>, AllocError>
     requires waiting { ArePackets config ring.now.waiting }
-    requires current { ring.now.current ≢ [] → IsPacket (packet_of config (closing end ring.now)) }
+    requires current { ring.now.current ≢ [] → IsPacket (packet_of config (closed_current end ring.now)) }
     ensures packets { IfOk result (λ v. v.items ≡ map (packet_of config) (ring_buffers end ring.now)) }
     ensures memory { OnErr result (ring_buffers end ring.now ≢ []) }
 {

@@ -27,7 +27,7 @@ impl<A: Allocator> Payload<A> {
         Payload { bytes }
     }
 
-    /// A payload with a copy of these bytes.
+    /// A payload with a copy of these bytes. Fails if an allocation fails.
     pub fn copy_of(alloc: A, bytes: &[u8]) -> Result<Payload<A>, AllocError>
         ensures { IfOk result (λ p. p ≡ bytes.now) }
     {
@@ -36,14 +36,14 @@ impl<A: Allocator> Payload<A> {
         })
     }
 
-    /// The bytes.
+    /// The payload's bytes.
     pub fn as_slice(&self) -> &[u8]
         ensures { result.now ≡ self.now }
     {
         self.bytes.as_slice()
     }
 
-    /// The bytes, given back.
+    /// The payload's bytes, moved out.
     pub fn into_bytes(self) -> Vec<u8, A>
         ensures { result.items ≡ self }
     {

@@ -2,9 +2,9 @@
 
 ghost use Rattle.std.specs.Prelude.{◌≡◌, IfOk, OnErr};
 ghost use Rattle.tr_stream.specs.History.{History};
-ghost use Rattle.tr_stream.specs.Runs.{MayTakeMemory, after_event, answer_to, after_events, answers_to};
+ghost use Rattle.tr_stream.specs.Runs.{MayTakeMemory, history_after_event, history_answer, history_after_events, history_answers};
 ghost use Rattle.tr_stream.specs.StandsFor.{StandsFor};
-ghost use Rattle.tr_stream.specs.Steps.{start};
+ghost use Rattle.tr_stream.specs.Steps.{new_history};
 
 use crate::answers::{CutFault, OfferFault, TakeFault};
 use crate::config::StreamConfig;
@@ -12,18 +12,19 @@ use crate::events::{StreamAnswer, StreamEvent};
 use crate::stream::Stream;
 use std::alloc::{AllocError, Allocator};
 
-/// One call. Want of memory ends it, and then the stream is as it was. It ends an offer that stores its record, a take
-/// and a cut that aren't refused, and a look at packets, and no other call.
+/// One call. A failed allocation ends it and leaves the stream as it was. It ends an offer that stores its record, a take or
+/// a cut that isn't refused, or a peek that finds packets, and no other call.
 fn step<A: Allocator + Copy>(
     stream: &mut Stream<A>,
     event: &StreamEvent<A>,
 ) -> Result<StreamAnswer<A>, AllocError>
     ensures config { stream.new.config ≡ stream.old.config }
     ensures step { (h : History) → StandsFor stream.old h → IfOk result (λ answer.
-        (answer ≡ answer_to stream.old.config event.now h)
-        × StandsFor stream.new (after_event stream.old.config event.now h)) }
+        (answer ≡ history_answer stream.old.config event.now h)
+        × StandsFor stream.new (history_after_event stream.old.config event.now h)) }
     ensures err { OnErr result (stream.new ≡ stream.old) }
-    ensures memory { (h : History) → StandsFor stream.old h → OnErr result (MayTakeMemory (answer_to stream.old.config event.now h)) }
+    ensures memory { (h : History) → StandsFor stream.old h
+        → OnErr result (MayTakeMemory (history_answer stream.old.config event.now h)) }
 {
     match event {
         StreamEvent::Offer(moment, id, payload) => {
@@ -62,15 +63,15 @@ fn step<A: Allocator + Copy>(
     }
 }
 
-/// A new stream over a list of calls, and what each answered. Want of memory ends the run.
+/// Runs a new stream over a list of calls: the stream, and what each call answered. A failed allocation ends the run.
 pub fn run_stream<A: Allocator + Copy>(
     alloc: A,
     config: StreamConfig,
     events: &[StreamEvent<A>],
 ) -> Result<(Stream<A>, Vec<StreamAnswer<A>, A>), AllocError>
     ensures config { IfOk result (λ r. r.0.config ≡ config) }
-    ensures stream { IfOk result (λ r. StandsFor r.0 (after_events config events.now start)) }
-    ensures answers { IfOk result (λ r. r.1.items ≡ answers_to config events.now start) }
+    ensures stream { IfOk result (λ r. StandsFor r.0 (history_after_events config events.now new_history)) }
+    ensures answers { IfOk result (λ r. r.1.items ≡ history_answers config events.now new_history) }
 {
     let mut stream = Stream::new(
         alloc,

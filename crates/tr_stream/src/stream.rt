@@ -1,18 +1,7 @@
 //! One stream: a ring of sub-buffers, and the parts that it is consumed into.
 
 ghost use Rattle.std.specs.Prelude.{◌≡◌, ◌≢◌, ◌+◌, ◌-◌, ◌≤◌, ◌<◌, [], Some, Ok, Err, IsOk, IfOk, OnOk, OnErr, length, option_copied};
-ghost use Rattle.tr_stream.specs.Chunks.{part_in};
-ghost use Rattle.tr_stream.specs.Consistent.{IsConsistent};
-ghost use Rattle.tr_stream.specs.Fates.{fate_of, state_fate, held_fate};
-ghost use Rattle.tr_stream.specs.History.{History};
-ghost use Rattle.tr_stream.specs.Kept.{IsKept};
-ghost use Rattle.tr_stream.specs.Sound.{IsSound};
-ghost use Rattle.tr_stream.specs.StandsFor.{StandsFor};
-ghost use Rattle.tr_stream.specs.State.{in_ring};
-ghost use Rattle.tr_stream.specs.StateSteps.{new_state, overwrites, refusal_of, entered, with_offer, offered_as, offer_result, state_after_offer, TakesMemory, take_result, state_after_take, cut_done, cut_result, state_cut_at, state_after_cut, state_switched, state_snap, state_counts};
-ghost use Rattle.tr_stream.specs.Steps.{start, offer_answer, after_offer, take_answer, after_take, cut_answer, after_cut, switched, snap_of, counts_of};
-ghost use Rattle.tr_book.specs.Parts.{part_at};
-ghost use Rattle.tr_ring.specs.Ring.{push_answer};
+ghost use Rattle.tr_stream.specs.Calls.{part_in, IsConsistent, history_fate, state_fate, held_fate, History, IsKept, IsSound, StandsFor, in_ring, new_state, overwrites, refusal_of, state_entry, state_with_offer, offered_as, state_offer_answer, state_after_offer, TakesMemory, state_take_answer, state_after_take, cut_done, state_cut_answer, state_cut_ring, state_after_cut, state_after_switch, state_snap, state_counts, new_history, history_offer_answer, history_after_offer, history_take_answer, history_after_take, history_cut_answer, history_after_cut, history_after_switch, history_snap, history_counts, part_at, push_answer};
 
 use crate::answers::{CutDone, CutFault, OfferFault, Offered, TakeFault, Taken};
 use crate::config::StreamConfig;
@@ -20,14 +9,14 @@ use crate::fate::{Fate, fate_in_parts, loss};
 use crate::packing::{packet_from, ring_packets};
 use std::alloc::{AllocError, Allocator, Global};
 use std::marker::Model;
-use tr_book::{Book, Counts, Geometry, Mode, Part, Parts, StreamSnap};
+use tr_book::{Counters, Counts, Geometry, Mode, Part, Parts, StreamSnap};
 use tr_record::Moment;
 use tr_ring::{Pushed, Ring};
 use tr_terms::SessionMode;
 use tr_terms::limits::{MOST_OFFERS, SMALLEST_PACKET};
 use uuid::Uuid;
 
-/// Whether the oldest sub-buffer gives way.
+/// Whether the oldest sub-buffer is overwritten.
 fn gives_way(mode: Mode) -> bool
     ensures { result ≡ overwrites mode }
 {
@@ -44,24 +33,24 @@ pub struct Stream<A: Allocator = Global> {
     config: StreamConfig,
     ring: Ring<A>,
     parts: Parts<A>,
-    book: Book,
+    counters: Counters,
     active: bool,
 }
 
 impl<A: Allocator> Model for Stream<A> {
-    ghost use Rattle.tr_stream.specs.State.{StreamState};
+    ghost use Rattle.tr_stream.specs.State.{StreamState, stream_state};
 
     ghost Value = { StreamState };
 
     ghost use Rattle.tr_stream.specs.Kept.{IsKept};
 
-    ghost view = { λ a. record { config = a.config; ring = a.ring; parts = a.parts; book = a.book; active = a.active } };
+    ghost view = { λ a. stream_state a.config a.ring a.parts a.counters a.active };
 
-    ghost invariant = { λ a. IsKept (record { config = a.config; ring = a.ring; parts = a.parts; book = a.book; active = a.active }) };
+    ghost invariant = { λ a. IsKept (stream_state a.config a.ring a.parts a.counters a.active) };
 }
 
 impl<A: Allocator + Copy> Stream<A> {
-    /// A stream without records that takes no offers yet.
+    /// A stream without records that takes no offers yet. Fails if an allocation fails.
     pub fn new(
         alloc: A,
         uuid: Uuid,
@@ -70,8 +59,15 @@ impl<A: Allocator + Copy> Stream<A> {
         mode: Mode,
         session: SessionMode,
     ) -> Result<Stream<A>, AllocError>
-        ensures value { IfOk result (λ s. s ≡ new_state (record { uuid = uuid; number = number; geometry = geometry; mode = mode; session = session })) }
-        ensures starts { IfOk result (λ s. StandsFor s start) }
+        ensures value { IfOk result
+            (λ s. s ≡ new_state (record {
+              uuid = uuid;
+              number = number;
+              geometry = geometry;
+              mode = mode;
+              session = session;
+            })) }
+        ensures starts { IfOk result (λ s. StandsFor s new_history) }
     {
         let _ = uuid.into_bytes();
         let ring = Ring::new(alloc, geometry.size(), geometry.count(), gives_way(mode))?;
@@ -86,25 +82,28 @@ impl<A: Allocator + Copy> Stream<A> {
             },
             ring,
             parts: Parts::new(alloc),
-            book: Book::new(),
+            counters: Counters::new(),
             active: false,
         })
     }
 
-    /// Offers a record: stores it, or discards it where a ring in discard mode has no room. An offer that is refused,
-    /// also for want of memory, changes nothing; one that is discarded takes no memory.
-    // (the call that traced threads wait for, and few places make it)
+    /// Offers a record: stores it, or discards it if a ring in discard mode has no room. An offer that is refused, also
+    /// because an allocation failed, changes nothing; discarding a record takes no memory.
+    // Traced threads wait for this call, and few places make it.
     #[inline(always)]
     pub fn offer(&mut self, moment: Moment, id: u32, payload: &[u8]) -> Result<Offered, OfferFault>
         ensures value { result ≢ Err OfferFault.NoMemory →
-            (result ≡ offer_result moment id payload.now self.old) × (self.new ≡ state_after_offer moment id payload.now self.old) }
+            (result ≡ state_offer_answer moment id payload.now self.old)
+            × (self.new ≡ state_after_offer moment id payload.now self.old) }
         ensures step { (h : History) → StandsFor self.old h → result ≢ Err OfferFault.NoMemory →
-            (result ≡ offer_answer self.old.config payload.now h)
-            × StandsFor self.new (after_offer self.old.config moment id payload.now h) }
+            (result ≡ history_offer_answer self.old.config payload.now h)
+            × StandsFor self.new (history_after_offer self.old.config moment id payload.now h) }
         ensures no_memory { result ≡ Err OfferFault.NoMemory → self.new ≡ self.old }
         ensures config { self.new.config ≡ self.old.config }
-        ensures memory { result ≡ Err OfferFault.NoMemory → TakesMemory (offer_result moment id payload.now self.old) }
-        ensures step_memory { (h : History) → StandsFor self.old h → result ≡ Err OfferFault.NoMemory → TakesMemory (offer_answer self.old.config payload.now h) }
+        ensures memory { result ≡ Err OfferFault.NoMemory
+            → TakesMemory (state_offer_answer moment id payload.now self.old) }
+        ensures step_memory { (h : History) → StandsFor self.old h → result ≡ Err OfferFault.NoMemory
+            → TakesMemory (history_offer_answer self.old.config payload.now h) }
     {
         if let Some(fault) = self.refusal(payload.len()) {
             return Err(fault);
@@ -116,15 +115,19 @@ impl<A: Allocator + Copy> Stream<A> {
     #[inline(always)]
     fn accept(&mut self, moment: Moment, id: u32, payload: &[u8]) -> Result<Offered, AllocError>
         requires { refusal_of (length payload.now) self.old ≡ None }
-        ensures answer { IfOk result (λ o. o ≡ offered_as self.old.book.offered (push_answer (entered moment id payload.now self.old) self.old.ring)) }
-        ensures ok { OnOk result (self.new ≡ with_offer (entered moment id payload.now self.old) self.old) }
+        ensures answer { IfOk result
+            (λ o. o ≡ offered_as self.old.counters.offered
+            (push_answer (state_entry moment id payload.now self.old) self.old.ring)) }
+        ensures ok { OnOk result (self.new ≡ state_with_offer (state_entry moment id payload.now self.old) self.old) }
         ensures err { OnErr result (self.new ≡ self.old) }
-        ensures memory { OnErr result (TakesMemory (Ok (offered_as self.old.book.offered (push_answer (entered moment id payload.now self.old) self.old.ring)))) }
+        ensures memory { OnErr result
+            (TakesMemory (Ok (offered_as self.old.counters.offered
+            (push_answer (state_entry moment id payload.now self.old) self.old.ring)))) }
     {
-        let moment = moment.later(self.book.last());
-        let serial = self.book.offered();
+        let moment = moment.later(self.counters.last());
+        let serial = self.counters.offered();
         let pushed = self.ring.push(moment, id, serial, payload)?;
-        self.book.note_offer(moment);
+        self.counters.note_offer(moment);
         match pushed {
             Pushed::Stored { seq } => Ok(Offered::Stored { serial, seq }),
             Pushed::StoredOver {
@@ -132,7 +135,7 @@ impl<A: Allocator + Copy> Stream<A> {
                 gone_seq,
                 gone_count,
             } => {
-                self.book.note_overwritten(gone_count);
+                self.counters.note_overwritten(gone_count);
                 Ok(Offered::StoredOver {
                     serial,
                     seq,
@@ -140,19 +143,21 @@ impl<A: Allocator + Copy> Stream<A> {
                     gone_count,
                 })
             }
-            Pushed::Refused => Ok(Offered::Discarded { serial }),
+            Pushed::Discarded => Ok(Offered::Discarded { serial }),
         }
     }
 
     /// Moves the oldest sub-buffer that waits, as a packet, to the end of the current part. A take that is refused, also
-    /// for want of memory, changes nothing. In a snapshot session each is.
+    /// because an allocation failed, changes nothing. In a snapshot session every take is refused.
     pub fn take(&mut self) -> Result<Taken, TakeFault>
-        ensures value { result ≢ Err TakeFault.NoMemory → (result ≡ take_result self.old) × (self.new ≡ state_after_take self.old) }
+        ensures value { result ≢ Err TakeFault.NoMemory
+            → (result ≡ state_take_answer self.old) × (self.new ≡ state_after_take self.old) }
         ensures step { (h : History) → StandsFor self.old h → result ≢ Err TakeFault.NoMemory →
-            (result ≡ take_answer self.old.config h) × StandsFor self.new (after_take self.old.config h) }
+            (result ≡ history_take_answer self.old.config h)
+            × StandsFor self.new (history_after_take self.old.config h) }
         ensures no_memory { result ≡ Err TakeFault.NoMemory → self.new ≡ self.old }
         ensures config { self.new.config ≡ self.old.config }
-        ensures memory { result ≡ Err TakeFault.NoMemory → IsOk (take_result self.old) }
+        ensures memory { result ≡ Err TakeFault.NoMemory → IsOk (state_take_answer self.old) }
     {
         match self.config.session {
             SessionMode::Snapshot => return Err(TakeFault::SnapshotMode),
@@ -168,7 +173,7 @@ impl<A: Allocator + Copy> Stream<A> {
     fn move_oldest(&mut self) -> Result<Taken, AllocError>
         requires local { self.old.config.session ≡ SessionMode.Local }
         requires some { 0 < length self.old.ring.waiting }
-        ensures answer { IfOk result (λ t. take_result self.old ≡ Ok t) }
+        ensures answer { IfOk result (λ t. state_take_answer self.old ≡ Ok t) }
         ensures ok { OnOk result (self.new ≡ state_after_take self.old) }
         ensures err { OnErr result (self.new ≡ self.old) }
     {
@@ -182,36 +187,38 @@ impl<A: Allocator + Copy> Stream<A> {
         };
         let packet = packet_from(self.alloc, self.config, oldest)?;
         self.parts.push(packet)?;
-        self.ring.drop_front();
-        self.book.note_consumed(taken.count);
+        self.ring.remove_oldest();
+        self.counters.note_consumed(taken.count);
         Ok(taken)
     }
 
     /// Closes the current sub-buffer if it has a record, moves all that waits, as packets, to the current part, closes that
-    /// part and begins the next one. A cut that is refused, also for want of memory, changes nothing. In a snapshot session
-    /// each is.
+    /// part and begins the next one. A cut that is refused, also because an allocation failed, changes nothing. In a snapshot
+    /// session every cut is refused.
     pub fn cut(&mut self, moment: Moment) -> Result<CutDone, CutFault>
-        ensures value { result ≢ Err CutFault.NoMemory → (result ≡ cut_result moment self.old) × (self.new ≡ state_after_cut moment self.old) }
+        ensures value { result ≢ Err CutFault.NoMemory
+            → (result ≡ state_cut_answer moment self.old) × (self.new ≡ state_after_cut moment self.old) }
         ensures step { (h : History) → StandsFor self.old h → result ≢ Err CutFault.NoMemory →
-            (result ≡ cut_answer self.old.config moment h) × StandsFor self.new (after_cut self.old.config moment h) }
+            (result ≡ history_cut_answer self.old.config moment h)
+            × StandsFor self.new (history_after_cut self.old.config moment h) }
         ensures no_memory { result ≡ Err CutFault.NoMemory → self.new ≡ self.old }
         ensures config { self.new.config ≡ self.old.config }
-        ensures memory { result ≡ Err CutFault.NoMemory → IsOk (cut_result moment self.old) }
+        ensures memory { result ≡ Err CutFault.NoMemory → IsOk (state_cut_answer moment self.old) }
     {
         match self.config.session {
             SessionMode::Snapshot => return Err(CutFault::SnapshotMode),
             SessionMode::Local => {}
         }
-        let end = self.book.stored_moment(moment);
-        Ok(self.cut_at(end)?)
+        let end = self.counters.stored_moment(moment);
+        Ok(self.cut_ring(end)?)
     }
 
     /// Moves all that the ring holds. All memory is taken before anything moves.
-    fn cut_at(&mut self, end: Moment) -> Result<CutDone, AllocError>
+    fn cut_ring(&mut self, end: Moment) -> Result<CutDone, AllocError>
         requires local { self.old.config.session ≡ SessionMode.Local }
-        requires later { self.old.book.last ≤ end }
+        requires later { self.old.counters.last ≤ end }
         ensures answer { IfOk result (λ d. d ≡ cut_done end self.old) }
-        ensures ok { OnOk result (self.new ≡ state_cut_at end self.old) }
+        ensures ok { OnOk result (self.new ≡ state_cut_ring end self.old) }
         ensures err { OnErr result (self.new ≡ self.old) }
     {
         let packets = ring_packets(self.alloc, self.config, &self.ring, end)?;
@@ -221,24 +228,30 @@ impl<A: Allocator + Copy> Stream<A> {
             records: self.in_ring(),
         };
         self.parts.cut(packets)?;
-        self.ring.empty();
-        self.book.note_consumed(done.records);
-        self.book.note_moment(end);
+        self.ring.clear();
+        self.counters.note_consumed(done.records);
+        self.counters.note_moment(end);
         Ok(done)
     }
 
-    /// What the stream has now: its offers, its losses, and copies of the packets that its ring holds, the current
-    /// sub-buffer's too, as if it were closed at this moment, or at the last one if that is later. Nothing changes. It takes
-    /// memory only where there are packets.
+    /// What the stream has now: how many offers it accepted, how many records it discarded, and copies of the packets that
+    /// its ring holds, with the current sub-buffer's, as if it were closed at this moment, or at the last one if that is
+    /// later. Nothing changes. It takes memory only if there are packets.
     pub fn peek(&self, moment: Moment) -> Result<StreamSnap<A>, AllocError>
         ensures value { IfOk result (λ snap. snap ≡ state_snap moment self.now) }
-        ensures step { (h : History) → StandsFor self.now h → IfOk result (λ snap. snap ≡ snap_of self.now.config moment h) }
+        ensures step { (h : History) → StandsFor self.now h
+            → IfOk result (λ snap. snap ≡ history_snap self.now.config moment h) }
         ensures memory { OnErr result ((state_snap moment self.now).packets ≢ []) }
     {
-        let end = self.book.stored_moment(moment);
+        let end = self.counters.stored_moment(moment);
         let packets = ring_packets(self.alloc, self.config, &self.ring, end)?;
         let stream = self.config.number;
-        Ok(StreamSnap::new(stream, self.book.offered(), self.ring.refused(), packets))
+        Ok(StreamSnap::new(
+            stream,
+            self.counters.offered(),
+            self.ring.discarded(),
+            packets,
+        ))
     }
 }
 
@@ -247,10 +260,13 @@ impl<A: Allocator> Stream<A> {
     fn in_ring(&self) -> u64
         ensures { result ≡ in_ring self.now.ring }
     {
-        self.book.offered() - self.ring.refused() - self.book.overwritten() - self.book.consumed()
+        self.counters.offered()
+            - self.ring.discarded()
+            - self.counters.overwritten()
+            - self.counters.consumed()
     }
 
-    /// Why an offer of so many bytes is refused.
+    /// Why an offer of `len` bytes is refused, if it is.
     fn refusal(&self, len: usize) -> Option<OfferFault>
         ensures value { result ≡ refusal_of len self.now }
         ensures sound { IsSound self.now }
@@ -261,16 +277,16 @@ impl<A: Allocator> Stream<A> {
         if len > self.config.geometry.size() - SMALLEST_PACKET {
             return Some(OfferFault::TooBig);
         }
-        if self.book.offered() >= MOST_OFFERS {
+        if self.counters.offered() >= MOST_OFFERS {
             return Some(OfferFault::Spent);
         }
         None
     }
 
-    /// Lets the stream take offers, or lets it refuse them.
+    /// Lets the stream take offers, or makes it refuse them.
     pub fn set_active(&mut self, active: bool)
-        ensures value { self.new ≡ state_switched active self.old }
-        ensures step { (h : History) → StandsFor self.old h → StandsFor self.new (switched active h) }
+        ensures value { self.new ≡ state_after_switch active self.old }
+        ensures step { (h : History) → StandsFor self.old h → StandsFor self.new (history_after_switch active h) }
     {
         self.active = active;
     }
@@ -278,23 +294,23 @@ impl<A: Allocator> Stream<A> {
     /// How many records were offered, and where they are.
     pub fn counts(&self) -> Counts
         ensures value { result ≡ state_counts self.now }
-        ensures step { (h : History) → StandsFor self.now h → result ≡ counts_of self.now.config h }
+        ensures step { (h : History) → StandsFor self.now h → result ≡ history_counts self.now.config h }
         ensures total { result.discarded + result.overwritten + result.in_ring + result.consumed ≡ result.offered }
         ensures consistent { IsConsistent self.now }
     {
         Counts {
-            offered: self.book.offered(),
-            discarded: self.ring.refused(),
-            overwritten: self.book.overwritten(),
-            overwritten_packets: self.book.overwritten_packets(),
+            offered: self.counters.offered(),
+            discarded: self.ring.discarded(),
+            overwritten: self.counters.overwritten(),
+            overwritten_packets: self.counters.overwritten_packets(),
             in_ring: self.in_ring(),
-            consumed: self.book.consumed(),
+            consumed: self.counters.consumed(),
             cuts: self.parts.cuts(),
             current_bytes: u64::try_from(self.parts.current().bytes()).unwrap_or(u64::MAX),
         }
     }
 
-    /// The part of trace chunk `k`: a closed one, or the current one behind them. None: no such chunk was begun.
+    /// The part of trace chunk `k`: a closed one, or the current one after them. None if no such chunk was begun.
     pub fn part(&self, k: u64) -> Option<&Part<A>>
         ensures value { option_copied result ≡ part_at k self.now.parts }
         ensures step { (h : History) → StandsFor self.now h → option_copied result ≡ part_in self.now.config k h }
@@ -302,12 +318,12 @@ impl<A: Allocator> Stream<A> {
         self.parts.part(k)
     }
 
-    /// What became of the accepted offer of this serial, none where there was no such offer yet.
+    /// What became of the accepted offer with this serial. None if there was no such offer yet.
     pub fn fate_of(&self, serial: u64) -> Option<Fate>
         ensures value { result ≡ state_fate serial self.now }
-        ensures step { (h : History) → StandsFor self.now h → result ≡ fate_of serial h }
+        ensures step { (h : History) → StandsFor self.now h → result ≡ history_fate serial h }
     {
-        if serial >= self.book.offered() {
+        if serial >= self.counters.offered() {
             return None;
         }
         match self.held_fate(serial) {
@@ -316,7 +332,7 @@ impl<A: Allocator> Stream<A> {
         }
     }
 
-    /// Where the record of this serial is held.
+    /// Where the record with this serial is held, if anywhere.
     fn held_fate(&self, serial: u64) -> Option<Fate>
         ensures { result ≡ held_fate serial self.now }
     {

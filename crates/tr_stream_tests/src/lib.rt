@@ -1,4 +1,4 @@
-//! The tests of tr_stream: worked examples of a stream's calls, of looks at it and of a list of calls.
+//! The tests of tr_stream: worked examples of a stream's calls, of peeks at it and of a list of calls.
 #![tactic(auto)]
 
 #[cfg(test)]

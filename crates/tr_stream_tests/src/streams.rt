@@ -10,13 +10,13 @@ use std::ops::Range;
 use std::process::Abort;
 use tr_book::{Geometry, Mode, StreamSnap};
 use tr_packet::{Head, Packet};
-use tr_record::{Moment, Rec};
+use tr_record::{Moment, RecView};
 use tr_stream::{OfferFault, Offered, SessionMode, Stream, StreamConfig};
 use uuid::Uuid;
 
-/// Holds what a test found to what it wanted. As a call without clauses it keeps the proofs of the tests short.
-fn assert_same<T: PartialEq + Debug + Drop>(rt: &impl Abort, found: T, wanted: T) {
-    assert_eq!(rt; found, wanted);
+/// Compares what a test found with what it expects. As a call without clauses it keeps the proofs of the tests short.
+fn assert_same<T: PartialEq + Debug + Drop>(rt: &impl Abort, found: T, expected: T) {
+    assert_eq!(rt; found, expected);
 }
 
 /// What a local session's stream 0 is made with.
@@ -46,7 +46,7 @@ fn small_stream(alloc: Global, mode: Mode) -> Result<Stream, AllocError> {
     )
 }
 
-/// This moment.
+/// The moment of this number of nanoseconds.
 fn at(nanoseconds: u64) -> Moment {
     Moment::new(nanoseconds).unwrap_or(Moment::zero())
 }
@@ -65,7 +65,7 @@ fn offer(stream: &mut Stream, moments: Range<u64>, payload: &[u8]) {
     }
 }
 
-/// Offers the payload at each moment, and holds the answer to what stands beside it.
+/// Offers the payload at each moment, and asserts the answer beside it.
 fn assert_offers(
     rt: &impl Abort,
     stream: &mut Stream,
@@ -83,7 +83,7 @@ fn stored(serial: u64, seq: u64) -> Result<Offered, OfferFault> {
     Ok(Offered::Stored { serial, seq })
 }
 
-/// The answer to an offer that goes over two records.
+/// The answer to an offer that overwrites two records.
 fn stored_over(serial: u64, seq: u64, gone_seq: u64) -> Result<Offered, OfferFault> {
     Ok(Offered::StoredOver {
         serial,
@@ -93,19 +93,19 @@ fn stored_over(serial: u64, seq: u64, gone_seq: u64) -> Result<Offered, OfferFau
     })
 }
 
-/// A packet of stream 0 as a test expects it: each record of it has id 7, and a payload of so many bytes, all 97.
+/// A packet of stream 0 as a test expects it: each of its records has id 7, and a payload of this many bytes, all 97.
 #[derive(Clone, Copy)]
 struct PacketRow {
     seq: u64,
-    lost: u64,
+    discarded: u64,
     begin: u64,
     end: u64,
     /// The serial, the moment and the length of each record.
     records: &'static [(u64, u64, usize)],
 }
 
-/// Whether a record has this serial, this moment, id 7 and a payload of so many bytes, all 97.
-fn is_record(record: &Rec, (serial, moment, len): (u64, u64, usize)) -> bool {
+/// Whether a record has this serial, this moment, id 7 and a payload of this many bytes, all 97.
+fn is_record(record: &RecView<'_>, (serial, moment, len): (u64, u64, usize)) -> bool {
     record.serial() == serial
         && record.moment().get() == moment
         && record.id() == 7
@@ -121,24 +121,22 @@ fn is_row(packet: &Packet, row: &PacketRow) -> bool {
         begin: at(row.begin),
         end: at(row.end),
         seq: row.seq,
-        lost: row.lost,
+        discarded: row.discarded,
     };
     let records = packet.records();
     packet.head() == head
         && records.len() == row.records.len()
         && records
-            .iter()
             .zip(row.records.iter())
-            .all(|(record, wanted)| is_record(record, *wanted))
+            .all(|(record, wanted)| is_record(&record, *wanted))
 }
 
-/// Whether a look at stream 0 shows so many offers and losses, and these packets.
-fn is_look(snap: &StreamSnap, offered: u64, lost: u64, rows: &[PacketRow]) -> bool {
+/// Whether a peek at stream 0 shows these numbers of offers and of discarded records, and these packets.
+fn is_look(snap: &StreamSnap, offered: u64, discarded: u64, rows: &[PacketRow]) -> bool {
     let packets = snap.packets();
-    (snap.stream(), snap.offered(), snap.lost()) == (0, offered, lost)
+    (snap.stream(), snap.offered(), snap.discarded()) == (0, offered, discarded)
         && packets.len() == rows.len()
         && packets
-            .iter()
             .zip(rows.iter())
             .all(|(packet, row)| is_row(packet, row))
 }

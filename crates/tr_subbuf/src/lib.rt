@@ -1,5 +1,5 @@
 //! A sub-buffer: the records that are to make one packet, within its size in bytes.
-//! How it keeps them shows in no contract.
+//! No contract shows how it keeps them.
 #![tactic(auto)]
 
 mod sub_buffer;

@@ -1,13 +1,13 @@
 //! `SubBuf`, records within a size.
 
-ghost use Rattle.std.specs.Prelude.{◌≡◌, ◌==◌, IsTrue, OnOk, OnErr, length, slice_get};
+ghost use Rattle.std.specs.Prelude.{◌≡◌, ◌==◌, IsTrue, OnOk, OnErr, length};
 ghost use Rattle.tr_record.specs.Records.{has_serial};
 ghost use Rattle.tr_record.specs.Weight.{weight_of};
 ghost use Rattle.tr_subbuf.specs.SubBuffer.{IsWithin, empty_buffer, has_room, with_record};
 
 use std::alloc::{AllocError, Allocator, Global};
 use std::marker::Model;
-use tr_record::{Rec, RecView};
+use tr_record::{Rec, RecView, RecViews};
 use tr_terms::limits::{PACKET_HEADER, RECORD_HEADER};
 
 /// Records in the order in which they came, and the most bytes that they may have as a packet. Contracts see a `SubBuffer`.
@@ -22,13 +22,13 @@ pub struct SubBuf<A: Allocator = Global> {
 impl<A: Allocator> Model for SubBuf<A> {
     ghost use Rattle.std.specs.Prelude.{◌≡◌};
     ghost use Rattle.tr_record.specs.Weight.{weight_of};
-    ghost use Rattle.tr_subbuf.specs.SubBuffer.{SubBuffer, IsWithin};
+    ghost use Rattle.tr_subbuf.specs.SubBuffer.{SubBuffer, IsWithin, sub_buffer};
 
     ghost Value = { SubBuffer };
 
-    ghost view = { λ b. record { records = b.records.items; size = b.size } };
+    ghost view = { λ b. sub_buffer b.records.items b.size };
 
-    ghost invariant = { λ b. (b.used ≡ weight_of b.records.items) × IsWithin (record { records = b.records.items; size = b.size }) };
+    ghost invariant = { λ b. (b.used ≡ weight_of b.records.items) × IsWithin (sub_buffer b.records.items b.size) };
 }
 
 impl<A: Allocator> SubBuf<A> {
@@ -61,7 +61,7 @@ impl<A: Allocator> SubBuf<A> {
         self.used
     }
 
-    /// Whether a record with a payload of `len` bytes has room.
+    /// Whether there is room for a record with a payload of `len` bytes.
     pub fn fits(&self, len: usize) -> bool
         ensures { result ≡ has_room self.now len }
     {
@@ -70,21 +70,21 @@ impl<A: Allocator> SubBuf<A> {
             && len <= self.size - self.used - RECORD_HEADER
     }
 
-    /// The record number `i`, from 0 on.
-    pub fn at(&self, i: usize) -> Option<RecView<'_>>
-        ensures { result ≡ slice_get self.now.records i }
+    /// Its records, in order.
+    pub fn records(&self) -> RecViews<'_, A>
+        ensures { result ≡ self.now.records }
     {
-        self.records.get(i).map(|r| r.view())
+        RecViews::new(self.records.as_slice())
     }
 
     /// Whether one of its records has this serial.
     pub fn has(&self, serial: u64) -> bool
         ensures { result ≡ has_serial serial self.now.records }
     {
-        self.records.iter().any(|r| r.serial() == serial)
+        self.records().has(serial)
     }
 
-    /// Gives up all records. It takes no memory.
+    /// Removes all records. It takes no memory.
     pub fn reset(&mut self)
         ensures { self.new ≡ empty_buffer self.old.size }
     {
@@ -94,7 +94,7 @@ impl<A: Allocator> SubBuf<A> {
 }
 
 impl<A: Allocator + Copy> SubBuf<A> {
-    /// An empty sub-buffer of so many bytes. It takes no memory.
+    /// An empty sub-buffer of `size` bytes. It takes no memory.
     pub fn new(alloc: A, size: usize) -> SubBuf<A>
         ensures { result ≡ empty_buffer size }
     {
@@ -106,7 +106,7 @@ impl<A: Allocator + Copy> SubBuf<A> {
         }
     }
 
-    /// Adds a copy of a record that has room. Where memory runs out, nothing changes.
+    /// Adds a copy of a record that has room. If an allocation fails, nothing changes.
     pub fn put(&mut self, entry: &RecView<'_>) -> Result<(), AllocError>
         requires { IsTrue (has_room self.old (length entry.now.payload)) }
         ensures ok { OnOk result (self.new ≡ with_record entry.now self.old) }

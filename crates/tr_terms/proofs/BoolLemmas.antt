@@ -1,4 +1,4 @@
--- What a conjunction tells.
+-- What follows from a conjunction.
 use Rattle.std.proofs.Common.{◌≡◌, ◌&&◌, Bool, true, false, refl}
 
 pub both : (a b : Bool) → (a && b) ≡ true → (a ≡ true) × (b ≡ true)

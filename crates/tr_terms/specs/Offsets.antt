@@ -2,6 +2,6 @@
 use Rattle.std.specs.Prelude.{ℤ, pos, neg_ℤ, ◌≤ℤ◌}
 use Rattle.tr_terms.specs.declared.limits.TheConstants.{MOST_MINUTES}
 
--- so many minutes ahead of UTC, or behind it, a clock may be
+-- the minutes that a clock may be ahead of UTC, or behind it
 abbrev pub IsOffset : ℤ → Type 0
 IsOffset minutes = (neg_ℤ (pos MOST_MINUTES) ≤ℤ minutes) × (minutes ≤ℤ pos MOST_MINUTES)

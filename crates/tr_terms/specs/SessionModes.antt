@@ -2,7 +2,7 @@
 use Rattle.tr_terms.specs.declared.session_mode.SessionMode.{SessionMode}
 use Rattle.tr_terms.specs.declared.session_mode.SessionMode.TheVariants.{Local, Snapshot}
 
--- one of these two, by what becomes of the session's packets
-abbrev pub by_session : {X : Type 0} → SessionMode → X → X → X
-by_session Local local snapshot = local
-by_session Snapshot local snapshot = snapshot
+-- the first for a local session, the second for a snapshot session
+abbrev pub by_session_mode : {X : Type 0} → SessionMode → X → X → X
+by_session_mode Local local snapshot = local
+by_session_mode Snapshot local snapshot = snapshot

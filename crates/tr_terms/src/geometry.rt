@@ -9,7 +9,7 @@ const SIZES: [u64; 9] = [256, 512, 1024, 2048, 4096, 8192, 16384, 32768, 65536];
 /// The powers of two from 2 to 64.
 const COUNTS: [u64; 6] = [2, 4, 8, 16, 32, 64];
 
-/// How large the sub-buffers of a ring are, and how many it has. Contracts see a `GeometryState`.
+/// The size and the number of a ring's sub-buffers. Contracts see a `GeometryState`.
 #[derive(Clone, Copy, Debug, PartialEq, Eq)]
 pub struct Geometry {
     size: usize,
@@ -18,18 +18,18 @@ pub struct Geometry {
 
 impl Model for Geometry {
     ghost use Rattle.std.specs.Prelude.{IsTrue};
-    ghost use Rattle.tr_terms.specs.Geometry.{GeometryState, is_size, is_count};
+    ghost use Rattle.tr_terms.specs.Geometry.{GeometryState, is_size, is_count, geometry_state};
 
     ghost Value = { GeometryState };
 
-    ghost view = { λ g. record { size = g.size; count = g.count } };
+    ghost view = { λ g. geometry_state g.size g.count };
 
     ghost invariant = { λ g. IsTrue (is_size g.size) × IsTrue (is_count g.count) };
 
     ghost inverse = { λ s. record { size = s.size; count = s.count } };
 }
 
-/// Why there is no such geometry.
+/// Why a size and a count make no geometry.
 #[derive(Clone, Copy, Debug, PartialEq, Eq, Error)]
 pub enum GeometryFault {
     /// The size isn't a power of two from 256 to 65,536.
@@ -43,8 +43,9 @@ pub enum GeometryFault {
 impl Geometry {
     ghost use Rattle.std.specs.Prelude.{◌≡◌, ◌≤◌};
     ghost use Rattle.tr_terms.specs.Geometry.{geometry_of};
+    ghost use Rattle.tr_terms.specs.declared.limits.TheConstants.{FEWEST_SUB_BUFFERS, LARGEST_PACKET, MOST_SUB_BUFFERS, SMALLEST_SUB_BUFFER};
 
-    /// Rings of `count` sub-buffers of `size` bytes each. The size is judged first.
+    /// The geometry of a ring with `count` sub-buffers of `size` bytes each. The size is judged first.
     pub fn new(size: u64, count: u64) -> Result<Geometry, GeometryFault>
         ensures { result ≡ geometry_of size count }
     {
@@ -63,7 +64,7 @@ impl Geometry {
     /// The bytes of a sub-buffer: a power of two from 256 to 65,536.
     pub fn size(self) -> usize
         ensures value { result ≡ self.size }
-        ensures within { (256 ≤ result) × (result ≤ 65536) }
+        ensures within { (SMALLEST_SUB_BUFFER ≤ result) × (result ≤ LARGEST_PACKET) }
     {
         self.size
     }
@@ -71,7 +72,7 @@ impl Geometry {
     /// How many sub-buffers a ring has: a power of two from 2 to 64.
     pub fn count(self) -> usize
         ensures value { result ≡ self.count }
-        ensures within { (2 ≤ result) × (result ≤ 64) }
+        ensures within { (FEWEST_SUB_BUFFERS ≤ result) × (result ≤ MOST_SUB_BUFFERS) }
     {
         self.count
     }

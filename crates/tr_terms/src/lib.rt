@@ -1,5 +1,5 @@
-//! The words that all crates share: limits, moments, modes, geometries, offsets and names.
-//! A limit has its one home here, from where specifications cite it too.
+//! The terms that all crates share: limits, moments, modes, geometries, offsets and names.
+//! Each limit is defined here alone, and specifications cite it from here.
 #![tactic(auto)]
 
 mod geometry;

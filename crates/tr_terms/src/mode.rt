@@ -3,8 +3,8 @@
 /// What a full ring does with an offer that has no room.
 #[derive(Clone, Copy, Debug, PartialEq, Eq)]
 pub enum Mode {
-    /// The newest record is refused.
+    /// The newest record is discarded.
     Discard,
-    /// The oldest closed sub-buffer goes as a whole.
+    /// The oldest closed sub-buffer is overwritten as a whole.
     Overwrite,
 }

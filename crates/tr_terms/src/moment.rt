@@ -28,7 +28,7 @@ impl Moment {
     /// The greatest moment, in nanoseconds since 1970.
     pub const LAST: u64 = LAST_MOMENT;
 
-    /// The moment of so many nanoseconds since 1970. None where the number is above the limit.
+    /// The moment of this number of nanoseconds since 1970. None if the number is above the limit.
     pub fn new(nanoseconds: u64) -> Option<Moment>
         ensures succeeds { IsSome result ↔ (nanoseconds ≤ LAST_MOMENT) }
         ensures value { IfSome result (λ m. m ≡ nanoseconds) }
@@ -40,7 +40,7 @@ impl Moment {
         }
     }
 
-    /// The moment of so many nanoseconds since 1970, which are within the limit.
+    /// The moment of this number of nanoseconds since 1970, which is within the limit.
     pub fn within_limit(nanoseconds: u64) -> Moment
         requires { nanoseconds ≤ LAST_MOMENT }
         ensures { result ≡ nanoseconds }

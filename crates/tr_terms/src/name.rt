@@ -52,7 +52,7 @@ fn is_valid_name(name: &str) -> bool
 }
 
 impl<'a> Name<'a> {
-    /// The name of this text. None where the text is no name.
+    /// The name with this text. None if the text is no name.
     pub fn new(text: &'a str) -> Option<Name<'a>>
         ensures succeeds { IsSome result ↔ IsTrue (is_name text.entry.now) }
         ensures value { IfSome result (λ n. n ≡ text.entry.now) }
@@ -64,7 +64,7 @@ impl<'a> Name<'a> {
         }
     }
 
-    /// Its text, in which no byte is a slash or a dot.
+    /// Its text. No byte of it is a slash or a dot.
     pub fn as_str(&self) -> &'a str
         ensures value { result.now ≡ self.now }
         ensures name { IsTrue (is_name self.now) }

@@ -26,7 +26,7 @@ impl Model for OffsetMinutes {
 }
 
 impl OffsetMinutes {
-    /// The offset of so many minutes. None where the number is outside the range.
+    /// The offset of this number of minutes. None if the number is outside the range.
     pub fn new(minutes: i32) -> Option<OffsetMinutes>
         ensures succeeds { IsSome result ↔ IsOffset minutes }
         ensures value { IfSome result (λ o. o ≡ minutes) }

@@ -1,4 +1,4 @@
-//! Lines that start and stop a session, and those that its streams meet.
+//! Lines that start and stop a session, and those for its streams while it runs.
 
 use super::{all_ask, all_bad};
 use std::test::Fail;

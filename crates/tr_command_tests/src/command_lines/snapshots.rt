@@ -1,4 +1,4 @@
-//! Lines that look at what a session's rings hold.
+//! Lines that show what a session's rings hold.
 
 use super::{all_ask, all_bad};
 use std::test::Fail;

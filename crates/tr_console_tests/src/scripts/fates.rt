@@ -1,4 +1,4 @@
-//! What `fate` tells.
+//! What `fate` answers.
 
 use super::{
     OPENED, OPENING, SIX_ANSWERS, SIX_OFFERS, goes_on, goes_on_overwriting, is_answered, joined,
@@ -31,7 +31,7 @@ fn tells_fates_of_discarded_and_consumed_records(rt: HostRuntime) -> Result<(), 
     Ok(())
 }
 
-/// Records that gave way, before a take and after it.
+/// Records that were overwritten, before a take and after it.
 const OVERWRITES: &str = "fate s 0 1
 fate s 0 2
 fate s 0 6
@@ -67,7 +67,7 @@ fn tells_fates_of_overwritten_records(rt: HostRuntime) -> Result<(), Fail> {
     Ok(())
 }
 
-/// Questions for fates in no session or no stream, and bad ones.
+/// Questions about fates in no session or no stream, and bad ones.
 const NO_STREAMS: &str = "fate t 0 0
 fate t 1 0
 fate s 1 0

@@ -3,7 +3,7 @@
 use super::{goes_on, goes_on_overwriting, is_answered, joined};
 use std::test::Fail;
 
-/// Six offers, of which one is discarded, a take, a rotation, and where the records are.
+/// Six offers, one of them discarded, a take, a rotation, and where the records are.
 const DISCARDS: &str = "offer s 0 1 7 --fill 50
 offer s 0 2 7 --fill 50
 offer s 0 3 7 --fill 50
@@ -96,7 +96,7 @@ stream 1
 started
 ";
 
-/// A rotation by single steps, up to the cut of its first stream, and offers and takes behind it.
+/// A rotation by single steps, up to the cut of its first stream, and offers and takes after it.
 const STEPS: &str = "offer s 0 1 1 --fill 50
 offer s 1 1 1 --fill 50
 rotate-begin s 10

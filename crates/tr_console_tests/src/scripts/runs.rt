@@ -86,7 +86,7 @@ impl ByteSource for InTurn<'_> {
     }
 }
 
-/// Counts the line feeds that it takes.
+/// Counts the newlines that it takes.
 #[derive(Drop)]
 struct Counting<'a>(&'a Cell<usize>);
 
@@ -174,7 +174,7 @@ fn writes_a_front_part_before_the_sink_fails(rt: HostRuntime) -> Result<(), Fail
     Ok(())
 }
 
-/// Gives line feeds, one or many at a time, and counts the calls.
+/// Gives newlines, one or many at a time, and counts the calls.
 #[derive(Drop)]
 struct Feeds {
     left: usize,

@@ -30,7 +30,7 @@ fn rotates_where_that_is_due(rt: HostRuntime) -> Result<(), Fail> {
     Ok(())
 }
 
-/// Schedules that there are not, and none.
+/// Schedules that don't exist, and none.
 const NONE: &str = "schedule s --every 0 --size 0
 schedule s --size 0
 schedule t

@@ -110,7 +110,7 @@ fn refuses_rotations_and_stops_before_a_start(rt: HostRuntime) -> Result<(), Fai
     Ok(())
 }
 
-/// Calls of a session that is not there.
+/// Calls of a session that doesn't exist.
 const NOBODY: &str = "archives nobody
 stop nobody
 rotate nobody 1
@@ -136,7 +136,7 @@ fn refuses_calls_of_no_session(rt: HostRuntime) -> Result<(), Fail> {
     Ok(())
 }
 
-/// Two sessions, of which the second has a stream.
+/// Two sessions; the second one has a stream.
 const TWO: &str = "create b 00000000-0000-0000-0000-000000000001
 create a 00000000-0000-0000-0000-000000000001
 channel a c 256 2 discard

@@ -46,7 +46,7 @@ fn refuses_snapshots_of_local_sessions(rt: HostRuntime) -> Result<(), Fail> {
     Ok(())
 }
 
-/// Six offers, of which two gave way, and two snapshots.
+/// Six offers, two of them overwritten, and two snapshots.
 const SIX: &str = "start z 0
 offer z 0 1 7 --fill 64
 offer z 0 2 7 --fill 64
@@ -81,7 +81,7 @@ fn shows_the_same_twice(rt: HostRuntime) -> Result<(), Fail> {
     Ok(())
 }
 
-/// An offer behind six others and a snapshot, and a snapshot at a moment before its own.
+/// An offer after six others and a snapshot, and a snapshot at a moment before its own.
 const SEVENTH: &str = "start z 0
 offer z 0 1 7 --fill 64
 offer z 0 2 7 --fill 64

@@ -9,7 +9,7 @@ use std::test::Fail;
 use tr_export::{Disk, ExportFault, write_archives};
 use tr_record::{ByteSink, Failed};
 
-/// A file that takes so many bytes more, and then fails.
+/// A file that takes this many bytes more, and then fails.
 #[derive(Drop)]
 struct ShortFile {
     room: usize,
@@ -34,7 +34,7 @@ impl ByteSink for ShortFile {
     }
 }
 
-/// Fails once so many calls were made. Its first file has room for so many bytes, and each later one for so many.
+/// Fails after `calls` calls. Its first file has room for `first` bytes, and each later one for `later`.
 #[derive(Drop)]
 struct FailingDisk {
     calls: usize,
@@ -44,7 +44,7 @@ struct FailingDisk {
 }
 
 impl FailingDisk {
-    /// Counts one call, which fails where it is one too many.
+    /// Counts one call, which fails if it is one too many.
     fn spend(&mut self) -> Result<(), Failed>
         ensures ok { OnOk result (self.new.failures ≡ self.old.failures) }
         ensures err { OnErr result (self.new.failures ≡ option_map once_more self.old.failures) }

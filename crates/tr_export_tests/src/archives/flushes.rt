@@ -10,8 +10,8 @@ use std::rt::Files;
 use std::test::Fail;
 use tr_export::{ExportFault, HostFiles, SystemDisk, write_archives};
 
-/// How many files were opened, how many flushes there were, and how many flushes and writes behind a file's first flush.
-/// So many flushes succeed.
+/// How many files were opened, how many flushes there were, and how many flushes and writes after a file's first flush.
+/// `room` flushes succeed.
 #[derive(Drop)]
 struct Seen {
     opened: Cell<u64>,

@@ -8,7 +8,7 @@ use tr_export::{
 };
 use tr_record::{Failed, MemorySink};
 
-/// Keeps what is made. So many files can be flushed, and then it is full.
+/// Keeps what is made. A number of files can be flushed, and then it is full.
 #[derive(Drop)]
 struct FullFiles {
     disk: MemoryDisk,

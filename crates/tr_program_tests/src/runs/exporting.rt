@@ -9,7 +9,7 @@ use tr_program::run;
 use tr_record::{MemorySink, MemorySource};
 use uuid::Uuid;
 
-/// One stream, with six offers of which one is discarded, and what was archived at 10.
+/// One stream, with six offers, one of them discarded, and what was archived at 10.
 const SCRIPT: &[u8] = b"create s 00000000-0000-0000-0000-000000000001
 channel s c 256 2 discard
 thread s c

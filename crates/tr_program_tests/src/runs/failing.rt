@@ -24,7 +24,7 @@ started
 archived 0 19700101T000000+0000-19700101T000000+0000-0
 ";
 
-/// The same, with a refused line behind it.
+/// The same, with a refused line after it.
 const REFUSED: &[u8] = b"create s 00000000-0000-0000-0000-000000000001
 channel s c 256 2 discard
 thread s c
@@ -43,7 +43,7 @@ bad line
 
 const FAULT: &[u8] = b"tracerd: read or write fault\n";
 
-/// Gives bytes one at a time, then a line of so many bytes, and then fails.
+/// Gives bytes one at a time, then a line of this many bytes, and then fails.
 #[derive(Drop)]
 struct Breaking<'a> {
     bytes: &'a [u8],
@@ -119,7 +119,7 @@ impl ByteSink for Void {
     }
 }
 
-/// Lets so many calls through, and fails at each later one.
+/// Lets this many calls through, and fails at each later one.
 #[derive(Drop)]
 struct FailingDisk {
     left: usize,
@@ -127,7 +127,7 @@ struct FailingDisk {
 }
 
 impl FailingDisk {
-    /// Counts one call, which fails where it is one too many.
+    /// Counts one call, which fails if it is one too many.
     fn spend(&mut self) -> Result<(), Failed>
         ensures ok { OnOk result (self.new.failures ≡ self.old.failures) }
         ensures err { OnErr result (self.new.failures ≡ option_map once_more self.old.failures) }
@@ -173,8 +173,8 @@ impl Disk for FailingDisk {
     }
 }
 
-/// What a run with `--out d` came to: its status, how many calls of the disk are left of 9 or of fewer, and whether standard
-/// error got the line of a read or write fault and nothing else.
+/// What a run with `--out d` came to: its status, how many of the disk's `calls` are left, and whether standard error got the
+/// line of a read or write fault and nothing else.
 fn ends<S: ByteSource, K: ByteSink>(
     alloc: Global,
     input: &mut S,
@@ -191,7 +191,7 @@ fn ends<S: ByteSource, K: ByteSink>(
     (status, disk.left, err.into_bytes().as_slice() == FAULT)
 }
 
-/// The same where the input gives these bytes and a line of so many bytes, and then fails, and whether this answer went out.
+/// The same if the input gives these bytes, a line of this many bytes, and then fails; and whether this answer went out.
 fn ends_broken(alloc: Global, bytes: &[u8], line: usize, answer: &[u8]) -> (u8, usize, bool, bool) {
     let mut input = Breaking {
         bytes,
@@ -203,7 +203,7 @@ fn ends_broken(alloc: Global, bytes: &[u8], line: usize, answer: &[u8]) -> (u8, 
     (status, left, told, out.into_bytes().as_slice() == answer)
 }
 
-/// The same where the disk lets so many calls through, and the script is given whole.
+/// The same if the disk lets this many calls through, and the script is given whole.
 fn ends_on_disk(
     alloc: Global,
     calls: usize,
@@ -269,7 +269,7 @@ fn a_fault_goes_before_a_refused_line(rt: HostRuntime) {
     assert_same(&rt, found, (1, 0, false, true));
 }
 
-// where standard error fails too, the status still tells
+// if standard error fails too, the status still says it
 #[test]
 fn a_fault_that_cannot_be_told_keeps_its_status(rt: HostRuntime) {
     let mut input = MemorySource::new(SCRIPT, 4096);

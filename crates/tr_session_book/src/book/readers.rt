@@ -1,4 +1,4 @@
-//! What a session's book tells.
+//! Reading a session's book.
 
 ghost use Rattle.std.specs.Prelude.{◌≡◌, ◌≤◌, ℕ, Some, IfSome, length, option_copied, slice_get};
 ghost use Rattle.tr_session_book.specs.declared.archive.Archive as value;
@@ -42,14 +42,14 @@ impl<A: Allocator> SessionBook<A> {
         self.state
     }
 
-    /// The last moment that was stored: 0 before the first start.
+    /// The last stored moment; 0 before the first start.
     pub fn last(&self) -> Moment
         ensures { result ≡ self.now.last }
     {
         self.last
     }
 
-    /// The moment at which the current chunk began: 0 before the first start.
+    /// The moment at which the current chunk began; 0 before the first start.
     pub fn begin(&self) -> Moment
         ensures { result ≡ self.now.begin }
     {
@@ -64,7 +64,7 @@ impl<A: Allocator> SessionBook<A> {
         self.channels.len()
     }
 
-    /// The channel of this name.
+    /// The channel of this name, if any.
     pub fn channel(&self, name: &str) -> Option<&Channel>
         ensures { option_copied result ≡ channel_named name.now self.now }
     {
@@ -79,7 +79,7 @@ impl<A: Allocator> SessionBook<A> {
         self.threads.len()
     }
 
-    /// The name of the channel of the stream of this number.
+    /// The name of the channel to which the stream of this number belongs.
     pub fn channel_of(&self, i: u64) -> Option<Name<'_>>
         ensures { result ≡ channel_of i self.now }
     {
@@ -88,15 +88,16 @@ impl<A: Allocator> SessionBook<A> {
         Name::new(name.as_str())
     }
 
-    /// The archives that were made, in order. Each one's number is its place.
+    /// The archives, in order. Each one's number is its place.
     pub fn archives(&self) -> &[Archive]
         ensures value { result.now ≡ self.now.archives }
-        ensures numbered { (k : ℕ) (archive : value.Archive) → slice_get result.now k ≡ Some archive → archive.id ≡ k }
+        ensures numbered { (k : ℕ) (archive : value.Archive) → slice_get result.now k ≡ Some archive
+            → archive.id ≡ k }
     {
         self.archives.as_slice()
     }
 
-    /// The rotation that has begun and isn't finished. Its archive's number is how many archives there are.
+    /// The rotation that has begun and isn't finished. Its archive's number is the number of archives.
     pub fn pending(&self) -> Option<Pending>
         ensures value { result ≡ self.now.pending }
         ensures numbered { IfSome result (λ pending. pending.archive.id ≡ length self.now.archives) }

@@ -1,7 +1,7 @@
 //! The schedule of a session's rotations, as its book keeps it.
 
 ghost use Rattle.std.specs.Prelude.{◌≡◌};
-ghost use Rattle.tr_session_book.specs.BookSteps.{schedule_answer, after_schedule, schedule_in_force};
+ghost use Rattle.tr_session_book.specs.BookSteps.{book_schedule_answer, book_after_schedule, schedule_in_force};
 
 use super::SessionBook;
 use crate::faults::SessionFault;
@@ -17,8 +17,8 @@ impl<A: Allocator> SessionBook<A> {
     ///
     /// `SnapshotMode`: nothing changed.
     pub fn set_schedule(&mut self, schedule: Option<Schedule>) -> Result<(), SessionFault>
-        ensures answer { result ≡ schedule_answer self.old }
-        ensures after { self.new ≡ after_schedule schedule self.old }
+        ensures answer { result ≡ book_schedule_answer self.old }
+        ensures after { self.new ≡ book_after_schedule schedule self.old }
         ensures streams { self.new.threads ≡ self.old.threads }
         ensures mode { self.new.mode ≡ self.old.mode }
     {
@@ -33,7 +33,7 @@ impl<A: Allocator> SessionBook<A> {
     ///
     /// `SnapshotMode`.
     pub fn can_schedule(&self) -> Result<(), SessionFault>
-        ensures { result ≡ schedule_answer self.now }
+        ensures { result ≡ book_schedule_answer self.now }
     {
         match self.mode {
             SessionMode::Snapshot => Err(SessionFault::SnapshotMode),

@@ -1,7 +1,7 @@
 //! Snapshots of a session, as its book sees them.
 
 ghost use Rattle.std.specs.Prelude.{◌≡◌};
-ghost use Rattle.tr_session_book.specs.BookSteps.{snapshot_allowed, snapshot_begin_answer, after_snapshot_begin, snap_allowed};
+ghost use Rattle.tr_session_book.specs.BookSteps.{snapshot_allowed, book_snapshot_begin_answer, book_after_snapshot_begin, snap_allowed};
 
 use super::SessionBook;
 use crate::faults::SessionFault;
@@ -17,8 +17,8 @@ impl<A: Allocator> SessionBook<A> {
     ///
     /// `NotSnapshotMode`, `NeverStarted`: nothing changed.
     pub fn snapshot_begin(&mut self, moment: Moment) -> Result<Moment, SessionFault>
-        ensures answer { result ≡ snapshot_begin_answer moment self.old }
-        ensures after { self.new ≡ after_snapshot_begin moment self.old }
+        ensures answer { result ≡ book_snapshot_begin_answer moment self.old }
+        ensures after { self.new ≡ book_after_snapshot_begin moment self.old }
         ensures streams { self.new.threads ≡ self.old.threads }
         ensures mode { self.new.mode ≡ self.old.mode }
     {
@@ -27,13 +27,13 @@ impl<A: Allocator> SessionBook<A> {
         Ok(stored)
     }
 
-    /// The moment that a snapshot which begins now would store.
+    /// The moment that a snapshot would store if it began now.
     ///
     /// # Errors
     ///
     /// `NotSnapshotMode`, `NeverStarted`.
     pub fn snapshot_moment(&self, moment: Moment) -> Result<Moment, SessionFault>
-        ensures { result ≡ snapshot_begin_answer moment self.now }
+        ensures { result ≡ book_snapshot_begin_answer moment self.now }
     {
         self.can_snapshot()?;
         Ok(moment.later(self.last))
@@ -53,7 +53,7 @@ impl<A: Allocator> SessionBook<A> {
         Ok(())
     }
 
-    /// Whether the stream of this number can be seen.
+    /// Whether the stream of this number can be shown.
     ///
     /// # Errors
     ///

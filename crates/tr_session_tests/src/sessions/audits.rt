@@ -1,6 +1,6 @@
 //! The audit of the files that streams leave.
 
-use super::{assert_same, moment};
+use super::assert_same;
 use std::alloc::Global;
 use std::ops::Range;
 use std::process::Abort;
@@ -9,6 +9,7 @@ use tr_chunk::{AuditCause, AuditFault, audit_stream, write_part};
 use tr_packet::PacketFault;
 use tr_record::MemorySink;
 use tr_stream::{SessionMode, Stream};
+use tr_testing::moment;
 use uuid::Uuid;
 
 /// A stream of two sub-buffers of 256 bytes that takes offers.
@@ -22,7 +23,7 @@ fn small_stream(rt: &impl Abort, alloc: Global, mode: Mode) -> Stream {
     stream
 }
 
-/// Offers payloads of so many bytes at these moments.
+/// Offers the payload at these moments.
 fn offer(stream: &mut Stream, moments: Range<u64>, payload: &[u8]) {
     for at in moments {
         let _ = stream.offer(moment(at), 7, payload);
@@ -47,7 +48,7 @@ fn discarding_file(rt: &impl Abort, alloc: Global) -> Vec<u8> {
     file(rt, alloc, &stream)
 }
 
-/// The file of a stream that dropped two packets of two records each: 768 bytes.
+/// The file of a stream that overwrote two packets of two records each: 768 bytes.
 fn overwriting_file(rt: &impl Abort, alloc: Global) -> Vec<u8> {
     let mut stream = small_stream(rt, alloc, Mode::Overwrite);
     offer(&mut stream, 1..7, &[97; 64]);
@@ -57,7 +58,7 @@ fn overwriting_file(rt: &impl Abort, alloc: Global) -> Vec<u8> {
     file(rt, alloc, &stream)
 }
 
-/// What an audit tells of a file.
+/// What an audit says of a file.
 #[derive(Clone, Copy)]
 struct Told<'a> {
     packets: u64,
@@ -65,10 +66,10 @@ struct Told<'a> {
     gaps: &'a [(u64, u64)],
     last_seq: u64,
     last_serial: u64,
-    last_lost: u64,
+    last_discarded: u64,
 }
 
-/// Holds the audit of a file to what it tells.
+/// Asserts what the audit of a file says.
 fn assert_audited(rt: &impl Abort, alloc: Global, bytes: &[u8], told: &Told<'_>) {
     let audit = audit_stream(alloc, &Uuid::from_u128(1), 0, &[bytes]).expect(rt, "an audit");
     assert_same(
@@ -82,7 +83,7 @@ fn assert_audited(rt: &impl Abort, alloc: Global, bytes: &[u8], told: &Told<'_>)
         (audit.last_seq, audit.last_serial),
         (Some(told.last_seq), Some(told.last_serial)),
     );
-    assert_same(rt, audit.last_lost, told.last_lost);
+    assert_same(rt, audit.last_discarded, told.last_discarded);
 }
 
 #[test]
@@ -95,7 +96,7 @@ fn the_audit_finds_what_was_discarded(rt: HostRuntime) {
         gaps: &[],
         last_seq: 1,
         last_serial: 5,
-        last_lost: 1,
+        last_discarded: 1,
     };
     assert_audited(&rt, rt.alloc(), &bytes, &told);
 }
@@ -110,7 +111,7 @@ fn the_audit_finds_what_was_overwritten(rt: HostRuntime) {
         gaps: &[(0, 1), (2, 1)],
         last_seq: 4,
         last_serial: 9,
-        last_lost: 0,
+        last_discarded: 0,
     };
     assert_audited(&rt, rt.alloc(), &bytes, &told);
 }

@@ -1,7 +1,7 @@
 //! Rotations of a session, whole and by single cuts, and what is refused meanwhile.
 
 use super::{
-    add_channel, add_threads, assert_fates, assert_same, make_offers, moment, new_session, offer,
+    add_channel, add_threads, assert_fates, assert_same, make_offers, new_session, offer,
     with_streams,
 };
 use std::alloc::Global;
@@ -11,9 +11,10 @@ use tr_chunk::OffsetMinutes;
 use tr_session::{Next, Session, StepFault};
 use tr_session_book::{Archive, SessionFault};
 use tr_stream::{CutDone, Fate, OfferFault, Offered, SessionMode, Taken};
+use tr_testing::moment;
 use uuid::Uuid;
 
-/// A session of so many streams with two sub-buffers of 256 bytes each, that was started at moment 0.
+/// A session of this many streams with two sub-buffers of 256 bytes each, that was started at moment 0.
 fn started(rt: &impl Abort, alloc: Global, streams: u64, mode: Mode) -> Session {
     let mut session = with_streams(rt, alloc, SessionMode::Local, mode, streams);
     session.start(moment(0)).expect(rt, "a start");
@@ -28,7 +29,7 @@ fn archive(id: u64, begin: u64, end: u64) -> Archive {
     }
 }
 
-/// Holds what a whole rotation at this moment answers.
+/// Asserts the answer to a whole rotation at this moment.
 fn assert_rotated(
     rt: &impl Abort,
     session: &mut Session,
@@ -39,34 +40,34 @@ fn assert_rotated(
     assert_same(rt, (at, answer), (at, want));
 }
 
-/// Holds what the begin of a rotation at this moment answers.
+/// Asserts the answer to the begin of a rotation at this moment.
 fn assert_begun(rt: &impl Abort, session: &mut Session, at: u64, want: Result<u64, SessionFault>) {
     let answer = session.rotate_begin(moment(at));
     assert_same(rt, (at, answer), (at, want));
 }
 
-/// Holds what the next step of a rotation answers.
+/// Asserts the answer to the next step of a rotation.
 fn assert_next(rt: &impl Abort, session: &mut Session, want: Result<Next, StepFault>) {
     assert_same(rt, session.rotate_next(), want);
 }
 
-/// Holds what the end of a rotation answers.
+/// Asserts the answer to the end of a rotation.
 fn assert_finished(rt: &impl Abort, session: &mut Session, want: Result<Archive, SessionFault>) {
     assert_same(rt, session.rotate_finish(), want);
 }
 
-/// Holds what a start at this moment answers.
+/// Asserts the answer to a start at this moment.
 fn assert_started(rt: &impl Abort, session: &mut Session, at: u64, want: Result<(), SessionFault>) {
     let answer = session.start(moment(at));
     assert_same(rt, (at, answer), (at, want));
 }
 
-/// Holds what a stop answers.
+/// Asserts the answer to a stop.
 fn assert_stopped(rt: &impl Abort, session: &mut Session, want: Result<(), SessionFault>) {
     assert_same(rt, session.stop(), want);
 }
 
-/// Holds how many packets, records and bytes an archive has.
+/// Asserts how many packets, records and bytes an archive has.
 fn assert_size(rt: &impl Abort, session: &Session, id: u64, want: (u128, u128, u128)) {
     let size = session.archive_size(id);
     assert_same(rt, (size.packets, size.records, size.bytes), want);
@@ -87,13 +88,12 @@ fn an_empty_session_rotates(rt: HostRuntime) {
     assert_size(&rt, &session, 0, (0, 0, 0));
 }
 
-/// Holds the moments of the only packet of a stream's part.
+/// Asserts the moments of the only packet of a stream's part.
 fn assert_only_packet(rt: &impl Abort, session: &Session, chunk: u64, begin: u64, end: u64) {
     let stream = session.stream(0).expect(rt, "a stream");
     let packets = stream.part(chunk).expect(rt, "a part").packets();
-    let [packet] = packets else {
-        panic!(rt; "one packet")
-    };
+    assert_same(rt, packets.len(), 1);
+    let packet = packets.at(0).expect(rt, "a packet");
     let head = packet.head();
     assert_same(rt, (head.begin.get(), head.end.get()), (begin, end));
 }
@@ -196,7 +196,7 @@ fn a_new_session_has_no_chunk(rt: HostRuntime) {
     assert_rotated(&rt, &mut session, 40, Ok(archive(0, 20, 40)));
 }
 
-// of six records of 88 bytes the first two gave way; two of the next four push out two others
+// of six records of 88 bytes the first two were overwritten; two of the next four overwrite two others
 #[test]
 fn an_overwritten_packet_is_in_no_archive(rt: HostRuntime) {
     let mut session = started(&rt, rt.alloc(), 1, Mode::Overwrite);

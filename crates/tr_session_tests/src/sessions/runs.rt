@@ -1,16 +1,17 @@
 //! Runs of a session over a configuration and a list of events.
 
-use super::{assert_fates, assert_same, moment};
+use super::{assert_fates, assert_same};
 use std::alloc::Global;
 use std::process::Abort;
 use tr_session::{Answer, ChannelConfig, Config, Event, Session, StepFault, run_session};
 use tr_session_book::{Archive, SessionFault};
-use tr_snapshot::{count, oldest_serial};
+use tr_snapshot::{oldest_serial, records_shown};
 use tr_stream::{CutDone, Fate, Offered, Payload, Taken};
 use tr_terms::{Mode, Name, OffsetMinutes, SessionMode};
+use tr_testing::moment;
 use uuid::Uuid;
 
-/// One channel, of a sub-buffer's size and so many threads.
+/// One channel, with this size of a sub-buffer and this many threads.
 fn config<'a>(rt: &impl Abort, alloc: Global, size: u64, threads: u64) -> Config<'a> {
     let mut channels = Vec::new(alloc);
     let channel = ChannelConfig {
@@ -29,7 +30,7 @@ fn config<'a>(rt: &impl Abort, alloc: Global, size: u64, threads: u64) -> Config
     }
 }
 
-/// The same of a snapshot session, with one thread.
+/// The same for a snapshot session, with one thread.
 fn snapshot_config<'a>(rt: &impl Abort, alloc: Global) -> Config<'a> {
     let mut config = config(rt, alloc, 256, 1);
     config.mode = SessionMode::Snapshot;
@@ -113,7 +114,7 @@ fn first_difference(answers: &[Answer], wanted: &[Answer]) -> Option<usize> {
     None
 }
 
-/// Runs a session of two streams over these events, and holds the answers from this place on to the wanted ones.
+/// Runs a session of two streams over these events, and asserts the answers from this place on.
 fn assert_answered(
     rt: &impl Abort,
     alloc: Global,
@@ -232,22 +233,22 @@ fn a_rotation_ends(rt: HostRuntime) {
     assert_same(&rt, session.book().archives(), [archive(10)].as_slice());
 }
 
-/// What an answer shows of the first stream: its offers, its losses, the oldest serial, and how many records.
+/// What an answer shows of the first stream: its offers, its discarded records, the oldest serial, and how many records.
 fn shown(answer: Option<&Answer>) -> Option<(u64, u64, Option<u64>, u64)> {
     match answer? {
         Answer::Snap(Ok(snap)) if snap.stream() == 0 => {
             Some((
                 snap.offered(),
-                snap.lost(),
+                snap.discarded(),
                 oldest_serial(snap),
-                count(snap),
+                records_shown(snap),
             ))
         }
         _ => None,
     }
 }
 
-/// Why a look was refused.
+/// Why a snap was refused.
 fn refused(answer: Option<&Answer>) -> Option<SessionFault> {
     match answer? {
         Answer::Snap(Err(fault)) => Some(*fault),
@@ -255,7 +256,7 @@ fn refused(answer: Option<&Answer>) -> Option<SessionFault> {
     }
 }
 
-/// Two looks, behind six offers and behind a seventh.
+/// Two snaps, after six offers and after a seventh.
 fn looks_behind_offers(rt: &impl Abort, alloc: Global) -> Vec<Event> {
     let mut events = Vec::new(alloc);
     then(rt, &mut events, Event::SessionStart(moment(0)));

@@ -1,6 +1,6 @@
 //! Snapshots of a session, and what a snapshot session refuses.
 
-use super::{assert_last, assert_same, make_offers, moment, new_session, offer, with_streams};
+use super::{assert_last, assert_same, make_offers, new_session, offer, with_streams};
 use linked_list_allocator::LocalHeap;
 use std::alloc::{AllocError, Allocator, Global};
 use std::process::Abort;
@@ -9,9 +9,10 @@ use tr_record::MemorySink;
 use tr_schedule::Schedule;
 use tr_session::{Session, StepFault};
 use tr_session_book::SessionFault;
-use tr_snapshot::{Snapshot, count, oldest_serial, write_snap};
+use tr_snapshot::{Snapshot, oldest_serial, records_shown, write_snap};
 use tr_stream::TakeFault;
 use tr_terms::{Mode, Name, SessionMode};
+use tr_testing::moment;
 
 /// A snapshot session of one stream with two sub-buffers of 256 bytes, which isn't started.
 fn unstarted<A: Allocator + Copy>(rt: &impl Abort, alloc: A) -> Session<A> {
@@ -51,14 +52,14 @@ fn records(alloc: Global, snap: &StreamSnap) -> Result<Vec<(u64, u64)>, AllocErr
 struct Shown<'a> {
     moment: u64,
     offered: u64,
-    lost: u64,
+    discarded: u64,
     oldest: Option<u64>,
     count: u64,
     /// Each record, as the number of its packet and its serial.
     records: &'a [(u64, u64)],
 }
 
-/// Takes a snapshot at this moment, and holds it to what it shows.
+/// Takes a snapshot at this moment, and asserts what it shows.
 fn assert_shown(rt: &impl Abort, alloc: Global, session: &mut Session, at: u64, shown: &Shown<'_>) {
     let snapshot = session.snapshot(moment(at)).expect(rt, "a snapshot");
     assert_same(rt, (at, snapshot.moment().get()), (at, shown.moment));
@@ -67,17 +68,17 @@ fn assert_shown(rt: &impl Abort, alloc: Global, session: &mut Session, at: u64, 
         rt,
         (
             snap.offered(),
-            snap.lost(),
+            snap.discarded(),
             oldest_serial(snap),
-            count(snap),
+            records_shown(snap),
         ),
-        (shown.offered, shown.lost, shown.oldest, shown.count),
+        (shown.offered, shown.discarded, shown.oldest, shown.count),
     );
     let found = records(alloc, snap).expect(rt, "memory");
     assert_same(rt, found.as_slice(), shown.records);
 }
 
-/// Holds why a snapshot at this moment is refused.
+/// Asserts why a snapshot at this moment is refused.
 fn assert_refused<A: Allocator + Copy>(
     rt: &impl Abort,
     session: &mut Session<A>,
@@ -119,7 +120,7 @@ fn a_snapshot_shows_what_the_ring_holds(rt: HostRuntime) {
     let shown = Shown {
         moment: 10,
         offered: 6,
-        lost: 0,
+        discarded: 0,
         oldest: Some(2),
         count: 4,
         records: &[(1, 2), (1, 3), (2, 4), (2, 5)],
@@ -130,7 +131,7 @@ fn a_snapshot_shows_what_the_ring_holds(rt: HostRuntime) {
     assert_last(&rt, &session, 10);
 }
 
-// the seventh record begins a sub-buffer, and pushes out the oldest packet; a snapshot never goes back in time
+// the seventh record begins a sub-buffer, and overwrites the oldest packet; a snapshot never goes back in time
 #[test]
 fn an_offer_after_a_snapshot(rt: HostRuntime) {
     let mut session = filled(&rt, rt.alloc());
@@ -139,7 +140,7 @@ fn an_offer_after_a_snapshot(rt: HostRuntime) {
     let shown = Shown {
         moment: 12,
         offered: 7,
-        lost: 0,
+        discarded: 0,
         oldest: Some(4),
         count: 3,
         records: &[(2, 4), (2, 5), (3, 6)],
@@ -158,7 +159,7 @@ fn a_snapshot_without_offers(rt: HostRuntime) {
     let shown = Shown {
         moment: 5,
         offered: 0,
-        lost: 0,
+        discarded: 0,
         oldest: None,
         count: 0,
         records: &[],
@@ -209,7 +210,7 @@ fn fill<'a>(alloc: Global, heap: &'a LocalHeap) -> Result<Vec<Vec<u8, &'a LocalH
     Ok(blocks)
 }
 
-/// Takes a snapshot at this moment, and holds how many records it shows of its only stream.
+/// Takes a snapshot at this moment, and asserts how many records it shows of its only stream.
 fn assert_count<A: Allocator + Copy>(
     rt: &impl Abort,
     session: &mut Session<A>,
@@ -217,7 +218,7 @@ fn assert_count<A: Allocator + Copy>(
     wanted: u64,
 ) {
     let snapshot = session.snapshot(moment(at)).expect(rt, "a snapshot");
-    let found = (snapshot.moment().get(), count(only(rt, &snapshot)));
+    let found = (snapshot.moment().get(), records_shown(only(rt, &snapshot)));
     assert_same(rt, found, (at, wanted));
 }
 

@@ -1,6 +1,6 @@
 //! Ticks of a session's schedule.
 
-use super::{assert_last, assert_same, make_offers, moment, with_streams};
+use super::{assert_last, assert_same, make_offers, with_streams};
 use std::alloc::Global;
 use std::process::Abort;
 use tr_book::Mode;
@@ -8,6 +8,7 @@ use tr_schedule::{Cause, Schedule};
 use tr_session::{Session, Ticked};
 use tr_session_book::Archive;
 use tr_stream::{SessionMode, Taken};
+use tr_testing::moment;
 
 /// A local session of one stream with two sub-buffers of 256 bytes, which isn't started.
 fn unstarted(rt: &impl Abort, alloc: Global) -> Session {
@@ -23,8 +24,8 @@ fn scheduled(rt: &impl Abort, alloc: Global) -> Session {
     session
 }
 
-/// The same after its first rotation at 100, three offers of 50 bytes of which two fill a sub-buffer, and the take of
-/// their packet of 228 bytes.
+/// The same after its first rotation at 100, three offers of 50 bytes (two fill a sub-buffer), and the take of their packet
+/// of 228 bytes.
 fn filled(rt: &impl Abort, alloc: Global) -> Session {
     let mut session = scheduled(rt, alloc);
     session.tick(moment(100)).expect(rt, "a tick");
@@ -47,7 +48,7 @@ fn rotated(cause: Cause, id: u64, begin: u64, end: u64) -> Ticked {
     Ticked::Rotated { cause, archive }
 }
 
-/// Holds what a tick at this moment did.
+/// Asserts what a tick at this moment did.
 fn assert_ticked(rt: &impl Abort, session: &mut Session, at: u64, want: Ticked) {
     let answer = session.tick(moment(at));
     assert_same(rt, (at, answer), (at, Ok(want)));

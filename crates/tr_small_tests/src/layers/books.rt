@@ -19,13 +19,13 @@ fn packet(rt: &impl Abort, alloc: Global, seq: u64, len: usize) -> Packet {
         begin: moment,
         end: moment,
         seq,
-        lost: 0,
+        discarded: 0,
     };
     let records = vec![in alloc; first, second].expect(rt, "memory");
     Packet::checked(head, records).expect(rt, "a packet")
 }
 
-// 80 bytes and 24 for each record beside the payloads: 228 where they have 50 bytes, 256 where they have 64
+// 80 bytes and 24 for each record beside the payloads: 228 if they have 50 bytes, 256 if they have 64
 #[test]
 fn parts_sum_up_their_packets(rt: HostRuntime) {
     let mut parts = Parts::new(rt.alloc());
@@ -63,7 +63,8 @@ fn a_cut_closes_the_part_behind_its_packets(rt: HostRuntime) {
     assert_same(&rt, (first.id(), first.records()), (0, 4));
     assert_same(&rt, first.bytes(), 484);
     assert_same(&rt, first.packets().len(), 2);
-    assert_same(&rt, first.packets()[1].head().seq, 1);
+    let next = first.packets().at(1).expect(&rt, "a packet");
+    assert_same(&rt, next.head().seq, 1);
     assert_same(&rt, first.seq_of(1), Some(0));
     assert_same(&rt, first.seq_of(8), None);
     let second = parts.part(1).expect(&rt, "a part");
@@ -120,9 +121,12 @@ fn geometries_within_the_limits_are_taken(rt: HostRuntime) {
 fn a_snap_gives_back_what_it_is_made_of(rt: HostRuntime) {
     let packets = vec![in rt.alloc(); packet(&rt, rt.alloc(), 3, 50)].expect(&rt, "memory");
     let snap = StreamSnap::new(2, 9, 1, packets);
-    assert_same(&rt, (snap.stream(), snap.offered(), snap.lost()), (2, 9, 1));
-    let [only] = snap.packets() else {
-        panic!(rt; "one packet")
-    };
+    assert_same(
+        &rt,
+        (snap.stream(), snap.offered(), snap.discarded()),
+        (2, 9, 1),
+    );
+    assert_same(&rt, snap.packets().len(), 1);
+    let only = snap.packets().at(0).expect(&rt, "a packet");
     assert_same(&rt, only.head().seq, 3);
 }

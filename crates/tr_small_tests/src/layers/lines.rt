@@ -1,8 +1,7 @@
-//! Scripts of which the rules say the lines, cut in several ways.
+//! Scripts with the lines that the rules give, cut in several ways.
 
 use super::assert_same;
 use std::alloc::{AllocError, Global};
-use std::process::Abort;
 use std::test::Fail;
 use tr_lines::{Found, LineReader, ReadFault, is_skipped_line, push_words};
 use tr_record::{ByteSource, Failed, MemorySource};
@@ -101,7 +100,7 @@ fn takes_scripts_of_16777216_bytes(rt: HostRuntime) {
     assert_same(&rt, reader.read_line(&mut source), Err(ReadFault::TooLong));
 }
 
-/// Gives `a`, a line feed and `c`, and fails when it is asked for the fourth time.
+/// Gives `a`, a newline and `c`, and fails when it is asked for the fourth time.
 #[derive(Drop)]
 struct Failing {
     asked: u64,

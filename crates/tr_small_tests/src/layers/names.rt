@@ -1,13 +1,12 @@
 //! Which texts are names.
 
 use super::assert_same;
-use std::process::Abort;
 use tr_terms::Name;
 
 /// The longest name.
 const LONGEST: &str = "abcdefghijklmnopqrstuvwxyz_ABCDEFGHIJKLMNOPQRSTUVWXYZ_0123456789";
 
-/// One letter more.
+/// One letter too many.
 const TOO_LONG: &str = "abcdefghijklmnopqrstuvwxyz_ABCDEFGHIJKLMNOPQRSTUVWXYZ_0123456789x";
 
 // a name makes one folder or one file, and leads to no other

@@ -3,12 +3,12 @@
 use super::assert_same;
 use std::alloc::Global;
 use std::io::{self, Read, Write};
-use std::process::Abort;
 use std::test::Fail;
 use tr_record::{
     ByteSink, ByteSource, Failed, MemorySink, MemorySource, Moment, ReaderSource, Rec, RecView,
-    Records, WriterSink, put_all, put_rec, read_raw, read_rec, rec_size,
+    RecViews, Records, WriterSink, put_all, put_rec, read_raw, read_rec, rec_size,
 };
+use tr_testing::FailsAfter;
 
 /// The text of a record of id 7, moment 1 and serial 0 with the payload `A`.
 const ONE: [u8; 25] = [
@@ -76,6 +76,50 @@ fn a_record_keeps_its_payload(rt: HostRuntime) {
     assert_same(&rt, r.into_payload().as_slice(), b"abc".as_slice());
 }
 
+/// Three records, of serials 4, 6 and 9.
+fn three_records(alloc: Global) -> Result<Vec<Rec>, Fail> {
+    let moment = Moment::new(5).ok_or("a moment")?;
+    let mut records = Vec::new(alloc);
+    for serial in [4, 6, 9] {
+        records.push(Rec::copy_of(alloc, serial, moment, 7, b"abc")?)?;
+    }
+    Ok(records)
+}
+
+#[test]
+fn records_are_shown_by_place_and_serial(rt: HostRuntime) -> Result<(), Fail> {
+    let records = three_records(rt.alloc())?;
+    let views = RecViews::new(&records);
+    assert_same(&rt, views.len(), 3);
+    assert!(rt; views.at(3).is_none());
+    assert_same(&rt, (views.has(6), views.has(5)), (true, false));
+    let serials = (
+        views.first().map(|r| r.serial()),
+        views.at(1).map(|r| r.serial()),
+        views.last().map(|r| r.serial()),
+    );
+    assert_same(&rt, serials, (Some(4), Some(6), Some(9)));
+    Ok(())
+}
+
+#[test]
+fn records_are_shown_one_after_another(rt: HostRuntime) -> Result<(), Fail> {
+    let records = three_records(rt.alloc())?;
+    let mut views = RecViews::new(&records);
+    let first = views.next().expect(&rt, "a record");
+    assert_same(&rt, (first.serial(), first.moment().get()), (4, 5));
+    assert_same(&rt, first.payload(), b"abc".as_slice());
+    assert_same(&rt, (views.len(), views.has(4)), (2, false));
+    let mut serials = Vec::new(rt.alloc());
+    for r in views {
+        serials.push(r.serial())?;
+    }
+    assert_same(&rt, serials.as_slice(), [6, 9].as_slice());
+    let none: RecViews<'_> = RecViews::new(&[]);
+    assert!(rt; none.len() == 0 && none.first().is_none() && none.last().is_none());
+    Ok(())
+}
+
 #[test]
 fn moments_have_a_limit(rt: HostRuntime) {
     let last = Moment::new(9_000_000_000_000_000_000).expect(&rt, "the last moment");
@@ -118,38 +162,6 @@ fn a_piece_has_the_size_that_was_asked(rt: HostRuntime) {
     }
 }
 
-/// Gives so many bytes and then fails, and takes so many and then fails.
-#[derive(Drop)]
-struct Broken(u8);
-
-impl Read for Broken {
-    fn read(&mut self, buf: &mut [u8]) -> io::Result<usize> {
-        if self.0 == 0 || buf.is_empty() {
-            return Err(io::Error::from(io::ErrorKind::TimedOut));
-        }
-        self.0 -= 1;
-        buf[0] = b'x';
-        Ok(1)
-    }
-}
-
-impl Write for Broken {
-    fn write(&mut self, buf: &[u8]) -> io::Result<usize> {
-        if self.0 == 0 || buf.is_empty() {
-            return Err(io::Error::from(io::ErrorKind::TimedOut));
-        }
-        self.0 -= 1;
-        Ok(1)
-    }
-
-    fn flush(&mut self) -> io::Result<()> {
-        if self.0 == 0 {
-            return Err(io::Error::from(io::ErrorKind::TimedOut));
-        }
-        Ok(())
-    }
-}
-
 #[test]
 fn std_streams_go_through(rt: HostRuntime) {
     let mut source = ReaderSource::new(b"some bytes".as_slice());
@@ -163,11 +175,11 @@ fn std_streams_go_through(rt: HostRuntime) {
     let mut memory = MemorySink::new(rt.alloc(), 100);
     assert_same(
         &rt,
-        copied(&mut ReaderSource::new(Broken(2)), &mut memory),
+        copied(&mut ReaderSource::new(FailsAfter::new(2)), &mut memory),
         Err(Failed),
     );
     assert_same(&rt, memory.into_bytes().as_slice(), b"xx".as_slice());
-    let mut broken = WriterSink::new(Broken(2));
+    let mut broken = WriterSink::new(FailsAfter::new(2));
     assert_same(&rt, put_all(&mut broken, b"a"), Ok(()));
     assert_same(&rt, broken.flush(), Ok(()));
     assert_same(&rt, put_all(&mut broken, b"b"), Ok(()));

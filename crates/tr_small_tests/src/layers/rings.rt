@@ -7,13 +7,13 @@ use tr_ring::{Pushed, Ring};
 fn push(rt: &impl Abort, ring: &mut Ring, k: u64, payload: &[u8]) -> Pushed {
     let moment = Moment::new(1000 + k % 1000).expect(rt, "a moment");
     assert!(rt; payload.len() <= 152 && ring.size() == 256);
-    assert!(rt; ring.seq() < 1000 && ring.refused() < 1000);
+    assert!(rt; ring.seq() < 1000 && ring.discarded() < 1000);
     ring.push(moment, 7, k, payload).expect(rt, "memory")
 }
 
 // two records of 74 bytes fit beside the packet's 80
 #[test]
-fn a_full_ring_refuses_the_newest(rt: HostRuntime) {
+fn a_full_ring_discards_the_newest(rt: HostRuntime) {
     let mut ring = Ring::new(rt.alloc(), 256, 2, false).expect(&rt, "memory");
     assert!(rt; !ring.overwrites() && ring.count() == 2);
     for (k, seq) in [(0, 0), (1, 0), (2, 1), (3, 1)] {
@@ -23,26 +23,27 @@ fn a_full_ring_refuses_the_newest(rt: HostRuntime) {
             Pushed::Stored { seq },
         );
     }
-    assert_same(&rt, push(&rt, &mut ring, 4, &[0x61; 50]), Pushed::Refused);
+    assert_same(&rt, push(&rt, &mut ring, 4, &[0x61; 50]), Pushed::Discarded);
     assert_same(&rt, push(&rt, &mut ring, 5, &[]), Pushed::Stored { seq: 1 });
-    assert_same(&rt, push(&rt, &mut ring, 6, &[0x61; 50]), Pushed::Refused);
-    assert_same(&rt, ring.refused(), 2);
+    assert_same(&rt, push(&rt, &mut ring, 6, &[0x61; 50]), Pushed::Discarded);
+    assert_same(&rt, ring.discarded(), 2);
     assert_same(&rt, ring.current().count(), 3);
     let first = ring.front().expect(&rt, "a closed one");
     assert_same(&rt, first.seq(), 0);
     assert_same(&rt, first.end().get(), 1002);
-    assert_same(&rt, first.lost(), 0);
+    assert_same(&rt, first.discarded(), 0);
     assert_same(&rt, first.count(), 2);
-    assert_same(&rt, first.at(1).expect(&rt, "a record").serial(), 1);
+    let second = first.records().at(1).expect(&rt, "a record");
+    assert_same(&rt, second.serial(), 1);
     assert_same(&rt, ring.waiting(), 1);
-    ring.drop_front();
+    ring.remove_oldest();
     assert_same(
         &rt,
         push(&rt, &mut ring, 7, &[0x61; 50]),
         Pushed::Stored { seq: 2 },
     );
     let next = ring.closed(0).expect(&rt, "a closed one");
-    assert_same(&rt, (next.seq(), next.lost()), (1, 2));
+    assert_same(&rt, (next.seq(), next.discarded()), (1, 2));
     assert_same(&rt, next.end().get(), 1007);
     assert!(rt; ring.closed(1).is_none());
 }
@@ -71,7 +72,7 @@ fn a_full_ring_gives_up_the_oldest(rt: HostRuntime) {
     for (k, want) in wanted {
         assert_same(&rt, (k, push(&rt, &mut ring, k, &[0x61; 64])), (k, want));
     }
-    assert_same(&rt, ring.refused(), 0);
+    assert_same(&rt, ring.discarded(), 0);
     assert_same(&rt, ring.waiting(), 1);
     assert_same(&rt, ring.front().expect(&rt, "a closed one").seq(), 1);
 }
@@ -90,7 +91,7 @@ fn a_closed_current_one_waits(rt: HostRuntime) {
     assert_same(&rt, closed.end().get(), 5000);
     assert_same(
         &rt,
-        closed.at(0).expect(&rt, "a record").payload(),
+        closed.records().at(0).expect(&rt, "a record").payload(),
         b"hello".as_slice(),
     );
 }

@@ -1,7 +1,6 @@
 //! Worked examples of schedules.
 
 use super::assert_same;
-use std::process::Abort;
 use std::test::Fail;
 use tr_record::Moment;
 use tr_schedule::{Cause, Schedule, ScheduleFault};

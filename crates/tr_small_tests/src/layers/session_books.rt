@@ -1,10 +1,10 @@
-use super::{assert_same, moment};
+use super::assert_same;
 use std::alloc::Global;
-use std::process::Abort;
 use std::test::Fail;
 use tr_schedule::Schedule;
 use tr_session_book::{Archive, SessionBook, SessionFault};
-use tr_terms::{Mode, Moment, Name, OffsetMinutes, SessionMode};
+use tr_terms::{Mode, Name, OffsetMinutes, SessionMode};
+use tr_testing::moment;
 use uuid::Uuid;
 
 /// A book of this mode with one overwriting channel and one thread.
@@ -17,7 +17,7 @@ fn book(alloc: Global, mode: SessionMode) -> Result<SessionBook, Fail> {
     Ok(book)
 }
 
-// of the reasons against a look, the first one counts: no such stream, then the mode, then no start
+// the first reason against a snap counts: no such stream, then the mode, then no start
 #[test]
 fn a_book_alone_notes_snapshots(rt: HostRuntime) -> Result<(), Fail> {
     let mut book = book(rt.alloc(), SessionMode::Snapshot)?;

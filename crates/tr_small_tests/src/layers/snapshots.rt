@@ -1,18 +1,19 @@
-//! Worked examples of snapshots, sinks that fail and want of memory.
+//! Worked examples of snapshots, sinks that fail and failed allocations.
 
 ghost use Rattle.std.specs.Prelude.{◌≤◌, IfOk, length};
 
-use super::{assert_same, moment};
+use super::assert_same;
 use linked_list_allocator::LocalHeap;
 use std::alloc::Global;
-use std::io::{self, Write};
+use std::io::Write;
 use std::process::Abort;
 use std::test::Fail;
 use tr_book::StreamSnap;
 use tr_chunk::WriteFault;
 use tr_packet::{Head, Packet, decode_packet};
-use tr_record::{MemorySink, Moment, Rec, WriterSink};
-use tr_snapshot::{Snapshot, count, oldest_serial, write_snap};
+use tr_record::{MemorySink, Rec, WriterSink};
+use tr_snapshot::{Snapshot, oldest_serial, records_shown, write_snap};
+use tr_testing::{FailsAfter, moment};
 use uuid::Uuid;
 
 /// The packet of the records with the serials `2 * seq` and `2 * seq + 1`, each with a payload of 64 bytes.
@@ -32,40 +33,22 @@ fn packet(rt: &impl Abort, alloc: Global, seq: u64) -> Result<Packet, Fail>
         begin: moment(first + 1),
         end: moment(second + 1),
         seq,
-        lost: 0,
+        discarded: 0,
     };
     Ok(Packet::checked(head, records).ok_or("a packet")?)
 }
 
-/// A stream of six offers of which a ring of two sub-buffers holds the last four.
+/// A stream after six offers; its ring of two sub-buffers holds the last four.
 fn snap(rt: &impl Abort, alloc: Global) -> Result<StreamSnap, Fail> {
     let packets = vec![in alloc; packet(rt, alloc, 1)?, packet(rt, alloc, 2)?]?;
     Ok(StreamSnap::new(0, 6, 0, packets))
-}
-
-/// Takes one byte at a time, and fails after so many.
-#[derive(Drop)]
-struct Broken(u64);
-
-impl Write for Broken {
-    fn write(&mut self, buf: &[u8]) -> io::Result<usize> {
-        if self.0 == 0 || buf.is_empty() {
-            return Err(io::Error::from(io::ErrorKind::TimedOut));
-        }
-        self.0 -= 1;
-        Ok(1)
-    }
-
-    fn flush(&mut self) -> io::Result<()> {
-        Ok(())
-    }
 }
 
 #[test]
 fn a_stream_of_two_packets(rt: HostRuntime) -> Result<(), Fail> {
     let snap = snap(&rt, rt.alloc())?;
     assert_same(&rt, oldest_serial(&snap), Some(2));
-    assert_same(&rt, count(&snap), 4);
+    assert_same(&rt, records_shown(&snap), 4);
     let mut sink = MemorySink::new(rt.alloc(), 7);
     write_snap(rt.alloc(), &mut sink, &snap).expect(&rt, "a file");
     let bytes = sink.into_bytes();
@@ -89,7 +72,7 @@ fn a_stream_of_two_packets(rt: HostRuntime) -> Result<(), Fail> {
 fn a_stream_without_packets(rt: HostRuntime) {
     let snap: StreamSnap = StreamSnap::new(0, 0, 0, Vec::new(rt.alloc()));
     assert_same(&rt, oldest_serial(&snap), None);
-    assert_same(&rt, count(&snap), 0);
+    assert_same(&rt, records_shown(&snap), 0);
     let mut sink = MemorySink::new(rt.alloc(), 7);
     write_snap(rt.alloc(), &mut sink, &snap).expect(&rt, "a file");
     assert!(rt; sink.into_bytes().is_empty());
@@ -106,12 +89,12 @@ fn a_session_of_two_streams(rt: HostRuntime) -> Result<(), Fail> {
     };
     assert_same(
         &rt,
-        (first.stream(), first.offered(), count(first)),
+        (first.stream(), first.offered(), records_shown(first)),
         (0, 6, 4),
     );
     assert_same(
         &rt,
-        (second.stream(), second.offered(), count(second)),
+        (second.stream(), second.offered(), records_shown(second)),
         (1, 0, 0),
     );
     Ok(())
@@ -127,7 +110,7 @@ fn a_sink_that_fails(rt: HostRuntime) -> Result<(), Fail> {
         (511, Err(WriteFault::Write)),
         (512, Ok(())),
     ] {
-        let mut sink = WriterSink::new(Broken(bytes));
+        let mut sink = WriterSink::new(FailsAfter::new(bytes));
         let answer = write_snap(rt.alloc(), &mut sink, &snap);
         assert_same(&rt, (bytes, answer), (bytes, want));
     }

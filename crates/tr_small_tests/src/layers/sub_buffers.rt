@@ -1,5 +1,4 @@
 use super::assert_same;
-use std::process::Abort;
 use tr_record::{Moment, RecView};
 use tr_subbuf::SubBuf;
 
@@ -23,12 +22,12 @@ fn two_records_of_fifty_bytes_fit_256(rt: HostRuntime) {
     assert!(rt; buffer.fits(4));
     assert!(rt; !buffer.fits(5));
     assert!(rt; !buffer.fits(usize::MAX));
-    let second = buffer.at(1).expect(&rt, "a record");
+    let second = buffer.records().at(1).expect(&rt, "a record");
     assert_same(&rt, second.serial(), 1);
     assert_same(&rt, second.moment().get(), 1001);
     assert_same(&rt, second.id(), 7);
     assert_same(&rt, second.payload(), [0x61; 50].as_slice());
-    assert!(rt; buffer.at(2).is_none());
+    assert!(rt; buffer.records().at(2).is_none());
     buffer.reset();
     assert!(rt; buffer.is_empty());
     assert_same(&rt, buffer.used(), 80);

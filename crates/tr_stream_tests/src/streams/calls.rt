@@ -11,12 +11,12 @@ use tr_book::{Counts, Mode};
 use tr_packet::Packet;
 use tr_stream::{CutDone, CutFault, Fate, OfferFault, Offered, Stream, TakeFault, Taken};
 
-/// Holds what a take answers.
+/// Asserts the answer to a take.
 fn assert_taken(rt: &impl Abort, stream: &mut Stream, want: Result<Taken, TakeFault>) {
     assert_same(rt, stream.take(), want);
 }
 
-/// Holds the part, the packets and the records that a cut at this moment tells.
+/// Asserts the part, the packets and the records that a cut at this moment answers.
 fn assert_cut(rt: &impl Abort, stream: &mut Stream, moment: u64, want: (u64, u64, u64)) {
     let done = stream.cut(at(moment)).expect(rt, "a cut");
     assert_same(
@@ -26,7 +26,7 @@ fn assert_cut(rt: &impl Abort, stream: &mut Stream, moment: u64, want: (u64, u64
     );
 }
 
-/// Holds the fate of each record, told by its serial, to what it is.
+/// Asserts the fate of each record, by its serial.
 fn assert_fates(rt: &impl Abort, stream: &Stream, rows: &[(u64, Option<Fate>)]) {
     for (serial, fate) in rows {
         assert_same(rt, (*serial, stream.fate_of(*serial)), (*serial, *fate));
@@ -88,14 +88,13 @@ fn a_longer_record_is_discarded_and_a_shorter_one_is_stored(rt: HostRuntime) {
     );
 }
 
-/// Holds the only packet of the first part, of 204 bytes.
+/// Asserts the only packet of the first part, of 204 bytes.
 fn assert_first_packet(rt: &impl Abort, stream: &Stream, row: &PacketRow) {
     let part = stream.part(0).expect(rt, "a part");
     assert_same(rt, (part.id(), part.bytes()), (0, 204));
     assert_same(rt, part.records(), 1);
-    let [packet] = part.packets() else {
-        panic!(rt; "one packet")
-    };
+    assert_same(rt, part.packets().len(), 1);
+    let packet = part.packets().at(0).expect(rt, "a packet");
     assert!(rt; is_row(packet, row));
 }
 
@@ -114,7 +113,7 @@ fn a_take_makes_a_packet_of_the_current_part(rt: HostRuntime) {
     // The second record's own moment was before the first one's.
     let row = PacketRow {
         seq: 0,
-        lost: 0,
+        discarded: 0,
         begin: 3,
         end: 3,
         records: &[(0, 3, 100)],
@@ -157,24 +156,23 @@ fn the_oldest_sub_buffer_gives_way(rt: HostRuntime) {
     );
 }
 
-/// Whether a packet has this number, tells so many records lost, and has records of these serials.
-fn is_packet(packet: &Packet, seq: u64, lost: u64, serials: &[u64]) -> bool {
+/// Whether a packet has this number, says this number of discarded records, and has records with these serials.
+fn is_packet(packet: &Packet, seq: u64, discarded: u64, serials: &[u64]) -> bool {
     let records = packet.records();
     packet.head().seq == seq
-        && packet.head().lost == lost
+        && packet.head().discarded == discarded
         && records.len() == serials.len()
         && records
-            .iter()
             .zip(serials.iter())
             .all(|(r, serial)| r.serial() == *serial)
 }
 
-/// Holds the two packets of the first part, of 484 bytes, of which the second ends at moment 10.
+/// Asserts the two packets of the first part, of 484 bytes; the second ends at moment 10.
 fn assert_two_packets(rt: &impl Abort, stream: &Stream) {
     let closed = stream.part(0).expect(rt, "a part");
-    let [first, second] = closed.packets() else {
-        panic!(rt; "two packets")
-    };
+    assert_same(rt, closed.packets().len(), 2);
+    let first = closed.packets().at(0).expect(rt, "a packet");
+    let second = closed.packets().at(1).expect(rt, "a packet");
     assert!(rt; is_packet(first, 0, 0, &[0, 1]));
     assert!(rt; is_packet(second, 1, 1, &[2, 3, 5]));
     assert_same(rt, second.head().end, at(10));
@@ -197,12 +195,11 @@ fn a_cut_closes_a_part_with_all_that_the_ring_has(rt: HostRuntime) {
     assert_fates(&rt, &stream, &fates);
 }
 
-/// Holds the moments of the only packet of the third part.
+/// Asserts the moments of the only packet of the third part.
 fn assert_third_packet(rt: &impl Abort, stream: &Stream, begin: u64, end: u64) {
     let closed = stream.part(2).expect(rt, "a part");
-    let [only] = closed.packets() else {
-        panic!(rt; "one packet")
-    };
+    assert_same(rt, closed.packets().len(), 1);
+    let only = closed.packets().at(0).expect(rt, "a packet");
     assert_same(
         rt,
         (only.head().begin, only.head().end),
@@ -224,12 +221,13 @@ fn a_cut_of_an_empty_ring_closes_an_empty_part(rt: HostRuntime) {
     assert_same(&rt, (counts.cuts, counts.current_bytes), (3, 0));
 }
 
-/// Holds the three packets of the first part, of 768 bytes.
+/// Asserts the three packets of the first part, of 768 bytes.
 fn assert_three_packets(rt: &impl Abort, stream: &Stream) {
     let closed = stream.part(0).expect(rt, "a part");
-    let [first, second, third] = closed.packets() else {
-        panic!(rt; "three packets")
-    };
+    assert_same(rt, closed.packets().len(), 3);
+    let first = closed.packets().at(0).expect(rt, "a packet");
+    let second = closed.packets().at(1).expect(rt, "a packet");
+    let third = closed.packets().at(2).expect(rt, "a packet");
     assert!(rt; is_packet(first, 1, 0, &[2, 3]));
     assert!(rt; is_packet(second, 3, 0, &[6, 7]));
     assert!(rt; is_packet(third, 4, 0, &[8, 9]));
@@ -272,7 +270,7 @@ fn faults_have_their_codes_and_names(rt: HostRuntime) {
     assert_same(&rt, CutFault::NoMemory.name(), "NoMemory");
 }
 
-/// Holds what a fault prints.
+/// Asserts what a fault prints.
 fn assert_printed(rt: &impl Abort, alloc: Global, fault: &impl Display, text: &str) {
     let printed = format!(in alloc; "{fault}").expect(rt, "memory");
     assert_same(rt, printed.as_str(), text);

@@ -1,4 +1,4 @@
-//! Looks at a stream, worked by hand: sub-buffers of 256 bytes, two to a ring.
+//! Peeks at a stream, worked by hand: sub-buffers of 256 bytes, two to a ring.
 
 use super::{
     PacketRow, assert_offers, assert_same, at, is_look, offer, small, small_stream, stored,
@@ -8,7 +8,7 @@ use std::alloc::Global;
 use std::process::Abort;
 use tr_book::{Counts, Mode};
 use tr_packet::{Packet, PacketView, decode_packet, encode_packet};
-use tr_record::{Rec, RecView};
+use tr_record::RecView;
 use tr_stream::{CutFault, SessionMode, Stream, TakeFault};
 
 /// A stream of a snapshot session that takes offers.
@@ -28,25 +28,25 @@ fn snapshot_stream(rt: &impl Abort, alloc: Global) -> Stream {
 }
 
 /// The same after offers of 64 bytes at moments 1 to 6: a sub-buffer has room for two such records, so the fifth offer
-/// went over the first sub-buffer.
+/// overwrote the first sub-buffer.
 fn filled_stream(rt: &impl Abort, alloc: Global) -> Stream {
     let mut stream = snapshot_stream(rt, alloc);
     offer(&mut stream, 1..7, &[97; 64]);
     stream
 }
 
-/// Holds how many offers and losses the look of this number in its test shows, and its packets.
+/// Asserts the offers, the discarded records and the packets that the peek of this number in its test shows.
 fn assert_look(
     rt: &impl Abort,
     stream: &Stream,
     number: u64,
     moment: u64,
-    (offered, lost): (u64, u64),
+    (offered, discarded): (u64, u64),
     rows: &[PacketRow],
 ) {
     let snap = stream.peek(at(moment)).expect(rt, "a look");
     assert!(rt;
-        is_look(&snap, offered, lost, rows),
+        is_look(&snap, offered, discarded, rows),
         "look {number}, at {moment}"
     );
 }
@@ -66,7 +66,7 @@ const SIX_OFFERED: Counts = Counts {
 /// Its packet 1, which the offer at 5 closed.
 const CLOSED: PacketRow = PacketRow {
     seq: 1,
-    lost: 0,
+    discarded: 0,
     begin: 3,
     end: 5,
     records: &[(2, 3, 64), (3, 4, 64)],
@@ -76,7 +76,7 @@ const CLOSED: PacketRow = PacketRow {
 fn packet_2(end: u64) -> PacketRow {
     PacketRow {
         seq: 2,
-        lost: 0,
+        discarded: 0,
         begin: 5,
         end,
         records: &[(4, 5, 64), (5, 6, 64)],
@@ -122,7 +122,7 @@ fn a_look_shows_the_ring_and_changes_nothing(rt: HostRuntime) {
 fn packet_3(end: u64) -> PacketRow {
     PacketRow {
         seq: 3,
-        lost: 0,
+        discarded: 0,
         begin: 11,
         end,
         records: &[(6, 11, 64)],
@@ -133,7 +133,7 @@ fn packet_3(end: u64) -> PacketRow {
 fn a_later_look_shows_later_packets(rt: HostRuntime) {
     let mut stream = filled_stream(&rt, rt.alloc());
     offer(&mut stream, 11..12, &[97; 64]);
-    // A look before the last moment that was stored is at that moment.
+    // A peek before the last stored moment is at that moment.
     for (number, moment, end) in [(1, 12, 12), (2, 3, 11)] {
         let rows = [packet_2(11), packet_3(end)];
         assert_look(&rt, &stream, number, moment, (7, 0), &rows);
@@ -149,14 +149,14 @@ fn looks_at_a_stream_that_discards(rt: HostRuntime) {
     offer(&mut stream, 1..6, &[97; 64]);
     let first = PacketRow {
         seq: 0,
-        lost: 0,
+        discarded: 0,
         begin: 1,
         end: 3,
         records: &[(0, 1, 64), (1, 2, 64)],
     };
     let second = PacketRow {
         seq: 1,
-        lost: 1,
+        discarded: 1,
         begin: 3,
         end: 8,
         records: &[(2, 3, 64), (3, 4, 64)],
@@ -165,7 +165,7 @@ fn looks_at_a_stream_that_discards(rt: HostRuntime) {
 }
 
 /// Whether two records are the same, one of them read from bytes.
-fn is_read(view: &RecView<'_>, record: &Rec) -> bool {
+fn is_read(view: &RecView<'_>, record: &RecView<'_>) -> bool {
     view.serial() == record.serial()
         && view.moment() == record.moment()
         && view.id() == record.id()
@@ -179,11 +179,11 @@ fn is_packet_read(view: &PacketView<'_>, packet: &Packet) -> bool {
         && view.count() == records.len()
         && view
             .records()
-            .zip(records.iter())
-            .all(|(view, record)| is_read(&view, record))
+            .zip(records)
+            .all(|(view, record)| is_read(&view, &record))
 }
 
-/// Holds a packet of 256 bytes to what is read of its text.
+/// Asserts that a packet of 256 bytes is read again from its text.
 fn assert_read_again(rt: &impl Abort, alloc: Global, packet: &Packet) {
     let bytes = encode_packet(alloc, packet).expect(rt, "memory");
     let (view, size) = decode_packet(&bytes).expect(rt, "a packet");

@@ -14,20 +14,20 @@ enum Told {
     Offer(Result<Offered, OfferFault>),
     Take(Result<Taken, TakeFault>),
     Cut(Result<CutDone, CutFault>),
-    /// The offers, the losses and the packets that it shows.
+    /// The offers, the discarded records and the packets that it shows.
     Look(u64, u64, Vec<PacketRow>),
     Start,
     Stop,
 }
 
-/// Whether an answer is of this kind, and the same in all that it tells.
+/// Whether an answer is of this kind, and the same in all that it says.
 fn same_answer(got: &StreamAnswer, wanted: &Told) -> bool {
     match (got, wanted) {
         (StreamAnswer::Offer(got), Told::Offer(wanted)) => *got == *wanted,
         (StreamAnswer::Take(got), Told::Take(wanted)) => *got == *wanted,
         (StreamAnswer::Cut(got), Told::Cut(wanted)) => *got == *wanted,
-        (StreamAnswer::Peek(Ok(snap)), Told::Look(offered, lost, rows)) => {
-            is_look(snap, *offered, *lost, rows)
+        (StreamAnswer::Peek(Ok(snap)), Told::Look(offered, discarded, rows)) => {
+            is_look(snap, *offered, *discarded, rows)
         }
         (StreamAnswer::Start, Told::Start) => true,
         (StreamAnswer::Stop, Told::Stop) => true,
@@ -35,7 +35,7 @@ fn same_answer(got: &StreamAnswer, wanted: &Told) -> bool {
     }
 }
 
-/// Offers at moments 1 to 6, a look at 9, two takes, a cut at 10 and a look at 12.
+/// Offers at moments 1 to 6, a peek at 9, two takes, a cut at 10 and a peek at 12.
 fn calls(alloc: Global) -> Result<Vec<StreamEvent>, AllocError> {
     let mut events = Vec::new(alloc);
     events.push(StreamEvent::Start)?;
@@ -56,14 +56,14 @@ fn calls(alloc: Global) -> Result<Vec<StreamEvent>, AllocError> {
 fn answers_told(alloc: Global) -> Result<[Told; 13], AllocError> {
     let first = PacketRow {
         seq: 0,
-        lost: 0,
+        discarded: 0,
         begin: 1,
         end: 3,
         records: &[(0, 1, 50), (1, 2, 50)],
     };
     let second = PacketRow {
         seq: 1,
-        lost: 1,
+        discarded: 1,
         begin: 3,
         end: 9,
         records: &[(2, 3, 50), (3, 4, 50), (5, 6, 4)],

@@ -8,6 +8,7 @@ loop-at-preserved g c =
     record {
       within = omega (arith, c.loop-at.invariant.within, c.in-Ok.ensures.within.1, c.split_at.ensures.back_len);
       reached = λ before tells.
-          reached_more c.args.uuid.now c.args.stream before c.args.bytes.now c.split_at.result.1.now c.loop-at.at c.in-Ok.size ok.0 c.loop-at.audit c.add_front.new.audit
+          reached_more c.args.uuid.now c.args.stream before c.args.bytes.now c.split_at.result.1.now c.loop-at.at
+          c.in-Ok.size ok.0 c.loop-at.audit c.add_front.new.audit
           (c.loop-at.invariant.reached before tells) c.split_at.ensures.back ok.1 ok.2 ok.3 ok.4;
     }

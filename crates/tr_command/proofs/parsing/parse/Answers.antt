@@ -16,7 +16,8 @@ returns-in-Some-clause-asked c =
     let none : fault_of built words ≡ [] = c.in-Ok.ensures.kinds (ap is_simple_and_free shape ∙ simple.1) in
     let rows : subcommand_rows_of c.in-Ok.matches ≡ subcommand_of built words = (c.in-Ok.ensures.matches (ap is_simple shape ∙ simple.0)).1 in
     let same : asked_from built words ≡ asked_of words = ap (λ (a : App). asked_from a words) shape ∙ asked_from-app_for words in
-    let entered = subcommand_rows_of-entered c.in-Ok.matches c.in-Some.name.now (rows_of (found_of c.in-Some.inner.now)) c.in-Some.ensures.name c.in-Some.ensures.rows in
+    let entered = subcommand_rows_of-entered c.in-Ok.matches c.in-Some.name.now (rows_of (found_of c.in-Some.inner.now))
+    c.in-Some.ensures.name c.in-Some.ensures.rows in
     c.request_of.ensures ∙ (asked_from-entered built words _ _ none (entered ∙ rows) ∙ same)
 
 pub returns-in-Ok-clause-asked : goal.returns-in-Ok-clause-asked

@@ -2,6 +2,6 @@ use Rattle.std.proofs.Common.{◌≡◌}
 use Rattle.tr_console.proofs.console.payload.Given as goal
 use Rattle.tr_console.specs.Answers.{payload_of}
 
--- so many bytes are behind the text
+-- this number of bytes follows the text
 abbrev pub invariant-fill : goal.invariant-fill
 invariant-fill g l = l.bytes.items ≡ payload_of l.text l.filled

@@ -35,42 +35,52 @@ lines-init g c =
     }
 
 pub returns-in_err-found-clause-write : goal.returns-in_err-found-clause-write
-returns-in_err-found-clause-write g c e = absurd (reading_fault-Write c.in_err-found.field-0.0 (made c.from_residual-in_err-found.result _ fault.Write c.from_residual-in_err-found.ensures.1 e))
+returns-in_err-found-clause-write g c e =
+    absurd (reading_fault-Write c.in_err-found.field-0.0
+    (made c.from_residual-in_err-found.result _ fault.Write c.from_residual-in_err-found.ensures.1 e))
 
 pub returns-in_err-found-clause-source_works : goal.returns-in_err-found-clause-source_works
 returns-in_err-found-clause-source_works g c no_read =
     c.read_line.ensures.no_failure
-    (λ r. no_read (made_err c.from_residual-in_err-found.result _ c.from_residual-in_err-found.ensures.1 ∙ ap (λ f. Err (reading_fault f)) (same_err c.read_line.result c.in_err-found.field-0.0 read.Read c.in_err-found.was r)))
+    (λ r. no_read (made_err c.from_residual-in_err-found.result _ c.from_residual-in_err-found.ensures.1
+    ∙ ap (λ f. Err (reading_fault f))
+    (same_err c.read_line.result c.in_err-found.field-0.0 read.Read c.in_err-found.was r)))
     ∙ c.lines.invariant.source_works
 
 pub returns-in_err-found-clause-source_failed : goal.returns-in_err-found-clause-source_failed
 returns-in_err-found-clause-source_failed g c e =
-    let is = reading_fault-Read c.in_err-found.field-0.0 (made c.from_residual-in_err-found.result _ fault.Read c.from_residual-in_err-found.ensures.1 e) in
+    let is = reading_fault-Read c.in_err-found.field-0.0
+    (made c.from_residual-in_err-found.result _ fault.Read c.from_residual-in_err-found.ensures.1 e) in
     (c.read_line.ensures.read (c.in_err-found.was ∙ ap Err is)).1 ∙ ap once_more c.lines.invariant.source_works
 
 pub returns-in_err-is_refused-clause-sink_works : goal.returns-in_err-is_refused-clause-sink_works
 returns-in_err-is_refused-clause-sink_works g c no_write =
     c.answer_line.ensures.no_failure
-    (λ r. no_write (made_err c.from_residual-in_err-is_refused.result _ c.from_residual-in_err-is_refused.ensures.1 ∙ ap Err (same_err c.answer_line.result c.in_err-is_refused.field-0.0 fault.Write c.in_err-is_refused.was r)))
+    (λ r. no_write (made_err c.from_residual-in_err-is_refused.result _ c.from_residual-in_err-is_refused.ensures.1
+    ∙ ap Err (same_err c.answer_line.result c.in_err-is_refused.field-0.0 fault.Write c.in_err-is_refused.was r)))
     ∙ c.lines.invariant.sink_works
 
 pub returns-in_err-found-clause-read : goal.returns-in_err-found-clause-read
 returns-in_err-found-clause-read g c e =
-    let is = reading_fault-Read c.in_err-found.field-0.0 (made c.from_residual-in_err-found.result _ fault.Read c.from_residual-in_err-found.ensures.1 e) in
+    let is = reading_fault-Read c.in_err-found.field-0.0
+    (made c.from_residual-in_err-found.result _ fault.Read c.from_residual-in_err-found.ensures.1 e) in
     let broke = c.read_line.ensures.read (c.in_err-found.was ∙ ap Err is) in
     let most : c.read_line.new.self.total ≤ LONGEST_SCRIPT = omega (arith, c.reader.invariant.3, ap (λ (r : Reading). r.total) c.reader.view_is) in
     Going-breaks _ _ _ _ c.lines.reader _ _ c.lines.invariant.going _ _ most broke.0
 
 pub returns-in_err-found-clause-too_long : goal.returns-in_err-found-clause-too_long
 returns-in_err-found-clause-too_long g c e =
-    let is = reading_fault-TooLong c.in_err-found.field-0.0 (made c.from_residual-in_err-found.result _ fault.TooLong c.from_residual-in_err-found.ensures.1 e) in
+    let is = reading_fault-TooLong c.in_err-found.field-0.0
+    (made c.from_residual-in_err-found.result _ fault.TooLong c.from_residual-in_err-found.ensures.1 e) in
     Going-too_far _ _ _ _ c.lines.reader _ _ c.lines.invariant.going _ _ (c.read_line.ensures.too_long (c.in_err-found.was ∙ ap Err is))
 
 pub returns-in_err-found-clause-memory : goal.returns-in_err-found-clause-memory
 returns-in_err-found-clause-memory g c e =
-    let is = reading_fault-NoMemory c.in_err-found.field-0.0 (made c.from_residual-in_err-found.result _ fault.NoMemory c.from_residual-in_err-found.ensures.1 e) in
+    let is = reading_fault-NoMemory c.in_err-found.field-0.0
+    (made c.from_residual-in_err-found.result _ fault.NoMemory c.from_residual-in_err-found.ensures.1 e) in
     let most : c.read_line.new.self.total ≤ LONGEST_SCRIPT = omega (arith, c.reader.invariant.3, ap (λ (r : Reading). r.total) c.reader.view_is) in
-    Going-memory _ _ _ _ c.lines.reader _ _ c.lines.invariant.going _ _ most c.read_line.ensures.held (c.read_line.ensures.memory (c.in_err-found.was ∙ ap Err is))
+    Going-memory _ _ _ _ c.lines.reader _ _ c.lines.invariant.going _ _ most c.read_line.ensures.held
+    (c.read_line.ensures.memory (c.in_err-found.was ∙ ap Err is))
 
 pub returns-in_err-is_refused-clause-write : goal.returns-in_err-is_refused-clause-write
 returns-in_err-is_refused-clause-write g c e =
@@ -78,8 +88,10 @@ returns-in_err-is_refused-clause-write g c e =
     let some = c.answer_line.ensures.write (c.in_err-is_refused.was ∙ ap Err is) in
     let same = c.read_line.ensures.content ∙ c.lines.invariant.content in
     let most : c.read_line.new.self.total ≤ LONGEST_SCRIPT = omega (arith, c.reader.invariant.3, ap (λ (r : Reading). r.total) c.reader.view_is) in
-    let comes = Comes-found _ _ _ _ c.lines.reader _ _ c.lines.invariant.going (g.S.ByteSource.content c.args.source.now) c.in_ok-found.found _ c.read_line.new.self most c.read_line.ensures.held
-    (λ w. c.read_line.ensures.whole (c.in_ok-found.was ∙ ap Ok w)) (λ l. let last = c.read_line.ensures.last (c.in_ok-found.was ∙ ap Ok l) in (last.0, last.1 ∙ same)) in
+    let comes = Comes-found _ _ _ _ c.lines.reader _ _ c.lines.invariant.going (g.S.ByteSource.content c.args.source.now)
+    c.in_ok-found.found _ c.read_line.new.self most c.read_line.ensures.held
+    (λ w. c.read_line.ensures.whole (c.in_ok-found.was ∙ ap Ok w))
+    (λ l. let last = c.read_line.ensures.last (c.in_ok-found.was ∙ ap Ok l) in (last.0, last.1 ∙ same)) in
     Comes-wrote _ _ _ _ c.lines.reader _ _ c.lines.invariant.going _ _ _ c.read_line.new.self _ some.0 c.text.ensures some.1 some.2 comes
 
 pub returns-in_err-is_refused-clause-memory : goal.returns-in_err-is_refused-clause-memory
@@ -88,18 +100,23 @@ returns-in_err-is_refused-clause-memory g c e =
     let kept = c.answer_line.ensures.memory (c.in_err-is_refused.was ∙ ap Err is) in
     let same = c.read_line.ensures.content ∙ c.lines.invariant.content in
     let most : c.read_line.new.self.total ≤ LONGEST_SCRIPT = omega (arith, c.reader.invariant.3, ap (λ (r : Reading). r.total) c.reader.view_is) in
-    let comes = Comes-found _ _ _ _ c.lines.reader _ _ c.lines.invariant.going (g.S.ByteSource.content c.args.source.now) c.in_ok-found.found _ c.read_line.new.self most c.read_line.ensures.held
-    (λ w. c.read_line.ensures.whole (c.in_ok-found.was ∙ ap Ok w)) (λ l. let last = c.read_line.ensures.last (c.in_ok-found.was ∙ ap Ok l) in (last.0, last.1 ∙ same)) in
+    let comes = Comes-found _ _ _ _ c.lines.reader _ _ c.lines.invariant.going (g.S.ByteSource.content c.args.source.now)
+    c.in_ok-found.found _ c.read_line.new.self most c.read_line.ensures.held
+    (λ w. c.read_line.ensures.whole (c.in_ok-found.was ∙ ap Ok w))
+    (λ l. let last = c.read_line.ensures.last (c.in_ok-found.was ∙ ap Ok l) in (last.0, last.1 ∙ same)) in
     Comes-memory _ _ _ _ c.lines.reader _ _ c.lines.invariant.going _ _ _ c.read_line.new.self kept comes
 
 pub lines-preserved : goal.lines-preserved
 lines-preserved g c =
     let found = c.in_ok-found.was ∙ ap Ok c.in-Whole.is in
     let answered = c.in_ok-is_refused.ensures in
-    let count : c.lines.refused + c.from-refused.result ≡ c.lines.refused + one_if (text_step by_state c.lines.console (option_map (λ (t : Bor (List ℕ)). t.now) c.text.result)).is_refused =
+    let count : c.lines.refused + c.from-refused.result
+    ≡ c.lines.refused + one_if (text_step by_state c.lines.console
+    (option_map (λ (t : Bor (List ℕ)). t.now) c.text.result)).is_refused =
     ap (λ n. c.lines.refused + n) (c.from-refused.ensures ∙ byte-one c.in_ok-is_refused.is_refused ∙ ap one_if answered.refused) in
     record {
-      going = Going-line _ _ _ _ c.lines.reader _ _ c.lines.invariant.going _ _ c.read_line.new.self _ _ _ c.text.ensures answered.text answered.world count
+      going = Going-line _ _ _ _ c.lines.reader _ _ c.lines.invariant.going _ _ c.read_line.new.self _ _ _ c.text.ensures
+          answered.text answered.world count
           (c.read_line.ensures.whole found) (c.read_line.ensures.shrinks found);
       content = c.read_line.ensures.content ∙ c.lines.invariant.content;
       source_works = c.in_ok-found.ensures.no_failure (λ e. ok_is_no_err _ _ e) ∙ c.lines.invariant.source_works;
@@ -110,7 +127,10 @@ pub returns-in-Last-clause-done : goal.returns-in-Last-clause-done
 returns-in-Last-clause-done g c =
     let last = c.read_line.ensures.last (c.in_ok-found.was ∙ ap Ok c.in-Last.is) in
     let answered = c.in_ok-is_refused.ensures in
-    let count : c.lines.refused + c.from-refused.result ≡ c.lines.refused + one_if (text_step by_state c.lines.console (option_map (λ (t : Bor (List ℕ)). t.now) c.text.result)).is_refused =
+    let count : c.lines.refused + c.from-refused.result
+    ≡ c.lines.refused + one_if (text_step by_state c.lines.console
+    (option_map (λ (t : Bor (List ℕ)). t.now) c.text.result)).is_refused =
     ap (λ n. c.lines.refused + n) (c.from-refused.ensures ∙ byte-one c.in_ok-is_refused.is_refused ∙ ap one_if answered.refused) in
     let most : c.read_line.new.self.total ≤ LONGEST_SCRIPT = omega (arith, c.reader.invariant.3, ap (λ (r : Reading). r.total) c.reader.view_is) in
-    Going-last _ _ _ _ c.lines.reader _ _ c.lines.invariant.going _ _ c.read_line.new.self _ _ _ c.text.ensures answered.text answered.world count last.0.on last.0.nothing_held most
+    Going-last _ _ _ _ c.lines.reader _ _ c.lines.invariant.going _ _ c.read_line.new.self _ _ _ c.text.ensures
+    answered.text answered.world count last.0.on last.0.nothing_held most

@@ -5,5 +5,6 @@ use Rattle.tr_session_book.specs.Book.{SessionBookState}
 
 pub returns : goal.returns
 returns g c = λ folder k archive at within.
-    in-archive folder k c.args.i c.args.session.now c.archives.result.now archive c.in-Some.field-0.now (c.archives.ensures.value ∙ ap (λ (b : SessionBookState). b.archives) c.book.ensures)
+    in-archive folder k c.args.i c.args.session.now c.archives.result.now archive c.in-Some.field-0.now
+    (c.archives.ensures.value ∙ ap (λ (b : SessionBookState). b.archives) c.book.ensures)
     c.archives.ensures.numbered at (sym c.in-Some.ensures.value) c.in-Some.ensures.is c.in-Some.ensures.archived

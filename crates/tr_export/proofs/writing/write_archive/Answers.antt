@@ -10,28 +10,40 @@ use Rattle.tr_session_book.specs.Book.{SessionBookState}
 
 pub returns-in_err-own_name-clause-err : goal.returns-in_err-own_name-clause-err
 returns-in_err-own_name-clause-err g c =
-    OnErr-always c.from_residual.result (front_none (g.D.Disk.made c.args.disk.now) (g.D.Disk.made c.args.disk.now) (archive_made c.args.dir.now c.args.name.now c.args.session.now c.args.archive) refl)
+    OnErr-always c.from_residual.result
+    (front_none (g.D.Disk.made c.args.disk.now) (g.D.Disk.made c.args.disk.now)
+    (archive_made c.args.dir.now c.args.name.now c.args.session.now c.args.archive) refl)
 
 pub returns-in_err-folder-clause-err : goal.returns-in_err-folder-clause-err
 returns-in_err-folder-clause-err g c =
-    OnErr-always c.from_residual-in_err-folder.result (front_none (g.D.Disk.made c.args.disk.now) (g.D.Disk.made c.args.disk.now) (archive_made c.args.dir.now c.args.name.now c.args.session.now c.args.archive) refl)
+    OnErr-always c.from_residual-in_err-folder.result
+    (front_none (g.D.Disk.made c.args.disk.now) (g.D.Disk.made c.args.disk.now)
+    (archive_made c.args.dir.now c.args.name.now c.args.session.now c.args.archive) refl)
 
 pub returns-clause-ok : goal.returns-clause-ok
 returns-clause-ok g c =
     let a = c.args.archive in
-    let offset_is : c.offset-offset.result ≡ c.args.session.now.book.offset = c.offset-offset.ensures ∙ ap (λ (b : SessionBookState). b.offset) c.book.ensures in
-    let name_is : c.as_str.result.now ≡ archive_name_text a.begin a.end c.args.session.now.book.offset a.id = c.as_str.ensures.value ∙ (rw (← offset_is) c.in_ok-own_name.ensures) in
-    let folder_is : c.as_str-2.result.now ≡ folder_of c.args.dir.now c.args.name.now (archive_name_text a.begin a.end c.args.session.now.book.offset a.id) =
+    let offset_is : c.offset-offset.result ≡ c.args.session.now.book.offset =
+    c.offset-offset.ensures ∙ ap (λ (b : SessionBookState). b.offset) c.book.ensures in
+    let name_is : c.as_str.result.now ≡ archive_name_text a.begin a.end c.args.session.now.book.offset a.id =
+    c.as_str.ensures.value ∙ (rw (← offset_is) c.in_ok-own_name.ensures) in
+    let folder_is : c.as_str-2.result.now
+    ≡ folder_of c.args.dir.now c.args.name.now (archive_name_text a.begin a.end c.args.session.now.book.offset a.id) =
     c.as_str-2.ensures.value ∙ (rw (← name_is) c.in_ok-folder.ensures) in
     on_ok_weaker c.write_chunk.result
-    (archive_whole (g.D.Disk.made c.args.disk.now) (g.D.Disk.made c.write_chunk.new.disk) c.args.dir.now c.args.name.now c.args.session.now a c.as_str-2.result.now folder_is) c.write_chunk.ensures.ok
+    (archive_whole (g.D.Disk.made c.args.disk.now) (g.D.Disk.made c.write_chunk.new.disk) c.args.dir.now c.args.name.now
+    c.args.session.now a c.as_str-2.result.now folder_is) c.write_chunk.ensures.ok
 
 pub returns-clause-err : goal.returns-clause-err
 returns-clause-err g c =
     let a = c.args.archive in
-    let offset_is : c.offset-offset.result ≡ c.args.session.now.book.offset = c.offset-offset.ensures ∙ ap (λ (b : SessionBookState). b.offset) c.book.ensures in
-    let name_is : c.as_str.result.now ≡ archive_name_text a.begin a.end c.args.session.now.book.offset a.id = c.as_str.ensures.value ∙ (rw (← offset_is) c.in_ok-own_name.ensures) in
-    let folder_is : c.as_str-2.result.now ≡ folder_of c.args.dir.now c.args.name.now (archive_name_text a.begin a.end c.args.session.now.book.offset a.id) =
+    let offset_is : c.offset-offset.result ≡ c.args.session.now.book.offset =
+    c.offset-offset.ensures ∙ ap (λ (b : SessionBookState). b.offset) c.book.ensures in
+    let name_is : c.as_str.result.now ≡ archive_name_text a.begin a.end c.args.session.now.book.offset a.id =
+    c.as_str.ensures.value ∙ (rw (← offset_is) c.in_ok-own_name.ensures) in
+    let folder_is : c.as_str-2.result.now
+    ≡ folder_of c.args.dir.now c.args.name.now (archive_name_text a.begin a.end c.args.session.now.book.offset a.id) =
     c.as_str-2.ensures.value ∙ (rw (← name_is) c.in_ok-folder.ensures) in
     on_err_weaker c.write_chunk.result
-    (archive_cut (g.D.Disk.made c.args.disk.now) (g.D.Disk.made c.write_chunk.new.disk) c.args.dir.now c.args.name.now c.args.session.now a c.as_str-2.result.now folder_is) c.write_chunk.ensures.err
+    (archive_cut (g.D.Disk.made c.args.disk.now) (g.D.Disk.made c.write_chunk.new.disk) c.args.dir.now c.args.name.now
+    c.args.session.now a c.as_str-2.result.now folder_is) c.write_chunk.ensures.err

@@ -9,33 +9,44 @@ use Rattle.tr_session_book.specs.Book.{SessionBookState}
 pub returns-clause-ok : goal.returns-clause-ok
 returns-clause-ok g c =
     on_ok_weaker c.write_streams.result (
-    chunk_whole c.args.folder.now c.args.id c.args.session.now (g.D.Disk.made c.args.disk.now) (g.D.Disk.made c.make_folder.new.self) (g.D.Disk.made c.write_metadata_file.new.disk)
-    (g.D.Disk.made c.write_streams.new.disk) c.as_str.result.now c.uuid.result (c.as_str.ensures.value ∙ c.in_ok-metadata.ensures) (c.uuid.ensures ∙ ap (λ (b : SessionBookState). b.uuid) c.book.ensures)
+    chunk_whole c.args.folder.now c.args.id c.args.session.now (g.D.Disk.made c.args.disk.now)
+    (g.D.Disk.made c.make_folder.new.self) (g.D.Disk.made c.write_metadata_file.new.disk)
+    (g.D.Disk.made c.write_streams.new.disk) c.as_str.result.now c.uuid.result
+    (c.as_str.ensures.value ∙ c.in_ok-metadata.ensures)
+    (c.uuid.ensures ∙ ap (λ (b : SessionBookState). b.uuid) c.book.ensures)
     c.in_ok-make_folder.ensures.ok c.in_ok-write_metadata_file.ensures.ok
     ) c.write_streams.ensures.ok
 
 pub returns-clause-err : goal.returns-clause-err
 returns-clause-err g c =
     on_err_weaker c.write_streams.result (
-    chunk_cut c.args.folder.now c.args.id c.args.session.now (g.D.Disk.made c.args.disk.now) (g.D.Disk.made c.make_folder.new.self) (g.D.Disk.made c.write_metadata_file.new.disk)
-    (g.D.Disk.made c.write_streams.new.disk) c.as_str.result.now c.uuid.result (c.as_str.ensures.value ∙ c.in_ok-metadata.ensures) (c.uuid.ensures ∙ ap (λ (b : SessionBookState). b.uuid) c.book.ensures)
+    chunk_cut c.args.folder.now c.args.id c.args.session.now (g.D.Disk.made c.args.disk.now)
+    (g.D.Disk.made c.make_folder.new.self) (g.D.Disk.made c.write_metadata_file.new.disk)
+    (g.D.Disk.made c.write_streams.new.disk) c.as_str.result.now c.uuid.result
+    (c.as_str.ensures.value ∙ c.in_ok-metadata.ensures)
+    (c.uuid.ensures ∙ ap (λ (b : SessionBookState). b.uuid) c.book.ensures)
     c.in_ok-make_folder.ensures.ok c.in_ok-write_metadata_file.ensures.ok
     ) c.write_streams.ensures.err
 
 pub returns-in_err-metadata-clause-err : goal.returns-in_err-metadata-clause-err
 returns-in_err-metadata-clause-err g c =
-    OnErr-always c.from_residual.result (front_none (g.D.Disk.made c.args.disk.now) (g.D.Disk.made c.args.disk.now) (chunk_made c.args.folder.now c.args.id c.args.session.now) refl)
+    OnErr-always c.from_residual.result
+    (front_none (g.D.Disk.made c.args.disk.now) (g.D.Disk.made c.args.disk.now)
+    (chunk_made c.args.folder.now c.args.id c.args.session.now) refl)
 
 pub returns-in_err-make_folder-clause-err : goal.returns-in_err-make_folder-clause-err
 returns-in_err-make_folder-clause-err g c =
     OnErr-always c.from_residual-in_err-make_folder.result (
-    front_none (g.D.Disk.made c.args.disk.now) (g.D.Disk.made c.make_folder.new.self) (chunk_made c.args.folder.now c.args.id c.args.session.now) c.in_err-make_folder.ensures.err
+    front_none (g.D.Disk.made c.args.disk.now) (g.D.Disk.made c.make_folder.new.self)
+    (chunk_made c.args.folder.now c.args.id c.args.session.now) c.in_err-make_folder.ensures.err
     )
 
 pub returns-in_err-write_metadata_file-clause-err : goal.returns-in_err-write_metadata_file-clause-err
 returns-in_err-write_metadata_file-clause-err g c =
     OnErr-always c.from_residual-in_err-write_metadata_file.result (
-    metadata_cut c.args.folder.now c.args.id c.args.session.now (g.D.Disk.made c.args.disk.now) (g.D.Disk.made c.make_folder.new.self) (g.D.Disk.made c.write_metadata_file.new.disk)
-    c.as_str.result.now c.uuid.result (c.as_str.ensures.value ∙ c.in_ok-metadata.ensures) (c.uuid.ensures ∙ ap (λ (b : SessionBookState). b.uuid) c.book.ensures)
+    metadata_cut c.args.folder.now c.args.id c.args.session.now (g.D.Disk.made c.args.disk.now)
+    (g.D.Disk.made c.make_folder.new.self) (g.D.Disk.made c.write_metadata_file.new.disk)
+    c.as_str.result.now c.uuid.result (c.as_str.ensures.value ∙ c.in_ok-metadata.ensures)
+    (c.uuid.ensures ∙ ap (λ (b : SessionBookState). b.uuid) c.book.ensures)
     c.in_ok-make_folder.ensures.ok c.in_err-write_metadata_file.ensures.err
     )

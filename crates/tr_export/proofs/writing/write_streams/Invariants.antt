@@ -4,7 +4,7 @@ use Rattle.tr_export.specs.Failures.{HasNotFailed}
 use Rattle.tr_export.specs.Making.{and_then_made}
 use Rattle.tr_export.proofs.writing.write_streams.Given as goal
 
--- what the streams before have is made
+-- what the earlier streams have is made
 abbrev pub invariant-streams : goal.invariant-streams
 invariant-streams g l = record {
   made : g.D.Disk.made l.disk ≡ and_then_made (g.D.Disk.made l.initial.disk) (stream_files l.folder l.id l.session l.i);

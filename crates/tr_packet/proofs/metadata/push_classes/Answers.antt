@@ -4,4 +4,6 @@ use Rattle.tr_packet.proofs.metadata.push_classes.Goals as goal
 
 pub returns : goal.returns
 returns g c =
-    three_if_ok c.push-3.result (string_bytes c.args.text.now) _ _ _ (string_bytes c.push.new.text) (string_bytes c.push-2.new.text) (string_bytes c.push-3.new.text) c.in_ok-push.ensures c.in_ok-push-2.ensures c.push-3.ensures
+    three_if_ok c.push-3.result (string_bytes c.args.text.now) _ _ _ (string_bytes c.push.new.text)
+    (string_bytes c.push-2.new.text) (string_bytes c.push-3.new.text) c.in_ok-push.ensures c.in_ok-push-2.ensures
+    c.push-3.ensures

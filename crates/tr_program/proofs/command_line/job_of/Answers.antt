@@ -10,22 +10,33 @@ pub returns-in-Some : goal.returns-in-Some
 returns-in-Some c =
     let words : List Text = map (λ w. w.now) c.args.words.now in
     let shape : app_of c.in_ok-command.command ≡ program_app = c.in_ok-command.ensures in
-    let none : fault_of program_app words ≡ [] = sym (ap (λ (a : App). fault_of a words) shape) ∙ c.in-Ok.ensures.kinds (ap is_simple_and_free shape ∙ program-simple.1) in
-    let rows : subcommand_rows_of c.in-Ok.matches ≡ subcommand_of program_app words = (c.in-Ok.ensures.matches (ap is_simple shape ∙ program-simple.0)).1 ∙ ap (λ (a : App). subcommand_of a words) shape in
-    let entered = subcommand_rows_of-entered c.in-Ok.matches c.in-Some.name.now (rows_of (found_of c.in-Some.inner.now)) c.in-Some.ensures.name c.in-Some.ensures.rows in
+    let none : fault_of program_app words ≡ [] =
+    sym (ap (λ (a : App). fault_of a words) shape)
+    ∙ c.in-Ok.ensures.kinds (ap is_simple_and_free shape ∙ program-simple.1) in
+    let rows : subcommand_rows_of c.in-Ok.matches ≡ subcommand_of program_app words =
+    (c.in-Ok.ensures.matches (ap is_simple shape ∙ program-simple.0)).1 ∙ ap (λ (a : App). subcommand_of a words) shape
+    in
+    let entered = subcommand_rows_of-entered c.in-Ok.matches c.in-Some.name.now (rows_of (found_of c.in-Some.inner.now))
+    c.in-Some.ensures.name c.in-Some.ensures.rows in
     c.job_named.ensures ∙ job_of-entered words _ _ none (entered ∙ rows)
 
 pub returns-in-Ok : goal.returns-in-Ok
 returns-in-Ok c =
     let words : List Text = map (λ w. w.now) c.args.words.now in
     let shape : app_of c.in_ok-command.command ≡ program_app = c.in_ok-command.ensures in
-    let none : fault_of program_app words ≡ [] = sym (ap (λ (a : App). fault_of a words) shape) ∙ c.in-Ok.ensures.kinds (ap is_simple_and_free shape ∙ program-simple.1) in
-    let rows : subcommand_rows_of c.in-Ok.matches ≡ subcommand_of program_app words = (c.in-Ok.ensures.matches (ap is_simple shape ∙ program-simple.0)).1 ∙ ap (λ (a : App). subcommand_of a words) shape in
+    let none : fault_of program_app words ≡ [] =
+    sym (ap (λ (a : App). fault_of a words) shape)
+    ∙ c.in-Ok.ensures.kinds (ap is_simple_and_free shape ∙ program-simple.1) in
+    let rows : subcommand_rows_of c.in-Ok.matches ≡ subcommand_of program_app words =
+    (c.in-Ok.ensures.matches (ap is_simple shape ∙ program-simple.0)).1 ∙ ap (λ (a : App). subcommand_of a words) shape
+    in
     job_of-none words none (subcommand_rows_of-none c.in-Ok.matches c.in-None.ensures.name ∙ rows)
 
 pub returns : goal.returns
 returns c =
     let words : List Text = map (λ w. w.now) c.args.words.now in
     let shape : app_of c.in_ok-command.command ≡ program_app = c.in_ok-command.ensures in
-    let kinds : HasKind (fault_of program_app words) c.in-Err.error = subst (λ (a : App). HasKind (fault_of a words) c.in-Err.error) shape (c.in-Err.ensures.kinds (ap is_simple_and_free shape ∙ program-simple.1)) in
+    let kinds : HasKind (fault_of program_app words) c.in-Err.error =
+    subst (λ (a : App). HasKind (fault_of a words) c.in-Err.error) shape
+    (c.in-Err.ensures.kinds (ap is_simple_and_free shape ∙ program-simple.1)) in
     job_of-fault words c.in-Err.error kinds (λ memory. true≢false (sym (rw (c.kind.ensures ∙ memory) at c.if-eq.ensures)))

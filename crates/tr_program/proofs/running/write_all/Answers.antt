@@ -16,8 +16,10 @@ sessions-preserved g c =
     let within : c.sessions.k < length w = omega (arith, c.sessions-test.true, c.sessions-k-end.ensures) in
     record {
       made =
-          each_more (λ (s : Text × SessionOf StreamState). archives_made c.args.dir.now s.0 s.1) (g.D.Disk.made c.args.disk.now) (g.D.Disk.made c.sessions.disk) (g.D.Disk.made c.write_archives.new.disk)
-          w w c.sessions.k e refl within (sym (get_or_from_slice_get w c.sessions.k e e got)) c.sessions.invariant.made c.in_ok-write_archives.ensures.ok;
+          each_more (λ (s : Text × SessionOf StreamState). archives_made c.args.dir.now s.0 s.1)
+          (g.D.Disk.made c.args.disk.now) (g.D.Disk.made c.sessions.disk) (g.D.Disk.made c.write_archives.new.disk)
+          w w c.sessions.k e refl within (sym (get_or_from_slice_get w c.sessions.k e e got)) c.sessions.invariant.made
+          c.in_ok-write_archives.ensures.ok;
       works = λ n is. c.in_ok-write_archives.ensures.failures n (c.sessions.invariant.works n is);
     }
 
@@ -28,6 +30,7 @@ returns-in_err-write_archives-clause-err g c =
     let got : slice_get w c.sessions.k ≡ Some e = sym c.in-Some.ensures in
     let within : c.sessions.k < length w = omega (arith, c.sessions-test.true, c.sessions-k-end.ensures) in
     OnErr-always c.from_residual.result (
-    each_cut (λ (s : Text × SessionOf StreamState). archives_made c.args.dir.now s.0 s.1) (g.D.Disk.made c.args.disk.now) (g.D.Disk.made c.sessions.disk) (g.D.Disk.made c.write_archives.new.disk)
+    each_cut (λ (s : Text × SessionOf StreamState). archives_made c.args.dir.now s.0 s.1) (g.D.Disk.made c.args.disk.now)
+    (g.D.Disk.made c.sessions.disk) (g.D.Disk.made c.write_archives.new.disk)
     w w c.sessions.k e refl within (sym (get_or_from_slice_get w c.sessions.k e e got)) c.sessions.invariant.made c.in_err-write_archives.ensures.err
     )

@@ -18,8 +18,10 @@ archives-preserved g c =
     let s = c.args.session.now in
     let archives = c.archives-archives.result.now in
     let i = c.archives.archive-index in
-    let got : slice_get archives i ≡ Some c.archive-item.result = slice_get_read archives _ i c.archive-item.result refl c.archives-test.true c.archive-item.is in
-    goes_on s archives i c.archive-item.result (string_bytes c.archives.text) (string_bytes c.push_archive.new.text) (archive_lines by_state s archives) got c.archives.invariant c.in_ok-push_archive.ensures
+    let got : slice_get archives i ≡ Some c.archive-item.result =
+    slice_get_read archives _ i c.archive-item.result refl c.archives-test.true c.archive-item.is in
+    goes_on s archives i c.archive-item.result (string_bytes c.archives.text) (string_bytes c.push_archive.new.text)
+    (archive_lines by_state s archives) got c.archives.invariant c.in_ok-push_archive.ensures
 
 pub returns : goal.returns
 returns g c =
@@ -27,5 +29,6 @@ returns g c =
     let archives = c.archives-archives.result.now in
     let same : archives ≡ s.book.archives = c.archives-archives.ensures.value ∙ ap (λ (b : SessionBookState). b.archives) c.book.ensures in
     let some : archives ≡ [] → ⊥ = λ e. true≢false (sym (ap (λ (xs : List Archive). length xs == 0) e) ∙ sym c.if-is_empty.ensures) in
-    let text = ends s archives c.archives.archive-index (string_bytes c.archives.text) (archive_lines by_state s archives) (omega arith) c.archives.invariant in
+    let text = ends s archives c.archives.archive-index (string_bytes c.archives.text) (archive_lines by_state s archives)
+    (omega arith) c.archives.invariant in
     text ∙ told s archives some ∙ ap (lines_or_none by_state s) same

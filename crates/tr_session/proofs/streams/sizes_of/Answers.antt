@@ -7,8 +7,11 @@ use Rattle.tr_stream.specs.StateSteps.{state_counts}
 
 pub streams-preserved : goal.streams-preserved
 streams-preserved g c =
-    mapped-more (λ (s : StreamState). (state_counts s).current_bytes) c.args.streams.now c.streams.stream-index c.stream-item.result c.counts.result.current_bytes c.streams.sizes.items c.push.new.self.items c.streams-test.true c.stream-item.is
+    mapped-more (λ (s : StreamState). (state_counts s).current_bytes) c.args.streams.now c.streams.stream-index
+    c.stream-item.result c.counts.result.current_bytes c.streams.sizes.items c.push.new.self.items c.streams-test.true
+    c.stream-item.is
     (ap (λ (n : Counts). n.current_bytes) c.counts.ensures.value) c.streams.invariant (search rules)
 
 pub returns : goal.returns
-returns g c = mapped-all (λ (s : StreamState). (state_counts s).current_bytes) c.args.streams.now c.streams.stream-index c.streams.sizes.items c.streams-test.false c.streams.invariant
+returns g c = mapped-all (λ (s : StreamState). (state_counts s).current_bytes) c.args.streams.now c.streams.stream-index
+    c.streams.sizes.items c.streams-test.false c.streams.invariant

@@ -5,7 +5,10 @@ use Rattle.tr_stream.specs.StateSteps.{state_snap}
 
 pub streams-preserved : goal.streams-preserved
 streams-preserved g c =
-    mapped-more (state_snap c.args.moment) c.args.streams.now c.streams.stream-index c.stream-item.result c.in_ok-peek.field-0 c.streams.snaps.items c.push.new.self.items c.streams-test.true c.stream-item.is (search rules) c.streams.invariant (search rules)
+    mapped-more (state_snap c.args.moment) c.args.streams.now c.streams.stream-index c.stream-item.result
+    c.in_ok-peek.field-0 c.streams.snaps.items c.push.new.self.items c.streams-test.true c.stream-item.is (search rules)
+    c.streams.invariant (search rules)
 
 pub returns : goal.returns
-returns g c = mapped-all (state_snap c.args.moment) c.args.streams.now c.streams.stream-index c.streams.snaps.items c.streams-test.false c.streams.invariant
+returns g c = mapped-all (state_snap c.args.moment) c.args.streams.now c.streams.stream-index c.streams.snaps.items
+    c.streams-test.false c.streams.invariant

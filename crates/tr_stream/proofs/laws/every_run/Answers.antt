@@ -3,4 +3,12 @@ use Rattle.tr_stream.proofs.ModelLaws.{well_run, in_one_place, consumed_rise, se
 use Rattle.tr_stream.proofs.laws.every_run.Goals as goal
 
 pub returns : goal.returns
-returns g c = record { well_formed = well_run; one_place = in_one_place; consumed = consumed_rise; settled = settled_below; chunks = chunk_between_cuts; cuts = counted_cuts; snapshot_session = never-consumed }
+returns g c = record {
+  well_formed = well_run;
+  one_place = in_one_place;
+  consumed = consumed_rise;
+  settled = settled_below;
+  chunks = chunk_between_cuts;
+  cuts = counted_cuts;
+  snapshot_session = never-consumed;
+}

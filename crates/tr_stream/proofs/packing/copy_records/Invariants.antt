@@ -1,6 +1,6 @@
-use Rattle.std.proofs.Common.{◌≡◌, take}
+use Rattle.std.proofs.Common.{◌≡◌, ◌++◌}
 use Rattle.tr_stream.proofs.packing.copy_records.Given as goal
 
--- the first records are copied
-abbrev pub invariant-loop-i : goal.invariant-loop-i
-invariant-loop-i g l = l.records.items ≡ take l.i l.buffer.records
+-- with the records that are left, the copies are whole
+abbrev pub invariant-loop-r : goal.invariant-loop-r
+invariant-loop-r g l = l.copies.items ++ l.r-iterator ≡ l.fn.records

@@ -10,4 +10,5 @@ returns-then-is_empty-2-clause-packets g c =
 pub returns-clause-packets : goal.returns-clause-packets
 returns-clause-packets g c =
     let some : length c.args.ring.now.current ≢ 0 = search rules in
-    packed-all c.args.config c.args.ring.now c.args.end c.in_ok-packets.packets.items c.push.new.self.items c.in_ok-packet_of_current.field-0 c.in_ok-packets.ensures some c.in_ok-packet_of_current.ensures (search rules)
+    packed-all c.args.config c.args.ring.now c.args.end c.in_ok-packets.packets.items c.push.new.self.items
+    c.in_ok-packet_of_current.field-0 c.in_ok-packets.ensures some c.in_ok-packet_of_current.ensures (search rules)

@@ -17,4 +17,5 @@ packet_from-requires g c =
 pub loop-i-preserved : goal.loop-i-preserved
 loop-i-preserved g c =
     let got : slice_get c.args.ring.now.waiting c.loop-i.i ≡ Some c.in-Some.buffer.now = search rules in
-    packed-more c.args.config c.args.ring.now.waiting c.loop-i.packets.items c.push.new.self.items c.loop-i.i c.in-Some.buffer.now c.in_ok-packet_from.field-0 got c.in_ok-packet_from.ensures c.loop-i.invariant (search rules)
+    packed-more c.args.config c.args.ring.now.waiting c.loop-i.packets.items c.push.new.self.items c.loop-i.i
+    c.in-Some.buffer.now c.in_ok-packet_from.field-0 got c.in_ok-packet_from.ensures c.loop-i.invariant (search rules)

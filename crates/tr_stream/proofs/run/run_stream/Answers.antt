@@ -3,4 +3,5 @@ use Rattle.tr_stream.proofs.RunLaws.{runs-more}
 use Rattle.tr_stream.proofs.run.run_stream.Goals as goal
 
 pub events-preserved : goal.events-preserved
-events-preserved g c = runs-more _ _ _ _ _ _ _ _ _ _ (search rules) c.event-item.is c.events.invariant c.step.ensures.config c.in_ok-step.ensures.step c.in_ok-push.ensures.items
+events-preserved g c = runs-more _ _ _ _ _ _ _ _ _ _ (search rules) c.event-item.is c.events.invariant c.step.ensures.config
+    c.in_ok-step.ensures.step c.in_ok-push.ensures.items

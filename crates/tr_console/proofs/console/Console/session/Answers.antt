@@ -10,11 +10,13 @@ use Rattle.tr_terms.specs.Names.{is_name}
 
 pub returns-in_default : goal.returns-in_default
 returns-in_default g c =
-    entry-is c.self.inside.sessions.entries c.args.k None c.in_default.ensures.entry ∙ ap (λ (w : World StreamState). slice_get w c.args.k) c.self.view_is
+    entry-is c.self.inside.sessions.entries c.args.k None c.in_default.ensures.entry
+    ∙ ap (λ (w : World StreamState). slice_get w c.args.k) c.self.view_is
 
 pub unreachable-requires : goal.unreachable-requires
 unreachable-requires g c =
-    let named = named-at c.self.inside.sessions.entries c.args.k (c.in-Some.text.now, c.in-Some.session.now) c.self.invariant (sym c.in-Some.ensures.entry) in
+    let named = named-at c.self.inside.sessions.entries c.args.k (c.in-Some.text.now, c.in-Some.session.now)
+    c.self.invariant (sym c.in-Some.ensures.entry) in
     true≢false (sym (c.in_default-new.ensures.succeeds.1 (ap is_name c.as_str.ensures.value ∙ named)))
 
 pub returns : goal.returns

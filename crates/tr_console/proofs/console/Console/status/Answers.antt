@@ -5,9 +5,9 @@ use Rattle.tr_calls.proofs.CallLaws.{is_named, named-is}
 use Rattle.tr_calls.specs.World.{World}
 use Rattle.tr_console.proofs.AnswerLaws.{refuses, at-none, at-some}
 use Rattle.tr_console.proofs.console.Console.status.Goals as goal
-use Rattle.tr_console.specs.Answers.{status_answer}
+use Rattle.tr_console.specs.Answers.{status_step}
 use Rattle.tr_console.specs.Replies.{Does}
-use Rattle.tr_console.specs.Steps.{said}
+use Rattle.tr_console.specs.Steps.{reply_step}
 use Rattle.tr_outcome.specs.Text.{Text}
 use Rattle.tr_outcome.specs.declared.faults.LineFault.TheVariants.{NoSession}
 use Rattle.tr_replies.specs.Texts.{status_text}
@@ -22,8 +22,10 @@ returns-in_default g c =
     let w = by_name es in
     let name = c.args.session.now in
     let none : lookup (is_named name) es ≡ None = sym c.in_default.ensures.value in
-    subst (λ (v : World StreamState). IfOk c.refusal.result (Does (status_answer by_state v name) v)) c.self.view_is
-    (refuses c.refusal.result w w NoSession (status_answer by_state w name) (λ _. at-none w name (λ s. said w (status_text by_state name s)) (named-is name es None none)) refl c.refusal.ensures.text c.refusal.ensures.refused c.refusal.ensures.memory)
+    subst (λ (v : World StreamState). IfOk c.refusal.result (Does (status_step by_state v name) v)) c.self.view_is
+    (refuses c.refusal.result w w NoSession (status_step by_state w name)
+    (λ _. at-none w name (λ s. reply_step w (status_text by_state name s)) (named-is name es None none)) refl
+    c.refusal.ensures.text c.refusal.ensures.refused c.refusal.ensures.memory)
 
 pub returns : goal.returns
 returns g c =
@@ -32,6 +34,13 @@ returns g c =
     let name = c.args.session.now in
     let s = c.in-Some.found.now in
     let found : lookup (is_named name) es ≡ Some s = sym c.in-Some.ensures.value in
-    let step = at-some w name (λ (t : SessionOf StreamState). said w (status_text by_state name t)) s (named-is name es (Some s) found) in
-    subst (λ (v : World StreamState). (string_bytes c.done.result.text ≡ (status_answer by_state v name).text) × (c.done.result.is_refused ≡ (status_answer by_state v name).is_refused) × (v ≡ (status_answer by_state v name).world)) c.self.view_is
-    (rw step (c.done.ensures.text ∙ (rw c.in_ok-push_str.was at c.push_str.ensures.bytes) ∙ ap (λ (t : Text). t ++ 10 ∷ []) c.in_ok-text.ensures, c.done.ensures.done, refl))
+    let step = at-some w name (λ (t : SessionOf StreamState). reply_step w (status_text by_state name t)) s (named-is name es (Some s) found) in
+    subst (λ (v : World StreamState). (string_bytes c.done.result.text ≡ (status_step by_state v name).text)
+    × (c.done.result.is_refused ≡ (status_step by_state v name).is_refused) × (v ≡ (status_step by_state v name).world))
+    c.self.view_is
+    (rw step (
+      c.done.ensures.text ∙ (rw c.in_ok-push_str.was at c.push_str.ensures.bytes)
+          ∙ ap (λ (t : Text). t ++ 10 ∷ []) c.in_ok-text.ensures,
+      c.done.ensures.done,
+      refl,
+    ))

@@ -27,35 +27,43 @@ returns-then-branch-clause-shrinks g c e =
 pub returns-in_err-refill-clause-read : goal.returns-in_err-refill-clause-read
 returns-in_err-refill-clause-read g c e =
     let p = err_from_is_err_and c.from_residual-in_err-refill.result c.from_residual-in_err-refill.ensures.1 in
-    let part : TakesPart c.pieces.self c.take_part.new.self false = subst (TakesPart c.pieces.self c.take_part.new.self) c.if-branch.false c.in_ok-take_part.ensures.ok in
+    let part : TakesPart c.pieces.self c.take_part.new.self false =
+    subst (TakesPart c.pieces.self c.take_part.new.self) c.if-branch.false c.in_ok-take_part.ensures.ok in
     let reads = ReadsOn-part _ _ c.args.self.now c.pieces.self c.take_part.new.self c.pieces.invariant.reads part in
     let made = p.1 in
     let same = p.2 in
     let is : c.in_err-refill.field-0.0 ≡ Read = cc in
     let read = c.in_err-refill.ensures.read (ap Err is) in
     let still = c.in_err-refill.ensures.err in (
-      record { on = ReadsOn-still _ _ _ c.args.self.now c.take_part.new.self c.refill.new.self reads read.0 still; nothing_held = ap (λ (r : Reading). r.held) still ∙ part.rest refl },
+      record {
+        on = ReadsOn-still _ _ _ c.args.self.now c.take_part.new.self c.refill.new.self reads read.0 still;
+        nothing_held = ap (λ (r : Reading). r.held) still ∙ part.rest refl;
+      },
       read.1 ∙ ap once_more c.pieces.invariant.failures,
     )
 
 pub returns-in_err-refill-clause-too_long : goal.returns-in_err-refill-clause-too_long
 returns-in_err-refill-clause-too_long g c e =
     let p = err_from_is_err_and c.from_residual-in_err-refill.result c.from_residual-in_err-refill.ensures.1 in
-    let part : TakesPart c.pieces.self c.take_part.new.self false = subst (TakesPart c.pieces.self c.take_part.new.self) c.if-branch.false c.in_ok-take_part.ensures.ok in
+    let part : TakesPart c.pieces.self c.take_part.new.self false =
+    subst (TakesPart c.pieces.self c.take_part.new.self) c.if-branch.false c.in_ok-take_part.ensures.ok in
     let reads = ReadsOn-part _ _ c.args.self.now c.pieces.self c.take_part.new.self c.pieces.invariant.reads part in
     let made = p.1 in
     let same = p.2 in
     let is : c.in_err-refill.field-0.0 ≡ TooLong = cc in
     let far = c.in_err-refill.ensures.too_long (ap Err is) in
-    ReadsAll-too_far _ _ _ c.args.self.now c.take_part.new.self c.refill.new.self far.1.0 reads (part.rest refl) c.in_err-refill.ensures.err far.0 far.1.1
+    ReadsAll-too_far _ _ _ c.args.self.now c.take_part.new.self c.refill.new.self far.1.0 reads (part.rest refl)
+    c.in_err-refill.ensures.err far.0 far.1.1
 
 pub returns-then-not-branch-clause-last : goal.returns-then-not-branch-clause-last
 returns-then-not-branch-clause-last g c _ =
-    let part : TakesPart c.pieces.self c.take_part.new.self false = subst (TakesPart c.pieces.self c.take_part.new.self) c.if-branch.false c.in_ok-take_part.ensures.ok in
+    let part : TakesPart c.pieces.self c.take_part.new.self false =
+    subst (TakesPart c.pieces.self c.take_part.new.self) c.if-branch.false c.in_ok-take_part.ensures.ok in
     let reads = ReadsOn-part _ _ c.args.self.now c.pieces.self c.take_part.new.self c.pieces.invariant.reads part in
     let end = c.in_ok-refill.ensures.end (ap Ok c.if-not-branch.true) in (
       record {
-        on = ReadsOn-piece _ _ c.args.self.now c.take_part.new.self c.refill.new.self reads _ (part.rest refl) c.in_ok-refill.ensures.given c.in_ok-refill.ensures.total;
+        on = ReadsOn-piece _ _ c.args.self.now c.take_part.new.self c.refill.new.self reads _ (part.rest refl)
+            c.in_ok-refill.ensures.given c.in_ok-refill.ensures.total;
         nothing_held = end.0;
       },
       end.1,
@@ -63,10 +71,12 @@ returns-then-not-branch-clause-last g c _ =
 
 pub pieces-preserved : goal.pieces-preserved
 pieces-preserved g c =
-    let part : TakesPart c.pieces.self c.take_part.new.self false = subst (TakesPart c.pieces.self c.take_part.new.self) c.if-branch.false c.in_ok-take_part.ensures.ok in
+    let part : TakesPart c.pieces.self c.take_part.new.self false =
+    subst (TakesPart c.pieces.self c.take_part.new.self) c.if-branch.false c.in_ok-take_part.ensures.ok in
     let reads = ReadsOn-part _ _ c.args.self.now c.pieces.self c.take_part.new.self c.pieces.invariant.reads part in
     record {
-      reads = ReadsOn-piece _ _ c.args.self.now c.take_part.new.self c.refill.new.self reads _ (part.rest refl) c.in_ok-refill.ensures.given c.in_ok-refill.ensures.total;
+      reads = ReadsOn-piece _ _ c.args.self.now c.take_part.new.self c.refill.new.self reads _ (part.rest refl)
+          c.in_ok-refill.ensures.given c.in_ok-refill.ensures.total;
       content = c.refill.ensures.content ∙ c.pieces.invariant.content;
       failures = c.in_ok-refill.ensures.no_failure (λ e. cc) ∙ c.pieces.invariant.failures;
     }

@@ -9,7 +9,8 @@ use Rattle.tr_record.proofs.records.RecordsIterator.next.Goals as goal
 pub returns-in_default-clause-steps : goal.returns-in_default-clause-steps
 returns-in_default-clause-steps c =
     let bytes = c.self.inside.rest.now in
-    let never : (e : Entry) (n : ℕ) → Stands e n bytes → None ≡ some_answer e n = λ e n s. absurd (c.in_default.ensures.only e (drop n bytes) (stands_begins bytes e n s)) in
+    let never : (e : Entry) (n : ℕ) → Stands e n bytes → None ≡ some_answer e n =
+    λ e n s. absurd (c.in_default.ensures.only e (drop n bytes) (stands_begins bytes e n s)) in
     let none = sym c.self.view_is ∙ whole_end bytes c.self.invariant never in
     (none, none)
 

@@ -12,13 +12,19 @@ pub streams-init : goal.streams-init
 streams-init g c = record { packets = refl; records = refl; bytes = refl; few = (omega arith, omega arith, omega arith) }
 
 pub overflow_add-size : goal.overflow_add-size
-overflow_add-size g c = let fits = fits-count c.streams.i c.streams-i-end.result c.streams.size.packets c.part_size-part.result.packets c.streams-test.true c.streams-i-end.ensures.within c.streams.invariant.few.0 c.part_size-part.ensures.few.0 in omega (arith, fits)
+overflow_add-size g c = let fits =
+    fits-count c.streams.i c.streams-i-end.result c.streams.size.packets c.part_size-part.result.packets c.streams-test.true
+    c.streams-i-end.ensures.within c.streams.invariant.few.0 c.part_size-part.ensures.few.0 in omega (arith, fits)
 
 pub overflow_add-size-in-streams : goal.overflow_add-size-in-streams
-overflow_add-size-in-streams g c = let fits = fits-count c.streams.i c.streams-i-end.result c.streams.size.records c.part_size-part.result.records c.streams-test.true c.streams-i-end.ensures.within c.streams.invariant.few.1 c.part_size-part.ensures.few.1 in omega (arith, fits)
+overflow_add-size-in-streams g c = let fits =
+    fits-count c.streams.i c.streams-i-end.result c.streams.size.records c.part_size-part.result.records c.streams-test.true
+    c.streams-i-end.ensures.within c.streams.invariant.few.1 c.part_size-part.ensures.few.1 in omega (arith, fits)
 
 pub overflow_add-size-in-streams-2 : goal.overflow_add-size-in-streams-2
-overflow_add-size-in-streams-2 g c = let fits = fits-bytes c.streams.i c.streams-i-end.result c.streams.size.bytes c.part_size-part.result.bytes c.streams-test.true c.streams-i-end.ensures.within c.streams.invariant.few.2 c.part_size-part.ensures.few.2 in omega (arith, fits)
+overflow_add-size-in-streams-2 g c = let fits =
+    fits-bytes c.streams.i c.streams-i-end.result c.streams.size.bytes c.part_size-part.result.bytes c.streams-test.true
+    c.streams-i-end.ensures.within c.streams.invariant.few.2 c.part_size-part.ensures.few.2 in omega (arith, fits)
 
 pub streams-preserved : goal.streams-preserved
 streams-preserved g c =
@@ -29,14 +35,19 @@ streams-preserved g c =
 pub returns-clause-packets : goal.returns-clause-packets
 returns-clause-packets g c =
     let past : length c.args.self.now.streams ≤ c.streams.i = subst (λ (n : ℕ). n ≤ c.streams.i) c.streams-i-end.ensures.value c.streams-test.false in
-    c.streams.invariant.packets ∙ ap (λ (ts : List StreamState). sum_by (λ t. part_packets (by_state.parted c.args.id t)) ts) (take_all c.streams.i c.args.self.now.streams past)
+    c.streams.invariant.packets
+    ∙ ap (λ (ts : List StreamState). sum_by (λ t. part_packets (by_state.part c.args.id t)) ts)
+    (take_all c.streams.i c.args.self.now.streams past)
 
 pub returns-clause-records : goal.returns-clause-records
 returns-clause-records g c =
     let past : length c.args.self.now.streams ≤ c.streams.i = subst (λ (n : ℕ). n ≤ c.streams.i) c.streams-i-end.ensures.value c.streams-test.false in
-    c.streams.invariant.records ∙ ap (λ (ts : List StreamState). sum_by (λ t. part_records (by_state.parted c.args.id t)) ts) (take_all c.streams.i c.args.self.now.streams past)
+    c.streams.invariant.records
+    ∙ ap (λ (ts : List StreamState). sum_by (λ t. part_records (by_state.part c.args.id t)) ts)
+    (take_all c.streams.i c.args.self.now.streams past)
 
 pub returns-clause-bytes : goal.returns-clause-bytes
 returns-clause-bytes g c =
     let past : length c.args.self.now.streams ≤ c.streams.i = subst (λ (n : ℕ). n ≤ c.streams.i) c.streams-i-end.ensures.value c.streams-test.false in
-    c.streams.invariant.bytes ∙ ap (λ (ts : List StreamState). sum_by (λ t. part_bytes (by_state.parted c.args.id t)) ts) (take_all c.streams.i c.args.self.now.streams past)
+    c.streams.invariant.bytes ∙ ap (λ (ts : List StreamState). sum_by (λ t. part_bytes (by_state.part c.args.id t)) ts)
+    (take_all c.streams.i c.args.self.now.streams past)

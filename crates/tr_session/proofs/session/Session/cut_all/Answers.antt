@@ -12,7 +12,11 @@ cuts-init g c = refl
 pub returns-then-eq-clause-err : goal.returns-then-eq-clause-err
 returns-then-eq-clause-err g c =
     let memory : c.cut.result ≡ Err (Cut NoMemory) = search rules in
-    record { cuts = c.cuts.i; within = subst (λ (n : ℕ). c.cuts.i < n) c.streams-i-end.ensures.value c.cuts-test.true; is = c.cut.ensures.no_memory memory ∙ c.cuts.invariant }
+    record {
+      cuts = c.cuts.i;
+      within = subst (λ (n : ℕ). c.cuts.i < n) c.streams-i-end.ensures.value c.cuts-test.true;
+      is = c.cut.ensures.no_memory memory ∙ c.cuts.invariant;
+    }
 
 pub cuts-preserved : goal.cuts-preserved
 cuts-preserved g c =

@@ -3,9 +3,9 @@ use Rattle.tr_session.proofs.StreamLaws.{one-more, same-session}
 use Rattle.tr_session.proofs.SessionLaws.{thread-made, thread-wants}
 use Rattle.tr_session.proofs.session.Session.keep_stream.Goals as goal
 use Rattle.tr_session.specs.Session.{SessionOf}
-use Rattle.tr_session.specs.Steps.{thread_added}
+use Rattle.tr_session.specs.Steps.{session_add_thread}
 use Rattle.tr_session_book.specs.Book.{SessionBookState}
-use Rattle.tr_session_book.specs.BookSteps.{channel_named, thread_noted}
+use Rattle.tr_session_book.specs.BookSteps.{channel_named, book_add_thread}
 use Rattle.tr_stream.specs.Rules.{by_state}
 use Rattle.tr_stream.specs.State.{StreamState}
 use Rattle.tr_stream.specs.StateSteps.{new_state}
@@ -16,18 +16,34 @@ invariant_of-self-in-Ok g c =
     let book : SessionBookState = c.self.inside.book in
     let old = c.self.view_is in
     let named = ap (λ (u : SessionOf StreamState). channel_named c.args.name.now u.book) old ∙ c.requires.named in
-    one-more book c.add_thread.new.self c.self.inside.streams.items c.push_reserved.new.self.items c.args.name.now c.args.channel c.in_ok-stream.stream c.self.invariant
-    (ap (λ (u : SessionOf StreamState). u.book.pending) old ∙ c.requires.bare.0) (ap (λ (u : SessionOf StreamState). u.book.archives) old ∙ c.requires.bare.1)
+    one-more book c.add_thread.new.self c.self.inside.streams.items c.push_reserved.new.self.items c.args.name.now
+    c.args.channel c.in_ok-stream.stream c.self.invariant
+    (ap (λ (u : SessionOf StreamState). u.book.pending) old ∙ c.requires.bare.0)
+    (ap (λ (u : SessionOf StreamState). u.book.archives) old ∙ c.requires.bare.1)
     named c.in-Ok.ensures.ok (c.in_ok-stream.ensures.value ∙ ap new_state made)
     (c.push_reserved.ensures.items ∙ ap (λ (ts : List StreamState). ts ++ c.in_ok-stream.stream ∷ []) c.reserve.ensures.items)
   where
-    made : (let k : StreamConfig = record { uuid = c.uuid.result; number = c.len.result; geometry = c.args.channel.geometry; mode = c.args.channel.mode; session = c.mode.result } in k)
-        ≡ record { uuid = c.self.inside.book.uuid; number = length c.self.inside.streams.items; geometry = c.args.channel.geometry; mode = c.args.channel.mode; session = c.self.inside.book.mode }
+    made : (let k : StreamConfig =
+        record {
+          uuid = c.uuid.result;
+          number = c.len.result;
+          geometry = c.args.channel.geometry;
+          mode = c.args.channel.mode;
+          session = c.mode.result;
+        } in k)
+        ≡ record {
+          uuid = c.self.inside.book.uuid;
+          number = length c.self.inside.streams.items;
+          geometry = c.args.channel.geometry;
+          mode = c.args.channel.mode;
+          session = c.self.inside.book.mode;
+        }
     made = let uuid = c.uuid.ensures in let mode = c.mode.ensures in let len : c.len.result ≡ length c.self.inside.streams.items = search rules in cc
 
 pub invariant_of-self-in-Err-1 : goal.invariant_of-self-in-Err-1
 invariant_of-self-in-Err-1 g c =
-    same-session c.self.inside.book c.add_thread.new.self c.self.inside.streams.items _ c.in-Err.ensures.unchanged c.reserve.ensures.items c.self.invariant
+    same-session c.self.inside.book c.add_thread.new.self c.self.inside.streams.items _ c.in-Err.ensures.unchanged
+    c.reserve.ensures.items c.self.invariant
 
 pub returns-in-Ok-clause-number : goal.returns-in-Ok-clause-number
 returns-in-Ok-clause-number g c =
@@ -40,10 +56,12 @@ returns-in-Ok-clause-ok g c =
     let t : SessionOf StreamState = record { book = c.add_thread.new.self; streams = c.push_reserved.new.self.items } in
     let named = ap (λ (u : SessionOf StreamState). channel_named c.args.name.now u.book) c.self.view_is ∙ c.requires.named in
     let pushed = c.push_reserved.ensures.items ∙ ap (λ (ts : List StreamState). ts ++ c.in_ok-stream.stream ∷ []) c.reserve.ensures.items in
-    ap (λ (u : SessionOf StreamState). thread_added by_state c.args.name.now u) (sym c.self.view_is)
-    ∙ thread-made s t c.args.name.now c.uuid.result c.len.result c.args.channel c.mode.result c.in_ok-stream.stream c.self.invariant named c.uuid.ensures (search rules) c.mode.ensures c.in_ok-stream.ensures.value pushed c.in-Ok.ensures.ok
+    ap (λ (u : SessionOf StreamState). session_add_thread by_state c.args.name.now u) (sym c.self.view_is)
+    ∙ thread-made s t c.args.name.now c.uuid.result c.len.result c.args.channel c.mode.result c.in_ok-stream.stream
+    c.self.invariant named c.uuid.ensures (search rules) c.mode.ensures c.in_ok-stream.ensures.value pushed
+    c.in-Ok.ensures.ok
 
 pub returns-in-Err-clause-reason : goal.returns-in-Err-clause-reason
 returns-in-Err-clause-reason g c =
     thread-wants c.args.self.now.book c.args.name.now c.in-Err.fault c.requires.placed
-    (λ other. ap (λ (s : SessionOf StreamState). thread_noted c.args.name.now s.book) (sym c.self.view_is) ∙ c.in-Err.ensures.refused other)
+    (λ other. ap (λ (s : SessionOf StreamState). book_add_thread c.args.name.now s.book) (sym c.self.view_is) ∙ c.in-Err.ensures.refused other)

@@ -1,12 +1,15 @@
 use Rattle.std.proofs.Common.{false, map, refl}
 use Rattle.tr_session.proofs.StreamLaws.{after-each, stepped, switch-keeps, stopped-same}
 use Rattle.tr_session.proofs.session.Session.stop.Goals as goal
-use Rattle.tr_stream.specs.StateSteps.{state_switched}
+use Rattle.tr_stream.specs.StateSteps.{state_after_switch}
 
 pub invariant_of-self : goal.invariant_of-self
 invariant_of-self g c =
-    stepped c.self.inside.book c.stop.new.self _ (map (state_switched false) c.self.inside.streams.items) c.switch.new.streams.items c.stop.ensures.after (stopped-same c.self.inside.book)
-    (after-each c.self.inside.book c.self.inside.streams.items (state_switched false) (switch-keeps false) c.self.invariant) c.switch.ensures
+    stepped c.self.inside.book c.stop.new.self _ (map (state_after_switch false) c.self.inside.streams.items)
+    c.switch.new.streams.items c.stop.ensures.after (stopped-same c.self.inside.book)
+    (after-each c.self.inside.book c.self.inside.streams.items (state_after_switch false) (switch-keeps false) c.self.invariant) c.switch.ensures
 
 pub invariant_of-self-in-Err : goal.invariant_of-self-in-Err
-invariant_of-self-in-Err g c = stepped c.self.inside.book c.stop.new.self _ c.self.inside.streams.items c.self.inside.streams.items c.stop.ensures.after (stopped-same c.self.inside.book) c.self.invariant refl
+invariant_of-self-in-Err g c =
+    stepped c.self.inside.book c.stop.new.self _ c.self.inside.streams.items c.self.inside.streams.items
+    c.stop.ensures.after (stopped-same c.self.inside.book) c.self.invariant refl

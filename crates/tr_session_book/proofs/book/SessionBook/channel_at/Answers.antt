@@ -8,18 +8,21 @@ use Rattle.tr_session_book.specs.BookSteps.{is_new, channel_named}
 pub returns-in_default-clause-err : goal.returns-in_default-clause-err
 returns-in_default-clause-err g c =
     let fresh : is_new c.args.self.now.state ≡ true = search rules in
-    thread_place-is c.args.name.now c.self.inside.channels.entries c.args.self.now None (ap (λ (b : SessionBookState). b.channels) c.self.view_is) fresh c.in_default.ensures.index
+    thread_place-is c.args.name.now c.self.inside.channels.entries c.args.self.now None
+    (ap (λ (b : SessionBookState). b.channels) c.self.view_is) fresh c.in_default.ensures.index
 
 pub returns-then-streams-ge-MOST_STREAMS-clause-err : goal.returns-then-streams-ge-MOST_STREAMS-clause-err
 returns-then-streams-ge-MOST_STREAMS-clause-err g c =
     let fresh : is_new c.args.self.now.state ≡ true = search rules in
-    thread_place-is c.args.name.now c.self.inside.channels.entries c.args.self.now (Some c.in-Some.place) (ap (λ (b : SessionBookState). b.channels) c.self.view_is) fresh c.in-Some.ensures.index
+    thread_place-is c.args.name.now c.self.inside.channels.entries c.args.self.now (Some c.in-Some.place)
+    (ap (λ (b : SessionBookState). b.channels) c.self.view_is) fresh c.in-Some.ensures.index
     ∙ place-full c.args.self.now c.in-Some.place c.streams.result c.streams.ensures.value c.if-streams-ge-MOST_STREAMS.true
 
 pub returns-clause-place : goal.returns-clause-place
 returns-clause-place g c =
     let fresh : is_new c.args.self.now.state ≡ true = search rules in
-    thread_place-is c.args.name.now c.self.inside.channels.entries c.args.self.now (Some c.in-Some.place) (ap (λ (b : SessionBookState). b.channels) c.self.view_is) fresh c.in-Some.ensures.index
+    thread_place-is c.args.name.now c.self.inside.channels.entries c.args.self.now (Some c.in-Some.place)
+    (ap (λ (b : SessionBookState). b.channels) c.self.view_is) fresh c.in-Some.ensures.index
     ∙ place-left c.args.self.now c.in-Some.place c.streams.result c.streams.ensures.value c.if-streams-ge-MOST_STREAMS.false
 
 pub returns-clause-channel : goal.returns-clause-channel

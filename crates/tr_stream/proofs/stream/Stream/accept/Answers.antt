@@ -6,24 +6,46 @@ use Rattle.tr_stream.specs.State.{StreamState}
 
 pub invariant_of-self-in-Stored : goal.invariant_of-self-in-Stored
 invariant_of-self-in-Stored g c =
-    let s : StreamState = record { config = c.self.inside.config; ring = c.self.inside.ring; parts = c.self.inside.parts; book = c.self.inside.book; active = c.self.inside.active } in
+    let s : StreamState = record {
+      config = c.self.inside.config;
+      ring = c.self.inside.ring;
+      parts = c.self.inside.parts;
+      counters = c.self.inside.counters;
+      active = c.self.inside.active;
+    } in
     let e : Entry = record { serial = c.offered-serial.result; moment = c.later-moment.result; id = c.args.id; payload = c.args.payload.now } in
-    kept-pushed s c.args.moment c.args.id c.args.payload.now e c.push.new.self c.in_ok-pushed.pushed c.note_offer.new.self c.self.invariant (search rules)
+    kept-pushed s c.args.moment c.args.id c.args.payload.now e c.push.new.self c.in_ok-pushed.pushed c.note_offer.new.self
+    c.self.invariant (search rules)
     (record { moment_in = omega arith; id_in = search rules }) (cc) (search rules) (search rules)
     (booked-stored _ c.in-Stored.seq _ _ _ (search rules) c.note_offer.ensures)
 
 pub invariant_of-self-in-StoredOver : goal.invariant_of-self-in-StoredOver
 invariant_of-self-in-StoredOver g c =
-    let s : StreamState = record { config = c.self.inside.config; ring = c.self.inside.ring; parts = c.self.inside.parts; book = c.self.inside.book; active = c.self.inside.active } in
+    let s : StreamState = record {
+      config = c.self.inside.config;
+      ring = c.self.inside.ring;
+      parts = c.self.inside.parts;
+      counters = c.self.inside.counters;
+      active = c.self.inside.active;
+    } in
     let e : Entry = record { serial = c.offered-serial.result; moment = c.later-moment.result; id = c.args.id; payload = c.args.payload.now } in
-    kept-pushed s c.args.moment c.args.id c.args.payload.now e c.push.new.self c.in_ok-pushed.pushed c.note_overwritten.new.self c.self.invariant (search rules)
+    kept-pushed s c.args.moment c.args.id c.args.payload.now e c.push.new.self c.in_ok-pushed.pushed
+    c.note_overwritten.new.self c.self.invariant (search rules)
     (record { moment_in = omega arith; id_in = search rules }) (cc) (search rules) (search rules)
-    (booked-over _ c.in-StoredOver.seq c.in-StoredOver.gone_seq c.in-StoredOver.gone_count _ _ c.note_offer.new.self _ (search rules) c.note_offer.ensures c.note_overwritten.ensures)
+    (booked-over _ c.in-StoredOver.seq c.in-StoredOver.gone_seq c.in-StoredOver.gone_count _ _ c.note_offer.new.self _
+    (search rules) c.note_offer.ensures c.note_overwritten.ensures)
 
-pub invariant_of-self-in-Refused : goal.invariant_of-self-in-Refused
-invariant_of-self-in-Refused g c =
-    let s : StreamState = record { config = c.self.inside.config; ring = c.self.inside.ring; parts = c.self.inside.parts; book = c.self.inside.book; active = c.self.inside.active } in
+pub invariant_of-self-in-Discarded : goal.invariant_of-self-in-Discarded
+invariant_of-self-in-Discarded g c =
+    let s : StreamState = record {
+      config = c.self.inside.config;
+      ring = c.self.inside.ring;
+      parts = c.self.inside.parts;
+      counters = c.self.inside.counters;
+      active = c.self.inside.active;
+    } in
     let e : Entry = record { serial = c.offered-serial.result; moment = c.later-moment.result; id = c.args.id; payload = c.args.payload.now } in
-    kept-pushed s c.args.moment c.args.id c.args.payload.now e c.push.new.self c.in_ok-pushed.pushed c.note_offer.new.self c.self.invariant (search rules)
+    kept-pushed s c.args.moment c.args.id c.args.payload.now e c.push.new.self c.in_ok-pushed.pushed c.note_offer.new.self
+    c.self.invariant (search rules)
     (record { moment_in = omega arith; id_in = search rules }) (cc) (search rules) (search rules)
     (booked-refused _ _ _ _ (search rules) c.note_offer.ensures)

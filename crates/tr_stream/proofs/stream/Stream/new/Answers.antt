@@ -9,8 +9,29 @@ use Rattle.tr_stream.specs.declared.config.StreamConfig.{StreamConfig}
 
 pub invariant_of-result : goal.invariant_of-result
 invariant_of-result g c =
-    let config : StreamConfig = record { uuid = c.args.uuid; number = c.args.number; geometry = c.args.geometry; mode = c.args.mode; session = c.args.session } in
-    let same : (let t : StreamState = record { config = config; ring = c.in_ok-ring.ring; parts = c.new-2.result; book = c.new-3.result; active = false } in t) ≡ new_state config =
-    new-is config c.in_ok-ring.ring c.new-2.result c.new-3.result c.size.result c.count.result c.gives_way.result (search rules) c.new-2.ensures c.new-3.ensures c.size.ensures.value c.count.ensures.value c.gives_way.ensures in
+    let config : StreamConfig =
+    record {
+      uuid = c.args.uuid;
+      number = c.args.number;
+      geometry = c.args.geometry;
+      mode = c.args.mode;
+      session = c.args.session;
+    } in
+    let same : (let t : StreamState =
+    record {
+      config = config;
+      ring = c.in_ok-ring.ring;
+      parts = c.new-2.result;
+      counters = c.new-3.result;
+      active = false;
+    } in t) ≡ new_state config =
+    new-is config c.in_ok-ring.ring c.new-2.result c.new-3.result c.size.result c.count.result c.gives_way.result
+    (search rules) c.new-2.ensures c.new-3.ensures c.size.ensures.value c.count.ensures.value c.gives_way.ensures in
     let sixteen : length c.args.uuid ≡ 16 = search rules in
-    subst (λ (t : StreamState). IsKept t) (sym same) (kept-new config (record { uuid = sixteen; number = search rules; size_high = search rules; count_high = search rules }) (search rules) (search rules))
+    subst (λ (t : StreamState). IsKept t) (sym same)
+    (kept-new config (record {
+      uuid = sixteen;
+      number = search rules;
+      size_high = search rules;
+      count_high = search rules;
+    }) (search rules) (search rules))

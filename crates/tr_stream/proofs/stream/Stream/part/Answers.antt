@@ -7,5 +7,12 @@ use Rattle.tr_stream.specs.State.{StreamState}
 
 pub returns-clause-step : goal.returns-clause-step
 returns-clause-step g c = λ h is.
-    let s : StreamState = record { config = c.self.inside.config; ring = c.self.inside.ring; parts = c.self.inside.parts; book = c.self.inside.book; active = c.self.inside.active } in
-    c.part.ensures ∙ part-is s h c.args.k (subst (λ (t : StreamState). StandsFor t h) (sym c.self.view_is) is) ∙ ap (λ (t : StreamState). part_in t.config c.args.k h) c.self.view_is
+    let s : StreamState = record {
+      config = c.self.inside.config;
+      ring = c.self.inside.ring;
+      parts = c.self.inside.parts;
+      counters = c.self.inside.counters;
+      active = c.self.inside.active;
+    } in
+    c.part.ensures ∙ part-is s h c.args.k (subst (λ (t : StreamState). StandsFor t h) (sym c.self.view_is) is)
+    ∙ ap (λ (t : StreamState). part_in t.config c.args.k h) c.self.view_is

@@ -6,11 +6,25 @@ use Rattle.tr_stream.specs.State.{StreamState}
 
 pub ring_packets-requires-clause-current : goal.ring_packets-requires-clause-current
 ring_packets-requires-clause-current g c = λ used.
-    let s : StreamState = record { config = c.self.inside.config; ring = c.self.inside.ring; parts = c.self.inside.parts; book = c.self.inside.book; active = c.self.inside.active } in
-    let later : s.book.last ≤ c.stored_moment-end.result = search rules in
+    let s : StreamState = record {
+      config = c.self.inside.config;
+      ring = c.self.inside.ring;
+      parts = c.self.inside.parts;
+      counters = c.self.inside.counters;
+      active = c.self.inside.active;
+    } in
+    let later : s.counters.last ≤ c.stored_moment-end.result = search rules in
     closing-is_packet s c.stored_moment-end.result c.self.invariant.sound used later (omega arith)
 
 pub returns-in_err-packets-clause-memory : goal.returns-in_err-packets-clause-memory
 returns-in_err-packets-clause-memory g c =
-    let s : StreamState = record { config = c.self.inside.config; ring = c.self.inside.ring; parts = c.self.inside.parts; book = c.self.inside.book; active = c.self.inside.active } in
-    on-err c.from_residual.result (look-some s c.args.self.now c.args.moment c.stored_moment-end.result c.self.view_is (search rules) c.in_err-packets.ensures.memory)
+    let s : StreamState = record {
+      config = c.self.inside.config;
+      ring = c.self.inside.ring;
+      parts = c.self.inside.parts;
+      counters = c.self.inside.counters;
+      active = c.self.inside.active;
+    } in
+    on-err c.from_residual.result
+    (look-some s c.args.self.now c.args.moment c.stored_moment-end.result c.self.view_is (search rules)
+    c.in_err-packets.ensures.memory)

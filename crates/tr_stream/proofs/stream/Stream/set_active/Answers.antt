@@ -7,10 +7,22 @@ use Rattle.tr_stream.specs.State.{StreamState}
 
 pub returns-clause-step : goal.returns-clause-step
 returns-clause-step g c = λ h is.
-    let s : StreamState = record { config = c.self.inside.config; ring = c.self.inside.ring; parts = c.self.inside.parts; book = c.self.inside.book; active = c.self.inside.active } in
+    let s : StreamState = record {
+      config = c.self.inside.config;
+      ring = c.self.inside.ring;
+      parts = c.self.inside.parts;
+      counters = c.self.inside.counters;
+      active = c.self.inside.active;
+    } in
     stands-switched s h c.args.active (subst (λ (s : StreamState). StandsFor s h) (sym c.self.view_is) is)
 
 pub invariant_of-self : goal.invariant_of-self
 invariant_of-self g c =
-    let s : StreamState = record { config = c.self.inside.config; ring = c.self.inside.ring; parts = c.self.inside.parts; book = c.self.inside.book; active = c.self.inside.active } in
+    let s : StreamState = record {
+      config = c.self.inside.config;
+      ring = c.self.inside.ring;
+      parts = c.self.inside.parts;
+      counters = c.self.inside.counters;
+      active = c.self.inside.active;
+    } in
     kept-switched s c.args.active c.self.invariant

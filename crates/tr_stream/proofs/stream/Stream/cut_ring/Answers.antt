@@ -1,0 +1,69 @@
+use Rattle.std.proofs.Common.{rules, ◌≤◌, ◌∙◌, ap, arith}
+use Rattle.tr_stream.proofs.CallLaws.{cut-fits, cut-told, cut-is, kept-cut_now}
+use Rattle.tr_stream.proofs.SoundLaws.{closing-is_packet}
+use Rattle.tr_stream.proofs.stream.Stream.cut_ring.Goals as goal
+use Rattle.tr_stream.specs.State.{StreamState}
+use Rattle.tr_stream.specs.StateSteps.{cut_done, state_cut_ring}
+
+pub ring_packets-requires-clause-current : goal.ring_packets-requires-clause-current
+ring_packets-requires-clause-current g c = λ used.
+    let s : StreamState = record {
+      config = c.self.inside.config;
+      ring = c.self.inside.ring;
+      parts = c.self.inside.parts;
+      counters = c.self.inside.counters;
+      active = c.self.inside.active;
+    } in
+    let later : s.counters.last ≤ c.args.end = search rules in
+    closing-is_packet s c.args.end c.self.invariant.sound used later (omega arith)
+
+pub cut-requires : goal.cut-requires
+cut-requires g c =
+    let s : StreamState = record {
+      config = c.self.inside.config;
+      ring = c.self.inside.ring;
+      parts = c.self.inside.parts;
+      counters = c.self.inside.counters;
+      active = c.self.inside.active;
+    } in
+    cut-fits s c.args.end c.in_ok-packets.packets.items c.self.invariant c.in_ok-packets.ensures.packets
+
+pub invariant_of-self-2 : goal.invariant_of-self-2
+invariant_of-self-2 g c =
+    let s : StreamState = record {
+      config = c.self.inside.config;
+      ring = c.self.inside.ring;
+      parts = c.self.inside.parts;
+      counters = c.self.inside.counters;
+      active = c.self.inside.active;
+    } in
+    let later : s.counters.last ≤ c.args.end = search rules in
+    kept-cut_now s c.args.end c.in_ring.result c.in_ok-packets.packets.items c.clear.new.self c.cut.new.self
+    c.note_consumed.new.self c.note_moment.new.self (search rules) c.self.invariant later (omega arith)
+    c.in_ok-packets.ensures.packets (search rules) (search rules) (search rules) (search rules) (search rules)
+
+pub returns-clause-answer : goal.returns-clause-answer
+returns-clause-answer g c =
+    let s : StreamState = record {
+      config = c.self.inside.config;
+      ring = c.self.inside.ring;
+      parts = c.self.inside.parts;
+      counters = c.self.inside.counters;
+      active = c.self.inside.active;
+    } in
+    cut-told s c.args.end c.id.result c.len.result c.in_ring.result c.in_ok-packets.packets.items
+    c.in_ok-packets.ensures.packets (search rules) (search rules) (search rules)
+    ∙ ap (cut_done c.args.end) c.self.view_is
+
+pub returns-clause-ok : goal.returns-clause-ok
+returns-clause-ok g c =
+    let s : StreamState = record {
+      config = c.self.inside.config;
+      ring = c.self.inside.ring;
+      parts = c.self.inside.parts;
+      counters = c.self.inside.counters;
+      active = c.self.inside.active;
+    } in
+    cut-is s c.args.end c.in_ring.result c.in_ok-packets.packets.items c.clear.new.self c.cut.new.self
+    c.note_consumed.new.self c.note_moment.new.self c.in_ok-packets.ensures.packets (search rules) (search rules)
+    (search rules) (search rules) (search rules) ∙ ap (state_cut_ring c.args.end) c.self.view_is

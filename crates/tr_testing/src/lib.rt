@@ -1,0 +1,12 @@
+//! What the tests of several crates share. No crate of the program stands on it.
+#![tactic(auto)]
+
+mod failing;
+
+pub use failing::FailsAfter;
+use tr_terms::Moment;
+
+/// The moment of this many nanoseconds, and zero if that is beyond the limit.
+pub fn moment(nanoseconds: u64) -> Moment {
+    Moment::new(nanoseconds).unwrap_or(Moment::zero())
+}
