@@ -1,6 +1,7 @@
 //! A module for each crate, and what they share.
 
 mod books;
+mod ledgers;
 mod lines;
 mod names;
 mod records;
