@@ -51,7 +51,14 @@ module _ (id : ℕ) (v : View) (views : List View) (h : AreCounted views) (at : 
       record {
         one_book = omega (arith, h.one_book, no_book, here books_in, gone books_in);
         amounts = omega (
-          arith, h.amounts, seat_alone.0, here amount_in, gone amount_in, here total_in, gone total_in);
+          arith,
+          h.amounts,
+          seat_alone.0,
+          here amount_in,
+          gone amount_in,
+          here total_in,
+          gone total_in,
+        );
         marks = omega (arith, h.marks, seat_alone.1, here mark_in, gone mark_in, here made_in, gone made_in);
         books = All-set IsBookAlone mid other spent (λ _. (refl, refl)) (All-set IsBookAlone views id both alone h.books);
         marked = All-set IsMarked mid other spent (λ _. refl) (All-set IsMarked views id both both_marked h.marked);
@@ -71,24 +78,24 @@ module _ (id : ℕ) (v : View) (views : List View) (h : AreCounted views) (at : 
         amounts = omega (arith, h.amounts, total, amount, here amount_in, new amount_in, here total_in, new total_in);
         marks = omega (arith, h.marks, mark, here mark_in, new mark_in, here made_in, new made_in);
         books = All-append IsBookAlone mid (right ∷ [])
-          (All-set IsBookAlone views id left left_alone h.books)
-          (All-cons IsBookAlone right [] right_alone (All-nil IsBookAlone));
+            (All-set IsBookAlone views id left left_alone h.books)
+            (All-cons IsBookAlone right [] right_alone (All-nil IsBookAlone));
         marked = All-append IsMarked mid (right ∷ [])
-          (All-set IsMarked views id left left_marked h.marked)
-          (All-cons IsMarked right [] right_marked (All-nil IsMarked));
+            (All-set IsMarked views id left left_marked h.marked)
+            (All-cons IsMarked right [] right_marked (All-nil IsMarked));
       }
 
   -- what is joined to a view becomes a seat's view
   pub parts : AreCounted (set views id (without_seat v) ++ seat_of v ∷ [])
   parts =
       grows (without_seat v) (seat_of v) alone (λ _. refl) (λ _. (refl, refl)) marked
-        (omega arith) (omega arith) (omega arith) (omega arith)
+      (omega arith) (omega arith) (omega arith) (omega arith)
 
   -- the book's view makes a new seat
   pub makes : v.books ≡ 1 → AreCounted (set views id (with_one_more v) ++ seat_view 0 1 ∷ [])
   makes is_book =
       grows (with_one_more v) (seat_view 0 1) (λ e. absurd (omega (arith, is_book, e))) marked (λ _. (refl, refl)) (λ e. refl)
-        (omega arith) (omega arith) (omega arith) (omega arith)
+      (omega arith) (omega arith) (omega arith) (omega arith)
 
   -- what is joined to the book is a share of its total
   knows : v.books ≡ 1 → IsWithin v
@@ -99,7 +106,7 @@ module _ (id : ℕ) (v : View) (views : List View) (h : AreCounted views) (at : 
         omega (arith, h.amounts, total, sum_holds amount_in views id v at),
         omega (arith, h.marks, made, sum_holds mark_in views id v at),
         (λ whole.
-          omega (arith, h.amounts, total, sum_only mark_in amount_in views id v at h.marked (omega (arith, h.marks, made, whole)))),
+            omega (arith, h.amounts, total, sum_only mark_in amount_in views id v at h.marked (omega (arith, h.marks, made, whole)))),
       )
 
   -- a look at the book's view changes nothing, and shows what is known there

@@ -28,7 +28,7 @@ impl<A: Allocator> Model for Ledger<A> {
     ghost view = { λ l. ledger_state l.table.shared.table_id l.total l.made };
 
     ghost invariant = { λ l. (l.book.table_id ≡ l.table.shared.table_id) × (0 < l.table.shared.table_id.words)
-      × (l.book.me ≡ (book_view l.total l.made 0 0, [])) };
+        × (l.book.me ≡ (book_view l.total l.made 0 0, [])) };
 }
 
 /// A part of a ledger's total, in the hands of one holder. Contracts see a `SeatState`.
@@ -48,7 +48,7 @@ impl Model for Seat {
     ghost view = { λ s. seat_state s.badge.table_id s.amount (view_of s.badge.views).mark };
 
     ghost invariant = { λ s. (s.badge.views ≡ seat_view s.amount (view_of s.badge.views).mark ∷ [])
-      × (0 < (view_of s.badge.views).mark) };
+        × (0 < (view_of s.badge.views).mark) };
 }
 
 impl<A: Allocator> Ledger<A> {
@@ -153,7 +153,10 @@ impl<A: Allocator> Ledger<A> {
             ≡ seat_state seat.old.table (seat.old.amount + other.amount) (seat.old.mark + other.mark) }
         ensures share { IsSeatOf self.old seat.new }
     {
-        let Seat { badge: others, amount } = other;
+        let Seat {
+            badge: others,
+            amount,
+        } = other;
         let badge = std::mem::replace(&mut seat.badge, Badge::blank());
         let table = &self.table;
         let shared = &table.shared;

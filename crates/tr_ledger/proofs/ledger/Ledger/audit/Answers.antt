@@ -11,6 +11,6 @@ load-requires g c =
       c.sit.ensures.table ∙ i.0,
       i.1,
       (λ s h homes at small.
-        let known = learns _ _ s.views h at is_book in
-        (c.sit.new.book.me.0, keeps, tt, known.0, (refl, known.1))),
+          let known = learns _ _ s.views h at is_book in
+          (c.sit.new.book.me.0, keeps, tt, known.0, (refl, known.1))),
     )

@@ -12,6 +12,6 @@ load-requires g c =
       c.sit-2.ensures.table ∙ c.sit.ensures.table ∙ i.0,
       i.1,
       (λ s h homes at small.
-        let known = learns _ _ s.views h at is_book in
-        (c.sit-2.new.book.me.0, keeps, tt, known.0, (refl, known.1))),
+          let known = learns _ _ s.views h at is_book in
+          (c.sit-2.new.book.me.0, keeps, tt, known.0, (refl, known.1))),
     )

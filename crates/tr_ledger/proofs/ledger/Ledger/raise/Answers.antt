@@ -16,6 +16,6 @@ fetch_add-requires g c =
       c.sit.ensures.table ∙ i.0,
       i.1,
       (λ s h homes at small.
-        let risen = raises _ _ s.views h at is_book some_mark c.args.n in
-        (raised c.args.n c.sit.new.book.me.0, keeps, tt, risen.0, (refl, risen.1))),
+          let risen = raises _ _ s.views h at is_book some_mark c.args.n in
+          (raised c.args.n c.sit.new.book.me.0, keeps, tt, risen.0, (refl, risen.1))),
     )
