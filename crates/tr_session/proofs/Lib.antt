@@ -1,5 +1,6 @@
 pub mod Agreement
 pub mod AuditLaws
+pub mod CallLaws
 pub mod FrontLaws
 pub mod GapLaws
 pub mod ListLaws

@@ -4,7 +4,8 @@ use Rattle.std.proofs.lemmas.Bool.Decides.{nat_tests}
 use Rattle.std.specs.Option.{option_map_or}
 use Rattle.std.specs.Prelude.{IsOk, if◌then◌else◌, nat_lt, option_map, slice_get}
 use Rattle.tr_session_book.proofs.BookLaws.{due-within}
-use Rattle.tr_session.proofs.StreamLaws.{mode-at, noted-is, wants-memory}
+use Rattle.tr_session.proofs.CallLaws.{noted-is, wants-memory}
+use Rattle.tr_session.proofs.StreamLaws.{mode-at}
 use Rattle.tr_session_book.specs.Book.{SessionBookState}
 use Rattle.tr_session_book.specs.BookSteps.{channel_named, with_thread_at, book_add_thread, thread_place, unless_refused, cut_moment, with_cut, book_after_note_cut}
 use Rattle.tr_session.specs.Session.{SessionOf, HasItsStreams}

@@ -1,6 +1,7 @@
 use Rattle.std.proofs.Common.{◌∙◌, ap, sym, subst}
 use Rattle.std.specs.Prelude.{IsOk}
-use Rattle.tr_session.proofs.StreamLaws.{channel-step, other-book}
+use Rattle.tr_session.proofs.CallLaws.{channel-step}
+use Rattle.tr_session.proofs.StreamLaws.{other-book}
 use Rattle.tr_session.proofs.ResultLaws.{on-ok, on-err, if-err}
 use Rattle.tr_session.proofs.SessionLaws.{added-ok}
 use Rattle.tr_session.specs.Steps.{session_add_channel, with_book}

@@ -1,5 +1,5 @@
 use Rattle.std.proofs.Common.{◌≡◌, ◌∙◌, ◌++◌, ◌∷◌, [], List, ap, length, rules, sym}
-use Rattle.tr_session.proofs.StreamLaws.{one-more, same-session}
+use Rattle.tr_session.proofs.CallLaws.{one-more, same-session}
 use Rattle.tr_session.proofs.SessionLaws.{thread-made, thread-wants}
 use Rattle.tr_session.proofs.session.Session.keep_stream.Goals as goal
 use Rattle.tr_session.specs.Session.{SessionOf}
