@@ -1,6 +1,7 @@
 -- What a run of the program does.
 use Rattle.std.specs.Prelude.{◌≡◌, ◌⊎◌, ℕ, List, Option, Some, None}
 use Rattle.tr_calls.specs.World.{World}
+use Rattle.tr_chunk.specs.Files.{Sunk}
 use Rattle.tr_console.specs.Runs.{AnsweredSome, BrokeOff, Ran, WentTooFar, WroteSome}
 use Rattle.tr_export.specs.Failures.{HasFailed, HasNotFailed}
 use Rattle.tr_export.specs.Making.{MadeFront, Makings}
@@ -41,14 +42,6 @@ host_of source sink disks input out disk = record {
   output_failures = sink.failures out;
   disk_failures = disks.failures disk;
 }
-
--- what is known of standard error at one step: what it took, and how often it failed
-pub record Told : Type 0 where
-  pub taken : Option (List ℕ)
-  pub failures : ℕ
-
-abbrev pub told_of : {E : Type 0} → Sink.Ghosts E → E → Told
-told_of sink err = record { taken = sink.taken err; failures = sink.failures err }
 
 -- the host before a run and after it
 module _ (old new : Host) where
@@ -129,11 +122,11 @@ module _ (old new : Host) where
       × HasNotFailed old.disk_failures new.disk_failures
 
 -- standard error before and after: it got the ending's line, if it didn't fail
-abbrev pub IsTold : Ending → Told → Told → Type 0
+abbrev pub IsTold : Ending → Sunk → Sunk → Type 0
 IsTold ending old new = GotLine old.taken new.taken (message_of ending) ⊎ (new.failures ≡ once_more old.failures)
 
 -- the run ended as what was asked for does: its status and its line say how
-pub record HasEnded (asked : Option Folder) (old new : Host) (told told_now : Told) (status : ℕ) : Type 0 where
+pub record HasEnded (asked : Option Folder) (old new : Host) (told told_now : Sunk) (status : ℕ) : Type 0 where
   pub ending : Ending
   pub says : status ≡ status_of ending
   pub line : IsTold ending told told_now

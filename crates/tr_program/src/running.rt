@@ -4,12 +4,13 @@ ghost use Rattle.std.specs.Prelude.{◌≡◌, OnOk, OnErr, IfErr, map, option_a
 ghost use Rattle.std.specs.IoError.{error_kind};
 ghost use Rattle.std.specs.Result.{result_ok};
 ghost use Rattle.std.specs.Vec.Iter.{into_iter_items};
+ghost use Rattle.tr_chunk.specs.Files.{sunk_of};
 ghost use Rattle.tr_export.specs.Failures.{FailedByWrite};
 ghost use Rattle.tr_export.specs.Making.{MadeFront, and_then_made};
 ghost use Rattle.tr_program.specs.CommandLine.{job_asked, words_of};
 ghost use Rattle.tr_program.specs.Endings.{ending_of_arguments, status_of};
 ghost use Rattle.tr_program.specs.Exports.{all_made};
-ghost use Rattle.tr_program.specs.Runs.{EndsAs, EndsSo, HasCause, HasEnded, HasNoFault, IsTold, host_of, told_of};
+ghost use Rattle.tr_program.specs.Runs.{EndsAs, EndsSo, HasCause, HasEnded, HasNoFault, IsTold, host_of};
 
 use crate::command_line::{Job, collected, job_of, with_program, words_behind};
 use crate::ending::Ending;
@@ -101,7 +102,7 @@ fn end<S: ByteSource, K: ByteSink, D: Disk>(
 /// Writes why the run failed, if it did, to standard error, and answers the exit status.
 fn tell<E: ByteSink>(ending: Ending, err: &mut E) -> u8
     ensures status { result ≡ status_of ending }
-    ensures told { IsTold ending (told_of E.ByteSink err.old) (told_of E.ByteSink err.new) }
+    ensures told { IsTold ending (sunk_of E.ByteSink err.old) (sunk_of E.ByteSink err.new) }
 {
     if let Some(message) = ending.message() {
         // If this can't be written either, the status still says it.
@@ -124,8 +125,8 @@ pub fn run<S: ByteSource, K: ByteSink, E: ByteSink, D: Disk>(
 ) -> u8
     ensures ends { HasEnded (job_asked (map (λ w. w.now) words.now))
         (host_of S.ByteSource K.ByteSink D.Disk input.old out.old disk.old)
-        (host_of S.ByteSource K.ByteSink D.Disk input.new out.new disk.new) (told_of E.ByteSink err.old)
-        (told_of E.ByteSink err.new) result }
+        (host_of S.ByteSource K.ByteSink D.Disk input.new out.new disk.new) (sunk_of E.ByteSink err.old)
+        (sunk_of E.ByteSink err.new) result }
     ensures fault { result ≡ 3
         → HasCause (host_of S.ByteSource K.ByteSink D.Disk input.old out.old disk.old)
         (host_of S.ByteSource K.ByteSink D.Disk input.new out.new disk.new) }
@@ -148,8 +149,8 @@ fn run_arguments<S: ByteSource, K: ByteSink, E: ByteSink, D: Disk>(
 ) -> u8
     ensures ends { HasEnded (job_asked (words_of (into_iter_items given)))
         (host_of S.ByteSource K.ByteSink D.Disk input.old out.old disk.old)
-        (host_of S.ByteSource K.ByteSink D.Disk input.new out.new disk.new) (told_of E.ByteSink err.old)
-        (told_of E.ByteSink err.new) result }
+        (host_of S.ByteSource K.ByteSink D.Disk input.new out.new disk.new) (sunk_of E.ByteSink err.old)
+        (sunk_of E.ByteSink err.new) result }
     ensures fault { result ≡ 3
         → HasCause (host_of S.ByteSource K.ByteSink D.Disk input.old out.old disk.old)
         (host_of S.ByteSource K.ByteSink D.Disk input.new out.new disk.new) }
@@ -178,8 +179,8 @@ pub fn run_given<S: ByteSource, K: ByteSink, E: ByteSink, D: Disk>(
 ) -> u8
     ensures ends { HasEnded (option_and_then (λ arguments. job_asked (words_of (into_iter_items arguments)))
         (result_ok given)) (host_of S.ByteSource K.ByteSink D.Disk input.old out.old disk.old)
-        (host_of S.ByteSource K.ByteSink D.Disk input.new out.new disk.new) (told_of E.ByteSink err.old)
-        (told_of E.ByteSink err.new) result }
+        (host_of S.ByteSource K.ByteSink D.Disk input.new out.new disk.new) (sunk_of E.ByteSink err.old)
+        (sunk_of E.ByteSink err.new) result }
     ensures arguments { IfErr given (λ error. result ≡ status_of (ending_of_arguments (error_kind error))) }
     ensures fault { result ≡ 3
         → HasCause (host_of S.ByteSource K.ByteSink D.Disk input.old out.old disk.old)
