@@ -88,7 +88,8 @@ module _ {X : Type 0} where
   found-mapped f (x ∷ xs) (suc i) y at = found-mapped f xs i y at
 
   -- what is in a list after one element was appended
-  pub found-pushed : (xs : List X) (x : X) (i : ℕ) (y : X) → slice_get (xs ++ x ∷ []) i ≡ Some y → (slice_get xs i ≡ Some y) ⊎ ((i ≡ length xs) × (y ≡ x))
+  pub found-pushed : (xs : List X) (x : X) (i : ℕ) (y : X) → slice_get (xs ++ x ∷ []) i ≡ Some y
+      → (slice_get xs i ≡ Some y) ⊎ ((i ≡ length xs) × (y ≡ x))
   found-pushed [] x zero y at = inr (refl, sym (same_Some x y at))
   found-pushed [] x (suc i) y at = absurd cc
   found-pushed (z ∷ xs) x zero y at = inl at
