@@ -1,6 +1,6 @@
 -- A ring as the list of its closed sub-buffers, and the current one.
 use Rattle.std.specs.Prelude.{ℕ, ◌+◌, ◌≤◌, Bool, nat_lt, List, [], ◌∷◌, ◌++◌, length, drop, Option, Some, None, find, if◌then◌else◌}
-use Rattle.std.specs.List.{AllByRecursion}
+use Rattle.std.specs.List.{AllByRecursion, flat_map}
 use Rattle.std.specs.Option.{option_map, option_or}
 use Rattle.tr_record.specs.Records.{Entry, has_serial}
 use Rattle.tr_record.specs.Weight.{weight_of}
@@ -105,6 +105,10 @@ seq_waiting n waiting = option_map (λ (b : ClosedBuffer). b.seq)
 -- the number of the sub-buffer that has the record of a serial
 abbrev pub seq_of : ℕ → RingState → Option ℕ
 seq_of n r = option_or (seq_waiting n r.waiting) (if has_serial n r.current then Some r.seq else None)
+
+-- the records that the ring holds, the oldest first
+abbrev pub ring_records : RingState → List Entry
+ring_records r = flat_map (λ (b : ClosedBuffer). b.records) r.waiting ++ r.current
 
 -- a closed sub-buffer has a record, and its packet is no larger than this size
 pub record IsClosedWithin (size : ℕ) (b : ClosedBuffer) : Type 0 where

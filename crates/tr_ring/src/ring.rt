@@ -4,7 +4,7 @@ ghost use Rattle.std.specs.Prelude.{◌≡◌, ◌≢◌, ◌+◌, ◌≤◌, �
 ghost use Rattle.tr_record.specs.Weight.{weight_of};
 ghost use Rattle.circular_buffer.specs.Buffer.{buffer};
 ghost use Rattle.tr_subbuf.specs.SubBuffer.{empty_buffer, with_record};
-ghost use Rattle.tr_ring.specs.Ring.{IsRing, empty_ring, current_buffer, after_push, push_answer, remove_oldest, close_current, clear_ring, seq_waiting, seq_of};
+ghost use Rattle.tr_ring.specs.Ring.{IsRing, empty_ring, current_buffer, after_push, push_answer, remove_oldest, close_current, clear_ring, seq_waiting, seq_of, ring_records};
 ghost use Rattle.tr_terms.specs.declared.limits.TheConstants.{FEWEST_SUB_BUFFERS, LARGEST_PACKET, SMALLEST_PACKET};
 ghost use Rattle.tr_record.specs.Records.{entry};
 ghost use Rattle.tr_ring.specs.ClosedBuffer.{closed_buffer};
@@ -237,6 +237,24 @@ impl<A: Allocator> Ring<A> {
             return Some(self.seq);
         }
         None
+    }
+
+    /// The record number `k` of those that the ring holds, the oldest first, from 0 on.
+    pub fn record(&self, k: u64) -> Option<RecView<'_>>
+        ensures { result ≡ slice_get (ring_records self.now) k }
+    {
+        let mut left = k;
+        for i in 0..self.waiting() {
+            let Some(buffer) = self.closed(i) else {
+                unreachable!()
+            };
+            let count = buffer.count() as u64;
+            if left < count {
+                return buffer.records().at(left as usize);
+            }
+            left -= count;
+        }
+        self.current.records().at(left as usize)
     }
 
     /// The number of the current sub-buffer.

@@ -201,6 +201,7 @@ offer-wants (Err (step.Session fault)) = inr (λ e. cc)
 offer-wants (Err (step.Offer offer_fault.Inactive)) = inr (λ e. cc)
 offer-wants (Err (step.Offer offer_fault.TooBig)) = inr (λ e. cc)
 offer-wants (Err (step.Offer offer_fault.Spent)) = inr (λ e. cc)
+offer-wants (Err (step.Offer offer_fault.Misplaced)) = inr (λ e. cc)
 offer-wants (Err (step.Offer offer_fault.NoMemory)) = inl refl
 offer-wants (Err (step.Take fault)) = inr (λ e. cc)
 offer-wants (Err (step.Cut fault)) = inr (λ e. cc)
@@ -223,6 +224,7 @@ take-wants (Err (step.Session fault)) = inr (λ e. cc)
 take-wants (Err (step.Offer fault)) = inr (λ e. cc)
 take-wants (Err (step.Take take_fault.Nothing)) = inr (λ e. cc)
 take-wants (Err (step.Take take_fault.SnapshotMode)) = inr (λ e. cc)
+take-wants (Err (step.Take take_fault.Misplaced)) = inr (λ e. cc)
 take-wants (Err (step.Take take_fault.NoMemory)) = inl refl
 take-wants (Err (step.Cut fault)) = inr (λ e. cc)
 
@@ -256,6 +258,7 @@ wants-memory (Err SessionFault.NotPending) = inr (λ e. cc)
 wants-memory (Err SessionFault.CutMissing) = inr (λ e. cc)
 wants-memory (Err SessionFault.NameTaken) = inr (λ e. cc)
 wants-memory (Err SessionFault.NoChannel) = inr (λ e. cc)
+wants-memory (Err SessionFault.Misplaced) = inr (λ e. cc)
 
 pub begin-step : {D : Type 0} (r : Result ℕ SessionFault) (moment : ℕ) (b c : SessionBookState)
     → (r ≢ Err SessionFault.NoMemory → D × (c ≡ book_after_rotate_begin moment b)) → (r ≡ Err SessionFault.NoMemory → c ≡ b)

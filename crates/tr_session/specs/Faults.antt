@@ -30,9 +30,11 @@ step_wants_memory (Offer offer.NoMemory) = true
 step_wants_memory (Offer offer.Inactive) = false
 step_wants_memory (Offer offer.TooBig) = false
 step_wants_memory (Offer offer.Spent) = false
+step_wants_memory (Offer offer.Misplaced) = false
 step_wants_memory (Take take.NoMemory) = true
 step_wants_memory (Take take.Nothing) = false
 step_wants_memory (Take take.SnapshotMode) = false
+step_wants_memory (Take take.Misplaced) = false
 step_wants_memory (Cut cut.NoMemory) = true
 step_wants_memory (Cut cut.SnapshotMode) = false
 

@@ -21,6 +21,6 @@ pub use events::{Answer, Event};
 pub use faults::StepFault;
 pub use laws::every_audit;
 pub use rotation::Next;
-pub use run::run_session;
+pub use run::{configure, run_session};
 pub use session::Session;
 pub use ticks::Ticked;

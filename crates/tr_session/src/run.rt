@@ -75,7 +75,11 @@ fn add_configured<A: Allocator + Copy>(
 }
 
 /// The session of a configuration, or why there is none.
-fn configure<A: Allocator + Copy>(
+///
+/// # Errors
+///
+/// Those of `add_channel` and `add_thread` for the first channel or thread of the configuration that is refused.
+pub fn configure<A: Allocator + Copy>(
     alloc: A,
     config: &Config<'_, A>,
 ) -> Result<Session<A>, SessionFault>

@@ -2,7 +2,7 @@
 
 ghost use Rattle.std.specs.Prelude.{◌≡◌, ◌≢◌, ◌≤◌, ◌<◌, [], true, false, None, Some, Ok, Err, IsOk, IfSome, IfOk, OnOk, IfErr, OnErr, length, map, option_copied, slice_get};
 ghost use Rattle.tr_session_book.specs.BookSteps.{channel_named, thread_place, book_start_answer, book_after_start, book_stop_answer, book_after_stop, book_switch_answer, book_rotate_begin_answer, cut_moment, book_rotate_finish_answer, book_snapshot_begin_answer, book_after_snapshot_begin, book_schedule_answer, book_after_schedule};
-ghost use Rattle.tr_session.specs.Session.{HasArchivedParts, IsStreamOf, new_session};
+ghost use Rattle.tr_session.specs.Session.{HasArchivedParts, HasItsStreams, IsStreamOf, new_session, session_of};
 ghost use Rattle.tr_session.specs.Steps.{session_add_channel, session_add_thread, StepTakesMemory, session_offer_answer, session_after_offer, session_take_answer, session_after_take, session_cut_answer, session_after_cut, session_snap_answer, ShowsPackets, session_after_switch, session_after_start, session_after_stop, session_after_rotate_begin, session_after_rotate_finish, current_sizes, session_fate_answer};
 ghost use Rattle.tr_stream.specs.Rules.{by_state};
 ghost use Rattle.tr_stream.specs.StateSteps.{state_snap};
@@ -51,6 +51,35 @@ impl<A: Allocator + Copy> Session<A> {
             book: SessionBook::new(alloc, uuid, offset, mode),
             streams: Vec::new(alloc),
         }
+    }
+
+    /// A session of a book and its streams, in order of number. It takes no memory.
+    pub fn from_parts(
+        alloc: A,
+        book: SessionBook<A>,
+        streams: Vec<Stream<A>, A>,
+    ) -> Session<A>
+        requires { HasItsStreams (session_of book streams.items) }
+        ensures { result ≡ session_of book streams.items }
+    {
+        Session {
+            alloc,
+            book,
+            streams,
+        }
+    }
+
+    /// Its book and its streams, in order of number. It takes no memory.
+    pub fn into_parts(self) -> (SessionBook<A>, Vec<Stream<A>, A>)
+        ensures value { session_of result.0 result.1.items ≡ self }
+        ensures own { HasItsStreams self }
+    {
+        let Session {
+            alloc: _,
+            book,
+            streams,
+        } = self;
+        (book, streams)
     }
 
     /// Adds a channel, whose streams have rings of `count` sub-buffers of `size` bytes each.

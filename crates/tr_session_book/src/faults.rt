@@ -60,6 +60,10 @@ pub enum SessionFault {
     /// There is no channel of this name.
     #[error("S17 NoChannel")]
     NoChannel,
+    /// Another stream is in the place of one of the session's. No call of a book or of a `Session` answers it: it is for those
+    /// who keep streams by number.
+    #[error("S20 Misplaced")]
+    Misplaced,
 }
 
 impl SessionFault {
@@ -85,6 +89,7 @@ impl SessionFault {
             SessionFault::NameTaken => "S15",
             SessionFault::NoMemory => "S16",
             SessionFault::NoChannel => "S17",
+            SessionFault::Misplaced => "S20",
         }
     }
 
@@ -110,6 +115,7 @@ impl SessionFault {
             SessionFault::NameTaken => "NameTaken",
             SessionFault::NoMemory => "NoMemory",
             SessionFault::NoChannel => "NoChannel",
+            SessionFault::Misplaced => "Misplaced",
         }
     }
 }

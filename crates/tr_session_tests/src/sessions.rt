@@ -334,6 +334,7 @@ fn faults_are_printed_by_code_and_name(rt: HostRuntime) {
         (SessionFault::NameTaken, "S15 NameTaken"),
         (SessionFault::NoMemory, "S16 NoMemory"),
         (SessionFault::NoChannel, "S17 NoChannel"),
+        (SessionFault::Misplaced, "S20 Misplaced"),
     ] {
         let printed = format!(in rt.alloc(); "{fault}").expect(&rt, "memory");
         assert_same(&rt, printed.as_str(), want);

@@ -1,7 +1,7 @@
 -- What the contracts of a stream's calls cite.
 pub use Rattle.tr_book.specs.Parts.{part_at}
-pub use Rattle.tr_ring.specs.Ring.{push_answer}
-pub use Rattle.tr_stream.specs.Chunks.{part_in}
+pub use Rattle.tr_ring.specs.Ring.{push_answer, ring_records}
+pub use Rattle.tr_stream.specs.Chunks.{history_ring, part_in}
 pub use Rattle.tr_stream.specs.Consistent.{IsConsistent}
 pub use Rattle.tr_stream.specs.Fates.{history_fate, state_fate, held_fate}
 pub use Rattle.tr_stream.specs.History.{History}

@@ -1,5 +1,6 @@
 -- The ring and the trace chunks of a history: its blocks, by what became of them, and their packets.
 use Rattle.std.specs.Prelude.{ℕ, ◌+◌, zero, suc, Bool, List, [], ◌∷◌, ◌++◌, length, map, nat_le, Option, Some, None, if◌then◌else◌}
+use Rattle.std.specs.List.{flat_map}
 use Rattle.tr_book.specs.Parts.{PartState, part_state}
 use Rattle.tr_packet.specs.Packets.{Contents}
 use Rattle.tr_record.specs.Records.{Entry}
@@ -35,6 +36,10 @@ ring_of end h = waiting_of h ++ closed_if_any h.filling.number end (discarded_of
 -- the same for a ring
 abbrev pub ring_buffers : ℕ → RingState → List ClosedBuffer
 ring_buffers end r = r.waiting ++ closed_if_any r.seq end r.discarded r.current
+
+-- the records that the ring holds, the oldest first
+abbrev pub history_ring : History → List Entry
+history_ring h = flat_map (λ (b : ClosedBuffer). b.records) (waiting_of h) ++ h.filling.records
 
 -- what was consumed into a chunk
 abbrev pub chunk_of : ℕ → History → List ClosedBuffer

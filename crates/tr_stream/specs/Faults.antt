@@ -12,22 +12,26 @@ offer_fault_code offer.Inactive = codes "O1"
 offer_fault_code offer.TooBig = codes "O2"
 offer_fault_code offer.Spent = codes "O3"
 offer_fault_code offer.NoMemory = codes "O4"
+offer_fault_code offer.Misplaced = codes "O5"
 
 abbrev pub offer_fault_name : OfferFault → List ℕ
 offer_fault_name offer.Inactive = codes "Inactive"
 offer_fault_name offer.TooBig = codes "TooBig"
 offer_fault_name offer.Spent = codes "Spent"
 offer_fault_name offer.NoMemory = codes "NoMemory"
+offer_fault_name offer.Misplaced = codes "Misplaced"
 
 abbrev pub take_fault_code : TakeFault → List ℕ
 take_fault_code take.Nothing = codes "T1"
 take_fault_code take.SnapshotMode = codes "T2"
 take_fault_code take.NoMemory = codes "T3"
+take_fault_code take.Misplaced = codes "T4"
 
 abbrev pub take_fault_name : TakeFault → List ℕ
 take_fault_name take.Nothing = codes "Nothing"
 take_fault_name take.SnapshotMode = codes "SnapshotMode"
 take_fault_name take.NoMemory = codes "NoMemory"
+take_fault_name take.Misplaced = codes "Misplaced"
 
 abbrev pub cut_fault_code : CutFault → List ℕ
 cut_fault_code cut.SnapshotMode = codes "C1"

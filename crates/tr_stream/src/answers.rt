@@ -49,6 +49,9 @@ pub enum OfferFault {
     /// An allocation failed.
     #[error("O4 NoMemory")]
     NoMemory,
+    /// Another stream is in this one's place. No call of this crate answers it: it is for those who keep streams by number.
+    #[error("O5 Misplaced")]
+    Misplaced,
 }
 
 impl OfferFault {
@@ -61,6 +64,7 @@ impl OfferFault {
             OfferFault::TooBig => "O2",
             OfferFault::Spent => "O3",
             OfferFault::NoMemory => "O4",
+            OfferFault::Misplaced => "O5",
         }
     }
 
@@ -73,6 +77,7 @@ impl OfferFault {
             OfferFault::TooBig => "TooBig",
             OfferFault::Spent => "Spent",
             OfferFault::NoMemory => "NoMemory",
+            OfferFault::Misplaced => "Misplaced",
         }
     }
 }
@@ -111,6 +116,9 @@ pub enum TakeFault {
     /// An allocation failed.
     #[error("T3 NoMemory")]
     NoMemory,
+    /// Another stream is in this one's place. No call of this crate answers it: it is for those who keep streams by number.
+    #[error("T4 Misplaced")]
+    Misplaced,
 }
 
 impl TakeFault {
@@ -122,6 +130,7 @@ impl TakeFault {
             TakeFault::Nothing => "T1",
             TakeFault::SnapshotMode => "T2",
             TakeFault::NoMemory => "T3",
+            TakeFault::Misplaced => "T4",
         }
     }
 
@@ -133,6 +142,7 @@ impl TakeFault {
             TakeFault::Nothing => "Nothing",
             TakeFault::SnapshotMode => "SnapshotMode",
             TakeFault::NoMemory => "NoMemory",
+            TakeFault::Misplaced => "Misplaced",
         }
     }
 }

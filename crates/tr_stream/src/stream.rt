@@ -1,7 +1,7 @@
 //! One stream: a ring of sub-buffers, and the parts that it is consumed into.
 
-ghost use Rattle.std.specs.Prelude.{◌≡◌, ◌≢◌, ◌+◌, ◌-◌, ◌≤◌, ◌<◌, [], Some, Ok, Err, IsOk, IfOk, OnOk, OnErr, length, option_copied};
-ghost use Rattle.tr_stream.specs.Calls.{part_in, IsConsistent, history_fate, state_fate, held_fate, History, IsKept, IsSound, StandsFor, in_ring, new_state, overwrites, refusal_of, state_entry, state_with_offer, offered_as, state_offer_answer, state_after_offer, TakesMemory, state_take_answer, state_after_take, cut_done, state_cut_answer, state_cut_ring, state_after_cut, state_after_switch, state_snap, state_counts, new_history, history_offer_answer, history_after_offer, history_take_answer, history_after_take, history_cut_answer, history_after_cut, history_after_switch, history_snap, history_counts, part_at, push_answer};
+ghost use Rattle.std.specs.Prelude.{◌≡◌, ◌≢◌, ◌+◌, ◌-◌, ◌≤◌, ◌<◌, [], Some, Ok, Err, IsOk, IfOk, OnOk, OnErr, length, option_copied, slice_get};
+ghost use Rattle.tr_stream.specs.Calls.{part_in, IsConsistent, history_fate, state_fate, held_fate, History, IsKept, IsSound, StandsFor, in_ring, new_state, overwrites, refusal_of, state_entry, state_with_offer, offered_as, state_offer_answer, state_after_offer, TakesMemory, state_take_answer, state_after_take, cut_done, state_cut_answer, state_cut_ring, state_after_cut, state_after_switch, state_snap, state_counts, new_history, history_offer_answer, history_after_offer, history_take_answer, history_after_take, history_cut_answer, history_after_cut, history_after_switch, history_snap, history_counts, part_at, push_answer, ring_records, history_ring};
 
 use crate::answers::{CutDone, CutFault, OfferFault, Offered, TakeFault, Taken};
 use crate::config::StreamConfig;
@@ -10,7 +10,7 @@ use crate::packing::{packet_from, ring_packets};
 use std::alloc::{AllocError, Allocator, Global};
 use std::marker::Model;
 use tr_book::{Counters, Counts, Geometry, Mode, Part, Parts, StreamSnap};
-use tr_record::Moment;
+use tr_record::{Moment, RecView};
 use tr_ring::{Pushed, Ring};
 use tr_terms::SessionMode;
 use tr_terms::limits::{MOST_OFFERS, SMALLEST_PACKET};
@@ -347,6 +347,15 @@ impl<A: Allocator> Stream<A> {
             Some(seq) => Some(Fate::InRing { seq }),
             None => None,
         }
+    }
+
+    /// The record number `k` of those that the ring holds, the oldest first, from 0 on. None if it holds no more than `k`. It
+    /// takes no memory.
+    pub fn ring_at(&self, k: u64) -> Option<RecView<'_>>
+        ensures value { result ≡ slice_get (ring_records self.now.ring) k }
+        ensures step { (h : History) → StandsFor self.now h → result ≡ slice_get (history_ring h) k }
+    {
+        self.ring.record(k)
     }
 
     /// What the stream was made with.

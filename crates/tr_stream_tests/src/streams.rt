@@ -2,6 +2,7 @@
 
 mod calls;
 mod looks;
+mod rings;
 mod runs;
 
 use std::alloc::{AllocError, Global};

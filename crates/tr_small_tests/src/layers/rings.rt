@@ -95,3 +95,80 @@ fn a_closed_current_one_waits(rt: HostRuntime) {
         b"hello".as_slice(),
     );
 }
+
+/// Asserts the serial of each of the ring's records and the length of its payload, the oldest first, and that there are no
+/// more.
+fn assert_records(rt: &impl Abort, ring: &Ring, rows: &[(u64, usize)]) {
+    for (k, (serial, len)) in rows.iter().enumerate() {
+        let record = ring.record(k as u64).expect(rt, "a record");
+        let found = (
+            record.serial(),
+            record.moment().get(),
+            record.payload().len(),
+        );
+        assert_same(rt, (k, found), (k, (*serial, 1000 + serial % 1000, *len)));
+    }
+    assert!(rt; ring.record(rows.len() as u64).is_none());
+    assert!(rt; ring.record(u64::MAX).is_none());
+}
+
+// two records of 74 bytes, or one of 176, leave no room for another of 74 beside the packet's 80
+#[test]
+fn records_are_shown_by_place(rt: HostRuntime) {
+    let mut ring = Ring::new(rt.alloc(), 256, 4, false).expect(&rt, "memory");
+    assert_records(&rt, &ring, &[]);
+    for k in 10..12 {
+        assert_same(
+            &rt,
+            push(&rt, &mut ring, k, &[0x61; 50]),
+            Pushed::Stored { seq: 0 },
+        );
+    }
+    // no sub-buffer is closed yet
+    assert_records(&rt, &ring, &[(10, 50), (11, 50)]);
+    assert_same(
+        &rt,
+        push(&rt, &mut ring, 12, &[0x61; 152]),
+        Pushed::Stored { seq: 1 },
+    );
+    assert_same(
+        &rt,
+        push(&rt, &mut ring, 13, &[0x61; 50]),
+        Pushed::Stored { seq: 2 },
+    );
+    assert_same(
+        &rt,
+        push(&rt, &mut ring, 14, b"hello"),
+        Pushed::Stored { seq: 2 },
+    );
+    assert!(rt; ring.waiting() == 2 && ring.count() == 4 && ring.seq() == 2);
+    assert!(rt; ring.current().count() == 2);
+    let all = [(10, 50), (11, 50), (12, 152), (13, 50), (14, 5)];
+    assert_records(&rt, &ring, &all);
+    ring.close_current(Moment::new(5000).expect(&rt, "a moment"));
+    // the current one is empty
+    assert_records(&rt, &ring, &all);
+    assert!(rt; ring.waiting() == 3 && ring.seq() == 3);
+    ring.remove_oldest();
+    assert_records(&rt, &ring, &[(12, 152), (13, 50), (14, 5)]);
+    assert!(rt; ring.seq() == 3);
+    ring.clear();
+    assert_records(&rt, &ring, &[]);
+}
+
+#[test]
+fn lost_records_are_not_shown(rt: HostRuntime) {
+    let mut ring = Ring::new(rt.alloc(), 256, 2, false).expect(&rt, "memory");
+    for k in 0..5 {
+        let _ = push(&rt, &mut ring, k, &[0x61; 50]);
+    }
+    // the fifth was discarded, and a shorter one is stored after it
+    assert_same(&rt, push(&rt, &mut ring, 5, &[]), Pushed::Stored { seq: 1 });
+    assert_records(&rt, &ring, &[(0, 50), (1, 50), (2, 50), (3, 50), (5, 0)]);
+    let mut ring = Ring::new(rt.alloc(), 256, 2, true).expect(&rt, "memory");
+    for k in 0..5 {
+        let _ = push(&rt, &mut ring, k, &[0x61; 64]);
+    }
+    // the fifth overwrote the first two
+    assert_records(&rt, &ring, &[(2, 64), (3, 64), (4, 64)]);
+}

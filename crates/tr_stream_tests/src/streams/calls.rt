@@ -260,6 +260,8 @@ fn numbers_of_overwritten_packets_are_absent(rt: HostRuntime) {
 fn faults_have_their_codes_and_names(rt: HostRuntime) {
     assert_same(&rt, OfferFault::Spent.code(), "O3");
     assert_same(&rt, OfferFault::TooBig.name(), "TooBig");
+    assert_same(&rt, OfferFault::Misplaced.code(), "O5");
+    assert_same(&rt, TakeFault::Misplaced.code(), "T4");
     assert_same(&rt, TakeFault::NoMemory.code(), "T3");
     assert_same(&rt, TakeFault::Nothing.name(), "Nothing");
     assert_same(&rt, TakeFault::SnapshotMode.code(), "T2");
@@ -283,6 +285,7 @@ fn faults_are_printed_with_code_and_name(rt: HostRuntime) {
         (OfferFault::TooBig, "O2 TooBig"),
         (OfferFault::Spent, "O3 Spent"),
         (OfferFault::NoMemory, "O4 NoMemory"),
+        (OfferFault::Misplaced, "O5 Misplaced"),
     ] {
         assert_printed(&rt, rt.alloc(), &fault, text);
     }
@@ -290,6 +293,7 @@ fn faults_are_printed_with_code_and_name(rt: HostRuntime) {
         (TakeFault::Nothing, "T1 Nothing"),
         (TakeFault::SnapshotMode, "T2 SnapshotMode"),
         (TakeFault::NoMemory, "T3 NoMemory"),
+        (TakeFault::Misplaced, "T4 Misplaced"),
     ] {
         assert_printed(&rt, rt.alloc(), &fault, text);
     }

@@ -1,0 +1,120 @@
+-- What all seats have is what the streams count.
+use Rattle.std.proofs.Common.{◌≡◌, ℕ, ◌+◌, ◌<◌, length, map, get_or, List, [], ◌∷◌, ap, ◌∙◌, subst, sym, refl, arith}
+use Rattle.std.specs.Prelude.{sum}
+use Rattle.std.specs.List.{sum_by}
+use Rattle.std.proofs.lemmas.List.{length-map, get_or-map}
+use Rattle.tr_ledger.specs.Ledgers.{SeatState}
+use Rattle.tr_seats.proofs.Joins.{tables-length}
+use Rattle.tr_seats.proofs.Permuted.{one-each, sum_by-beside, sum_by-index, sum_by-same}
+use Rattle.tr_seats.specs.Books.{Books, consumed_books, cut_books}
+use Rattle.tr_seats.specs.Desks.{DeskState}
+use Rattle.tr_seats.specs.Settling.{AreAllMade, IsOneEach, streams_of, totals_of_seats}
+use Rattle.tr_seats.specs.Slots.{AreJoined, AreSeatsOf, IsOwn, ProducerState, SlotState, amounts_of}
+use Rattle.tr_seats.specs.Sums.{totals_in, totals_of}
+use Rattle.tr_seats.specs.declared.totals.Totals.{Totals}
+use Rattle.tr_stream.specs.State.{StreamState}
+
+sum-map : {X : Type 0} → (f : X → ℕ) (xs : List X) → sum_by f xs ≡ sum (map f xs)
+sum-map f xs = sum_by-beside f (λ (n : ℕ). n) xs (map f xs) (sym (length-map xs f)) (λ k d e lt. sym (get_or-map f xs k d e lt))
+
+-- a sum over the streams is one over their slots
+of-slots : (f : StreamState → ℕ) (slots : List SlotState) → sum_by f (streams_of slots) ≡ sum_by (λ (s : SlotState). f s.stream) slots
+of-slots f slots =
+    sym (sum_by-beside (λ (s : SlotState). f s.stream) f slots (streams_of slots) (sym (length-map slots (λ (s : SlotState). s.stream)))
+    (λ k d e lt. ap f (sym (get_or-map (λ (s : SlotState). s.stream) slots k d e lt))))
+
+-- what a slot counts
+abbrev counted : SlotState → Totals
+counted s = totals_in s.stream
+
+-- each producer is of a stream that there is
+abbrev pub AreWithin : ℕ → List ProducerState → Type 0
+AreWithin n producers = (k : ℕ) (p : ProducerState) → k < length producers → (get_or producers k p).number < n
+
+-- each producer's number is that of its stream
+abbrev AreCounted : (ProducerState → ℕ) → (Totals → ℕ) → List SlotState → List ProducerState → Type 0
+AreCounted f h slots producers =
+    (k : ℕ) (p : ProducerState) (s : SlotState) → k < length producers
+    → f (get_or producers k p) ≡ h (counted (get_or slots (get_or producers k p).number s))
+
+no-producers : (f : ProducerState → ℕ) (producers : List ProducerState) → AreWithin 0 producers → 0 ≡ sum_by f producers
+no-producers f [] there = refl
+no-producers f (p ∷ ps) there = absurd (omega (arith, there 0 p (omega arith)))
+
+-- what the producers have is what the streams count
+of-producers : (f : ProducerState → ℕ) (h : Totals → ℕ) (slots : List SlotState) (producers : List ProducerState)
+    → IsOneEach (length slots) producers → AreWithin (length slots) producers → AreCounted f h slots producers
+    → sum_by (λ (s : StreamState). h (totals_in s)) (streams_of slots) ≡ sum_by f producers
+of-producers f h [] producers once there own = no-producers f producers there
+of-producers f h (first ∷ rest) producers once there own =
+    let slots = first ∷ rest in
+    let at : ℕ → ℕ = λ i. h (counted (get_or slots i first)) in
+    of-slots (λ (s : StreamState). h (totals_in s)) slots
+    ∙ sym (sum_by-same f (λ p. at p.number) producers (λ k d lt. own k d first lt)
+    ∙ one-each (λ (p : ProducerState). p.number) at (length slots) producers there once
+    ∙ sum_by-index (λ (s : SlotState). h (counted s)) slots first)
+
+-- what a row of whole seats has is what the streams count
+of-row : (h : Totals → ℕ) (slots : List SlotState) (seats : List SeatState) → length seats ≡ length slots
+    → ((k : ℕ) (d : SeatState) (s : SlotState) → k < length slots → (get_or seats k d).amount ≡ h (counted (get_or slots k s)))
+    → sum_by (λ (s : StreamState). h (totals_in s)) (streams_of slots) ≡ sum (amounts_of seats)
+of-row h slots seats len own =
+    of-slots (λ (s : StreamState). h (totals_in s)) slots
+    ∙ sym (sum_by-beside (λ (s : SeatState). s.amount) (λ (s : SlotState). h (counted s)) seats slots len
+    (λ k d s lt. own k d s (omega (arith, lt, len))))
+    ∙ sum-map (λ (s : SeatState). s.amount) seats
+
+-- the seats of a row that stand for the streams' counts
+abbrev AreWholeOf : (Totals → ℕ) → List SlotState → List SeatState → Type 0
+AreWholeOf h slots seats = (k : ℕ) (d : SeatState) (s : SlotState) → k < length slots → (get_or seats k d).amount ≡ h (counted (get_or slots k s))
+
+module _ (books : List Books) (slots : List SlotState) (len : length slots ≡ length books) where
+  -- the whole seats of the cuts have the streams' counts
+  pub cuts-whole : (cuts : List SeatState) → AreSeatsOf (cut_books books) cuts
+      → ((k : ℕ) (d : SeatState) (s : SlotState) → k < length slots → (get_or cuts k d).mark ≡ 1
+      → (get_or cuts k d).amount ≡ (totals_in (get_or slots k s).stream).cuts)
+      → (k : ℕ) (d : SeatState) (s : SlotState) → k < length slots → (get_or cuts k d).amount ≡ (totals_in (get_or slots k s).stream).cuts
+  cuts-whole cuts row whole k d s lt =
+      let wide = tables-length (cut_books books) cuts row.0 in
+      whole k d s lt (row.1 k d (omega (arith, lt, len, wide, length-map books (λ (b : Books). b.cuts))))
+
+  pub all-add_up : (producers : List ProducerState) (drainers : List (List ℕ)) (mine joined cuts : List SeatState)
+      → IsOneEach (length slots) producers → AreWithin (length books) producers
+      → ((k : ℕ) (p : ProducerState) (s : SlotState) → k < length producers
+      → IsOwn (get_or producers k p) (totals_in (get_or slots (get_or producers k p).number s).stream))
+      → AreJoined (length drainers + 1) (consumed_books books) joined
+      → sum (amounts_of joined) ≡ sum (amounts_of mine) + sum_by sum drainers → AreAllMade (length drainers) slots
+      → ((k : ℕ) (d : SeatState) (s : SlotState) → k < length slots → (get_or joined k d).mark ≡ (get_or slots k s).made + 1
+      → (get_or joined k d).amount ≡ (totals_in (get_or slots k s).stream).consumed)
+      → AreSeatsOf (cut_books books) cuts
+      → ((k : ℕ) (d : SeatState) (s : SlotState) → k < length slots → (get_or cuts k d).mark ≡ 1
+      → (get_or cuts k d).amount ≡ (totals_in (get_or slots k s).stream).cuts)
+      → (desk : DeskState) → desk.consumed ≡ amounts_of mine → desk.cuts ≡ amounts_of cuts
+      → totals_of (streams_of slots) ≡ totals_of_seats producers drainers desk
+  all-add_up producers drainers mine joined cuts once there own row adds made whole cut_row cut_whole desk desk_consumed desk_cuts =
+      let within : AreWithin (length slots) producers = λ k p lt. subst (λ n. (get_or producers k p).number < n) (sym len) (there k p lt) in
+      let row_length = tables-length (consumed_books books) joined row.0 in
+      let joined_length : length joined ≡ length slots = row_length ∙ length-map books (λ (b : Books). b.consumed) ∙ sym len in
+      let cuts_length : length cuts ≡ length slots =
+      tables-length (cut_books books) cuts cut_row.0 ∙ length-map books (λ (b : Books). b.cuts) ∙ sym len in
+      let joined_whole : AreWholeOf (λ (t : Totals). t.consumed) slots joined =
+      λ k d s lt. whole k d s lt (row.1 k d (omega (arith, lt, joined_length)) ∙ ap (λ n. n + 1) (sym (made k s lt))) in
+      let offered = of-producers (λ (p : ProducerState). p.offered) (λ (t : Totals). t.offered) slots producers once within
+      (λ k p s lt. (own k p s lt).0) in
+      let discarded = of-producers (λ (p : ProducerState). p.discarded) (λ (t : Totals). t.discarded) slots producers once within
+      (λ k p s lt. (own k p s lt).1) in
+      let overwritten = of-producers (λ (p : ProducerState). p.overwritten) (λ (t : Totals). t.overwritten) slots producers once within
+      (λ k p s lt. (own k p s lt).2) in
+      let packets = of-producers (λ (p : ProducerState). p.overwritten_packets) (λ (t : Totals). t.overwritten_packets) slots producers once
+      within (λ k p s lt. (own k p s lt).3) in
+      let consumed = of-row (λ (t : Totals). t.consumed) slots joined joined_length joined_whole
+      ∙ adds ∙ ap (λ (l : List ℕ). sum l + sum_by sum drainers) (sym desk_consumed) in
+      let cut = of-row (λ (t : Totals). t.cuts) slots cuts cuts_length (cuts-whole cuts cut_row cut_whole) ∙ ap sum (sym desk_cuts) in
+      λ k. record {
+        offered = offered k;
+        discarded = discarded k;
+        overwritten = overwritten k;
+        overwritten_packets = packets k;
+        consumed = consumed k;
+        cuts = cut k;
+      }

@@ -1,0 +1,82 @@
+-- A row of seats is joined into another, one by one.
+use Rattle.std.proofs.Common.{◌≡◌, ◌≢◌, ℕ, ◌+◌, ◌<◌, ◌≤◌, List, [], ◌∷◌, ◌++◌, length, get_or, map, set, take, Some, true, false, eqb, leb, ⊎_elim, le_refl, sym, ap, ◌∙◌, subst, arith, get_or-set_other, get_or-set_same, if◌then◌else◌}
+use Rattle.std.specs.Prelude.{nat_lt, slice_get, sum}
+use Rattle.std.proofs.lemmas.List.{map-set, length-map, get_or-map, get_or_default, map-append, set-get_or, take_more}
+use Rattle.std.proofs.lemmas.List.Sums.{sum_by-set, sum_by_push}
+use Rattle.std.proofs.lemmas.Option.{get_or_from_slice_get, slice_get_within}
+use Rattle.std.proofs.lemmas.Bool.Decides.{eqb_tells, leb_tells, nat_tests}
+use Rattle.atomic_table.specs.Seated.{TableId}
+use Rattle.tr_ledger.specs.Ledgers.{SeatState}
+use Rattle.tr_seats.specs.Slots.{amounts_of}
+
+-- a mark that rises by one once i is past its place k
+abbrev pub raised_until : (mark i k : ℕ) → ℕ
+raised_until mark i k = mark + (if nat_lt k i then 1 else 0)
+
+pub raised-before : (mark i k : ℕ) → k < i → raised_until mark i k ≡ mark + 1
+raised-before mark i k lt = grind (arith, nat_tests)
+
+pub raised-from : (mark i k : ℕ) → i ≤ k → raised_until mark i k ≡ mark
+raised-from mark i k le = grind (arith, nat_tests)
+
+raised-apart : (mark i k : ℕ) → k ≢ i → raised_until mark i k ≡ raised_until mark (i + 1) k
+raised-apart mark i k ne =
+    ⊎_elim
+    (λ (t : (leb i k ≡ true) × (i ≤ k)). raised-from mark i k t.1 ∙ sym (raised-from mark (i + 1) k (omega (arith, t.1, ne))))
+    (λ (t : (leb i k ≡ false) × (k < i)). raised-before mark i k t.1 ∙ sym (raised-before mark (i + 1) k (omega (arith, t.1))))
+    (leb_tells i k)
+
+-- what is read may be put back
+pub put-back : {X : Type 0} → (xs : List X) (i : ℕ) (x d : X) → x ≡ get_or xs i d → set xs i x ≡ xs
+put-back xs i x d is = ap (set xs i) is ∙ set-get_or xs i d
+
+-- what is read of a list is read of an equal one
+pub read-same : {X : Type 0} → (xs ys : List X) (i : ℕ) (d e : X) → xs ≡ ys → i < length ys → get_or xs i d ≡ get_or ys i e
+read-same {X = X} xs ys i d e same lt = ap (λ (l : List X). get_or l i d) same ∙ get_or_default ys i d e lt
+
+-- a row of seats of these tables is as long as they are many
+pub tables-length : (tables : List TableId) (seats : List SeatState) → map (λ (s : SeatState). s.table) seats ≡ tables → length seats ≡ length tables
+tables-length tables seats row = sym (length-map seats (λ (s : SeatState). s.table)) ∙ ap length row
+
+abbrev mark_in : SeatState → ℕ
+mark_in s = s.mark
+
+abbrev amount_in : SeatState → ℕ
+amount_in s = s.amount
+
+module _ (old now : List SeatState) (n i : ℕ) (new : SeatState) (long : i < length now) where
+  -- the marks before the place of the next seat have risen
+  pub marks-joined : i < n → ((k : ℕ) (d : SeatState) → k < n → (get_or now k d).mark ≡ raised_until (get_or old k d).mark i k)
+      → new.mark ≡ (get_or now i new).mark + 1
+      → (k : ℕ) (d : SeatState) → k < n → (get_or (set now i new) k d).mark ≡ raised_until (get_or old k d).mark (i + 1) k
+  marks-joined below marks more k d lt =
+      ⊎_elim
+      (λ (t : (eqb k i ≡ true) × (k ≡ i)).
+      subst (λ j. (get_or (set now i new) j d).mark ≡ raised_until (get_or old j d).mark (i + 1) j) (sym t.1) here)
+      (λ (t : (eqb k i ≡ false) × (k ≢ i)).
+      ap mark_in (get_or-set_other now i k new d t.1) ∙ marks k d lt ∙ raised-apart (get_or old k d).mark i k t.1)
+      (eqb_tells k i)
+    where
+      was : (get_or now i new).mark ≡ (get_or old i d).mark
+      was = ap mark_in (get_or_default now i new d long) ∙ marks i d below ∙ raised-from (get_or old i d).mark i i (le_refl i)
+
+      here : (get_or (set now i new) i d).mark ≡ raised_until (get_or old i d).mark (i + 1) i
+      here = ap mark_in (get_or-set_same now i new d long) ∙ more ∙ ap (λ m. m + 1) was
+          ∙ sym (raised-before (get_or old i d).mark (i + 1) i (omega arith))
+
+  -- the sum of the amounts rises by the next seat's
+  pub amounts-joined : (theirs : List SeatState) (x : SeatState) (base : ℕ) → new.amount ≡ (get_or now i new).amount + x.amount
+      → slice_get theirs i ≡ Some x → sum (amounts_of now) ≡ base + sum (amounts_of (take i theirs))
+      → sum (amounts_of (set now i new)) ≡ base + sum (amounts_of (take (i + 1) theirs))
+  amounts-joined theirs x base more at sums =
+      let there : get_or theirs i new ≡ x = get_or_from_slice_get theirs i x new at in
+      let wide : i < length (amounts_of now) = omega (arith, length-map now amount_in, long) in
+      let here : get_or (amounts_of now) i 0 ≡ (get_or now i new).amount = get_or-map amount_in now i new 0 long in
+      let grown : amounts_of (take (i + 1) theirs) ≡ amounts_of (take i theirs) ++ x.amount ∷ [] =
+      ap amounts_of (take_more theirs i new (slice_get_within theirs i x at)) ∙ map-append amount_in (take i theirs) (get_or theirs i new ∷ [])
+      ∙ (λ k. amounts_of (take i theirs) ++ (there k).amount ∷ []) in
+      let put = sum_by-set (λ (a : ℕ). a) (amounts_of now) i new.amount 0 wide in
+      let pushed = sum_by_push (λ (a : ℕ). a) (amounts_of (take i theirs)) x.amount in
+      let final : sum (set (amounts_of now) i new.amount) ≡ base + sum (amounts_of (take i theirs) ++ x.amount ∷ []) =
+      omega (arith, put, pushed, here, more, sums) in
+      ap sum (map-set amount_in now i new) ∙ final ∙ ap (λ l. base + sum l) (sym grown)

@@ -1,0 +1,11 @@
+pub mod AllTotals
+pub mod CountLaws
+pub mod DrainerLaws
+pub mod Joins
+pub mod NameLaws
+pub mod Permuted
+pub mod PlanLaws
+pub mod Rows
+pub mod SettledLaws
+pub mod SlotLaws
+pub mod SumLaws

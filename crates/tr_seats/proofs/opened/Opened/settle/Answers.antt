@@ -1,0 +1,35 @@
+use Rattle.std.proofs.Common.{◌≡◌, ℕ, ◌+◌, List, ap, length, subst, ◌∙◌}
+use Rattle.std.specs.List.{sum_by}
+use Rattle.tr_seats.proofs.opened.Opened.settle.Goals as goal
+use Rattle.tr_seats.specs.Settling.{IsWhy, OpenedState, opened_state, streams_of, totals_of_seats}
+use Rattle.tr_seats.specs.Slots.{ProducerState}
+use Rattle.tr_seats.specs.Sums.{totals_of}
+use Rattle.tr_session.specs.Session.{session_of}
+use Rattle.tr_stream.specs.State.{StreamState, in_ring}
+
+pub returns-in-Some-clause-why : goal.returns-in-Some-clause-why
+returns-in-Some-clause-why g c =
+    let many : c.len.result ≡ length c.args.drainers.items = c.len.ensures ∙ c.args.drainers.ok.0 in
+    let opened : opened_state c.self.inside.desk c.deref.result.now ≡ c.args.self =
+    (λ j. opened_state c.self.inside.desk (c.deref.ensures.value j)) ∙ c.self.view_is in
+    subst (λ (x : List ProducerState × ℕ × OpenedState). IsWhy c.in-Some.error x.0 x.1 x.2)
+    (λ j. (c.deref-2.ensures.value j, many j, opened j)) c.in-Some.ensures
+
+pub returns-in-None-clause-session : goal.returns-in-None-clause-session
+returns-in-None-clause-session g c =
+    c.settle_all.ensures.session ∙ ap (λ (o : OpenedState). session_of o.desk.book (streams_of o.slots)) c.self.view_is
+
+pub returns-in-None-clause-totals : goal.returns-in-None-clause-totals
+returns-in-None-clause-totals g c = c.settle_all.ensures.totals ∙ ap (λ (o : OpenedState). totals_of (streams_of o.slots)) c.self.view_is
+
+pub returns-in-None-clause-seats : goal.returns-in-None-clause-seats
+returns-in-None-clause-seats g c =
+    c.settle_all.ensures.seats
+    ∙ ap (λ (o : OpenedState). totals_of_seats c.args.producers.items c.args.drainers.items o.desk) c.self.view_is
+
+pub returns-in-None-clause-places : goal.returns-in-None-clause-places
+returns-in-None-clause-places g c =
+    let totals = c.settle_all.result.1 in
+    subst (λ (o : OpenedState). totals.offered
+    ≡ totals.discarded + totals.overwritten + sum_by (λ (s : StreamState). in_ring s.ring) (streams_of o.slots) + totals.consumed)
+    c.self.view_is c.settle_all.ensures.places

@@ -1,0 +1,17 @@
+use Rattle.std.proofs.Common.{◌≡◌, ◌+◌, ◌≤◌, length, take, drop}
+use Rattle.std.specs.Prelude.{sum}
+use Rattle.std.specs.List.{sum_by}
+use Rattle.tr_seats.proofs.settling.join_drainers.Given as goal
+use Rattle.tr_seats.specs.Books.{consumed_books}
+use Rattle.tr_seats.specs.Slots.{AreJoined, amounts_of}
+
+abbrev pub invariant-loop-drainer : goal.invariant-loop-drainer
+invariant-loop-drainer g l =
+    (goal.iterator-loop-drainer g).can_next l.drainer-iterator × (goal.iterator-loop-drainer g).is_finite l.drainer-iterator × record {
+      slots_same : l.slots ≡ l.initial.slots;
+      left : drop (length l.yielded) l.fn.drainers.items ≡ l.drainer-iterator.rest.items;
+      within : length l.yielded ≤ length l.fn.drainers.items;
+      seats : AreJoined (length l.yielded + 1) (consumed_books g.N.Names.plan.books) l.seats;
+      amounts : sum (amounts_of l.seats)
+          ≡ sum (amounts_of l.initial.seats) + sum_by sum (take (length l.yielded) l.fn.drainers.items);
+    }

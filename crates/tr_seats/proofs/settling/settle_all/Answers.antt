@@ -1,0 +1,88 @@
+use Rattle.std.proofs.Common.{◌≡◌, ℕ, ◌+◌, ◌<◌, ◌++◌, List, ap, arith, drop, get_or, length, subst, sym, take, ◌∙◌}
+use Rattle.std.specs.List.{sum_by}
+use Rattle.std.proofs.lemmas.List.{take_at}
+use Rattle.tr_ledger.specs.Ledgers.{SeatState}
+use Rattle.tr_seats.proofs.SettledLaws.{settled-streams}
+use Rattle.tr_seats.proofs.settling.settle_all.Goals as goal
+use Rattle.tr_seats.specs.Books.{IsPlanned, PlanState, consumed_books, cut_books}
+use Rattle.tr_seats.specs.Desks.{DeskState}
+use Rattle.tr_seats.specs.Settling.{IsOneEach, streams_of, totals_of_seats}
+use Rattle.tr_seats.specs.Slots.{AreSeatsOf, ProducerState, SlotState, amounts_of}
+use Rattle.tr_seats.specs.Sums.{totals_in, totals_of}
+use Rattle.tr_session.specs.Session.{HasItsStreams, session_of}
+use Rattle.tr_stream.specs.State.{StreamState, in_ring}
+
+-- what is written back over a list
+written-back : {X : Type 0} → (xs ys : List X) (n : ℕ) → ys ≡ xs → n ≡ length xs → take n (ys ++ drop (length ys) xs) ≡ xs
+written-back {X = X} xs ys n same long =
+    ap (λ (l : List X). take n (l ++ drop (length l) xs)) same ∙ take_at xs (drop (length xs) xs) n (sym long)
+
+abbrev ArePlanned : PlanState → List SlotState → Type 0
+ArePlanned plan slots = (k : ℕ) (s : SlotState) → k < length slots → IsPlanned plan k (get_or slots k s).stream.config
+
+abbrev AreCutAs : List SeatState × List SlotState → Type 0
+AreCutAs x =
+    (k : ℕ) (d : SeatState) (s : SlotState) → k < length x.1 → (get_or x.0 k d).amount ≡ (totals_in (get_or x.1 k s).stream).cuts
+
+pub join_all-requires-clause-producers : goal.join_all-requires-clause-producers
+join_all-requires-clause-producers g c =
+    let slots : c.as_mut_slice.result.now ≡ c.args.slots.items = c.as_mut_slice.ensures.value in
+    let producers : c.as_mut_slice-2.result.now ≡ c.args.producers.items = c.as_mut_slice-2.ensures.value in
+    subst (λ (x : ℕ × List ProducerState). IsOneEach x.0 x.1) (λ j. (length (sym slots j), sym producers j)) c.requires.may.one_each
+
+pub join_all-requires-clause-mine : goal.join_all-requires-clause-mine
+join_all-requires-clause-mine g c =
+    subst (AreSeatsOf (consumed_books g.N.Names.plan.books)) (sym c.as_mut_slice-3.ensures.value) c.desk.invariant.consumed_are
+
+pub join_all-requires-clause-cuts : goal.join_all-requires-clause-cuts
+join_all-requires-clause-cuts g c =
+    subst (AreSeatsOf (cut_books g.N.Names.plan.books)) (sym c.as_mut_slice-4.ensures.value) c.desk.invariant.cuts_are
+
+pub streams_out-streams-requires : goal.streams_out-streams-requires
+streams_out-streams-requires g c =
+    let same = c.join_all.ensures.slots ∙ c.as_mut_slice.ensures.value in
+    let back = written-back c.args.slots.items c.join_all.new.slots c.args.slots.len same c.args.slots.ok.0 in
+    (c.requires.room.0, omega (arith, ap length back, c.requires.slots, c.requires.room.1))
+
+pub from_parts-requires : goal.from_parts-requires
+from_parts-requires g c =
+    let plan = g.N.Names.plan in
+    let all = c.args.slots.items in
+    let slots : c.as_mut_slice.result.now ≡ all = c.as_mut_slice.ensures.value in
+    let cuts : c.as_mut_slice-4.result.now ≡ c.desk.inside.cuts.items = c.as_mut_slice-4.ensures.value in
+    let back = written-back all c.join_all.new.slots c.args.slots.len (c.join_all.ensures.slots ∙ slots) c.args.slots.ok.0 in
+    let items : c.streams_out-streams.result.items ≡ streams_of all = c.streams_out-streams.ensures ∙ ap streams_of back in
+    let planned : ArePlanned plan all = subst (ArePlanned plan) slots c.join_all.ensures.planned in
+    let cut : AreCutAs (c.desk.inside.cuts.items, all) = subst AreCutAs (λ j. (cuts j, slots j)) c.join_all.ensures.cut in
+    subst (λ (l : List StreamState). HasItsStreams (session_of c.desk.inside.book l)) (sym items)
+    (settled-streams plan c.desk.inside.book c.desk.inside.consumed.items c.desk.inside.cuts.items all c.desk.invariant c.requires.slots planned
+    cut)
+
+pub returns-clause-session : goal.returns-clause-session
+returns-clause-session g c =
+    let same = c.join_all.ensures.slots ∙ c.as_mut_slice.ensures.value in
+    let back = written-back c.args.slots.items c.join_all.new.slots c.args.slots.len same c.args.slots.ok.0 in
+    let items : c.streams_out-streams.result.items ≡ streams_of c.args.slots.items = c.streams_out-streams.ensures ∙ ap streams_of back in
+    c.of.ensures ∙ c.from_parts.ensures ∙ (λ j. session_of (c.desk.view_is j).book (items j))
+
+pub returns-clause-totals : goal.returns-clause-totals
+returns-clause-totals g c = c.sums-totals.ensures.value ∙ ap (λ (l : List SlotState). totals_of (streams_of l)) c.deref.ensures.value
+
+pub returns-clause-seats : goal.returns-clause-seats
+returns-clause-seats g c =
+    let desk = c.args.desk in
+    let slots = c.deref.ensures.value ∙ sym c.as_mut_slice.ensures.value in
+    let consumed : desk.consumed ≡ amounts_of c.as_mut_slice-3.result.now =
+    sym (ap (λ (d : DeskState). d.consumed) c.desk.view_is) ∙ ap amounts_of (sym c.as_mut_slice-3.ensures.value) in
+    let cuts : desk.cuts ≡ amounts_of c.as_mut_slice-4.result.now =
+    sym (ap (λ (d : DeskState). d.cuts) c.desk.view_is) ∙ ap amounts_of (sym c.as_mut_slice-4.ensures.value) in
+    c.sums-totals.ensures.value ∙ ap (λ (l : List SlotState). totals_of (streams_of l)) slots
+    ∙ c.join_all.ensures.add_up desk consumed cuts
+    ∙ ap (λ (l : List ProducerState). totals_of_seats l c.args.drainers.items desk) c.as_mut_slice-2.ensures.value
+
+pub returns-clause-places : goal.returns-clause-places
+returns-clause-places g c =
+    let totals = c.sums-totals.result in
+    subst (λ (l : List SlotState). totals.offered
+    ≡ totals.discarded + totals.overwritten + sum_by (λ (s : StreamState). in_ring s.ring) (streams_of l) + totals.consumed)
+    c.deref.ensures.value c.sums-totals.ensures.places

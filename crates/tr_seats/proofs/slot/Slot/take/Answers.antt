@@ -1,0 +1,95 @@
+use Rattle.std.proofs.Common.{rules, ◌≡◌, ◌∙◌, ◌+◌, ◌<◌, Ok, length, ap, arith, subst, sym}
+use Rattle.std.proofs.lemmas.List.{length-map}
+use Rattle.std.specs.Prelude.{slice_index, slice_set}
+use Rattle.tr_ledger.specs.Ledgers.{LedgerState}
+use Rattle.tr_seats.proofs.CountLaws.{few-counted, refused-take, take-totals}
+use Rattle.tr_seats.proofs.Rows.{amounts-raised, consumed-at, length-seats, row-raised, table-there}
+use Rattle.tr_seats.proofs.SlotLaws.{books-taken}
+use Rattle.tr_seats.proofs.slot.Slot.take.Goals as goal
+use Rattle.tr_seats.specs.Books.{AreBooksOf, Books, IsPlanned, books_at, consumed_books, no_books, no_table}
+use Rattle.tr_seats.specs.Sums.{totals_in}
+use Rattle.tr_seats.specs.declared.totals.Totals.{Totals}
+use Rattle.tr_stream.specs.State.{StreamState}
+use Rattle.tr_stream.specs.StateSteps.{state_after_take, state_take_answer}
+
+pub invariant_of-self : goal.invariant_of-self
+invariant_of-self g c =
+    let old = c.self.inside in
+    let same : c.take.new.self ≡ old.stream =
+    refused-take old.stream c.take.new.self c.in_err-taken.field-0.0 c.in_err-taken.ensures.value c.in_err-taken.ensures.no_memory in
+    subst (λ (t : StreamState). (old.number < length g.N.Names.plan.books)
+    × AreBooksOf (books_at g.N.Names.plan.books old.number) t old.consumed.made old.offered old.discarded old.overwritten
+    old.overwritten_packets old.consumed old.cuts × IsPlanned g.N.Names.plan old.number t.config) (sym same) c.self.invariant
+
+pub index_mut-requires : goal.index_mut-requires
+index_mut-requires g c =
+    let lt = c.self.invariant.0 in
+    let same : c.args.i ≡ c.self.inside.number = search rules in
+    let wide = length-map g.N.Names.plan.books (λ (b : Books). b.consumed) in
+    let seats = length-seats (consumed_books g.N.Names.plan.books) c.drainer.inside.seats.items c.drainer.invariant in
+    omega (arith, lt, same, wide, seats)
+
+pub raise-requires-clause-seat : goal.raise-requires-clause-seat
+raise-requires-clause-seat g c =
+    let books = g.N.Names.plan.books in
+    let i = c.args.i in
+    let same : i ≡ c.self.inside.number = search rules in
+    let lt : i < length books = subst (λ n. n < length books) (sym same) c.self.invariant.0 in
+    let wide : i < length (consumed_books books) = omega (arith, lt, length-map books (λ (b : Books). b.consumed)) in
+    table-there (consumed_books books) c.drainer.inside.seats.items i c.index_mut.result.now c.drainer.invariant wide
+    c.index_mut.ensures.value no_table
+    ∙ consumed-at books i no_books lt ∙ ap (λ n. (books_at books n).consumed) same
+    ∙ sym (ap (λ (l : LedgerState). l.table) c.self.invariant.1.consumed_is)
+
+pub raise-requires-clause-room : goal.raise-requires-clause-room
+raise-requires-clause-room g c =
+    let old = c.self.inside in
+    let after : c.take.new.self ≡ state_after_take old.stream = search rules in
+    let answer : Ok c.in_ok-taken.taken ≡ state_take_answer old.stream = search rules in
+    let is = take-totals old.stream c.in_ok-taken.taken c.config.ensures.kept.sound answer in
+    let few = (few-counted c.take.new.self c.config-2.ensures.kept.sound).consumed in
+    let more : (totals_in c.take.new.self).consumed ≡ (totals_in old.stream).consumed + c.in_ok-taken.taken.count =
+    ap (λ (t : StreamState). (totals_in t).consumed) after ∙ ap (λ (t : Totals). t.consumed) is.totals in
+    let total : old.consumed.total ≡ (totals_in old.stream).consumed = ap (λ (l : LedgerState). l.total) c.self.invariant.1.consumed_is in
+    omega (arith, few, more, total)
+
+pub invariant_of-self-2 : goal.invariant_of-self-2
+invariant_of-self-2 g c =
+    let old = c.self.inside in
+    let after : c.take.new.self ≡ state_after_take old.stream = search rules in
+    let answer : Ok c.in_ok-taken.taken ≡ state_take_answer old.stream = search rules in
+    let is = take-totals old.stream c.in_ok-taken.taken c.config.ensures.kept.sound answer in
+    let planned = subst (IsPlanned g.N.Names.plan old.number) (sym c.in_ok-taken.ensures.config) c.self.invariant.2 in (
+      c.self.invariant.0,
+      books-taken (books_at g.N.Names.plan.books old.number) old.stream c.take.new.self old.consumed.made old.offered
+          old.discarded old.overwritten old.overwritten_packets old.consumed old.cuts c.self.invariant.1
+          c.raise.new.self c.in_ok-taken.taken.count (ap totals_in after ∙ is.totals) c.raise.ensures.ledger,
+      planned,
+    )
+
+pub invariant_of-drainer : goal.invariant_of-drainer
+invariant_of-drainer g c =
+    let books = g.N.Names.plan.books in
+    let i = c.args.i in
+    let same : i ≡ c.self.inside.number = search rules in
+    let lt : i < length books = subst (λ n. n < length books) (sym same) c.self.invariant.0 in
+    let wide : i < length (consumed_books books) = omega (arith, lt, length-map books (λ (b : Books). b.consumed)) in
+    row-raised (consumed_books books) c.drainer.inside.seats.items i c.index_mut.result.now c.drainer.invariant wide
+    c.index_mut.ensures.value c.raise.new.seat c.in_ok-taken.taken.count c.raise.ensures.seat
+
+pub returns-clause-seats : goal.returns-clause-seats
+returns-clause-seats g c =
+    let books = g.N.Names.plan.books in
+    let i = c.args.i in
+    let n = c.in_ok-taken.taken.count in
+    let same : i ≡ c.self.inside.number = search rules in
+    let lt : i < length books = subst (λ n. n < length books) (sym same) c.self.invariant.0 in
+    let wide : i < length (consumed_books books) = omega (arith, lt, length-map books (λ (b : Books). b.consumed)) in
+    amounts-raised (consumed_books books) c.drainer.inside.seats.items i c.index_mut.result.now c.drainer.invariant wide
+    c.index_mut.ensures.value c.raise.new.seat n c.raise.ensures.seat
+    ∙ (λ k. slice_set (c.drainer.view_is k) i (slice_index (c.drainer.view_is k) i + n))
+
+pub returns-clause-some : goal.returns-clause-some
+returns-clause-some g c =
+    let answer : Ok c.in_ok-taken.taken ≡ state_take_answer c.self.inside.stream = search rules in
+    (take-totals c.self.inside.stream c.in_ok-taken.taken c.config.ensures.kept.sound answer).some

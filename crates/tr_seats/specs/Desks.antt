@@ -1,0 +1,46 @@
+-- The desk of a session: its book, with the seats of what it consumes and cuts.
+use Rattle.std.specs.Prelude.{◌≡◌, ℕ, ◌+◌, ◌<◌, List, length, nat_le, Result, Ok, Err, slice_index, if◌then◌else◌}
+use Rattle.tr_ledger.specs.Ledgers.{SeatState}
+use Rattle.tr_seats.specs.Books.{IsPlan, PlanState, consumed_books, cut_books}
+use Rattle.tr_seats.specs.Slots.{AreSeatsOf, amounts_of}
+use Rattle.tr_seats.specs.declared.limits.TheConstants.{MOST_DRAINERS}
+use Rattle.tr_session_book.specs.Book.{SessionBookState}
+use Rattle.tr_session_book.specs.BookSteps.{chunks_closed}
+use Rattle.tr_session_book.specs.declared.faults.SessionFault.{SessionFault}
+use Rattle.tr_session_book.specs.declared.faults.SessionFault.TheVariants.{TooMany}
+
+-- the session's book, how many drainers were begun, and the amounts of the desk's seats, one of each kind for each stream
+pub record DeskState : Type 0 where
+  pub book : SessionBookState
+  pub drainers : ℕ
+  pub consumed : List ℕ
+  pub cuts : List ℕ
+
+abbrev pub desk_state : SessionBookState → ℕ → List ℕ → List ℕ → DeskState
+desk_state book drainers consumed cuts =
+    record { book = book; drainers = drainers; consumed = consumed; cuts = cuts }
+
+-- what no call changes in a book once its session is shared
+pub record IsOfPlan (planned book : SessionBookState) : Type 0 where
+  pub uuid : book.uuid ≡ planned.uuid
+  pub offset : book.offset ≡ planned.offset
+  pub mode : book.mode ≡ planned.mode
+  pub channels : book.channels ≡ planned.channels
+  pub threads : book.threads ≡ planned.threads
+
+-- the desk of a plan: it has a seat of each stream's consumed records, and the whole seat of its cuts, which says how many
+-- chunks of the stream are closed
+pub record IsDesk (plan : PlanState) (book : SessionBookState) (consumed cuts : List SeatState) : Type 0 where
+  pub planned : IsPlan plan
+  pub book_is : IsOfPlan plan.session.book book
+  pub consumed_are : AreSeatsOf (consumed_books plan.books) consumed
+  pub cuts_are : AreSeatsOf (cut_books plan.books) cuts
+  pub operator : (i : ℕ) → i < length plan.books → slice_index (amounts_of cuts) i ≡ chunks_closed i book
+
+-- a drainer is begun, unless as many were as are allowed
+abbrev pub desk_begin_answer : DeskState → Result Unit SessionFault
+desk_begin_answer desk = if nat_le MOST_DRAINERS desk.drainers then Err TooMany else Ok tt
+
+abbrev pub desk_after_begin : DeskState → DeskState
+desk_after_begin desk =
+    if nat_le MOST_DRAINERS desk.drainers then desk else record desk { drainers = desk.drainers + 1 }

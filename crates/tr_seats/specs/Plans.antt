@@ -1,0 +1,65 @@
+-- What a plan makes of its session.
+use Rattle.std.specs.Prelude.{◌≡◌, ◌≤◌, ℕ, suc, List, [], ◌∷◌, Some, length, map, replicate, slice_get, take}
+use Rattle.tr_ledger.specs.Ledgers.{LedgerState, SeatState, ledger_state, seat_state}
+use Rattle.tr_seats.specs.Books.{Books, PlanState, consumed_books, cut_books}
+use Rattle.tr_seats.specs.Desks.{desk_state}
+use Rattle.tr_seats.specs.Settling.{OpenedState, opened_state}
+use Rattle.tr_seats.specs.Slots.{AreNew, AreSeatsOf, ProducerState, SlotState, amounts_of, slot_state}
+use Rattle.tr_seats.specs.Sums.{totals_in}
+use Rattle.tr_seats.specs.declared.totals.Totals.{Totals}
+use Rattle.tr_stream.specs.State.{StreamState}
+
+-- a stream before its first call, and the tables of its books
+pub record PlannedState : Type 0 where
+  pub stream : StreamState
+  pub books : Books
+
+abbrev pub planned_state : StreamState → Books → PlannedState
+planned_state stream books = record { stream = stream; books = books }
+
+abbrev pub no_totals : Totals
+no_totals = record {
+  offered = 0;
+  discarded = 0;
+  overwritten = 0;
+  overwritten_packets = 0;
+  consumed = 0;
+  cuts = 0;
+}
+
+-- nothing was done on these streams
+abbrev pub AreUnused : List StreamState → Type 0
+AreUnused streams = (i : ℕ) (t : StreamState) → slice_get streams i ≡ Some t → totals_in t ≡ no_totals
+
+-- a ledger with total 0, and its whole seat
+abbrev pub IsOpened : LedgerState → SeatState → Type 0
+IsOpened ledger seat = (ledger ≡ ledger_state ledger.table 0 0) × (seat ≡ seat_state ledger.table 0 1)
+
+-- the slots of these streams, which have the numbers from this one on
+abbrev pub slots_from : ℕ → List StreamState → List SlotState
+slots_from i [] = []
+slots_from i (t ∷ ts) = slot_state i t 0 ∷ slots_from (suc i) ts
+
+-- a planned session before its first call: no drainer was made, and no seat has anything
+abbrev pub opened_of : PlanState → OpenedState
+opened_of plan = opened_state
+    (desk_state plan.session.book 0 (replicate (length plan.books) 0) (replicate (length plan.books) 0))
+    (slots_from 0 plan.session.streams)
+
+-- the streams of these, and their books
+abbrev pub streams_in : List PlannedState → List StreamState
+streams_in planned = map (λ (p : PlannedState). p.stream) planned
+
+abbrev pub books_in : List PlannedState → List Books
+books_in planned = map (λ (p : PlannedState). p.books) planned
+
+-- the first streams of a plan in their slots, with their producers and the desk's seats
+pub record AreNamed (plan : PlanState) (slots : List SlotState) (producers : List ProducerState)
+    (consumed cuts : List SeatState) : Type 0 where
+  pub within : length slots ≤ length plan.books
+  pub slots_are : slots ≡ slots_from 0 (take (length slots) plan.session.streams)
+  pub producers_are : AreNew (length slots) producers
+  pub consumed_are : AreSeatsOf (take (length slots) (consumed_books plan.books)) consumed
+  pub cuts_are : AreSeatsOf (take (length slots) (cut_books plan.books)) cuts
+  pub consumed_none : amounts_of consumed ≡ replicate (length slots) 0
+  pub cuts_none : amounts_of cuts ≡ replicate (length slots) 0

@@ -1,0 +1,61 @@
+-- What settling answers.
+use Rattle.std.specs.Prelude.{◌≡◌, ◌≢◌, ℕ, ◌+◌, ◌<◌, ◌==◌, List, length, map, sum, count_by, slice_index_or, All}
+use Rattle.std.specs.List.{sum_by}
+use Rattle.tr_seats.specs.Desks.{DeskState}
+use Rattle.tr_seats.specs.Slots.{ProducerState, SlotState}
+use Rattle.tr_seats.specs.declared.settling.SettleError.{SettleError}
+use Rattle.tr_seats.specs.declared.settling.SettleError.TheVariants.{ProducerMissing, DrainerMissing, Misplaced}
+use Rattle.tr_seats.specs.declared.totals.Totals.{Totals}
+use Rattle.tr_stream.specs.State.{StreamState}
+
+-- a session out of its locks
+pub record OpenedState : Type 0 where
+  pub desk : DeskState
+  pub slots : List SlotState
+
+abbrev pub opened_state : DeskState → List SlotState → OpenedState
+opened_state desk slots = record { desk = desk; slots = slots }
+
+abbrev pub streams_of : List SlotState → List StreamState
+streams_of slots = map (λ (s : SlotState). s.stream) slots
+
+-- the sums of what all seats have: the producers', the drainers' and the desk's
+abbrev pub totals_of_seats : List ProducerState → List (List ℕ) → DeskState → Totals
+totals_of_seats producers drainers desk = record {
+  offered = sum_by (λ (p : ProducerState). p.offered) producers;
+  discarded = sum_by (λ (p : ProducerState). p.discarded) producers;
+  overwritten = sum_by (λ (p : ProducerState). p.overwritten) producers;
+  overwritten_packets = sum_by (λ (p : ProducerState). p.overwritten_packets) producers;
+  consumed = sum desk.consumed + sum_by sum drainers;
+  cuts = sum desk.cuts;
+}
+
+-- one producer for each of n streams, in any order
+abbrev pub IsOneEach : ℕ → List ProducerState → Type 0
+IsOneEach n producers = (i : ℕ) → i < n → count_by (λ (p : ProducerState). p.number == i) producers ≡ 1
+
+-- each stream has made this many seats beside the first
+abbrev pub AreAllMade : ℕ → List SlotState → Type 0
+AreAllMade made slots = All (λ (s : SlotState). s.made ≡ made) slots
+
+-- each stream lies where its number says
+abbrev pub AreInPlace : List SlotState → Type 0
+AreInPlace slots = (i : ℕ) (s : SlotState) → i < length slots → (slice_index_or slots i s).number ≡ i
+
+-- each stream lies where its number says, and gave a seat to each of the drainers
+pub record AreWhole (drainers : ℕ) (slots : List SlotState) : Type 0 where
+  pub made : AreAllMade drainers slots
+  pub in_place : AreInPlace slots
+
+-- all is there: a producer for each stream, and each drainer that was made
+pub record CanSettle (producers : List ProducerState) (drainers : ℕ) (s : OpenedState) : Type 0 where
+  pub one_each : IsOneEach (length s.slots) producers
+  pub all_drainers : drainers ≡ s.desk.drainers
+  pub whole : AreWhole drainers s.slots
+
+-- which of these is missing: the first
+abbrev pub IsWhy : SettleError → List ProducerState → ℕ → OpenedState → Type 0
+IsWhy ProducerMissing producers drainers s = ¬ IsOneEach (length s.slots) producers
+IsWhy DrainerMissing producers drainers s = IsOneEach (length s.slots) producers × (drainers ≢ s.desk.drainers)
+IsWhy Misplaced producers drainers s =
+    IsOneEach (length s.slots) producers × (drainers ≡ s.desk.drainers) × (¬ AreWhole drainers s.slots)

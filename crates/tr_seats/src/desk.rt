@@ -1,0 +1,90 @@
+//! The book of a session, as its lock guards it.
+
+ghost use Rattle.std.specs.Prelude.{◌≡◌, ◌≢◌, ◌≤◌};
+ghost use Rattle.tr_seats.specs.Desks.{desk_after_begin, desk_begin_answer};
+ghost use Rattle.tr_session_book.specs.BookSteps.{book_after_start, book_after_stop, book_start_answer, book_stop_answer};
+
+use crate::limits::MOST_DRAINERS;
+use crate::names::Names;
+use std::alloc::{Allocator, Global};
+use std::marker::{Model, PhantomData};
+use tr_ledger::Seat;
+use tr_session_book::{SessionBook, SessionFault};
+use tr_terms::Moment;
+
+/// A session's book, and the seats of what rotations consume and cut. Contracts see a `DeskState`.
+#[derive(Drop)]
+pub struct Desk<N: Names, A: Allocator = Global> {
+    pub(crate) book: SessionBook<A>,
+    pub(crate) drainers: u64,
+    pub(crate) consumed: Vec<Seat, A>,
+    pub(crate) cuts: Vec<Seat, A>,
+    pub(crate) of: PhantomData<N>,
+}
+
+impl<N: Names, A: Allocator> Model for Desk<N, A> {
+    ghost use Rattle.tr_seats.specs.Desks.{DeskState, IsDesk, desk_state};
+    ghost use Rattle.tr_seats.specs.Slots.{amounts_of};
+
+    ghost Value = { DeskState };
+
+    ghost view = { λ d. desk_state d.book d.drainers (amounts_of d.consumed.items) (amounts_of d.cuts.items) };
+
+    ghost invariant = { λ d. IsDesk N.plan d.book d.consumed.items d.cuts.items };
+}
+
+impl<N: Names, A: Allocator> Desk<N, A> {
+    /// Starts the session at a moment, as its book does: its streams are to be switched next.
+    ///
+    /// # Errors
+    ///
+    /// `RotationPending`, `AlreadyActive`: nothing changed.
+    pub fn start(&mut self, moment: Moment) -> Result<(), SessionFault>
+        ensures answer { result ≡ book_start_answer self.old.book }
+        ensures after { self.new ≡ record self.old { book = book_after_start moment self.old.book } }
+    {
+        self.book.start(moment)
+    }
+
+    /// Stops the session, as its book does: its streams are to be switched next.
+    ///
+    /// # Errors
+    ///
+    /// `RotationPending`, `NotActive`: nothing changed.
+    pub fn stop(&mut self) -> Result<(), SessionFault>
+        ensures answer { result ≡ book_stop_answer self.old.book }
+        ensures after { self.new ≡ record self.old { book = book_after_stop self.old.book } }
+    {
+        self.book.stop()
+    }
+
+    /// Counts a drainer that is to be made. One that isn't made after all is missing when the session is settled.
+    ///
+    /// # Errors
+    ///
+    /// `TooMany`: nothing changed.
+    pub fn begin_drainer(&mut self) -> Result<(), SessionFault>
+        ensures answer { result ≡ desk_begin_answer self.old }
+        ensures after { self.new ≡ desk_after_begin self.old }
+    {
+        if self.drainers >= MOST_DRAINERS {
+            return Err(SessionFault::TooMany);
+        }
+        self.drainers += 1;
+        Ok(())
+    }
+
+    /// How many drainers were begun.
+    pub fn drainers(&self) -> u64
+        ensures { result ≡ self.now.drainers }
+    {
+        self.drainers
+    }
+
+    /// What the session keeps beside its streams.
+    pub fn book(&self) -> &SessionBook<A>
+        ensures { result.now ≡ self.now.book }
+    {
+        &self.book
+    }
+}

@@ -1,0 +1,101 @@
+//! The seats of what one worker consumes.
+
+ghost use Rattle.std.specs.Prelude.{◌≡◌, ◌+◌, ◌<◌, Ok, Err, IfOk, IfErr, OnOk, length, replicate, slice_index};
+ghost use Rattle.tr_seats.specs.Slots.{slot_after_split, slot_split_answer};
+
+use crate::names::Names;
+use crate::slot::Slot;
+use std::alloc::{AllocError, Allocator, Global};
+use std::marker::{Model, PhantomData};
+use tr_ledger::Seat;
+use tr_session_book::SessionFault;
+
+/// A worker's seats: one for each stream, of the records consumed from it. Contracts see it as their amounts, in order of
+/// the streams' numbers.
+#[derive(Drop)]
+pub struct Drainer<N: Names, A: Allocator = Global> {
+    pub(crate) seats: Vec<Seat, A>,
+    pub(crate) of: PhantomData<N>,
+}
+
+impl<N: Names, A: Allocator> Model for Drainer<N, A> {
+    ghost use Rattle.std.specs.Prelude.{List, ℕ};
+    ghost use Rattle.tr_seats.specs.Books.{consumed_books};
+    ghost use Rattle.tr_seats.specs.Slots.{AreSeatsOf, amounts_of};
+
+    ghost Value = { List ℕ };
+
+    ghost view = { λ d. amounts_of d.seats.items };
+
+    ghost invariant = { λ d. AreSeatsOf (consumed_books N.plan.books) d.seats.items };
+}
+
+impl<N: Names, A: Allocator> Drainer<N, A> {
+    /// How many records it took from the stream of number `i`.
+    pub fn consumed(&self, i: usize) -> u64
+        requires { i < length N.plan.books }
+        ensures { result ≡ slice_index self.now i }
+    {
+        self.seats[i].amount()
+    }
+}
+
+/// A drainer that is being made: it has the seats of the first streams. Contracts see how many. One that is dropped was begun
+/// at its desk, where it is missing when the session is settled.
+#[derive(Drop)]
+pub struct DrainerBegun<N: Names, A: Allocator = Global> {
+    seats: Vec<Seat, A>,
+    of: PhantomData<N>,
+}
+
+impl<N: Names, A: Allocator> Model for DrainerBegun<N, A> {
+    ghost use Rattle.tr_seats.specs.Drainers.{AreFirst};
+    ghost use Rattle.std.specs.Prelude.{ℕ, ◌≤◌, length, vec_capacity};
+
+    ghost Value = { ℕ };
+
+    ghost view = { λ d. length d.seats.items };
+
+    // room for the seats of all streams is reserved
+    ghost invariant = { λ d. AreFirst N.plan.books d.seats.items
+        × (length N.plan.books ≤ vec_capacity d.seats) };
+}
+
+impl<N: Names, A: Allocator> DrainerBegun<N, A> {
+    /// A drainer with room for the seats of all `streams`, and none of them yet. Only this call takes memory.
+    pub fn new(alloc: A, streams: usize) -> Result<DrainerBegun<N, A>, AllocError>
+        requires { streams ≡ length N.plan.books }
+        ensures { IfOk result (λ d. d ≡ 0) }
+    {
+        let seats = Vec::with_capacity(alloc, streams)?;
+        Ok(DrainerBegun {
+            seats,
+            of: PhantomData,
+        })
+    }
+
+    /// The same with a seat of the next stream too, which is in this slot.
+    ///
+    /// # Errors
+    ///
+    /// Those of `Slot::split`: the slot is as it was, and the drainer is gone.
+    pub fn with(mut self, slot: &mut Slot<N, A>) -> Result<DrainerBegun<N, A>, SessionFault>
+        requires { self < length N.plan.books }
+        ensures ok { IfOk result (λ d. d ≡ self + 1) }
+        ensures refused { IfErr result (λ fault. slot_split_answer N.plan.books self slot.old ≡ Err fault) }
+        ensures slot { slot.new ≡ slot_after_split self slot.old }
+    {
+        let seat = slot.split(self.seats.len())?;
+        self.seats.push_reserved(seat);
+        Ok(self)
+    }
+
+    /// The drainer, if it has the seats of all streams: it took nothing yet.
+    pub fn finish(self) -> Drainer<N, A>
+        requires { self ≡ length N.plan.books }
+        ensures { result ≡ replicate (length N.plan.books) 0 }
+    {
+        let DrainerBegun { seats, of } = self;
+        Drainer { seats, of }
+    }
+}

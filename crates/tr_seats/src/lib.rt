@@ -1,0 +1,30 @@
+//! A session apart, as its locks guard it: streams with their books, the producers and drainers that share these, and the
+//! settling of all seats. Nothing here waits: each call is lent the values that it changes.
+#![tactic(auto)]
+
+mod desk;
+mod drainer;
+mod limits;
+mod making;
+mod names;
+mod naming;
+mod opened;
+mod planned;
+mod producer;
+mod settled;
+mod settling;
+mod slot;
+mod totals;
+
+pub use desk::Desk;
+pub use drainer::{Drainer, DrainerBegun};
+pub use limits::MOST_DRAINERS;
+pub use making::plan;
+pub use names::Names;
+pub use opened::{Opened, Unsettled};
+pub use planned::Plan;
+pub use producer::Producer;
+pub use settled::Settled;
+pub use settling::SettleError;
+pub use slot::Slot;
+pub use totals::Totals;

@@ -1,0 +1,47 @@
+//! Plans.
+
+ghost use Rattle.std.specs.Prelude.{◌≡◌, ◌≢◌, Ok, Err, IfOk, IfErr, length};
+ghost use Rattle.tr_seats.specs.Plans.{AreUnused, streams_in};
+ghost use Rattle.tr_session.specs.Runs.{session_of_config};
+ghost use Rattle.tr_stream.specs.Rules.{by_history, by_state};
+
+use crate::planned::{Plan, PlannedStream};
+use std::alloc::{AllocError, Allocator};
+use tr_session::{Config, configure};
+use tr_session_book::SessionFault;
+use tr_stream::Stream;
+
+/// The session of a configuration, as `run_session` makes it, with the books of its streams.
+///
+/// # Errors
+///
+/// Those of `add_channel` and `add_thread` for the first channel or thread of the configuration that is refused; `NoMemory`.
+pub fn plan<A: Allocator + Copy>(alloc: A, config: &Config<'_, A>) -> Result<Plan<A>, SessionFault>
+    ensures session { IfOk result (λ p. session_of_config by_state config.now ≡ Ok p.session) }
+    ensures books { IfOk result (λ p. length p.books ≡ length p.session.streams) }
+    ensures refused { IfErr result
+        (λ fault. fault ≢ SessionFault.NoMemory → session_of_config by_history config.now ≡ Err fault) }
+{
+    let (book, streams) = configure(alloc, config)?.into_parts();
+    let streams = open_all(alloc, streams)?;
+    Ok(Plan {
+        alloc,
+        book,
+        streams,
+    })
+}
+
+/// Opens the books of streams on which nothing was done.
+fn open_all<A: Allocator + Copy>(
+    alloc: A,
+    streams: Vec<Stream<A>, A>,
+) -> Result<Vec<PlannedStream<A>, A>, AllocError>
+    requires { AreUnused streams.items }
+    ensures { IfOk result (λ planned. streams_in planned.items ≡ streams.items) }
+{
+    let mut planned = Vec::new(alloc);
+    for stream in streams {
+        planned.push(PlannedStream::open(alloc, stream)?)?;
+    }
+    Ok(planned)
+}

@@ -1,0 +1,151 @@
+//! Streams get the names of their plan, one after another.
+
+ghost use Rattle.std.specs.Prelude.{◌≡◌, ◌+◌, ◌≤◌, Some, IfOk, length, replicate, slice_get, vec_capacity, vec_len};
+ghost use Rattle.tr_seats.specs.Books.{IsPlan};
+ghost use Rattle.tr_seats.specs.Plans.{AreUnused, opened_of};
+ghost use Rattle.tr_ledger.specs.Ledgers.{seat_state};
+ghost use Rattle.tr_seats.specs.Slots.{AreNew, new_producer, slot_state};
+
+use crate::desk::Desk;
+use crate::names::Names;
+use crate::opened::Opened;
+use crate::planned::PlannedStream;
+use crate::producer::Producer;
+use crate::slot::Slot;
+use std::alloc::{AllocError, Allocator, Global};
+use std::marker::{Model, PhantomData};
+use tr_ledger::Seat;
+use tr_session_book::SessionBook;
+use tr_stream::Stream;
+
+/// The streams that have their names so far. Contracts see how many there are.
+#[derive(Drop)]
+pub(crate) struct Named<N: Names, A: Allocator = Global> {
+    slots: Vec<Slot<N, A>, A>,
+    producers: Vec<Producer<N>, A>,
+    consumed: Vec<Seat, A>,
+    cuts: Vec<Seat, A>,
+}
+
+impl<N: Names, A: Allocator> Model for Named<N, A> {
+    ghost use Rattle.std.specs.Prelude.{ℕ, length};
+    ghost use Rattle.tr_seats.specs.Plans.{AreNamed};
+
+    ghost Value = { ℕ };
+
+    ghost view = { λ n. length n.slots.items };
+
+    ghost invariant = { λ n. AreNamed N.plan n.slots.items n.producers.items n.consumed.items n.cuts.items };
+}
+
+impl<N: Names, A: Allocator + Copy> Named<N, A> {
+    /// None has its name yet.
+    pub(crate) fn none(alloc: A) -> Named<N, A>
+        ensures { result ≡ 0 }
+    {
+        Named {
+            slots: Vec::new(alloc),
+            producers: Vec::new(alloc),
+            consumed: Vec::new(alloc),
+            cuts: Vec::new(alloc),
+        }
+    }
+
+    /// Gives the next stream its name.
+    pub(crate) fn with(self, planned: PlannedStream<A>) -> Result<Named<N, A>, AllocError>
+        requires stream { slice_get N.plan.session.streams self ≡ Some planned.stream }
+        requires books { slice_get N.plan.books self ≡ Some planned.books }
+        ensures { IfOk result (λ n. n ≡ self + 1) }
+    {
+        let Named {
+            mut slots,
+            mut producers,
+            mut consumed,
+            mut cuts,
+        } = self;
+        let (slot, producer, consumed_seat, cut_seat) = named_as(slots.len(), planned);
+        slots.push(slot)?;
+        producers.push(producer)?;
+        consumed.push(consumed_seat)?;
+        cuts.push(cut_seat)?;
+        Ok(Named {
+            slots,
+            producers,
+            consumed,
+            cuts,
+        })
+    }
+
+    /// The session, if all its streams have their names.
+    pub(crate) fn finish(
+        self,
+        alloc: A,
+        book: SessionBook<A>,
+        room: Vec<Stream<A>, A>,
+    ) -> (Opened<N, A>, Vec<Producer<N>, A>)
+        requires all { self ≡ length N.plan.books }
+        requires plan { IsPlan N.plan × AreUnused N.plan.session.streams }
+        requires book { book ≡ N.plan.session.book }
+        requires room { (vec_len room ≡ 0) × (length N.plan.books ≤ vec_capacity room) }
+        ensures opened { result.0 ≡ opened_of N.plan }
+        ensures producers { AreNew (length N.plan.books) result.1.items }
+    {
+        let Named {
+            slots,
+            producers,
+            consumed,
+            cuts,
+        } = self;
+        let desk = Desk {
+            book,
+            drainers: 0,
+            consumed,
+            cuts,
+            of: PhantomData,
+        };
+        (Opened::from_parts(alloc, desk, slots, room), producers)
+    }
+}
+
+/// A stream with this number in its slot, its producer, and the whole seats of what it consumes and of its cuts.
+fn named_as<N: Names, A: Allocator>(
+    number: usize,
+    planned: PlannedStream<A>,
+) -> (Slot<N, A>, Producer<N>, Seat, Seat)
+    requires stream { slice_get N.plan.session.streams number ≡ Some planned.stream }
+    requires books { slice_get N.plan.books number ≡ Some planned.books }
+    ensures slot { result.0 ≡ slot_state number planned.stream 0 }
+    ensures producer { result.1 ≡ new_producer number }
+    ensures consumed { result.2 ≡ seat_state planned.books.consumed 0 1 }
+    ensures cuts { result.3 ≡ seat_state planned.books.cuts 0 1 }
+{
+    let PlannedStream {
+        stream,
+        offered: (offered, offered_seat),
+        discarded: (discarded, discarded_seat),
+        overwritten: (overwritten, overwritten_seat),
+        overwritten_packets: (packets, packets_seat),
+        consumed: (consumed, consumed_seat),
+        cuts: (cuts, cut_seat),
+    } = planned;
+    let producer = Producer {
+        number,
+        offered: offered_seat,
+        discarded: discarded_seat,
+        overwritten: overwritten_seat,
+        overwritten_packets: packets_seat,
+        of: PhantomData,
+    };
+    let slot = Slot {
+        number,
+        stream,
+        offered,
+        discarded,
+        overwritten,
+        overwritten_packets: packets,
+        consumed,
+        cuts,
+        of: PhantomData,
+    };
+    (slot, producer, consumed_seat, cut_seat)
+}

@@ -1,0 +1,136 @@
+//! A session out of its locks.
+
+ghost use Rattle.std.specs.Prelude.{◌≡◌, ◌≢◌, ◌+◌, ◌≤◌, IfErr, IfOk, length, sum_by, vec_capacity, vec_len};
+ghost use Rattle.tr_seats.specs.Settling.{CanSettle, IsWhy, opened_state, streams_of, totals_of_seats};
+ghost use Rattle.tr_seats.specs.Sums.{totals_of};
+ghost use Rattle.tr_session.specs.Session.{session_of};
+ghost use Rattle.tr_stream.specs.State.{StreamState, in_ring};
+
+use crate::desk::Desk;
+use crate::drainer::Drainer;
+use crate::names::Names;
+use crate::producer::Producer;
+use crate::settled::Settled;
+use crate::settling::{SettleError, settle_all, why_not};
+use crate::slot::Slot;
+use crate::totals::Totals;
+use std::alloc::{Allocator, Global};
+use std::marker::Model;
+use tr_stream::Stream;
+
+/// A session out of its locks: its desk, its streams by number, and room for these when they are settled. Contracts see an
+/// `OpenedState`.
+#[derive(Drop)]
+pub struct Opened<N: Names, A: Allocator = Global> {
+    alloc: A,
+    desk: Desk<N, A>,
+    slots: Vec<Slot<N, A>, A>,
+    room: Vec<Stream<A>, A>,
+}
+
+impl<N: Names, A: Allocator> Model for Opened<N, A> {
+    ghost use Rattle.std.specs.Prelude.{◌≡◌, ◌≤◌, length, vec_capacity, vec_len};
+    ghost use Rattle.tr_seats.specs.Settling.{OpenedState, opened_state};
+
+    ghost Value = { OpenedState };
+
+    ghost view = { λ o. opened_state o.desk o.slots.items };
+
+    ghost invariant = { λ o. (length o.slots.items ≡ length N.plan.books) × (vec_len o.room ≡ 0)
+        × (length N.plan.books ≤ vec_capacity o.room) };
+}
+
+/// Why a session was not settled, and all that was to be settled, as it was.
+#[derive(Drop)]
+pub struct Unsettled<N: Names, A: Allocator = Global> {
+    /// What is missing, or not in its place.
+    pub error: SettleError,
+    /// The session.
+    pub opened: Opened<N, A>,
+    /// The producers that were given.
+    pub producers: Vec<Producer<N>, A>,
+    /// The drainers that were given.
+    pub drainers: Vec<Drainer<N, A>, A>,
+}
+
+impl<N: Names, A: Allocator> Opened<N, A> {
+    /// A session of its parts: its desk, a slot for each stream of the plan, and empty room for as many streams. It takes
+    /// no memory.
+    pub fn from_parts(
+        alloc: A,
+        desk: Desk<N, A>,
+        slots: Vec<Slot<N, A>, A>,
+        room: Vec<Stream<A>, A>,
+    ) -> Opened<N, A>
+        requires slots { length slots.items ≡ length N.plan.books }
+        requires room { (vec_len room ≡ 0) × (length N.plan.books ≤ vec_capacity room) }
+        ensures { result ≡ opened_state desk slots.items }
+    {
+        Opened {
+            alloc,
+            desk,
+            slots,
+            room,
+        }
+    }
+
+    /// Its desk, its slots, and the room for the streams, which is empty. It takes no memory.
+    pub fn into_parts(self) -> (Desk<N, A>, Vec<Slot<N, A>, A>, Vec<Stream<A>, A>)
+        ensures value { opened_state result.0 result.1.items ≡ self }
+        ensures slots { length result.1.items ≡ length N.plan.books }
+        ensures room { (vec_len result.2 ≡ 0) × (length N.plan.books ≤ vec_capacity result.2) }
+    {
+        let Opened {
+            alloc: _,
+            desk,
+            slots,
+            room,
+        } = self;
+        (desk, slots, room)
+    }
+}
+
+impl<N: Names, A: Allocator + Copy> Opened<N, A> {
+    /// Joins all seats into one sum of each kind, which is what the streams count, and makes a session of one owner again.
+    /// It takes no memory.
+    ///
+    /// # Errors
+    ///
+    /// `ProducerMissing` if there isn't one producer for each stream, `DrainerMissing` if not all drainers that were begun
+    /// are there, `Misplaced` if a stream isn't where its number says, or gave a seat to another number of drainers: all
+    /// that was given comes back as it was.
+    pub fn settle(
+        self,
+        producers: Vec<Producer<N>, A>,
+        drainers: Vec<Drainer<N, A>, A>,
+    ) -> Result<(Settled<A>, Totals), Unsettled<N, A>>
+        ensures may { IfOk result (λ r. CanSettle producers.items (length drainers.items) self) }
+        ensures session { IfOk result (λ r. r.0 ≡ session_of self.desk.book (streams_of self.slots)) }
+        ensures totals { IfOk result (λ r. r.1 ≡ totals_of (streams_of self.slots)) }
+        ensures seats { IfOk result (λ r. r.1 ≡ totals_of_seats producers.items drainers.items self.desk) }
+        ensures places { IfOk result
+            (λ r. r.1.offered ≡ r.1.discarded + r.1.overwritten
+            + sum_by (λ (s : StreamState). in_ring s.ring) (streams_of self.slots) + r.1.consumed) }
+        ensures why { IfErr result (λ u. IsWhy u.error producers.items (length drainers.items) self) }
+        ensures back { IfErr result
+            (λ u. (u.opened ≡ self) × (u.producers ≡ producers) × (u.drainers ≡ drainers)) }
+    {
+        match why_not(&self.desk, &self.slots, &producers, drainers.len()) {
+            Some(error) => Err(Unsettled {
+                error,
+                opened: self,
+                producers,
+                drainers,
+            }),
+            None => {
+                let Opened {
+                    alloc,
+                    desk,
+                    slots,
+                    room,
+                } = self;
+                Ok(settle_all(alloc, desk, slots, producers, drainers, room))
+            }
+        }
+    }
+}

@@ -1,0 +1,323 @@
+//! The settling of all seats, and why a session isn't settled.
+
+ghost use Rattle.std.specs.Prelude.{◌≡◌, ◌+◌, ◌<◌, ◌≤◌, ◌==◌, ◌↔◌, ℕ, IsTrue, MatchOption, count_by, length, map, slice_index_or, slice_set, sum, sum_by, vec_capacity, vec_len};
+ghost use Rattle.tr_ledger.specs.Ledgers.{SeatState, seat_state};
+ghost use Rattle.tr_seats.specs.Books.{IsPlanned, books_at, consumed_books, cut_books};
+ghost use Rattle.tr_seats.specs.Desks.{DeskState};
+ghost use Rattle.tr_seats.specs.Settling.{AreAllMade, AreInPlace, AreWhole, CanSettle, IsOneEach, IsWhy, opened_state, streams_of, totals_of_seats};
+ghost use Rattle.tr_seats.specs.Slots.{AreJoined, AreSeatsOf, IsOwn, ProducerState, SlotState, amounts_of};
+ghost use Rattle.tr_seats.specs.Sums.{totals_in, totals_of};
+ghost use Rattle.tr_session.specs.Session.{session_of};
+ghost use Rattle.tr_stream.specs.State.{StreamState, in_ring};
+
+use crate::desk::Desk;
+use crate::drainer::Drainer;
+use crate::names::Names;
+use crate::producer::Producer;
+use crate::settled::Settled;
+use crate::slot::Slot;
+use crate::totals::Totals;
+use std::alloc::Allocator;
+use thiserror::Error;
+use tr_ledger::Seat;
+use tr_session::Session;
+use tr_stream::Stream;
+
+/// Why a session was not settled.
+#[derive(Clone, Copy, Debug, PartialEq, Eq, Error)]
+pub enum SettleError {
+    /// There isn't one producer for each stream.
+    #[error("E1 ProducerMissing")]
+    ProducerMissing,
+    /// A drainer that was made, or begun, is missing.
+    #[error("E2 DrainerMissing")]
+    DrainerMissing,
+    /// A stream isn't where its number says, or gave a seat to another number of drainers than there are.
+    #[error("E3 Misplaced")]
+    Misplaced,
+}
+
+/// How many of the producers are of this stream.
+fn count_of<N: Names>(producers: &[Producer<N>], i: usize) -> usize
+    ensures { result ≡ count_by (λ (p : ProducerState). p.number == i) producers.now }
+{
+    producers.iter().filter(|p| p.stream() == i).count()
+}
+
+/// Whether there is one producer for each stream.
+fn has_one_each<N: Names>(producers: &[Producer<N>], streams: usize) -> bool
+    ensures { IsTrue result ↔ IsOneEach streams producers.now }
+{
+    for i in 0..streams {
+        if count_of(producers, i) != 1 {
+            return false;
+        }
+    }
+    true
+}
+
+/// Whether each stream made so many seats beside the first.
+fn have_all_made<N: Names, A: Allocator>(slots: &[Slot<N, A>], made: u64) -> bool
+    ensures { IsTrue result ↔ AreAllMade made slots.now }
+{
+    for i in 0..slots.len() {
+        if slots[i].made() != made {
+            return false;
+        }
+    }
+    true
+}
+
+/// Whether each stream is where its number says.
+fn are_in_place<N: Names, A: Allocator>(slots: &[Slot<N, A>]) -> bool
+    ensures { IsTrue result ↔ AreInPlace slots.now }
+{
+    for i in 0..slots.len() {
+        if slots[i].number() != i {
+            return false;
+        }
+    }
+    true
+}
+
+/// Whether and why the session can't be settled.
+pub(crate) fn why_not<N: Names, A: Allocator>(
+    desk: &Desk<N, A>,
+    slots: &[Slot<N, A>],
+    producers: &[Producer<N>],
+    drainers: usize,
+) -> Option<SettleError>
+    ensures { MatchOption result
+        (CanSettle producers.now drainers (opened_state desk.now slots.now))
+        (λ error. IsWhy error producers.now drainers (opened_state desk.now slots.now)) }
+{
+    if !has_one_each(producers, slots.len()) {
+        return Some(SettleError::ProducerMissing);
+    }
+    if drainers as u64 != desk.drainers() {
+        return Some(SettleError::DrainerMissing);
+    }
+    if !have_all_made(slots, drainers as u64) {
+        return Some(SettleError::Misplaced);
+    }
+    if !are_in_place(slots) {
+        return Some(SettleError::Misplaced);
+    }
+    None
+}
+
+/// The sums of the streams' counts.
+fn sums<N: Names, A: Allocator>(slots: &[Slot<N, A>]) -> Totals
+    ensures value { result ≡ totals_of (streams_of slots.now) }
+    ensures places { result.offered ≡ result.discarded + result.overwritten
+        + sum_by (λ (s : StreamState). in_ring s.ring) (streams_of slots.now) + result.consumed }
+{
+    let mut totals = Totals {
+        offered: 0,
+        discarded: 0,
+        overwritten: 0,
+        overwritten_packets: 0,
+        consumed: 0,
+        cuts: 0,
+    };
+    for slot in slots {
+        let counts = slot.counts();
+        totals.offered += u128::from(counts.offered);
+        totals.discarded += u128::from(counts.discarded);
+        totals.overwritten += u128::from(counts.overwritten);
+        totals.overwritten_packets += u128::from(counts.overwritten_packets);
+        totals.consumed += u128::from(counts.consumed);
+        totals.cuts += u128::from(counts.cuts);
+    }
+    totals
+}
+
+/// Changes nothing, and shows that each producer's numbers are its stream's own.
+fn audit_producers<N: Names, A: Allocator>(slots: &mut [Slot<N, A>], producers: &mut [Producer<N>])
+    requires { (length slots.old ≡ length N.plan.books) × AreInPlace slots.old }
+    ensures same { (slots.new ≡ slots.old) × (producers.new ≡ producers.old) }
+    ensures there { (k : ℕ) (p : ProducerState) → k < length producers.old
+        → (slice_index_or producers.old k p).number < length N.plan.books }
+    ensures own { (k : ℕ) (p : ProducerState) (s : SlotState) → k < length producers.old
+        → IsOwn (slice_index_or producers.old k p)
+        (totals_in (slice_index_or slots.old (slice_index_or producers.old k p).number s).stream) }
+{
+    for k in 0..producers.len() {
+        let i = producers[k].stream();
+        slots[i].audit(&mut producers[k]);
+    }
+}
+
+/// Changes nothing, and shows that whole seats have what the streams consumed.
+fn audit_consumed<N: Names, A: Allocator>(slots: &mut [Slot<N, A>], seats: &mut [Seat])
+    requires slots { (length slots.old ≡ length N.plan.books) × AreInPlace slots.old }
+    requires seats { map (λ (s : SeatState). s.table) seats.old ≡ consumed_books N.plan.books }
+    ensures same { (slots.new ≡ slots.old) × (seats.new ≡ seats.old) }
+    ensures whole { (k : ℕ) (d : SeatState) (s : SlotState) → k < length slots.old
+        → (slice_index_or seats.old k d).mark ≡ (slice_index_or slots.old k s).made + 1
+        → (slice_index_or seats.old k d).amount ≡ (totals_in (slice_index_or slots.old k s).stream).consumed }
+{
+    for i in 0..slots.len() {
+        slots[i].audit_consumed(&mut seats[i]);
+    }
+}
+
+/// The same of the cuts, and that the plan made the streams.
+fn audit_cuts<N: Names, A: Allocator>(slots: &mut [Slot<N, A>], seats: &mut [Seat])
+    requires slots { (length slots.old ≡ length N.plan.books) × AreInPlace slots.old }
+    requires seats { map (λ (s : SeatState). s.table) seats.old ≡ cut_books N.plan.books }
+    ensures same { (slots.new ≡ slots.old) × (seats.new ≡ seats.old) }
+    ensures whole { (k : ℕ) (d : SeatState) (s : SlotState) → k < length slots.old
+        → (slice_index_or seats.old k d).mark ≡ 1
+        → (slice_index_or seats.old k d).amount ≡ (totals_in (slice_index_or slots.old k s).stream).cuts }
+    ensures planned { (k : ℕ) (s : SlotState) → k < length slots.old
+        → IsPlanned N.plan k (slice_index_or slots.old k s).stream.config }
+{
+    for i in 0..slots.len() {
+        slots[i].audit_cuts(&mut seats[i]);
+    }
+}
+
+/// Joins a seat into that at place `i`.
+fn join_at<N: Names, A: Allocator>(
+    slots: &mut [Slot<N, A>],
+    seats: &mut [Seat],
+    i: usize,
+    other: Seat,
+)
+    requires there { (i < length slots.old) × (i < length seats.old) }
+    requires mine { (d : SeatState) (s : SlotState) → (slice_index_or seats.old i d).table
+        ≡ (books_at N.plan.books (slice_index_or slots.old i s).number).consumed }
+    requires other { (s : SlotState) → other.table
+        ≡ (books_at N.plan.books (slice_index_or slots.old i s).number).consumed }
+    ensures slots { slots.new ≡ slots.old }
+    ensures seats { (d : SeatState) → seats.new
+        ≡ slice_set seats.old i (seat_state (slice_index_or seats.old i d).table
+        ((slice_index_or seats.old i d).amount + other.amount) ((slice_index_or seats.old i d).mark + other.mark)) }
+{
+    slots[i].join(&mut seats[i], other);
+}
+
+/// Joins a row of seats into another.
+fn join_row<N: Names, A: Allocator>(
+    slots: &mut [Slot<N, A>],
+    seats: &mut [Seat],
+    theirs: Vec<Seat, A>,
+)
+    requires slots { (length slots.old ≡ length N.plan.books) × AreInPlace slots.old }
+    requires seats { map (λ (s : SeatState). s.table) seats.old ≡ consumed_books N.plan.books }
+    requires theirs { AreSeatsOf (consumed_books N.plan.books) theirs.items }
+    ensures slots { slots.new ≡ slots.old }
+    ensures tables { map (λ (s : SeatState). s.table) seats.new ≡ consumed_books N.plan.books }
+    ensures marks { (k : ℕ) (d : SeatState) → k < length N.plan.books
+        → (slice_index_or seats.new k d).mark ≡ (slice_index_or seats.old k d).mark + 1 }
+    ensures amounts { sum (amounts_of seats.new) ≡ sum (amounts_of seats.old) + sum (amounts_of theirs.items) }
+{
+    let mut i = 0;
+    for seat in theirs {
+        join_at(slots, seats, i, seat);
+        i += 1;
+    }
+}
+
+/// Joins the seats of all drainers into a row.
+fn join_drainers<N: Names, A: Allocator>(
+    slots: &mut [Slot<N, A>],
+    seats: &mut [Seat],
+    drainers: Vec<Drainer<N, A>, A>,
+)
+    requires slots { (length slots.old ≡ length N.plan.books) × AreInPlace slots.old }
+    requires seats { AreSeatsOf (consumed_books N.plan.books) seats.old }
+    ensures slots { slots.new ≡ slots.old }
+    ensures seats { AreJoined (length drainers.items + 1) (consumed_books N.plan.books) seats.new }
+    ensures amounts { sum (amounts_of seats.new) ≡ sum (amounts_of seats.old) + sum_by sum drainers.items }
+{
+    for drainer in drainers {
+        let Drainer {
+            seats: theirs,
+            of: _,
+        } = drainer;
+        join_row(slots, seats, theirs);
+    }
+}
+
+/// Joins all seats. What they have is what the streams count.
+fn join_all<N: Names, A: Allocator>(
+    slots: &mut [Slot<N, A>],
+    producers: &mut [Producer<N>],
+    mine: &mut [Seat],
+    cuts: &mut [Seat],
+    drainers: Vec<Drainer<N, A>, A>,
+)
+    requires slots { length slots.old ≡ length N.plan.books }
+    requires whole { AreWhole (length drainers.items) slots.old }
+    requires producers { IsOneEach (length slots.old) producers.old }
+    requires mine { AreSeatsOf (consumed_books N.plan.books) mine.old }
+    requires cuts { AreSeatsOf (cut_books N.plan.books) cuts.old }
+    ensures slots { slots.new ≡ slots.old }
+    ensures add_up { (desk : DeskState) → desk.consumed ≡ amounts_of mine.old → desk.cuts ≡ amounts_of cuts.old
+        → totals_of (streams_of slots.old) ≡ totals_of_seats producers.old drainers.items desk }
+    ensures cut { (k : ℕ) (d : SeatState) (s : SlotState) → k < length slots.old
+        → (slice_index_or cuts.old k d).amount ≡ (totals_in (slice_index_or slots.old k s).stream).cuts }
+    ensures planned { (k : ℕ) (s : SlotState) → k < length slots.old
+        → IsPlanned N.plan k (slice_index_or slots.old k s).stream.config }
+{
+    audit_producers(slots, producers);
+    join_drainers(slots, mine, drainers);
+    audit_consumed(slots, mine);
+    audit_cuts(slots, cuts);
+}
+
+/// The streams out of their slots, in order, in the room that was reserved.
+fn streams_out<N: Names, A: Allocator>(
+    slots: Vec<Slot<N, A>, A>,
+    mut room: Vec<Stream<A>, A>,
+) -> Vec<Stream<A>, A>
+    requires { (vec_len room ≡ 0) × (length slots.items ≤ vec_capacity room) }
+    ensures { result.items ≡ streams_of slots.items }
+{
+    for slot in slots {
+        room.push_reserved(slot.into_stream());
+    }
+    room
+}
+
+/// Settles what can be settled.
+pub(crate) fn settle_all<N: Names, A: Allocator + Copy>(
+    alloc: A,
+    desk: Desk<N, A>,
+    mut slots: Vec<Slot<N, A>, A>,
+    mut producers: Vec<Producer<N>, A>,
+    drainers: Vec<Drainer<N, A>, A>,
+    room: Vec<Stream<A>, A>,
+) -> (Settled<A>, Totals)
+    requires slots { length slots.items ≡ length N.plan.books }
+    requires may { CanSettle producers.items (length drainers.items) (opened_state desk slots.items) }
+    requires room { (vec_len room ≡ 0) × (length N.plan.books ≤ vec_capacity room) }
+    ensures session { result.0 ≡ session_of desk.book (streams_of slots.items) }
+    ensures totals { result.1 ≡ totals_of (streams_of slots.items) }
+    ensures seats { result.1 ≡ totals_of_seats producers.items drainers.items desk }
+    ensures places { result.1.offered ≡ result.1.discarded + result.1.overwritten
+        + sum_by (λ (s : StreamState). in_ring s.ring) (streams_of slots.items) + result.1.consumed }
+{
+    let Desk {
+        book,
+        drainers: _,
+        mut consumed,
+        mut cuts,
+        of: _,
+    } = desk;
+    let totals = sums(&slots);
+    join_all(
+        slots.as_mut_slice(),
+        producers.as_mut_slice(),
+        consumed.as_mut_slice(),
+        cuts.as_mut_slice(),
+        drainers,
+    );
+    let streams = streams_out(slots, room);
+    (
+        Settled::of(Session::from_parts(alloc, book, streams)),
+        totals,
+    )
+}

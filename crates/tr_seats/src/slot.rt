@@ -1,0 +1,236 @@
+//! A stream under a lock of its own.
+
+ghost use Rattle.std.specs.Prelude.{◌≡◌, ◌≢◌, ◌≤◌, ◌+◌, Ok, Err, IsOk, IfOk, OnErr, [], length};
+ghost use Rattle.tr_seats.specs.Slots.{IsOwn, drainer_after, producer_after, slot_after_offer, slot_after_split, slot_after_take, slot_offer_answer, slot_split_answer, slot_take_answer, serial_of};
+ghost use Rattle.tr_ledger.specs.Ledgers.{seat_state};
+ghost use Rattle.tr_seats.specs.Books.{IsPlanned, IsTooBig, books_at};
+ghost use Rattle.tr_seats.specs.Sums.{totals_in};
+ghost use Rattle.tr_stream.specs.Kept.{IsKept};
+ghost use Rattle.tr_stream.specs.StateSteps.{TakesMemory, state_after_switch, state_counts, state_snap};
+
+use crate::drainer::Drainer;
+use crate::limits::MOST_DRAINERS;
+use crate::names::Names;
+use crate::producer::Producer;
+use std::alloc::{AllocError, Allocator, Global};
+use std::marker::{Model, PhantomData};
+use tr_book::{Counts, StreamSnap};
+use tr_ledger::{Ledger, Seat};
+use tr_session_book::SessionFault;
+use tr_stream::{OfferFault, Offered, Stream, TakeFault, Taken};
+use tr_terms::Moment;
+
+/// A stream with its number and its books, which its lock guards. Contracts see a `SlotState`.
+#[derive(Drop)]
+pub struct Slot<N: Names, A: Allocator = Global> {
+    pub(crate) number: usize,
+    pub(crate) stream: Stream<A>,
+    pub(crate) offered: Ledger<A>,
+    pub(crate) discarded: Ledger<A>,
+    pub(crate) overwritten: Ledger<A>,
+    pub(crate) overwritten_packets: Ledger<A>,
+    pub(crate) consumed: Ledger<A>,
+    pub(crate) cuts: Ledger<A>,
+    pub(crate) of: PhantomData<N>,
+}
+
+impl<N: Names, A: Allocator> Model for Slot<N, A> {
+    ghost use Rattle.std.specs.Prelude.{◌<◌, length};
+    ghost use Rattle.tr_seats.specs.Books.{AreBooksOf, IsPlanned, books_at};
+    ghost use Rattle.tr_seats.specs.Slots.{SlotState, slot_state};
+
+    ghost Value = { SlotState };
+
+    ghost view = { λ s. slot_state s.number s.stream s.consumed.made };
+
+    // the totals of its books are the stream's counts, and it is the stream that the plan made for its number
+    ghost invariant = { λ s. (s.number < length N.plan.books)
+        × AreBooksOf (books_at N.plan.books s.number) s.stream s.consumed.made s.offered s.discarded s.overwritten
+        s.overwritten_packets s.consumed s.cuts
+        × IsPlanned N.plan s.number s.stream.config };
+}
+
+impl<N: Names, A: Allocator + Copy> Slot<N, A> {
+    /// Offers a record as the stream does, and moves the producer's seats by what was answered. An offer by the producer of
+    /// another stream is `Misplaced`. An offer that is refused changes nothing.
+    #[inline(always)]
+    pub fn offer(
+        &mut self,
+        producer: &mut Producer<N>,
+        moment: Moment,
+        id: u32,
+        payload: &[u8],
+    ) -> Result<Offered, OfferFault>
+        ensures value { result ≢ Err OfferFault.NoMemory →
+            (result ≡ slot_offer_answer producer.old.number moment id payload.now self.old)
+            × (self.new ≡ slot_after_offer producer.old.number moment id payload.now self.old) }
+        ensures seats { producer.new ≡ producer_after result producer.old }
+        ensures serial { IfOk result (λ offered. serial_of offered ≡ producer.old.offered) }
+        ensures too_big { result ≡ Err OfferFault.TooBig
+            → IsTooBig N.plan producer.old.number (length payload.now) }
+        ensures no_memory { result ≡ Err OfferFault.NoMemory → self.new ≡ self.old }
+        ensures memory { result ≡ Err OfferFault.NoMemory
+            → TakesMemory (slot_offer_answer producer.old.number moment id payload.now self.old) }
+    {
+        if producer.number != self.number {
+            return Err(OfferFault::Misplaced);
+        }
+        let offered = self.stream.offer(moment, id, payload)?;
+        // a stream is sound, so there is room for what its books are raised by
+        let _ = self.stream.config();
+        self.offered.raise_by_one(&mut producer.offered);
+        match offered {
+            Offered::Stored { .. } => {}
+            Offered::StoredOver { gone_count, .. } => {
+                self.overwritten
+                    .raise(&mut producer.overwritten, gone_count);
+                self.overwritten_packets
+                    .raise_by_one(&mut producer.overwritten_packets);
+            }
+            Offered::Discarded { .. } => {
+                self.discarded.raise_by_one(&mut producer.discarded);
+            }
+        }
+        Ok(offered)
+    }
+
+    /// Takes a packet as the stream does, and raises the drainer's seat of this stream by the packet's records, of which
+    /// there is at least one. A take from another stream than that of number `i` is `Misplaced`. A take that is refused
+    /// changes nothing.
+    pub fn take(&mut self, drainer: &mut Drainer<N, A>, i: usize) -> Result<Taken, TakeFault>
+        ensures value { result ≢ Err TakeFault.NoMemory →
+            (result ≡ slot_take_answer i self.old) × (self.new ≡ slot_after_take i self.old) }
+        ensures seats { drainer.new ≡ drainer_after result i drainer.old }
+        ensures some { IfOk result (λ taken. 1 ≤ taken.count) }
+        ensures no_memory { result ≡ Err TakeFault.NoMemory → self.new ≡ self.old }
+        ensures memory { result ≡ Err TakeFault.NoMemory → IsOk (slot_take_answer i self.old) }
+    {
+        if i != self.number {
+            return Err(TakeFault::Misplaced);
+        }
+        let _ = self.stream.config();
+        let taken = self.stream.take()?;
+        let _ = self.stream.config();
+        self.consumed.raise(&mut drainer.seats[i], taken.count);
+        Ok(taken)
+    }
+
+    /// What the stream has now, as `Stream::peek` shows it. Nothing changes.
+    pub fn peek(&self, moment: Moment) -> Result<StreamSnap<A>, AllocError>
+        ensures value { IfOk result (λ snap. snap ≡ state_snap moment self.now.stream) }
+        ensures memory { OnErr result ((state_snap moment self.now.stream).packets ≢ []) }
+    {
+        self.stream.peek(moment)
+    }
+}
+
+impl<N: Names, A: Allocator> Slot<N, A> {
+    /// The stream's number.
+    pub fn number(&self) -> usize
+        ensures { result ≡ self.now.number }
+    {
+        self.number
+    }
+
+    /// How many seats of the consumed records were made beside the first.
+    pub fn made(&self) -> u64
+        ensures { result ≡ self.now.made }
+    {
+        self.consumed.made()
+    }
+
+    /// How many records were offered, and where they are.
+    pub fn counts(&self) -> Counts
+        ensures value { result ≡ state_counts self.now.stream }
+        ensures total { result.discarded + result.overwritten + result.in_ring + result.consumed ≡ result.offered }
+    {
+        self.stream.counts()
+    }
+
+    /// Lets the stream take offers, or makes it refuse them.
+    pub fn set_active(&mut self, active: bool)
+        ensures { self.new ≡ record self.old { stream = state_after_switch active self.old.stream } }
+    {
+        self.stream.set_active(active);
+    }
+
+    /// A new seat of the records consumed from this stream. It takes no memory.
+    ///
+    /// # Errors
+    ///
+    /// `Misplaced` if the stream isn't that of number `i`, `TooMany`: nothing changed.
+    pub fn split(&mut self, i: usize) -> Result<Seat, SessionFault>
+        ensures answer { result ≡ slot_split_answer N.plan.books i self.old }
+        ensures after { self.new ≡ slot_after_split i self.old }
+    {
+        if i != self.number {
+            return Err(SessionFault::Misplaced);
+        }
+        if self.consumed.made() >= MOST_DRAINERS {
+            return Err(SessionFault::TooMany);
+        }
+        Ok(self.consumed.split())
+    }
+
+    /// Changes nothing, and shows that the numbers of the stream's producer are the stream's own.
+    pub fn audit(&mut self, producer: &mut Producer<N>)
+        requires { producer.old.number ≡ self.old.number }
+        ensures same { (self.new ≡ self.old) × (producer.new ≡ producer.old) }
+        ensures own { IsOwn producer.old (totals_in self.old.stream) }
+    {
+        self.offered.audit(&mut producer.offered);
+        self.discarded.audit(&mut producer.discarded);
+        self.overwritten.audit(&mut producer.overwritten);
+        self.overwritten_packets
+            .audit(&mut producer.overwritten_packets);
+    }
+
+    /// Joins a seat of this stream's consumed records into another. It takes no memory.
+    pub(crate) fn join(&mut self, mine: &mut Seat, other: Seat)
+        requires mine { mine.old.table ≡ (books_at N.plan.books self.old.number).consumed }
+        requires other { other.table ≡ (books_at N.plan.books self.old.number).consumed }
+        ensures slot { self.new ≡ self.old }
+        ensures seat { mine.new
+            ≡ seat_state mine.old.table (mine.old.amount + other.amount) (mine.old.mark + other.mark) }
+    {
+        self.consumed.join(mine, other);
+    }
+
+    /// Changes nothing, and shows that a whole seat of the consumed records has the stream's count of them.
+    pub(crate) fn audit_consumed(&mut self, mine: &mut Seat)
+        requires { mine.old.table ≡ (books_at N.plan.books self.old.number).consumed }
+        ensures same { (self.new ≡ self.old) × (mine.new ≡ mine.old) }
+        ensures whole { mine.old.mark ≡ self.old.made + 1 → mine.old.amount ≡ (totals_in self.old.stream).consumed }
+    {
+        self.consumed.audit(mine);
+    }
+
+    /// Changes nothing, and shows that the whole seat of the cuts has the stream's count of them, and that the plan made
+    /// this stream.
+    pub(crate) fn audit_cuts(&mut self, mine: &mut Seat)
+        requires { mine.old.table ≡ (books_at N.plan.books self.old.number).cuts }
+        ensures same { (self.new ≡ self.old) × (mine.new ≡ mine.old) }
+        ensures whole { mine.old.mark ≡ 1 → mine.old.amount ≡ (totals_in self.old.stream).cuts }
+        ensures planned { IsPlanned N.plan self.old.number self.old.stream.config }
+    {
+        self.cuts.audit(mine);
+    }
+
+    /// The stream, out of its slot.
+    pub(crate) fn into_stream(self) -> Stream<A>
+        ensures { result ≡ self.stream }
+    {
+        let Slot {
+            number: _,
+            stream,
+            offered: _,
+            discarded: _,
+            overwritten: _,
+            overwritten_packets: _,
+            consumed: _,
+            cuts: _,
+            of: _,
+        } = self;
+        stream
+    }
+}
