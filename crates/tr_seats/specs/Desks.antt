@@ -37,9 +37,9 @@ pub record IsDesk (plan : PlanState) (book : SessionBookState) (consumed cuts : 
   pub cuts_are : AreSeatsOf (cut_books plan.books) cuts
   pub operator : (i : ℕ) → i < length plan.books → slice_index (amounts_of cuts) i ≡ chunks_closed i book
 
--- a drainer is begun, unless as many were as are allowed
-abbrev pub desk_begin_answer : DeskState → Result Unit SessionFault
-desk_begin_answer desk = if nat_le MOST_DRAINERS desk.drainers then Err TooMany else Ok tt
+-- a drainer is begun, with no seat yet, unless as many were as are allowed
+abbrev pub desk_begin_answer : DeskState → Result ℕ SessionFault
+desk_begin_answer desk = if nat_le MOST_DRAINERS desk.drainers then Err TooMany else Ok 0
 
 abbrev pub desk_after_begin : DeskState → DeskState
 desk_after_begin desk =

@@ -1,9 +1,10 @@
 //! The book of a session, as its lock guards it.
 
-ghost use Rattle.std.specs.Prelude.{◌≡◌, ◌≢◌, ◌≤◌};
+ghost use Rattle.std.specs.Prelude.{◌≡◌, ◌≢◌, ◌≤◌, Err, IsOk};
 ghost use Rattle.tr_seats.specs.Desks.{desk_after_begin, desk_begin_answer};
 ghost use Rattle.tr_session_book.specs.BookSteps.{book_after_start, book_after_stop, book_start_answer, book_stop_answer};
 
+use crate::drainer::DrainerBegun;
 use crate::limits::MOST_DRAINERS;
 use crate::names::Names;
 use std::alloc::{Allocator, Global};
@@ -58,20 +59,24 @@ impl<N: Names, A: Allocator> Desk<N, A> {
         self.book.stop()
     }
 
-    /// Counts a drainer that is to be made. One that isn't made after all is missing when the session is settled.
+    /// Begins a drainer: it is counted, and has room for the seats of all streams. Only this call of those that make a drainer
+    /// takes memory. One that isn't finished after all is missing when the session is settled.
     ///
     /// # Errors
     ///
-    /// `TooMany`: nothing changed.
-    pub fn begin_drainer(&mut self) -> Result<(), SessionFault>
-        ensures answer { result ≡ desk_begin_answer self.old }
-        ensures after { self.new ≡ desk_after_begin self.old }
+    /// `TooMany`, `NoMemory`: nothing changed.
+    pub fn begin_drainer(&mut self, alloc: A) -> Result<DrainerBegun<N, A>, SessionFault>
+        ensures value { result ≢ Err SessionFault.NoMemory →
+            (result ≡ desk_begin_answer self.old) × (self.new ≡ desk_after_begin self.old) }
+        ensures no_memory { result ≡ Err SessionFault.NoMemory → self.new ≡ self.old }
+        ensures memory { result ≡ Err SessionFault.NoMemory → IsOk (desk_begin_answer self.old) }
     {
         if self.drainers >= MOST_DRAINERS {
             return Err(SessionFault::TooMany);
         }
+        let begun = DrainerBegun::new(alloc, self.consumed.len())?;
         self.drainers += 1;
-        Ok(())
+        Ok(begun)
     }
 
     /// How many drainers were begun.

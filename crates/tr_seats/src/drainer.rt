@@ -40,8 +40,8 @@ impl<N: Names, A: Allocator> Drainer<N, A> {
     }
 }
 
-/// A drainer that is being made: it has the seats of the first streams. Contracts see how many. One that is dropped was begun
-/// at its desk, where it is missing when the session is settled.
+/// A drainer that was begun at its desk: it has the seats of the first streams. Contracts see how many. One that is dropped is
+/// missing when the session is settled.
 #[derive(Drop)]
 pub struct DrainerBegun<N: Names, A: Allocator = Global> {
     seats: Vec<Seat, A>,
@@ -62,8 +62,8 @@ impl<N: Names, A: Allocator> Model for DrainerBegun<N, A> {
 }
 
 impl<N: Names, A: Allocator> DrainerBegun<N, A> {
-    /// A drainer with room for the seats of all `streams`, and none of them yet. Only this call takes memory.
-    pub fn new(alloc: A, streams: usize) -> Result<DrainerBegun<N, A>, AllocError>
+    /// A drainer with room for the seats of all `streams`, and none of them yet.
+    pub(crate) fn new(alloc: A, streams: usize) -> Result<DrainerBegun<N, A>, AllocError>
         requires { streams ≡ length N.plan.books }
         ensures { IfOk result (λ d. d ≡ 0) }
     {

@@ -74,19 +74,19 @@ impl<N: Names, A: Allocator> Opened<N, A> {
         }
     }
 
-    /// Its desk, its slots, and the room for the streams, which is empty. It takes no memory.
-    pub fn into_parts(self) -> (Desk<N, A>, Vec<Slot<N, A>, A>, Vec<Stream<A>, A>)
-        ensures value { opened_state result.0 result.1.items ≡ self }
-        ensures slots { length result.1.items ≡ length N.plan.books }
-        ensures room { (vec_len result.2 ≡ 0) × (length N.plan.books ≤ vec_capacity result.2) }
+    /// Its parts: its allocator, its desk, its slots, and the room for the streams, which is empty. It takes no memory.
+    pub fn into_parts(self) -> (A, Desk<N, A>, Vec<Slot<N, A>, A>, Vec<Stream<A>, A>)
+        ensures value { opened_state result.1 result.2.items ≡ self }
+        ensures slots { length result.2.items ≡ length N.plan.books }
+        ensures room { (vec_len result.3 ≡ 0) × (length N.plan.books ≤ vec_capacity result.3) }
     {
         let Opened {
-            alloc: _,
+            alloc,
             desk,
             slots,
             room,
         } = self;
-        (desk, slots, room)
+        (alloc, desk, slots, room)
     }
 }
 

@@ -1,0 +1,13 @@
+//! A session that many threads share. Its desk and each of its streams lie under a lock of their own: the desk's is taken
+//! first, and then at most one stream's. Producers and drainers are seats that their threads own, so that an offer or a take
+//! waits for its stream alone.
+#![tactic(auto)]
+
+mod settle_fault;
+mod shared;
+
+pub use settle_fault::SettleFault;
+pub use shared::Shared;
+pub use tr_seats::{
+    Drainer, MOST_DRAINERS, Names, Plan, Producer, SettleError, Settled, Totals, plan,
+};

@@ -1,0 +1,257 @@
+//! The session under its locks.
+
+ghost use Rattle.std.specs.Prelude.{◌≡◌, ◌+◌, ◌<◌, ◌≤◌, ◌↔◌, IfErr, IfOk, length, replicate, sum_by, vec_capacity, vec_len};
+ghost use Rattle.tr_seats.specs.Settling.{IsOneEach};
+ghost use Rattle.tr_seats.specs.Slots.{AreNew, drainer_after, producer_after, serial_of};
+ghost use Rattle.tr_seats.specs.Books.{IsTooBig};
+ghost use Rattle.tr_seats.specs.Sums.{totals_of};
+ghost use Rattle.tr_shared.specs.Calls.{AreOffersOf, IsDrainerFault, IsStartFault, IsStopFault};
+ghost use Rattle.tr_stream.specs.State.{StreamState, in_ring};
+
+use crate::settle_fault::SettleFault;
+use std::alloc::{Allocator, Global};
+use std::sync::{Mutex, Wait};
+use tr_seats::{
+    Desk, Drainer, Names, Opened, Plan, Producer, SettleError, Settled, Slot, Totals, Unsettled,
+};
+use tr_session_book::SessionFault;
+use tr_stream::{OfferFault, Offered, Stream, TakeFault, Taken};
+use tr_terms::Moment;
+
+/// A session that threads share by reference: its desk, and each of its streams, under locks.
+#[derive(Drop)]
+pub struct Shared<N: Names, A: Allocator = Global> {
+    alloc: A,
+    desk: Mutex<Desk<N, A>>,
+    slots: Vec<Mutex<Slot<N, A>>, A>,
+    places: Mutex<Places<N, A>>,
+    ghost all_here: { vec_len slots ≡ length N.plan.books },
+}
+
+/// Where the streams go when they leave their locks, and when they are settled: both are empty, with room for all. They lie
+/// under a lock since no reference to them may be shared.
+#[derive(Drop)]
+struct Places<N: Names, A: Allocator = Global> {
+    slots: Vec<Slot<N, A>, A>,
+    room: Vec<Stream<A>, A>,
+    ghost reserved: { (vec_len slots ≡ 0) × (length N.plan.books ≤ vec_capacity slots) × (vec_len room ≡ 0)
+        × (length N.plan.books ≤ vec_capacity room) },
+}
+
+impl<N: Names, A: Allocator + Copy> Shared<N, A> {
+    /// The session that a `Names` names, to be shared, and the producer of each stream, in order of number, with nothing
+    /// offered. All that settling needs is reserved.
+    ///
+    /// # Errors
+    ///
+    /// `NoMemory`: the plan is gone.
+    pub fn build(plan: Plan<A>) -> Result<(Shared<N, A>, Vec<Producer<N>, A>), SessionFault>
+        requires { plan ≡ N.plan }
+        ensures producers { IfOk result (λ r. AreNew (length plan.books) r.1.items) }
+        ensures memory { IfErr result (λ fault. fault ≡ SessionFault.NoMemory) }
+    {
+        let (opened, producers) = plan.build::<N>()?;
+        let (alloc, desk, slots, room) = opened.into_parts();
+        let locks = Vec::with_capacity(alloc, slots.len())?;
+        Ok((Shared::close(alloc, desk, slots, room, locks), producers))
+    }
+
+    /// A drainer of this session, which took nothing yet.
+    ///
+    /// # Errors
+    ///
+    /// `TooMany`, `NoMemory`: nothing changed. `Misplaced` if a stream isn't where its number says: the drainer counts as
+    /// made, and is missing when the session is settled.
+    pub fn drainer(&self, rt: &impl Wait) -> Result<Drainer<N, A>, SessionFault>
+        ensures new { IfOk result (λ drainer. drainer ≡ replicate (length N.plan.books) 0) }
+        ensures refused { IfErr result IsDrainerFault }
+    {
+        let mut desk = self.desk.lock(rt);
+        let mut begun = desk.begin_drainer(self.alloc)?;
+        for i in 0..self.slots.len() {
+            begun = begun.with(&mut self.slots[i].lock(rt))?;
+        }
+        Ok(begun.finish())
+    }
+
+    /// Offers a record to the producer's stream, as `Slot::offer` does, under that stream's lock alone.
+    ///
+    /// # Errors
+    ///
+    /// Those of `Slot::offer`: nothing changed.
+    pub fn offer(
+        &self,
+        rt: &impl Wait,
+        producer: &mut Producer<N>,
+        moment: Moment,
+        id: u32,
+        payload: &[u8],
+    ) -> Result<Offered, OfferFault>
+        ensures seats { producer.new ≡ producer_after result producer.old }
+        ensures serial { IfOk result (λ offered. serial_of offered ≡ producer.old.offered) }
+        ensures too_big { result ≡ Err OfferFault.TooBig
+            → IsTooBig N.plan producer.old.number (length payload.now) }
+    {
+        let mut slot = self.slots[producer.stream()].lock(rt);
+        slot.offer(producer, moment, id, payload)
+    }
+
+    /// Takes a packet from the stream of number `i`, as `Slot::take` does, under that stream's lock alone.
+    ///
+    /// # Errors
+    ///
+    /// Those of `Slot::take`: nothing changed.
+    pub fn take(
+        &self,
+        rt: &impl Wait,
+        drainer: &mut Drainer<N, A>,
+        i: usize,
+    ) -> Result<Taken, TakeFault>
+        requires { i < length N.plan.books }
+        ensures seats { drainer.new ≡ drainer_after result i drainer.old }
+        ensures some { IfOk result (λ taken. 1 ≤ taken.count) }
+    {
+        let mut slot = self.slots[i].lock(rt);
+        slot.take(drainer, i)
+    }
+}
+
+impl<N: Names, A: Allocator> Shared<N, A> {
+    /// Puts a session under its locks.
+    fn close(
+        alloc: A,
+        desk: Desk<N, A>,
+        mut slots: Vec<Slot<N, A>, A>,
+        room: Vec<Stream<A>, A>,
+        mut locks: Vec<Mutex<Slot<N, A>>, A>,
+    ) -> Shared<N, A>
+        requires slots { length slots.items ≡ length N.plan.books }
+        requires room { (vec_len room ≡ 0) × (length N.plan.books ≤ vec_capacity room) }
+        requires locks { (vec_len locks ≡ 0) × (length N.plan.books ≤ vec_capacity locks) }
+    {
+        while let Some(slot) = slots.pop() {
+            locks.push_reserved(Mutex::new(slot));
+        }
+        locks.reverse();
+        Shared {
+            alloc,
+            desk: Mutex::new(desk),
+            slots: locks,
+            places: Mutex::new(Places { slots, room }),
+        }
+    }
+
+    /// How many streams there are: their numbers are those below.
+    pub fn streams(&self) -> usize
+        ensures { result ≡ length N.plan.books }
+    {
+        self.slots.len()
+    }
+
+    /// Starts the session at a moment: its book, and then each of its streams, takes offers from now on. The desk's lock is
+    /// held until all are switched.
+    ///
+    /// # Errors
+    ///
+    /// `RotationPending`, `AlreadyActive`: nothing changed. `Misplaced` if a stream isn't where its number says: the book,
+    /// and the streams before it, have started.
+    pub fn start(&self, rt: &impl Wait, moment: Moment) -> Result<(), SessionFault>
+        ensures { IfErr result IsStartFault }
+    {
+        let mut desk = self.desk.lock(rt);
+        desk.start(moment)?;
+        self.switch(rt, true)
+    }
+
+    /// Stops the session: its book, and then each of its streams, refuses offers from now on. The desk's lock is held until
+    /// all are switched.
+    ///
+    /// # Errors
+    ///
+    /// `RotationPending`, `NotActive`: nothing changed. `Misplaced` if a stream isn't where its number says: the book, and
+    /// the streams before it, have stopped.
+    pub fn stop(&self, rt: &impl Wait) -> Result<(), SessionFault>
+        ensures { IfErr result IsStopFault }
+    {
+        let mut desk = self.desk.lock(rt);
+        desk.stop()?;
+        self.switch(rt, false)
+    }
+
+    /// Lets each stream take offers, or makes it refuse them, one after another.
+    fn switch(&self, rt: &impl Wait, active: bool) -> Result<(), SessionFault>
+        ensures { IfErr result (λ fault. fault ≡ SessionFault.Misplaced) }
+    {
+        for (i, slot) in self.slots.iter().enumerate() {
+            let mut slot = slot.lock(rt);
+            if slot.number() != i {
+                return Err(SessionFault::Misplaced);
+            }
+            slot.set_active(active);
+        }
+        Ok(())
+    }
+
+    /// The session out of its locks, and the place for these, which is empty.
+    fn open(self) -> (Opened<N, A>, Vec<Mutex<Slot<N, A>>, A>)
+        ensures locks { (vec_len result.1 ≡ 0) × (length N.plan.books ≤ vec_capacity result.1) }
+    {
+        let Shared {
+            alloc,
+            desk,
+            slots: mut locks,
+            places,
+        } = self;
+        let Places { mut slots, room } = places.into_inner();
+        while let Some(lock) = locks.pop() {
+            slots.push_reserved(lock.into_inner());
+        }
+        slots.reverse();
+        let opened = Opened::from_parts(alloc, desk.into_inner(), slots, room);
+        (opened, locks)
+    }
+}
+
+impl<N: Names, A: Allocator + Copy> Shared<N, A> {
+    /// The session of one owner that this one was, and what all threads did together, which is what the streams count and
+    /// what the seats add up to. It takes no memory and waits for no lock.
+    ///
+    /// # Errors
+    ///
+    /// Those of `Opened::settle`: all that was given comes back, the streams in order of number.
+    pub fn settle(
+        self,
+        producers: Vec<Producer<N>, A>,
+        drainers: Vec<Drainer<N, A>, A>,
+    ) -> Result<(Settled<A>, Totals), SettleFault<N, A>>
+        ensures totals { IfOk result (λ r. r.1 ≡ totals_of r.0.streams) }
+        ensures seats { IfOk result (λ r. AreOffersOf producers.items drainers.items r.1) }
+        ensures places { IfOk result
+            (λ r. r.1.offered ≡ r.1.discarded + r.1.overwritten
+            + sum_by (λ (s : StreamState). in_ring s.ring) r.0.streams + r.1.consumed) }
+        ensures all { IfOk result (λ r. IsOneEach (length N.plan.books) producers.items) }
+        ensures missing { IfErr result
+            (λ f. f.fault ≡ SettleError.ProducerMissing ↔ (¬ IsOneEach (length N.plan.books) producers.items)) }
+        ensures back { IfErr result (λ f. (f.producers ≡ producers) × (f.drainers ≡ drainers)) }
+    {
+        let (opened, locks) = self.open();
+        match opened.settle(producers, drainers) {
+            Ok(settled) => Ok(settled),
+            Err(unsettled) => {
+                let Unsettled {
+                    error: fault,
+                    opened,
+                    producers,
+                    drainers,
+                } = unsettled;
+                let (alloc, desk, slots, room) = opened.into_parts();
+                Err(SettleFault {
+                    fault,
+                    shared: Shared::close(alloc, desk, slots, room, locks),
+                    producers,
+                    drainers,
+                })
+            }
+        }
+    }
+}

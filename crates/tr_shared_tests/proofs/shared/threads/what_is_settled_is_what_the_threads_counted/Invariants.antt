@@ -1,0 +1,5 @@
+use Rattle.tr_shared_tests.proofs.shared.threads.what_is_settled_is_what_the_threads_counted.Given as goal
+
+-- the plan that is given names itself
+abbrev pub ghosts-run : goal.ghosts-run
+ghosts-run g a = record { plan = a.plan }

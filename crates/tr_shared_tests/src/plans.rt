@@ -1,0 +1,52 @@
+//! Plans that tests begin with, and what all modules of these tests share.
+
+use std::alloc::Global;
+use std::fmt::Debug;
+use std::process::Abort;
+use std::test::*;
+use tr_seats::{Plan, plan};
+use tr_session::{ChannelConfig, Config};
+use tr_session_book::SessionFault;
+use tr_terms::{Mode, Name, OffsetMinutes, SessionMode};
+use uuid::Uuid;
+
+/// Compares what a test found with what it expects. As a call without clauses it keeps the proofs of the tests short.
+pub(crate) fn assert_same<T: PartialEq + Debug + Drop>(rt: &impl Abort, found: T, expected: T) {
+    assert_eq!(rt; found, expected);
+}
+
+/// The longest payload is what all others are the front of.
+pub(crate) const PAYLOAD: [u8; 153] = [0x61; 153];
+
+/// What planning a session answers: one channel `c` with this many threads, of two sub-buffers of this many bytes each.
+pub(crate) fn plan_with(
+    rt: &impl Abort,
+    alloc: Global,
+    session: SessionMode,
+    mode: Mode,
+    size: u64,
+    threads: u64,
+) -> Result<Plan, SessionFault> {
+    let offset = OffsetMinutes::new(0).expect(rt, "an offset");
+    let name = Name::new("c").expect(rt, "a name");
+    let channel = ChannelConfig {
+        name,
+        size,
+        count: 2,
+        mode,
+        threads,
+    };
+    let channels = vec![in alloc; channel].expect(rt, "memory");
+    let config = Config {
+        uuid: Uuid::nil(),
+        offset,
+        mode: session,
+        channels,
+    };
+    plan(alloc, &config)
+}
+
+/// A plan of this many streams with two sub-buffers of 256 bytes each.
+pub(crate) fn plan_of(rt: &impl Abort, alloc: Global, mode: Mode, threads: u64) -> Plan {
+    plan_with(rt, alloc, SessionMode::Local, mode, 256, threads).expect(rt, "a plan")
+}
