@@ -54,11 +54,7 @@ impl<A: Allocator + Copy> Session<A> {
     }
 
     /// A session of a book and its streams, in order of number. It takes no memory.
-    pub fn from_parts(
-        alloc: A,
-        book: SessionBook<A>,
-        streams: Vec<Stream<A>, A>,
-    ) -> Session<A>
+    pub fn from_parts(alloc: A, book: SessionBook<A>, streams: Vec<Stream<A>, A>) -> Session<A>
         requires { HasItsStreams (session_of book streams.items) }
         ensures { result ≡ session_of book streams.items }
     {
