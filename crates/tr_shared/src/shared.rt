@@ -194,6 +194,7 @@ impl<N: Names, A: Allocator> Shared<N, A> {
 
     /// The session out of its locks, and the place for these, which is empty.
     fn open(self) -> (Opened<N, A>, Vec<Mutex<Slot<N, A>>, A>)
+        ensures slots { length result.0.slots ≡ length N.plan.books }
         ensures locks { (vec_len result.1 ≡ 0) × (length N.plan.books ≤ vec_capacity result.1) }
     {
         let Shared {

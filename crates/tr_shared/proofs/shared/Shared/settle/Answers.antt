@@ -1,0 +1,16 @@
+use Rattle.std.proofs.Common.{◌≡◌, ℕ, length, subst}
+use Rattle.tr_seats.specs.Settling.{IsOneEach}
+use Rattle.tr_seats.specs.declared.settling.SettleError.TheVariants.{ProducerMissing}
+use Rattle.tr_shared.proofs.WhyLaws.{why-missing}
+use Rattle.tr_shared.proofs.shared.Shared.settle.Goals as goal
+
+pub returns-in-Ok-clause-all : goal.returns-in-Ok-clause-all
+returns-in-Ok-clause-all g c =
+    subst (λ (n : ℕ). IsOneEach n c.args.producers.items) c.open-opened.ensures.slots c.in-Ok.ensures.may.one_each
+
+pub returns-in-Err-clause-missing : goal.returns-in-Err-clause-missing
+returns-in-Err-clause-missing g c =
+    let error = c.in-Err.unsettled.error in
+    let producers = c.args.producers.items in
+    subst (λ (n : ℕ). (error ≡ ProducerMissing → ¬ IsOneEach n producers) × ((¬ IsOneEach n producers) → error ≡ ProducerMissing))
+    c.open-opened.ensures.slots (why-missing error producers _ _ c.in-Err.ensures.why)
