@@ -1,6 +1,8 @@
 -- What a stream's calls do to what it counts.
 use Rattle.std.proofs.Common.{◌≡◌, ◌≢◌, ◌∙◌, ℕ, ◌+◌, ◌≤◌, ◌^◌, Bool, true, false, List, [], ◌∷◌, length, Option, Some, None, Result, Ok, Err, ap, arith, refl, subst, sym, if◌then◌else◌}
+use Rattle.std.proofs.lemmas.List.{length-append}
 use Rattle.std.specs.List.{AllByRecursion}
+use Rattle.std.specs.Prelude.{max}
 use Rattle.tr_record.specs.Records.{Entry}
 use Rattle.tr_ring.specs.ClosedBuffer.{ClosedBuffer}
 use Rattle.tr_ring.specs.Ring.{IsClosedWithin, discard_newest, follow_current, join_current, over_first, push_answer, remove_oldest}
@@ -10,8 +12,10 @@ use Rattle.tr_seats.specs.Slots.{serial_of}
 use Rattle.tr_seats.specs.Sums.{totals_after_offer, totals_in}
 use Rattle.tr_seats.specs.declared.totals.Totals.{Totals}
 use Rattle.tr_stream.specs.Sound.{IsSound}
-use Rattle.tr_stream.specs.State.{StreamState}
-use Rattle.tr_stream.specs.StateSteps.{counters_after_push, move_oldest, offered_as, refusal_of, state_after_offer, state_after_take, state_entry, state_offer_answer, state_take_answer, state_with_offer}
+use Rattle.tr_stream.specs.State.{StreamState, in_ring}
+use Rattle.tr_stream.specs.StateSteps.{counters_after_push, cut_done, move_oldest, offered_as, refusal_of, state_after_cut, state_after_offer, state_after_take, state_cut_answer, state_cut_ring, state_entry, state_offer_answer, state_take_answer, state_with_offer}
+use Rattle.tr_stream.proofs.CutLaws.{records_in-ring}
+use Rattle.tr_stream.specs.declared.answers.CutDone.{CutDone}
 use Rattle.tr_stream.specs.declared.answers.OfferFault.{OfferFault}
 use Rattle.tr_stream.specs.declared.answers.Offered.{Offered}
 use Rattle.tr_stream.specs.declared.answers.TakeFault.{TakeFault}
@@ -112,6 +116,28 @@ refused-take s new take_fault.NoMemory value none = none refl
 refused-take s new take_fault.Nothing value none = take-unchanged s new take_fault.Nothing (value (λ e. cc))
 refused-take s new take_fault.SnapshotMode value none = take-unchanged s new take_fault.SnapshotMode (value (λ e. cc))
 refused-take s new take_fault.Misplaced value none = take-unchanged s new take_fault.Misplaced (value (λ e. cc))
+
+-- ---- cuts
+
+-- what a cut moves is counted as consumed, and one more chunk is closed
+pub cut-totals : (moment : ℕ) (s : StreamState) (done : CutDone) → Ok done ≡ state_cut_answer moment s
+    → totals_in (state_after_cut moment s)
+    ≡ record (totals_in s) { consumed = (totals_in s).consumed + done.records; cuts = (totals_in s).cuts + 1 }
+cut-totals moment s done answered = go s.config.session refl
+  where
+    end : ℕ
+    end = max moment s.counters.last
+
+    go : (mode : SessionMode) → s.config.session ≡ mode → totals_in (state_after_cut moment s)
+        ≡ record (totals_in s) { consumed = (totals_in s).consumed + done.records; cuts = (totals_in s).cuts + 1 }
+    go Snapshot at = cc
+    go Local at =
+        let is : done ≡ cut_done end s = cc in
+        let records : in_ring s.ring ≡ done.records = sym (ap (λ (d : CutDone). d.records) is ∙ records_in-ring s end) in
+        let after : state_after_cut moment s ≡ state_cut_ring end s = cc in
+        let closed = length-append s.parts.closed (_ ∷ []) in
+        ap totals_in after
+        ∙ (λ j. record (totals_in s) { consumed = (totals_in s).consumed + records j; cuts = closed j })
 
 -- an accepted offer's serial is the number of offers before it
 pub offer-serial : (moment id : ℕ) (payload : List ℕ) (s : StreamState) (offered : Offered)

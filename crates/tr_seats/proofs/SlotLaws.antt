@@ -111,6 +111,25 @@ module _ (books : Books) (s t : StreamState) (made : ℕ) (o d v p k c : LedgerS
         cuts_is = stay (λ (b : Books). b.cuts) (λ (x : Totals). x.cuts) c 0 was.cuts_is (ap (λ (x : Totals). x.cuts) more);
       }
 
+  pub books-cut : (k' c' : LedgerState) (n : ℕ)
+      → totals_in t ≡ record (totals_in s) { consumed = (totals_in s).consumed + n; cuts = (totals_in s).cuts + 1 }
+      → k' ≡ ledger_state k.table (k.total + n) k.made → c' ≡ ledger_state c.table (c.total + 1) c.made
+      → AreBooksOf books t k'.made o d v p k' c'
+  books-cut k' c' n more e ec =
+      let same : k'.made ≡ made = ap (λ (l : LedgerState). l.made) (e ∙ ap (λ (l : LedgerState). ledger_state l.table (l.total + n) l.made) was.consumed_is) in
+      record {
+        offered_is = stay (λ (b : Books). b.offered) (λ (x : Totals). x.offered) o 0 was.offered_is (ap (λ (x : Totals). x.offered) more);
+        discarded_is = stay (λ (b : Books). b.discarded) (λ (x : Totals). x.discarded) d 0 was.discarded_is (ap (λ (x : Totals). x.discarded) more);
+        overwritten_is = stay (λ (b : Books). b.overwritten) (λ (x : Totals). x.overwritten) v 0 was.overwritten_is
+            (ap (λ (x : Totals). x.overwritten) more);
+        packets_is = stay (λ (b : Books). b.overwritten_packets) (λ (x : Totals). x.overwritten_packets) p 0 was.packets_is
+            (ap (λ (x : Totals). x.overwritten_packets) more);
+        consumed_is = rise (λ (b : Books). b.consumed) (λ (x : Totals). x.consumed) k k' n made was.consumed_is e
+            (ap (λ (x : Totals). x.consumed) more)
+            ∙ ap (λ (m : ℕ). ledger_state books.consumed (totals_in t).consumed m) (sym same);
+        cuts_is = rise (λ (b : Books). b.cuts) (λ (x : Totals). x.cuts) c c' 1 0 was.cuts_is ec (ap (λ (x : Totals). x.cuts) more);
+      }
+
 -- the stream is that of this number
 pub taken-here : (i : ℕ) (slot new : SlotState) (result : Result Taken TakeFault) → i ≡ slot.number
     → result ≡ state_take_answer slot.stream → new ≡ record slot { stream = state_after_take slot.stream }

@@ -9,6 +9,7 @@ mod making;
 mod names;
 mod naming;
 mod opened;
+mod operating;
 mod planned;
 mod producer;
 mod settled;

@@ -1,12 +1,13 @@
 //! A stream under a lock of its own.
 
-ghost use Rattle.std.specs.Prelude.{◌≡◌, ◌≢◌, ◌≤◌, ◌+◌, Ok, Err, IsOk, IfOk, OnErr, [], length};
+ghost use Rattle.std.specs.Prelude.{◌≡◌, ◌≢◌, ◌≤◌, ◌<◌, ◌+◌, ◌^◌, Ok, Err, IsOk, IfOk, OnErr, [], length};
+ghost use Rattle.tr_seats.specs.Cuts.{seat_after_cut, seat_of_cuts_after};
 ghost use Rattle.tr_seats.specs.Slots.{IsOwn, drainer_after, producer_after, slot_after_offer, slot_after_split, slot_after_take, slot_offer_answer, slot_split_answer, slot_take_answer, serial_of};
 ghost use Rattle.tr_ledger.specs.Ledgers.{seat_state};
 ghost use Rattle.tr_seats.specs.Books.{IsPlanned, IsTooBig, books_at};
 ghost use Rattle.tr_seats.specs.Sums.{totals_in};
 ghost use Rattle.tr_stream.specs.Kept.{IsKept};
-ghost use Rattle.tr_stream.specs.StateSteps.{TakesMemory, state_after_switch, state_counts, state_snap};
+ghost use Rattle.tr_stream.specs.StateSteps.{TakesMemory, state_after_cut, state_after_switch, state_counts, state_cut_answer, state_snap};
 
 use crate::drainer::Drainer;
 use crate::limits::MOST_DRAINERS;
@@ -17,7 +18,7 @@ use std::marker::{Model, PhantomData};
 use tr_book::{Counts, StreamSnap};
 use tr_ledger::{Ledger, Seat};
 use tr_session_book::SessionFault;
-use tr_stream::{OfferFault, Offered, Stream, TakeFault, Taken};
+use tr_stream::{CutDone, CutFault, OfferFault, Offered, Stream, TakeFault, Taken};
 use tr_terms::Moment;
 
 /// A stream with its number and its books, which its lock guards. Contracts see a `SlotState`.
@@ -127,7 +128,8 @@ impl<N: Names, A: Allocator + Copy> Slot<N, A> {
 impl<N: Names, A: Allocator> Slot<N, A> {
     /// The stream's number.
     pub fn number(&self) -> usize
-        ensures { result ≡ self.now.number }
+        ensures number { result ≡ self.now.number }
+        ensures there { result < length N.plan.books }
     {
         self.number
     }
@@ -194,6 +196,38 @@ impl<N: Names, A: Allocator> Slot<N, A> {
             ≡ seat_state mine.old.table (mine.old.amount + other.amount) (mine.old.mark + other.mark) }
     {
         self.consumed.join(mine, other);
+    }
+
+    /// Cuts the stream as it does itself, and raises the desk's seats of it: that of its records by those that the cut moved,
+    /// and that of its cuts by one.
+    ///
+    /// # Errors
+    ///
+    /// Those of `Stream::cut`: nothing changed.
+    pub(crate) fn cut(
+        &mut self,
+        consumed: &mut Seat,
+        cuts: &mut Seat,
+        moment: Moment,
+    ) -> Result<CutDone, CutFault>
+    where
+        A: Copy,
+        requires consumed { consumed.old.table ≡ (books_at N.plan.books self.old.number).consumed }
+        requires cuts { cuts.old.table ≡ (books_at N.plan.books self.old.number).cuts }
+        requires room { (totals_in self.old.stream).cuts + 1 < 2 ^ 64 }
+        ensures value { result ≢ Err CutFault.NoMemory → (result ≡ state_cut_answer moment self.old.stream)
+            × (self.new ≡ record self.old { stream = state_after_cut moment self.old.stream }) }
+        ensures consumed { consumed.new ≡ seat_after_cut result consumed.old }
+        ensures cuts { cuts.new ≡ seat_of_cuts_after result cuts.old }
+        ensures no_memory { result ≡ Err CutFault.NoMemory → self.new ≡ self.old }
+        ensures memory { result ≡ Err CutFault.NoMemory → IsOk (state_cut_answer moment self.old.stream) }
+    {
+        let _ = self.stream.config();
+        let done = self.stream.cut(moment)?;
+        let _ = self.stream.config();
+        self.consumed.raise(consumed, done.records);
+        self.cuts.raise_by_one(cuts);
+        Ok(done)
     }
 
     /// Changes nothing, and shows that a whole seat of the consumed records has the stream's count of them.

@@ -1,6 +1,6 @@
 //! The book of a session: what it keeps beside its streams.
 
-ghost use Rattle.std.specs.Prelude.{◌≡◌, ◌≢◌, ◌<◌, [], false, None, Some, Ok, Err, IsOk, IfOk, OnOk, IfErr, OnErr, is_some, length};
+ghost use Rattle.std.specs.Prelude.{◌≡◌, ◌≢◌, ◌+◌, ◌<◌, ◌^◌, [], false, None, Some, Ok, Err, IsOk, IfOk, OnOk, IfErr, OnErr, is_some, length};
 ghost use Rattle.tr_session_book.specs.Book.{new_book};
 ghost use Rattle.tr_session_book.specs.BookSteps.{is_new, channel_named, book_add_channel, with_channel, thread_place, book_add_thread, with_thread, book_start_answer, book_after_start, book_stop_answer, book_after_stop, book_switch_answer, book_rotate_begin_answer, with_pending, book_after_rotate_begin, cut_moment, with_cut, book_note_cut_answer, book_after_note_cut, book_rotate_finish_answer, book_after_rotate_finish, is_allowed};
 ghost use Rattle.tr_terms.specs.declared.limits.TheConstants.{MOST_CHANNELS, MOST_STREAMS};
@@ -370,6 +370,7 @@ impl<A: Allocator> SessionBook<A> {
     pub fn cut_moment(&self, i: u64) -> Result<Moment, SessionFault>
         ensures value { result ≡ cut_moment i self.now }
         ensures local { OnOk result (self.now.mode ≡ SessionMode.Local) }
+        ensures room { OnOk result (length self.now.archives + 1 < 2 ^ 63) }
     {
         if i >= self.threads.len() as u64 {
             return Err(SessionFault::NoStream);

@@ -2,6 +2,7 @@
 
 ghost use Rattle.std.specs.Prelude.{◌≡◌, length};
 
+mod rotating;
 mod settling;
 
 use crate::plans::{PAYLOAD, assert_same, plan_of, plan_with};

@@ -1,0 +1,37 @@
+use Rattle.std.proofs.Common.{rules, ◌≡◌, ◌∙◌, ◌+◌, Ok, ap, arith, subst, sym}
+use Rattle.tr_ledger.specs.Ledgers.{LedgerState}
+use Rattle.tr_seats.proofs.CountLaws.{cut-totals, few-counted}
+use Rattle.tr_seats.proofs.SlotLaws.{books-cut}
+use Rattle.tr_seats.proofs.slot.Slot.cut.Goals as goal
+use Rattle.tr_seats.specs.Books.{IsPlanned, books_at}
+use Rattle.tr_seats.specs.Sums.{totals_in}
+use Rattle.tr_seats.specs.declared.totals.Totals.{Totals}
+use Rattle.tr_stream.specs.StateSteps.{state_after_cut, state_cut_answer}
+
+pub raise-requires-clause-room : goal.raise-requires-clause-room
+raise-requires-clause-room g c =
+    let old = c.self.inside in
+    let done = c.in_ok-done.done in
+    let after : c.cut.new.self ≡ state_after_cut c.args.moment old.stream = search rules in
+    let answer : Ok done ≡ state_cut_answer c.args.moment old.stream = search rules in
+    let few = (few-counted c.cut.new.self c.config-2.ensures.kept.sound).consumed in
+    let more : (totals_in c.cut.new.self).consumed ≡ (totals_in old.stream).consumed + done.records =
+    ap (λ (t : Totals). t.consumed) (ap totals_in after ∙ cut-totals c.args.moment old.stream done answer) in
+    let total : old.consumed.total ≡ (totals_in old.stream).consumed = ap (λ (l : LedgerState). l.total) c.self.invariant.1.consumed_is in
+    omega (arith, few, more, total)
+
+pub invariant_of-self-2 : goal.invariant_of-self-2
+invariant_of-self-2 g c =
+    let old = c.self.inside in
+    let done = c.in_ok-done.done in
+    let after : c.cut.new.self ≡ state_after_cut c.args.moment old.stream = search rules in
+    let answer : Ok done ≡ state_cut_answer c.args.moment old.stream = search rules in
+    let planned = subst (IsPlanned g.N.Names.plan old.number) (sym c.in_ok-done.ensures.config) c.self.invariant.2 in (
+      c.self.invariant.0,
+      books-cut (books_at g.N.Names.plan.books old.number) old.stream c.cut.new.self old.consumed.made old.offered
+          old.discarded old.overwritten old.overwritten_packets old.consumed old.cuts c.self.invariant.1
+          c.raise.new.self c.raise_by_one.new.self done.records
+          (ap totals_in after ∙ cut-totals c.args.moment old.stream done answer) c.raise.ensures.ledger
+          c.raise_by_one.ensures.ledger,
+      planned,
+    )
