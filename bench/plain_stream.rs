@@ -7,6 +7,7 @@
 #![forbid(unsafe_code)]
 
 use std::collections::VecDeque;
+use std::ops::Range;
 use std::process::ExitCode;
 
 const EMPTY_PACKET: usize = 80;
@@ -325,15 +326,9 @@ fn case_named(name: &str) -> Option<(usize, usize, bool, bool)> {
     }
 }
 
-/// One round: the offers to a new stream.
-fn round(
-    (size, count, overwrite, takes): (usize, usize, bool, bool),
-    total: &mut Counts,
-    mut sum: u64,
-) -> Result<u64, OfferFault> {
-    let mut stream = Stream::new([0; 16], 0, size, count, overwrite);
-    stream.active = true;
-    for k in 0..OFFERS {
+/// The sum with the answers to the offers of these numbers.
+fn feed(stream: &mut Stream, numbers: Range<u64>, mut sum: u64) -> Result<u64, OfferFault> {
+    for k in numbers {
         // every second moment is earlier than the last one
         match stream.offer(k ^ 1, 7, &k.to_le_bytes())? {
             Offered::Stored { serial, seq } => sum = mix(mix(sum, serial), seq),
@@ -345,12 +340,35 @@ fn round(
             } => sum = mix(mix(mix(mix(sum, serial), seq), gone_seq), gone_count),
             Offered::Discarded { serial } => sum = mix(sum, serial),
         }
-        if takes && k % OFFERS_A_TAKE == OFFERS_A_TAKE - 1 {
-            if let Some(Taken { seq, count, chunk }) = stream.take() {
-                sum = mix(mix(mix(sum, seq), count), chunk);
-            }
+    }
+    Ok(sum)
+}
+
+/// The sum with the answers to all offers of a round, and to a take after each so many of them.
+fn feed_and_take(stream: &mut Stream, mut sum: u64) -> Result<u64, OfferFault> {
+    for turn in 0..OFFERS / OFFERS_A_TAKE {
+        let first = turn * OFFERS_A_TAKE;
+        sum = feed(stream, first..first + OFFERS_A_TAKE, sum)?;
+        if let Some(Taken { seq, count, chunk }) = stream.take() {
+            sum = mix(mix(mix(sum, seq), count), chunk);
         }
     }
+    Ok(sum)
+}
+
+/// One round: the offers to a new stream.
+fn round(
+    (size, count, overwrite, takes): (usize, usize, bool, bool),
+    total: &mut Counts,
+    mut sum: u64,
+) -> Result<u64, OfferFault> {
+    let mut stream = Stream::new([0; 16], 0, size, count, overwrite);
+    stream.active = true;
+    sum = if takes {
+        feed_and_take(&mut stream, sum)?
+    } else {
+        feed(&mut stream, 0..OFFERS, sum)?
+    };
     sum = stream.packets.iter().fold(sum, mix_packet);
     sum = mix(sum, stream.packets_bytes as u64);
     total.offered += stream.counts.offered;

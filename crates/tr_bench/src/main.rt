@@ -1,8 +1,10 @@
-//! What `bench/run` measures of the daemon's own crates: parsing alone, offers to one stream, reading packets again, and
-//! rotations.
+//! What `bench/run` measures of the daemon's own crates: parsing alone, offers to one stream, alone and under its lock,
+//! reading packets again, and rotations.
 //!
 //! `tr_bench parse` reads and parses the lines of a script from standard input, and carries none of them out.
 //! `tr_bench offers CASE ROUNDS` makes 100,000 offers to a new stream, ROUNDS times.
+//! `tr_bench shared CASE ROUNDS` makes the same offers to the stream of a new shared session, and settles it, ROUNDS times.
+//! No packet is taken there, so CASE isn't `taken`.
 //! `tr_bench decode ROUNDS` and `tr_bench audit ROUNDS` read packets from standard input, and then decode or audit them
 //! ROUNDS times.
 //! `tr_bench fill LENGTH ROUNDS` fills the rings of a new session with records with payloads of LENGTH bytes, ROUNDS times;
@@ -15,11 +17,15 @@ mod lines;
 mod offers;
 mod packets;
 mod rotations;
+mod shared;
 mod sums;
 
 use cases::Case;
+use offers::Total;
 use std::alloc::Global;
+use std::fmt::Debug;
 use std::process::ExitCode;
+use std::sync::Wait;
 use std::time::CpuClock;
 use std::{env, io};
 use tr_command::number;
@@ -41,8 +47,9 @@ fn parse(rt: &impl Print, alloc: Global, input: impl io::Read + Drop) -> io::Res
     }
 }
 
-fn offer(rt: &impl Print, alloc: Global, case: &Case, rounds: u64) -> io::Result<ExitCode> {
-    match offers::all_rounds(alloc, case, rounds) {
+/// Tells what was offered.
+fn report<F: Debug + Drop>(rt: &impl Print, offered: Result<Total, F>) -> io::Result<ExitCode> {
+    match offered {
         Ok(t) => {
             println!(rt;
                 "offered {} discarded {} overwritten {} in {} consumed {} sum {}",
@@ -54,6 +61,20 @@ fn offer(rt: &impl Print, alloc: Global, case: &Case, rounds: u64) -> io::Result
             println!(rt; "stopped {fault:?}")?;
             Ok(ExitCode::FAILURE)
         }
+    }
+}
+
+fn offer(
+    rt: &(impl Print + Wait),
+    alloc: Global,
+    what: &str,
+    case: &Case,
+    rounds: u64,
+) -> io::Result<ExitCode> {
+    match what {
+        "offers" => report(rt, offers::all_rounds(alloc, case, rounds)),
+        _ if case.takes => Ok(ExitCode::from(2)),
+        _ => report(rt, shared::all_rounds(rt, alloc, case, rounds)),
     }
 }
 
@@ -142,10 +163,12 @@ fn main(rt: HostRuntime) -> io::Result<ExitCode> {
     }
     match words.as_slice() {
         ["parse"] => parse(&rt, alloc, rt.reader()),
-        ["offers", case, rounds] => match (Case::named(case), number(rounds, 1_000_000)) {
-            (Some(case), Some(rounds)) => offer(&rt, alloc, &case, rounds),
-            _ => Ok(ExitCode::from(2)),
-        },
+        [what @ ("offers" | "shared"), case, rounds] => {
+            match (Case::named(case), number(rounds, 1_000_000)) {
+                (Some(case), Some(rounds)) => offer(&rt, alloc, what, &case, rounds),
+                _ => Ok(ExitCode::from(2)),
+            }
+        }
         [what @ ("fill" | "rotate"), length, rounds] => {
             match (*what, number(length, 4_000), number(rounds, 1_000_000)) {
                 ("fill", Some(length), Some(rounds)) => fill(&rt, alloc, length, rounds),

@@ -3,19 +3,20 @@
 use crate::cases::Case;
 use crate::sums::mix;
 use std::alloc::Global;
+use std::ops::Range;
 use tr_packet::Packet;
 use tr_record::Moment;
 use tr_stream::{OfferFault, Offered, SessionMode, Stream};
 use uuid::Uuid;
 
 /// How many offers a round makes to a new stream.
-const OFFERS: u64 = 100_000;
+pub const OFFERS: u64 = 100_000;
 
 /// How many offers come between two takes.
 const OFFERS_A_TAKE: u64 = 125;
 
 /// The counts of all streams, and a sum over all answers.
-#[derive(Clone, Copy, Debug)]
+#[derive(Clone, Copy, Debug, Default)]
 pub struct Total {
     pub offered: u64,
     pub discarded: u64,
@@ -25,10 +26,14 @@ pub struct Total {
     pub sum: u64,
 }
 
-/// Makes an offer with 8 bytes. Every second moment is earlier than the last one.
-fn offer(stream: &mut Stream, k: u64, sum: u64) -> Result<u64, OfferFault> {
-    let moment = Moment::new(k ^ 1).unwrap_or(Moment::zero());
-    Ok(match stream.offer(moment, 7, &k.to_le_bytes())? {
+/// The moment of the offer that has `k` others before it. Every second moment is earlier than the last one.
+pub fn moment_of(k: u64) -> Moment {
+    Moment::new(k ^ 1).unwrap_or(Moment::zero())
+}
+
+/// The sum with an offer's answer.
+pub fn mix_answer(sum: u64, answer: Offered) -> u64 {
+    match answer {
         Offered::Stored { serial, seq } => mix(mix(sum, serial), seq),
         Offered::StoredOver {
             serial,
@@ -37,7 +42,7 @@ fn offer(stream: &mut Stream, k: u64, sum: u64) -> Result<u64, OfferFault> {
             gone_count,
         } => mix(mix(mix(mix(sum, serial), seq), gone_seq), gone_count),
         Offered::Discarded { serial } => mix(sum, serial),
-    })
+    }
 }
 
 /// Takes a packet, if one waits.
@@ -67,6 +72,52 @@ fn mix_packet(sum: u64, packet: &Packet) -> u64 {
     sum
 }
 
+impl Total {
+    /// The total with what a stream counts. The sum before it has the stream's answers, and gets its packets.
+    pub fn with(self, stream: &Stream, before: u64) -> Total {
+        let mut sum = before;
+        if let Some(part) = stream.part(0) {
+            for packet in part.packets() {
+                sum = mix_packet(sum, packet);
+            }
+        }
+        let counts = stream.counts();
+        Total {
+            offered: self.offered.wrapping_add(counts.offered),
+            discarded: self.discarded.wrapping_add(counts.discarded),
+            overwritten: self.overwritten.wrapping_add(counts.overwritten),
+            overwritten_packets: self
+                .overwritten_packets
+                .wrapping_add(counts.overwritten_packets),
+            consumed: self.consumed.wrapping_add(counts.consumed),
+            sum: mix(sum, counts.current_bytes),
+        }
+    }
+}
+
+/// The sum with the answers to the offers of these numbers, each with 8 bytes.
+// Where the numbers are known, no test for the last moment is left.
+#[inline(always)]
+fn feed(stream: &mut Stream, numbers: Range<u64>, before: u64) -> Result<u64, OfferFault> {
+    let mut sum = before;
+    for k in numbers {
+        let answer = stream.offer(moment_of(k), 7, &k.to_le_bytes())?;
+        sum = mix_answer(sum, answer);
+    }
+    Ok(sum)
+}
+
+/// The sum with the answers to all offers of a round, and to a take after each so many of them.
+fn feed_and_take(stream: &mut Stream, before: u64) -> Result<u64, OfferFault> {
+    let mut sum = before;
+    for turn in 0..OFFERS / OFFERS_A_TAKE {
+        let first = turn * OFFERS_A_TAKE;
+        sum = feed(stream, first..first + OFFERS_A_TAKE, sum)?;
+        sum = take(stream, sum);
+    }
+    Ok(sum)
+}
+
 /// One round: the offers to a new stream.
 fn round(alloc: Global, case: &Case, total: Total) -> Result<Total, OfferFault> {
     let mut stream = Stream::new(
@@ -78,41 +129,17 @@ fn round(alloc: Global, case: &Case, total: Total) -> Result<Total, OfferFault> 
         SessionMode::Local,
     )?;
     stream.set_active(true);
-    let mut sum = total.sum;
-    for k in 0..OFFERS {
-        sum = offer(&mut stream, k, sum)?;
-        if case.takes && k % OFFERS_A_TAKE == OFFERS_A_TAKE - 1 {
-            sum = take(&mut stream, sum);
-        }
-    }
-    if let Some(part) = stream.part(0) {
-        for packet in part.packets() {
-            sum = mix_packet(sum, packet);
-        }
-    }
-    let counts = stream.counts();
-    Ok(Total {
-        offered: total.offered.wrapping_add(counts.offered),
-        discarded: total.discarded.wrapping_add(counts.discarded),
-        overwritten: total.overwritten.wrapping_add(counts.overwritten),
-        overwritten_packets: total
-            .overwritten_packets
-            .wrapping_add(counts.overwritten_packets),
-        consumed: total.consumed.wrapping_add(counts.consumed),
-        sum: mix(sum, counts.current_bytes),
-    })
+    let sum = if case.takes {
+        feed_and_take(&mut stream, total.sum)?
+    } else {
+        feed(&mut stream, 0..OFFERS, total.sum)?
+    };
+    Ok(total.with(&stream, sum))
 }
 
 /// Runs `rounds` rounds.
 pub fn all_rounds(alloc: Global, case: &Case, rounds: u64) -> Result<Total, OfferFault> {
-    let mut total = Total {
-        offered: 0,
-        discarded: 0,
-        overwritten: 0,
-        overwritten_packets: 0,
-        consumed: 0,
-        sum: 0,
-    };
+    let mut total = Total::default();
     for _ in 0..rounds {
         total = round(alloc, case, total)?;
     }

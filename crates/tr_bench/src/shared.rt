@@ -1,0 +1,130 @@
+//! Offers to the one stream of a shared session, by one thread.
+
+ghost use Rattle.std.specs.Prelude.{◌≡◌};
+
+use crate::cases::Case;
+use crate::offers::{OFFERS, Total, mix_answer, moment_of};
+use std::alloc::{AllocFailed, Global};
+use std::marker::Brand;
+use std::sync::Wait;
+use tr_session::{ChannelConfig, Config};
+use tr_session_book::SessionFault;
+use tr_shared::{Names, Plan, Producer, SettleError, Shared, plan};
+use tr_stream::OfferFault;
+use tr_terms::{Moment, Name, OffsetMinutes, SessionMode};
+use uuid::Uuid;
+
+/// Why the rounds stopped.
+#[derive(Clone, Copy, Debug)]
+pub enum SharedFault {
+    /// No offset is 0.
+    NoOffset,
+    /// The channel's name isn't valid.
+    NoName,
+    /// The session has no stream.
+    NoStream,
+    /// The session refused.
+    Refused(SessionFault),
+    /// The stream refused an offer.
+    NotOffered(OfferFault),
+    /// The session was not settled.
+    Unsettled(SettleError),
+}
+
+impl<T: Drop> From<AllocFailed<T>> for SharedFault {
+    fn from(_: AllocFailed<T>) -> SharedFault {
+        SharedFault::Refused(SessionFault::NoMemory)
+    }
+}
+
+impl From<SessionFault> for SharedFault {
+    fn from(fault: SessionFault) -> SharedFault {
+        SharedFault::Refused(fault)
+    }
+}
+
+impl From<OfferFault> for SharedFault {
+    fn from(fault: OfferFault) -> SharedFault {
+        SharedFault::NotOffered(fault)
+    }
+}
+
+/// A session with one channel of one thread.
+fn plan_of(alloc: Global, case: &Case) -> Result<Plan, SharedFault> {
+    let Some(offset) = OffsetMinutes::new(0) else {
+        return Err(SharedFault::NoOffset);
+    };
+    let Some(name) = Name::new("c") else {
+        return Err(SharedFault::NoName);
+    };
+    let channel = ChannelConfig {
+        name,
+        size: case.geometry.size() as u64,
+        count: case.geometry.count() as u64,
+        mode: case.mode,
+        threads: 1,
+    };
+    let config = Config {
+        uuid: Uuid::nil(),
+        offset,
+        mode: SessionMode::Local,
+        channels: vec![in alloc; channel]?,
+    };
+    Ok(plan(alloc, &config)?)
+}
+
+/// The sum with the answers to all offers of a round, each with 8 bytes, which the producer's thread makes.
+fn feed<N: Names>(
+    rt: &impl Wait,
+    shared: &Shared<N>,
+    producer: &mut Producer<N>,
+    before: u64,
+) -> Result<u64, OfferFault> {
+    let mut sum = before;
+    for k in 0..OFFERS {
+        let answer = shared.offer(rt, producer, moment_of(k), 7, &k.to_le_bytes())?;
+        sum = mix_answer(sum, answer);
+    }
+    Ok(sum)
+}
+
+/// One round: the offers to a new session, which is then settled.
+fn round<N: Names>(
+    rt: &impl Wait,
+    alloc: Global,
+    plan: Plan,
+    total: Total,
+) -> Result<Total, SharedFault>
+    requires { plan ≡ N.plan }
+{
+    let (shared, mut producers) = Shared::<N>::build(plan)?;
+    shared.start(rt, Moment::zero())?;
+    let Some(mut producer) = producers.pop() else {
+        return Err(SharedFault::NoStream);
+    };
+    let sum = feed(rt, &shared, &mut producer, total.sum)?;
+    producers.push(producer)?;
+    let settled = match shared.settle(producers, Vec::new(alloc)) {
+        Ok((settled, _)) => settled,
+        Err(unsettled) => return Err(SharedFault::Unsettled(unsettled.fault)),
+    };
+    match settled.session().stream(0) {
+        Some(stream) => Ok(total.with(stream, sum)),
+        None => Err(SharedFault::NoStream),
+    }
+}
+
+/// Runs `rounds` rounds.
+pub fn all_rounds(
+    rt: &impl Wait,
+    alloc: Global,
+    case: &Case,
+    rounds: u64,
+) -> Result<Total, SharedFault> {
+    let mut total = Total::default();
+    for _ in 0..rounds {
+        let plan = plan_of(alloc, case)?;
+        total = round::<Brand>(rt, alloc, plan, total)?;
+    }
+    Ok(total)
+}
