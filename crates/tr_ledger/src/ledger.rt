@@ -3,11 +3,11 @@
 ghost use Rattle.std.specs.Prelude.{◌≡◌, ◌+◌, ◌<◌, ◌^◌, IfOk};
 ghost use Rattle.tr_ledger.specs.Ledgers.{IsSeatOf, ledger_state, seat_state};
 
-use crate::rule::{AddsUp, Learns, Makes, Raises, RaisesByOne, View};
+use crate::rule::{AddsUp, Amount, Learns, Makes, Raises, View};
 use crate::seating::{Book, rise, sit};
 use atomic_table::{Badge, Table};
 use std::alloc::{AllocError, Allocator, Global};
-use std::marker::Model;
+use std::marker::{Brand, Model};
 
 /// A total, and the right to move it: its holder alone moves the amounts of its seats. Contracts see a `LedgerState`.
 #[derive(Drop)]
@@ -81,10 +81,22 @@ impl<A: Allocator> Ledger<A> {
         self.made
     }
 
-    /// Raises the total and the seat's amount by `n`. It costs a locked instruction.
+    /// Raises the total and the seat's amount by `n`. It costs no locked instruction.
     pub fn raise(&mut self, seat: &mut Seat, n: u64)
         requires seat { seat.old.table ≡ self.old.table }
         requires room { self.old.total + n < 2 ^ 64 }
+        ensures ledger { self.new ≡ ledger_state self.old.table (self.old.total + n) self.old.made }
+        ensures seat { seat.new ≡ seat_state seat.old.table (seat.old.amount + n) seat.old.mark }
+        ensures share { IsSeatOf self.new seat.new }
+    {
+        self.raise_by::<Brand>(seat, n);
+    }
+
+    /// Raises the total and the seat's amount by `n`.
+    fn raise_by<K: Amount>(&mut self, seat: &mut Seat, n: u64)
+        requires seat { seat.old.table ≡ self.old.table }
+        requires room { self.old.total + n < 2 ^ 64 }
+        requires amount { n ≡ K.amount }
         ensures ledger { self.new ≡ ledger_state self.old.table (self.old.total + n) self.old.made }
         ensures seat { seat.new ≡ seat_state seat.old.table (seat.old.amount + n) seat.old.mark }
         ensures share { IsSeatOf self.new seat.new }
@@ -93,7 +105,7 @@ impl<A: Allocator> Ledger<A> {
         let table = &self.table;
         let shared = &table.shared;
         sit(shared, &mut self.book, badge);
-        shared.fetch_add::<Raises>(&mut self.book, 0, n);
+        shared.load::<Raises<K>>(&mut self.book, 0);
         seat.badge = rise(shared, &mut self.book);
         seat.amount += n;
         self.total += n;
@@ -107,14 +119,7 @@ impl<A: Allocator> Ledger<A> {
         ensures seat { seat.new ≡ seat_state seat.old.table (seat.old.amount + 1) seat.old.mark }
         ensures share { IsSeatOf self.new seat.new }
     {
-        let badge = std::mem::replace(&mut seat.badge, Badge::blank());
-        let table = &self.table;
-        let shared = &table.shared;
-        sit(shared, &mut self.book, badge);
-        shared.load::<RaisesByOne>(&mut self.book, 0);
-        seat.badge = rise(shared, &mut self.book);
-        seat.amount += 1;
-        self.total += 1;
+        self.raise(seat, 1);
     }
 
     /// Changes nothing, and shows how the seat stands to the total.

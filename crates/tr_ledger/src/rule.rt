@@ -4,6 +4,7 @@
 //! which the ledger keeps, and one in each seat. No value of a view is ever made.
 
 use atomic_table::{Join, Play, Split, TableRule};
+use std::marker::{Brand, PhantomData};
 
 /// What a token knows. The book's token has `books` 1, the total, and how many seats were made beside the first. A
 /// seat's token has an amount and a mark, the number of seats that are joined in it. While a seat is joined to the book
@@ -27,24 +28,27 @@ impl TableRule<(), View, ()> for AddsUp {
     ghost first = { λ _. book_view 0 0 0 1 };
 }
 
-/// The total and the amount rise by the number that the step carries.
-pub struct Raises;
+/// A number that contracts alone know. It has no code.
+pub trait Amount {
+    ghost use Rattle.std.specs.Prelude.{ℕ};
 
-impl Play<(), View> for Raises {
-    ghost use Rattle.std.specs.Prelude.{◌≡◌};
-    ghost use Rattle.tr_ledger.specs.Views.{raised, IsWithin};
-
-    ghost then = { λ step me _ after. (after ≡ (raised step.first me.0, me.1)) × IsWithin me.0 };
+    ghost amount: { ℕ };
 }
 
-/// The total and the amount rise by one: a number in a type, so that a load is enough.
-pub struct RaisesByOne;
+impl Amount for Brand {
+    ghost amount = { 0 };
+}
 
-impl Play<(), View> for RaisesByOne {
+/// The total and the amount rise by a number in a type, so that a load is enough.
+pub struct Raises<K: Amount> {
+    pub of: PhantomData<K>,
+}
+
+impl<K: Amount> Play<(), View> for Raises<K> {
     ghost use Rattle.std.specs.Prelude.{◌≡◌};
     ghost use Rattle.tr_ledger.specs.Views.{raised, IsWithin};
 
-    ghost then = { λ step me _ after. (after ≡ (raised 1 me.0, me.1)) × IsWithin me.0 };
+    ghost then = { λ step me _ after. (after ≡ (raised K.amount me.0, me.1)) × IsWithin me.0 };
 }
 
 /// Nothing changes.

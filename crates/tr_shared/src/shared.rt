@@ -92,7 +92,12 @@ impl<N: Names, A: Allocator + Copy> Shared<N, A> {
         ensures too_big { result ≡ Err OfferFault.TooBig
             → IsTooBig N.plan producer.old.number (length payload.now) }
     {
-        let mut slot = self.slots[producer.stream()].lock(rt);
+        let lock = &self.slots[producer.stream()];
+        // put into its callers, where `lock` stays a call
+        let mut slot = match lock.try_lock() {
+            Some(slot) => slot,
+            None => lock.lock(rt),
+        };
         slot.offer(producer, moment, id, payload)
     }
 
