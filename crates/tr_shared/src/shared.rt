@@ -93,7 +93,7 @@ impl<N: Names, A: Allocator + Copy> Shared<N, A> {
             → IsTooBig N.plan producer.old.number (length payload.now) }
     {
         let lock = &self.slots[producer.stream()];
-        // put into its callers, where `lock` stays a call
+        // this is put into the caller, where `lock` stays a call
         let mut slot = match lock.try_lock() {
             Some(slot) => slot,
             None => lock.lock(rt),
