@@ -97,7 +97,8 @@ module _ (books : Books) (s t : StreamState) (made : ℕ) (o d v p k c : LedgerS
   pub books-taken : (k' : LedgerState) (n : ℕ) → totals_in t ≡ record (totals_in s) { consumed = (totals_in s).consumed + n }
       → k' ≡ ledger_state k.table (k.total + n) k.made → AreBooksOf books t k'.made o d v p k' c
   books-taken k' n more e =
-      let same : k'.made ≡ made = ap (λ (l : LedgerState). l.made) (e ∙ ap (λ (l : LedgerState). ledger_state l.table (l.total + n) l.made) was.consumed_is) in
+      let same : k'.made ≡ made =
+      ap (λ (l : LedgerState). l.made) (e ∙ ap (λ (l : LedgerState). ledger_state l.table (l.total + n) l.made) was.consumed_is) in
       record {
         offered_is = stay (λ (b : Books). b.offered) (λ (x : Totals). x.offered) o 0 was.offered_is (ap (λ (x : Totals). x.offered) more);
         discarded_is = stay (λ (b : Books). b.discarded) (λ (x : Totals). x.discarded) d 0 was.discarded_is (ap (λ (x : Totals). x.discarded) more);
@@ -116,7 +117,8 @@ module _ (books : Books) (s t : StreamState) (made : ℕ) (o d v p k c : LedgerS
       → k' ≡ ledger_state k.table (k.total + n) k.made → c' ≡ ledger_state c.table (c.total + 1) c.made
       → AreBooksOf books t k'.made o d v p k' c'
   books-cut k' c' n more e ec =
-      let same : k'.made ≡ made = ap (λ (l : LedgerState). l.made) (e ∙ ap (λ (l : LedgerState). ledger_state l.table (l.total + n) l.made) was.consumed_is) in
+      let same : k'.made ≡ made =
+      ap (λ (l : LedgerState). l.made) (e ∙ ap (λ (l : LedgerState). ledger_state l.table (l.total + n) l.made) was.consumed_is) in
       record {
         offered_is = stay (λ (b : Books). b.offered) (λ (x : Totals). x.offered) o 0 was.offered_is (ap (λ (x : Totals). x.offered) more);
         discarded_is = stay (λ (b : Books). b.discarded) (λ (x : Totals). x.discarded) d 0 was.discarded_is (ap (λ (x : Totals). x.discarded) more);

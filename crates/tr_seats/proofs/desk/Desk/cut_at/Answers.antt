@@ -34,7 +34,9 @@ invariant_of-self g c =
     let due : cut_moment i old.book ≡ Ok c.args.moment =
     subst (λ (d : DeskState). cut_moment i d.book ≡ Ok c.args.moment) (sym c.self.view_is) c.requires.due in
     let book = noted i c.args.moment old.book due in
-    subst (λ b. IsDesk plan b (slice_set old.consumed.items i c.cut.new.consumed) (slice_set old.cuts.items i c.cut.new.cuts)) (sym (c.note_cut.ensures.after ∙ book))
+    let consumed = slice_set old.consumed.items i c.cut.new.consumed in
+    let cuts = slice_set old.cuts.items i c.cut.new.cuts in
+    subst (λ b. IsDesk plan b consumed cuts) (sym (c.note_cut.ensures.after ∙ book))
     (desk-cut plan old.book old.consumed.items old.cuts.items i c.args.moment c.index_mut.result.now c.index_mut-2.result.now
     c.self.invariant due c.requires.here.1 c.index_mut.ensures.value c.index_mut-2.ensures.value c.in-Ok.done.records
     c.cut.new.consumed c.cut.new.cuts c.in-Ok.ensures.consumed c.in-Ok.ensures.cuts)
