@@ -18,14 +18,14 @@ use tr_stream::{OfferFault, Offered, TakeFault, Taken};
 use tr_terms::Mode;
 use tr_testing::moment;
 
-/// Offers an empty record at a moment.
+/// Offers a record of three bytes at a moment.
 fn offer<N: Names>(
     rt: &impl Wait,
     shared: &Shared<N>,
     producer: &mut Producer<N>,
     at: u64,
 ) -> Result<Offered, OfferFault> {
-    shared.offer(rt, producer, moment(at), 1, &[])
+    shared.offer(rt, producer, moment(at), 1, &PAYLOAD[..3])
 }
 
 /// Takes from the first stream.
@@ -168,7 +168,7 @@ fn stored(serial: u64) -> Offered {
     Offered::Stored { serial, seq: 0 }
 }
 
-/// Asserts what the first stream's ring has: no record's moment is less than the one before.
+/// Asserts what the first stream's ring has: each record as it was offered, and no moment less than the one before.
 fn assert_records(rt: &impl Abort, settled: &Settled) {
     let session = settled.session();
     let stream = session.stream(0).expect(rt, "a stream");
@@ -177,6 +177,11 @@ fn assert_records(rt: &impl Abort, settled: &Settled) {
     'records: for at in moments {
         let record = stream.ring_at(serial).expect(rt, "a record");
         assert_same(rt, (record.serial(), record.moment().get()), (serial, at));
+        assert_same(
+            rt,
+            (record.id(), record.payload() == &PAYLOAD[..3]),
+            (1, true),
+        );
         serial = serial.wrapping_add(1);
     }
     assert_same(rt, stream.ring_at(3).is_none(), true);
