@@ -1,5 +1,6 @@
 pub mod AllTotals
 pub mod CountLaws
+pub mod CutLaws
 pub mod DeskLaws
 pub mod DrainerLaws
 pub mod Joins

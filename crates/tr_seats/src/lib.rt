@@ -4,6 +4,7 @@
 
 mod desk;
 mod drainer;
+mod laws;
 mod limits;
 mod making;
 mod names;
@@ -19,6 +20,7 @@ mod totals;
 
 pub use desk::Desk;
 pub use drainer::{Drainer, DrainerBegun};
+pub use laws::every_cut;
 pub use limits::MOST_DRAINERS;
 pub use making::plan;
 pub use names::Names;
