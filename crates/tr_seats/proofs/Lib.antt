@@ -5,6 +5,7 @@ pub mod DeskLaws
 pub mod DrainerLaws
 pub mod Joins
 pub mod NameLaws
+pub mod OverwriteLaws
 pub mod Permuted
 pub mod PlanLaws
 pub mod Rows

@@ -6,7 +6,9 @@ use Rattle.tr_session.specs.Session.{HasItsStreams, SessionOf, new_session}
 use Rattle.tr_stream.specs.State.{StreamState}
 use Rattle.tr_stream.specs.declared.config.StreamConfig.{StreamConfig}
 use Rattle.tr_terms.specs.declared.limits.TheConstants.{SMALLEST_PACKET}
-use Rattle.tr_terms.specs.declared.session_mode.SessionMode.TheVariants.{Local}
+use Rattle.tr_terms.specs.declared.mode.Mode.TheVariants.{Overwrite}
+use Rattle.tr_terms.specs.declared.session_mode.SessionMode.{SessionMode}
+use Rattle.tr_terms.specs.declared.session_mode.SessionMode.TheVariants.{Local, Snapshot}
 use Rattle.tr_seats.specs.Sums.{totals_in}
 
 -- the tables of a stream's six books
@@ -76,7 +78,13 @@ consumed_books books = map (λ (b : Books). b.consumed) books
 abbrev pub cut_books : List Books → List TableId
 cut_books books = map (λ (b : Books). b.cuts) books
 
+-- in a snapshot session every ring overwrites
+abbrev pub AreOverwriting : SessionMode → List StreamState → Type 0
+AreOverwriting mode streams =
+    mode ≡ Snapshot → (i : ℕ) (t : StreamState) → slice_get streams i ≡ Some t → t.config.mode ≡ Overwrite
+
 -- a plan has books for each stream of its session
 pub record IsPlan (plan : PlanState) : Type 0 where
   pub books : length plan.books ≡ length plan.session.streams
   pub session : HasItsStreams plan.session
+  pub overwriting : AreOverwriting plan.session.book.mode plan.session.streams

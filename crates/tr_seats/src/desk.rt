@@ -1,7 +1,8 @@
 //! The book of a session, as its lock guards it.
 
 ghost use Rattle.std.specs.Prelude.{◌≡◌, ◌≢◌, ◌≤◌, Err, IsOk};
-ghost use Rattle.tr_seats.specs.Desks.{desk_after_begin, desk_begin_answer};
+ghost use Rattle.tr_seats.specs.Books.{IsPlan};
+ghost use Rattle.tr_seats.specs.Desks.{IsOfPlan, desk_after_begin, desk_begin_answer};
 ghost use Rattle.tr_session_book.specs.BookSteps.{book_after_start, book_after_stop, book_start_answer, book_stop_answer};
 
 use crate::drainer::DrainerBegun;
@@ -86,9 +87,10 @@ impl<N: Names, A: Allocator> Desk<N, A> {
         self.drainers
     }
 
-    /// What the session keeps beside its streams.
+    /// What the session keeps beside its streams: what was planned of it is as it was.
     pub fn book(&self) -> &SessionBook<A>
-        ensures { result.now ≡ self.now.book }
+        ensures value { result.now ≡ self.now.book }
+        ensures planned { IsPlan N.plan × IsOfPlan N.plan.session.book self.now.book }
     {
         &self.book
     }

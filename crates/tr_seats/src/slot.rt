@@ -134,6 +134,14 @@ impl<N: Names, A: Allocator> Slot<N, A> {
         self.number
     }
 
+    /// The stream itself, to read: the one that the plan made for this number.
+    pub fn stream(&self) -> &Stream<A>
+        ensures value { result.now ≡ self.now.stream }
+        ensures planned { IsPlanned N.plan self.now.number self.now.stream.config }
+    {
+        &self.stream
+    }
+
     /// How many seats of the consumed records were made beside the first.
     pub fn made(&self) -> u64
         ensures { result ≡ self.now.made }

@@ -1,7 +1,9 @@
 use Rattle.std.proofs.Common.{◌≡◌, ◌∙◌, Ok, subst, sym}
 use Rattle.std.proofs.lemmas.List.{length-map}
+use Rattle.tr_seats.proofs.OverwriteLaws.{configured-overwrites}
 use Rattle.tr_seats.proofs.PlanLaws.{configured-unused}
 use Rattle.tr_seats.proofs.making.plan.Goals as goal
+use Rattle.tr_seats.specs.Books.{AreOverwriting}
 use Rattle.tr_seats.specs.Plans.{AreUnused, PlannedState, streams_in}
 use Rattle.tr_session.specs.Runs.{session_of_config}
 use Rattle.tr_session.specs.Session.{HasItsStreams, SessionOf, session_of}
@@ -21,6 +23,8 @@ invariant_of-result g c =
       record {
         books = length-map items (λ (p : PlannedState). p.books) ∙ sym (length-map items (λ (p : PlannedState). p.stream));
         session = subst HasItsStreams (sym whole) c.into_parts-book.ensures.own;
+        overwriting = subst (λ (x : SessionOf StreamState). AreOverwriting x.book.mode x.streams) (sym whole)
+            (configured-overwrites c.args.config.now c.in_ok-configure.field-0 c.in_ok-configure.ensures.ok);
       },
       subst (λ (x : SessionOf StreamState). AreUnused x.streams) (sym whole)
           (configured-unused c.args.config.now c.in_ok-configure.field-0 c.in_ok-configure.ensures.ok),
