@@ -4,12 +4,12 @@ use Rattle.std.specs.Map.{lookup}
 use Rattle.std.specs.Prelude.{cond, if◌then◌else◌, is_some, length, nat_le, slice_get}
 use Rattle.tr_seats.specs.Books.{AreOverwriting}
 use Rattle.tr_session.specs.Runs.{add_threads, and_then, configure_channel, configure_channels, session_of_config}
-use Rattle.tr_session.specs.Session.{SessionOf, new_session, session_of}
+use Rattle.tr_session.specs.Session.{SessionOf, new_session}
 use Rattle.tr_session.specs.Steps.{next_config, session_add_channel, session_add_stream, session_add_thread, with_book}
 use Rattle.tr_session.specs.declared.config.ChannelConfig.{ChannelConfig}
 use Rattle.tr_session.specs.declared.config.Config.{Config}
 use Rattle.tr_session_book.specs.Book.{SessionBookState}
-use Rattle.tr_session_book.specs.BookSteps.{book_add_channel, channel_named, channel_of_geometry, is_allowed, is_new, thread_place, with_channel}
+use Rattle.tr_session_book.specs.BookSteps.{channel_named, channel_of_geometry, is_allowed, is_new, thread_place, with_channel}
 use Rattle.tr_session_book.specs.declared.channel.Channel.{Channel}
 use Rattle.tr_session_book.specs.declared.faults.SessionFault.{SessionFault}
 use Rattle.tr_session_book.specs.declared.faults.SessionFault.TheVariants.{AlreadyStarted, DiscardInSnapshot, NameTaken, TooMany}

@@ -3,8 +3,12 @@
 //! waits for its stream alone.
 #![tactic(auto)]
 
+mod looking;
+mod operating;
+mod rotating;
 mod settle_fault;
 mod shared;
+mod snapshots;
 
 pub use settle_fault::SettleFault;
 pub use shared::Shared;

@@ -21,9 +21,9 @@ use tr_terms::Moment;
 /// A session that threads share by reference: its desk, and each of its streams, under locks.
 #[derive(Drop)]
 pub struct Shared<N: Names, A: Allocator = Global> {
-    alloc: A,
-    desk: Mutex<Desk<N, A>>,
-    slots: Vec<Mutex<Slot<N, A>>, A>,
+    pub(crate) alloc: A,
+    pub(crate) desk: Mutex<Desk<N, A>>,
+    pub(crate) slots: Vec<Mutex<Slot<N, A>>, A>,
     places: Mutex<Places<N, A>>,
     ghost all_here: { vec_len slots ≡ length N.plan.books },
 }
@@ -151,6 +151,16 @@ impl<N: Names, A: Allocator> Shared<N, A> {
         ensures { result ≡ length N.plan.books }
     {
         self.slots.len()
+    }
+
+    /// Answers what the closure answers, which runs while the lock of the stream of number `i` is held, and no other.
+    pub fn hold_stream<R, F: FnOnce() -> R>(&self, rt: &impl Wait, i: usize, f: F) -> R
+        requires stream { i < length N.plan.books }
+        requires call { F.pre f }
+        ensures { F.post f result }
+    {
+        let _held = self.slots[i].lock(rt);
+        f()
     }
 
     /// Starts the session at a moment: its book, and then each of its streams, takes offers from now on. The desk's lock is
