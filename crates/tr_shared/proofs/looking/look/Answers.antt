@@ -1,0 +1,25 @@
+use Rattle.std.proofs.Common.{rules, ◌≡◌, ◌∙◌, ℕ, ap, subst, sym}
+use Rattle.tr_book.specs.Snaps.{SnapState}
+use Rattle.tr_shared.proofs.ShownLaws.{IsOver, planned-over, shows-last}
+use Rattle.tr_shared.proofs.looking.look.Goals as goal
+use Rattle.tr_shared.specs.Shown.{IsShownFrom}
+use Rattle.tr_stream.specs.Consistent.{IsConsistent}
+use Rattle.tr_stream.specs.Kept.{IsKept}
+
+pub returns-clause-number : goal.returns-clause-number
+returns-clause-number g c =
+    let slot = c.args.slot.now in
+    let made : IsOver slot.number slot.stream.config =
+    planned-over g.N.Names.plan slot.number slot.stream.config c.requires.plan c.requires.mode c.stream.ensures.planned in
+    let here : c.args.i ≡ slot.number = search rules in
+    ap (λ (s : SnapState). s.stream) c.in_ok-peek.ensures.value ∙ made.number ∙ sym here
+
+pub returns-clause-from : goal.returns-clause-from
+returns-clause-from g c =
+    let slot = c.args.slot.now in
+    let made : IsOver slot.number slot.stream.config =
+    planned-over g.N.Names.plan slot.number slot.stream.config c.requires.plan c.requires.mode c.stream.ensures.planned in
+    let kept : IsKept slot.stream = subst IsKept c.stream.ensures.value c.config.ensures.kept in
+    let is : IsConsistent slot.stream = subst IsConsistent c.stream.ensures.value c.config.ensures.consistent in
+    subst (IsShownFrom slot.stream.counters.overwritten) (sym c.in_ok-peek.ensures.value)
+    (shows-last c.args.moment slot.stream kept.sound is made.mode made.session)

@@ -1,0 +1,78 @@
+//! What is shown of a stream that lies in its slot.
+
+ghost use Rattle.std.specs.Prelude.{◌≡◌, ◌≢◌, ◌≤◌, ◌⊎◌, Err, IfErr, IfOk, OnOk};
+ghost use Rattle.tr_seats.specs.Books.{IsPlan};
+ghost use Rattle.tr_session_book.specs.BookSteps.{book_after_snapshot_begin, book_snapshot_begin_answer};
+ghost use Rattle.tr_shared.specs.Operating.{IsLookFault};
+ghost use Rattle.tr_shared.specs.Shown.{IsShown, IsShownFrom, IsShownWith};
+ghost use Rattle.tr_stream.specs.StateSteps.{state_snap};
+
+use std::alloc::Allocator;
+use tr_book::StreamSnap;
+use tr_seats::{Desk, Names, Producer, Slot};
+use tr_session_book::SessionFault;
+use tr_terms::{Moment, SessionMode};
+
+/// Begins a snapshot at a desk: answers with the moment that is stored.
+pub(crate) fn begin_snapshot<N: Names, A: Allocator>(
+    desk: &mut Desk<N, A>,
+    moment: Moment,
+) -> Result<Moment, SessionFault>
+    ensures answer { result ≡ book_snapshot_begin_answer moment desk.old.book }
+    ensures after { desk.new ≡ record desk.old { book = book_after_snapshot_begin moment desk.old.book } }
+    ensures later { IfOk result (λ stored. moment ≤ stored) }
+    ensures planned { OnOk result (IsPlan N.plan × (N.plan.session.book.mode ≡ SessionMode.Snapshot)) }
+    ensures refused { IfErr result
+        (λ fault. (fault ≡ SessionFault.NotSnapshotMode) ⊎ (fault ≡ SessionFault.NeverStarted)) }
+{
+    let _ = desk.book();
+    desk.snapshot_begin(moment)
+}
+
+/// What a snapshot shows at a moment of the stream in a slot, which is to be that of number `i`.
+///
+/// # Errors
+///
+/// `Misplaced` if another stream is in the slot, `NoMemory`.
+pub(crate) fn look<N: Names, A: Allocator + Copy>(
+    slot: &Slot<N, A>,
+    i: usize,
+    moment: Moment,
+) -> Result<StreamSnap<A>, SessionFault>
+    requires plan { IsPlan N.plan }
+    requires mode { N.plan.session.book.mode ≡ SessionMode.Snapshot }
+    ensures here { OnOk result (i ≡ slot.now.number) }
+    ensures value { IfOk result (λ snap. snap ≡ state_snap moment slot.now.stream) }
+    ensures number { IfOk result (λ snap. snap.stream ≡ i) }
+    ensures from { IfOk result (IsShownFrom slot.now.stream.counters.overwritten) }
+    ensures misplaced { i ≢ slot.now.number → result ≡ Err SessionFault.Misplaced }
+    ensures refused { IfErr result IsLookFault }
+{
+    if slot.number() != i {
+        return Err(SessionFault::Misplaced);
+    }
+    let _ = slot.stream().config();
+    Ok(slot.peek(moment)?)
+}
+
+/// The same of the stream of a producer, which shows just what the producer offered and wasn't overwritten.
+///
+/// # Errors
+///
+/// Those of `look`.
+pub(crate) fn look_with<N: Names, A: Allocator + Copy>(
+    slot: &mut Slot<N, A>,
+    producer: &mut Producer<N>,
+    moment: Moment,
+) -> Result<StreamSnap<A>, SessionFault>
+    requires plan { IsPlan N.plan }
+    requires mode { N.plan.session.book.mode ≡ SessionMode.Snapshot }
+    ensures same { (slot.new ≡ slot.old) × (producer.new ≡ producer.old) }
+    ensures shown { IfOk result (IsShown producer.old.number) }
+    ensures own { IfOk result (IsShownWith producer.old) }
+    ensures refused { IfErr result IsLookFault }
+{
+    let snap = look(slot, producer.stream(), moment)?;
+    slot.audit(producer);
+    Ok(snap)
+}

@@ -1,0 +1,145 @@
+//! Schedules, rotations and ticks of a shared session.
+
+ghost use Rattle.std.specs.Prelude.{◌≡◌, IfErr, IfOk, length};
+ghost use Rattle.tr_shared.specs.Operating.{IsBeginFault, IsCutOf, IsEndFault, IsFinishFault, IsLookFault, IsNextFault, IsRotateFault};
+
+use crate::rotating::{begin_if_due, cut_next, next_of};
+use crate::shared::Shared;
+use std::alloc::Allocator;
+use std::sync::Wait;
+use tr_schedule::{Cause, Schedule};
+use tr_seats::Names;
+use tr_session::{Next, Ticked};
+use tr_session_book::{Archive, SessionFault};
+use tr_terms::Moment;
+
+impl<N: Names, A: Allocator> Shared<N, A> {
+    /// Sets when rotations are due: by this schedule, or never.
+    ///
+    /// # Errors
+    ///
+    /// `SnapshotMode`: nothing changed.
+    pub fn set_schedule(
+        &self,
+        rt: &impl Wait,
+        schedule: Option<Schedule>,
+    ) -> Result<(), SessionFault>
+        ensures { IfErr result (λ fault. fault ≡ SessionFault.SnapshotMode) }
+    {
+        let mut desk = self.desk.lock(rt);
+        desk.set_schedule(schedule)
+    }
+
+    /// Ends a rotation that has cut every stream, and answers with the archive that it made. It takes no memory.
+    ///
+    /// # Errors
+    ///
+    /// `NotPending`, `CutMissing`: nothing changed.
+    pub fn rotate_finish(&self, rt: &impl Wait) -> Result<Archive, SessionFault>
+        ensures { IfErr result IsFinishFault }
+    {
+        let mut desk = self.desk.lock(rt);
+        desk.rotate_finish()
+    }
+}
+
+impl<N: Names, A: Allocator + Copy> Shared<N, A> {
+    /// Begins a rotation at a moment, and answers with the number of the chunk that it will archive.
+    ///
+    /// # Errors
+    ///
+    /// `SnapshotMode`, `NeverStarted`, `RotationPending`, `AlreadyRotated`, `NoMemory`: nothing changed.
+    pub fn rotate_begin(&self, rt: &impl Wait, moment: Moment) -> Result<u64, SessionFault>
+        ensures { IfErr result IsBeginFault }
+    {
+        let mut desk = self.desk.lock(rt);
+        desk.rotate_begin(moment)
+    }
+
+    /// Lets the pending rotation cut its next stream, if there is one: the desk's lock and that stream's are held.
+    ///
+    /// # Errors
+    ///
+    /// `NotPending`, `NoMemory`, and `Misplaced` if the stream isn't where its number says: nothing changed.
+    pub fn rotate_next(&self, rt: &impl Wait) -> Result<Next, SessionFault>
+        ensures cut { IfOk result (IsCutOf (length N.plan.books)) }
+        ensures refused { IfErr result IsNextFault }
+    {
+        let mut desk = self.desk.lock(rt);
+        let Some(i) = next_of(&desk)? else {
+            return Ok(Next::AllCut);
+        };
+        let mut slot = self.slots[i].lock(rt);
+        cut_next(&mut desk, &mut slot, i)
+    }
+
+    /// Rotates the session at a moment: begins a rotation, cuts each stream and ends it. No lock is held from one of these
+    /// steps to the next, so another operator's may come between: then this goes on with whatever rotation is pending.
+    ///
+    /// # Errors
+    ///
+    /// Those of `rotate_begin`: nothing changed. `NoMemory` or `Misplaced` once it has begun: it is pending with the cuts that
+    /// were made, and `rotate_next` goes on. `NotPending` or `CutMissing` if another operator's steps came between.
+    pub fn rotate(&self, rt: &impl Wait, moment: Moment) -> Result<Archive, SessionFault>
+        ensures { IfErr result IsRotateFault }
+    {
+        self.rotate_begin(rt, moment)?;
+        self.rotate_on(rt)
+    }
+
+    /// Rotates the session, as `rotate` does, if its schedule says that a rotation is due at this moment. The desk's lock is
+    /// held from the question to the begin. An idle tick stores no moment.
+    ///
+    /// # Errors
+    ///
+    /// `NoMemory`, `Misplaced`: nothing changed, or a rotation was due and is pending with the cuts that were made.
+    /// `NotPending` or `CutMissing` if another operator's steps came between.
+    pub fn tick(&self, rt: &impl Wait, now: Moment) -> Result<Ticked, SessionFault>
+        ensures { IfErr result IsEndFault }
+    {
+        let Some(cause) = self.begin_due(rt, now)? else {
+            return Ok(Ticked::Idle);
+        };
+        let archive = self.rotate_on(rt)?;
+        Ok(Ticked::Rotated { cause, archive })
+    }
+
+    /// Cuts each stream that the pending rotation hasn't cut, and ends it.
+    fn rotate_on(&self, rt: &impl Wait) -> Result<Archive, SessionFault>
+        ensures { IfErr result IsEndFault }
+    {
+        for _ in 0..self.slots.len() {
+            if self.rotate_next(rt)? == Next::AllCut {
+                break;
+            }
+        }
+        Ok(self.rotate_finish(rt)?)
+    }
+
+    /// Begins a rotation if one is due, and says why it is.
+    fn begin_due(&self, rt: &impl Wait, now: Moment) -> Result<Option<Cause>, SessionFault>
+        ensures { IfErr result IsLookFault }
+    {
+        let mut desk = self.desk.lock(rt);
+        if desk.book().schedule_in_force().is_none() {
+            return Ok(None);
+        }
+        let sizes = self.current_sizes(rt)?;
+        Ok(begin_if_due(&mut desk, now, sizes.as_slice())?)
+    }
+
+    /// The bytes of each stream's current part, or the greatest u64 if they are more, one stream after another.
+    fn current_sizes(&self, rt: &impl Wait) -> Result<Vec<u64, A>, SessionFault>
+        ensures { IfErr result IsLookFault }
+    {
+        let mut sizes = Vec::with_capacity(self.alloc, self.slots.len())?;
+        for i in 0..self.slots.len() {
+            let slot = self.slots[i].lock(rt);
+            if slot.number() != i {
+                return Err(SessionFault::Misplaced);
+            }
+            sizes.push_reserved(slot.counts().current_bytes);
+        }
+        Ok(sizes)
+    }
+}

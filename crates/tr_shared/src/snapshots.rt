@@ -1,0 +1,111 @@
+//! Snapshots of a shared session.
+
+ghost use Rattle.std.specs.Prelude.{◌≡◌, ◌≤◌, ◌<◌, IfErr, IfOk, length};
+ghost use Rattle.tr_seats.specs.Books.{IsPlan};
+ghost use Rattle.tr_shared.specs.Operating.{IsLookFault, IsSnapshotFault};
+ghost use Rattle.tr_shared.specs.Shown.{AreShown, IsShown, IsShownWith, OwnIsShown};
+
+use crate::looking::{begin_snapshot, look, look_with};
+use crate::shared::Shared;
+use std::alloc::Allocator;
+use std::sync::Wait;
+use tr_book::StreamSnap;
+use tr_seats::{Names, Producer};
+use tr_session_book::SessionFault;
+use tr_snapshot::Snapshot;
+use tr_terms::{Moment, SessionMode};
+
+impl<N: Names, A: Allocator + Copy> Shared<N, A> {
+    /// A snapshot of the session: its moment is stored, and then each stream is shown as it is at that moment or its own last
+    /// one, one after another, each under its own lock. The desk's lock is held until all are shown.
+    ///
+    /// # Errors
+    ///
+    /// `NotSnapshotMode`, `NeverStarted`: nothing changed. `NoMemory`, and `Misplaced` if a stream isn't where its number
+    /// says: the moment is stored.
+    pub fn snapshot(&self, rt: &impl Wait, moment: Moment) -> Result<Snapshot<A>, SessionFault>
+        ensures moment { IfOk result (λ s. moment ≤ s.moment) }
+        ensures all { IfOk result (λ s. length s.streams ≡ length N.plan.books) }
+        ensures shown { IfOk result (λ s. AreShown s.streams) }
+        ensures refused { IfErr result IsSnapshotFault }
+    {
+        let mut desk = self.desk.lock(rt);
+        let stored = begin_snapshot(&mut desk, moment)?;
+        let mut snaps = Vec::with_capacity(self.alloc, self.slots.len())?;
+        for i in 0..self.slots.len() {
+            snaps.push_reserved(self.look_at(rt, i, stored)?);
+        }
+        Ok(Snapshot::new(stored, snaps))
+    }
+
+    /// The same, which shows of the producer's stream just what the producer offered and wasn't overwritten: no one offers on
+    /// that stream meanwhile, since the producer is lent.
+    ///
+    /// # Errors
+    ///
+    /// Those of `snapshot`.
+    pub fn snapshot_with(
+        &self,
+        rt: &impl Wait,
+        producer: &mut Producer<N>,
+        moment: Moment,
+    ) -> Result<Snapshot<A>, SessionFault>
+        ensures same { producer.new ≡ producer.old }
+        ensures moment { IfOk result (λ s. moment ≤ s.moment) }
+        ensures all { IfOk result (λ s. length s.streams ≡ length N.plan.books) }
+        ensures there { producer.old.number < length N.plan.books }
+        ensures shown { IfOk result (λ s. AreShown s.streams) }
+        ensures own { IfOk result (λ s. OwnIsShown producer.old s.streams) }
+        ensures refused { IfErr result IsSnapshotFault }
+    {
+        let _ = producer.stream();
+        let mut desk = self.desk.lock(rt);
+        let stored = begin_snapshot(&mut desk, moment)?;
+        let mut snaps = Vec::with_capacity(self.alloc, self.slots.len())?;
+        for i in 0..self.slots.len() {
+            snaps.push_reserved(self.look_beside(rt, producer, i, stored)?);
+        }
+        Ok(Snapshot::new(stored, snaps))
+    }
+
+    /// What is shown of the stream of number `i`, under its lock.
+    fn look_at(
+        &self,
+        rt: &impl Wait,
+        i: usize,
+        moment: Moment,
+    ) -> Result<StreamSnap<A>, SessionFault>
+        requires there { i < length N.plan.books }
+        requires plan { IsPlan N.plan }
+        requires mode { N.plan.session.book.mode ≡ SessionMode.Snapshot }
+        ensures shown { IfOk result (IsShown i) }
+        ensures refused { IfErr result IsLookFault }
+    {
+        let slot = self.slots[i].lock(rt);
+        look(&slot, i, moment)
+    }
+
+    /// The same, with the producer at hand if it is that stream's.
+    fn look_beside(
+        &self,
+        rt: &impl Wait,
+        producer: &mut Producer<N>,
+        i: usize,
+        moment: Moment,
+    ) -> Result<StreamSnap<A>, SessionFault>
+        requires there { i < length N.plan.books }
+        requires plan { IsPlan N.plan }
+        requires mode { N.plan.session.book.mode ≡ SessionMode.Snapshot }
+        ensures same { producer.new ≡ producer.old }
+        ensures shown { IfOk result (IsShown i) }
+        ensures own { IfOk result (λ snap. producer.old.number ≡ i → IsShownWith producer.old snap) }
+        ensures refused { IfErr result IsLookFault }
+    {
+        let mut slot = self.slots[i].lock(rt);
+        if i == producer.stream() {
+            look_with(&mut slot, producer, moment)
+        } else {
+            look(&slot, i, moment)
+        }
+    }
+}
