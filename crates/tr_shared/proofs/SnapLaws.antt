@@ -21,7 +21,7 @@ pub shown-more : (xs : List SnapState) (x : SnapState) → AreShown xs → IsSho
 shown-more xs x all is i snap got =
     ⊎_elim (λ (t : slice_get xs i ≡ Some snap). all i snap t)
     (λ (t : (i ≡ length xs) × (x ≡ snap)).
-        subst (λ (j : ℕ). IsShown j snap) (sym t.0) (subst (λ (s : SnapState). IsShown (length xs) s) t.1 is))
+    subst (λ (j : ℕ). IsShown j snap) (sym t.0) (subst (λ (s : SnapState). IsShown (length xs) s) t.1 is))
     (pushed xs x snap i got)
 
 pub own-more : (p : ProducerState) (xs : List SnapState) (x : SnapState) → OwnIsShown p xs

@@ -6,7 +6,7 @@ use Rattle.tr_shared.specs.Shown.{AreShown, OwnIsShown}
 -- the first streams are shown, with room for all, and the producer's as its own
 abbrev pub invariant-loop-i : goal.invariant-loop-i
 invariant-loop-i g l = record {
-  same : l.producer ≡ l.fn.producer.now;
+  same : l.producer ≡ l.fn.producer;
   many : vec_len l.snaps ≡ l.i;
   items : length l.snaps.items ≡ l.i;
   room : l.i-end ≤ vec_capacity l.snaps;
