@@ -2,6 +2,9 @@
 
 ghost use Rattle.std.specs.Prelude.{◌≡◌, ◌<◌, length};
 
+mod operators;
+mod rotating;
+mod snapshots;
 mod threads;
 
 use crate::plans::{PAYLOAD, assert_same, plan_of};

@@ -21,7 +21,7 @@ const OFFERS: u64 = 10_000;
 const TURNS: u64 = 2_000;
 
 /// Nothing was counted.
-fn nothing() -> Totals {
+pub(super) fn nothing() -> Totals {
     Totals {
         offered: 0,
         discarded: 0,
@@ -62,7 +62,7 @@ fn counted(answer: Result<Offered, OfferFault>) -> Totals {
 }
 
 /// Offers again and again, and counts what is answered.
-fn feed<N: Names>(
+pub(super) fn feed<N: Names>(
     rt: &impl Wait,
     shared: &Shared<N>,
     mut producer: Producer<N>,
@@ -76,7 +76,7 @@ fn feed<N: Names>(
 }
 
 /// Takes from all streams again and again, and counts what is taken.
-fn drain<N: Names>(
+pub(super) fn drain<N: Names>(
     rt: &impl Wait,
     shared: &Shared<N>,
     mut drainer: Drainer<N>,
@@ -93,7 +93,7 @@ fn drain<N: Names>(
 }
 
 /// The seats that the threads gave back, and the sum of what they counted.
-fn gather<S: Drop>(
+pub(super) fn gather<S: Drop>(
     rt: &impl Abort,
     alloc: Global,
     given_back: Vec<(S, Totals)>,

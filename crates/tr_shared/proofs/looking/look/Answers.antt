@@ -1,4 +1,4 @@
-use Rattle.std.proofs.Common.{rules, ◌≡◌, ◌∙◌, ℕ, ap, subst, sym}
+use Rattle.std.proofs.Common.{rules, ◌≡◌, ◌∙◌, ap, subst, sym}
 use Rattle.tr_book.specs.Snaps.{SnapState}
 use Rattle.tr_shared.proofs.ShownLaws.{IsOver, planned-over, shows-last}
 use Rattle.tr_shared.proofs.looking.look.Goals as goal

@@ -1,4 +1,4 @@
-use Rattle.std.proofs.Common.{◌≡◌, ℕ, length, subst}
+use Rattle.std.proofs.Common.{◌≡◌, ℕ, subst}
 use Rattle.tr_seats.specs.Settling.{IsOneEach}
 use Rattle.tr_seats.specs.declared.settling.SettleError.TheVariants.{ProducerMissing}
 use Rattle.tr_shared.proofs.WhyLaws.{why-missing}

@@ -1,5 +1,4 @@
-use Rattle.std.proofs.Common.{rules, ◌≡◌, ◌≤◌, ◌+◌, ◌∷◌, ◌++◌, [], ℕ, length, subst, sym, vec_len}
-use Rattle.std.specs.Prelude.{vec_capacity}
+use Rattle.std.proofs.Common.{rules, ◌≡◌, ◌∷◌, ◌++◌, [], ℕ, length, subst, sym}
 use Rattle.tr_shared.proofs.SnapLaws.{shown-more}
 use Rattle.tr_shared.proofs.shared.Shared.snapshot.Goals as goal
 use Rattle.tr_shared.specs.Shown.{AreShown, IsShown}

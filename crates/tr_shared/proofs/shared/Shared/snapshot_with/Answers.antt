@@ -1,9 +1,8 @@
-use Rattle.std.proofs.Common.{rules, ◌≡◌, ◌∙◌, ◌≤◌, ◌+◌, ◌∷◌, ◌++◌, [], ℕ, length, subst, sym, vec_len}
-use Rattle.std.specs.Prelude.{vec_capacity}
+use Rattle.std.proofs.Common.{rules, ◌≡◌, ◌∙◌, ◌∷◌, ◌++◌, [], ℕ, length, subst, sym}
 use Rattle.tr_seats.specs.Slots.{ProducerState}
 use Rattle.tr_shared.proofs.SnapLaws.{own-more, shown-more}
 use Rattle.tr_shared.proofs.shared.Shared.snapshot_with.Goals as goal
-use Rattle.tr_shared.specs.Shown.{AreShown, IsShown, IsShownWith, OwnIsShown}
+use Rattle.tr_shared.specs.Shown.{AreShown, IsShown, OwnIsShown}
 use Rattle.tr_snapshot.specs.Snapshots.{SnapshotState}
 
 pub loop-i-preserved : goal.loop-i-preserved
