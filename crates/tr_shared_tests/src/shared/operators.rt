@@ -39,6 +39,7 @@ fn operate<N: Names>(rt: &impl Wait, shared: &Shared<N>) -> u64 {
 }
 
 /// What threads gave back: producers and drainers with what they counted, and how many archives were made.
+#[derive(Drop)]
 struct Worked<N: Names> {
     producers: Vec<(Producer<N>, Totals)>,
     drainers: Vec<(Drainer<N>, Totals)>,
@@ -92,10 +93,14 @@ fn run<N: Names + Send + Sync, R: Threads + Wait + Abort + Sync>(rt: &R, alloc: 
     let schedule = Schedule::new(None, Some(1)).expect(rt, "a schedule");
     assert_same(rt, shared.set_schedule(rt, Some(schedule)), Ok(()));
     assert_same(rt, shared.start(rt, moment(0)), Ok(()));
-    let worked = work(rt, &shared, producers, drainers);
-    let archives = worked.archives.wrapping_add(end_rotations(rt, &shared));
-    let (producers, told) = gather(rt, alloc, worked.producers, nothing());
-    let (drainers, told) = gather(rt, alloc, worked.drainers, told);
+    let Worked {
+        producers,
+        drainers,
+        archives,
+    } = work(rt, &shared, producers, drainers);
+    let archives = archives.wrapping_add(end_rotations(rt, &shared));
+    let (producers, told) = gather(rt, alloc, producers, nothing());
+    let (drainers, told) = gather(rt, alloc, drainers, told);
     let Ok((settled, totals)) = shared.settle(producers, drainers) else {
         panic!(rt; "not settled")
     };
@@ -143,13 +148,11 @@ fn assert_audited(rt: &impl Abort, alloc: Global, stream: &Stream, number: u64, 
         write_part(alloc, &mut sink, part).expect(rt, "a file");
     }
     let file = sink.into_bytes();
-    let audit = audit_stream(alloc, &Uuid::nil(), number, &[file.as_slice()]).expect(rt, "an audit");
-    let counts = stream.counts();
-    assert_same(
-        rt,
-        (audit.records, counts.in_ring),
-        (counts.consumed, 0),
+    let audit = audit_stream(alloc, &Uuid::nil(), number, &[file.as_slice()]).expect(
+        rt, "an audit",
     );
+    let counts = stream.counts();
+    assert_same(rt, (audit.records, counts.in_ring), (counts.consumed, 0));
     let mut absent: u64 = 0;
     'gaps: for (_, packets) in audit.gaps.as_slice() {
         absent = absent.wrapping_add(*packets);
