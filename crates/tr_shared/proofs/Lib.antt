@@ -1,3 +1,4 @@
+pub mod RotationLaws
 pub mod ShownLaws
 pub mod SnapLaws
 pub mod WhyLaws

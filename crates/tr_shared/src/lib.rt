@@ -3,6 +3,7 @@
 //! waits for its stream alone.
 #![tactic(auto)]
 
+mod laws;
 mod looking;
 mod operating;
 mod rotating;
@@ -10,6 +11,7 @@ mod settle_fault;
 mod shared;
 mod snapshots;
 
+pub use laws::every_rotation;
 pub use settle_fault::SettleFault;
 pub use shared::Shared;
 pub use tr_seats::{

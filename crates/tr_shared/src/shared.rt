@@ -154,6 +154,7 @@ impl<N: Names, A: Allocator> Shared<N, A> {
     }
 
     /// Answers what the closure answers, which runs while the lock of the stream of number `i` is held, and no other.
+    /// A closure that takes that lock again waits for ever.
     pub fn hold_stream<R, F: FnOnce() -> R>(&self, rt: &impl Wait, i: usize, f: F) -> R
         requires stream { i < length N.plan.books }
         requires call { F.pre f }

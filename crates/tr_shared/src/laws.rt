@@ -1,0 +1,14 @@
+//! What a rotation does, one hold of the locks after another.
+
+ghost use Rattle.std.specs.Prelude.{◌≡◌, ◌≤◌, ℕ, length};
+ghost use Rattle.tr_seats.specs.Settling.{OpenedState};
+ghost use Rattle.tr_session.specs.Steps.{cut_first};
+ghost use Rattle.tr_shared.specs.Rotations.{AreLocal, cut_slots, session_in};
+ghost use Rattle.tr_stream.specs.Rules.{by_state};
+
+/// The cuts of a rotation at a desk, one hold of the locks after another and nothing between, are the cuts of the same
+/// session that one thread rotates: of its first streams, as many as it cuts. Does nothing.
+pub fn every_rotation()
+    ensures { (n : ℕ) (s : OpenedState) → n ≤ length s.slots → AreLocal s.slots
+        → session_in (cut_slots n s) ≡ cut_first by_state n (session_in s) }
+{}
