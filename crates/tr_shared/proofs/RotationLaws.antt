@@ -7,7 +7,6 @@ use Rattle.std.proofs.lemmas.Option.{slice_get-map}
 use Rattle.tr_seats.proofs.CutLaws.{cut-after}
 use Rattle.tr_seats.proofs.SlotLaws.{if-same}
 use Rattle.tr_seats.specs.Cuts.{desk_after_cut, desk_cut_answer, slot_after_cut, stream_after_cut}
-use Rattle.tr_seats.specs.Desks.{DeskState}
 use Rattle.tr_seats.specs.Settling.{OpenedState, streams_of}
 use Rattle.tr_seats.specs.Slots.{SlotState}
 use Rattle.tr_session.specs.Session.{session_of}
