@@ -8,8 +8,7 @@ mod real;
 use std::alloc::Global;
 use std::fmt::Debug;
 use std::process::Abort;
-use std::test::Fail;
-use tr_export::{Made, MemoryDisk, write_archives};
+use tr_export::{Disk, ExportFault, Made, MemoryDisk, write_archives};
 use tr_packet::metadata_text;
 use tr_session::Session;
 use tr_terms::{Mode, Name, OffsetMinutes, SessionMode};
@@ -28,170 +27,201 @@ const METADATA: &str = "d/s/archives/19700101T000000+0000-19700101T000000+0000-0
 
 const STREAM: &str = "d/s/archives/19700101T000000+0000-19700101T000000+0000-0/c_0";
 
+const SECOND_STREAM: &str = "d/s/archives/19700101T000000+0000-19700101T000000+0000-0/c_1";
+
+/// The paths in the archive of the next chunk, which ends at two seconds.
+const NEXT_FOLDER: &str = "d/s/archives/19700101T000000+0000-19700101T000002+0000-1";
+
+const NEXT_METADATA: &str = "d/s/archives/19700101T000000+0000-19700101T000002+0000-1/metadata";
+
+const NEXT_STREAM: &str = "d/s/archives/19700101T000000+0000-19700101T000002+0000-1/c_0";
+
+const NEXT_SECOND_STREAM: &str = "d/s/archives/19700101T000000+0000-19700101T000002+0000-1/c_1";
+
 fn uuid() -> Uuid {
     Uuid::from_u128(1)
 }
 
-/// The name under which the sessions are written.
-fn name() -> Result<Name<'static>, Fail> {
-    Ok(Name::new("s").ok_or("a name")?)
+/// A session with the channel c.
+fn session_of(rt: &impl Abort, alloc: Global) -> Session {
+    let offset = OffsetMinutes::new(0).expect(rt, "an offset");
+    let mut session = Session::new(alloc, uuid(), offset, SessionMode::Local);
+    let name = Name::new("c").expect(rt, "a name");
+    session
+        .add_channel(&name, 256, 2, Mode::Discard)
+        .expect(rt, "a channel");
+    session
 }
 
-/// A session with the channel c.
-fn session_of(alloc: Global) -> Result<Session, Fail> {
-    let offset = OffsetMinutes::new(0).ok_or("an offset")?;
-    let mut session = Session::new(alloc, uuid(), offset, SessionMode::Local);
-    let name = Name::new("c").ok_or("a name")?;
-    session.add_channel(&name, 256, 2, Mode::Discard)?;
-    Ok(session)
+/// A session with this many threads of the channel, started at moment 0.
+fn started(rt: &impl Abort, alloc: Global, threads: u64) -> Session {
+    let mut session = session_of(rt, alloc);
+    for _ in 0..threads {
+        session.add_thread("c").expect(rt, "a thread");
+    }
+    session.start(moment(0)).expect(rt, "a start");
+    session
 }
 
 /// Offers stream 0 five payloads of 50 bytes and one of 4, from 1 to 6. The fifth is discarded.
-fn offer_six(session: &mut Session) -> Result<(), Fail> {
+fn offer_six(rt: &impl Abort, session: &mut Session) {
     let payload = [0x61; 50];
     for (at, len) in [(1, 50), (2, 50), (3, 50), (4, 50), (5, 50), (6, 4)] {
-        let bytes = payload.get(..len).ok_or("a payload")?;
-        let _ = session.offer(0, moment(at), 7, bytes)?;
+        let bytes = payload.get(..len).expect(rt, "a payload");
+        session
+            .offer(0, moment(at), 7, bytes)
+            .expect(rt, "an offer");
     }
-    Ok(())
+}
+
+fn rotate(rt: &impl Abort, session: &mut Session, at: u64) {
+    session.rotate(moment(at)).expect(rt, "a rotation");
 }
 
 /// One stream, whose first packet was taken before the rotation at 10.
-fn rotated(alloc: Global) -> Result<Session, Fail> {
-    let mut session = session_of(alloc)?;
-    let _ = session.add_thread("c")?;
-    session.start(moment(0))?;
-    offer_six(&mut session)?;
-    let _ = session.take(0)?;
-    let _ = session.rotate(moment(10))?;
-    Ok(session)
+fn rotated(rt: &impl Abort, alloc: Global) -> Session {
+    let mut session = started(rt, alloc, 1);
+    offer_six(rt, &mut session);
+    session.take(0).expect(rt, "a packet");
+    rotate(rt, &mut session, 10);
+    session
 }
 
-/// Whether it is a folder of this path.
-fn is_folder(made: Option<&Made<String, Vec<u8>>>, wanted: &str) -> bool {
+/// Writes the archives of a session under the name s, and asserts the answer.
+fn assert_written<D: Disk>(
+    rt: &impl Abort,
+    alloc: Global,
+    disk: &mut D,
+    dir: &str,
+    session: &Session,
+    wanted: Result<(), ExportFault>,
+) {
+    let name = Name::new("s").expect(rt, "a name");
+    let answer = write_archives(alloc, disk, dir, &name, session);
+    assert_same(rt, answer, wanted);
+}
+
+/// The disk on which the archives of a session were written.
+fn written(rt: &impl Abort, alloc: Global, piece: usize, session: &Session) -> MemoryDisk {
+    let mut disk = MemoryDisk::new(alloc, piece);
+    assert_written(rt, alloc, &mut disk, "d", session, Ok(()));
+    disk
+}
+
+/// What was made: a folder, a broken file, or a file of this many bytes.
+#[derive(Clone, Copy, Debug, PartialEq)]
+enum Kind {
+    Folder,
+    Broken,
+    File(usize),
+}
+
+/// What was made, and its path.
+fn kind_of(made: &Made<String, Vec<u8>>) -> (Kind, &str) {
     match made {
-        Some(Made::Folder(path)) => path.as_str() == wanted,
-        _ => false,
+        Made::Folder(path) => (Kind::Folder, path.as_str()),
+        Made::Broken(path) => (Kind::Broken, path.as_str()),
+        Made::File(path, bytes) => (Kind::File(bytes.len()), path.as_str()),
     }
 }
 
-/// Whether it is a broken file of this path.
-fn is_broken(made: Option<&Made<String, Vec<u8>>>, wanted: &str) -> bool {
-    match made {
-        Some(Made::Broken(path)) => path.as_str() == wanted,
-        _ => false,
-    }
-}
-
-/// The bytes of a file of this path.
-fn bytes_of<'a>(made: Option<&'a Made<String, Vec<u8>>>, wanted: &str) -> Option<&'a [u8]> {
-    match made {
-        Some(Made::File(path, bytes)) if path.as_str() == wanted => Some(bytes.as_slice()),
-        _ => None,
-    }
-}
-
-#[test]
-fn an_archive_is_a_folder_with_its_files(rt: HostRuntime) -> Result<(), Fail> {
-    let session = rotated(rt.alloc())?;
-    let mut disk = MemoryDisk::new(rt.alloc(), 7);
-    write_archives(rt.alloc(), &mut disk, "d", &name()?, &session).expect(&rt, "archives");
+/// Asserts all that was made on a disk, in order.
+fn assert_made(rt: &impl Abort, disk: &MemoryDisk, wanted: &[(Kind, &str)]) {
     let made = disk.made();
-    assert_same(&rt, made.len(), 3);
-    assert!(rt; is_folder(made.first(), FOLDER));
+    assert_same(rt, made.len(), wanted.len());
+    for (place, (found, want)) in made.iter().zip(wanted).enumerate() {
+        assert_same(rt, (place, kind_of(found)), (place, *want));
+    }
+}
+
+/// The bytes of the file that was made at this place, none if there is none.
+fn bytes_at(disk: &MemoryDisk, place: usize) -> &[u8] {
+    match disk.made().get(place) {
+        Some(Made::File(_, bytes)) => bytes.as_slice(),
+        _ => &[],
+    }
+}
+
+// the metadata has 1,082 bytes, the stream's file 484
+#[test]
+fn an_archive_is_a_folder_with_its_files(rt: HostRuntime) {
+    let session = rotated(&rt, rt.alloc());
+    let disk = written(&rt, rt.alloc(), 7, &session);
+    let wanted = [
+        (Kind::Folder, FOLDER),
+        (Kind::File(1082), METADATA),
+        (Kind::File(484), STREAM),
+    ];
+    assert_made(&rt, &disk, &wanted);
     let text = metadata_text(rt.alloc(), &uuid()).expect(&rt, "memory");
-    assert!(rt; bytes_of(made.get(1), METADATA) == Some(text.as_bytes()));
-    Ok(())
+    assert_same(&rt, bytes_at(&disk, 1), text.as_bytes());
+}
+
+/// Asserts that at this place a packet of this number begins, which tells of as many discarded records.
+fn assert_packet(rt: &impl Abort, bytes: &[u8], at: usize, number: u8) {
+    let packet = bytes.get(at..).expect(rt, "a packet");
+    assert_same(rt, packet.get(..4), Some(b"\xC1\x1F\xFC\xC1".as_slice()));
+    assert_same(
+        rt,
+        (packet.get(64).copied(), packet.get(72).copied()),
+        (Some(number), Some(number)),
+    );
 }
 
 // the packets are of 228 and of 256 bytes; numbers are at 64, and what was discarded at 72
 #[test]
-fn a_stream_s_file_has_its_packets(rt: HostRuntime) -> Result<(), Fail> {
-    let session = rotated(rt.alloc())?;
-    let mut disk = MemoryDisk::new(rt.alloc(), 4096);
-    write_archives(rt.alloc(), &mut disk, "d", &name()?, &session).expect(&rt, "archives");
-    let bytes = bytes_of(disk.made().get(2), STREAM).expect(&rt, "the stream's file");
-    assert_same(&rt, bytes.len(), 484);
-    let magic = b"\xC1\x1F\xFC\xC1".as_slice();
-    for (at, number) in [(0, 0), (228, 1)] {
-        assert!(rt; bytes.get(at..at + 4) == Some(magic));
-        assert_same(&rt, bytes.get(at + 64).copied(), Some(number));
-        assert_same(&rt, bytes.get(at + 72).copied(), Some(number));
-    }
-    Ok(())
+fn a_stream_s_file_has_its_packets(rt: HostRuntime) {
+    let session = rotated(&rt, rt.alloc());
+    let disk = written(&rt, rt.alloc(), 4096, &session);
+    let wanted = [
+        (Kind::Folder, FOLDER),
+        (Kind::File(1082), METADATA),
+        (Kind::File(484), STREAM),
+    ];
+    assert_made(&rt, &disk, &wanted);
+    let bytes = bytes_at(&disk, 2);
+    assert_packet(&rt, bytes, 0, 0);
+    assert_packet(&rt, bytes, 228, 1);
 }
 
 // the second chunk has a record of stream 1 alone, and stream 0 has a file without bytes there
 #[test]
-fn each_archive_has_its_own_part(rt: HostRuntime) -> Result<(), Fail> {
-    let mut session = session_of(rt.alloc())?;
-    let _ = session.add_thread("c").expect(&rt, "a thread");
-    let _ = session.add_thread("c").expect(&rt, "a thread");
-    session.start(moment(0)).expect(&rt, "a start");
-    let _ = session.rotate(moment(10)).expect(&rt, "a rotation");
-    let _ = session.offer(1, moment(11), 7, b"").expect(&rt, "an offer");
-    let _ = session
-        .rotate(moment(2_000_000_000))
-        .expect(&rt, "a rotation");
-    let mut disk = MemoryDisk::new(rt.alloc(), 4096);
-    write_archives(rt.alloc(), &mut disk, "d", &name()?, &session).expect(&rt, "archives");
-    let made = disk.made();
-    assert_same(&rt, made.len(), 8);
-    let folder = "d/s/archives/19700101T000000+0000-19700101T000002+0000-1";
-    assert!(rt; is_folder(made.get(4), folder));
-    let mut wanted = Vec::new(rt.alloc());
-    wanted
-        .push((
-            3,
-            "d/s/archives/19700101T000000+0000-19700101T000000+0000-0/c_1",
-            0,
-        ))
-        .expect(&rt, "memory");
-    wanted
-        .push((
-            6,
-            "d/s/archives/19700101T000000+0000-19700101T000002+0000-1/c_0",
-            0,
-        ))
-        .expect(&rt, "memory");
-    wanted
-        .push((
-            7,
-            "d/s/archives/19700101T000000+0000-19700101T000002+0000-1/c_1",
-            104,
-        ))
-        .expect(&rt, "memory");
-    for (place, path, len) in wanted {
-        let bytes = bytes_of(made.get(place), path).expect(&rt, "a file");
-        assert_same(&rt, bytes.len(), len);
-    }
-    Ok(())
+fn each_archive_has_its_own_part(rt: HostRuntime) {
+    let mut session = started(&rt, rt.alloc(), 2);
+    rotate(&rt, &mut session, 10);
+    session.offer(1, moment(11), 7, b"").expect(&rt, "an offer");
+    rotate(&rt, &mut session, 2_000_000_000);
+    let disk = written(&rt, rt.alloc(), 4096, &session);
+    let wanted = [
+        (Kind::Folder, FOLDER),
+        (Kind::File(1082), METADATA),
+        (Kind::File(0), STREAM),
+        (Kind::File(0), SECOND_STREAM),
+        (Kind::Folder, NEXT_FOLDER),
+        (Kind::File(1082), NEXT_METADATA),
+        (Kind::File(0), NEXT_STREAM),
+        (Kind::File(104), NEXT_SECOND_STREAM),
+    ];
+    assert_made(&rt, &disk, &wanted);
 }
 
 #[test]
-fn what_is_no_archive_is_not_written(rt: HostRuntime) -> Result<(), Fail> {
-    let mut session = session_of(rt.alloc())?;
-    let _ = session.add_thread("c").expect(&rt, "a thread");
-    session.start(moment(0)).expect(&rt, "a start");
-    offer_six(&mut session)?;
-    let mut disk = MemoryDisk::new(rt.alloc(), 4096);
-    write_archives(rt.alloc(), &mut disk, "d", &name()?, &session).expect(&rt, "archives");
-    assert_same(&rt, disk.made().len(), 0);
-    let _ = session.rotate_begin(moment(10)).expect(&rt, "a rotation");
-    let _ = session.cut(0).expect(&rt, "a cut");
-    write_archives(rt.alloc(), &mut disk, "d", &name()?, &session).expect(&rt, "archives");
-    assert_same(&rt, disk.made().len(), 0);
-    Ok(())
+fn what_is_no_archive_is_not_written(rt: HostRuntime) {
+    let mut session = started(&rt, rt.alloc(), 1);
+    offer_six(&rt, &mut session);
+    let mut disk = written(&rt, rt.alloc(), 4096, &session);
+    assert_made(&rt, &disk, &[]);
+    session.rotate_begin(moment(10)).expect(&rt, "a rotation");
+    session.cut(0).expect(&rt, "a cut");
+    assert_written(&rt, rt.alloc(), &mut disk, "d", &session, Ok(()));
+    assert_made(&rt, &disk, &[]);
 }
 
 #[test]
-fn without_streams_there_is_the_metadata_alone(rt: HostRuntime) -> Result<(), Fail> {
-    let mut session = session_of(rt.alloc())?;
-    session.start(moment(0)).expect(&rt, "a start");
-    let _ = session.rotate(moment(10)).expect(&rt, "a rotation");
-    let mut disk = MemoryDisk::new(rt.alloc(), 4096);
-    write_archives(rt.alloc(), &mut disk, "d", &name()?, &session).expect(&rt, "archives");
-    assert_same(&rt, disk.made().len(), 2);
-    assert!(rt; bytes_of(disk.made().get(1), METADATA).is_some());
-    Ok(())
+fn without_streams_there_is_the_metadata_alone(rt: HostRuntime) {
+    let mut session = started(&rt, rt.alloc(), 0);
+    rotate(&rt, &mut session, 10);
+    let disk = written(&rt, rt.alloc(), 4096, &session);
+    let wanted = [(Kind::Folder, FOLDER), (Kind::File(1082), METADATA)];
+    assert_made(&rt, &disk, &wanted);
 }

@@ -3,11 +3,13 @@
 ghost use Rattle.std.specs.Prelude.{◌≡◌, OnOk, OnErr, option_map};
 ghost use Rattle.tr_record.specs.Bytes.{once_more};
 
-use super::{assert_same, name, rotated};
+use super::{assert_same, assert_written, rotated};
+use std::alloc::Global;
 use std::mem;
-use std::test::Fail;
-use tr_export::{Disk, ExportFault, write_archives};
+use std::process::Abort;
+use tr_export::{Disk, ExportFault};
 use tr_record::{ByteSink, Failed};
+use tr_session::Session;
 
 /// A file that takes this many bytes more, and then fails.
 #[derive(Drop)]
@@ -91,49 +93,49 @@ impl Disk for FailingDisk {
     }
 }
 
-fn disk(calls: usize, first: usize, later: usize) -> FailingDisk {
-    FailingDisk {
+/// Writes the archive of one stream to a disk that fails so. Asserts the answer, and how often the disk failed.
+fn assert_told(
+    rt: &impl Abort,
+    alloc: Global,
+    session: &Session,
+    (calls, first, later): (usize, usize, usize),
+    fails: bool,
+) {
+    let mut disk = FailingDisk {
         calls,
         first,
         later,
         failures: Some(0),
-    }
+    };
+    let wanted = if fails {
+        Err(ExportFault::Write)
+    } else {
+        Ok(())
+    };
+    assert_written(rt, alloc, &mut disk, "d", session, wanted);
+    assert_same(
+        rt,
+        (calls, first, later, disk.failures),
+        (calls, first, later, Some(u64::from(fails))),
+    );
 }
 
 // five calls: a folder, and the begin and the end of two files
 #[test]
-fn each_failed_call_is_told(rt: HostRuntime) -> Result<(), Fail> {
-    let session = rotated(rt.alloc())?;
+fn each_failed_call_is_told(rt: HostRuntime) {
+    let session = rotated(&rt, rt.alloc());
     for calls in 0..7 {
-        let wanted = if calls < 5 {
-            Err(ExportFault::Write)
-        } else {
-            Ok(())
-        };
-        let mut disk = disk(calls, 4096, 4096);
-        let answer = write_archives(rt.alloc(), &mut disk, "d", &name()?, &session);
-        assert_same(&rt, (calls, answer), (calls, wanted));
-        assert_same(&rt, disk.failures, Some(u64::from(calls < 5)));
+        assert_told(&rt, rt.alloc(), &session, (calls, 4096, 4096), calls < 5);
     }
-    Ok(())
 }
 
 // the metadata has 1,082 bytes, the stream's file 484
 #[test]
-fn a_file_that_is_cut_short_is_told(rt: HostRuntime) -> Result<(), Fail> {
-    let session = rotated(rt.alloc())?;
+fn a_file_that_is_cut_short_is_told(rt: HostRuntime) {
+    let session = rotated(&rt, rt.alloc());
     let short = [(0, 4096), (1081, 4096), (4096, 0), (4096, 228), (4096, 483)];
     for (first, later) in short {
-        let mut disk = disk(9, first, later);
-        let answer = write_archives(rt.alloc(), &mut disk, "d", &name()?, &session);
-        assert_same(
-            &rt,
-            (first, later, answer),
-            (first, later, Err(ExportFault::Write)),
-        );
-        assert_same(&rt, disk.failures, Some(1));
+        assert_told(&rt, rt.alloc(), &session, (9, first, later), true);
     }
-    let answer = write_archives(rt.alloc(), &mut disk(9, 1082, 484), "d", &name()?, &session);
-    assert_same(&rt, answer, Ok(()));
-    Ok(())
+    assert_told(&rt, rt.alloc(), &session, (9, 1082, 484), false);
 }

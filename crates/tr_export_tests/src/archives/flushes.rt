@@ -1,14 +1,14 @@
 //! A runtime's file system that sees what is flushed.
 
-use super::{assert_same, name, rotated};
-use std::alloc::Allocator;
+use super::{assert_same, assert_written, rotated};
+use std::alloc::{Allocator, Global};
 use std::cell::Cell;
 use std::fs::{Metadata, OpenFile, OpenOptions};
 use std::io::{self, Read, Seek, SeekFrom, Write};
+use std::process::Abort;
 use std::rc::Rc;
 use std::rt::Files;
-use std::test::Fail;
-use tr_export::{ExportFault, HostFiles, SystemDisk, write_archives};
+use tr_export::{ExportFault, HostFiles, SystemDisk};
 
 /// How many files were opened, how many flushes there were, and how many flushes and writes after a file's first flush.
 /// `room` flushes succeed.
@@ -157,30 +157,31 @@ impl Files for SeenFiles {
     }
 }
 
+/// Writes the archive of one stream to files of which this many can be flushed. Asserts the answer, how often the disk
+/// failed, and what was seen.
+fn assert_seen(
+    rt: &impl Abort,
+    alloc: Global,
+    room: u64,
+    (answer, failures): (Result<(), ExportFault>, u64),
+    counts: (u64, u64, u64),
+) {
+    let seen = Rc::new(alloc, Seen::new(room)).expect(rt, "memory");
+    let host = SeenFiles { seen };
+    let mut disk = SystemDisk::new(HostFiles::new(&host));
+    assert_written(rt, alloc, &mut disk, "d", &rotated(rt, alloc), answer);
+    assert_same(rt, disk.failures(), Some(failures));
+    assert_same(rt, host.seen.counts(), counts);
+}
+
 // the metadata and the stream's file
 #[test]
-fn each_file_is_flushed_once(rt: HostRuntime) -> Result<(), Fail> {
-    let session = rotated(rt.alloc())?;
-    let host = SeenFiles {
-        seen: Rc::new(rt.alloc(), Seen::new(9))?,
-    };
-    let mut disk = SystemDisk::new(HostFiles::new(&host));
-    let answer = write_archives(rt.alloc(), &mut disk, "d", &name()?, &session);
-    assert_same(&rt, answer, Ok(()));
-    assert_same(&rt, host.seen.counts(), (2, 2, 0));
-    Ok(())
+fn each_file_is_flushed_once(rt: HostRuntime) {
+    assert_seen(&rt, rt.alloc(), 9, (Ok(()), 0), (2, 2, 0));
 }
 
 #[test]
-fn a_last_flush_that_fails_is_told(rt: HostRuntime) -> Result<(), Fail> {
-    let session = rotated(rt.alloc())?;
-    let host = SeenFiles {
-        seen: Rc::new(rt.alloc(), Seen::new(1))?,
-    };
-    let mut disk = SystemDisk::new(HostFiles::new(&host));
-    let answer = write_archives(rt.alloc(), &mut disk, "d", &name()?, &session);
-    assert_same(&rt, answer, Err(ExportFault::Write));
-    assert_same(&rt, disk.failures(), Some(1));
-    assert_same(&rt, host.seen.counts(), (2, 1, 0));
-    Ok(())
+fn a_last_flush_that_fails_is_told(rt: HostRuntime) {
+    let told = (Err(ExportFault::Write), 1);
+    assert_seen(&rt, rt.alloc(), 1, told, (2, 1, 0));
 }

@@ -1,11 +1,9 @@
 //! A disk that is full when a file is to be flushed.
 
-use super::{FOLDER, METADATA, STREAM, assert_same, bytes_of, is_broken, is_folder, name, rotated};
+use super::{FOLDER, Kind, METADATA, STREAM, assert_made, assert_same, assert_written, rotated};
 use std::alloc::Global;
-use std::test::Fail;
-use tr_export::{
-    CountingFile, Disk, ExportFault, FileSystem, MemoryDisk, SystemDisk, write_archives,
-};
+use std::process::Abort;
+use tr_export::{CountingFile, Disk, ExportFault, FileSystem, MemoryDisk, SystemDisk};
 use tr_record::{Failed, MemorySink};
 
 /// Keeps what is made. A number of files can be flushed, and then it is full.
@@ -40,54 +38,54 @@ impl FileSystem for FullFiles {
     }
 }
 
-fn disk(alloc: Global, room: usize) -> SystemDisk<FullFiles> {
-    SystemDisk::new(FullFiles {
+/// Writes the archive of one stream to a disk with room for this many files. Asserts the answer, how often the disk failed,
+/// how many files were ended, and what was made.
+fn assert_left(
+    rt: &impl Abort,
+    alloc: Global,
+    room: usize,
+    answer: Result<(), ExportFault>,
+    counts: (u64, u64),
+    made: &[(Kind, &str)],
+) {
+    let mut disk = SystemDisk::new(FullFiles {
         disk: MemoryDisk::new(alloc, 4096),
         room,
         ends: 0,
-    })
+    });
+    assert_written(rt, alloc, &mut disk, "d", &rotated(rt, alloc), answer);
+    let (failures, ends) = counts;
+    assert_same(
+        rt,
+        (disk.failures(), disk.files().ends),
+        (Some(failures), ends),
+    );
+    assert_made(rt, &disk.files().disk, made);
 }
 
 #[test]
-fn each_file_is_ended_once(rt: HostRuntime) -> Result<(), Fail> {
-    let session = rotated(rt.alloc())?;
-    let mut disk = disk(rt.alloc(), 2);
-    let answer = write_archives(rt.alloc(), &mut disk, "d", &name()?, &session);
-    assert_same(&rt, answer, Ok(()));
-    assert_same(&rt, disk.failures(), Some(0));
-    assert_same(&rt, disk.files().ends, 2);
-    let made = disk.files().disk.made();
-    assert_same(&rt, made.len(), 3);
-    assert!(rt; is_folder(made.first(), FOLDER));
-    assert!(rt; bytes_of(made.get(1), METADATA).is_some());
-    assert!(rt; bytes_of(made.get(2), STREAM).is_some());
-    Ok(())
+fn each_file_is_ended_once(rt: HostRuntime) {
+    let made = [
+        (Kind::Folder, FOLDER),
+        (Kind::File(1082), METADATA),
+        (Kind::File(484), STREAM),
+    ];
+    assert_left(&rt, rt.alloc(), 2, Ok(()), (0, 2), &made);
 }
 
 // the stream's file is the last one
 #[test]
-fn a_disk_that_is_full_at_the_last_flush_is_told(rt: HostRuntime) -> Result<(), Fail> {
-    let session = rotated(rt.alloc())?;
-    let mut disk = disk(rt.alloc(), 1);
-    let answer = write_archives(rt.alloc(), &mut disk, "d", &name()?, &session);
-    assert_same(&rt, answer, Err(ExportFault::Write));
-    assert_same(&rt, disk.failures(), Some(1));
-    let made = disk.files().disk.made();
-    assert_same(&rt, made.len(), 3);
-    assert!(rt; bytes_of(made.get(1), METADATA).is_some());
-    assert!(rt; is_broken(made.get(2), STREAM));
-    Ok(())
+fn a_disk_that_is_full_at_the_last_flush_is_told(rt: HostRuntime) {
+    let made = [
+        (Kind::Folder, FOLDER),
+        (Kind::File(1082), METADATA),
+        (Kind::Broken, STREAM),
+    ];
+    assert_left(&rt, rt.alloc(), 1, Err(ExportFault::Write), (1, 2), &made);
 }
 
 #[test]
-fn nothing_follows_a_broken_file(rt: HostRuntime) -> Result<(), Fail> {
-    let session = rotated(rt.alloc())?;
-    let mut disk = disk(rt.alloc(), 0);
-    let answer = write_archives(rt.alloc(), &mut disk, "d", &name()?, &session);
-    assert_same(&rt, answer, Err(ExportFault::Write));
-    assert_same(&rt, disk.failures(), Some(1));
-    let made = disk.files().disk.made();
-    assert_same(&rt, made.len(), 2);
-    assert!(rt; is_broken(made.get(1), METADATA));
-    Ok(())
+fn nothing_follows_a_broken_file(rt: HostRuntime) {
+    let made = [(Kind::Folder, FOLDER), (Kind::Broken, METADATA)];
+    assert_left(&rt, rt.alloc(), 0, Err(ExportFault::Write), (1, 1), &made);
 }
