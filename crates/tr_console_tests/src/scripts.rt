@@ -8,9 +8,16 @@ mod schedules;
 mod sessions;
 mod snapshots;
 
-use std::alloc::Global;
+use std::alloc::{Allocator, Global};
+use std::fmt::Debug;
+use std::process::Abort;
 use tr_console::{ScriptFault, run_script, run_text};
-use tr_record::{MemorySink, MemorySource};
+use tr_record::{ByteSink, ByteSource, MemorySink, MemorySource};
+
+/// Compares what a test found with what it expects. As a call without clauses it keeps the proofs of the tests short.
+fn assert_same<T: PartialEq + Debug + Drop>(rt: &impl Abort, found: T, expected: T) {
+    assert_eq!(rt; found, expected);
+}
 
 /// A session with one stream, started.
 const OPENING: &str = "create s 00000000-0000-0000-0000-000000000001
@@ -85,59 +92,88 @@ stream 0
 ";
 
 /// The texts, one after another.
-fn joined(alloc: Global, texts: &[&str]) -> Result<Vec<u8>, ScriptFault> {
+fn joined(rt: &impl Abort, alloc: Global, texts: &[&str]) -> Vec<u8> {
     let mut all = Vec::new(alloc);
     for text in texts {
-        all.extend_from_slice(text.as_bytes())?;
+        all.extend_from_slice(text.as_bytes()).expect(rt, "memory");
     }
-    Ok(all)
+    all
 }
 
-/// Whether a script has this answer, with this many refused lines, whatever pieces it is read and written in.
-fn is_answered(
+/// Runs a script. Gives how many of its lines are refused.
+fn run<A: Allocator + Copy, S: ByteSource, K: ByteSink>(
+    alloc: A,
+    clap: Global,
+    source: &mut S,
+    sink: &mut K,
+) -> Result<u64, ScriptFault> {
+    match run_script(alloc, clap, source, sink) {
+        Ok(done) => Ok(done.refused),
+        Err(fault) => Err(fault),
+    }
+}
+
+/// Asserts that a script, read and written in pieces of this size, has this answer, with this many refused lines.
+fn assert_in_pieces(
+    rt: &impl Abort,
     alloc: Global,
     script: &[u8],
-    answer: &[u8],
-    refused: u64,
-) -> Result<bool, ScriptFault> {
-    for piece in [1, 7, 65_536] {
-        let mut source = MemorySource::new(script, piece);
-        let mut sink = MemorySink::new(alloc, piece);
-        let done = run_script(alloc, alloc, &mut source, &mut sink)?;
-        if done.refused != refused || sink.into_bytes().as_slice() != answer {
-            return Ok(false);
-        }
-    }
-    Ok(run_text(alloc, alloc, script)?.as_slice() == answer)
+    (answer, refused): (&[u8], u64),
+    piece: usize,
+) {
+    let mut source = MemorySource::new(script, piece);
+    let mut sink = MemorySink::new(alloc, piece);
+    let found = run(alloc, alloc, &mut source, &mut sink);
+    assert_same(rt, (piece, found), (piece, Ok(refused)));
+    let text = sink.into_bytes();
+    assert_same(rt, (piece, text.as_slice()), (piece, answer));
 }
 
-/// Whether these lines, in a session with one stream that is started, have this answer, with this many refused lines.
-fn goes_on(alloc: Global, lines: &str, answer: &str, refused: u64) -> Result<bool, ScriptFault> {
-    let script = joined(alloc, &[OPENING, lines])?;
-    let text = joined(alloc, &[OPENED, answer])?;
-    is_answered(alloc, script.as_slice(), text.as_slice(), refused)
+/// Asserts that a script has this answer, with this many refused lines, whatever pieces it is read and written in.
+fn assert_answered(rt: &impl Abort, alloc: Global, script: &[u8], answer: &[u8], refused: u64) {
+    for piece in [1, 7, 65_536] {
+        assert_in_pieces(rt, alloc, script, (answer, refused), piece);
+    }
+    let text = run_text(alloc, alloc, script).expect(rt, "a run");
+    assert_same(rt, text.as_slice(), answer);
+}
+
+/// The same for a script and an answer of several texts, one after another.
+fn assert_joined(rt: &impl Abort, alloc: Global, scripts: &[&str], answers: &[&str], refused: u64) {
+    let script = joined(rt, alloc, scripts);
+    let answer = joined(rt, alloc, answers);
+    assert_answered(rt, alloc, &script, &answer, refused);
+}
+
+/// The same for lines in a session with one stream that is started.
+fn assert_goes_on(rt: &impl Abort, alloc: Global, lines: &str, answer: &str, refused: u64) {
+    assert_joined(rt, alloc, &[OPENING, lines], &[OPENED, answer], refused);
 }
 
 /// The same for lines in a snapshot session with one stream that isn't started.
-fn goes_on_shown(
-    alloc: Global,
-    lines: &str,
-    answer: &str,
-    refused: u64,
-) -> Result<bool, ScriptFault> {
-    let script = joined(alloc, &[SHOWN, lines])?;
-    let text = joined(alloc, &[SHOWN_ANSWERS, answer])?;
-    is_answered(alloc, script.as_slice(), text.as_slice(), refused)
+fn assert_goes_on_shown(rt: &impl Abort, alloc: Global, lines: &str, answer: &str, refused: u64) {
+    assert_joined(
+        rt,
+        alloc,
+        &[SHOWN, lines],
+        &[SHOWN_ANSWERS, answer],
+        refused,
+    );
 }
 
 /// The same for lines in a session with one stream in overwrite mode, after six offers.
-fn goes_on_overwriting(
+fn assert_goes_on_overwriting(
+    rt: &impl Abort,
     alloc: Global,
     lines: &str,
     answer: &str,
     refused: u64,
-) -> Result<bool, ScriptFault> {
-    let script = joined(alloc, &[OVERWRITING, lines])?;
-    let text = joined(alloc, &[OVERWRITTEN, answer])?;
-    is_answered(alloc, script.as_slice(), text.as_slice(), refused)
+) {
+    assert_joined(
+        rt,
+        alloc,
+        &[OVERWRITING, lines],
+        &[OVERWRITTEN, answer],
+        refused,
+    );
 }

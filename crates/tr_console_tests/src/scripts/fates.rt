@@ -1,9 +1,9 @@
 //! What `fate` answers.
 
 use super::{
-    OPENED, OPENING, SIX_ANSWERS, SIX_OFFERS, goes_on, goes_on_overwriting, is_answered, joined,
+    OPENED, OPENING, SIX_ANSWERS, SIX_OFFERS, assert_goes_on, assert_goes_on_overwriting,
+    assert_joined,
 };
-use std::test::Fail;
 
 /// A discarded record, one in the ring, two that were taken, and none.
 const FATES: &str = "fate s 0 4
@@ -23,12 +23,10 @@ not offered
 ";
 
 #[test]
-fn tells_fates_of_discarded_and_consumed_records(rt: HostRuntime) -> Result<(), Fail> {
-    let alloc = rt.alloc();
-    let script = joined(alloc, &[OPENING, SIX_OFFERS, FATES])?;
-    let text = joined(alloc, &[OPENED, SIX_ANSWERS, FATES_ANSWERS])?;
-    assert!(rt; is_answered(alloc, script.as_slice(), text.as_slice(), 0)?);
-    Ok(())
+fn tells_fates_of_discarded_and_consumed_records(rt: HostRuntime) {
+    let scripts = [OPENING, SIX_OFFERS, FATES];
+    let answers = [OPENED, SIX_ANSWERS, FATES_ANSWERS];
+    assert_joined(&rt, rt.alloc(), &scripts, &answers, 0);
 }
 
 /// Records that were overwritten, before a take and after it.
@@ -61,10 +59,9 @@ in ring 4
 ";
 
 #[test]
-fn tells_fates_of_overwritten_records(rt: HostRuntime) -> Result<(), Fail> {
+fn tells_fates_of_overwritten_records(rt: HostRuntime) {
     let answers = OVERWRITES_ANSWERS;
-    assert!(rt; goes_on_overwriting(rt.alloc(), OVERWRITES, answers, 0)?);
-    Ok(())
+    assert_goes_on_overwriting(&rt, rt.alloc(), OVERWRITES, answers, 0);
 }
 
 /// Questions about fates in no session or no stream, and bad ones.
@@ -89,7 +86,6 @@ bad line
 ";
 
 #[test]
-fn refuses_fates_of_no_stream(rt: HostRuntime) -> Result<(), Fail> {
-    assert!(rt; goes_on(rt.alloc(), NO_STREAMS, NO_STREAMS_ANSWERS, 7)?);
-    Ok(())
+fn refuses_fates_of_no_stream(rt: HostRuntime) {
+    assert_goes_on(&rt, rt.alloc(), NO_STREAMS, NO_STREAMS_ANSWERS, 7);
 }

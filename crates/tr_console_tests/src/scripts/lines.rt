@@ -1,12 +1,10 @@
 //! Lines one by one: what is answered, refused, bad and skipped.
 
-use super::{SIX_ANSWERS, SIX_OFFERS, goes_on, is_answered};
-use std::test::Fail;
+use super::{SIX_ANSWERS, SIX_OFFERS, assert_answered, assert_goes_on};
 
 #[test]
-fn answers_a_script_however_it_is_cut(rt: HostRuntime) -> Result<(), Fail> {
-    assert!(rt; goes_on(rt.alloc(), SIX_OFFERS, SIX_ANSWERS, 0)?);
-    Ok(())
+fn answers_a_script_however_it_is_cut(rt: HostRuntime) {
+    assert_goes_on(&rt, rt.alloc(), SIX_OFFERS, SIX_ANSWERS, 0);
 }
 
 /// A record that fills a sub-buffer, one that fits none, and an empty one.
@@ -21,9 +19,8 @@ stored 1 in 1
 ";
 
 #[test]
-fn refuses_what_fits_no_sub_buffer(rt: HostRuntime) -> Result<(), Fail> {
-    assert!(rt; goes_on(rt.alloc(), SIZES, SIZES_ANSWERS, 1)?);
-    Ok(())
+fn refuses_what_fits_no_sub_buffer(rt: HostRuntime) {
+    assert_goes_on(&rt, rt.alloc(), SIZES, SIZES_ANSWERS, 1);
 }
 
 /// Moments that go back, and the last one.
@@ -40,33 +37,27 @@ stored 2 in 0
 ";
 
 #[test]
-fn takes_moments_up_to_the_last(rt: HostRuntime) -> Result<(), Fail> {
-    assert!(rt; goes_on(rt.alloc(), MOMENTS, MOMENTS_ANSWERS, 1)?);
-    Ok(())
+fn takes_moments_up_to_the_last(rt: HostRuntime) {
+    assert_goes_on(&rt, rt.alloc(), MOMENTS, MOMENTS_ANSWERS, 1);
 }
 
 #[test]
-fn counts_a_refused_last_line(rt: HostRuntime) -> Result<(), Fail> {
+fn counts_a_refused_last_line(rt: HostRuntime) {
     let last = b"offer nobody 0 1 1";
-    assert!(rt; is_answered(rt.alloc(), last, b"refused K1 NoSession\n", 1)?);
-    Ok(())
+    assert_answered(&rt, rt.alloc(), last, b"refused K1 NoSession\n", 1);
 }
 
 #[test]
-fn skips_empty_lines_and_short_comments(rt: HostRuntime) -> Result<(), Fail> {
-    let alloc = rt.alloc();
-    assert!(rt; is_answered(alloc, b"", b"", 0)?);
-    assert!(rt; is_answered(alloc, b"# x\n\n", b"", 0)?);
-    assert!(rt; is_answered(alloc, b"# \x80\n#\n", b"bad line\n", 1)?);
-    Ok(())
+fn skips_empty_lines_and_short_comments(rt: HostRuntime) {
+    assert_answered(&rt, rt.alloc(), b"", b"", 0);
+    assert_answered(&rt, rt.alloc(), b"# x\n\n", b"", 0);
+    assert_answered(&rt, rt.alloc(), b"# \x80\n#\n", b"bad line\n", 1);
 }
 
 #[test]
-fn skips_comments_up_to_the_longest_line(rt: HostRuntime) -> Result<(), Fail> {
-    let alloc = rt.alloc();
-    let mut comment = vec![in alloc; b'#'; 4096]?;
-    assert!(rt; is_answered(alloc, comment.as_slice(), b"", 0)?);
-    comment.push(b'#')?;
-    assert!(rt; is_answered(alloc, comment.as_slice(), b"bad line\n", 1)?);
-    Ok(())
+fn skips_comments_up_to_the_longest_line(rt: HostRuntime) {
+    let mut comment = vec![in rt.alloc(); b'#'; 4096].expect(&rt, "memory");
+    assert_answered(&rt, rt.alloc(), comment.as_slice(), b"", 0);
+    comment.push(b'#').expect(&rt, "memory");
+    assert_answered(&rt, rt.alloc(), comment.as_slice(), b"bad line\n", 1);
 }

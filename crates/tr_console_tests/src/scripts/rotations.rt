@@ -1,7 +1,6 @@
 //! Rotations: what they archive, and what is refused while one is pending or a session stopped.
 
-use super::{goes_on, goes_on_overwriting, is_answered, joined};
-use std::test::Fail;
+use super::{assert_goes_on, assert_goes_on_overwriting, assert_joined};
 
 /// Six offers, one of them discarded, a take, a rotation, and where the records are.
 const DISCARDS: &str = "offer s 0 1 7 --fill 50
@@ -33,9 +32,8 @@ not offered
 ";
 
 #[test]
-fn archives_what_was_taken_and_cut(rt: HostRuntime) -> Result<(), Fail> {
-    assert!(rt; goes_on(rt.alloc(), DISCARDS, DISCARDS_ANSWERS, 0)?);
-    Ok(())
+fn archives_what_was_taken_and_cut(rt: HostRuntime) {
+    assert_goes_on(&rt, rt.alloc(), DISCARDS, DISCARDS_ANSWERS, 0);
 }
 
 /// A take and four offers to an overwriting ring, and a rotation.
@@ -58,10 +56,9 @@ archived 0 19700101T000000+0000-19700101T000000+0000-0
 ";
 
 #[test]
-fn archives_no_packet_that_gave_way(rt: HostRuntime) -> Result<(), Fail> {
+fn archives_no_packet_that_gave_way(rt: HostRuntime) {
     let answers = OVERWRITES_ANSWERS;
-    assert!(rt; goes_on_overwriting(rt.alloc(), OVERWRITES, answers, 0)?);
-    Ok(())
+    assert_goes_on_overwriting(&rt, rt.alloc(), OVERWRITES, answers, 0);
 }
 
 /// A rotation before any offer.
@@ -76,9 +73,8 @@ stored 0 in 0
 ";
 
 #[test]
-fn archives_a_chunk_without_packets(rt: HostRuntime) -> Result<(), Fail> {
-    assert!(rt; goes_on(rt.alloc(), EMPTY, EMPTY_ANSWERS, 0)?);
-    Ok(())
+fn archives_a_chunk_without_packets(rt: HostRuntime) {
+    assert_goes_on(&rt, rt.alloc(), EMPTY, EMPTY_ANSWERS, 0);
 }
 
 /// A session with two streams, started.
@@ -143,15 +139,10 @@ in chunk 0 1
 ";
 
 #[test]
-fn cuts_streams_one_after_another(rt: HostRuntime) -> Result<(), Fail> {
-    let alloc = rt.alloc();
-    let script = joined(alloc, &[TWO_STREAMS, STEPS, LAST_STEPS])?;
-    let text = joined(
-        alloc,
-        &[TWO_STREAMS_ANSWERS, STEPS_ANSWERS, LAST_STEPS_ANSWERS],
-    )?;
-    assert!(rt; is_answered(alloc, script.as_slice(), text.as_slice(), 1)?);
-    Ok(())
+fn cuts_streams_one_after_another(rt: HostRuntime) {
+    let scripts = [TWO_STREAMS, STEPS, LAST_STEPS];
+    let answers = [TWO_STREAMS_ANSWERS, STEPS_ANSWERS, LAST_STEPS_ANSWERS];
+    assert_joined(&rt, rt.alloc(), &scripts, &answers, 1);
 }
 
 /// What is refused while a rotation is pending, and when none is.
@@ -172,9 +163,8 @@ refused S13 NotPending
 ";
 
 #[test]
-fn refuses_rotations_and_stops_while_one_is_pending(rt: HostRuntime) -> Result<(), Fail> {
-    assert!(rt; goes_on(rt.alloc(), PENDING, PENDING_ANSWERS, 3)?);
-    Ok(())
+fn refuses_rotations_and_stops_while_one_is_pending(rt: HostRuntime) {
+    assert_goes_on(&rt, rt.alloc(), PENDING, PENDING_ANSWERS, 3);
 }
 
 /// A stop, a rotation, another one, and a second start.
@@ -195,7 +185,6 @@ archived 1 19700101T000000+0000-19700101T000000+0000-1
 ";
 
 #[test]
-fn rotates_a_stopped_session_once(rt: HostRuntime) -> Result<(), Fail> {
-    assert!(rt; goes_on(rt.alloc(), STOPPED, STOPPED_ANSWERS, 2)?);
-    Ok(())
+fn rotates_a_stopped_session_once(rt: HostRuntime) {
+    assert_goes_on(&rt, rt.alloc(), STOPPED, STOPPED_ANSWERS, 2);
 }

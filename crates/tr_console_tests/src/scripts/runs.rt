@@ -1,9 +1,10 @@
 //! Sources and sinks that fail, scripts of the greatest length, and how the faults print.
 
-use super::{OPENED, OPENING, SIX_ANSWERS, SIX_OFFERS, joined};
+use super::{OPENED, OPENING, SIX_ANSWERS, SIX_OFFERS, assert_same, joined, run};
+use std::alloc::Global;
 use std::cell::Cell;
-use std::test::Fail;
-use tr_console::{ScriptFault, run_script, run_text};
+use std::process::Abort;
+use tr_console::{ScriptFault, run_text};
 use tr_record::{ByteSink, ByteSource, Failed, MemorySink, MemorySource};
 
 /// Gives bytes one at a time, and then fails.
@@ -37,22 +38,28 @@ impl ByteSource for Breaking<'_> {
     }
 }
 
+/// Asserts the answer to the first bytes of a script, where the source fails after that.
+fn assert_broken(rt: &impl Abort, alloc: Global, given: usize, answer: &[u8]) {
+    let mut source = Breaking {
+        bytes: OPENING.as_bytes().get(..given).expect(rt, "bytes"),
+        failures: 0,
+    };
+    let mut sink = MemorySink::new(alloc, 1);
+    let found = run(alloc, alloc, &mut source, &mut sink);
+    assert_same(rt, (given, found), (given, Err(ScriptFault::Read)));
+    let text = sink.into_bytes();
+    assert_same(
+        rt,
+        (given, text.as_slice(), source.failures),
+        (given, answer, 1),
+    );
+}
+
 #[test]
-fn answers_whole_lines_before_the_source_fails(rt: HostRuntime) -> Result<(), Fail> {
-    let alloc = rt.alloc();
-    let table: [(usize, &[u8]); 3] = [(0, b""), (45, b""), (46, b"created s\n")];
-    for (given, text) in table {
-        let mut source = Breaking {
-            bytes: OPENING.as_bytes().get(..given).unwrap_or(b""),
-            failures: 0,
-        };
-        let mut sink = MemorySink::new(alloc, 1);
-        let fault = run_script(alloc, alloc, &mut source, &mut sink).map(|done| done.refused);
-        assert_eq!(rt; fault, Err(ScriptFault::Read), "after {given} bytes");
-        assert_eq!(rt; sink.into_bytes().as_slice(), text, "after {given} bytes");
-        assert_eq!(rt; source.failures, 1, "after {given} bytes");
-    }
-    Ok(())
+fn answers_whole_lines_before_the_source_fails(rt: HostRuntime) {
+    assert_broken(&rt, rt.alloc(), 0, b"");
+    assert_broken(&rt, rt.alloc(), 45, b"");
+    assert_broken(&rt, rt.alloc(), 46, b"created s\n");
 }
 
 /// Gives a line at each call, and sees whether all that it gave before are answered by then.
@@ -120,11 +127,9 @@ fn answers_a_line_before_it_asks_for_the_next(rt: HostRuntime) {
         answered: &answered,
         is_late: false,
     };
-    let refused = run_script(alloc, alloc, &mut source, &mut Counting(&answered)).map(
-        |done| done.refused,
-    );
-    assert_eq!(rt; refused, Ok(2));
-    assert_eq!(rt; (source.given, source.is_late), (4, false));
+    let found = run(alloc, alloc, &mut source, &mut Counting(&answered));
+    assert_same(&rt, found, Ok(2));
+    assert_same(&rt, (source.given, source.is_late), (4, false));
 }
 
 /// Takes bytes one at a time while it has room, and then fails.
@@ -151,27 +156,30 @@ impl ByteSink for Filling {
     }
 }
 
+/// Asserts that a script breaks off where the sink has taken this many bytes of its answer.
+fn assert_filled(rt: &impl Abort, alloc: Global, script: &[u8], answer: &[u8], room: usize) {
+    let mut source = MemorySource::new(script, 1);
+    let mut sink = Filling {
+        taken: Vec::new(alloc),
+        room,
+        failures: 0,
+    };
+    let found = run(alloc, alloc, &mut source, &mut sink);
+    assert_same(rt, (room, found), (room, Err(ScriptFault::Write)));
+    assert_same(
+        rt,
+        (room, Some(sink.taken.as_slice()), sink.failures),
+        (room, answer.get(..room), 1),
+    );
+}
+
 #[test]
-fn writes_a_front_part_before_the_sink_fails(rt: HostRuntime) -> Result<(), Fail> {
-    let alloc = rt.alloc();
-    let script = joined(alloc, &[OPENING, SIX_OFFERS])?;
-    let text = joined(alloc, &[OPENED, SIX_ANSWERS])?;
+fn writes_a_front_part_before_the_sink_fails(rt: HostRuntime) {
+    let script = joined(&rt, rt.alloc(), &[OPENING, SIX_OFFERS]);
+    let text = joined(&rt, rt.alloc(), &[OPENED, SIX_ANSWERS]);
     for room in 0..text.len() {
-        let mut source = MemorySource::new(script.as_slice(), 1);
-        let mut sink = Filling {
-            taken: Vec::new(alloc),
-            room,
-            failures: 0,
-        };
-        let fault = run_script(alloc, alloc, &mut source, &mut sink).map(|done| done.refused);
-        assert_eq!(rt; fault, Err(ScriptFault::Write), "room for {room} bytes");
-        assert!(rt;
-            Some(sink.taken.as_slice()) == text.as_slice().get(..room),
-            "room for {room} bytes"
-        );
-        assert_eq!(rt; sink.failures, 1, "room for {room} bytes");
+        assert_filled(&rt, rt.alloc(), &script, &text, room);
     }
-    Ok(())
 }
 
 /// Gives newlines, one or many at a time, and counts the calls.
@@ -200,54 +208,59 @@ impl ByteSource for Feeds {
     }
 }
 
-#[test]
-fn takes_a_script_of_16777216_line_feeds(rt: HostRuntime) -> Result<(), Fail> {
-    let alloc = rt.alloc();
+/// Asserts what a script of so many newlines comes to, and after how many calls of its source.
+fn assert_fed(
+    rt: &impl Abort,
+    alloc: Global,
+    (left, piece): (usize, usize),
+    wanted: Result<u64, ScriptFault>,
+    calls: Option<u64>,
+) {
     let mut source = Feeds {
-        left: 16_777_216,
-        piece: 65_536,
+        left,
+        piece,
         calls: 0,
     };
     let mut sink = MemorySink::new(alloc, 1);
-    let done = run_script(alloc, alloc, &mut source, &mut sink)?;
-    assert_eq!(rt; done.refused, 0);
-    assert!(rt; sink.into_bytes().is_empty());
-    Ok(())
+    let found = run(alloc, alloc, &mut source, &mut sink);
+    assert_same(rt, found, wanted);
+    assert_same(rt, sink.into_bytes().is_empty(), true);
+    if calls.is_some() {
+        assert_same(rt, Some(source.calls), calls);
+    }
 }
 
 #[test]
-fn reads_one_byte_too_many_and_no_more(rt: HostRuntime) -> Result<(), Fail> {
-    let alloc = rt.alloc();
-    let mut source = Feeds {
-        left: 20_000_000,
-        piece: 1,
-        calls: 0,
-    };
-    let mut sink = MemorySink::new(alloc, 1);
-    let fault = run_script(alloc, alloc, &mut source, &mut sink).map(|done| done.refused);
-    assert_eq!(rt; fault, Err(ScriptFault::TooLong));
-    assert_eq!(rt; source.calls, 16_777_217);
-    assert!(rt; sink.into_bytes().is_empty());
-    let script = vec![in alloc; b'\n'; 16_777_217]?;
-    let text = run_text(alloc, alloc, script.as_slice()).map(|text| text.len());
-    assert_eq!(rt; text, Err(ScriptFault::TooLong));
-    Ok(())
+fn takes_a_script_of_16777216_line_feeds(rt: HostRuntime) {
+    assert_fed(&rt, rt.alloc(), (16_777_216, 65_536), Ok(0), None);
 }
 
 #[test]
-fn prints_faults_of_runs(rt: HostRuntime) -> Result<(), Fail> {
+fn reads_one_byte_too_many_and_no_more(rt: HostRuntime) {
     let alloc = rt.alloc();
-    let table = [
+    let wanted = Err(ScriptFault::TooLong);
+    assert_fed(&rt, alloc, (20_000_000, 1), wanted, Some(16_777_217));
+    let script = vec![in alloc; b'\n'; 16_777_217].expect(&rt, "memory");
+    let text = run_text(alloc, alloc, script.as_slice());
+    assert_same(&rt, text.err(), Some(ScriptFault::TooLong));
+}
+
+/// Asserts what a fault prints, and its code and its name.
+fn assert_printed(rt: &impl Abort, alloc: Global, fault: ScriptFault, text: &str) {
+    let printed = format!(in alloc; "{fault}").expect(rt, "memory");
+    assert_same(rt, printed.as_str(), text);
+    let parts = format!(in alloc; "{} {}", fault.code(), fault.name()).expect(rt, "memory");
+    assert_same(rt, parts.as_str(), text);
+}
+
+#[test]
+fn prints_faults_of_runs(rt: HostRuntime) {
+    for (fault, text) in [
         (ScriptFault::Read, "Q1 Read"),
         (ScriptFault::TooLong, "Q2 TooLong"),
         (ScriptFault::Write, "Q3 Write"),
         (ScriptFault::NoMemory, "Q4 NoMemory"),
-    ];
-    for (fault, text) in table {
-        let printed = format!(in alloc; "{fault}")?;
-        assert_eq!(rt; printed.as_str(), text);
-        let parts = format!(in alloc; "{} {}", fault.code(), fault.name())?;
-        assert_eq!(rt; parts.as_str(), text);
+    ] {
+        assert_printed(&rt, rt.alloc(), fault, text);
     }
-    Ok(())
 }

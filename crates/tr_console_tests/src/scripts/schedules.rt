@@ -1,7 +1,6 @@
 //! Schedules and ticks.
 
-use super::{goes_on, goes_on_shown};
-use std::test::Fail;
+use super::{assert_goes_on, assert_goes_on_shown};
 
 /// A rotation that is due by the period, and one that is due by the bytes consumed.
 const DUE: &str = "schedule s --every 100 --size 200
@@ -25,9 +24,8 @@ rotated size 1 19700101T000000+0000-19700101T000000+0000-1
 ";
 
 #[test]
-fn rotates_where_that_is_due(rt: HostRuntime) -> Result<(), Fail> {
-    assert!(rt; goes_on(rt.alloc(), DUE, DUE_ANSWERS, 0)?);
-    Ok(())
+fn rotates_where_that_is_due(rt: HostRuntime) {
+    assert_goes_on(&rt, rt.alloc(), DUE, DUE_ANSWERS, 0);
 }
 
 /// Schedules that don't exist, and none.
@@ -48,9 +46,8 @@ idle
 ";
 
 #[test]
-fn refuses_schedules_of_nothing(rt: HostRuntime) -> Result<(), Fail> {
-    assert!(rt; goes_on(rt.alloc(), NONE, NONE_ANSWERS, 4)?);
-    Ok(())
+fn refuses_schedules_of_nothing(rt: HostRuntime) {
+    assert_goes_on(&rt, rt.alloc(), NONE, NONE_ANSWERS, 4);
 }
 
 /// The session's refusal comes first, and its ticks do nothing.
@@ -65,7 +62,6 @@ idle
 ";
 
 #[test]
-fn snapshot_sessions_have_no_schedule(rt: HostRuntime) -> Result<(), Fail> {
-    assert!(rt; goes_on_shown(rt.alloc(), SHOWN, SHOWN_ANSWERS, 2)?);
-    Ok(())
+fn snapshot_sessions_have_no_schedule(rt: HostRuntime) {
+    assert_goes_on_shown(&rt, rt.alloc(), SHOWN, SHOWN_ANSWERS, 2);
 }

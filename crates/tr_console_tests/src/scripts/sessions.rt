@@ -1,8 +1,8 @@
 //! Sessions: their clocks, their status, what is refused before a start, and their order.
 
-use super::{goes_on, is_answered};
-use std::test::Fail;
-use tr_console::run_script;
+use super::{assert_answered, assert_goes_on, assert_same};
+use std::process::Abort;
+use tr_console::{Console, run_script};
 use tr_record::{MemorySink, MemorySource};
 
 /// A session whose clock is five hours behind UTC.
@@ -17,10 +17,9 @@ archived 0 20231114T171320-0500-20231114T171420-0500-0
 ";
 
 #[test]
-fn names_archives_by_the_clock_of_the_session(rt: HostRuntime) -> Result<(), Fail> {
+fn names_archives_by_the_clock_of_the_session(rt: HostRuntime) {
     let script = WEST.as_bytes();
-    assert!(rt; is_answered(rt.alloc(), script, WEST_ANSWERS.as_bytes(), 0)?);
-    Ok(())
+    assert_answered(&rt, rt.alloc(), script, WEST_ANSWERS.as_bytes(), 0);
 }
 
 /// Rotations of a session without streams.
@@ -44,10 +43,9 @@ archived 1 19700101T000000+0000-19700101T000000+0000-1
 ";
 
 #[test]
-fn rotates_a_session_without_streams(rt: HostRuntime) -> Result<(), Fail> {
+fn rotates_a_session_without_streams(rt: HostRuntime) {
     let script = BARE.as_bytes();
-    assert!(rt; is_answered(rt.alloc(), script, BARE_ANSWERS.as_bytes(), 0)?);
-    Ok(())
+    assert_answered(&rt, rt.alloc(), script, BARE_ANSWERS.as_bytes(), 0);
 }
 
 /// The status of an active session, of one that is rotated, and of one that is stopped.
@@ -76,9 +74,8 @@ stream     offered   discarded overwritten     in-ring   in-chunks
 ";
 
 #[test]
-fn tells_the_state_and_the_pending_rotation(rt: HostRuntime) -> Result<(), Fail> {
-    assert!(rt; goes_on(rt.alloc(), STATES, STATES_ANSWERS, 0)?);
-    Ok(())
+fn tells_the_state_and_the_pending_rotation(rt: HostRuntime) {
+    assert_goes_on(&rt, rt.alloc(), STATES, STATES_ANSWERS, 0);
 }
 
 /// What a session that was never started refuses, and what it has.
@@ -104,10 +101,9 @@ stream     offered   discarded overwritten     in-ring   in-chunks
 ";
 
 #[test]
-fn refuses_rotations_and_stops_before_a_start(rt: HostRuntime) -> Result<(), Fail> {
+fn refuses_rotations_and_stops_before_a_start(rt: HostRuntime) {
     let script = NEW.as_bytes();
-    assert!(rt; is_answered(rt.alloc(), script, NEW_ANSWERS.as_bytes(), 5)?);
-    Ok(())
+    assert_answered(&rt, rt.alloc(), script, NEW_ANSWERS.as_bytes(), 5);
 }
 
 /// Calls of a session that doesn't exist.
@@ -130,10 +126,9 @@ refused K1 NoSession
 ";
 
 #[test]
-fn refuses_calls_of_no_session(rt: HostRuntime) -> Result<(), Fail> {
+fn refuses_calls_of_no_session(rt: HostRuntime) {
     let script = NOBODY.as_bytes();
-    assert!(rt; is_answered(rt.alloc(), script, NOBODY_ANSWERS.as_bytes(), 7)?);
-    Ok(())
+    assert_answered(&rt, rt.alloc(), script, NOBODY_ANSWERS.as_bytes(), 7);
 }
 
 /// Two sessions; the second one has a stream.
@@ -143,16 +138,19 @@ channel a c 256 2 discard
 thread a c
 ";
 
+/// Asserts the name of the session at this place, and how many streams it has.
+fn assert_session(rt: &impl Abort, console: &Console, place: usize, name: &str, streams: u64) {
+    let (found, session) = console.session(place).expect(rt, "a session");
+    assert_same(rt, (found.as_str(), session.streams()), (name, streams));
+}
+
 #[test]
-fn gives_sessions_in_the_order_of_their_creation(rt: HostRuntime) -> Result<(), Fail> {
+fn gives_sessions_in_the_order_of_their_creation(rt: HostRuntime) {
     let alloc = rt.alloc();
     let mut source = MemorySource::new(TWO.as_bytes(), 4096);
     let mut sink = MemorySink::new(alloc, 4096);
-    let done = run_script(alloc, alloc, &mut source, &mut sink)?;
-    let (name, session) = done.console.session(0).ok_or("a session")?;
-    assert_eq!(rt; (name.as_str(), session.streams()), ("b", 0));
-    let (name, session) = done.console.session(1).ok_or("a session")?;
-    assert_eq!(rt; (name.as_str(), session.streams()), ("a", 1));
-    assert!(rt; done.console.session(2).is_none());
-    Ok(())
+    let done = run_script(alloc, alloc, &mut source, &mut sink).expect(&rt, "a run");
+    assert_session(&rt, &done.console, 0, "b", 0);
+    assert_session(&rt, &done.console, 1, "a", 1);
+    assert_same(&rt, done.console.session(2).is_none(), true);
 }

@@ -1,9 +1,8 @@
 //! Snapshots: what they show, and what snapshot sessions refuse.
 
-use super::{goes_on, goes_on_shown, is_answered};
+use super::{assert_answered, assert_goes_on, assert_goes_on_shown, assert_same, run};
 use linked_list_allocator::LocalHeap;
-use std::test::Fail;
-use tr_console::{ScriptFault, run_script};
+use tr_console::ScriptFault;
 use tr_record::{MemorySink, MemorySource};
 
 /// What a snapshot session refuses, before its start and after it.
@@ -22,9 +21,8 @@ refused S1 SnapshotMode
 ";
 
 #[test]
-fn refuses_discards_takes_and_rotations(rt: HostRuntime) -> Result<(), Fail> {
-    assert!(rt; goes_on_shown(rt.alloc(), REFUSED, REFUSED_ANSWERS, 4)?);
-    Ok(())
+fn refuses_discards_takes_and_rotations(rt: HostRuntime) {
+    assert_goes_on_shown(&rt, rt.alloc(), REFUSED, REFUSED_ANSWERS, 4);
 }
 
 /// Snapshots of a local session, of none, and at bad moments.
@@ -41,9 +39,8 @@ bad line
 ";
 
 #[test]
-fn refuses_snapshots_of_local_sessions(rt: HostRuntime) -> Result<(), Fail> {
-    assert!(rt; goes_on(rt.alloc(), LOCAL, LOCAL_ANSWERS, 4)?);
-    Ok(())
+fn refuses_snapshots_of_local_sessions(rt: HostRuntime) {
+    assert_goes_on(&rt, rt.alloc(), LOCAL, LOCAL_ANSWERS, 4);
 }
 
 /// Six offers, two of them overwritten, and two snapshots.
@@ -76,9 +73,8 @@ packet 2 records 2 first 4 last 5
 ";
 
 #[test]
-fn shows_the_same_twice(rt: HostRuntime) -> Result<(), Fail> {
-    assert!(rt; goes_on_shown(rt.alloc(), SIX, SIX_ANSWERS, 0)?);
-    Ok(())
+fn shows_the_same_twice(rt: HostRuntime) {
+    assert_goes_on_shown(&rt, rt.alloc(), SIX, SIX_ANSWERS, 0);
 }
 
 /// An offer after six others and a snapshot, and a snapshot at a moment before its own.
@@ -118,9 +114,8 @@ packet 3 records 1 first 6 last 6
 ";
 
 #[test]
-fn shows_what_was_offered_since(rt: HostRuntime) -> Result<(), Fail> {
-    assert!(rt; goes_on_shown(rt.alloc(), SEVENTH, SEVENTH_ANSWERS, 0)?);
-    Ok(())
+fn shows_what_was_offered_since(rt: HostRuntime) {
+    assert_goes_on_shown(&rt, rt.alloc(), SEVENTH, SEVENTH_ANSWERS, 0);
 }
 
 /// A stream without offers, and its status.
@@ -138,9 +133,8 @@ stream     offered   discarded overwritten     in-ring   in-chunks
 ";
 
 #[test]
-fn shows_a_stream_without_offers(rt: HostRuntime) -> Result<(), Fail> {
-    assert!(rt; goes_on_shown(rt.alloc(), EMPTY, EMPTY_ANSWERS, 0)?);
-    Ok(())
+fn shows_a_stream_without_offers(rt: HostRuntime) {
+    assert_goes_on_shown(&rt, rt.alloc(), EMPTY, EMPTY_ANSWERS, 0);
 }
 
 /// A snapshot of a session without streams.
@@ -150,10 +144,9 @@ snapshot z 5
 ";
 
 #[test]
-fn shows_no_stream(rt: HostRuntime) -> Result<(), Fail> {
+fn shows_no_stream(rt: HostRuntime) {
     let text = b"created z\nstarted\nsnapshot 5\n";
-    assert!(rt; is_answered(rt.alloc(), BARE.as_bytes(), text, 0)?);
-    Ok(())
+    assert_answered(&rt, rt.alloc(), BARE.as_bytes(), text, 0);
 }
 
 /// Records that fill a ring of four sub-buffers, and a snapshot.
@@ -179,13 +172,13 @@ stored 3 in 3
 ";
 
 #[test]
-fn answers_the_lines_before_a_snapshot_without_memory(rt: HostRuntime) -> Result<(), Fail> {
+fn answers_the_lines_before_a_snapshot_without_memory(rt: HostRuntime) {
     // enough for the ring and for one payload, and too little for copies of four
-    let heap = LocalHeap::new(rt.alloc(), 180_224)?;
+    let heap = LocalHeap::new(rt.alloc(), 180_224).expect(&rt, "memory");
     let mut source = MemorySource::new(LARGE.as_bytes(), 4096);
     let mut sink = MemorySink::new(rt.alloc(), 4096);
-    let fault = run_script(&heap, rt.alloc(), &mut source, &mut sink).map(|done| done.refused);
-    assert_eq!(rt; fault, Err(ScriptFault::NoMemory));
-    assert!(rt; sink.into_bytes().as_slice() == LARGE_ANSWERS.as_bytes());
-    Ok(())
+    let found = run(&heap, rt.alloc(), &mut source, &mut sink);
+    assert_same(&rt, found, Err(ScriptFault::NoMemory));
+    let text = sink.into_bytes();
+    assert_same(&rt, text.as_slice(), LARGE_ANSWERS.as_bytes());
 }
