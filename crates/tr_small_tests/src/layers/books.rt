@@ -1,7 +1,7 @@
 use super::assert_same;
 use std::alloc::Global;
 use std::process::Abort;
-use tr_book::{Geometry, GeometryFault, Parts, StreamSnap};
+use tr_book::{Geometry, GeometryFault, Part, Parts, StreamSnap};
 use tr_packet::{Head, Packet};
 use tr_record::{Moment, Rec};
 use uuid::Uuid;
@@ -25,54 +25,78 @@ fn packet(rt: &impl Abort, alloc: Global, seq: u64, len: usize) -> Packet {
     Packet::checked(head, records).expect(rt, "a packet")
 }
 
+/// Puts a packet of two records with payloads of `len` bytes into the current part.
+fn push(rt: &impl Abort, alloc: Global, parts: &mut Parts, seq: u64, len: usize) {
+    assert!(rt; parts.current().records() < 1000);
+    let pushed = parts.push(packet(rt, alloc, seq, len));
+    pushed.expect(rt, "memory");
+}
+
+/// Cuts behind such a packet.
+fn cut_behind(rt: &impl Abort, alloc: Global, parts: &mut Parts, seq: u64, len: usize) {
+    assert!(rt; parts.current().records() < 1000);
+    let packets = vec![in alloc; packet(rt, alloc, seq, len)].expect(rt, "memory");
+    parts.cut(packets).expect(rt, "a cut");
+}
+
+/// Cuts behind no packet.
+fn cut_bare(rt: &impl Abort, alloc: Global, parts: &mut Parts) {
+    assert!(rt; parts.current().records() < 1000);
+    parts.cut(Vec::new(alloc)).expect(rt, "a cut");
+}
+
+/// Asserts the number of a part, its records and its bytes.
+fn assert_part(rt: &impl Abort, part: &Part, id: u64, records: u64, bytes: u128) {
+    assert_same(
+        rt,
+        (part.id(), part.records(), part.bytes()),
+        (id, records, bytes),
+    );
+}
+
+/// The same for a part by its place.
+fn assert_part_at(rt: &impl Abort, parts: &Parts, k: u64, records: u64, bytes: u128) {
+    let part = parts.part(k).expect(rt, "a part");
+    assert_part(rt, part, k, records, bytes);
+}
+
 // 80 bytes and 24 for each record beside the payloads: 228 if they have 50 bytes, 256 if they have 64
 #[test]
 fn parts_sum_up_their_packets(rt: HostRuntime) {
     let mut parts = Parts::new(rt.alloc());
     assert_same(&rt, parts.cuts(), 0);
-    assert!(rt; parts.current().records() == 0 && parts.current().bytes() == 0);
-    parts
-        .push(packet(&rt, rt.alloc(), 0, 50))
-        .expect(&rt, "memory");
-    assert!(rt; parts.current().records() == 2);
-    parts
-        .push(packet(&rt, rt.alloc(), 1, 64))
-        .expect(&rt, "memory");
-    let current = parts.part(0).expect(&rt, "a part");
-    assert_same(&rt, (current.id(), current.records()), (0, 4));
-    assert_same(&rt, current.bytes(), 484);
+    assert_part(&rt, parts.current(), 0, 0, 0);
+    push(&rt, rt.alloc(), &mut parts, 0, 50);
+    assert_part(&rt, parts.current(), 0, 2, 228);
+    push(&rt, rt.alloc(), &mut parts, 1, 64);
+    assert_part_at(&rt, &parts, 0, 4, 484);
+}
+
+/// Asserts that one part is closed, which has the packets 0 and 1, with the records 0 to 3.
+fn assert_only_closed(rt: &impl Abort, parts: &Parts) {
+    let [first] = parts.closed() else {
+        panic!(rt; "one closed part")
+    };
+    assert_part(rt, first, 0, 4, 484);
+    assert_same(rt, first.packets().len(), 2);
+    let next = first.packets().at(1).expect(rt, "a packet");
+    assert_same(rt, next.head().seq, 1);
+    assert_same(rt, (first.seq_of(1), first.seq_of(8)), (Some(0), None));
 }
 
 #[test]
 fn a_cut_closes_the_part_behind_its_packets(rt: HostRuntime) {
     let mut parts = Parts::new(rt.alloc());
-    parts
-        .push(packet(&rt, rt.alloc(), 0, 50))
-        .expect(&rt, "memory");
-    parts
-        .cut(vec![in rt.alloc(); packet(&rt, rt.alloc(), 1, 64)].expect(&rt, "memory"))
-        .expect(&rt, "a cut");
+    push(&rt, rt.alloc(), &mut parts, 0, 50);
+    cut_behind(&rt, rt.alloc(), &mut parts, 1, 64);
     assert_same(&rt, parts.cuts(), 1);
-    assert!(rt; parts.current().records() == 0);
-    parts
-        .push(packet(&rt, rt.alloc(), 2, 50))
-        .expect(&rt, "memory");
-    let [first] = parts.closed() else {
-        panic!(rt; "one closed part")
-    };
-    assert_same(&rt, (first.id(), first.records()), (0, 4));
-    assert_same(&rt, first.bytes(), 484);
-    assert_same(&rt, first.packets().len(), 2);
-    let next = first.packets().at(1).expect(&rt, "a packet");
-    assert_same(&rt, next.head().seq, 1);
-    assert_same(&rt, first.seq_of(1), Some(0));
-    assert_same(&rt, first.seq_of(8), None);
-    let second = parts.part(1).expect(&rt, "a part");
-    assert_same(&rt, (second.id(), second.records()), (1, 2));
-    assert_same(&rt, second.bytes(), 228);
-    parts.cut(Vec::new(rt.alloc())).expect(&rt, "a cut");
-    assert_same(&rt, parts.part(2).map(|p| p.records()), Some(0));
-    assert!(rt; parts.part(3).is_none());
+    assert_part(&rt, parts.current(), 1, 0, 0);
+    push(&rt, rt.alloc(), &mut parts, 2, 50);
+    assert_only_closed(&rt, &parts);
+    assert_part_at(&rt, &parts, 1, 2, 228);
+    cut_bare(&rt, rt.alloc(), &mut parts);
+    assert_part_at(&rt, &parts, 2, 0, 0);
+    assert_same(&rt, parts.part(3).is_none(), true);
 }
 
 #[test]

@@ -1,12 +1,11 @@
 //! Worked examples of ledgers and their seats.
 
 use super::assert_same;
-use std::test::Fail;
 use tr_ledger::Ledger;
 
 #[test]
-fn seats_share_a_total(rt: HostRuntime) -> Result<(), Fail> {
-    let (mut ledger, mut first) = Ledger::open(rt.alloc())?;
+fn seats_share_a_total(rt: HostRuntime) {
+    let (mut ledger, mut first) = Ledger::open(rt.alloc()).expect(&rt, "memory");
     assert_same(
         &rt,
         (ledger.total(), ledger.made(), first.amount()),
@@ -27,12 +26,11 @@ fn seats_share_a_total(rt: HostRuntime) -> Result<(), Fail> {
         (ledger.total(), ledger.made(), first.amount()),
         (42, 1, 42),
     );
-    Ok(())
 }
 
 #[test]
-fn a_dropped_seat_keeps_its_share(rt: HostRuntime) -> Result<(), Fail> {
-    let (mut ledger, mut first) = Ledger::open(rt.alloc())?;
+fn a_dropped_seat_keeps_its_share(rt: HostRuntime) {
+    let (mut ledger, mut first) = Ledger::open(rt.alloc()).expect(&rt, "memory");
     let mut second = ledger.split();
     ledger.raise(&mut second, u64::MAX - 1);
     drop(second);
@@ -43,5 +41,4 @@ fn a_dropped_seat_keeps_its_share(rt: HostRuntime) -> Result<(), Fail> {
         (ledger.total(), ledger.made(), first.amount()),
         (u64::MAX, 1, 1),
     );
-    Ok(())
 }

@@ -3,7 +3,7 @@
 use super::assert_same;
 use std::alloc::Global;
 use std::io::{self, Read, Write};
-use std::test::Fail;
+use std::process::Abort;
 use tr_record::{
     ByteSink, ByteSource, Failed, MemorySink, MemorySource, Moment, ReaderSource, Rec, RecView,
     RecViews, Records, WriterSink, put_all, put_rec, read_raw, read_rec, rec_size,
@@ -15,37 +15,31 @@ const ONE: [u8; 25] = [
     7, 0, 0, 0, 1, 0, 0, 0, 0, 0, 0, 0, 0, 0, 0, 0, 0, 0, 0, 0, 1, 0, 0, 0, 0x41,
 ];
 
-fn written(alloc: Global, payload: &[u8]) -> Result<Vec<u8>, Fail> {
-    let moment = Moment::new(1).ok_or("a moment")?;
-    if payload.len() > 1_000 {
-        return Err(Fail::from("a short payload"));
-    }
+fn written(rt: &impl Abort, alloc: Global, payload: &[u8]) -> Vec<u8> {
+    let moment = Moment::new(1).expect(rt, "a moment");
+    assert!(rt; payload.len() <= 1_000);
     let r = RecView::new(0, moment, 7, payload);
-    let mut out = Vec::with_capacity(alloc, rec_size(payload.len()))?;
+    let mut out = Vec::with_capacity(alloc, rec_size(payload.len())).expect(rt, "memory");
     put_rec(&mut out, &r);
-    Ok(out)
+    out
 }
 
 #[test]
-fn a_record_of_one_byte(rt: HostRuntime) -> Result<(), Fail> {
-    let out = written(rt.alloc(), b"A")?;
+fn a_record_of_one_byte(rt: HostRuntime) {
+    let out = written(&rt, rt.alloc(), b"A");
     assert_same(&rt, out.as_slice(), ONE.as_slice());
     let (r, size) = read_rec(&out).expect(&rt, "a record");
-    assert_same(&rt, size, 25);
-    assert_same(&rt, r.size(), 25);
+    assert_same(&rt, (size, r.size()), (25, 25));
     assert_same(&rt, (r.serial(), r.moment().get(), r.id()), (0, 1, 7));
     assert_same(&rt, r.payload(), b"A".as_slice());
-    Ok(())
 }
 
 #[test]
-fn a_record_of_no_byte(rt: HostRuntime) -> Result<(), Fail> {
-    let out = written(rt.alloc(), b"")?;
+fn a_record_of_no_byte(rt: HostRuntime) {
+    let out = written(&rt, rt.alloc(), b"");
     assert_same(&rt, out.len(), 24);
     let (r, size) = read_rec(&out).expect(&rt, "a record");
-    assert_same(&rt, size, 24);
-    assert!(rt; r.payload().is_empty());
-    Ok(())
+    assert_same(&rt, (size, r.payload().len()), (24, 0));
 }
 
 #[test]
@@ -77,21 +71,21 @@ fn a_record_keeps_its_payload(rt: HostRuntime) {
 }
 
 /// Three records, of serials 4, 6 and 9.
-fn three_records(alloc: Global) -> Result<Vec<Rec>, Fail> {
-    let moment = Moment::new(5).ok_or("a moment")?;
+fn three_records(rt: &impl Abort, alloc: Global) -> Vec<Rec> {
+    let moment = Moment::new(5).expect(rt, "a moment");
     let mut records = Vec::new(alloc);
     for serial in [4, 6, 9] {
-        records.push(Rec::copy_of(alloc, serial, moment, 7, b"abc")?)?;
+        let record = Rec::copy_of(alloc, serial, moment, 7, b"abc").expect(rt, "memory");
+        records.push(record).expect(rt, "memory");
     }
-    Ok(records)
+    records
 }
 
 #[test]
-fn records_are_shown_by_place_and_serial(rt: HostRuntime) -> Result<(), Fail> {
-    let records = three_records(rt.alloc())?;
+fn records_are_shown_by_place_and_serial(rt: HostRuntime) {
+    let records = three_records(&rt, rt.alloc());
     let views = RecViews::new(&records);
-    assert_same(&rt, views.len(), 3);
-    assert!(rt; views.at(3).is_none());
+    assert_same(&rt, (views.len(), views.at(3).is_none()), (3, true));
     assert_same(&rt, (views.has(6), views.has(5)), (true, false));
     let serials = (
         views.first().map(|r| r.serial()),
@@ -99,25 +93,25 @@ fn records_are_shown_by_place_and_serial(rt: HostRuntime) -> Result<(), Fail> {
         views.last().map(|r| r.serial()),
     );
     assert_same(&rt, serials, (Some(4), Some(6), Some(9)));
-    Ok(())
 }
 
 #[test]
-fn records_are_shown_one_after_another(rt: HostRuntime) -> Result<(), Fail> {
-    let records = three_records(rt.alloc())?;
+fn records_are_shown_one_after_another(rt: HostRuntime) {
+    let records = three_records(&rt, rt.alloc());
     let mut views = RecViews::new(&records);
     let first = views.next().expect(&rt, "a record");
     assert_same(&rt, (first.serial(), first.moment().get()), (4, 5));
     assert_same(&rt, first.payload(), b"abc".as_slice());
     assert_same(&rt, (views.len(), views.has(4)), (2, false));
-    let mut serials = Vec::new(rt.alloc());
-    for r in views {
-        serials.push(r.serial())?;
-    }
-    assert_same(&rt, serials.as_slice(), [6, 9].as_slice());
+    assert_same(&rt, views.next().map(|r| r.serial()), Some(6));
+    assert_same(&rt, views.next().map(|r| r.serial()), Some(9));
+    assert_same(&rt, views.next().is_none(), true);
     let none: RecViews<'_> = RecViews::new(&[]);
-    assert!(rt; none.len() == 0 && none.first().is_none() && none.last().is_none());
-    Ok(())
+    assert_same(
+        &rt,
+        (none.len(), none.first().is_none(), none.last().is_none()),
+        (0, true, true),
+    );
 }
 
 #[test]
@@ -171,13 +165,13 @@ fn std_streams_go_through(rt: HostRuntime) {
     assert_same(&rt, sink.flush(), Ok(()));
     drop(sink);
     assert_same(&rt, bytes.as_slice(), b"some bytes".as_slice());
+}
 
+#[test]
+fn std_streams_that_fail_are_told(rt: HostRuntime) {
     let mut memory = MemorySink::new(rt.alloc(), 100);
-    assert_same(
-        &rt,
-        copied(&mut ReaderSource::new(FailsAfter::new(2)), &mut memory),
-        Err(Failed),
-    );
+    let mut source = ReaderSource::new(FailsAfter::new(2));
+    assert_same(&rt, copied(&mut source, &mut memory), Err(Failed));
     assert_same(&rt, memory.into_bytes().as_slice(), b"xx".as_slice());
     let mut broken = WriterSink::new(FailsAfter::new(2));
     assert_same(&rt, put_all(&mut broken, b"a"), Ok(()));
@@ -250,29 +244,31 @@ fn each_flush_reaches_the_writer(rt: HostRuntime) {
     assert_same(&rt, writer.flushes, 2);
 }
 
-#[test]
-fn records_end_to_end(rt: HostRuntime) -> Result<(), Fail> {
-    let mut bytes = ONE.to_vec(rt.alloc()).expect(&rt, "memory");
-    bytes.extend_from_slice(&ONE).expect(&rt, "memory");
+/// Three records one after another, of 25, 25 and 24 bytes.
+fn row(rt: &impl Abort, alloc: Global) -> Vec<u8> {
+    let mut bytes = ONE.to_vec(alloc).expect(rt, "memory");
+    bytes.extend_from_slice(&ONE).expect(rt, "memory");
+    let last = written(rt, alloc, b"");
+    bytes.extend_from_slice(&last).expect(rt, "memory");
     bytes
-        .extend_from_slice(&written(rt.alloc(), b"")?)
-        .expect(&rt, "memory");
-    let records = Records::checked(&bytes).expect(&rt, "whole records");
-    let mut sizes = Vec::new(rt.alloc());
-    for r in records {
-        sizes.push(r.size()).expect(&rt, "memory");
+}
+
+/// Asserts the sizes of the records that these bytes are.
+fn assert_sizes(rt: &impl Abort, bytes: &[u8], wanted: &[usize]) {
+    let mut records = Records::checked(bytes).expect(rt, "whole records");
+    for size in wanted {
+        assert_same(rt, records.next().map(|r| r.size()), Some(*size));
     }
-    assert_same(&rt, sizes.as_slice(), [25, 25, 24].as_slice());
-    assert!(rt;
-        Records::checked(b"")
-            .expect(&rt, "no record")
-            .next()
-            .is_none()
-    );
-    assert!(rt;
-        Records::checked(&bytes[..bytes.len() - 1]).is_none(),
-        "a cut record"
-    );
-    assert!(rt; Records::checked(&bytes[1..]).is_none(), "bytes in front");
-    Ok(())
+    assert_same(rt, records.next().is_none(), true);
+}
+
+#[test]
+fn records_end_to_end(rt: HostRuntime) {
+    let bytes = row(&rt, rt.alloc());
+    assert_sizes(&rt, &bytes, &[25, 25, 24]);
+    assert_sizes(&rt, b"", &[]);
+    let cut = bytes.get(..73).expect(&rt, "bytes");
+    assert_same(&rt, Records::checked(cut).is_none(), true);
+    let behind = bytes.get(1..).expect(&rt, "bytes");
+    assert_same(&rt, Records::checked(behind).is_none(), true);
 }
