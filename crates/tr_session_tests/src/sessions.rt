@@ -31,6 +31,52 @@ fn new_session<A: Allocator + Copy>(rt: &impl Abort, alloc: A, mode: SessionMode
     Session::new(alloc, Uuid::nil(), offset, mode)
 }
 
+/// Starts a session at this moment.
+fn start<A: Allocator + Copy>(rt: &impl Abort, session: &mut Session<A>, at: u64) {
+    session.start(moment(at)).expect(rt, "a start");
+}
+
+/// Asserts the answer to a take from this stream.
+fn assert_taken(rt: &impl Abort, session: &mut Session, i: u64, want: Result<Taken, StepFault>) {
+    assert_same(rt, (i, session.take(i)), (i, want));
+}
+
+/// Asserts why a thread of this channel is refused.
+fn assert_no_thread(rt: &impl Abort, session: &mut Session, channel: &str, fault: SessionFault) {
+    let answer = session.add_thread(channel);
+    assert_same(rt, (channel, answer), (channel, Err(fault)));
+}
+
+/// Asserts the answer to a new channel of this geometry and mode.
+fn assert_added(
+    rt: &impl Abort,
+    session: &mut Session,
+    name: &str,
+    (size, count, mode): (u64, u64, Mode),
+    want: Result<(), SessionFault>,
+) {
+    let own_name = Name::new(name).expect(rt, "a name");
+    let answer = session.add_channel(&own_name, size, count, mode);
+    assert_same(rt, (name, size, count, answer), (name, size, count, want));
+}
+
+/// Asserts the answer to an offer of a payload of `len` bytes.
+fn assert_offer(
+    rt: &impl Abort,
+    session: &mut Session,
+    (i, at, len): (u64, u64, usize),
+    want: Result<Offered, StepFault>,
+) {
+    let answer = offer(rt, session, i, at, len);
+    assert_same(rt, (i, at, len, answer), (i, at, len, want));
+}
+
+/// Asserts that there is no such stream of which a fate could be told.
+fn assert_no_fate(rt: &impl Abort, session: &Session, i: u64) {
+    let none = StepFault::Session(SessionFault::NoStream);
+    assert_same(rt, (i, session.fate_of(i, 0)), (i, Err(none)));
+}
+
 /// Adds a channel of this many sub-buffers of this size.
 fn add_channel<A: Allocator + Copy>(
     rt: &impl Abort,
@@ -124,12 +170,24 @@ fn assert_made(rt: &impl Abort, session: &Session, i: u64, size: usize, count: u
     assert_same(rt, config.uuid, session.book().uuid());
 }
 
+/// Asserts how many records of the first stream were offered and discarded, and how many were overwritten, are in the ring
+/// and were consumed.
+fn assert_counts(rt: &impl Abort, session: &Session, front: (u64, u64), back: (u64, u64, u64)) {
+    let counts = session.stream(0).expect(rt, "a stream").counts();
+    assert_same(rt, (counts.offered, counts.discarded), front);
+    assert_same(
+        rt,
+        (counts.overwritten, counts.in_ring, counts.consumed),
+        back,
+    );
+}
+
 // beside a packet's 80 bytes there are 176: two records of 74 leave room for one of 28 and for no third of 74
 #[test]
 fn one_stream_from_the_start_to_a_packet(rt: HostRuntime) {
     let mut session = with_streams(&rt, rt.alloc(), SessionMode::Local, Mode::Discard, 1);
     assert_same(&rt, session.book().state(), State::New);
-    session.start(moment(0)).expect(&rt, "a start");
+    start(&rt, &mut session, 0);
     assert_same(&rt, session.book().state(), State::Active);
     for (at, len, want) in [
         (1, 50, Offered::Stored { serial: 0, seq: 0 }),
@@ -139,24 +197,17 @@ fn one_stream_from_the_start_to_a_packet(rt: HostRuntime) {
         (5, 50, Offered::Discarded { serial: 4 }),
         (6, 4, Offered::Stored { serial: 5, seq: 1 }),
     ] {
-        let answer = offer(&rt, &mut session, 0, at, len);
-        assert_same(&rt, (at, answer), (at, Ok(want)));
+        assert_offer(&rt, &mut session, (0, at, len), Ok(want));
     }
     let taken = Taken {
         seq: 0,
         count: 2,
         chunk: 0,
     };
-    for answer in [Ok(taken), Err(StepFault::Take(TakeFault::Nothing))] {
-        assert_same(&rt, session.take(0), answer);
-    }
-    let counts = session.stream(0).expect(&rt, "a stream").counts();
-    assert_same(&rt, (counts.offered, counts.discarded), (6, 1));
-    assert_same(
-        &rt,
-        (counts.overwritten, counts.in_ring, counts.consumed),
-        (0, 3, 2),
-    );
+    assert_taken(&rt, &mut session, 0, Ok(taken));
+    let nothing = StepFault::Take(TakeFault::Nothing);
+    assert_taken(&rt, &mut session, 0, Err(nothing));
+    assert_counts(&rt, &session, (6, 1), (0, 3, 2));
 }
 
 // two records of 88 bytes fill a sub-buffer
@@ -170,7 +221,7 @@ fn streams_stand_apart(rt: HostRuntime) {
     add_threads(&rt, &mut session, "small", 1..2);
     add_threads(&rt, &mut session, "large", 2..3);
     assert_same(&rt, session.streams(), 3);
-    session.start(moment(100)).expect(&rt, "a start");
+    start(&rt, &mut session, 100);
     assert_last(&rt, &session, 100);
     let over = Offered::StoredOver {
         serial: 4,
@@ -186,14 +237,21 @@ fn streams_stand_apart(rt: HostRuntime) {
         (1, over),
         (2, Offered::Stored { serial: 0, seq: 0 }),
     ] {
-        let answer = offer(&rt, &mut session, i, 200, 64);
-        assert_same(&rt, (i, answer), (i, Ok(want)));
+        assert_offer(&rt, &mut session, (i, 200, 64), Ok(want));
     }
     for (i, offered) in [(0, 0), (1, 5), (2, 1)] {
         assert_offered(&rt, &session, i, offered);
     }
     assert_made(&rt, &session, 1, 256, 2, Mode::Overwrite);
-    assert!(rt; session.stream(3).is_none());
+    assert_same(&rt, session.stream(3).is_none(), true);
+}
+
+/// Offers each of two streams six payloads of 64 bytes.
+fn offer_to_both(rt: &impl Abort, session: &mut Session) {
+    for at in 1..7 {
+        let _ = offer(rt, session, 0, at, 64);
+        let _ = offer(rt, session, 1, at, 64);
+    }
 }
 
 // two records of 88 bytes fill a sub-buffer, and the fifth overwrites the first two
@@ -205,11 +263,8 @@ fn fates_tell_where_records_are(rt: HostRuntime) {
     add_threads(&rt, &mut session, "c", 0..1);
     add_threads(&rt, &mut session, "d", 1..2);
     assert_fates(&rt, &session, &[(0, 0, None)]);
-    session.start(moment(0)).expect(&rt, "a start");
-    for at in 1..7 {
-        let _ = offer(&rt, &mut session, 0, at, 64);
-        let _ = offer(&rt, &mut session, 1, at, 64);
-    }
+    start(&rt, &mut session, 0);
+    offer_to_both(&rt, &mut session);
     let rows = [
         (0, 0, Some(Fate::Overwritten)),
         (0, 1, Some(Fate::Overwritten)),
@@ -221,12 +276,31 @@ fn fates_tell_where_records_are(rt: HostRuntime) {
         (1, 6, None),
     ];
     assert_fates(&rt, &session, &rows);
-    session.take(1).expect(&rt, "a packet");
+    let taken = Taken {
+        seq: 0,
+        count: 2,
+        chunk: 0,
+    };
+    assert_taken(&rt, &mut session, 1, Ok(taken));
     let kept = Fate::InChunk { chunk: 0, seq: 0 };
     assert_fates(&rt, &session, &[(1, 1, Some(kept))]);
-    let none = StepFault::Session(SessionFault::NoStream);
-    assert_same(&rt, session.fate_of(2, 0), Err(none));
-    assert_same(&rt, session.fate_of(u64::MAX, 0), Err(none));
+    assert_no_fate(&rt, &session, 2);
+    assert_no_fate(&rt, &session, u64::MAX);
+}
+
+/// Asserts the geometry and the mode of a channel.
+fn assert_channel(
+    rt: &impl Abort,
+    session: &Session,
+    name: &str,
+    size: usize,
+    count: usize,
+    mode: Mode,
+) {
+    let channel = session.book().channel(name).expect(rt, "a channel");
+    let geometry = (channel.geometry.size(), channel.geometry.count());
+    assert_same(rt, geometry, (size, count));
+    assert_same(rt, channel.mode, mode);
 }
 
 // a count or a size that no ring has; then a name that is taken, and a ninth channel, whatever its geometry
@@ -253,57 +327,42 @@ fn channels_are_refused_in_order(rt: HostRuntime) {
         ("i", 255, 2, Mode::Discard, Err(SessionFault::TooMany)),
     ];
     for (name, size, count, mode, want) in rows {
-        let own_name = Name::new(name).expect(&rt, "a name");
-        let answer = session.add_channel(&own_name, size, count, mode);
-        assert_same(&rt, (name, size, count, answer), (name, size, count, want));
+        assert_added(&rt, &mut session, name, (size, count, mode), want);
     }
     assert_same(&rt, session.book().channels(), 8);
-    let last = session.book().channel("h").expect(&rt, "a channel");
-    assert_same(
-        &rt,
-        (last.geometry.size(), last.geometry.count()),
-        (65_536, 64),
-    );
-    assert!(rt; last.mode == Mode::Overwrite && session.book().channel("i").is_none());
-    session.start(moment(0)).expect(&rt, "a start");
-    let name = Name::new("a").expect(&rt, "a name");
-    let refused = session.add_channel(&name, 255, 2, Mode::Discard);
-    assert_same(&rt, refused, Err(SessionFault::AlreadyStarted));
-    assert_same(
-        &rt,
-        session.add_thread("x"),
-        Err(SessionFault::AlreadyStarted),
-    );
-    assert_same(
-        &rt,
-        session.start(moment(1)),
-        Err(SessionFault::AlreadyActive),
-    );
+    assert_channel(&rt, &session, "h", 65_536, 64, Mode::Overwrite);
+    assert_same(&rt, session.book().channel("i").is_none(), true);
+    start(&rt, &mut session, 0);
+    let started = SessionFault::AlreadyStarted;
+    let geometry = (255, 2, Mode::Discard);
+    assert_added(&rt, &mut session, "a", geometry, Err(started));
+    assert_no_thread(&rt, &mut session, "x", started);
+    let again = session.start(moment(1));
+    assert_same(&rt, again, Err(SessionFault::AlreadyActive));
 }
 
 #[test]
 fn streams_are_refused_in_order(rt: HostRuntime) {
     let mut session = new_session(&rt, rt.alloc(), SessionMode::Local);
-    assert_same(&rt, session.add_thread("c"), Err(SessionFault::NoChannel));
+    assert_no_thread(&rt, &mut session, "c", SessionFault::NoChannel);
     add_channel(&rt, &mut session, "c", 256, 2, Mode::Discard);
     add_threads(&rt, &mut session, "c", 0..256);
-    assert_same(&rt, session.add_thread("x"), Err(SessionFault::NoChannel));
-    assert_same(&rt, session.add_thread("c"), Err(SessionFault::TooMany));
+    assert_no_thread(&rt, &mut session, "x", SessionFault::NoChannel);
+    assert_no_thread(&rt, &mut session, "c", SessionFault::TooMany);
     assert_same(&rt, session.streams(), 256);
     let inactive = StepFault::Offer(OfferFault::Inactive);
-    assert_same(&rt, offer(&rt, &mut session, 255, 1, 4), Err(inactive));
-    session.start(moment(0)).expect(&rt, "a start");
+    assert_offer(&rt, &mut session, (255, 1, 4), Err(inactive));
+    start(&rt, &mut session, 0);
     let none = StepFault::Session(SessionFault::NoStream);
     for (i, len, want) in [
         (255, 152, Ok(Offered::Stored { serial: 0, seq: 0 })),
         (255, 153, Err(StepFault::Offer(OfferFault::TooBig))),
         (256, 4, Err(none)),
     ] {
-        let answer = offer(&rt, &mut session, i, 1, len);
-        assert_same(&rt, (i, len, answer), (i, len, want));
+        assert_offer(&rt, &mut session, (i, 1, len), want);
     }
-    assert_same(&rt, session.take(256), Err(none));
-    assert_same(&rt, session.take(u64::MAX), Err(none));
+    assert_taken(&rt, &mut session, 256, Err(none));
+    assert_taken(&rt, &mut session, u64::MAX, Err(none));
 }
 
 /// Asserts what a fault prints, and its code and its name.

@@ -1,8 +1,8 @@
 //! Rotations of a session, whole and by single cuts, and what is refused meanwhile.
 
 use super::{
-    add_channel, add_threads, assert_fates, assert_same, make_offers, new_session, offer,
-    with_streams,
+    add_channel, add_threads, assert_fates, assert_offer, assert_same, assert_taken, make_offers,
+    new_session, start, with_streams,
 };
 use std::alloc::Global;
 use std::process::Abort;
@@ -17,7 +17,7 @@ use uuid::Uuid;
 /// A session of this many streams with two sub-buffers of 256 bytes each, that was started at moment 0.
 fn started(rt: &impl Abort, alloc: Global, streams: u64, mode: Mode) -> Session {
     let mut session = with_streams(rt, alloc, SessionMode::Local, mode, streams);
-    session.start(moment(0)).expect(rt, "a start");
+    start(rt, &mut session, 0);
     session
 }
 
@@ -49,6 +49,16 @@ fn assert_begun(rt: &impl Abort, session: &mut Session, at: u64, want: Result<u6
 /// Asserts the answer to the next step of a rotation.
 fn assert_next(rt: &impl Abort, session: &mut Session, want: Result<Next, StepFault>) {
     assert_same(rt, session.rotate_next(), want);
+}
+
+/// Asserts the answer to a cut of stream `i`, which is a test's step of this number.
+fn assert_cut(
+    rt: &impl Abort,
+    session: &mut Session,
+    (step, i): (u64, u64),
+    want: Result<CutDone, StepFault>,
+) {
+    assert_same(rt, (step, i, session.cut(i)), (step, i, want));
 }
 
 /// Asserts the answer to the end of a rotation.
@@ -110,7 +120,7 @@ fn chunks_follow_each_other(rt: HostRuntime) {
         (9, 9),
     );
     let first = Offered::Stored { serial: 0, seq: 0 };
-    assert_same(&rt, offer(&rt, &mut session, 0, 10, 64), Ok(first));
+    assert_offer(&rt, &mut session, (0, 10, 64), Ok(first));
     assert_rotated(&rt, &mut session, 12, Ok(archive(2, 9, 12)));
     assert_only_packet(&rt, &session, 2, 10, 12);
 }
@@ -120,7 +130,7 @@ fn refusals_of_a_rotation(rt: HostRuntime) {
     let mut session = started(&rt, rt.alloc(), 1, Mode::Discard);
     let none = StepFault::Session(SessionFault::NotPending);
     assert_next(&rt, &mut session, Err(none));
-    assert_same(&rt, session.cut(0), Err(none));
+    assert_cut(&rt, &mut session, (0, 0), Err(none));
     assert_finished(&rt, &mut session, Err(SessionFault::NotPending));
     assert_begun(&rt, &mut session, 10, Ok(0));
     let pending = SessionFault::RotationPending;
@@ -148,17 +158,18 @@ fn streams_are_cut_in_order(rt: HostRuntime) {
         packets: 0,
         records: 0,
     };
-    let rows = [
-        (2, Err(SessionFault::NoStream)),
-        (1, Err(SessionFault::CutMissing)),
-        (0, Ok(nothing)),
-        (0, Err(SessionFault::NotPending)),
-        (1, Ok(nothing)),
-        (2, Err(SessionFault::NoStream)),
-    ];
-    for (step, (i, want)) in rows.iter().enumerate() {
-        let want = want.map_err(StepFault::Session);
-        assert_same(&rt, (step, session.cut(*i)), (step, want));
+    let none = Err(StepFault::Session(SessionFault::NoStream));
+    let early = Err(StepFault::Session(SessionFault::CutMissing));
+    let again = Err(StepFault::Session(SessionFault::NotPending));
+    for (step, i, want) in [
+        (0, 2, none),
+        (1, 1, early),
+        (2, 0, Ok(nothing)),
+        (3, 0, again),
+        (4, 1, Ok(nothing)),
+        (5, 2, none),
+    ] {
+        assert_cut(&rt, &mut session, (step, i), want);
     }
 }
 
@@ -168,11 +179,7 @@ fn a_stopped_session_rotates_once(rt: HostRuntime) {
     assert_stopped(&rt, &mut session, Ok(()));
     assert_stopped(&rt, &mut session, Err(SessionFault::NotActive));
     let inactive = StepFault::Offer(OfferFault::Inactive);
-    assert_same(
-        &rt,
-        session.offer(0, moment(1), 1, &[0x61; 64]),
-        Err(inactive),
-    );
+    assert_offer(&rt, &mut session, (0, 1, 64), Err(inactive));
     assert_rotated(&rt, &mut session, 1, Ok(archive(0, 0, 1)));
     assert_rotated(&rt, &mut session, 2, Err(SessionFault::AlreadyRotated));
     assert_started(&rt, &mut session, 3, Ok(()));
@@ -206,16 +213,22 @@ fn an_overwritten_packet_is_in_no_archive(rt: HostRuntime) {
         count: 2,
         chunk: 0,
     };
-    assert_same(&rt, session.take(0), Ok(taken));
+    assert_taken(&rt, &mut session, 0, Ok(taken));
     make_offers(&rt, &mut session, 7..11, 64);
     assert_rotated(&rt, &mut session, 20, Ok(archive(0, 0, 20)));
     assert_size(&rt, &session, 0, (3, 6, 768));
-    assert_same(&rt, session.archive_size(1).packets, 0);
+    assert_size(&rt, &session, 1, (0, 0, 0));
     let rows = [
         (0, 4, Some(Fate::Overwritten)),
         (0, 9, Some(Fate::InChunk { chunk: 0, seq: 4 })),
     ];
     assert_fates(&rt, &session, &rows);
+}
+
+/// Asserts the channel of a stream.
+fn assert_channel_of(rt: &impl Abort, session: &Session, i: u64, channel: Option<&str>) {
+    let name = session.book().channel_of(i).map(|name| name.as_str());
+    assert_same(rt, (i, name), (i, channel));
 }
 
 #[test]
@@ -225,8 +238,7 @@ fn the_book_tells_each_stream_s_channel(rt: HostRuntime) {
     add_channel(&rt, &mut session, "d", 512, 2, Mode::Overwrite);
     add_threads(&rt, &mut session, "d", 0..1);
     add_threads(&rt, &mut session, "c", 1..2);
-    for (i, channel) in [(0, Some("d")), (1, Some("c")), (2, None)] {
-        let name = session.book().channel_of(i).map(|name| name.as_str());
-        assert_same(&rt, (i, name), (i, channel));
-    }
+    assert_channel_of(&rt, &session, 0, Some("d"));
+    assert_channel_of(&rt, &session, 1, Some("c"));
+    assert_channel_of(&rt, &session, 2, None);
 }

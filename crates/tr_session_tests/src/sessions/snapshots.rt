@@ -1,6 +1,8 @@
 //! Snapshots of a session, and what a snapshot session refuses.
 
-use super::{assert_last, assert_same, make_offers, new_session, offer, with_streams};
+use super::{
+    assert_last, assert_same, assert_taken, make_offers, new_session, start, with_streams,
+};
 use linked_list_allocator::LocalHeap;
 use std::alloc::{AllocError, Allocator, Global};
 use std::process::Abort;
@@ -22,7 +24,7 @@ fn unstarted<A: Allocator + Copy>(rt: &impl Abort, alloc: A) -> Session<A> {
 /// The same, started at moment 0, with offers of 64 bytes at 1 to 6: two of them fill a sub-buffer.
 fn filled<A: Allocator + Copy>(rt: &impl Abort, alloc: A) -> Session<A> {
     let mut session = unstarted(rt, alloc);
-    session.start(moment(0)).expect(rt, "a start");
+    start(rt, &mut session, 0);
     make_offers(rt, &mut session, 1..7, 64);
     session
 }
@@ -105,13 +107,19 @@ fn channels_of_a_snapshot_session_overwrite(rt: HostRuntime) {
     assert_same(&rt, session.book().channels(), 1);
 }
 
+/// The bytes of what is shown of a stream.
+fn bytes_of(rt: &impl Abort, alloc: Global, snap: &StreamSnap) -> Vec<u8> {
+    let mut sink = MemorySink::new(alloc, 512);
+    write_snap(alloc, &mut sink, snap).expect(rt, "the bytes");
+    sink.into_bytes()
+}
+
 #[test]
 fn a_snapshot_of_two_full_packets_has_512_bytes(rt: HostRuntime) {
     let mut session = filled(&rt, rt.alloc());
     let snapshot = session.snapshot(moment(10)).expect(&rt, "a snapshot");
-    let mut sink = MemorySink::new(rt.alloc(), 512);
-    write_snap(rt.alloc(), &mut sink, only(&rt, &snapshot)).expect(&rt, "the bytes");
-    assert_same(&rt, sink.into_bytes().len(), 512);
+    let bytes = bytes_of(&rt, rt.alloc(), only(&rt, &snapshot));
+    assert_same(&rt, bytes.len(), 512);
 }
 
 #[test]
@@ -135,8 +143,8 @@ fn a_snapshot_shows_what_the_ring_holds(rt: HostRuntime) {
 #[test]
 fn an_offer_after_a_snapshot(rt: HostRuntime) {
     let mut session = filled(&rt, rt.alloc());
-    session.snapshot(moment(10)).expect(&rt, "a snapshot");
-    offer(&rt, &mut session, 0, 11, 64).expect(&rt, "an offer");
+    assert_count(&rt, &mut session, 10, 4);
+    make_offers(&rt, &mut session, 11..12, 64);
     let shown = Shown {
         moment: 12,
         offered: 7,
@@ -155,7 +163,7 @@ fn a_snapshot_without_offers(rt: HostRuntime) {
     let mut session = unstarted(&rt, rt.alloc());
     assert_refused(&rt, &mut session, 5, SessionFault::NeverStarted);
     assert_last(&rt, &session, 0);
-    session.start(moment(2)).expect(&rt, "a start");
+    start(&rt, &mut session, 2);
     let shown = Shown {
         moment: 5,
         offered: 0,
@@ -173,9 +181,9 @@ fn a_snapshot_without_offers(rt: HostRuntime) {
 fn a_snapshot_session_has_no_chunks(rt: HostRuntime) {
     let mut session = filled(&rt, rt.alloc());
     let none = StepFault::Session(SessionFault::NoStream);
-    assert_same(&rt, session.take(1), Err(none));
+    assert_taken(&rt, &mut session, 1, Err(none));
     let kept = StepFault::Take(TakeFault::SnapshotMode);
-    assert_same(&rt, session.take(0), Err(kept));
+    assert_taken(&rt, &mut session, 0, Err(kept));
     let refused = SessionFault::SnapshotMode;
     assert_same(&rt, session.rotate(moment(6)), Err(refused));
     assert_same(&rt, session.rotate_begin(moment(6)), Err(refused));
@@ -190,7 +198,7 @@ fn a_local_session_has_no_snapshots(rt: HostRuntime) {
     let mut session = with_streams(&rt, rt.alloc(), SessionMode::Local, Mode::Overwrite, 1);
     let refused = SessionFault::NotSnapshotMode;
     assert_refused(&rt, &mut session, 5, refused);
-    session.start(moment(0)).expect(&rt, "a start");
+    start(&rt, &mut session, 0);
     assert_refused(&rt, &mut session, 5, refused);
     assert_same(&rt, session.snap(0, moment(5)).err(), Some(refused));
     assert_last(&rt, &session, 0);

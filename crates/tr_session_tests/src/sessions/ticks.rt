@@ -1,6 +1,6 @@
 //! Ticks of a session's schedule.
 
-use super::{assert_last, assert_same, make_offers, with_streams};
+use super::{assert_last, assert_same, assert_taken, make_offers, start, with_streams};
 use std::alloc::Global;
 use std::process::Abort;
 use tr_book::Mode;
@@ -20,7 +20,7 @@ fn scheduled(rt: &impl Abort, alloc: Global) -> Session {
     let mut session = unstarted(rt, alloc);
     let schedule = Schedule::new(Some(100), Some(200)).expect(rt, "a schedule");
     assert_scheduled(rt, &mut session, Some(schedule));
-    session.start(moment(0)).expect(rt, "a start");
+    start(rt, &mut session, 0);
     session
 }
 
@@ -68,7 +68,7 @@ fn a_period_and_then_a_size(rt: HostRuntime) {
         count: 2,
         chunk: 1,
     };
-    assert_same(&rt, session.take(0), Ok(taken));
+    assert_taken(&rt, &mut session, 0, Ok(taken));
     let second = rotated(Cause::Size, 1, 100, 150);
     assert_ticked(&rt, &mut session, 150, second);
 }
@@ -97,7 +97,7 @@ fn ticks_without_a_schedule_are_idle(rt: HostRuntime) {
     assert_scheduled(&rt, &mut session, Some(schedule));
     assert_same(&rt, session.book().schedule(), Some(schedule));
     assert_ticked(&rt, &mut session, 500, Ticked::Idle);
-    session.start(moment(0)).expect(&rt, "a start");
+    start(&rt, &mut session, 0);
     assert_scheduled(&rt, &mut session, None);
     assert_ticked(&rt, &mut session, 500, Ticked::Idle);
     assert_same(&rt, session.book().schedule(), None);
@@ -121,7 +121,7 @@ fn ticks_of_a_held_session_are_idle(rt: HostRuntime) {
     assert_ticked(&rt, &mut session, 500, Ticked::Idle);
     assert_last(&rt, &session, 110);
     assert_same(&rt, session.book().archives().len(), 2);
-    session.start(moment(120)).expect(&rt, "a start");
+    start(&rt, &mut session, 120);
     let archive = rotated(Cause::Timer, 2, 110, 500);
     assert_ticked(&rt, &mut session, 500, archive);
 }
