@@ -1,0 +1,5 @@
+pub mod JoinLaws
+pub mod StartLaws
+pub mod JudgeLaws
+pub mod ReportLaws
+pub mod FeedLaws

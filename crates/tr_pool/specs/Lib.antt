@@ -1,0 +1,7 @@
+pub mod Feeding
+pub mod Judging
+pub mod Logs
+pub mod Pools
+pub mod Reports
+pub mod Threads
+pub mod Turns

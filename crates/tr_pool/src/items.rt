@@ -1,0 +1,67 @@
+//! What feeders offer, and what they log.
+
+ghost use Rattle.std.specs.Prelude.{◌≡◌, length};
+
+use std::marker::Model;
+use tr_stream::Payload;
+use tr_terms::Moment;
+
+/// An offer that a feeder is to make.
+#[derive(Drop)]
+pub struct Item {
+    /// When it is made.
+    pub moment: Moment,
+    /// The kind of event that it records.
+    pub id: u32,
+    /// The bytes of its record.
+    pub payload: Payload,
+}
+
+/// Items in order. Contracts see their list.
+#[derive(Drop)]
+pub struct Items {
+    items: Vec<Item>,
+}
+
+impl Model for Items {
+    ghost use Rattle.std.specs.Prelude.{List};
+    ghost use Rattle.tr_pool.specs.declared.items.Item.{Item};
+
+    ghost Value = { List Item };
+
+    ghost view = { λ i. i.items.items };
+}
+
+impl Items {
+    /// These items. It takes no memory.
+    pub fn new(items: Vec<Item>) -> Items
+        ensures { result ≡ items.items }
+    {
+        Items { items }
+    }
+
+    /// The items, in order.
+    pub fn as_slice(&self) -> &[Item]
+        ensures { result.now ≡ self.now }
+    {
+        self.items.as_slice()
+    }
+
+    /// The items themselves. It takes no memory.
+    pub fn into_vec(self) -> Vec<Item>
+        ensures { result.items ≡ self }
+    {
+        let Items { items } = self;
+        items
+    }
+}
+
+/// The items that a stream accepted, in order: the one of number `k`, from 0 on, was offered as serial `k`, if nothing had been
+/// offered to the stream before.
+#[derive(Drop)]
+pub struct Log {
+    /// The number of the stream.
+    pub stream: u64,
+    /// The items.
+    pub items: Items,
+}

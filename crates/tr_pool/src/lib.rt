@@ -1,0 +1,27 @@
+//! Threads at work on a shared session: workers that take packets, feeders that offer records, and what the feeders logged
+//! beside what the settled session holds.
+#![tactic(auto)]
+
+mod draining;
+mod feeding;
+mod gate;
+mod items;
+mod judging;
+mod limits;
+mod pool_fault;
+mod reconciling;
+mod report;
+mod target;
+mod threads;
+mod turns;
+mod work;
+mod worker;
+
+pub use draining::drain_all;
+pub use feeding::{LoggedProducer, feed};
+pub use gate::Gate;
+pub use items::{Item, Items, Log};
+pub use pool_fault::{PoolError, PoolFault};
+pub use reconciling::reconcile;
+pub use report::{Mismatch, Report};
+pub use target::Target;
