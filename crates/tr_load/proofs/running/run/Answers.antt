@@ -1,0 +1,33 @@
+use Rattle.std.proofs.Common.{rules, arith, Vec, Global, List, ◌≡◌, ◌+◌, ◌<◌, length, map, vec_len, refl, ap, sym, ◌∙◌, subst}
+use Rattle.tr_load.specs.Loads.{AreLogs, IsJudged, IsLoaded, log_in}
+use Rattle.tr_load.proofs.LoadLaws.{if_ok_too, logs_of}
+use Rattle.tr_pool.specs.declared.feeding.LoggedProducer.{LoggedProducer}
+use Rattle.tr_pool.specs.declared.items.Item.{Item}
+use Rattle.tr_seats.specs.Slots.{AreNew}
+use Rattle.tr_load.proofs.running.run.Goals as goal
+
+-- the logs are those of the load
+pub returns : goal.returns
+returns g c =
+    let Fed = LoggedProducer g.row.N.Denot g.N.Names in
+    let fed = c.in_ok-drainers-2.fed.items in let producers = c.in_ok-shared.producers.items in
+    let works = c.in_ok-works.works.items in
+    let all : length producers ≡ vec_len c.in_ok-shared.producers = search rules in
+    let back : length fed ≡ vec_len c.in_ok-drainers-2.fed = search rules in
+    let same : vec_len c.in_ok-drainers-2.fed ≡ vec_len c.in_ok-shared.producers = c.in_ok-drainers-2.ensures.len in
+    let asked : vec_len c.in_ok-shared.producers ≡ c.args.threads = search rules in
+    let made : AreNew (length c.args.plan.books) producers = c.in_ok-shared.ensures.producers in
+    let new : AreNew c.args.threads producers =
+    subst (λ n. AreNew n producers) (sym made.0 ∙ all ∙ asked) made in
+    let are : AreLogs c.args.threads c.args.records (map (λ (b : Fed). log_in b.producer.number b.log.items) fed) =
+    logs_of (λ (b : Fed). b.producer) (λ (b : Fed). b.log.items) (λ (w : Vec Item Global). w.items) fed works producers
+    c.args.threads c.args.records (back ∙ same ∙ asked) new c.in_ok-works.ensures.works
+    (λ i p w b low. c.in_ok-drainers-2.ensures.fed i p w b (omega (arith, low, asked))) in
+    let logs : c.as_slice-2.result.now ≡ map (λ (b : Fed). log_in b.producer.number b.log.items) fed = search rules in
+    if_ok_too (λ l. IsJudged c.as_slice-2.result.now l.settled.streams l.outcome)
+    (λ l. IsLoaded c.args.threads c.args.records l.settled.streams l.outcome) c.settled.result
+    (λ l is. record {
+      logs = c.as_slice-2.result.now;
+      are_logs = subst (λ ls. AreLogs c.args.threads c.args.records ls) (sym logs) are;
+      judged = is;
+    }) c.settled.ensures

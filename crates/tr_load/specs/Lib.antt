@@ -1,0 +1,5 @@
+pub mod Loads
+pub mod Plans
+pub mod Rounds
+pub mod Texts
+pub mod Works

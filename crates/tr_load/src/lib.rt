@@ -1,0 +1,22 @@
+//! The load: feeders that offer the same records in each run, and workers that drain them meanwhile, on one session; and the
+//! text that says where the records are.
+#![tactic(auto)]
+
+mod ending;
+mod gate;
+mod limits;
+mod loaded;
+mod pace;
+mod plan;
+mod running;
+mod sides;
+mod target;
+mod texts;
+mod works;
+
+pub use limits::{MOST_RECORDS, MOST_WORKERS};
+pub use loaded::{LoadFault, Loaded};
+pub use plan::load_plan;
+pub use running::load;
+pub use texts::outcome_text;
+pub use works::{load_work, load_works};

@@ -1,0 +1,39 @@
+//! What a load comes to.
+
+use std::alloc::AllocError;
+use tr_pool::{Mismatch, Report};
+use tr_session_book::SessionFault;
+use tr_shared::Settled;
+
+/// A load that was settled.
+#[derive(Drop)]
+pub struct Loaded {
+    /// The session of the load.
+    pub settled: Settled,
+    /// Where its records are, or what is wrong with its first stream that doesn't agree with its feeder's log.
+    pub outcome: Result<Report, Mismatch>,
+}
+
+/// Why a load was not settled.
+#[derive(Clone, Copy, Debug, PartialEq, Eq)]
+pub enum LoadFault {
+    /// A call was refused for another reason than memory: something isn't in its place.
+    Misplaced,
+    /// Memory or a thread was missing.
+    NoMemory,
+}
+
+impl From<SessionFault> for LoadFault {
+    fn from(fault: SessionFault) -> LoadFault {
+        match fault {
+            SessionFault::NoMemory => LoadFault::NoMemory,
+            _ => LoadFault::Misplaced,
+        }
+    }
+}
+
+impl From<AllocError> for LoadFault {
+    fn from(_: AllocError) -> LoadFault {
+        LoadFault::NoMemory
+    }
+}
