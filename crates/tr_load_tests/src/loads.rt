@@ -57,7 +57,8 @@ fn a_full_ring_discards_and_agrees(rt: HostRuntime) {
     let loaded = load(&rt, rt.alloc(), 1, 20_000, 1).expect(&rt, "a load");
     let report = loaded.outcome.expect(&rt, "agreement");
     assert_same(&rt, report.offered, 20_000);
-    assert_same(&rt, report.discarded + report.in_chunks, 20_000);
+    let told = report.discarded.checked_add(report.in_chunks);
+    assert_same(&rt, told, Some(20_000));
 }
 
 #[test]
