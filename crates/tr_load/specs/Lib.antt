@@ -1,5 +1,6 @@
 pub mod Loads
 pub mod Plans
 pub mod Rounds
+pub mod Telling
 pub mod Texts
 pub mod Works

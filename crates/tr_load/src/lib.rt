@@ -11,6 +11,7 @@ mod plan;
 mod running;
 mod sides;
 mod target;
+mod telling;
 mod texts;
 mod works;
 
@@ -18,5 +19,6 @@ pub use limits::{MOST_RECORDS, MOST_WORKERS};
 pub use loaded::{LoadFault, Loaded};
 pub use plan::load_plan;
 pub use running::load;
+pub use telling::tell_load;
 pub use texts::outcome_text;
 pub use works::{load_work, load_works};

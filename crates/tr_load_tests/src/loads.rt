@@ -3,10 +3,7 @@
 use std::alloc::Global;
 use std::fmt::Debug;
 use std::process::Abort;
-use std::sync::Wait;
 use std::test::*;
-use std::thread::Threads;
-use std::time::Clock;
 use tr_load::{load, outcome_text};
 use tr_pool::{Mismatch, Report};
 

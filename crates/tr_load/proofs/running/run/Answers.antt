@@ -1,4 +1,4 @@
-use Rattle.std.proofs.Common.{rules, arith, Vec, Global, List, ◌≡◌, ◌+◌, ◌<◌, length, map, vec_len, refl, ap, sym, ◌∙◌, subst}
+use Rattle.std.proofs.Common.{rules, arith, Vec, Global, ◌≡◌, length, map, vec_len, sym, ◌∙◌, subst}
 use Rattle.tr_load.specs.Loads.{AreLogs, IsJudged, IsLoaded, log_in}
 use Rattle.tr_load.proofs.LoadLaws.{if_ok_too, logs_of}
 use Rattle.tr_pool.specs.declared.feeding.LoggedProducer.{LoggedProducer}
