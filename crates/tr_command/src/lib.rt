@@ -13,6 +13,8 @@ mod readings;
 mod requests;
 mod values;
 
+pub use arguments::option;
 pub use numbers::number;
 pub use parsing::parse;
 pub use requests::Request;
+pub use values::{number_given, text_given};

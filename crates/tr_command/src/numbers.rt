@@ -1,6 +1,6 @@
 //! Numbers as a script writes them.
 
-ghost use Rattle.std.specs.Prelude.{◌≡◌};
+ghost use Rattle.std.specs.Prelude.{◌≡◌, ◌≤◌, IfSome};
 ghost use Rattle.std.specs.List.{list_all};
 ghost use Rattle.tr_command.specs.Number.{is_digit, number_of};
 
@@ -14,7 +14,8 @@ fn has_only_digits(text: &str) -> bool
 /// The number that the text writes in one or more digits `0` to `9` alone, if it is at most `most`.
 /// Leading zeros are fine, a sign is not.
 pub fn number(text: &str, most: u64) -> Option<u64>
-    ensures { result ≡ number_of most text.now }
+    ensures value { result ≡ number_of most text.now }
+    ensures within { IfSome result (λ n. n ≤ most) }
 {
     if !has_only_digits(text) {
         return None;

@@ -1,6 +1,6 @@
 //! The values of a command's arguments.
 
-ghost use Rattle.std.specs.Prelude.{◌≡◌, option_map};
+ghost use Rattle.std.specs.Prelude.{◌≡◌, ◌≤◌, IfSome, option_map};
 ghost use Rattle.clap.specs.Words.{first_of, found_of, rows_of};
 ghost use Rattle.tr_terms.specs.declared.limits.TheConstants.{LAST_MOMENT};
 ghost use Rattle.tr_command.specs.Reading.{has_flag, mode_given, mode_named, number_given, number_if_given, number_or_0, offset_given, text_or_empty};
@@ -33,7 +33,8 @@ pub fn has_flag(matches: &ArgMatches<'_>, id: &str) -> bool
 
 /// The number of an argument, if it is a number and at most `most`.
 pub fn number_given(matches: &ArgMatches<'_>, id: &str, most: u64) -> Option<u64>
-    ensures { result ≡ number_given id.now most (rows_of (found_of matches.now)) }
+    ensures value { result ≡ number_given id.now most (rows_of (found_of matches.now)) }
+    ensures within { IfSome result (λ n. n ≤ most) }
 {
     number(text_given(matches, id)?, most)
 }

@@ -1,11 +1,15 @@
 -- How runs of the program end.
-use Rattle.std.specs.Prelude.{ℕ, zero, suc, List, [], ◌∷◌, ◌++◌, Option, Some, None, codes}
+use Rattle.std.specs.Prelude.{ℕ, zero, suc, List, [], ◌∷◌, ◌++◌, Option, Some, None, Result, Ok, Err, codes}
 use Rattle.std.specs.declared.io.ErrorKind.{ErrorKind}
 use Rattle.std.specs.declared.io.ErrorKind.TheVariants.{OutOfMemory}
 use Rattle.tr_console.specs.declared.script_fault.ScriptFault.{ScriptFault}
 use Rattle.tr_console.specs.declared.script_fault.ScriptFault.TheVariants as fault
 use Rattle.tr_export.specs.declared.faults.ExportFault.{ExportFault}
 use Rattle.tr_export.specs.declared.faults.ExportFault.TheVariants as export
+use Rattle.tr_load.specs.declared.loaded.LoadFault.{LoadFault}
+use Rattle.tr_load.specs.declared.loaded.LoadFault.TheVariants as load
+use Rattle.tr_pool.specs.declared.report.Mismatch.{Mismatch}
+use Rattle.tr_pool.specs.declared.report.Report.{Report}
 use Rattle.tr_program.specs.declared.ending.Ending.{Ending}
 use Rattle.tr_program.specs.declared.ending.Ending.TheVariants.{Done, Refused, BadCommandLine, ReadOrWrite, NoMemory}
 
@@ -43,3 +47,17 @@ ending_of_export export.NoMemory = NoMemory
 abbrev pub ending_of_refused : ℕ → Ending
 ending_of_refused zero = Done
 ending_of_refused (suc n) = Refused
+
+-- a load whose logs agree with its session, or don't
+abbrev pub ending_of_outcome : Result Report Mismatch → Ending
+ending_of_outcome (Ok report) = Done
+ending_of_outcome (Err mismatch) = Refused
+
+abbrev pub ending_of_load : LoadFault → Ending
+ending_of_load load.Misplaced = Refused
+ending_of_load load.NoMemory = NoMemory
+
+-- a load that was settled, and then told with this result
+abbrev pub ending_of_told : Result Report Mismatch → Result (Unit {0}) ExportFault → Ending
+ending_of_told outcome (Ok done) = ending_of_outcome outcome
+ending_of_told outcome (Err fault) = ending_of_export fault

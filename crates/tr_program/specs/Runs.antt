@@ -1,17 +1,24 @@
 -- What a run of the program does.
-use Rattle.std.specs.Prelude.{◌≡◌, ◌⊎◌, ℕ, List, Option, Some, None}
+use Rattle.std.specs.Prelude.{◌≡◌, ◌⊎◌, ℕ, List, Option, Some, None, Result}
 use Rattle.tr_calls.specs.World.{World}
 use Rattle.tr_chunk.specs.Files.{Sunk}
 use Rattle.tr_console.specs.Runs.{AnsweredSome, BrokeOff, Ran, WentTooFar, WroteSome}
 use Rattle.tr_export.specs.Failures.{HasFailed, HasNotFailed}
 use Rattle.tr_export.specs.Making.{MadeFront, Makings}
 use Rattle.tr_export.specs.declared.disk.Disk as Disk
+use Rattle.tr_export.specs.declared.faults.ExportFault.{ExportFault}
+use Rattle.tr_load.specs.Loads.{IsLoaded}
+use Rattle.tr_load.specs.Telling.{DiskState, TellsLoad}
+use Rattle.tr_load.specs.declared.loaded.LoadFault.{LoadFault}
+use Rattle.tr_pool.specs.declared.report.Mismatch.{Mismatch}
+use Rattle.tr_pool.specs.declared.report.Report.{Report}
 use Rattle.tr_record.specs.Bytes.{and_then_bytes, once_more}
 use Rattle.tr_record.specs.declared.bytes.ByteSink as Sink
 use Rattle.tr_record.specs.declared.bytes.ByteSource as Source
+use Rattle.tr_session.specs.Session.{SessionOf}
 use Rattle.tr_stream.specs.State.{StreamState}
-use Rattle.tr_program.specs.CommandLine.{Folder}
-use Rattle.tr_program.specs.Endings.{ending_of_refused, message_of, status_of}
+use Rattle.tr_program.specs.CommandLine.{Folder, Script, Load, Task}
+use Rattle.tr_program.specs.Endings.{ending_of_load, ending_of_refused, ending_of_told, message_of, status_of}
 use Rattle.tr_program.specs.Exports.{IsMadeBelow, all_made}
 use Rattle.tr_program.specs.declared.ending.Ending.{Ending}
 use Rattle.tr_program.specs.declared.ending.Ending.TheVariants.{Done, Refused, BadCommandLine, ReadOrWrite, NoMemory}
@@ -42,6 +49,19 @@ host_of source sink disks input out disk = record {
   output_failures = sink.failures out;
   disk_failures = disks.failures disk;
 }
+
+abbrev pub output_of : Host → Sunk
+output_of host = record { taken = host.taken; failures = host.output_failures }
+
+abbrev pub disk_in : Host → DiskState
+disk_in host = record { made = host.made; failures = host.disk_failures }
+
+-- what a settled load came to was told to an output and a disk, and the ending says with which result
+pub record EndsTold (dir : Folder) (threads : ℕ) (session : SessionOf StreamState) (outcome : Result Report Mismatch)
+    (out out_now : Sunk) (disk disk_now : DiskState) (ending : Ending) : Type 0 where
+  pub told : Result (Unit {0}) ExportFault
+  pub tells : TellsLoad dir threads session outcome out out_now disk disk_now told
+  pub ends : ending ≡ ending_of_told outcome told
 
 -- the host before a run and after it
 module _ (old new : Host) where
@@ -101,14 +121,31 @@ module _ (old new : Host) where
   EndsAs dir ReadOrWrite = EndsByFault dir
   EndsAs dir NoMemory = EndsByMemory dir
 
-  -- no run of a script is asked for
+  -- a load was settled, judged by its feeders' logs, and told
+  pub record HasLoaded (threads records : ℕ) (dir : Folder) (ending : Ending) : Type 0 where
+    pub session : SessionOf StreamState
+    pub outcome : Result Report Mismatch
+    pub loaded : IsLoaded threads records session.streams outcome
+    pub told : EndsTold dir threads session outcome (output_of old) (output_of new) (disk_in old) (disk_in new) ending
+
+  -- a load wasn't settled
+  abbrev pub HasNotLoaded : Ending → Type 0
+  HasNotLoaded ending = ((fault : LoadFault) × (ending ≡ ending_of_load fault)) × IsUntouched
+
+  -- a load was settled and told, or it wasn't settled and nothing was put out or made; it reads nothing
+  abbrev pub EndsLoad : (threads records : ℕ) → Folder → Ending → Type 0
+  EndsLoad threads records dir ending =
+      (new.given ≡ old.given) × (HasLoaded threads records dir ending ⊎ HasNotLoaded ending)
+
+  -- neither a run of a script nor a load is asked for
   abbrev pub IsNoRun : Ending → Type 0
   IsNoRun ending = ((ending ≡ BadCommandLine) ⊎ (ending ≡ NoMemory)) × IsUntouched
 
   -- the run ended as what was asked for does
-  abbrev pub EndsSo : Option Folder → Ending → Type 0
+  abbrev pub EndsSo : Option Task → Ending → Type 0
   EndsSo None ending = IsNoRun ending
-  EndsSo (Some dir) ending = EndsAs dir ending
+  EndsSo (Some (Script dir)) ending = EndsAs dir ending
+  EndsSo (Some (Load threads records workers dir)) ending = EndsLoad threads records dir ending
 
   -- the input, the output or the disk failed, or the script was too long
   abbrev pub HasCause : Type 0
@@ -126,7 +163,7 @@ abbrev pub IsTold : Ending → Sunk → Sunk → Type 0
 IsTold ending old new = GotLine old.taken new.taken (message_of ending) ⊎ (new.failures ≡ once_more old.failures)
 
 -- the run ended as what was asked for does: its status and its line say how
-pub record HasEnded (asked : Option Folder) (old new : Host) (told told_now : Sunk) (status : ℕ) : Type 0 where
+pub record HasEnded (asked : Option Task) (old new : Host) (told told_now : Sunk) (status : ℕ) : Type 0 where
   pub ending : Ending
   pub says : status ≡ status_of ending
   pub line : IsTold ending told told_now

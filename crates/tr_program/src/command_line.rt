@@ -1,16 +1,18 @@
 //! The program's own command line.
 
-ghost use Rattle.std.specs.Prelude.{◌≡◌, ◌∷◌, IfOk, codes, false, map, option_map, string_bytes};
+ghost use Rattle.std.specs.Prelude.{◌≡◌, ◌≤◌, ◌∷◌, IfOk, IfSome, codes, false, map, option_map, string_bytes};
 ghost use Rattle.std.specs.Vec.Iter.{into_iter_items};
-ghost use Rattle.clap.specs.Words.{app_of, found_of, rows_of, rule_of};
+ghost use Rattle.clap.specs.Words.{app_of, first_of, found_of, rows_of};
 ghost use Rattle.clap.specs.declared.builder.command.Command.TheViews.{out-Command as fields_of};
-ghost use Rattle.tr_command.specs.CommandLine.{option};
-ghost use Rattle.tr_program.specs.CommandLine.{folder_of, job_named, job_of, program_app, script_app, script_of, words_of};
+ghost use Rattle.tr_program.specs.CommandLine.{IsWithinLimits, count_given, folder_given, folder_named, job_named, job_of, load_app, load_given, load_counts, program_app, script_app, script_given, task_of, words_of};
 
 use clap::error::ErrorKind;
-use clap::{Arg, ArgMatches, Command};
+use clap::{ArgMatches, Command};
 use std::alloc::{AllocError, Global};
 use std::env::Args;
+use tr_command::{number_given, option, text_given};
+use tr_load::{MOST_RECORDS, MOST_WORKERS};
+use tr_terms::limits::MOST_STREAMS;
 
 /// What the program is asked to do.
 #[derive(Clone, Copy, Debug, PartialEq, Eq)]
@@ -20,14 +22,17 @@ pub enum Job<'a> {
         /// The folder for the archives, if one is named.
         out: Option<&'a str>,
     },
-}
-
-/// The option `--out DIR`.
-fn out_argument<'a>(alloc: Global) -> Arg<'a>
-    ensures rule { rule_of result ≡ option (codes "out") }
-    ensures local { result.global ≡ false }
-{
-    Arg::new(alloc, "out").long("out")
+    /// Runs a load, says what it came to, and then writes its archives below a folder, if one is named.
+    Load {
+        /// How many feeders there are, each in a thread of its own: 1 to 256.
+        threads: u64,
+        /// How many records each of them offers: at most 1,000,000.
+        records: u64,
+        /// How many workers drain them meanwhile: 1 to 64.
+        workers: u64,
+        /// The folder for the archives, if one is named.
+        out: Option<&'a str>,
+    },
 }
 
 /// `script [--out DIR]`.
@@ -35,14 +40,36 @@ fn script_command<'a>(alloc: Global) -> Result<Command<'a>, AllocError>
     ensures shape { IfOk result (λ c. app_of c ≡ script_app) }
     ensures local { IfOk result (λ c. (fields_of c).has_globals ≡ false) }
 {
-    Command::new(alloc, "script").arg(out_argument(alloc))
+    Command::new(alloc, "script").arg(option(alloc, "out"))
 }
 
-/// `tracerd script [--out DIR]`.
+/// `load --threads T --records R ..`.
+fn load_counts_command<'a>(alloc: Global) -> Result<Command<'a>, AllocError>
+    ensures shape { IfOk result (λ c. app_of c ≡ load_counts) }
+    ensures local { IfOk result (λ c. (fields_of c).has_globals ≡ false) }
+{
+    Command::new(alloc, "load")
+        .arg(option(alloc, "threads"))?
+        .arg(option(alloc, "records"))
+}
+
+/// `load --threads T --records R --workers W [--out DIR]`.
+fn load_command<'a>(alloc: Global) -> Result<Command<'a>, AllocError>
+    ensures shape { IfOk result (λ c. app_of c ≡ load_app) }
+    ensures local { IfOk result (λ c. (fields_of c).has_globals ≡ false) }
+{
+    load_counts_command(alloc)?
+        .arg(option(alloc, "workers"))?
+        .arg(option(alloc, "out"))
+}
+
+/// The whole command line: `tracerd script ..` and `tracerd load ..`.
 fn command_line<'a>(alloc: Global) -> Result<Command<'a>, AllocError>
     ensures { IfOk result (λ c. app_of c ≡ program_app) }
 {
-    Command::new(alloc, "tracerd").subcommand(script_command(alloc)?)
+    Command::new(alloc, "tracerd")
+        .subcommand(script_command(alloc)?)?
+        .subcommand(load_command(alloc)?)
 }
 
 /// The arguments as a list.
@@ -88,10 +115,11 @@ pub fn with_program<'a>(alloc: Global, words: &[&'a str]) -> Result<Vec<&'a str>
     Ok(all)
 }
 
-/// What the words ask for, the program's name first. None: they are no command line of this program. Neither is help, or a
-/// folder with an empty name.
+/// What the words ask for, the program's name first. None: they are no command line of this program. Neither is help, a
+/// folder with an empty name, or a load with a number that is missing, not a number, or not within its limits.
 pub fn job_of<'a>(alloc: Global, words: &'a [&'a str]) -> Result<Option<Job<'a>>, AllocError>
-    ensures { IfOk result (λ job. option_map folder_of job ≡ job_of (map (λ w. w.now) words.entry.now)) }
+    ensures value { IfOk result (λ job. option_map task_of job ≡ job_of (map (λ w. w.now) words.entry.now)) }
+    ensures within { IfOk result (λ job. IfSome job IsWithinLimits) }
 {
     let command = command_line(alloc)?;
     match command.try_get_matches_from(words) {
@@ -106,20 +134,59 @@ pub fn job_of<'a>(alloc: Global, words: &'a [&'a str]) -> Result<Option<Job<'a>>
 
 /// What the command of this name asks for, if there is one.
 fn job_named<'a>(name: &str, matches: &ArgMatches<'a>) -> Option<Job<'a>>
-    ensures { option_map folder_of result ≡ job_named name.now (rows_of (found_of matches.now)) }
+    ensures value { option_map task_of result ≡ job_named name.now (rows_of (found_of matches.now)) }
+    ensures within { IfSome result IsWithinLimits }
 {
     match name {
-        "script" => script_of(matches.get_str("out")),
+        "script" => script_given(matches),
+        "load" => load_given(matches),
         _ => None,
     }
 }
 
-/// A run of a script, with its archives below this folder.
-fn script_of<'a>(out: Option<&'a str>) -> Option<Job<'a>>
-    ensures { option_map folder_of result ≡ script_of (option_map (λ d. d.now) out.entry) }
+/// A run of a script, with its archives below a folder, if one is named.
+fn script_given<'a>(matches: &ArgMatches<'a>) -> Option<Job<'a>>
+    ensures value { option_map task_of result ≡ script_given (rows_of (found_of matches.now)) }
+    ensures within { IfSome result IsWithinLimits }
 {
-    match out {
+    let out = folder_given(matches)?;
+    Some(Job::Script { out })
+}
+
+/// A load of these numbers, with its archives below a folder, if one is named.
+fn load_given<'a>(matches: &ArgMatches<'a>) -> Option<Job<'a>>
+    ensures value { option_map task_of result ≡ load_given (rows_of (found_of matches.now)) }
+    ensures within { IfSome result IsWithinLimits }
+{
+    let threads = count_given(matches, "threads", 1, MOST_STREAMS as u64)?;
+    let records = count_given(matches, "records", 0, MOST_RECORDS)?;
+    let workers = count_given(matches, "workers", 1, MOST_WORKERS as u64)?;
+    let out = folder_given(matches)?;
+    Some(Job::Load {
+        threads,
+        records,
+        workers,
+        out,
+    })
+}
+
+/// The number of an option, if one is given and lies within these limits.
+fn count_given(matches: &ArgMatches<'_>, id: &str, least: u64, most: u64) -> Option<u64>
+    ensures value { result ≡ count_given id.now least most (rows_of (found_of matches.now)) }
+    ensures within { IfSome result (λ n. (least ≤ n) × (n ≤ most)) }
+{
+    match number_given(matches, id, most) {
+        Some(n) if n >= least => Some(n),
+        _ => None,
+    }
+}
+
+/// The folder that is named, if one is; none if its name is empty.
+fn folder_given<'a>(matches: &ArgMatches<'a>) -> Option<Option<&'a str>>
+    ensures { option_map folder_named result ≡ folder_given (first_of (codes "out") (rows_of (found_of matches.now))) }
+{
+    match text_given(matches, "out") {
         Some("") => None,
-        _ => Some(Job::Script { out }),
+        out => Some(out),
     }
 }

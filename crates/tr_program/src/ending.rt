@@ -1,24 +1,27 @@
 //! How a run of the program ends.
 
 ghost use Rattle.std.specs.Prelude.{◌≡◌, option_map};
-ghost use Rattle.tr_program.specs.Endings.{ending_of_script, ending_of_arguments, ending_of_export, ending_of_refused, message_of, status_of};
+ghost use Rattle.tr_program.specs.Endings.{ending_of_script, ending_of_arguments, ending_of_export, ending_of_load, ending_of_outcome, ending_of_refused, message_of, status_of};
 
 use std::io::ErrorKind;
 use tr_console::ScriptFault;
 use tr_export::ExportFault;
+use tr_load::LoadFault;
+use tr_pool::{Mismatch, Report};
 
 /// How a run of the program ends.
 #[derive(Clone, Copy, Debug, PartialEq, Eq)]
 pub enum Ending {
     /// All was done.
     Done,
-    /// The script came to its end, and some of its lines were refused.
+    /// The script came to its end, and some of its lines were refused; or a load's logs don't agree with its session, or
+    /// one of its calls was refused.
     Refused,
     /// The command line was bad.
     BadCommandLine,
     /// The input couldn't be read or was too long, or the output or an archive couldn't be written.
     ReadOrWrite,
-    /// An allocation failed.
+    /// An allocation failed, or a thread of a load couldn't be made.
     NoMemory,
 }
 
@@ -86,6 +89,26 @@ impl Ending {
         match fault {
             ScriptFault::Read | ScriptFault::TooLong | ScriptFault::Write => Ending::ReadOrWrite,
             ScriptFault::NoMemory => Ending::NoMemory,
+        }
+    }
+
+    /// How a load that was told ends the program.
+    pub fn of_outcome(outcome: &Result<Report, Mismatch>) -> Ending
+        ensures { result ≡ ending_of_outcome outcome.now }
+    {
+        match outcome {
+            Ok(_) => Ending::Done,
+            Err(_) => Ending::Refused,
+        }
+    }
+
+    /// How a load that wasn't settled ends the program.
+    pub fn of_load(fault: LoadFault) -> Ending
+        ensures { result ≡ ending_of_load fault }
+    {
+        match fault {
+            LoadFault::Misplaced => Ending::Refused,
+            LoadFault::NoMemory => Ending::NoMemory,
         }
     }
 }

@@ -3,6 +3,8 @@
 
 mod command_line;
 mod ending;
+mod notice;
 mod running;
 
+pub use notice::notice_given;
 pub use running::{run, run_given};

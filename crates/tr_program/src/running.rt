@@ -1,24 +1,30 @@
 //! A run of the program, over any input, output and disk.
 
-ghost use Rattle.std.specs.Prelude.{◌≡◌, OnOk, OnErr, IfErr, map, option_and_then, option_map};
+ghost use Rattle.std.specs.Prelude.{◌≡◌, ◌⊎◌, OnOk, OnErr, IfErr, map, option_and_then, option_map};
 ghost use Rattle.std.specs.IoError.{error_kind};
 ghost use Rattle.std.specs.Result.{result_ok};
 ghost use Rattle.std.specs.Vec.Iter.{into_iter_items};
 ghost use Rattle.tr_chunk.specs.Files.{sunk_of};
-ghost use Rattle.tr_export.specs.Failures.{FailedByWrite};
+ghost use Rattle.tr_export.specs.Failures.{FailedByWrite, HasFailed, HasNotFailed};
 ghost use Rattle.tr_export.specs.Making.{MadeFront, and_then_made};
 ghost use Rattle.tr_program.specs.CommandLine.{job_asked, words_of};
+ghost use Rattle.tr_load.specs.Telling.{disk_of};
 ghost use Rattle.tr_program.specs.Endings.{ending_of_arguments, status_of};
 ghost use Rattle.tr_program.specs.Exports.{all_made};
-ghost use Rattle.tr_program.specs.Runs.{EndsAs, EndsSo, HasCause, HasEnded, HasNoFault, IsTold, host_of};
+ghost use Rattle.tr_program.specs.Runs.{EndsAs, EndsSo, EndsTold, HasCause, HasEnded, HasNoFault, IsTold, host_of};
+ghost use Rattle.tr_record.specs.Bytes.{once_more};
 
 use crate::command_line::{Job, collected, job_of, with_program, words_behind};
 use crate::ending::Ending;
 use std::alloc::Global;
 use std::env::Args;
 use std::io;
+use std::sync::Wait;
+use std::thread::Threads;
+use std::time::Clock;
 use tr_console::{Console, run_script};
 use tr_export::{Disk, ExportFault, write_archives};
+use tr_load::{Loaded, load, tell_load};
 use tr_record::{ByteSink, ByteSource, put_all};
 
 /// Writes the archives of every session below a folder, in order of creation.
@@ -71,8 +77,34 @@ fn end_script<S: ByteSource, K: ByteSink, D: Disk>(
     Ending::of_refused(done.refused)
 }
 
+/// Says what a load of so many threads came to, and writes its archives.
+fn end_load<K: ByteSink, D: Disk>(
+    alloc: Global,
+    out: &mut K,
+    disk: &mut D,
+    dir: Option<&str>,
+    threads: u64,
+    loaded: &Loaded,
+) -> Ending
+    ensures ends { EndsTold (option_map (λ d. d.now) dir.entry) threads loaded.now.settled loaded.now.outcome
+        (sunk_of K.ByteSink out.old) (sunk_of K.ByteSink out.new) (disk_of D.Disk disk.old) (disk_of D.Disk disk.new)
+        result }
+    ensures fault { result ≡ Ending.ReadOrWrite
+        → (K.ByteSink.failures out.new ≡ once_more (K.ByteSink.failures out.old))
+        ⊎ HasFailed (D.Disk.failures disk.old) (D.Disk.failures disk.new) }
+    ensures no_fault { (result ≡ Ending.ReadOrWrite → ⊥)
+        → (K.ByteSink.failures out.new ≡ K.ByteSink.failures out.old)
+        × HasNotFailed (D.Disk.failures disk.old) (D.Disk.failures disk.new) }
+{
+    match tell_load(alloc, out, disk, dir, threads, loaded) {
+        Ok(()) => Ending::of_outcome(&loaded.outcome),
+        Err(fault) => Ending::of_export(fault),
+    }
+}
+
 /// Does what the words ask for.
-fn end<S: ByteSource, K: ByteSink, D: Disk>(
+fn end<R: Threads + Wait + Clock + Sync, S: ByteSource, K: ByteSink, D: Disk>(
+    rt: &R,
     alloc: Global,
     words: &[&str],
     input: &mut S,
@@ -94,6 +126,19 @@ fn end<S: ByteSource, K: ByteSink, D: Disk>(
     };
     match job_of(alloc, words.as_slice()) {
         Ok(Some(Job::Script { out: dir })) => end_script(alloc, input, out, disk, dir),
+        Ok(
+            Some(
+                Job::Load {
+                    threads,
+                    records,
+                    workers,
+                    out: dir,
+                },
+            ),
+        ) => match load(rt, alloc, threads as usize, records, workers as usize) {
+            Ok(loaded) => end_load(alloc, out, disk, dir, threads, &loaded),
+            Err(fault) => Ending::of_load(fault),
+        },
         Ok(None) => Ending::BadCommandLine,
         Err(_) => Ending::NoMemory,
     }
@@ -112,10 +157,14 @@ fn tell<E: ByteSink>(ending: Ending, err: &mut E) -> u8
 }
 
 /// Runs the program with the words after its name. The answer is the exit status: 0 if all was done, 1 if a line was
-/// refused, 2 for a bad command line, 3 for a fault of input, output or a file, or a script that is too long, 4 for a
-/// failed allocation. From 2 on `err` gets one line. Archives are made only once the input was read to its end and answered
-/// whole; if one can't be made, those before it stay, and a prefix of its own folder and files.
-pub fn run<S: ByteSource, K: ByteSink, E: ByteSink, D: Disk>(
+/// refused, or if a load's logs don't agree with its session or one of its calls was refused, 2 for a bad command line, 3
+/// for a fault of input, output or a file, or a script that is too long, 4 for a failed allocation or a thread that can't be
+/// made. From 2 on `err` gets one line. Archives are made only once the input was read to its end and answered whole, or a
+/// load was told whole; if one can't be made, those before it stay, and a prefix of its own folder and files.
+///
+/// Only a load starts threads and waits for them.
+pub fn run<R: Threads + Wait + Clock + Sync, S: ByteSource, K: ByteSink, E: ByteSink, D: Disk>(
+    rt: &R,
     alloc: Global,
     words: &[&str],
     input: &mut S,
@@ -134,19 +183,18 @@ pub fn run<S: ByteSource, K: ByteSink, E: ByteSink, D: Disk>(
         → HasNoFault (host_of S.ByteSource K.ByteSink D.Disk input.old out.old disk.old)
         (host_of S.ByteSource K.ByteSink D.Disk input.new out.new disk.new) }
 {
-    let ending = end(alloc, words, input, out, disk);
+    let ending = end(rt, alloc, words, input, out, disk);
     tell(ending, err)
 }
 
 /// Runs the program with its arguments, its name first.
-fn run_arguments<S: ByteSource, K: ByteSink, E: ByteSink, D: Disk>(
-    alloc: Global,
-    given: Args,
-    input: &mut S,
-    out: &mut K,
-    err: &mut E,
-    disk: &mut D,
-) -> u8
+fn run_arguments<
+    R: Threads + Wait + Clock + Sync,
+    S: ByteSource,
+    K: ByteSink,
+    E: ByteSink,
+    D: Disk,
+>(rt: &R, alloc: Global, given: Args, input: &mut S, out: &mut K, err: &mut E, disk: &mut D) -> u8
     ensures ends { HasEnded (job_asked (words_of (into_iter_items given)))
         (host_of S.ByteSource K.ByteSink D.Disk input.old out.old disk.old)
         (host_of S.ByteSource K.ByteSink D.Disk input.new out.new disk.new) (sunk_of E.ByteSink err.old)
@@ -162,14 +210,21 @@ fn run_arguments<S: ByteSource, K: ByteSink, E: ByteSink, D: Disk>(
         return tell(Ending::NoMemory, err);
     };
     match words_behind(alloc, given.as_slice()) {
-        Ok(words) => run(alloc, words.as_slice(), input, out, err, disk),
+        Ok(words) => run(rt, alloc, words.as_slice(), input, out, err, disk),
         Err(_) => tell(Ending::NoMemory, err),
     }
 }
 
 /// Runs the program with the arguments that it got, its name first: `run` with the words after the name. An argument that
 /// isn't UTF-8 makes a bad command line.
-pub fn run_given<S: ByteSource, K: ByteSink, E: ByteSink, D: Disk>(
+pub fn run_given<
+    R: Threads + Wait + Clock + Sync,
+    S: ByteSource,
+    K: ByteSink,
+    E: ByteSink,
+    D: Disk,
+>(
+    rt: &R,
     alloc: Global,
     given: io::Result<Args>,
     input: &mut S,
@@ -190,7 +245,7 @@ pub fn run_given<S: ByteSource, K: ByteSink, E: ByteSink, D: Disk>(
         (host_of S.ByteSource K.ByteSink D.Disk input.new out.new disk.new) }
 {
     match given {
-        Ok(given) => run_arguments(alloc, given, input, out, err, disk),
+        Ok(given) => run_arguments(rt, alloc, given, input, out, err, disk),
         Err(error) => tell(Ending::of_arguments(error.kind()), err),
     }
 }

@@ -2,11 +2,15 @@
 
 mod exporting;
 mod failing;
+mod loads;
 
 use std::alloc::Global;
 use std::fmt::Debug;
 use std::io;
 use std::process::Abort;
+use std::sync::Wait;
+use std::thread::Threads;
+use std::time::Clock;
 use tr_export::MemoryDisk;
 use tr_program::{run, run_given};
 use tr_record::{MemorySink, MemorySource};
@@ -17,7 +21,8 @@ fn assert_same<T: PartialEq + Debug + Drop>(rt: &impl Abort, found: T, expected:
 }
 
 /// The status, and whether these bytes went out and these to standard error, and no file was made.
-fn ends_with(
+fn ends_with<R: Threads + Wait + Clock + Sync>(
+    rt: &R,
     alloc: Global,
     words: &[&str],
     script: &[u8],
@@ -28,7 +33,7 @@ fn ends_with(
     let mut out = MemorySink::new(alloc, 4096);
     let mut err = MemorySink::new(alloc, 4096);
     let mut disk = MemoryDisk::new(alloc, 4096);
-    let status = run(alloc, words, &mut input, &mut out, &mut err, &mut disk);
+    let status = run(rt, alloc, words, &mut input, &mut out, &mut err, &mut disk);
     let untouched = disk.made().is_empty();
     let out = out.into_bytes();
     let err = err.into_bytes();
@@ -45,7 +50,7 @@ fn a_script_is_answered(rt: HostRuntime) {
     let answer = b"created s\nchannel c\nstream 0\nstarted\n";
     assert_same(
         &rt,
-        ends_with(rt.alloc(), &["script"], script, answer, b""),
+        ends_with(&rt, rt.alloc(), &["script"], script, answer, b""),
         (0, true),
     );
 }
@@ -80,7 +85,7 @@ in ring 1
 ";
     assert_same(
         &rt,
-        ends_with(rt.alloc(), &["script"], script, answer, b""),
+        ends_with(&rt, rt.alloc(), &["script"], script, answer, b""),
         (0, true),
     );
 }
@@ -89,12 +94,12 @@ in ring 1
 fn nothing_gets_no_answer(rt: HostRuntime) {
     assert_same(
         &rt,
-        ends_with(rt.alloc(), &["script"], b"", b"", b""),
+        ends_with(&rt, rt.alloc(), &["script"], b"", b"", b""),
         (0, true),
     );
     assert_same(
         &rt,
-        ends_with(rt.alloc(), &["script"], b"# x\n\n", b"", b""),
+        ends_with(&rt, rt.alloc(), &["script"], b"# x\n\n", b"", b""),
         (0, true),
     );
 }
@@ -105,6 +110,7 @@ fn a_refused_line_shows_in_the_status(rt: HostRuntime) {
     assert_same(
         &rt,
         ends_with(
+            &rt,
             rt.alloc(),
             &["script"],
             b"offer nobody 0 1 1\n",
@@ -115,7 +121,14 @@ fn a_refused_line_shows_in_the_status(rt: HostRuntime) {
     );
     assert_same(
         &rt,
-        ends_with(rt.alloc(), &["script"], b"nonsense\n", b"bad line\n", b""),
+        ends_with(
+            &rt,
+            rt.alloc(),
+            &["script"],
+            b"nonsense\n",
+            b"bad line\n",
+            b"",
+        ),
         (1, true),
     );
 }
@@ -126,27 +139,27 @@ fn a_bad_command_line_is_told(rt: HostRuntime) {
     let script = b"offer nobody 0 1 1\n";
     assert_same(
         &rt,
-        ends_with(rt.alloc(), &[], script, b"", fault),
+        ends_with(&rt, rt.alloc(), &[], script, b"", fault),
         (2, true),
     );
     assert_same(
         &rt,
-        ends_with(rt.alloc(), &["scripts"], script, b"", fault),
+        ends_with(&rt, rt.alloc(), &["scripts"], script, b"", fault),
         (2, true),
     );
     assert_same(
         &rt,
-        ends_with(rt.alloc(), &["script", "x"], script, b"", fault),
+        ends_with(&rt, rt.alloc(), &["script", "x"], script, b"", fault),
         (2, true),
     );
     assert_same(
         &rt,
-        ends_with(rt.alloc(), &["--help"], script, b"", fault),
+        ends_with(&rt, rt.alloc(), &["--help"], script, b"", fault),
         (2, true),
     );
     assert_same(
         &rt,
-        ends_with(rt.alloc(), &["help", "script"], script, b"", fault),
+        ends_with(&rt, rt.alloc(), &["help", "script"], script, b"", fault),
         (2, true),
     );
 }
@@ -156,17 +169,18 @@ fn a_bad_folder_is_told(rt: HostRuntime) {
     let fault = b"tracerd: bad command line\n";
     assert_same(
         &rt,
-        ends_with(rt.alloc(), &["script", "--out"], b"", b"", fault),
+        ends_with(&rt, rt.alloc(), &["script", "--out"], b"", b"", fault),
         (2, true),
     );
     assert_same(
         &rt,
-        ends_with(rt.alloc(), &["script", "--out", ""], b"", b"", fault),
+        ends_with(&rt, rt.alloc(), &["script", "--out", ""], b"", b"", fault),
         (2, true),
     );
     assert_same(
         &rt,
         ends_with(
+            &rt,
             rt.alloc(),
             &["script", "--out", "d", "--out", "e"],
             b"",
@@ -177,19 +191,24 @@ fn a_bad_folder_is_told(rt: HostRuntime) {
     );
     assert_same(
         &rt,
-        ends_with(rt.alloc(), &["--out", "d", "script"], b"", b"", fault),
+        ends_with(&rt, rt.alloc(), &["--out", "d", "script"], b"", b"", fault),
         (2, true),
     );
 }
 
 /// The status if the arguments can't be taken, and whether nothing went out but this line to standard error.
-fn ends_without_arguments(alloc: Global, kind: io::ErrorKind, fault: &[u8]) -> (u8, bool) {
+fn ends_without_arguments<R: Threads + Wait + Clock + Sync>(
+    rt: &R,
+    alloc: Global,
+    kind: io::ErrorKind,
+    fault: &[u8],
+) -> (u8, bool) {
     let mut input = MemorySource::new(b"", 4096);
     let mut out = MemorySink::new(alloc, 4096);
     let mut err = MemorySink::new(alloc, 4096);
     let mut disk = MemoryDisk::new(alloc, 4096);
     let given = Err(io::Error::from(kind));
-    let status = run_given(alloc, given, &mut input, &mut out, &mut err, &mut disk);
+    let status = run_given(rt, alloc, given, &mut input, &mut out, &mut err, &mut disk);
     let out = out.into_bytes();
     let err = err.into_bytes();
     (status, out.is_empty() && err.as_slice() == fault)
@@ -201,14 +220,14 @@ fn arguments_that_cannot_be_taken_are_told(rt: HostRuntime) {
     let fault = b"tracerd: bad command line\n";
     assert_same(
         &rt,
-        ends_without_arguments(rt.alloc(), kind, fault),
+        ends_without_arguments(&rt, rt.alloc(), kind, fault),
         (2, true),
     );
     let kind = io::ErrorKind::OutOfMemory;
     let fault = b"tracerd: no memory\n";
     assert_same(
         &rt,
-        ends_without_arguments(rt.alloc(), kind, fault),
+        ends_without_arguments(&rt, rt.alloc(), kind, fault),
         (4, true),
     );
 }

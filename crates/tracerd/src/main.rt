@@ -1,20 +1,28 @@
-//! The daemon's program: reads a script of commands from standard input, and answers it on standard output.
+//! The daemon's program: answers a script of commands, or runs a load.
 #![tactic(auto)]
 
 use std::alloc::Global;
+use std::io::IsTerminal;
 use std::process::ExitCode;
 use std::{env, io};
 use tr_export::{HostFiles, SystemDisk};
-use tr_program::run_given;
-use tr_record::{ReaderSource, WriterSink};
+use tr_program::{notice_given, run_given};
+use tr_record::{ReaderSource, WriterSink, put_all};
 
 fn main(rt: HostRuntime) -> ExitCode {
     let alloc: Global = rt.alloc();
+    let mut err = WriterSink::new(rt.stderr());
+    if rt.stderr().is_terminal() {
+        if let Ok(given) = env::args(&rt) {
+            if let Ok(Some(notice)) = notice_given(alloc, given) {
+                let _ = put_all(&mut err, notice.as_bytes());
+            }
+        }
+    }
     let given = env::args(&rt);
     let mut input = ReaderSource::new(rt.reader());
     let mut out = WriterSink::new(io::writer(&rt));
-    let mut err = WriterSink::new(rt.stderr());
     let mut disk = SystemDisk::new(HostFiles::new(&rt));
-    let status = run_given(alloc, given, &mut input, &mut out, &mut err, &mut disk);
+    let status = run_given(&rt, alloc, given, &mut input, &mut out, &mut err, &mut disk);
     ExitCode::from(status)
 }

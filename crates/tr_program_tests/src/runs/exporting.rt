@@ -2,7 +2,10 @@
 
 use super::assert_same;
 use std::alloc::Global;
+use std::sync::Wait;
 use std::test::Fail;
+use std::thread::Threads;
+use std::time::Clock;
 use tr_export::{Made, MemoryDisk};
 use tr_packet::metadata_text;
 use tr_program::run;
@@ -31,13 +34,18 @@ const METADATA: &str = "d/s/archives/19700101T000000+0000-19700101T000000+0000-0
 const STREAM: &str = "d/s/archives/19700101T000000+0000-19700101T000000+0000-0/c_0";
 
 /// Runs a script with `--out d`: the status, and what was made.
-fn exported(alloc: Global, script: &[u8]) -> (u8, MemoryDisk) {
+fn exported<R: Threads + Wait + Clock + Sync>(
+    rt: &R,
+    alloc: Global,
+    script: &[u8],
+) -> (u8, MemoryDisk) {
     let mut input = MemorySource::new(script, 4096);
     let mut out = MemorySink::new(alloc, 4096);
     let mut err = MemorySink::new(alloc, 4096);
     let mut disk = MemoryDisk::new(alloc, 100);
     let words = ["script", "--out", "d"];
     let status = run(
+        rt,
         alloc,
         words.as_slice(),
         &mut input,
@@ -50,7 +58,7 @@ fn exported(alloc: Global, script: &[u8]) -> (u8, MemoryDisk) {
 
 #[test]
 fn an_archive_is_written(rt: HostRuntime) -> Result<(), Fail> {
-    let (status, disk) = exported(rt.alloc(), SCRIPT);
+    let (status, disk) = exported(&rt, rt.alloc(), SCRIPT);
     assert_same(&rt, status, 0);
     let [
         Made::Folder(folder),
@@ -72,7 +80,7 @@ fn an_archive_is_written(rt: HostRuntime) -> Result<(), Fail> {
 #[test]
 fn nothing_archived_makes_nothing(rt: HostRuntime) {
     let script = b"create s 00000000-0000-0000-0000-000000000001\nstart s 0\nrotate-begin s 1\n";
-    let (status, disk) = exported(rt.alloc(), script);
+    let (status, disk) = exported(&rt, rt.alloc(), script);
     assert_same(&rt, (status, disk.made().len()), (0, 0));
 }
 
@@ -81,7 +89,7 @@ fn nothing_archived_makes_nothing(rt: HostRuntime) {
 fn archives_are_written_at_status_1(rt: HostRuntime) {
     let script =
         b"create s 00000000-0000-0000-0000-000000000001\nstart s 0\nrotate s 1\nnonsense\n";
-    let (status, disk) = exported(rt.alloc(), script);
+    let (status, disk) = exported(&rt, rt.alloc(), script);
     assert_same(&rt, status, 1);
     assert!(rt; matches!(disk.made(), [Made::Folder(_), Made::File(_, _)]));
 }

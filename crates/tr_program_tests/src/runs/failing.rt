@@ -5,6 +5,9 @@ ghost use Rattle.tr_record.specs.Bytes.{once_more};
 
 use super::assert_same;
 use std::alloc::Global;
+use std::sync::Wait;
+use std::thread::Threads;
+use std::time::Clock;
 use tr_export::Disk;
 use tr_program::run;
 use tr_record::{ByteSink, ByteSource, Failed, MemorySink, MemorySource};
@@ -42,6 +45,24 @@ bad line
 ";
 
 const FAULT: &[u8] = b"tracerd: read or write fault\n";
+
+const WORDS: [&str; 3] = ["script", "--out", "d"];
+
+/// A load of one thread and three records, and what is said of it.
+const LOAD: [&str; 9] = [
+    "load",
+    "--threads",
+    "1",
+    "--records",
+    "3",
+    "--workers",
+    "1",
+    "--out",
+    "d",
+];
+
+const REPORT: &[u8] =
+    b"threads 1\noffered 3\ndiscarded 0\noverwritten 0\nin ring 0\nin chunks 3\nreconciled\n";
 
 /// Gives bytes one at a time, then a line of this many bytes, and then fails.
 #[derive(Drop)]
@@ -173,10 +194,12 @@ impl Disk for FailingDisk {
     }
 }
 
-/// What a run with `--out d` came to: its status, how many of the disk's `calls` are left, and whether standard error got the
+/// What a run of these words came to: its status, how many of the disk's `calls` are left, and whether standard error got the
 /// line of a read or write fault and nothing else.
-fn ends<S: ByteSource, K: ByteSink>(
+fn ends<R: Threads + Wait + Clock + Sync, S: ByteSource, K: ByteSink>(
+    rt: &R,
     alloc: Global,
+    words: &[&str],
     input: &mut S,
     out: &mut K,
     calls: usize,
@@ -186,25 +209,31 @@ fn ends<S: ByteSource, K: ByteSink>(
         left: calls,
         failures: Some(0),
     };
-    let words = ["script", "--out", "d"];
-    let status = run(alloc, words.as_slice(), input, out, &mut err, &mut disk);
+    let status = run(rt, alloc, words, input, out, &mut err, &mut disk);
     (status, disk.left, err.into_bytes().as_slice() == FAULT)
 }
 
-/// The same if the input gives these bytes, a line of this many bytes, and then fails; and whether this answer went out.
-fn ends_broken(alloc: Global, bytes: &[u8], line: usize, answer: &[u8]) -> (u8, usize, bool, bool) {
+/// What a script with `--out d` came to if the input gives these bytes, a line of this many bytes, and then fails; and whether this answer went out.
+fn ends_broken<R: Threads + Wait + Clock + Sync>(
+    rt: &R,
+    alloc: Global,
+    bytes: &[u8],
+    line: usize,
+    answer: &[u8],
+) -> (u8, usize, bool, bool) {
     let mut input = Breaking {
         bytes,
         line,
         failures: 0,
     };
     let mut out = MemorySink::new(alloc, 4096);
-    let (status, left, told) = ends(alloc, &mut input, &mut out, 9);
+    let (status, left, told) = ends(rt, alloc, &WORDS, &mut input, &mut out, 9);
     (status, left, told, out.into_bytes().as_slice() == answer)
 }
 
 /// The same if the disk lets this many calls through, and the script is given whole.
-fn ends_on_disk(
+fn ends_on_disk<R: Threads + Wait + Clock + Sync>(
+    rt: &R,
     alloc: Global,
     calls: usize,
     script: &[u8],
@@ -212,23 +241,23 @@ fn ends_on_disk(
 ) -> (u8, usize, bool, bool) {
     let mut input = MemorySource::new(script, 4096);
     let mut out = MemorySink::new(alloc, 4096);
-    let (status, left, told) = ends(alloc, &mut input, &mut out, calls);
+    let (status, left, told) = ends(rt, alloc, &WORDS, &mut input, &mut out, calls);
     (status, left, told, out.into_bytes().as_slice() == answer)
 }
 
 // all lines were whole, and one of them made an archive, but the disk isn't asked for anything
 #[test]
 fn after_a_source_that_failed_nothing_is_made(rt: HostRuntime) {
-    let found = ends_broken(rt.alloc(), SCRIPT, 0, ANSWER);
+    let found = ends_broken(&rt, rt.alloc(), SCRIPT, 0, ANSWER);
     assert_same(&rt, found, (3, 9, true, true));
-    let found = ends_broken(rt.alloc(), b"", 0, b"");
+    let found = ends_broken(&rt, rt.alloc(), b"", 0, b"");
     assert_same(&rt, found, (3, 9, true, true));
 }
 
 // a script has at most 16,777,216 bytes; a refused line is among those before
 #[test]
 fn after_a_script_that_is_too_long_nothing_is_made(rt: HostRuntime) {
-    let found = ends_broken(rt.alloc(), REFUSED, 16_777_216, REFUSED_ANSWER);
+    let found = ends_broken(&rt, rt.alloc(), REFUSED, 16_777_216, REFUSED_ANSWER);
     assert_same(&rt, found, (3, 9, true, true));
 }
 
@@ -241,7 +270,7 @@ fn after_a_sink_that_failed_nothing_is_made(rt: HostRuntime) {
             room,
             failures: 0,
         };
-        let found = ends(rt.alloc(), &mut input, &mut out, 9);
+        let found = ends(&rt, rt.alloc(), &WORDS, &mut input, &mut out, 9);
         assert_same(&rt, (room, found), (room, (3, 9, true)));
         assert!(rt; Some(out.taken.as_slice()) == ANSWER.get(..room));
     }
@@ -251,22 +280,50 @@ fn after_a_sink_that_failed_nothing_is_made(rt: HostRuntime) {
 #[test]
 fn a_disk_that_failed_is_told(rt: HostRuntime) {
     for calls in 0..5 {
-        let found = ends_on_disk(rt.alloc(), calls, SCRIPT, ANSWER);
+        let found = ends_on_disk(&rt, rt.alloc(), calls, SCRIPT, ANSWER);
         assert_same(&rt, (calls, found), (calls, (3, 0, true, true)));
     }
-    let found = ends_on_disk(rt.alloc(), 5, SCRIPT, ANSWER);
+    let found = ends_on_disk(&rt, rt.alloc(), 5, SCRIPT, ANSWER);
     assert_same(&rt, found, (0, 0, false, true));
 }
 
 // the status of a fault goes before that of a refused line
 #[test]
 fn a_fault_goes_before_a_refused_line(rt: HostRuntime) {
-    let found = ends_broken(rt.alloc(), REFUSED, 0, REFUSED_ANSWER);
+    let found = ends_broken(&rt, rt.alloc(), REFUSED, 0, REFUSED_ANSWER);
     assert_same(&rt, found, (3, 9, true, true));
-    let found = ends_on_disk(rt.alloc(), 4, REFUSED, REFUSED_ANSWER);
+    let found = ends_on_disk(&rt, rt.alloc(), 4, REFUSED, REFUSED_ANSWER);
     assert_same(&rt, found, (3, 0, true, true));
-    let found = ends_on_disk(rt.alloc(), 5, REFUSED, REFUSED_ANSWER);
+    let found = ends_on_disk(&rt, rt.alloc(), 5, REFUSED, REFUSED_ANSWER);
     assert_same(&rt, found, (1, 0, false, true));
+}
+
+// the disk isn't asked for anything
+#[test]
+fn after_a_load_that_cannot_be_told_nothing_is_made(rt: HostRuntime) {
+    for room in [0, 10, REPORT.len() - 1] {
+        let mut input = MemorySource::new(b"", 4096);
+        let mut out = Filling {
+            taken: Vec::new(rt.alloc()),
+            room,
+            failures: 0,
+        };
+        let found = ends(&rt, rt.alloc(), &LOAD, &mut input, &mut out, 9);
+        assert_same(&rt, (room, found), (room, (3, 9, true)));
+        assert!(rt; Some(out.taken.as_slice()) == REPORT.get(..room));
+    }
+}
+
+// five calls here too; the report goes out before them
+#[test]
+fn a_disk_that_failed_a_load_is_told(rt: HostRuntime) {
+    for (calls, expected) in [(0, (3, 0, true)), (4, (3, 0, true)), (5, (0, 0, false))] {
+        let mut input = MemorySource::new(b"", 4096);
+        let mut out = MemorySink::new(rt.alloc(), 4096);
+        let found = ends(&rt, rt.alloc(), &LOAD, &mut input, &mut out, calls);
+        assert_same(&rt, (calls, found), (calls, expected));
+        assert!(rt; out.into_bytes().as_slice() == REPORT);
+    }
 }
 
 // if standard error fails too, the status still says it
@@ -283,10 +340,10 @@ fn a_fault_that_cannot_be_told_keeps_its_status(rt: HostRuntime) {
         left: 0,
         failures: Some(0),
     };
-    let words = ["script", "--out", "d"];
     let status = run(
+        &rt,
         rt.alloc(),
-        words.as_slice(),
+        &WORDS,
         &mut input,
         &mut out,
         &mut err,

@@ -6,4 +6,7 @@ pub returns-in_default-2 : goal.returns-in_default-2
 returns-in_default-2 c =
     let digits = sym c.if-not-has_only_digits.ensures in
     let refused = c.in_default.ensures.value.0 in
-    number_of-none c.args.most c.args.text.now c.ranges.most.fits digits (rw (without_leading_plus-digits c.args.text.now digits) at refused)
+    record {
+      value = number_of-none c.args.most c.args.text.now c.ranges.most.fits digits (rw (without_leading_plus-digits c.args.text.now digits) at refused);
+      within = tt;
+    }

@@ -18,7 +18,10 @@ returns-in-Some c =
     in
     let entered = subcommand_rows_of-entered c.in-Ok.matches c.in-Some.name.now (rows_of (found_of c.in-Some.inner.now))
     c.in-Some.ensures.name c.in-Some.ensures.rows in
-    c.job_named.ensures ∙ job_of-entered words _ _ none (entered ∙ rows)
+    record {
+      value = c.job_named.ensures.value ∙ job_of-entered words _ _ none (entered ∙ rows);
+      within = c.job_named.ensures.within;
+    }
 
 pub returns-in-Ok : goal.returns-in-Ok
 returns-in-Ok c =
@@ -30,7 +33,10 @@ returns-in-Ok c =
     let rows : subcommand_rows_of c.in-Ok.matches ≡ subcommand_of program_app words =
     (c.in-Ok.ensures.matches (ap is_simple shape ∙ program-simple.0)).1 ∙ ap (λ (a : App). subcommand_of a words) shape
     in
-    job_of-none words none (subcommand_rows_of-none c.in-Ok.matches c.in-None.ensures.name ∙ rows)
+    record {
+      value = job_of-none words none (subcommand_rows_of-none c.in-Ok.matches c.in-None.ensures.name ∙ rows);
+      within = tt;
+    }
 
 pub returns : goal.returns
 returns c =
@@ -39,4 +45,7 @@ returns c =
     let kinds : HasKind (fault_of program_app words) c.in-Err.error =
     subst (λ (a : App). HasKind (fault_of a words) c.in-Err.error) shape
     (c.in-Err.ensures.kinds (ap is_simple_and_free shape ∙ program-simple.1)) in
-    job_of-fault words c.in-Err.error kinds (λ memory. true≢false (sym (rw (c.kind.ensures ∙ memory) at c.if-eq.ensures)))
+    record {
+      value = job_of-fault words c.in-Err.error kinds (λ memory. true≢false (sym (rw (c.kind.ensures ∙ memory) at c.if-eq.ensures)));
+      within = tt;
+    }
