@@ -29,8 +29,6 @@ use Rattle.tr_session_book.specs.declared.faults.SessionFault.{SessionFault}
 use Rattle.tr_session_book.specs.declared.faults.SessionFault.TheVariants as session
 use Rattle.tr_stream.specs.Rules.{StreamRules}
 use Rattle.tr_stream.specs.declared.answers.CutFault.TheVariants as cut
-use Rattle.tr_stream.specs.declared.answers.OfferFault.TheVariants as offer
-use Rattle.tr_stream.specs.declared.answers.Offered.{Offered}
 use Rattle.tr_stream.specs.declared.answers.TakeFault.TheVariants as take
 use Rattle.tr_stream.specs.declared.answers.Taken.{Taken}
 
@@ -188,10 +186,6 @@ kept-in_session f is e = let g : f ≡ session.NoMemory = cc in session_kept f i
 
 step_kept : (f why : StepFault) → step_wants_memory why ≡ true → step_wants_memory f ≡ false → f ≢ why
 step_kept f why wants is e = let g : step_wants_memory why ≡ false = subst (λ (x : StepFault). step_wants_memory x ≡ false) e is in cc
-
-pub kept-by_offer : (f : StepFault) → wants_memory (fault.Step f) ≡ false
-    → (let r : Result Offered StepFault = Err f in r) ≢ Err (step.Offer offer.NoMemory)
-kept-by_offer f is e = let g : f ≡ step.Offer offer.NoMemory = cc in step_kept f (step.Offer offer.NoMemory) refl is g
 
 pub kept-by_take : (f : StepFault) → wants_memory (fault.Step f) ≡ false
     → (let r : Result Taken StepFault = Err f in r) ≢ Err (step.Take take.NoMemory)

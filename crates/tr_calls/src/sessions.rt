@@ -173,7 +173,7 @@ pub fn stop_named<A: Allocator>(sessions: &mut Sessions<A>, session: &str) -> Re
     }
 }
 
-/// Offers a record to a stream of the named session.
+/// Offers a record to a stream of the named session. It takes no memory.
 ///
 /// # Errors
 ///
@@ -184,15 +184,12 @@ pub fn offer_named<A: Allocator + Copy>(
     offer: OfferTo,
     payload: &[u8],
 ) -> Result<Offered, LineFault>
-    ensures value { HasMemory result →
-        (result ≡ call_answer session.now
+    ensures value { (result ≡ call_answer session.now
         (λ s. from_step (session_offer_answer by_state offer.stream offer.moment offer.id payload.now s))
         (by_name sessions.old.entries))
         × (by_name sessions.new.entries
         ≡ after_call session.now (session_after_offer by_state offer.stream offer.moment offer.id payload.now)
         (by_name sessions.old.entries)) }
-    ensures no_memory { IfErr result
-        (λ fault. wants_memory fault ≡ true → by_name sessions.new.entries ≡ by_name sessions.old.entries) }
     ensures names { AreNamed (by_name sessions.old.entries) → AreNamed (by_name sessions.new.entries) }
 {
     let Some(found) = sessions.get_mut(session) else {

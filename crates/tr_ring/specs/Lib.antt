@@ -1,2 +1,3 @@
 pub mod ClosedBuffer
+pub mod Pages
 pub mod Ring

@@ -1,43 +1,34 @@
 //! A sub-buffer that takes no more records.
 
-ghost use Rattle.std.specs.Prelude.{◌≡◌, length};
+ghost use Rattle.std.specs.Prelude.{◌≡◌, length, slice_get};
 ghost use Rattle.tr_record.specs.Records.{has_serial};
+ghost use Rattle.tr_subbuf.specs.SubBuffer.{empty_buffer};
 ghost use Rattle.tr_ring.specs.ClosedBuffer.{closed_buffer};
+ghost use Rattle.tr_ring.specs.Pages.{sealed_page};
 
 use std::alloc::{Allocator, Global};
 use std::marker::Model;
-use tr_record::{Moment, RecViews};
+use tr_record::{Moment, RecView, Records};
 use tr_subbuf::SubBuf;
 
-/// A closed sub-buffer, which waits to be consumed. Contracts see a `ClosedBuffer`.
+/// A closed sub-buffer, which waits to be consumed, as its ring lends it. Contracts see a `ClosedBuffer`.
 #[derive(Drop)]
-pub struct ClosedSubBuf<A: Allocator = Global> {
-    buffer: SubBuf<A>,
+pub struct ClosedSubBuf<'a, A: Allocator = Global> {
+    buffer: &'a SubBuf<A>,
     seq: u64,
     end: Moment,
     discarded: u64,
 }
 
-impl<A: Allocator> Model for ClosedSubBuf<A> {
+impl<'a, A: Allocator> Model for ClosedSubBuf<'a, A> {
     ghost use Rattle.tr_ring.specs.ClosedBuffer.{ClosedBuffer, closed_buffer};
 
     ghost Value = { ClosedBuffer };
 
-    ghost view = { λ c. closed_buffer c.seq c.end c.discarded c.buffer.records };
+    ghost view = { λ c. closed_buffer c.seq c.end c.discarded c.buffer.now.records };
 }
 
-impl<A: Allocator> ClosedSubBuf<A> {
-    pub(crate) fn new(buffer: SubBuf<A>, seq: u64, end: Moment, discarded: u64) -> ClosedSubBuf<A>
-        ensures { result ≡ closed_buffer seq end discarded buffer.records }
-    {
-        ClosedSubBuf {
-            buffer,
-            seq,
-            end,
-            discarded,
-        }
-    }
-
+impl<'a, A: Allocator> ClosedSubBuf<'a, A> {
     /// The number of its packet.
     pub fn seq(&self) -> u64
         ensures { result ≡ self.now.seq }
@@ -67,16 +58,87 @@ impl<A: Allocator> ClosedSubBuf<A> {
     }
 
     /// Its records, in order.
-    pub fn records(&self) -> RecViews<'_, A>
+    pub fn records(&self) -> Records<'a>
         ensures { result ≡ self.now.records }
     {
         self.buffer.records()
     }
 
-    /// Whether one of its records has this serial.
+    /// The record number `i`, from 0 on. It passes over the records before.
+    pub fn at(&self, i: usize) -> Option<RecView<'a>>
+        ensures { result ≡ slice_get self.now.records i }
+    {
+        self.buffer.at(i)
+    }
+
+    /// Whether one of its records has this serial. It looks at each until then.
     pub fn has(&self, serial: u64) -> bool
         ensures { result ≡ has_serial serial self.now.records }
     {
         self.buffer.has(serial)
+    }
+}
+
+/// The page of a closed sub-buffer, with what its ring notes of it. Contracts see a `SealedPage`.
+#[derive(Drop)]
+pub(crate) struct Sealed<A: Allocator> {
+    buffer: SubBuf<A>,
+    seq: u64,
+    end: Moment,
+    discarded: u64,
+}
+
+impl<A: Allocator> Model for Sealed<A> {
+    ghost use Rattle.tr_ring.specs.ClosedBuffer.{closed_buffer};
+    ghost use Rattle.tr_ring.specs.Pages.{SealedPage, sealed_page};
+
+    ghost Value = { SealedPage };
+
+    ghost view = { λ p. sealed_page (closed_buffer p.seq p.end p.discarded p.buffer.records) p.buffer.size };
+}
+
+impl<A: Allocator> Sealed<A> {
+    pub fn new(buffer: SubBuf<A>, seq: u64, end: Moment, discarded: u64) -> Sealed<A>
+        ensures { result ≡ sealed_page (closed_buffer seq end discarded buffer.records) buffer.size }
+    {
+        Sealed {
+            buffer,
+            seq,
+            end,
+            discarded,
+        }
+    }
+
+    /// What others see of it.
+    pub fn lent(&self) -> ClosedSubBuf<'_, A>
+        ensures { result ≡ self.now.closed }
+    {
+        ClosedSubBuf {
+            buffer: &self.buffer,
+            seq: self.seq,
+            end: self.end,
+            discarded: self.discarded,
+        }
+    }
+
+    pub fn seq(&self) -> u64
+        ensures { result ≡ self.now.closed.seq }
+    {
+        self.seq
+    }
+
+    pub fn has(&self, serial: u64) -> bool
+        ensures { result ≡ has_serial serial self.now.closed.records }
+    {
+        self.buffer.has(serial)
+    }
+
+    /// The page, without records.
+    pub fn into_free(self) -> SubBuf<A>
+        ensures { result ≡ empty_buffer self.size }
+    {
+        let mut page = self.buffer;
+        page.reset();
+        page
     }
 }

@@ -1,15 +1,14 @@
 //! `Ring`, closed sub-buffers and the current one.
 
-ghost use Rattle.std.specs.Prelude.{◌≡◌, ◌≢◌, ◌+◌, ◌≤◌, ◌<◌, ◌^◌, [], ◌∷◌, ◌++◌, IfOk, OnOk, OnErr, length, option_copied, slice_get};
-ghost use Rattle.tr_record.specs.Weight.{weight_of};
+ghost use Rattle.std.specs.Prelude.{◌≡◌, ◌+◌, ◌≤◌, ◌<◌, ◌^◌, [], ◌∷◌, ◌++◌, IfOk, length, slice_get};
 ghost use Rattle.circular_buffer.specs.Buffer.{buffer};
-ghost use Rattle.tr_subbuf.specs.SubBuffer.{empty_buffer, with_record};
-ghost use Rattle.tr_ring.specs.Ring.{IsRing, empty_ring, current_buffer, after_push, push_answer, remove_oldest, close_current, clear_ring, seq_waiting, seq_of, ring_records};
-ghost use Rattle.tr_terms.specs.declared.limits.TheConstants.{FEWEST_SUB_BUFFERS, LARGEST_PACKET, SMALLEST_PACKET};
 ghost use Rattle.tr_record.specs.Records.{entry};
 ghost use Rattle.tr_ring.specs.ClosedBuffer.{closed_buffer};
+ghost use Rattle.tr_ring.specs.Pages.{ArePages, sealed_page, seq_in_pages};
+ghost use Rattle.tr_ring.specs.Ring.{IsRing, empty_ring, current_buffer, after_push, push_answer, follow_current, remove_oldest, close_current, clear_ring, seq_waiting, seq_of, ring_records};
+ghost use Rattle.tr_terms.specs.declared.limits.TheConstants.{FEWEST_SUB_BUFFERS, LARGEST_PACKET, SMALLEST_PACKET};
 
-use crate::closed::ClosedSubBuf;
+use crate::closed::{ClosedSubBuf, Sealed};
 use crate::pushed::Pushed;
 use circular_buffer::HeapCircularBuffer;
 use std::alloc::{AllocError, Allocator, Global};
@@ -18,35 +17,38 @@ use std::mem;
 use tr_record::{Moment, RecView};
 use tr_subbuf::SubBuf;
 
-/// The closed sub-buffers that wait, and the current one. Contracts see a `RingState`.
+/// The closed sub-buffers that wait, the current one, and those that are free. Their pages go round, and no call but `new`
+/// takes memory. Contracts see a `RingState`.
 #[derive(Drop)]
 pub struct Ring<A: Allocator = Global> {
-    alloc: A,
     overwrite: bool,
     seq: u64,
     discarded: u64,
     current: SubBuf<A>,
-    waiting: HeapCircularBuffer<ClosedSubBuf<A>, A>,
+    waiting: HeapCircularBuffer<Sealed<A>, A>,
+    free: HeapCircularBuffer<SubBuf<A>, A>,
 }
 
 impl<A: Allocator> Model for Ring<A> {
     ghost use Rattle.std.specs.Prelude.{◌+◌};
+    ghost use Rattle.tr_ring.specs.Pages.{ArePages, closed_in};
     ghost use Rattle.tr_ring.specs.Ring.{RingState, IsRing, ring_state};
 
     ghost Value = { RingState };
 
-    ghost view = { λ r. ring_state r.waiting.items r.current.records r.seq r.discarded r.current.size
+    ghost view = { λ r. ring_state (closed_in r.waiting.items) r.current.records r.seq r.discarded r.current.size
         (r.waiting.capacity + 1) r.overwrite };
 
     ghost invariant = { λ r. IsRing
-        (ring_state r.waiting.items r.current.records r.seq r.discarded r.current.size (r.waiting.capacity + 1)
-        r.overwrite) };
+        (ring_state (closed_in r.waiting.items) r.current.records r.seq r.discarded r.current.size
+        (r.waiting.capacity + 1) r.overwrite)
+        × ArePages r.current.size r.waiting.items r.free r.waiting.capacity };
 }
 
 /// Closes the current sub-buffer, and puts the next one in its place.
 fn close<A: Allocator>(
     current: &mut SubBuf<A>,
-    waiting: &mut HeapCircularBuffer<ClosedSubBuf<A>, A>,
+    waiting: &mut HeapCircularBuffer<Sealed<A>, A>,
     next: SubBuf<A>,
     seq: u64,
     end: Moment,
@@ -54,96 +56,113 @@ fn close<A: Allocator>(
 )
     requires { length waiting.old.items < waiting.old.capacity }
     ensures waiting { waiting.new
-        ≡ buffer (waiting.old.items ++ closed_buffer seq end discarded current.old.records ∷ [])
+        ≡ buffer (waiting.old.items
+        ++ sealed_page (closed_buffer seq end discarded current.old.records) current.old.size ∷ [])
         waiting.old.capacity }
     ensures current { current.new ≡ next }
 {
     let buffer = mem::replace(current, next);
-    let _ = waiting.push_back(ClosedSubBuf::new(buffer, seq, end, discarded));
+    let _ = waiting.push_back(Sealed::new(buffer, seq, end, discarded));
+}
+
+/// So many empty pages of this size.
+fn free_pages<A: Allocator + Copy>(
+    alloc: A,
+    size: usize,
+    count: usize,
+) -> Result<HeapCircularBuffer<SubBuf<A>, A>, AllocError>
+    ensures { IfOk result (λ pages. ArePages size [] pages count) }
+{
+    let mut pages = HeapCircularBuffer::with_capacity(alloc, count)?;
+    for _ in 0..count {
+        let _ = pages.push_back(SubBuf::new(alloc, size)?);
+    }
+    Ok(pages)
 }
 
 /// The number of the closed sub-buffer that has the record of this serial.
 fn seq_waiting<A: Allocator>(
-    waiting: &HeapCircularBuffer<ClosedSubBuf<A>, A>,
+    waiting: &HeapCircularBuffer<Sealed<A>, A>,
     serial: u64,
 ) -> Option<u64>
-    ensures { result ≡ seq_waiting serial waiting.now.items }
+    ensures { result ≡ seq_in_pages serial waiting.now.items }
 {
-    waiting.iter().find(|b| b.has(serial)).map(|b| b.seq())
+    waiting
+        .iter()
+        .find(|page| page.has(serial))
+        .map(|page| page.seq())
 }
 
 impl<A: Allocator + Copy> Ring<A> {
-    /// An empty ring of `n` sub-buffers of `size` bytes each. `overwrite`: whether a full ring overwrites the oldest.
+    /// An empty ring of `n` sub-buffers of `size` bytes each. `overwrite`: whether a full ring overwrites the oldest. All
+    /// memory that the ring ever has is taken here.
     pub fn new(alloc: A, size: usize, n: usize, overwrite: bool) -> Result<Ring<A>, AllocError>
         requires size { (SMALLEST_PACKET ≤ size) × (size ≤ LARGEST_PACKET) }
         requires n { FEWEST_SUB_BUFFERS ≤ n }
         ensures { IfOk result (λ r. r ≡ empty_ring size n overwrite) }
     {
+        let current = SubBuf::new(alloc, size)?;
         let waiting = HeapCircularBuffer::with_capacity(alloc, n - 1)?;
+        let free = free_pages(alloc, size, n - 1)?;
         Ok(Ring {
-            alloc,
             overwrite,
             seq: 0,
             discarded: 0,
-            current: SubBuf::new(alloc, size),
+            current,
             waiting,
+            free,
         })
     }
+}
 
-    /// Stores a record whose text fits an empty sub-buffer, or discards it. If an allocation fails, nothing changes;
-    /// discarding a record takes no memory.
+impl<A: Allocator> Ring<A> {
+    /// Stores a record whose text fits an empty sub-buffer, or discards it. It takes no memory.
     // It has one caller, which calls it for each offer.
     #[inline(always)]
-    pub fn push(
-        &mut self,
-        moment: Moment,
-        id: u32,
-        serial: u64,
-        payload: &[u8],
-    ) -> Result<Pushed, AllocError>
+    pub fn push(&mut self, moment: Moment, id: u32, serial: u64, payload: &[u8]) -> Pushed
         requires fits { SMALLEST_PACKET + length payload.now ≤ self.old.size }
         requires numbers { self.old.seq + 1 < 2 ^ 64 }
         requires discards { self.old.discarded + 1 < 2 ^ 64 }
-        ensures answer { IfOk result (λ p. p ≡ push_answer (entry serial moment id payload.now) self.old) }
-        ensures ok { OnOk result (self.new ≡ after_push (entry serial moment id payload.now) self.old) }
-        ensures err { OnErr result (self.new ≡ self.old) }
-        ensures taking { OnErr result (push_answer (entry serial moment id payload.now) self.old ≢ Pushed.Discarded) }
+        ensures answer { result ≡ push_answer (entry serial moment id payload.now) self.old }
+        ensures after { self.new ≡ after_push (entry serial moment id payload.now) self.old }
     {
         let joins = self.current.fits(payload.len());
         let entry = RecView::new(serial, moment, id, payload);
         if joins {
-            self.current.put(&entry)?;
-            return Ok(Pushed::Stored { seq: self.seq });
+            self.current.put(&entry);
+            return Pushed::Stored { seq: self.seq };
         }
         if !self.waiting.is_full() {
-            let next = self.begun(&entry)?;
-            self.follow(next, moment);
-            return Ok(Pushed::Stored { seq: self.seq });
+            self.follow(&entry);
+            return Pushed::Stored { seq: self.seq };
         }
         if !self.overwrite {
             self.discarded += 1;
-            return Ok(Pushed::Discarded);
+            return Pushed::Discarded;
         }
-        let next = self.begun(&entry)?;
-        let Some(gone) = self.waiting.pop_front() else {
+        let Some(oldest) = self.front() else {
             unreachable!()
         };
-        self.follow(next, moment);
-        Ok(Pushed::StoredOver {
+        let (gone_seq, gone_count) = (oldest.seq(), oldest.count() as u64);
+        self.remove_oldest();
+        self.follow(&entry);
+        Pushed::StoredOver {
             seq: self.seq,
-            gone_seq: gone.seq(),
-            gone_count: gone.count() as u64,
-        })
+            gone_seq,
+            gone_count,
+        }
     }
 
-    /// A sub-buffer of the ring's size with this record alone.
-    fn begun(&self, entry: &RecView<'_>) -> Result<SubBuf<A>, AllocError>
-        requires { SMALLEST_PACKET + length entry.now.payload ≤ self.now.size }
-        ensures { IfOk result (λ b. b ≡ with_record entry.now (empty_buffer self.now.size)) }
+    /// Closes the current sub-buffer, which has a record, and begins the next one with this record.
+    fn follow(&mut self, entry: &RecView<'_>)
+        requires fits { SMALLEST_PACKET + length entry.now.payload ≤ self.old.size }
+        requires room { length self.old.waiting + 1 < self.old.count }
+        requires some { 1 ≤ length self.old.current }
+        requires numbers { self.old.seq + 1 < 2 ^ 64 }
+        ensures { self.new ≡ follow_current entry.now self.old }
     {
-        let mut next = SubBuf::new(self.alloc, self.current.size());
-        next.put(entry)?;
-        Ok(next)
+        self.close_current(entry.moment());
+        self.current.put(entry);
     }
 
     /// Closes the current sub-buffer, which has a record, and begins an empty one. It takes no memory.
@@ -153,19 +172,9 @@ impl<A: Allocator + Copy> Ring<A> {
         requires numbers { self.old.seq + 1 < 2 ^ 64 }
         ensures { self.new ≡ close_current end self.old }
     {
-        let next = SubBuf::new(self.alloc, self.current.size());
-        self.follow(next, end);
-    }
-
-    /// Closes the current sub-buffer, and puts the next one in its place.
-    fn follow(&mut self, next: SubBuf<A>, end: Moment)
-        requires room { length self.old.waiting + 1 < self.old.count }
-        requires some { 1 ≤ length self.old.current }
-        requires numbers { self.old.seq + 1 < 2 ^ 64 }
-        requires size { next.size ≡ self.old.size }
-        requires within { weight_of next.records ≤ next.size }
-        ensures { self.new ≡ record (close_current end self.old) { current = next.records } }
-    {
+        let Some(next) = self.free.pop_front() else {
+            unreachable!()
+        };
         close(
             &mut self.current,
             &mut self.waiting,
@@ -176,29 +185,15 @@ impl<A: Allocator + Copy> Ring<A> {
         );
         self.seq += 1;
     }
-}
 
-impl<A: Allocator> Ring<A> {
-    /// The oldest closed sub-buffer, if any.
-    pub fn front(&self) -> Option<&ClosedSubBuf<A>>
-        ensures { option_copied result ≡ slice_get self.now.waiting 0 }
-    {
-        self.waiting.front()
-    }
-
-    /// The closed sub-buffer number `i`, counted from the oldest, which is number 0.
-    pub fn closed(&self, i: usize) -> Option<&ClosedSubBuf<A>>
-        ensures { option_copied result ≡ slice_get self.now.waiting i }
-    {
-        self.waiting.get(i)
-    }
-
-    /// Removes the oldest closed sub-buffer. It takes no memory.
+    /// Removes the oldest closed sub-buffer, whose page is free then. It takes no memory.
     pub fn remove_oldest(&mut self)
         requires { 1 ≤ length self.old.waiting }
         ensures { self.new ≡ remove_oldest self.old }
     {
-        let _ = self.waiting.pop_front();
+        if let Some(oldest) = self.waiting.pop_front() {
+            let _ = self.free.push_back(oldest.into_free());
+        }
     }
 
     /// Removes all records. The next sub-buffer gets the first number that none with a record has had. It takes no memory.
@@ -206,9 +201,25 @@ impl<A: Allocator> Ring<A> {
         requires { self.old.seq + 1 < 2 ^ 64 }
         ensures { self.new ≡ clear_ring self.old }
     {
+        for _ in 0..self.waiting() {
+            self.remove_oldest();
+        }
         self.seq += u64::from(!self.current.is_empty());
         self.current.reset();
-        self.waiting.clear();
+    }
+
+    /// The oldest closed sub-buffer, if any.
+    pub fn front(&self) -> Option<ClosedSubBuf<'_, A>>
+        ensures { result ≡ slice_get self.now.waiting 0 }
+    {
+        self.closed(0)
+    }
+
+    /// The closed sub-buffer number `i`, counted from the oldest, which is number 0.
+    pub fn closed(&self, i: usize) -> Option<ClosedSubBuf<'_, A>>
+        ensures { result ≡ slice_get self.now.waiting i }
+    {
+        self.waiting.get(i).map(|page| page.lent())
     }
 
     /// The current sub-buffer.
@@ -226,7 +237,8 @@ impl<A: Allocator> Ring<A> {
         self.waiting.len()
     }
 
-    /// The number of the sub-buffer that has the record of this serial.
+    /// The number of the sub-buffer that has the record of this serial. It looks at each record until then.
+    #[tactic(auto, using(crate::proofs::PageLaws::seq_of_pages))]
     pub fn seq_of(&self, serial: u64) -> Option<u64>
         ensures { result ≡ seq_of serial self.now }
     {
@@ -250,11 +262,11 @@ impl<A: Allocator> Ring<A> {
             };
             let count = buffer.count() as u64;
             if left < count {
-                return buffer.records().at(left as usize);
+                return buffer.at(left as usize);
             }
             left -= count;
         }
-        self.current.records().at(left as usize)
+        self.current.at(left as usize)
     }
 
     /// The number of the current sub-buffer.

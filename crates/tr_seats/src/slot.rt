@@ -7,7 +7,7 @@ ghost use Rattle.tr_ledger.specs.Ledgers.{seat_state};
 ghost use Rattle.tr_seats.specs.Books.{IsPlanned, IsTooBig, books_at};
 ghost use Rattle.tr_seats.specs.Sums.{totals_in};
 ghost use Rattle.tr_stream.specs.Kept.{IsKept};
-ghost use Rattle.tr_stream.specs.StateSteps.{TakesMemory, state_after_cut, state_after_switch, state_counts, state_cut_answer, state_snap};
+ghost use Rattle.tr_stream.specs.StateSteps.{state_after_cut, state_after_switch, state_counts, state_cut_answer, state_snap};
 
 use crate::drainer::Drainer;
 use crate::limits::MOST_DRAINERS;
@@ -53,7 +53,7 @@ impl<N: Names, A: Allocator> Model for Slot<N, A> {
 
 impl<N: Names, A: Allocator + Copy> Slot<N, A> {
     /// Offers a record as the stream does, and moves the producer's seats by what was answered. An offer by the producer of
-    /// another stream is `Misplaced`. An offer that is refused changes nothing.
+    /// another stream is `Misplaced`. An offer that is refused changes nothing. No offer takes memory.
     #[inline(always)]
     pub fn offer(
         &mut self,
@@ -62,16 +62,12 @@ impl<N: Names, A: Allocator + Copy> Slot<N, A> {
         id: u32,
         payload: &[u8],
     ) -> Result<Offered, OfferFault>
-        ensures value { result ≢ Err OfferFault.NoMemory →
-            (result ≡ slot_offer_answer producer.old.number moment id payload.now self.old)
+        ensures value { (result ≡ slot_offer_answer producer.old.number moment id payload.now self.old)
             × (self.new ≡ slot_after_offer producer.old.number moment id payload.now self.old) }
         ensures seats { producer.new ≡ producer_after result producer.old }
         ensures serial { IfOk result (λ offered. serial_of offered ≡ producer.old.offered) }
         ensures too_big { result ≡ Err OfferFault.TooBig
             → IsTooBig N.plan producer.old.number (length payload.now) }
-        ensures no_memory { result ≡ Err OfferFault.NoMemory → self.new ≡ self.old }
-        ensures memory { result ≡ Err OfferFault.NoMemory
-            → TakesMemory (slot_offer_answer producer.old.number moment id payload.now self.old) }
     {
         if producer.number != self.number {
             return Err(OfferFault::Misplaced);

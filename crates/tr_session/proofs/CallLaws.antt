@@ -16,7 +16,6 @@ use Rattle.tr_session_book.specs.declared.faults.SessionFault.TheVariants.{Alrea
 use Rattle.tr_session_book.specs.declared.faults.SessionFault.{SessionFault}
 use Rattle.tr_stream.specs.State.{StreamState}
 use Rattle.tr_stream.specs.StateSteps.{new_state, state_after_offer, state_after_take}
-use Rattle.tr_stream.specs.declared.answers.OfferFault.TheVariants as offer_fault
 use Rattle.tr_stream.specs.declared.answers.Offered.{Offered}
 use Rattle.tr_stream.specs.declared.answers.TakeFault.TheVariants as take_fault
 use Rattle.tr_stream.specs.declared.answers.Taken.{Taken}
@@ -195,28 +194,12 @@ pub channel-step : {R : Type 0} (r : Result R SessionFault) (name : List ℕ) (s
 channel-step (Ok done) name size count mode b c ok err = channel-same name size count mode b c ok
 channel-step (Err fault) name size count mode b c ok err = subst (λ (d : SessionBookState). IsSameFor b d) (sym err) (unchanged b)
 
-offer-wants : (r : Result Offered StepFault) → (r ≡ Err (step.Offer offer_fault.NoMemory)) ⊎ (r ≢ Err (step.Offer offer_fault.NoMemory))
-offer-wants (Ok offered) = inr (λ e. cc)
-offer-wants (Err (step.Session fault)) = inr (λ e. cc)
-offer-wants (Err (step.Offer offer_fault.Inactive)) = inr (λ e. cc)
-offer-wants (Err (step.Offer offer_fault.TooBig)) = inr (λ e. cc)
-offer-wants (Err (step.Offer offer_fault.Spent)) = inr (λ e. cc)
-offer-wants (Err (step.Offer offer_fault.Misplaced)) = inr (λ e. cc)
-offer-wants (Err (step.Offer offer_fault.NoMemory)) = inl refl
-offer-wants (Err (step.Take fault)) = inr (λ e. cc)
-offer-wants (Err (step.Cut fault)) = inr (λ e. cc)
-
-pub offer-step : {D : Type 0} (r : Result Offered StepFault) (b : SessionBookState) (ts us : List StreamState) (i moment id : ℕ) (payload : List ℕ)
-    → (r ≢ Err (step.Offer offer_fault.NoMemory) → D × (us ≡ change_at i (state_after_offer moment id payload) ts))
-    → (r ≡ Err (step.Offer offer_fault.NoMemory) → us ≡ ts)
+pub offer-step : (b : SessionBookState) (ts us : List StreamState) (i moment id : ℕ) (payload : List ℕ)
+    → us ≡ change_at i (state_after_offer moment id payload) ts
     → HasItsStreams (record { book = b; streams = ts }) → HasItsStreams (record { book = b; streams = us })
-offer-step {D} r b ts us i moment id payload done memory is =
-    ⊎_elim
-    (λ (wants : r ≡ Err (step.Offer offer_fault.NoMemory)). same-session b b ts us refl (memory wants) is)
-    (λ (other : r ≢ Err (step.Offer offer_fault.NoMemory)). same-session b b
-    (change_at i (state_after_offer moment id payload) ts) us refl (done other).1
-    (after-one b ts i (state_after_offer moment id payload) (offer-keeps moment id payload) is))
-    (offer-wants r)
+offer-step b ts us i moment id payload done is =
+    same-session b b (change_at i (state_after_offer moment id payload) ts) us refl done
+    (after-one b ts i (state_after_offer moment id payload) (offer-keeps moment id payload) is)
 
 take-wants : (r : Result Taken StepFault) → (r ≡ Err (step.Take take_fault.NoMemory)) ⊎ (r ≢ Err (step.Take take_fault.NoMemory))
 take-wants (Ok taken) = inr (λ e. cc)

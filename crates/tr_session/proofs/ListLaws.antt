@@ -26,12 +26,6 @@ module _ {X : Type 0} where
   changed_at-past f zero (x ∷ xs) past = cc
   changed_at-past f (suc i) (x ∷ xs) past = ap (λ (ys : List X). x ∷ ys) (changed_at-past f i xs past)
 
-  -- an element that is written as it was
-  pub set-same : (i : ℕ) (xs : List X) (x y : X) → slice_get xs i ≡ Some x → y ≡ x → set xs i y ≡ xs
-  set-same i [] x y at is = refl
-  set-same zero (z ∷ xs) x y at is = let same : z ≡ x = cc in ap (λ (w : X). w ∷ xs) (is ∙ sym same)
-  set-same (suc i) (z ∷ xs) x y at is = ap (λ (ys : List X). z ∷ ys) (set-same i xs x y at is)
-
   pub length-changed_at : (f : X → X) (i : ℕ) (xs : List X) → length (change_at i f xs) ≡ length xs
   length-changed_at f i [] = refl
   length-changed_at f zero (x ∷ xs) = refl

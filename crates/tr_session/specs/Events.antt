@@ -3,7 +3,7 @@ use Rattle.std.specs.Prelude.{◌≡◌, ℕ, Bool, true, false, IsOk, List, [],
 use Rattle.tr_session_book.specs.Book.{SessionBookState}
 use Rattle.tr_session_book.specs.BookSteps.{unless_refused, book_start_answer, book_after_start, book_stop_answer, book_after_stop, book_switch_answer, book_rotate_begin_answer, book_after_rotate_begin, cut_moment, book_after_note_cut, book_rotate_finish_answer, book_after_rotate_finish, snap_allowed}
 use Rattle.tr_session.specs.Session.{SessionOf}
-use Rattle.tr_session.specs.Steps.{ShowsPackets, StepTakesMemory, session_after_rotate_begin, session_after_rotate_finish, session_offer_answer, session_after_offer, session_take_answer, session_after_take, session_cut_answer, session_after_cut, session_snap_answer, session_after_switch}
+use Rattle.tr_session.specs.Steps.{ShowsPackets, session_after_rotate_begin, session_after_rotate_finish, session_offer_answer, session_after_offer, session_take_answer, session_after_take, session_cut_answer, session_after_cut, session_snap_answer, session_after_switch}
 use Rattle.tr_session.specs.declared.events.Answer.{Answer}
 use Rattle.tr_session.specs.declared.events.Answer.TheVariants as answer
 use Rattle.tr_session.specs.declared.events.Event.{Event}
@@ -13,7 +13,6 @@ use Rattle.tr_session_book.specs.declared.faults.SessionFault.TheVariants.{NoMem
 use Rattle.tr_session.specs.declared.faults.StepFault.TheVariants as step
 use Rattle.tr_stream.specs.Rules.{StreamRules}
 use Rattle.tr_stream.specs.declared.answers.CutFault.TheVariants as cut_fault
-use Rattle.tr_stream.specs.declared.answers.OfferFault.TheVariants as offer_fault
 use Rattle.tr_stream.specs.declared.answers.TakeFault.TheVariants as take_fault
 use Rattle.tr_stream.specs.declared.events.StreamEvent.{StreamEvent}
 use Rattle.tr_stream.specs.declared.events.StreamEvent.TheVariants as stream
@@ -34,8 +33,6 @@ session_answer rules RotateFinish s = answer.RotateFinish (book_rotate_finish_an
 -- an answer that an allocation failed, to an event for which the rule gives this other answer: it is of the same kind, with
 -- the fault of that call, and the rule doesn't refuse
 abbrev pub MayWantMemory : {A : Type 0} → Answer A → Answer A → Type 0
-MayWantMemory (answer.Offer wanting) (answer.Offer rule) =
-    (wanting ≡ Err (step.Offer offer_fault.NoMemory)) × StepTakesMemory rule
 MayWantMemory (answer.Take wanting) (answer.Take rule) = (wanting ≡ Err (step.Take take_fault.NoMemory)) × IsOk rule
 MayWantMemory (answer.Cut wanting) (answer.Cut rule) = (wanting ≡ Err (step.Cut cut_fault.NoMemory)) × IsOk rule
 MayWantMemory (answer.Snap wanting) (answer.Snap rule) = (wanting ≡ Err NoMemory) × ShowsPackets rule

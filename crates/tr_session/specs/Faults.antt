@@ -6,7 +6,6 @@ use Rattle.tr_session_book.specs.declared.faults.SessionFault.{SessionFault}
 use Rattle.tr_session.specs.declared.faults.StepFault.{StepFault}
 use Rattle.tr_session.specs.declared.faults.StepFault.TheVariants.{Session, Offer, Take, Cut}
 use Rattle.tr_stream.specs.declared.answers.CutFault.TheVariants as cut
-use Rattle.tr_stream.specs.declared.answers.OfferFault.TheVariants as offer
 use Rattle.tr_stream.specs.declared.answers.TakeFault.TheVariants as take
 use Rattle.tr_session_book.specs.Faults.{session_fault_code, session_fault_name, session_wants_memory}
 use Rattle.tr_stream.specs.Faults.{cut_fault_code, cut_fault_name, offer_fault_code, offer_fault_name, take_fault_code, take_fault_name}
@@ -26,11 +25,7 @@ step_fault_name (Cut fault) = cut_fault_name fault
 -- an allocation failed
 abbrev pub step_wants_memory : StepFault → Bool
 step_wants_memory (Session fault) = session_wants_memory fault
-step_wants_memory (Offer offer.NoMemory) = true
-step_wants_memory (Offer offer.Inactive) = false
-step_wants_memory (Offer offer.TooBig) = false
-step_wants_memory (Offer offer.Spent) = false
-step_wants_memory (Offer offer.Misplaced) = false
+step_wants_memory (Offer fault) = false
 step_wants_memory (Take take.NoMemory) = true
 step_wants_memory (Take take.Nothing) = false
 step_wants_memory (Take take.SnapshotMode) = false

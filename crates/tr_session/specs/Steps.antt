@@ -24,7 +24,6 @@ use Rattle.tr_stream.specs.declared.answers.CutDone.{CutDone}
 use Rattle.tr_stream.specs.declared.answers.CutFault.{CutFault}
 use Rattle.tr_stream.specs.declared.answers.OfferFault.{OfferFault}
 use Rattle.tr_stream.specs.declared.answers.Offered.{Offered}
-use Rattle.tr_stream.specs.declared.answers.Offered.TheVariants.{Stored, StoredOver, Discarded}
 use Rattle.tr_stream.specs.declared.answers.TakeFault.{TakeFault}
 use Rattle.tr_stream.specs.declared.answers.Taken.{Taken}
 use Rattle.tr_stream.specs.declared.config.StreamConfig.{StreamConfig}
@@ -82,13 +81,6 @@ take_as_step (Err fault) = Err (Take fault)
 abbrev pub cut_as_step : Result CutDone CutFault → Result CutDone StepFault
 cut_as_step (Ok done) = Ok done
 cut_as_step (Err fault) = Err (Cut fault)
-
--- the kinds of answer that may take memory
-abbrev pub StepTakesMemory : Result Offered StepFault → Type 0
-StepTakesMemory (Ok (Stored serial seq)) = Unit {0}
-StepTakesMemory (Ok (StoredOver serial seq gone_seq gone_count)) = Unit {0}
-StepTakesMemory (Ok (Discarded serial)) = ⊥
-StepTakesMemory (Err fault) = ⊥
 
 -- an offer to stream i
 abbrev pub session_offer_answer : {S : Type 0} → StreamRules S → ℕ → ℕ → ℕ → List ℕ → SessionOf S

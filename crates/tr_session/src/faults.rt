@@ -31,7 +31,7 @@ impl StepFault {
     {
         match self {
             StepFault::Session(fault) => fault.wants_memory(),
-            StepFault::Offer(fault) => *fault == OfferFault::NoMemory,
+            StepFault::Offer(_) => false,
             StepFault::Take(fault) => *fault == TakeFault::NoMemory,
             StepFault::Cut(fault) => *fault == CutFault::NoMemory,
         }

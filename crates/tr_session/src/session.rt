@@ -3,7 +3,7 @@
 ghost use Rattle.std.specs.Prelude.{◌≡◌, ◌≢◌, ◌≤◌, ◌<◌, [], true, false, None, Some, Ok, Err, IsOk, IfSome, IfOk, OnOk, IfErr, OnErr, length, map, option_copied, slice_get};
 ghost use Rattle.tr_session_book.specs.BookSteps.{channel_named, thread_place, book_start_answer, book_after_start, book_stop_answer, book_after_stop, book_switch_answer, book_rotate_begin_answer, cut_moment, book_rotate_finish_answer, book_snapshot_begin_answer, book_after_snapshot_begin, book_schedule_answer, book_after_schedule};
 ghost use Rattle.tr_session.specs.Session.{HasArchivedParts, HasItsStreams, IsStreamOf, new_session, session_of};
-ghost use Rattle.tr_session.specs.Steps.{session_add_channel, session_add_thread, StepTakesMemory, session_offer_answer, session_after_offer, session_take_answer, session_after_take, session_cut_answer, session_after_cut, session_snap_answer, ShowsPackets, session_after_switch, session_after_start, session_after_stop, session_after_rotate_begin, session_after_rotate_finish, current_sizes, session_fate_answer};
+ghost use Rattle.tr_session.specs.Steps.{session_add_channel, session_add_thread, session_offer_answer, session_after_offer, session_take_answer, session_after_take, session_cut_answer, session_after_cut, session_snap_answer, ShowsPackets, session_after_switch, session_after_start, session_after_stop, session_after_rotate_begin, session_after_rotate_finish, current_sizes, session_fate_answer};
 ghost use Rattle.tr_stream.specs.Rules.{by_state};
 ghost use Rattle.tr_stream.specs.StateSteps.{state_snap};
 ghost use Rattle.tr_terms.specs.declared.limits.TheConstants.{MOST_STREAMS};
@@ -15,7 +15,7 @@ use std::marker::Model;
 use tr_book::StreamSnap;
 use tr_schedule::Schedule;
 use tr_session_book::{Archive, Channel, SessionBook, SessionFault};
-use tr_stream::{CutDone, CutFault, Fate, OfferFault, Offered, Stream, TakeFault, Taken};
+use tr_stream::{CutDone, CutFault, Fate, Offered, Stream, TakeFault, Taken};
 use tr_terms::{Mode, Moment, Name, OffsetMinutes, SessionMode};
 use uuid::Uuid;
 
@@ -148,7 +148,7 @@ impl<A: Allocator + Copy> Session<A> {
         }
     }
 
-    /// Offers a record to the stream of this number.
+    /// Offers a record to the stream of this number. It takes no memory.
     ///
     /// # Errors
     ///
@@ -160,12 +160,8 @@ impl<A: Allocator + Copy> Session<A> {
         id: u32,
         payload: &[u8],
     ) -> Result<Offered, StepFault>
-        ensures value { result ≢ Err (StepFault.Offer OfferFault.NoMemory) →
-            (result ≡ session_offer_answer by_state i moment id payload.now self.old)
-            × (self.new ≡ session_after_offer by_state i moment id payload.now self.old) }
-        ensures no_memory { result ≡ Err (StepFault.Offer OfferFault.NoMemory) → self.new ≡ self.old }
-        ensures memory { result ≡ Err (StepFault.Offer OfferFault.NoMemory)
-            → StepTakesMemory (session_offer_answer by_state i moment id payload.now self.old) }
+        ensures answer { result ≡ session_offer_answer by_state i moment id payload.now self.old }
+        ensures after { self.new ≡ session_after_offer by_state i moment id payload.now self.old }
     {
         offer_at(&mut self.streams, i, moment, id, payload)
     }

@@ -2,7 +2,7 @@
 
 ghost use Rattle.std.specs.Prelude.{◌≡◌, ◌≢◌, ◌<◌, Some, Err, IfOk, IsOk, length, map, option_map, slice_get};
 ghost use Rattle.std.specs.Option.{option_map_or};
-ghost use Rattle.tr_session.specs.Steps.{change_at, offer_as_step, take_as_step, StepTakesMemory};
+ghost use Rattle.tr_session.specs.Steps.{change_at, offer_as_step, take_as_step};
 ghost use Rattle.tr_stream.specs.StateSteps.{state_offer_answer, state_after_offer, state_take_answer, state_after_take, state_cut_answer, state_after_cut, state_snap, state_after_switch, state_counts};
 
 use crate::faults::StepFault;
@@ -10,7 +10,7 @@ use std::alloc::{AllocError, Allocator};
 use tr_book::StreamSnap;
 use tr_record::Moment;
 use tr_session_book::SessionFault;
-use tr_stream::{CutDone, CutFault, OfferFault, Offered, Stream, TakeFault, Taken};
+use tr_stream::{CutDone, CutFault, Offered, Stream, TakeFault, Taken};
 
 /// Lets the stream of this number take offers, or makes it refuse them.
 pub fn switch_at<A: Allocator>(streams: &mut Vec<Stream<A>, A>, active: bool, i: usize)
@@ -36,12 +36,8 @@ fn offer_to<A: Allocator + Copy>(
     id: u32,
     payload: &[u8],
 ) -> Result<Offered, StepFault>
-    ensures value { result ≢ Err (StepFault.Offer OfferFault.NoMemory) →
-        (result ≡ offer_as_step (state_offer_answer moment id payload.now stream.old))
-        × (stream.new ≡ state_after_offer moment id payload.now stream.old) }
-    ensures no_memory { result ≡ Err (StepFault.Offer OfferFault.NoMemory) → stream.new ≡ stream.old }
-    ensures memory { result ≡ Err (StepFault.Offer OfferFault.NoMemory)
-        → StepTakesMemory (offer_as_step (state_offer_answer moment id payload.now stream.old)) }
+    ensures answer { result ≡ offer_as_step (state_offer_answer moment id payload.now stream.old) }
+    ensures after { stream.new ≡ state_after_offer moment id payload.now stream.old }
 {
     Ok(stream.offer(moment, id, payload)?)
 }
@@ -54,14 +50,10 @@ pub fn offer_at<A: Allocator + Copy>(
     id: u32,
     payload: &[u8],
 ) -> Result<Offered, StepFault>
-    ensures value { result ≢ Err (StepFault.Offer OfferFault.NoMemory) →
-        (result ≡ option_map_or (λ s. offer_as_step (state_offer_answer moment id payload.now s))
-        (slice_get streams.old.items i) (Err (StepFault.Session SessionFault.NoStream)))
-        × (streams.new.items ≡ change_at i (state_after_offer moment id payload.now) streams.old.items) }
-    ensures no_memory { result ≡ Err (StepFault.Offer OfferFault.NoMemory) → streams.new.items ≡ streams.old.items }
-    ensures memory { result ≡ Err (StepFault.Offer OfferFault.NoMemory) →
-        StepTakesMemory (option_map_or (λ s. offer_as_step (state_offer_answer moment id payload.now s))
-        (slice_get streams.old.items i) (Err (StepFault.Session SessionFault.NoStream))) }
+    ensures answer { result
+        ≡ option_map_or (λ s. offer_as_step (state_offer_answer moment id payload.now s)) (slice_get streams.old.items i)
+        (Err (StepFault.Session SessionFault.NoStream)) }
+    ensures after { streams.new.items ≡ change_at i (state_after_offer moment id payload.now) streams.old.items }
 {
     let Some(stream) = streams.get_mut(i as usize) else {
         return Err(StepFault::Session(SessionFault::NoStream));

@@ -25,7 +25,7 @@ use Rattle.tr_stream.specs.Kept.{IsKept}
 use Rattle.tr_stream.specs.Sound.{IsMade, ArePackets}
 use Rattle.tr_stream.specs.StandsFor.{StandsFor}
 use Rattle.tr_stream.specs.State.{StreamState, in_ring}
-use Rattle.tr_stream.specs.StateSteps.{new_state, overwrites, counters_after_push, state_entry, refusal_of, state_answer_unless, state_unless, state_with_offer, offered_as, state_offer_answer, state_after_offer, TakesMemory, move_oldest, state_take_answer, state_after_take, state_cut_ring, cut_done, state_cut_answer, state_after_cut}
+use Rattle.tr_stream.specs.StateSteps.{new_state, overwrites, counters_after_push, state_entry, refusal_of, state_answer_unless, state_unless, state_with_offer, offered_as, state_offer_answer, state_after_offer, move_oldest, state_take_answer, state_after_take, state_cut_ring, cut_done, state_cut_answer, state_after_cut}
 use Rattle.tr_stream.specs.Steps.{history_offer_answer, history_after_offer, history_take_answer, history_after_take, history_cut_answer, history_after_cut, taken_from}
 use Rattle.tr_stream.specs.declared.answers.CutDone.{CutDone}
 use Rattle.tr_stream.specs.declared.answers.CutFault.{CutFault}
@@ -69,27 +69,6 @@ pub booked-over : (p : Pushed) (seq gone_seq gone_count moment : ℕ) (old betwe
     → new ≡ with_overwritten gone_count between → new ≡ counters_after_push p moment old
 booked-over p seq gone_seq gone_count moment old between new is first then =
     then ∙ ap (with_overwritten gone_count) first ∙ sym (ap (λ (q : Pushed). counters_after_push q moment old) is)
-
--- a ring that stores takes memory
-pub takes-memory : (p : Pushed) (serial : ℕ) → p ≢ pushed.Discarded → TakesMemory (Ok (offered_as serial p))
-takes-memory (pushed.Stored seq) serial stores = tt
-takes-memory (pushed.StoredOver seq gone_seq gone_count) serial stores = tt
-takes-memory pushed.Discarded serial stores = absurd (stores refl)
-
--- an offer that isn't refused takes memory if the ring stores its record, by the state and by the history
-pub accepted-takes : (s : StreamState) (moment id : ℕ) (payload : List ℕ) → refusal_of (length payload) s ≡ None
-    → TakesMemory (Ok (offered_as s.counters.offered (push_answer (state_entry moment id payload s) s.ring)))
-    → TakesMemory (state_offer_answer moment id payload s)
-accepted-takes s moment id payload open_ stores =
-    subst (λ (r : Option OfferFault). TakesMemory (state_answer_unless r (state_entry moment id payload s) s)) (sym open_) stores
-
-pub step-takes : (s : StreamState) (h : History) (moment id : ℕ) (payload : List ℕ) → IsMade s.config s.ring → StandsFor s h
-    → refusal_of (length payload) s ≡ None
-    → TakesMemory (Ok (offered_as s.counters.offered (push_answer (state_entry moment id payload s) s.ring)))
-    → TakesMemory (history_offer_answer s.config payload h)
-step-takes s h moment id payload made is open_ stores =
-    subst (λ (r : Result Offered OfferFault). TakesMemory r) (offers s h moment id payload made is).0
-    (accepted-takes s moment id payload open_ stores)
 
 -- an accepted offer is the history's offer
 pub step-accepted : (s new : StreamState) (h : History) (moment id : ℕ) (payload : List ℕ) (answer : Offered)

@@ -11,14 +11,12 @@ abbrev pub offer_fault_code : OfferFault → List ℕ
 offer_fault_code offer.Inactive = codes "O1"
 offer_fault_code offer.TooBig = codes "O2"
 offer_fault_code offer.Spent = codes "O3"
-offer_fault_code offer.NoMemory = codes "O4"
 offer_fault_code offer.Misplaced = codes "O5"
 
 abbrev pub offer_fault_name : OfferFault → List ℕ
 offer_fault_name offer.Inactive = codes "Inactive"
 offer_fault_name offer.TooBig = codes "TooBig"
 offer_fault_name offer.Spent = codes "Spent"
-offer_fault_name offer.NoMemory = codes "NoMemory"
 offer_fault_name offer.Misplaced = codes "Misplaced"
 
 abbrev pub take_fault_code : TakeFault → List ℕ

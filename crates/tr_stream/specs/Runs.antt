@@ -3,7 +3,6 @@ use Rattle.std.specs.Prelude.{◌≢◌, ℕ, ◌+◌, max, true, false, ◌==�
 use Rattle.tr_ring.specs.ClosedBuffer.{ClosedBuffer}
 use Rattle.tr_stream.specs.Chunks.{waiting_of, ring_of}
 use Rattle.tr_stream.specs.History.{History}
-use Rattle.tr_stream.specs.StateSteps.{TakesMemory}
 use Rattle.tr_stream.specs.Steps.{history_after_offer, history_offer_answer, history_after_take, history_take_answer, history_after_cut, history_cut_answer, history_snap, history_after_switch}
 use Rattle.tr_stream.specs.declared.config.StreamConfig.{StreamConfig}
 use Rattle.tr_stream.specs.declared.events.StreamAnswer.{StreamAnswer}
@@ -30,10 +29,9 @@ history_answer c (Peek moment) h = answer.Peek (Ok (history_snap c moment h))
 history_answer c Start h = answer.Start
 history_answer c Stop h = answer.Stop
 
--- the answers before which an allocation may fail: of an offer that stores its record, of a take or a cut that isn't refused,
--- and of a peek that shows packets
+-- the answers before which an allocation may fail: of a take or a cut that isn't refused, and of a peek that shows packets
 abbrev pub MayTakeMemory : {A : Type 0} → StreamAnswer A → Type 0
-MayTakeMemory (answer.Offer told) = TakesMemory told
+MayTakeMemory (answer.Offer told) = ⊥
 MayTakeMemory (answer.Take told) = IsOk told
 MayTakeMemory (answer.Cut told) = IsOk told
 MayTakeMemory (answer.Peek (Ok snap)) = snap.packets ≢ []

@@ -145,10 +145,3 @@ overwrites Overwrite = true
 abbrev pub new_state : StreamConfig → StreamState
 new_state c = stream_state c (empty_ring c.geometry.size c.geometry.count (overwrites c.mode)) no_parts new_counters
     false
-
--- the kinds of answer that may take memory
-abbrev pub TakesMemory : Result Offered OfferFault → Type 0
-TakesMemory (Ok (Stored serial seq)) = Unit {0}
-TakesMemory (Ok (StoredOver serial seq gone_seq gone_count)) = Unit {0}
-TakesMemory (Ok (Discarded serial)) = ⊥
-TakesMemory (Err fault) = ⊥

@@ -34,7 +34,8 @@ pub enum Offered {
     },
 }
 
-/// Why an offer was refused. The stream is as it was.
+/// Why an offer was refused. The stream is as it was. An offer takes no memory; O4 was its want of memory once, and names
+/// nothing else.
 #[derive(Clone, Copy, Debug, PartialEq, Eq, Error)]
 pub enum OfferFault {
     /// The stream takes no offers now.
@@ -46,9 +47,6 @@ pub enum OfferFault {
     /// The stream has accepted 2^62 offers.
     #[error("O3 Spent")]
     Spent,
-    /// An allocation failed.
-    #[error("O4 NoMemory")]
-    NoMemory,
     /// Another stream is in this one's place. No call of this crate answers it: it is for those who keep streams by number.
     #[error("O5 Misplaced")]
     Misplaced,
@@ -63,7 +61,6 @@ impl OfferFault {
             OfferFault::Inactive => "O1",
             OfferFault::TooBig => "O2",
             OfferFault::Spent => "O3",
-            OfferFault::NoMemory => "O4",
             OfferFault::Misplaced => "O5",
         }
     }
@@ -76,20 +73,8 @@ impl OfferFault {
             OfferFault::Inactive => "Inactive",
             OfferFault::TooBig => "TooBig",
             OfferFault::Spent => "Spent",
-            OfferFault::NoMemory => "NoMemory",
             OfferFault::Misplaced => "Misplaced",
         }
-    }
-}
-
-impl From<AllocError> for OfferFault {
-    ghost use Rattle.std.specs.Prelude.{◌≡◌};
-    ghost use Rattle.tr_stream.specs.declared.answers.OfferFault.TheVariants.{NoMemory};
-
-    ghost from_gives = { λ _ fault. fault ≡ NoMemory };
-
-    fn from(_error: AllocError) -> OfferFault {
-        OfferFault::NoMemory
     }
 }
 

@@ -9,17 +9,18 @@ ghost use Rattle.tr_stream.specs.Sound.{ArePackets};
 use crate::config::StreamConfig;
 use std::alloc::{AllocError, Allocator};
 use tr_packet::{Head, Packet};
-use tr_record::{Moment, Rec, RecViews};
+use tr_record::{Moment, Rec, Records};
 use tr_ring::{ClosedSubBuf, Ring};
 
-/// Copies of records, in order.
+/// Copies of records, in order. `count`: how many there are.
 fn copy_records<A: Allocator + Copy>(
     alloc: A,
-    records: RecViews<'_, A>,
+    records: Records<'_>,
+    count: usize,
 ) -> Result<Vec<Rec<A>, A>, AllocError>
     ensures { IfOk result (λ v. v.items ≡ records.entry) }
 {
-    let mut copies = Vec::with_capacity(alloc, records.len())?;
+    let mut copies = Vec::with_capacity(alloc, count)?;
     for r in records {
         copies.push(Rec::copy_of(alloc, r.serial(), r.moment(), r.id(), r.payload())?)?;
     }
@@ -27,10 +28,10 @@ fn copy_records<A: Allocator + Copy>(
 }
 
 /// The moment of the first record.
-fn begin<A: Allocator>(records: RecViews<'_, A>) -> Moment
+fn begin(mut records: Records<'_>) -> Moment
     ensures { result ≡ begin_of records.entry }
 {
-    match records.first() {
+    match records.next() {
         Some(first) => first.moment(),
         None => Moment::zero(),
     }
@@ -40,12 +41,12 @@ fn begin<A: Allocator>(records: RecViews<'_, A>) -> Moment
 pub fn packet_from<A: Allocator + Copy>(
     alloc: A,
     config: StreamConfig,
-    buffer: &ClosedSubBuf<A>,
+    buffer: &ClosedSubBuf<'_, A>,
 ) -> Result<Packet<A>, AllocError>
     requires { IsPacket (packet_of config buffer.now) }
     ensures { IfOk result (λ p. p ≡ packet_of config buffer.now) }
 {
-    let records = copy_records(alloc, buffer.records())?;
+    let records = copy_records(alloc, buffer.records(), buffer.count())?;
     let head = Head {
         uuid: config.uuid,
         stream: config.number,
@@ -67,7 +68,7 @@ fn packet_of_current<A: Allocator + Copy>(
     requires { IsPacket (packet_of config (closed_current end ring.now)) }
     ensures { IfOk result (λ p. p ≡ packet_of config (closed_current end ring.now)) }
 {
-    let records = copy_records(alloc, ring.current().records())?;
+    let records = copy_records(alloc, ring.current().records(), ring.current().count())?;
     let head = Head {
         uuid: config.uuid,
         stream: config.number,
@@ -93,7 +94,7 @@ fn waiting_packets<A: Allocator + Copy>(
         let Some(buffer) = ring.closed(i) else {
             unreachable!()
         };
-        packets.push(packet_from(alloc, config, buffer)?)?;
+        packets.push(packet_from(alloc, config, &buffer)?)?;
     }
     Ok(packets)
 }

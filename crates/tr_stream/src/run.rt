@@ -6,14 +6,14 @@ ghost use Rattle.tr_stream.specs.Runs.{MayTakeMemory, history_after_event, histo
 ghost use Rattle.tr_stream.specs.StandsFor.{StandsFor};
 ghost use Rattle.tr_stream.specs.Steps.{new_history};
 
-use crate::answers::{CutFault, OfferFault, TakeFault};
+use crate::answers::{CutFault, TakeFault};
 use crate::config::StreamConfig;
 use crate::events::{StreamAnswer, StreamEvent};
 use crate::stream::Stream;
 use std::alloc::{AllocError, Allocator};
 
-/// One call. A failed allocation ends it and leaves the stream as it was. It ends an offer that stores its record, a take or
-/// a cut that isn't refused, or a peek that finds packets, and no other call.
+/// One call. A failed allocation ends it and leaves the stream as it was. It ends a take or a cut that isn't refused, or a
+/// peek that finds packets, and no other call.
 fn step<A: Allocator + Copy>(
     stream: &mut Stream<A>,
     event: &StreamEvent<A>,
@@ -29,9 +29,6 @@ fn step<A: Allocator + Copy>(
     match event {
         StreamEvent::Offer(moment, id, payload) => {
             let answer = stream.offer(*moment, *id, payload.as_slice());
-            if answer == Err(OfferFault::NoMemory) {
-                return Err(AllocError);
-            }
             Ok(StreamAnswer::Offer(answer))
         }
         StreamEvent::Take => {

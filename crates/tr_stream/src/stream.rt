@@ -1,7 +1,7 @@
 //! One stream: a ring of sub-buffers, and the parts that it is consumed into.
 
 ghost use Rattle.std.specs.Prelude.{◌≡◌, ◌≢◌, ◌+◌, ◌-◌, ◌≤◌, ◌<◌, [], Some, Ok, Err, IsOk, IfOk, OnOk, OnErr, length, option_copied, slice_get};
-ghost use Rattle.tr_stream.specs.Calls.{part_in, IsConsistent, history_fate, state_fate, held_fate, History, IsKept, IsSound, StandsFor, in_ring, new_state, overwrites, refusal_of, state_entry, state_with_offer, offered_as, state_offer_answer, state_after_offer, TakesMemory, state_take_answer, state_after_take, cut_done, state_cut_answer, state_cut_ring, state_after_cut, state_after_switch, state_snap, state_counts, new_history, history_offer_answer, history_after_offer, history_take_answer, history_after_take, history_cut_answer, history_after_cut, history_after_switch, history_snap, history_counts, part_at, push_answer, ring_records, history_ring};
+ghost use Rattle.tr_stream.specs.Calls.{part_in, IsConsistent, history_fate, state_fate, held_fate, History, IsKept, IsSound, StandsFor, in_ring, new_state, overwrites, refusal_of, state_entry, state_with_offer, offered_as, state_offer_answer, state_after_offer, state_take_answer, state_after_take, cut_done, state_cut_answer, state_cut_ring, state_after_cut, state_after_switch, state_snap, state_counts, new_history, history_offer_answer, history_after_offer, history_take_answer, history_after_take, history_cut_answer, history_after_cut, history_after_switch, history_snap, history_counts, part_at, push_answer, ring_records, history_ring};
 
 use crate::answers::{CutDone, CutFault, OfferFault, Offered, TakeFault, Taken};
 use crate::config::StreamConfig;
@@ -50,7 +50,7 @@ impl<A: Allocator> Model for Stream<A> {
 }
 
 impl<A: Allocator + Copy> Stream<A> {
-    /// A stream without records that takes no offers yet. Fails if an allocation fails.
+    /// A stream without records that takes no offers yet. The memory of its ring is taken here. Fails if an allocation fails.
     pub fn new(
         alloc: A,
         uuid: Uuid,
@@ -87,63 +87,52 @@ impl<A: Allocator + Copy> Stream<A> {
         })
     }
 
-    /// Offers a record: stores it, or discards it if a ring in discard mode has no room. An offer that is refused, also
-    /// because an allocation failed, changes nothing; discarding a record takes no memory.
+    /// Offers a record: stores it, or discards it if a ring in discard mode has no room. An offer that is refused changes
+    /// nothing. No offer takes memory.
     // Traced threads wait for this call, and few places make it.
     #[inline(always)]
     pub fn offer(&mut self, moment: Moment, id: u32, payload: &[u8]) -> Result<Offered, OfferFault>
-        ensures value { result ≢ Err OfferFault.NoMemory →
-            (result ≡ state_offer_answer moment id payload.now self.old)
+        ensures value { (result ≡ state_offer_answer moment id payload.now self.old)
             × (self.new ≡ state_after_offer moment id payload.now self.old) }
-        ensures step { (h : History) → StandsFor self.old h → result ≢ Err OfferFault.NoMemory →
+        ensures step { (h : History) → StandsFor self.old h →
             (result ≡ history_offer_answer self.old.config payload.now h)
             × StandsFor self.new (history_after_offer self.old.config moment id payload.now h) }
-        ensures no_memory { result ≡ Err OfferFault.NoMemory → self.new ≡ self.old }
         ensures config { self.new.config ≡ self.old.config }
-        ensures memory { result ≡ Err OfferFault.NoMemory
-            → TakesMemory (state_offer_answer moment id payload.now self.old) }
-        ensures step_memory { (h : History) → StandsFor self.old h → result ≡ Err OfferFault.NoMemory
-            → TakesMemory (history_offer_answer self.old.config payload.now h) }
     {
         if let Some(fault) = self.refusal(payload.len()) {
             return Err(fault);
         }
-        Ok(self.accept(moment, id, payload)?)
+        Ok(self.accept(moment, id, payload))
     }
 
     /// Stores a record, or discards it.
     #[inline(always)]
-    fn accept(&mut self, moment: Moment, id: u32, payload: &[u8]) -> Result<Offered, AllocError>
+    fn accept(&mut self, moment: Moment, id: u32, payload: &[u8]) -> Offered
         requires { refusal_of (length payload.now) self.old ≡ None }
-        ensures answer { IfOk result
-            (λ o. o ≡ offered_as self.old.counters.offered
-            (push_answer (state_entry moment id payload.now self.old) self.old.ring)) }
-        ensures ok { OnOk result (self.new ≡ state_with_offer (state_entry moment id payload.now self.old) self.old) }
-        ensures err { OnErr result (self.new ≡ self.old) }
-        ensures memory { OnErr result
-            (TakesMemory (Ok (offered_as self.old.counters.offered
-            (push_answer (state_entry moment id payload.now self.old) self.old.ring)))) }
+        ensures answer { result ≡ offered_as self.old.counters.offered
+            (push_answer (state_entry moment id payload.now self.old) self.old.ring) }
+        ensures after { self.new ≡ state_with_offer (state_entry moment id payload.now self.old) self.old }
     {
         let moment = moment.later(self.counters.last());
         let serial = self.counters.offered();
-        let pushed = self.ring.push(moment, id, serial, payload)?;
+        let pushed = self.ring.push(moment, id, serial, payload);
         self.counters.note_offer(moment);
         match pushed {
-            Pushed::Stored { seq } => Ok(Offered::Stored { serial, seq }),
+            Pushed::Stored { seq } => Offered::Stored { serial, seq },
             Pushed::StoredOver {
                 seq,
                 gone_seq,
                 gone_count,
             } => {
                 self.counters.note_overwritten(gone_count);
-                Ok(Offered::StoredOver {
+                Offered::StoredOver {
                     serial,
                     seq,
                     gone_seq,
                     gone_count,
-                })
+                }
             }
-            Pushed::Discarded => Ok(Offered::Discarded { serial }),
+            Pushed::Discarded => Offered::Discarded { serial },
         }
     }
 
@@ -185,7 +174,7 @@ impl<A: Allocator + Copy> Stream<A> {
             count: oldest.count() as u64,
             chunk: self.parts.current().id(),
         };
-        let packet = packet_from(self.alloc, self.config, oldest)?;
+        let packet = packet_from(self.alloc, self.config, &oldest)?;
         self.parts.push(packet)?;
         self.ring.remove_oldest();
         self.counters.note_consumed(taken.count);

@@ -1,5 +1,5 @@
 //! A sub-buffer: the records that are to make one packet, within its size in bytes.
-//! No contract shows how it keeps them.
+//! It keeps their texts, end to end, in a page whose memory is taken once. Contracts see the records alone.
 #![tactic(auto)]
 
 mod sub_buffer;

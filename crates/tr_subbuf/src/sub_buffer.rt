@@ -1,37 +1,50 @@
-//! `SubBuf`, records within a size.
+//! `SubBuf`, a page of records within a size.
 
-ghost use Rattle.std.specs.Prelude.{◌≡◌, ◌==◌, IsTrue, OnOk, OnErr, length};
+ghost use Rattle.std.specs.Prelude.{◌≡◌, ◌==◌, IsTrue, IfOk, length, slice_get};
 ghost use Rattle.tr_record.specs.Records.{has_serial};
 ghost use Rattle.tr_record.specs.Weight.{weight_of};
 ghost use Rattle.tr_subbuf.specs.SubBuffer.{IsWithin, empty_buffer, has_room, with_record};
 
 use std::alloc::{AllocError, Allocator, Global};
 use std::marker::Model;
-use tr_record::{Rec, RecView, RecViews};
+use tr_record::{RecView, Records, put_rec};
 use tr_terms::limits::{PACKET_HEADER, RECORD_HEADER};
 
-/// Records in the order in which they came, and the most bytes that they may have as a packet. Contracts see a `SubBuffer`.
+/// The texts of records, in the order in which they came, and the most bytes that they may have as a packet. Its memory is
+/// taken once, for all of its size. Contracts see a `SubBuffer`.
 #[derive(Drop)]
 pub struct SubBuf<A: Allocator = Global> {
-    alloc: A,
-    records: Vec<Rec<A>, A>,
-    used: usize,
+    bytes: Vec<u8, A>,
+    count: usize,
     size: usize,
 }
 
 impl<A: Allocator> Model for SubBuf<A> {
-    ghost use Rattle.std.specs.Prelude.{◌≡◌};
-    ghost use Rattle.tr_record.specs.Weight.{weight_of};
-    ghost use Rattle.tr_subbuf.specs.SubBuffer.{SubBuffer, IsWithin, sub_buffer};
+    ghost use Rattle.std.specs.Prelude.{vec_capacity};
+    ghost use Rattle.tr_record.specs.Whole.{entries_of};
+    ghost use Rattle.tr_subbuf.specs.SubBuffer.{SubBuffer, sub_buffer};
+    ghost use Rattle.tr_subbuf.specs.Page.{IsPage};
 
     ghost Value = { SubBuffer };
 
-    ghost view = { λ b. sub_buffer b.records.items b.size };
+    ghost view = { λ b. sub_buffer (entries_of b.bytes.items) b.size };
 
-    ghost invariant = { λ b. (b.used ≡ weight_of b.records.items) × IsWithin (sub_buffer b.records.items b.size) };
+    ghost invariant = { λ b. IsPage b.bytes.items b.count b.size (vec_capacity b.bytes) };
 }
 
 impl<A: Allocator> SubBuf<A> {
+    /// An empty sub-buffer of `size` bytes. It takes the memory for all of them but a packet's header.
+    pub fn new(alloc: A, size: usize) -> Result<SubBuf<A>, AllocError>
+        ensures { IfOk result (λ b. b ≡ empty_buffer size) }
+    {
+        let bytes = Vec::with_capacity(alloc, size.saturating_sub(PACKET_HEADER))?;
+        Ok(SubBuf {
+            bytes,
+            count: 0,
+            size,
+        })
+    }
+
     /// The most bytes that its packet may have.
     pub fn size(&self) -> usize
         ensures { result ≡ self.now.size }
@@ -43,14 +56,14 @@ impl<A: Allocator> SubBuf<A> {
     pub fn count(&self) -> usize
         ensures { result ≡ length self.now.records }
     {
-        self.records.len()
+        self.count
     }
 
     /// Whether it has no record.
     pub fn is_empty(&self) -> bool
         ensures { result ≡ (length self.now.records == 0) }
     {
-        self.records.is_empty()
+        self.count == 0
     }
 
     /// The bytes that its packet would have now: 80, and those of the records.
@@ -58,70 +71,52 @@ impl<A: Allocator> SubBuf<A> {
         ensures value { result ≡ weight_of self.now.records }
         ensures within { IsWithin self.now }
     {
-        self.used
+        PACKET_HEADER + self.bytes.len()
     }
 
     /// Whether there is room for a record with a payload of `len` bytes.
     pub fn fits(&self, len: usize) -> bool
         ensures { result ≡ has_room self.now len }
     {
-        self.used <= self.size
-            && RECORD_HEADER <= self.size - self.used
-            && len <= self.size - self.used - RECORD_HEADER
+        let left = self.size.saturating_sub(self.used());
+        RECORD_HEADER <= left && len <= left - RECORD_HEADER
     }
 
     /// Its records, in order.
-    pub fn records(&self) -> RecViews<'_, A>
+    pub fn records(&self) -> Records<'_>
         ensures { result ≡ self.now.records }
     {
-        RecViews::new(self.records.as_slice())
+        Records::new(self.bytes.as_slice())
     }
 
-    /// Whether one of its records has this serial.
+    /// The record number `i`, from 0 on. It passes over the records before.
+    pub fn at(&self, i: usize) -> Option<RecView<'_>>
+        ensures { result ≡ slice_get self.now.records i }
+    {
+        self.records().nth(i)
+    }
+
+    /// Whether one of its records has this serial. It looks at each until then.
     pub fn has(&self, serial: u64) -> bool
         ensures { result ≡ has_serial serial self.now.records }
     {
-        self.records().has(serial)
+        self.records().any(|r| r.serial() == serial)
     }
 
-    /// Removes all records. It takes no memory.
+    /// Adds a copy of a record that has room. It takes no memory.
+    pub fn put(&mut self, entry: &RecView<'_>)
+        requires { IsTrue (has_room self.old (length entry.now.payload)) }
+        ensures { self.new ≡ with_record entry.now self.old }
+    {
+        put_rec(&mut self.bytes, entry);
+        self.count += 1;
+    }
+
+    /// Removes all records, and keeps the memory.
     pub fn reset(&mut self)
         ensures { self.new ≡ empty_buffer self.old.size }
     {
-        self.records.clear();
-        self.used = PACKET_HEADER;
-    }
-}
-
-impl<A: Allocator + Copy> SubBuf<A> {
-    /// An empty sub-buffer of `size` bytes. It takes no memory.
-    pub fn new(alloc: A, size: usize) -> SubBuf<A>
-        ensures { result ≡ empty_buffer size }
-    {
-        SubBuf {
-            alloc,
-            records: Vec::new(alloc),
-            used: PACKET_HEADER,
-            size,
-        }
-    }
-
-    /// Adds a copy of a record that has room. If an allocation fails, nothing changes.
-    pub fn put(&mut self, entry: &RecView<'_>) -> Result<(), AllocError>
-        requires { IsTrue (has_room self.old (length entry.now.payload)) }
-        ensures ok { OnOk result (self.new ≡ with_record entry.now self.old) }
-        ensures err { OnErr result (self.new ≡ self.old) }
-    {
-        self.records.reserve(1)?;
-        let kept = Rec::copy_of(
-            self.alloc,
-            entry.serial(),
-            entry.moment(),
-            entry.id(),
-            entry.payload(),
-        )?;
-        self.used += kept.size();
-        self.records.push_reserved(kept);
-        Ok(())
+        self.bytes.clear();
+        self.count = 0;
     }
 }

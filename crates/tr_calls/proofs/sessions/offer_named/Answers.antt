@@ -1,6 +1,6 @@
-use Rattle.std.proofs.Common.{rules, ◌≡◌, Ok, Err, ap, sym, None, Some}
+use Rattle.std.proofs.Common.{◌≡◌, Ok, Err, ap, sym, None, Some}
 use Rattle.std.specs.Map.{lookup}
-use Rattle.tr_calls.proofs.CallLaws.{is_named, named-is, names-kept, set-is, call-none, call-some, unchanged-is, kept-by_offer}
+use Rattle.tr_calls.proofs.CallLaws.{is_named, named-is, names-kept, set-is, call-none, call-some, unchanged-is}
 use Rattle.tr_calls.proofs.sessions.offer_named.Goals as goal
 use Rattle.tr_calls.specs.Calls.{from_step}
 use Rattle.tr_outcome.specs.declared.faults.LineFault.TheVariants.{Step}
@@ -11,7 +11,7 @@ use Rattle.tr_stream.specs.Rules.{by_state}
 use Rattle.tr_stream.specs.State.{StreamState}
 
 pub returns-in_default-clause-value : goal.returns-in_default-clause-value
-returns-in_default-clause-value g c = λ _.
+returns-in_default-clause-value g c =
     let es = c.args.sessions.now.entries in
     let name = c.args.session.now in
     let none : lookup (is_named name) es ≡ None = sym c.in_default.ensures.value in
@@ -21,13 +21,13 @@ returns-in_default-clause-value g c = λ _.
     (by_name es) _ (named-is name es None none) (ap (λ m. by_name m.entries) c.get_mut.follows.holds-at-none)
 
 pub returns-in-Ok-clause-value : goal.returns-in-Ok-clause-value
-returns-in-Ok-clause-value g c = λ kept.
+returns-in-Ok-clause-value g c =
     let es = c.args.sessions.now.entries in
     let name = c.args.session.now in
     let s = c.in-Some.found.now in
     let found : lookup (is_named name) es ≡ Some s = sym c.in-Some.ensures.value in
     let t = c.offer.new.self in
-    let told = c.in-Ok.ensures.value (λ e. cc) in
+    let told = (c.in-Ok.ensures.answer, c.in-Ok.ensures.after) in
     call-some name (λ (s : SessionOf StreamState). from_step
     (session_offer_answer by_state c.args.offer.stream c.args.offer.moment c.args.offer.id c.args.payload.now s))
     (session_after_offer by_state c.args.offer.stream c.args.offer.moment c.args.offer.id c.args.payload.now)
@@ -36,29 +36,19 @@ returns-in-Ok-clause-value g c = λ kept.
     (set-is name es (c.get_mut.follows.lender t).entries t (c.get_mut.follows.holds t).0)
 
 pub returns-in-Err-clause-value : goal.returns-in-Err-clause-value
-returns-in-Err-clause-value g c = λ kept.
+returns-in-Err-clause-value g c =
     let es = c.args.sessions.now.entries in
     let name = c.args.session.now in
     let s = c.in-Some.found.now in
     let found : lookup (is_named name) es ≡ Some s = sym c.in-Some.ensures.value in
     let t = c.offer.new.self in
-    let told = c.in-Err.ensures.value (kept-by_offer c.in-Err.fault kept) in
+    let told = (c.in-Err.ensures.answer, c.in-Err.ensures.after) in
     call-some name (λ (s : SessionOf StreamState). from_step
     (session_offer_answer by_state c.args.offer.stream c.args.offer.moment c.args.offer.id c.args.payload.now s))
     (session_after_offer by_state c.args.offer.stream c.args.offer.moment c.args.offer.id c.args.payload.now)
     (by_name es) (by_name (c.get_mut.follows.lender t).entries) s t (Err (Step c.in-Err.fault))
     (named-is name es (Some s) found) (ap from_step told.0) (told.1)
     (set-is name es (c.get_mut.follows.lender t).entries t (c.get_mut.follows.holds t).0)
-
-pub returns-in-Err-clause-no_memory : goal.returns-in-Err-clause-no_memory
-returns-in-Err-clause-no_memory g c = λ wants.
-    let es = c.args.sessions.now.entries in
-    let name = c.args.session.now in
-    let s = c.in-Some.found.now in
-    let found : lookup (is_named name) es ≡ Some s = sym c.in-Some.ensures.value in
-    let t = c.offer.new.self in
-    let same : t ≡ s = search rules in
-    unchanged-is name es (c.get_mut.follows.lender t).entries s t found same (c.get_mut.follows.holds t).0
 
 pub returns-in-Ok-clause-names : goal.returns-in-Ok-clause-names
 returns-in-Ok-clause-names g c =

@@ -11,11 +11,11 @@ unreachable-requires g c =
 
 pub packet_from-requires : goal.packet_from-requires
 packet_from-requires g c =
-    let got : slice_get c.args.ring.now.waiting c.loop-i.i ≡ Some c.in-Some.buffer.now = search rules in
-    waiting-at c.args.config c.args.ring.now.waiting c.loop-i.i c.in-Some.buffer.now got c.requires
+    let got : slice_get c.args.ring.now.waiting c.loop-i.i ≡ Some c.in-Some.buffer = search rules in
+    waiting-at c.args.config c.args.ring.now.waiting c.loop-i.i c.in-Some.buffer got c.requires
 
 pub loop-i-preserved : goal.loop-i-preserved
 loop-i-preserved g c =
-    let got : slice_get c.args.ring.now.waiting c.loop-i.i ≡ Some c.in-Some.buffer.now = search rules in
+    let got : slice_get c.args.ring.now.waiting c.loop-i.i ≡ Some c.in-Some.buffer = search rules in
     packed-more c.args.config c.args.ring.now.waiting c.loop-i.packets.items c.push.new.self.items c.loop-i.i
-    c.in-Some.buffer.now c.in_ok-packet_from.field-0 got c.in_ok-packet_from.ensures c.loop-i.invariant (search rules)
+    c.in-Some.buffer c.in_ok-packet_from.field-0 got c.in_ok-packet_from.ensures c.loop-i.invariant (search rules)

@@ -1,33 +1,22 @@
-use Rattle.std.proofs.Common.{◌∙◌, ap, subst, List}
+use Rattle.std.proofs.Common.{◌∙◌, ap, List}
 use Rattle.tr_session.proofs.session.Session.offer.Goals as goal
 use Rattle.tr_session.specs.Session.{SessionOf}
-use Rattle.tr_session.specs.Steps.{StepTakesMemory, session_offer_answer, session_after_offer}
+use Rattle.tr_session.specs.Steps.{session_offer_answer, session_after_offer}
 use Rattle.tr_stream.specs.Rules.{by_state}
 use Rattle.tr_stream.specs.State.{StreamState}
 use Rattle.tr_session.proofs.CallLaws.{offer-step}
 
 pub invariant_of-self : goal.invariant_of-self
 invariant_of-self g c =
-    offer-step c.offer_at.result c.self.inside.book c.self.inside.streams.items c.offer_at.new.streams.items c.args.i
-    c.args.moment c.args.id c.args.payload.now c.offer_at.ensures.value c.offer_at.ensures.no_memory c.self.invariant
+    offer-step c.self.inside.book c.self.inside.streams.items c.offer_at.new.streams.items c.args.i c.args.moment
+    c.args.id c.args.payload.now c.offer_at.ensures.after c.self.invariant
 
-pub returns-clause-value : goal.returns-clause-value
-returns-clause-value g c = λ not_memory.
-    let did = c.offer_at.ensures.value not_memory in (
-      did.0 ∙ ap (λ (s : SessionOf StreamState). session_offer_answer by_state c.args.i c.args.moment c.args.id c.args.payload.now s) c.self.view_is,
-      ap (λ (xs : List StreamState). (let s : SessionOf StreamState = record { book = c.self.inside.book; streams = xs } in s)) did.1
-          ∙ ap (λ (s : SessionOf StreamState). session_after_offer by_state c.args.i c.args.moment c.args.id c.args.payload.now s) c.self.view_is,
-    )
+pub returns-clause-answer : goal.returns-clause-answer
+returns-clause-answer g c =
+    c.offer_at.ensures.answer
+    ∙ ap (λ (s : SessionOf StreamState). session_offer_answer by_state c.args.i c.args.moment c.args.id c.args.payload.now s) c.self.view_is
 
-pub returns-clause-no_memory : goal.returns-clause-no_memory
-returns-clause-no_memory g c = λ memory.
-    ap (λ (xs : List StreamState).
-    (let s : SessionOf StreamState = record { book = c.self.inside.book; streams = xs } in s))
-    (c.offer_at.ensures.no_memory memory)
-    ∙ c.self.view_is
-
-pub returns-clause-memory : goal.returns-clause-memory
-returns-clause-memory g c = λ memory.
-    subst (λ (s : SessionOf StreamState). StepTakesMemory
-    (session_offer_answer by_state c.args.i c.args.moment c.args.id c.args.payload.now s)) c.self.view_is
-    (c.offer_at.ensures.memory memory)
+pub returns-clause-after : goal.returns-clause-after
+returns-clause-after g c =
+    ap (λ (xs : List StreamState). (let s : SessionOf StreamState = record { book = c.self.inside.book; streams = xs } in s)) c.offer_at.ensures.after
+    ∙ ap (λ (s : SessionOf StreamState). session_after_offer by_state c.args.i c.args.moment c.args.id c.args.payload.now s) c.self.view_is

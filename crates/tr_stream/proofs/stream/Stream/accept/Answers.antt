@@ -4,8 +4,8 @@ use Rattle.tr_stream.proofs.CallLaws.{kept-pushed, booked-stored, booked-over, b
 use Rattle.tr_stream.proofs.stream.Stream.accept.Goals as goal
 use Rattle.tr_stream.specs.State.{StreamState}
 
-pub invariant_of-self-in-Stored : goal.invariant_of-self-in-Stored
-invariant_of-self-in-Stored g c =
+pub invariant_of-self : goal.invariant_of-self
+invariant_of-self g c =
     let s : StreamState = record {
       config = c.self.inside.config;
       ring = c.self.inside.ring;
@@ -14,7 +14,7 @@ invariant_of-self-in-Stored g c =
       active = c.self.inside.active;
     } in
     let e : Entry = record { serial = c.offered-serial.result; moment = c.later-moment.result; id = c.args.id; payload = c.args.payload.now } in
-    kept-pushed s c.args.moment c.args.id c.args.payload.now e c.push.new.self c.in_ok-pushed.pushed c.note_offer.new.self
+    kept-pushed s c.args.moment c.args.id c.args.payload.now e c.push-pushed.new.self c.push-pushed.result c.note_offer.new.self
     c.self.invariant (search rules)
     (record { moment_in = omega arith; id_in = search rules }) (cc) (search rules) (search rules)
     (booked-stored _ c.in-Stored.seq _ _ _ (search rules) c.note_offer.ensures)
@@ -29,7 +29,7 @@ invariant_of-self-in-StoredOver g c =
       active = c.self.inside.active;
     } in
     let e : Entry = record { serial = c.offered-serial.result; moment = c.later-moment.result; id = c.args.id; payload = c.args.payload.now } in
-    kept-pushed s c.args.moment c.args.id c.args.payload.now e c.push.new.self c.in_ok-pushed.pushed
+    kept-pushed s c.args.moment c.args.id c.args.payload.now e c.push-pushed.new.self c.push-pushed.result
     c.note_overwritten.new.self c.self.invariant (search rules)
     (record { moment_in = omega arith; id_in = search rules }) (cc) (search rules) (search rules)
     (booked-over _ c.in-StoredOver.seq c.in-StoredOver.gone_seq c.in-StoredOver.gone_count _ _ c.note_offer.new.self _
@@ -45,7 +45,7 @@ invariant_of-self-in-Discarded g c =
       active = c.self.inside.active;
     } in
     let e : Entry = record { serial = c.offered-serial.result; moment = c.later-moment.result; id = c.args.id; payload = c.args.payload.now } in
-    kept-pushed s c.args.moment c.args.id c.args.payload.now e c.push.new.self c.in_ok-pushed.pushed c.note_offer.new.self
+    kept-pushed s c.args.moment c.args.id c.args.payload.now e c.push-pushed.new.self c.push-pushed.result c.note_offer.new.self
     c.self.invariant (search rules)
     (record { moment_in = omega arith; id_in = search rules }) (cc) (search rules) (search rules)
     (booked-refused _ _ _ _ (search rules) c.note_offer.ensures)

@@ -13,7 +13,7 @@ packet_from-requires g c =
       counters = c.self.inside.counters;
       active = c.self.inside.active;
     } in
-    oldest-is_packet s c.in-Some.oldest.now c.self.invariant (sym (search rules))
+    oldest-is_packet s c.in-Some.oldest c.self.invariant (sym (search rules))
 
 pub invariant_of-self-2 : goal.invariant_of-self-2
 invariant_of-self-2 g c =
@@ -24,7 +24,7 @@ invariant_of-self-2 g c =
       counters = c.self.inside.counters;
       active = c.self.inside.active;
     } in
-    kept-moved s c.in-Some.oldest.now c.remove_oldest.new.self c.push.new.self c.note_consumed.new.self (search rules)
+    kept-moved s c.in-Some.oldest c.remove_oldest.new.self c.push.new.self c.note_consumed.new.self (search rules)
     c.self.invariant (search rules) (search rules) (search rules) (search rules)
 
 pub returns-clause-ok : goal.returns-clause-ok
@@ -36,5 +36,5 @@ returns-clause-ok g c =
       counters = c.self.inside.counters;
       active = c.self.inside.active;
     } in
-    moved-local s c.in-Some.oldest.now c.remove_oldest.new.self c.push.new.self c.note_consumed.new.self (search rules)
+    moved-local s c.in-Some.oldest c.remove_oldest.new.self c.push.new.self c.note_consumed.new.self (search rules)
     (search rules) (search rules) (search rules) (search rules) ∙ ap state_after_take c.self.view_is
