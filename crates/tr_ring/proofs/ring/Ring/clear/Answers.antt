@@ -1,0 +1,11 @@
+use Rattle.std.proofs.Common.{◌≡◌, List, ap, ◌∙◌}
+use Rattle.std.proofs.lemmas.List.{drop-drop}
+use Rattle.tr_ring.specs.ClosedBuffer.{ClosedBuffer}
+use Rattle.tr_ring.specs.Ring.{remove_oldest}
+use Rattle.tr_ring.proofs.ring.Ring.clear.Goals as goal
+
+pub loop-preserved : goal.loop-preserved
+loop-preserved g c =
+    let old = c.args.self.now in
+    c.remove_oldest.ensures ∙ ap remove_oldest c.loop.invariant
+    ∙ ap (λ (bs : List ClosedBuffer). record old { waiting = bs }) (drop-drop 1 c.loop.counter old.waiting)
