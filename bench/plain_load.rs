@@ -9,9 +9,11 @@
 //! load` prints.
 #![forbid(unsafe_code)]
 
+mod plain_ring;
 mod plain_session;
 
-use plain_session::{Counts, Producer, Shared, Stream};
+use plain_ring::{number_at, Counts, Ring, EMPTY_PACKET, RECORD_HEADER};
+use plain_session::{Producer, Shared, Stream};
 use std::process::ExitCode;
 use std::sync::atomic::{AtomicBool, Ordering};
 use std::sync::Mutex;
@@ -21,8 +23,6 @@ use std::time::Duration;
 const IDENTIFIER: [u8; 16] = [0, 0, 0, 0, 0, 0, 0x40, 0, 0x80, 0, 0, 0, 0, 0, 0, 1];
 const SIZE: usize = 65_536;
 const COUNT: usize = 2;
-const EMPTY_PACKET: usize = 80;
-const RECORD_HEADER: usize = 24;
 const REST: Duration = Duration::from_micros(10);
 
 struct Item {
@@ -76,10 +76,6 @@ fn drain(shared: &Shared, worker: usize, workers: usize, ended: &AtomicBool) {
     }
 }
 
-fn number_at<const N: usize>(bytes: &[u8], at: usize) -> [u8; N] {
-    bytes[at..at + N].try_into().expect("whole records")
-}
-
 /// How many records the packets of a part have, if each one is that of the log.
 fn compare(mut part: &[u8], log: &[Item]) -> Option<u64> {
     let mut count = 0;
@@ -106,8 +102,8 @@ fn compare(mut part: &[u8], log: &[Item]) -> Option<u64> {
 /// The streams after the load, and the logs of their feeders.
 fn load(threads: usize, records: u64, workers: usize) -> (Vec<Stream>, Vec<Vec<Item>>) {
     let stream = |number| {
-        let mut stream = Stream::new(IDENTIFIER, number, SIZE, COUNT, false);
-        stream.active = true;
+        let mut stream = Stream::new(IDENTIFIER, number, Ring::new(SIZE, COUNT, false));
+        stream.ring.active = true;
         Mutex::new(stream)
     };
     let shared = Shared {
@@ -152,8 +148,8 @@ fn main() -> ExitCode {
     let (streams, logs) = load(threads as usize, records, workers as usize);
     let (mut offered, mut discarded, mut in_chunks) = (0, 0, 0);
     for (number, (stream, log)) in streams.iter().zip(&logs).enumerate() {
-        offered += stream.counts.offered;
-        discarded += stream.counts.discarded;
+        offered += stream.ring.counts.offered;
+        discarded += stream.ring.counts.discarded;
         for part in &stream.closed_parts {
             let Some(count) = compare(part, log) else {
                 println!("mismatch stream {number}");

@@ -5,9 +5,11 @@
 //! Prints what tr_bench prints.
 #![forbid(unsafe_code)]
 
+mod plain_ring;
 mod plain_session;
 
-use plain_session::{Counts, Fault, Offered, Producer, Shared, Stream};
+use plain_ring::{Counts, Offered, Ring};
+use plain_session::{Fault, Producer, Shared, Stream};
 use std::process::ExitCode;
 use std::sync::Mutex;
 
@@ -47,8 +49,8 @@ fn round(
     total: &mut Counts,
     mut sum: u64,
 ) -> Result<u64, Fault> {
-    let mut stream = Stream::new([0; 16], 0, size, count, overwrite);
-    stream.active = true;
+    let mut stream = Stream::new([0; 16], 0, Ring::new(size, count, overwrite));
+    stream.ring.active = true;
     let shared = Shared {
         streams: vec![Mutex::new(stream)],
     };
@@ -62,19 +64,11 @@ fn round(
         sum = mix_answer(sum, answer);
     }
     for stream in shared.settle(&[producer])? {
-        let Counts {
-            offered,
-            discarded,
-            overwritten,
-            ..
-        } = stream.counts;
-        if offered != discarded + overwritten + stream.in_ring() {
+        let counts = &stream.ring.counts;
+        if counts.offered != counts.discarded + counts.overwritten + stream.in_ring() {
             return Err(Fault::Unsettled);
         }
-        total.offered += stream.counts.offered;
-        total.discarded += stream.counts.discarded;
-        total.overwritten += stream.counts.overwritten;
-        total.overwritten_packets += stream.counts.overwritten_packets;
+        total.add(counts);
     }
     // nothing was taken, so the part of the first trace chunk has no bytes
     Ok(mix(sum, 0))
@@ -99,12 +93,6 @@ fn main() -> ExitCode {
             }
         }
     }
-    let Counts {
-        offered,
-        discarded,
-        overwritten,
-        overwritten_packets,
-    } = total;
-    println!("offered {offered} discarded {discarded} overwritten {overwritten} in {overwritten_packets} consumed 0 sum {sum}");
+    println!("{total} consumed 0 sum {sum}");
     ExitCode::SUCCESS
 }

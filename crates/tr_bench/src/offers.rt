@@ -2,7 +2,7 @@
 
 use crate::cases::Case;
 use crate::sums::mix;
-use std::alloc::Global;
+use std::alloc::{AllocError, Global};
 use std::ops::Range;
 use tr_packet::Packet;
 use tr_record::Moment;
@@ -14,6 +14,27 @@ pub const OFFERS: u64 = 100_000;
 
 /// How many offers come between two takes.
 const OFFERS_A_TAKE: u64 = 125;
+
+/// Why there is no total.
+#[derive(Clone, Copy, Debug, PartialEq, Eq)]
+pub enum OffersFault {
+    /// A stream could not be made.
+    NoMemory,
+    /// A stream refused an offer.
+    Refused(OfferFault),
+}
+
+impl From<AllocError> for OffersFault {
+    fn from(_: AllocError) -> OffersFault {
+        OffersFault::NoMemory
+    }
+}
+
+impl From<OfferFault> for OffersFault {
+    fn from(fault: OfferFault) -> OffersFault {
+        OffersFault::Refused(fault)
+    }
+}
 
 /// The counts of all streams, and a sum over all answers.
 #[derive(Clone, Copy, Debug, Default)]
@@ -119,7 +140,7 @@ fn feed_and_take(stream: &mut Stream, before: u64) -> Result<u64, OfferFault> {
 }
 
 /// One round: the offers to a new stream.
-fn round(alloc: Global, case: &Case, total: Total) -> Result<Total, OfferFault> {
+fn round(alloc: Global, case: &Case, total: Total) -> Result<Total, OffersFault> {
     let mut stream = Stream::new(
         alloc,
         Uuid::nil(),
@@ -138,7 +159,7 @@ fn round(alloc: Global, case: &Case, total: Total) -> Result<Total, OfferFault> 
 }
 
 /// Runs `rounds` rounds.
-pub fn all_rounds(alloc: Global, case: &Case, rounds: u64) -> Result<Total, OfferFault> {
+pub fn all_rounds(alloc: Global, case: &Case, rounds: u64) -> Result<Total, OffersFault> {
     let mut total = Total::default();
     for _ in 0..rounds {
         total = round(alloc, case, total)?;

@@ -20,6 +20,11 @@ record_text e =
     to_le_bytes w32 e.id
     ++ (to_le_bytes w64 e.moment ++ (to_le_bytes w64 e.serial ++ (to_le_bytes w32 (length e.payload) ++ e.payload)))
 
+-- the text before the payload
+abbrev pub header_text : Entry → List ℕ
+header_text e =
+    to_le_bytes w32 e.id ++ (to_le_bytes w64 e.moment ++ (to_le_bytes w64 e.serial ++ to_le_bytes w32 (length e.payload)))
+
 -- the texts of records, end to end
 abbrev pub records_text : List Entry → List ℕ
 records_text = flat_map record_text

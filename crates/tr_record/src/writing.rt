@@ -2,7 +2,7 @@
 
 ghost use Rattle.std.specs.Prelude.{◌≡◌, ◌+◌, ◌≤◌, ◌<◌, ◌^◌, ◌++◌, length, vec_len, vec_capacity};
 ghost use Rattle.std.specs.Int.{w32, w64, to_le_bytes};
-ghost use Rattle.tr_record.specs.Records.{record_text, Fits};
+ghost use Rattle.tr_record.specs.Records.{header_text, record_text, Fits};
 ghost use Rattle.tr_record.specs.Weight.{record_weight};
 ghost use Rattle.tr_terms.specs.declared.limits.TheConstants.{RECORD_HEADER};
 
@@ -48,6 +48,21 @@ pub fn put_u64<A: Allocator>(out: &mut Vec<u8, A>, number: u64)
     put_bytes(out, &number.to_le_bytes());
 }
 
+/// The text of a record before its payload.
+#[inline(always)]
+fn header_of(r: &RecView<'_>) -> [u8; RECORD_HEADER]
+    ensures { result ≡ header_text r.now }
+{
+    let id = r.id().to_le_bytes();
+    let moment = r.moment().get().to_le_bytes();
+    let serial = r.serial().to_le_bytes();
+    let len = (r.payload().len() as u32).to_le_bytes();
+    [
+        id[0], id[1], id[2], id[3], moment[0], moment[1], moment[2], moment[3], moment[4], moment[5], moment[6], moment[7],
+        serial[0], serial[1], serial[2], serial[3], serial[4], serial[5], serial[6], serial[7], len[0], len[1], len[2], len[3],
+    ]
+}
+
 /// Appends a record's text, into room that is reserved. It takes no memory and can't fail.
 pub fn put_rec<A: Allocator>(out: &mut Vec<u8, A>, r: &RecView<'_>)
     requires { vec_len out.old + record_weight r.now ≤ vec_capacity out.old }
@@ -56,9 +71,6 @@ pub fn put_rec<A: Allocator>(out: &mut Vec<u8, A>, r: &RecView<'_>)
     ensures capacity { vec_capacity out.old ≤ vec_capacity out.new }
     ensures fits { Fits r.now }
 {
-    put_u32(out, r.id());
-    put_u64(out, r.moment().get());
-    put_u64(out, r.serial());
-    put_u32(out, r.payload().len() as u32);
+    put_bytes(out, &header_of(r));
     put_bytes(out, r.payload());
 }

@@ -2,9 +2,7 @@
 
 ghost use Rattle.std.specs.Prelude.{◌≡◌, length, slice_get};
 ghost use Rattle.tr_record.specs.Records.{has_serial};
-ghost use Rattle.tr_subbuf.specs.SubBuffer.{empty_buffer};
 ghost use Rattle.tr_ring.specs.ClosedBuffer.{closed_buffer};
-ghost use Rattle.tr_ring.specs.Pages.{sealed_page};
 
 use std::alloc::{Allocator, Global};
 use std::marker::Model;
@@ -29,6 +27,22 @@ impl<'a, A: Allocator> Model for ClosedSubBuf<'a, A> {
 }
 
 impl<'a, A: Allocator> ClosedSubBuf<'a, A> {
+    pub(crate) fn new(
+        buffer: &'a SubBuf<A>,
+        seq: u64,
+        end: Moment,
+        discarded: u64,
+    ) -> ClosedSubBuf<'a, A>
+        ensures { result ≡ closed_buffer seq end discarded buffer.entry.now.records }
+    {
+        ClosedSubBuf {
+            buffer,
+            seq,
+            end,
+            discarded,
+        }
+    }
+
     /// The number of its packet.
     pub fn seq(&self) -> u64
         ensures { result ≡ self.now.seq }
@@ -76,69 +90,5 @@ impl<'a, A: Allocator> ClosedSubBuf<'a, A> {
         ensures { result ≡ has_serial serial self.now.records }
     {
         self.buffer.has(serial)
-    }
-}
-
-/// The page of a closed sub-buffer, with what its ring notes of it. Contracts see a `SealedPage`.
-#[derive(Drop)]
-pub(crate) struct Sealed<A: Allocator> {
-    buffer: SubBuf<A>,
-    seq: u64,
-    end: Moment,
-    discarded: u64,
-}
-
-impl<A: Allocator> Model for Sealed<A> {
-    ghost use Rattle.tr_ring.specs.ClosedBuffer.{closed_buffer};
-    ghost use Rattle.tr_ring.specs.Pages.{SealedPage, sealed_page};
-
-    ghost Value = { SealedPage };
-
-    ghost view = { λ p. sealed_page (closed_buffer p.seq p.end p.discarded p.buffer.records) p.buffer.size };
-}
-
-impl<A: Allocator> Sealed<A> {
-    pub fn new(buffer: SubBuf<A>, seq: u64, end: Moment, discarded: u64) -> Sealed<A>
-        ensures { result ≡ sealed_page (closed_buffer seq end discarded buffer.records) buffer.size }
-    {
-        Sealed {
-            buffer,
-            seq,
-            end,
-            discarded,
-        }
-    }
-
-    /// What others see of it.
-    pub fn lent(&self) -> ClosedSubBuf<'_, A>
-        ensures { result ≡ self.now.closed }
-    {
-        ClosedSubBuf {
-            buffer: &self.buffer,
-            seq: self.seq,
-            end: self.end,
-            discarded: self.discarded,
-        }
-    }
-
-    pub fn seq(&self) -> u64
-        ensures { result ≡ self.now.closed.seq }
-    {
-        self.seq
-    }
-
-    pub fn has(&self, serial: u64) -> bool
-        ensures { result ≡ has_serial serial self.now.closed.records }
-    {
-        self.buffer.has(serial)
-    }
-
-    /// The page, without records.
-    pub fn into_free(self) -> SubBuf<A>
-        ensures { result ≡ empty_buffer self.size }
-    {
-        let mut page = self.buffer;
-        page.reset();
-        page
     }
 }

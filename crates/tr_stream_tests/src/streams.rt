@@ -2,6 +2,7 @@
 
 mod calls;
 mod looks;
+mod memory;
 mod rings;
 mod runs;
 

@@ -2,8 +2,10 @@
 #![tactic(auto)]
 
 mod failing;
+mod full;
 
 pub use failing::FailsAfter;
+pub use full::fill;
 use tr_terms::Moment;
 
 /// The moment of this many nanoseconds, and zero if that is beyond the limit.

@@ -4,7 +4,7 @@ use super::{
     assert_last, assert_same, assert_taken, make_offers, new_session, start, with_streams,
 };
 use linked_list_allocator::LocalHeap;
-use std::alloc::{AllocError, Allocator, Global};
+use std::alloc::{Allocator, Global};
 use std::process::Abort;
 use tr_book::StreamSnap;
 use tr_record::MemorySink;
@@ -14,7 +14,7 @@ use tr_session_book::SessionFault;
 use tr_snapshot::{Snapshot, oldest_serial, records_shown, write_snap};
 use tr_stream::TakeFault;
 use tr_terms::{Mode, Name, SessionMode};
-use tr_testing::moment;
+use tr_testing::{fill, moment};
 
 /// A snapshot session of one stream with two sub-buffers of 256 bytes, which isn't started.
 fn unstarted<A: Allocator + Copy>(rt: &impl Abort, alloc: A) -> Session<A> {
@@ -202,20 +202,6 @@ fn a_local_session_has_no_snapshots(rt: HostRuntime) {
     assert_refused(&rt, &mut session, 5, refused);
     assert_same(&rt, session.snap(0, moment(5)).err(), Some(refused));
     assert_last(&rt, &session, 0);
-}
-
-/// Blocks that leave no free bytes in a heap.
-fn fill<'a>(alloc: Global, heap: &'a LocalHeap) -> Result<Vec<Vec<u8, &'a LocalHeap>>, AllocError> {
-    let mut blocks = Vec::new(alloc);
-    for size in [1024, 64, 16] {
-        for _ in 0..64 {
-            let Ok(block) = Vec::with_capacity(heap, size) else {
-                break;
-            };
-            blocks.push(block)?;
-        }
-    }
-    Ok(blocks)
 }
 
 /// Takes a snapshot at this moment, and asserts how many records it shows of its only stream.

@@ -9,7 +9,7 @@ fn push(rt: &impl Abort, ring: &mut Ring, k: u64, payload: &[u8]) -> Pushed {
     let moment = Moment::new(1000 + k % 1000).expect(rt, "a moment");
     assert!(rt; payload.len() <= 152 && ring.size() == 256);
     assert!(rt; ring.seq() < 1000 && ring.discarded() < 1000);
-    ring.push(moment, 7, k, payload).expect(rt, "memory")
+    ring.push(moment, 7, k, payload)
 }
 
 /// A ring of this many sub-buffers of 256 bytes.
@@ -45,7 +45,7 @@ fn assert_ring(rt: &impl Abort, ring: &Ring, wanted: (usize, usize, u64, usize))
 }
 
 /// Asserts a closed sub-buffer's number, its end, and what was discarded until then.
-fn assert_closed(rt: &impl Abort, closed: Option<&ClosedSubBuf>, wanted: (u64, u64, u64)) {
+fn assert_closed(rt: &impl Abort, closed: Option<ClosedSubBuf<'_>>, wanted: (u64, u64, u64)) {
     let closed = closed.expect(rt, "a closed one");
     let found = (closed.seq(), closed.end().get(), closed.discarded());
     assert_same(rt, found, wanted);
@@ -87,7 +87,7 @@ fn assert_front(rt: &impl Abort, ring: &Ring) {
     assert_closed(rt, ring.front(), (0, 1002, 0));
     let first = ring.front().expect(rt, "a closed one");
     assert_same(rt, first.count(), 2);
-    let second = first.records().at(1).expect(rt, "a record");
+    let second = first.at(1).expect(rt, "a record");
     assert_same(rt, second.serial(), 1);
 }
 
@@ -126,7 +126,7 @@ fn a_closed_current_one_waits(rt: HostRuntime) {
     assert_same(&rt, ring.current().is_empty(), true);
     let closed = ring.front().expect(&rt, "a closed one");
     assert_same(&rt, closed.end().get(), 5000);
-    let record = closed.records().at(0).expect(&rt, "a record");
+    let record = closed.at(0).expect(&rt, "a record");
     assert_same(&rt, record.payload(), b"hello".as_slice());
 }
 

@@ -284,7 +284,6 @@ fn faults_are_printed_with_code_and_name(rt: HostRuntime) {
         (OfferFault::Inactive, "O1 Inactive"),
         (OfferFault::TooBig, "O2 TooBig"),
         (OfferFault::Spent, "O3 Spent"),
-        (OfferFault::NoMemory, "O4 NoMemory"),
         (OfferFault::Misplaced, "O5 Misplaced"),
     ] {
         assert_printed(&rt, rt.alloc(), &fault, text);

@@ -1,0 +1,72 @@
+//! A page that waits.
+
+ghost use Rattle.std.specs.Prelude.{◌≡◌};
+ghost use Rattle.tr_record.specs.Records.{has_serial};
+ghost use Rattle.tr_subbuf.specs.SubBuffer.{empty_buffer};
+ghost use Rattle.tr_ring.specs.ClosedBuffer.{closed_buffer};
+ghost use Rattle.tr_ring.specs.Pages.{sealed_page};
+
+use crate::closed::ClosedSubBuf;
+use std::alloc::Allocator;
+use std::marker::Model;
+use tr_record::Moment;
+use tr_subbuf::SubBuf;
+
+/// The page of a closed sub-buffer, with what its ring notes of it. Contracts see a `SealedPage`.
+#[derive(Drop)]
+pub struct Sealed<A: Allocator> {
+    buffer: SubBuf<A>,
+    seq: u64,
+    end: Moment,
+    discarded: u64,
+}
+
+impl<A: Allocator> Model for Sealed<A> {
+    ghost use Rattle.tr_ring.specs.ClosedBuffer.{closed_buffer};
+    ghost use Rattle.tr_ring.specs.Pages.{SealedPage, sealed_page};
+
+    ghost Value = { SealedPage };
+
+    ghost view = { λ p. sealed_page (closed_buffer p.seq p.end p.discarded p.buffer.records) p.buffer.size };
+}
+
+impl<A: Allocator> Sealed<A> {
+    pub fn new(buffer: SubBuf<A>, seq: u64, end: Moment, discarded: u64) -> Sealed<A>
+        ensures { result ≡ sealed_page (closed_buffer seq end discarded buffer.records) buffer.size }
+    {
+        Sealed {
+            buffer,
+            seq,
+            end,
+            discarded,
+        }
+    }
+
+    /// What others see of it.
+    pub fn lent(&self) -> ClosedSubBuf<'_, A>
+        ensures { result ≡ self.now.closed }
+    {
+        ClosedSubBuf::new(&self.buffer, self.seq, self.end, self.discarded)
+    }
+
+    pub fn seq(&self) -> u64
+        ensures { result ≡ self.now.closed.seq }
+    {
+        self.seq
+    }
+
+    pub fn has(&self, serial: u64) -> bool
+        ensures { result ≡ has_serial serial self.now.closed.records }
+    {
+        self.buffer.has(serial)
+    }
+
+    /// The page, without records.
+    pub fn into_free(self) -> SubBuf<A>
+        ensures { result ≡ empty_buffer self.size }
+    {
+        let mut page = self.buffer;
+        page.reset();
+        page
+    }
+}
