@@ -58,8 +58,9 @@ fn header_of(r: &RecView<'_>) -> [u8; RECORD_HEADER]
     let serial = r.serial().to_le_bytes();
     let len = (r.payload().len() as u32).to_le_bytes();
     [
-        id[0], id[1], id[2], id[3], moment[0], moment[1], moment[2], moment[3], moment[4], moment[5], moment[6], moment[7],
-        serial[0], serial[1], serial[2], serial[3], serial[4], serial[5], serial[6], serial[7], len[0], len[1], len[2], len[3],
+        id[0], id[1], id[2], id[3], moment[0], moment[1], moment[2], moment[3], moment[4],
+        moment[5], moment[6], moment[7], serial[0], serial[1], serial[2], serial[3], serial[4],
+        serial[5], serial[6], serial[7], len[0], len[1], len[2], len[3],
     ]
 }
 

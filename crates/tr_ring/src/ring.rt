@@ -82,10 +82,7 @@ fn free_pages<A: Allocator + Copy>(
 }
 
 /// The number of the closed sub-buffer that has the record of this serial.
-fn seq_waiting<A: Allocator>(
-    waiting: &HeapCircularBuffer<Sealed<A>, A>,
-    serial: u64,
-) -> Option<u64>
+fn seq_waiting<A: Allocator>(waiting: &HeapCircularBuffer<Sealed<A>, A>, serial: u64) -> Option<u64>
     ensures { result ≡ seq_in_pages serial waiting.now.items }
 {
     waiting
