@@ -1,6 +1,7 @@
 //! Worked examples of files and audits, and damaged files.
 
 mod archive_names;
+mod damage;
 
 use std::alloc::Global;
 use std::fmt::Debug;
@@ -196,25 +197,6 @@ fn absent_numbers(rt: HostRuntime) -> Result<(), Fail> {
 }
 
 #[test]
-fn a_cut_file(rt: HostRuntime) -> Result<(), Fail> {
-    let file = file(rt.alloc())?;
-    let short = AuditCause::Packet(PacketFault::Short);
-    for len in 0..file.len() {
-        let want = match len {
-            0 | 228 => None,
-            1..=227 => at(0, 0, short),
-            _ => at(0, 228, short),
-        };
-        assert_same(
-            &rt,
-            (len, fault_of(rt.alloc(), &[&file[..len]])),
-            (len, want),
-        );
-    }
-    Ok(())
-}
-
-#[test]
 fn pieces_in_another_order(rt: HostRuntime) -> Result<(), Fail> {
     let alloc = rt.alloc();
     let file = file(alloc)?;
@@ -233,37 +215,6 @@ fn pieces_in_another_order(rt: HostRuntime) -> Result<(), Fail> {
         audit_stream(alloc, &Uuid::nil(), 0, &[&file]).err(),
         foreign,
     );
-    Ok(())
-}
-
-#[test]
-fn a_damaged_byte(rt: HostRuntime) -> Result<(), Fail> {
-    let file = file(rt.alloc())?;
-    for place in 0..228 {
-        let want = match place {
-            0..=3 => at(0, 0, AuditCause::Packet(PacketFault::BadMagic)),
-            4..=19 | 24..=31 => at(0, 0, AuditCause::Foreign),
-            20..=23 => at(0, 0, AuditCause::Packet(PacketFault::BadStreamId)),
-            48..=63 => at(0, 0, AuditCause::Packet(PacketFault::BadSize)),
-            64..=71 => at(0, 228, AuditCause::NumberRepeat),
-            100..=103 | 174..=177 => at(0, 0, AuditCause::Packet(PacketFault::BadRecord)),
-            92..=99 => at(0, 0, AuditCause::Packet(PacketFault::SerialOrder)),
-            32..=39 | 47 | 84..=91 | 158..=165 => {
-                at(0, 0, AuditCause::Packet(PacketFault::MomentOrder))
-            }
-            166..=173 => at(0, 228, AuditCause::SerialRepeat),
-            _ => None,
-        };
-        let mut damaged = file.clone().expect(&rt, "memory");
-        if let Some(byte) = damaged.get_mut(place) {
-            *byte ^= 0xFF;
-        }
-        assert_same(
-            &rt,
-            (place, fault_of(rt.alloc(), &[&damaged])),
-            (place, want),
-        );
-    }
     Ok(())
 }
 

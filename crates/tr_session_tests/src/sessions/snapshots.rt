@@ -4,7 +4,7 @@ use super::{
     assert_last, assert_same, assert_taken, make_offers, new_session, start, with_streams,
 };
 use linked_list_allocator::LocalHeap;
-use std::alloc::{Allocator, Global};
+use std::alloc::{AllocError, Allocator, Global};
 use std::process::Abort;
 use tr_book::StreamSnap;
 use tr_record::MemorySink;
