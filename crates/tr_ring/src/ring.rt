@@ -5,7 +5,7 @@ ghost use Rattle.circular_buffer.specs.Buffer.{buffer};
 ghost use Rattle.tr_record.specs.Records.{entry};
 ghost use Rattle.tr_ring.specs.ClosedBuffer.{closed_buffer};
 ghost use Rattle.tr_ring.specs.Pages.{ArePages, sealed_page, seq_in_pages};
-ghost use Rattle.tr_ring.specs.Ring.{IsRing, empty_ring, current_buffer, after_push, push_answer, follow_current, remove_oldest, close_current, clear_ring, seq_of, ring_records};
+ghost use Rattle.tr_ring.specs.Ring.{IsRing, empty_ring, current_buffer, after_push, push_answer, follow_current, remove_oldest, close_current, clear_ring, seq_waiting, seq_of, ring_records};
 ghost use Rattle.tr_terms.specs.declared.limits.TheConstants.{FEWEST_SUB_BUFFERS, LARGEST_PACKET, SMALLEST_PACKET};
 
 use crate::closed::ClosedSubBuf;

@@ -1,12 +1,12 @@
 -- A cut at a desk as its session's rule.
-use Rattle.std.proofs.Common.{◌≡◌, ◌∙◌, ℕ, List, Option, Some, Result, Ok, Err, ap, refl, set, sym}
+use Rattle.std.proofs.Common.{◌≡◌, ◌∙◌, ℕ, zero, suc, List, [], ◌∷◌, Option, Some, Result, Ok, Err, ap, refl, set, sym}
 use Rattle.std.specs.Option.{option_map_or}
 use Rattle.std.specs.Prelude.{max, slice_get}
 use Rattle.tr_seats.proofs.SlotLaws.{if-same}
 use Rattle.tr_seats.specs.Cuts.{cut_if_due, desk_after_cut, desk_cut_answer, slot_after_cut, stream_after_cut}
 use Rattle.tr_seats.specs.Desks.{DeskState}
 use Rattle.tr_seats.specs.Slots.{SlotState}
-use Rattle.tr_session.proofs.ListLaws.{changed_at-set, set-same}
+use Rattle.tr_session.proofs.ListLaws.{changed_at-set}
 use Rattle.tr_session.specs.Session.{session_of}
 use Rattle.tr_session.specs.Steps.{after_cut_if_due, cut_answer_if_due, cut_as_step, session_after_cut, session_cut_answer}
 use Rattle.tr_session.specs.declared.faults.StepFault.TheVariants.{Session}
@@ -17,6 +17,12 @@ use Rattle.tr_stream.specs.Rules.{by_state}
 use Rattle.tr_stream.specs.State.{StreamState}
 use Rattle.tr_stream.specs.StateSteps.{cut_done, state_after_cut, state_cut_answer}
 use Rattle.tr_terms.specs.declared.session_mode.SessionMode.TheVariants.{Local}
+
+-- an element that is written as it was
+set-same : {X : Type 0} (i : ℕ) (xs : List X) (x : X) → slice_get xs i ≡ Some x → set xs i x ≡ xs
+set-same i [] x at = refl
+set-same zero (z ∷ xs) x at = let same : z ≡ x = cc in ap (λ (w : _). w ∷ xs) (sym same)
+set-same (suc i) (z ∷ xs) x at = ap (λ (ys : List _). z ∷ ys) (set-same i xs x at)
 
 local-answer : (moment : ℕ) (t : StreamState) → t.config.session ≡ Local
     → state_cut_answer moment t ≡ Ok (cut_done (max moment t.counters.last) t)
@@ -33,7 +39,7 @@ module _ (i : ℕ) (desk : DeskState) (slot : SlotState) (streams : List StreamS
   after-due : (due : Result ℕ SessionFault) → slot.stream.config.session ≡ Local
       → session_of (desk_after_cut (cut_if_due due slot.stream) i desk).book (set streams i (stream_after_cut due slot.stream))
       ≡ after_cut_if_due by_state due i (session_of desk.book streams)
-  after-due (Err fault) local = ap (session_of desk.book) (set-same i streams slot.stream slot.stream at refl)
+  after-due (Err fault) local = ap (session_of desk.book) (set-same i streams slot.stream at)
   after-due (Ok moment) local =
       let answer = local-answer moment slot.stream local in
       let changed = changed_at-set (state_after_cut moment) i streams slot.stream (state_after_cut moment slot.stream) at refl in

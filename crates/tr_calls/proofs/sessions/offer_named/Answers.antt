@@ -27,12 +27,11 @@ returns-in-Ok-clause-value g c =
     let s = c.in-Some.found.now in
     let found : lookup (is_named name) es ≡ Some s = sym c.in-Some.ensures.value in
     let t = c.offer.new.self in
-    let told = (c.in-Ok.ensures.answer, c.in-Ok.ensures.after) in
     call-some name (λ (s : SessionOf StreamState). from_step
     (session_offer_answer by_state c.args.offer.stream c.args.offer.moment c.args.offer.id c.args.payload.now s))
     (session_after_offer by_state c.args.offer.stream c.args.offer.moment c.args.offer.id c.args.payload.now)
     (by_name es) (by_name (c.get_mut.follows.lender t).entries) s t (Ok c.in-Ok.offered)
-    (named-is name es (Some s) found) (ap from_step told.0) (told.1)
+    (named-is name es (Some s) found) (ap from_step c.in-Ok.ensures.answer) c.in-Ok.ensures.after
     (set-is name es (c.get_mut.follows.lender t).entries t (c.get_mut.follows.holds t).0)
 
 pub returns-in-Err-clause-value : goal.returns-in-Err-clause-value
@@ -42,12 +41,11 @@ returns-in-Err-clause-value g c =
     let s = c.in-Some.found.now in
     let found : lookup (is_named name) es ≡ Some s = sym c.in-Some.ensures.value in
     let t = c.offer.new.self in
-    let told = (c.in-Err.ensures.answer, c.in-Err.ensures.after) in
     call-some name (λ (s : SessionOf StreamState). from_step
     (session_offer_answer by_state c.args.offer.stream c.args.offer.moment c.args.offer.id c.args.payload.now s))
     (session_after_offer by_state c.args.offer.stream c.args.offer.moment c.args.offer.id c.args.payload.now)
     (by_name es) (by_name (c.get_mut.follows.lender t).entries) s t (Err (Step c.in-Err.fault))
-    (named-is name es (Some s) found) (ap from_step told.0) (told.1)
+    (named-is name es (Some s) found) (ap from_step c.in-Err.ensures.answer) c.in-Err.ensures.after
     (set-is name es (c.get_mut.follows.lender t).entries t (c.get_mut.follows.holds t).0)
 
 pub returns-in-Ok-clause-names : goal.returns-in-Ok-clause-names

@@ -71,7 +71,7 @@ invariant_of-self-in-Discarded g c =
     )
 
 pub returns-in-Stored-clause-value : goal.returns-in-Stored-clause-value
-returns-in-Stored-clause-value g c lets =
+returns-in-Stored-clause-value g c =
     let old = c.args.self.now in
     let same : c.args.producer.now.number ≡ old.number = search rules in
     let answer : Ok c.in_ok-offered.offered ≡ state_offer_answer c.args.moment c.args.id c.args.payload.now old.stream = search rules in
@@ -82,7 +82,7 @@ returns-in-Stored-clause-value g c lets =
     offered-here c.args.producer.now.number c.args.moment c.args.id c.args.payload.now old _ _ same answer now
 
 pub returns-in-StoredOver-clause-value : goal.returns-in-StoredOver-clause-value
-returns-in-StoredOver-clause-value g c lets =
+returns-in-StoredOver-clause-value g c =
     let old = c.args.self.now in
     let same : c.args.producer.now.number ≡ old.number = search rules in
     let answer : Ok (StoredOver c.in-StoredOver.serial c.in-StoredOver.seq c.in-StoredOver.gone_seq c.in-StoredOver.gone_count)
@@ -94,7 +94,7 @@ returns-in-StoredOver-clause-value g c lets =
     offered-here c.args.producer.now.number c.args.moment c.args.id c.args.payload.now old _ _ same answer now
 
 pub returns-in-Discarded-clause-value : goal.returns-in-Discarded-clause-value
-returns-in-Discarded-clause-value g c lets =
+returns-in-Discarded-clause-value g c =
     let old = c.args.self.now in
     let same : c.args.producer.now.number ≡ old.number = search rules in
     let answer : Ok c.in_ok-offered.offered ≡ state_offer_answer c.args.moment c.args.id c.args.payload.now old.stream = search rules in
