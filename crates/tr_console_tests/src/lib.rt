@@ -1,5 +1,8 @@
-//! The tests of tr_console: whole scripts and their answers, and runs in which reading, writing or memory fails.
+//! The tests of tr_command and of tr_console: what each line of the command language asks for, whole scripts and their
+//! answers, and runs in which reading, writing or memory fails.
 #![tactic(auto)]
 
+#[cfg(test)]
+mod command_lines;
 #[cfg(test)]
 mod scripts;

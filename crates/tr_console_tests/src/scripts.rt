@@ -113,67 +113,53 @@ fn run<A: Allocator + Copy, S: ByteSource, K: ByteSink>(
     }
 }
 
+/// What a script is about, its parts, the parts of its answer, and how many of its lines are refused.
+type Case = (
+    &'static str,
+    &'static [&'static str],
+    &'static [&'static str],
+    u64,
+);
+
 /// Asserts that a script, read and written in pieces of this size, has this answer, with this many refused lines.
 fn assert_in_pieces(
     rt: &impl Abort,
     alloc: Global,
+    (about, piece): (&str, usize),
     script: &[u8],
     (answer, refused): (&[u8], u64),
-    piece: usize,
 ) {
     let mut source = MemorySource::new(script, piece);
     let mut sink = MemorySink::new(alloc, piece);
     let found = run(alloc, alloc, &mut source, &mut sink);
-    assert_same(rt, (piece, found), (piece, Ok(refused)));
     let text = sink.into_bytes();
-    assert_same(rt, (piece, text.as_slice()), (piece, answer));
+    assert_same(
+        rt,
+        (about, piece, found, text.as_slice()),
+        (about, piece, Ok(refused), answer),
+    );
 }
 
 /// Asserts that a script has this answer, with this many refused lines, whatever pieces it is read and written in.
-fn assert_answered(rt: &impl Abort, alloc: Global, script: &[u8], answer: &[u8], refused: u64) {
-    for piece in [1, 7, 65_536] {
-        assert_in_pieces(rt, alloc, script, (answer, refused), piece);
-    }
-    let text = run_text(alloc, alloc, script).expect(rt, "a run");
-    assert_same(rt, text.as_slice(), answer);
-}
-
-/// The same for a script and an answer of several texts, one after another.
-fn assert_joined(rt: &impl Abort, alloc: Global, scripts: &[&str], answers: &[&str], refused: u64) {
-    let script = joined(rt, alloc, scripts);
-    let answer = joined(rt, alloc, answers);
-    assert_answered(rt, alloc, &script, &answer, refused);
-}
-
-/// The same for lines in a session with one stream that is started.
-fn assert_goes_on(rt: &impl Abort, alloc: Global, lines: &str, answer: &str, refused: u64) {
-    assert_joined(rt, alloc, &[OPENING, lines], &[OPENED, answer], refused);
-}
-
-/// The same for lines in a snapshot session with one stream that isn't started.
-fn assert_goes_on_shown(rt: &impl Abort, alloc: Global, lines: &str, answer: &str, refused: u64) {
-    assert_joined(
-        rt,
-        alloc,
-        &[SHOWN, lines],
-        &[SHOWN_ANSWERS, answer],
-        refused,
-    );
-}
-
-/// The same for lines in a session with one stream in overwrite mode, after six offers.
-fn assert_goes_on_overwriting(
+fn assert_answered(
     rt: &impl Abort,
     alloc: Global,
-    lines: &str,
-    answer: &str,
-    refused: u64,
+    about: &str,
+    script: &[u8],
+    (answer, refused): (&[u8], u64),
 ) {
-    assert_joined(
-        rt,
-        alloc,
-        &[OVERWRITING, lines],
-        &[OVERWRITTEN, answer],
-        refused,
-    );
+    for piece in [1, 7, 65_536] {
+        assert_in_pieces(rt, alloc, (about, piece), script, (answer, refused));
+    }
+    let text = run_text(alloc, alloc, script).expect(rt, "a run");
+    assert_same(rt, (about, text.as_slice()), (about, answer));
+}
+
+/// The same for scripts and answers of several parts.
+fn assert_all(rt: &impl Abort, alloc: Global, cases: &[Case]) {
+    for &(about, scripts, answers, refused) in cases {
+        let script = joined(rt, alloc, scripts);
+        let answer = joined(rt, alloc, answers);
+        assert_answered(rt, alloc, about, &script, (&answer, refused));
+    }
 }

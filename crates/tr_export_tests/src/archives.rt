@@ -87,50 +87,63 @@ fn rotated(rt: &impl Abort, alloc: Global) -> Session {
     session
 }
 
-/// Writes the archives of a session under the name s, and asserts the answer.
+/// Writes the archives of a session under the name s.
+fn write<D: Disk>(
+    rt: &impl Abort,
+    alloc: Global,
+    disk: &mut D,
+    dir: &str,
+    session: &Session,
+) -> Result<(), ExportFault> {
+    let name = Name::new("s").expect(rt, "a name");
+    write_archives(alloc, disk, dir, &name, session)
+}
+
+/// Asserts that they are written.
 fn assert_written<D: Disk>(
     rt: &impl Abort,
     alloc: Global,
     disk: &mut D,
     dir: &str,
     session: &Session,
-    wanted: Result<(), ExportFault>,
 ) {
-    let name = Name::new("s").expect(rt, "a name");
-    let answer = write_archives(alloc, disk, dir, &name, session);
-    assert_same(rt, answer, wanted);
+    let answer = write(rt, alloc, disk, dir, session);
+    assert_same(rt, answer, Ok(()));
 }
 
 /// The disk on which the archives of a session were written.
 fn written(rt: &impl Abort, alloc: Global, piece: usize, session: &Session) -> MemoryDisk {
     let mut disk = MemoryDisk::new(alloc, piece);
-    assert_written(rt, alloc, &mut disk, "d", session, Ok(()));
+    assert_written(rt, alloc, &mut disk, "d", session);
     disk
 }
 
-/// What was made: a folder, a broken file, or a file of this many bytes.
-#[derive(Clone, Copy, Debug, PartialEq)]
-enum Kind {
-    Folder,
-    Broken,
-    File(usize),
-}
+/// What was made: its kind, how many bytes it has, and its path.
+type Item<'a> = (&'a str, usize, &'a str);
 
-/// What was made, and its path.
-fn kind_of(made: &Made<String, Vec<u8>>) -> (Kind, &str) {
-    match made {
-        Made::Folder(path) => (Kind::Folder, path.as_str()),
-        Made::Broken(path) => (Kind::Broken, path.as_str()),
-        Made::File(path, bytes) => (Kind::File(bytes.len()), path.as_str()),
+/// All that is made of `rotated`.
+const ONE_ARCHIVE: [Item<'static>; 3] = [
+    ("folder", 0, FOLDER),
+    ("file", 1082, METADATA),
+    ("file", 484, STREAM),
+];
+
+/// What was made at this place.
+fn item_at(disk: &MemoryDisk, place: usize) -> Item<'_> {
+    match disk.made().get(place) {
+        Some(Made::Folder(path)) => ("folder", 0, path.as_str()),
+        Some(Made::File(path, bytes)) => ("file", bytes.len(), path.as_str()),
+        Some(Made::Broken(path)) => ("broken", 0, path.as_str()),
+        None => ("nothing", 0, ""),
     }
 }
 
 /// Asserts all that was made on a disk, in order.
-fn assert_made(rt: &impl Abort, disk: &MemoryDisk, wanted: &[(Kind, &str)]) {
-    let made = disk.made();
-    assert_same(rt, made.len(), wanted.len());
-    for (place, (found, want)) in made.iter().zip(wanted).enumerate() {
-        assert_same(rt, (place, kind_of(found)), (place, *want));
+fn assert_made(rt: &impl Abort, disk: &MemoryDisk, wanted: &[Item<'_>]) {
+    assert_same(rt, disk.made().len(), wanted.len());
+    for place in 0..wanted.len() {
+        let found = item_at(disk, place);
+        assert_same(rt, (place, found), (place, wanted[place]));
     }
 }
 
@@ -140,21 +153,6 @@ fn bytes_at(disk: &MemoryDisk, place: usize) -> &[u8] {
         Some(Made::File(_, bytes)) => bytes.as_slice(),
         _ => &[],
     }
-}
-
-// the metadata has 1,082 bytes, the stream's file 484
-#[test]
-fn an_archive_is_a_folder_with_its_files(rt: HostRuntime) {
-    let session = rotated(&rt, rt.alloc());
-    let disk = written(&rt, rt.alloc(), 7, &session);
-    let wanted = [
-        (Kind::Folder, FOLDER),
-        (Kind::File(1082), METADATA),
-        (Kind::File(484), STREAM),
-    ];
-    assert_made(&rt, &disk, &wanted);
-    let text = metadata_text(rt.alloc(), &uuid()).expect(&rt, "memory");
-    assert_same(&rt, bytes_at(&disk, 1), text.as_bytes());
 }
 
 /// Asserts that at this place a packet of this number begins, which tells of as many discarded records.
@@ -170,19 +168,29 @@ fn assert_packet(rt: &impl Abort, bytes: &[u8], at: usize, number: u8) {
 
 // the packets are of 228 and of 256 bytes; numbers are at 64, and what was discarded at 72
 #[test]
-fn a_stream_s_file_has_its_packets(rt: HostRuntime) {
+fn an_archive_is_a_folder_with_its_files(rt: HostRuntime) {
     let session = rotated(&rt, rt.alloc());
-    let disk = written(&rt, rt.alloc(), 4096, &session);
-    let wanted = [
-        (Kind::Folder, FOLDER),
-        (Kind::File(1082), METADATA),
-        (Kind::File(484), STREAM),
-    ];
-    assert_made(&rt, &disk, &wanted);
-    let bytes = bytes_at(&disk, 2);
-    assert_packet(&rt, bytes, 0, 0);
-    assert_packet(&rt, bytes, 228, 1);
+    let text = metadata_text(rt.alloc(), &uuid()).expect(&rt, "memory");
+    for piece in [7, 4096] {
+        let disk = written(&rt, rt.alloc(), piece, &session);
+        assert_made(&rt, &disk, &ONE_ARCHIVE);
+        assert_same(&rt, bytes_at(&disk, 1), text.as_bytes());
+        assert_packet(&rt, bytes_at(&disk, 2), 0, 0);
+        assert_packet(&rt, bytes_at(&disk, 2), 228, 1);
+    }
 }
+
+/// Two archives of two streams.
+const TWO_ARCHIVES: [Item<'static>; 8] = [
+    ("folder", 0, FOLDER),
+    ("file", 1082, METADATA),
+    ("file", 0, STREAM),
+    ("file", 0, SECOND_STREAM),
+    ("folder", 0, NEXT_FOLDER),
+    ("file", 1082, NEXT_METADATA),
+    ("file", 0, NEXT_STREAM),
+    ("file", 104, NEXT_SECOND_STREAM),
+];
 
 // the second chunk has a record of stream 1 alone, and stream 0 has a file without bytes there
 #[test]
@@ -192,17 +200,13 @@ fn each_archive_has_its_own_part(rt: HostRuntime) {
     session.offer(1, moment(11), 7, b"").expect(&rt, "an offer");
     rotate(&rt, &mut session, 2_000_000_000);
     let disk = written(&rt, rt.alloc(), 4096, &session);
-    let wanted = [
-        (Kind::Folder, FOLDER),
-        (Kind::File(1082), METADATA),
-        (Kind::File(0), STREAM),
-        (Kind::File(0), SECOND_STREAM),
-        (Kind::Folder, NEXT_FOLDER),
-        (Kind::File(1082), NEXT_METADATA),
-        (Kind::File(0), NEXT_STREAM),
-        (Kind::File(104), NEXT_SECOND_STREAM),
-    ];
-    assert_made(&rt, &disk, &wanted);
+    assert_made(&rt, &disk, &TWO_ARCHIVES);
+}
+
+/// Begins a rotation at 10 and cuts stream 0.
+fn cut_one(rt: &impl Abort, session: &mut Session) {
+    session.rotate_begin(moment(10)).expect(rt, "a rotation");
+    session.cut(0).expect(rt, "a cut");
 }
 
 #[test]
@@ -211,9 +215,8 @@ fn what_is_no_archive_is_not_written(rt: HostRuntime) {
     offer_six(&rt, &mut session);
     let mut disk = written(&rt, rt.alloc(), 4096, &session);
     assert_made(&rt, &disk, &[]);
-    session.rotate_begin(moment(10)).expect(&rt, "a rotation");
-    session.cut(0).expect(&rt, "a cut");
-    assert_written(&rt, rt.alloc(), &mut disk, "d", &session, Ok(()));
+    cut_one(&rt, &mut session);
+    assert_written(&rt, rt.alloc(), &mut disk, "d", &session);
     assert_made(&rt, &disk, &[]);
 }
 
@@ -222,6 +225,6 @@ fn without_streams_there_is_the_metadata_alone(rt: HostRuntime) {
     let mut session = started(&rt, rt.alloc(), 0);
     rotate(&rt, &mut session, 10);
     let disk = written(&rt, rt.alloc(), 4096, &session);
-    let wanted = [(Kind::Folder, FOLDER), (Kind::File(1082), METADATA)];
+    let wanted = [("folder", 0, FOLDER), ("file", 1082, METADATA)];
     assert_made(&rt, &disk, &wanted);
 }

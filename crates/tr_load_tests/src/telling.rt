@@ -1,18 +1,13 @@
 //! Loads that are told to an output and a disk.
 
+use crate::loads::{assert_same, loaded};
 use std::alloc::Global;
-use std::fmt::Debug;
 use std::process::Abort;
 use std::test::*;
 use tr_export::{ExportFault, Made, MemoryDisk};
-use tr_load::{load, tell_load};
+use tr_load::tell_load;
 use tr_record::{MemorySink, WriterSink};
 use tr_testing::FailsAfter;
-
-/// Compares what a test found with what it expects. As a call without clauses it keeps the proofs of the tests short.
-fn assert_same<T: PartialEq + Debug + Drop>(rt: &impl Abort, found: T, expected: T) {
-    assert_eq!(rt; found, expected);
-}
 
 const TEXT: &[u8] =
     b"threads 1\noffered 3\ndiscarded 0\noverwritten 0\nin ring 0\nin chunks 3\nreconciled\n";
@@ -36,7 +31,7 @@ fn assert_archived(rt: &impl Abort, disk: &MemoryDisk) {
 #[test]
 fn a_load_is_told_and_archived(rt: HostRuntime) {
     let alloc: Global = rt.alloc();
-    let loaded = load(&rt, alloc, 1, 3, 1).expect(&rt, "a load");
+    let loaded = loaded(&rt, alloc, 1, 3, 1);
     let mut out = MemorySink::new(alloc, 4096);
     let mut disk = MemoryDisk::new(alloc, 4096);
     let told = tell_load(alloc, &mut out, &mut disk, Some("d"), 1, &loaded);
@@ -48,7 +43,7 @@ fn a_load_is_told_and_archived(rt: HostRuntime) {
 #[test]
 fn an_output_that_fails_makes_nothing(rt: HostRuntime) {
     let alloc: Global = rt.alloc();
-    let loaded = load(&rt, alloc, 1, 3, 1).expect(&rt, "a load");
+    let loaded = loaded(&rt, alloc, 1, 3, 1);
     let mut out = WriterSink::new(FailsAfter::new(5));
     let mut disk = MemoryDisk::new(alloc, 4096);
     let told = tell_load(alloc, &mut out, &mut disk, Some("d"), 1, &loaded);

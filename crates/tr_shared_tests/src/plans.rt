@@ -15,6 +15,16 @@ pub(crate) fn assert_same<T: PartialEq + Debug + Drop>(rt: &impl Abort, found: T
     assert_eq!(rt; found, expected);
 }
 
+/// Appends.
+pub(crate) fn push<T: Drop>(rt: &impl Abort, items: &mut Vec<T>, item: T) {
+    items.push(item).expect(rt, "memory");
+}
+
+/// Takes the last one away.
+pub(crate) fn last<T: Drop>(rt: &impl Abort, items: &mut Vec<T>) -> T {
+    items.pop().expect(rt, "one more")
+}
+
 /// The longest payload is what all others are the front of.
 pub(crate) const PAYLOAD: [u8; 153] = [0x61; 153];
 

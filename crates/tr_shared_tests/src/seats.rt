@@ -5,12 +5,12 @@ ghost use Rattle.std.specs.Prelude.{◌≡◌, length};
 mod rotating;
 mod settling;
 
-use crate::plans::{PAYLOAD, assert_same, plan_of, plan_with};
+use crate::plans::{PAYLOAD, assert_same, last, plan_of, plan_with};
 use std::alloc::Global;
 use std::marker::Brand;
 use std::process::Abort;
 use std::test::*;
-use tr_seats::{Desk, Drainer, Names, Plan, Producer, Slot};
+use tr_seats::{Desk, Drainer, Names, Opened, Plan, Producer, Settled, Slot, Totals};
 use tr_session_book::{SessionFault, State};
 use tr_stream::{OfferFault, Offered, TakeFault, Taken};
 use tr_terms::{Mode, SessionMode};
@@ -24,49 +24,63 @@ fn activate<N: Names>(rt: &impl Abort, slots: &mut Vec<Slot<N>>, i: usize)
     slots[i].set_active(true);
 }
 
-/// Offers a payload of `len` bytes to the stream of number `i`.
-fn offer<N: Names>(
+/// Asserts what an offer of `len` bytes to the slot at a place answers.
+fn assert_offered<N: Names>(
     rt: &impl Abort,
     slots: &mut Vec<Slot<N>>,
-    i: usize,
+    place: usize,
     producer: &mut Producer<N>,
     at: u64,
     len: usize,
-) -> Result<Offered, OfferFault>
-    ensures { length slots.new.items ≡ length slots.old.items }
-{
-    assert!(rt; i < slots.len());
-    let payload = PAYLOAD.get(..len).expect(rt, "a shorter payload");
-    slots[i].offer(producer, moment(at), 7, payload)
-}
-
-/// Offers a payload that must be accepted.
-fn accept<N: Names>(
-    rt: &impl Abort,
-    slots: &mut Vec<Slot<N>>,
-    i: usize,
-    producer: &mut Producer<N>,
-    at: u64,
-    len: usize,
+    want: Result<Offered, OfferFault>,
 )
     ensures { length slots.new.items ≡ length slots.old.items }
 {
-    let accepted = offer(rt, slots, i, producer, at, len);
-    assert_same(rt, accepted.is_ok(), true);
+    assert!(rt; place < slots.len());
+    let payload = PAYLOAD.get(..len).expect(rt, "a shorter payload");
+    let answer = slots[place].offer(producer, moment(at), 7, payload);
+    assert_same(rt, (place, at, answer), (place, at, want));
 }
 
-/// Takes from the slot at a place, as from the stream of number `i`.
-fn take<N: Names>(
+/// What is answered to a record that is stored with this serial, in the sub-buffer of this number.
+fn stored(serial: u64, seq: u64) -> Result<Offered, OfferFault> {
+    Ok(Offered::Stored { serial, seq })
+}
+
+/// Asserts what a take from the slot at a place, as from the stream of number `i`, answers.
+fn assert_taken<N: Names>(
     rt: &impl Abort,
     slots: &mut Vec<Slot<N>>,
     place: usize,
     drainer: &mut Drainer<N>,
     i: usize,
-) -> Result<Taken, TakeFault>
+    want: Result<Taken, TakeFault>,
+)
     ensures { length slots.new.items ≡ length slots.old.items }
 {
     assert!(rt; place < slots.len());
-    slots[place].take(drainer, i)
+    let answer = slots[place].take(drainer, i);
+    assert_same(rt, (place, i, answer), (place, i, want));
+}
+
+/// The session that was planned, and its producers.
+fn built<N: Names>(rt: &impl Abort, plan: Plan) -> (Opened<N>, Vec<Producer<N>>)
+    requires { plan ≡ N.plan }
+{
+    plan.build::<N>().expect(rt, "memory")
+}
+
+/// What the session is settled with, and the totals of its streams.
+fn settled<N: Names>(
+    rt: &impl Abort,
+    opened: Opened<N>,
+    producers: Vec<Producer<N>>,
+    drainers: Vec<Drainer<N>>,
+) -> (Settled, Totals) {
+    match opened.settle(producers, drainers) {
+        Ok(settled) => settled,
+        Err(_) => panic!(rt; "not settled"),
+    }
 }
 
 /// Asserts the numbers of a producer: offered, discarded, overwritten, overwritten packets.
@@ -84,68 +98,67 @@ fn assert_numbers<N: Names>(
     assert_same(rt, found, numbers);
 }
 
+/// How many bytes are offered, what that answers, and the producer's numbers then.
+type Step = (usize, Result<Offered, OfferFault>, (u64, u64, u64, u64));
+
 /// Offers until the ring is full and beyond, with what each offer answers and makes of the producer.
-fn offers<N: Names>(
-    rt: &impl Abort,
-    plan: Plan,
-    steps: &[(usize, Result<Offered, OfferFault>, (u64, u64, u64, u64))],
-)
+fn offers<N: Names>(rt: &impl Abort, plan: Plan, steps: &[Step])
     requires { plan ≡ N.plan }
 {
-    let (opened, mut producers) = plan.build::<N>().expect(rt, "memory");
+    let (opened, mut producers) = built::<N>(rt, plan);
     let (_, _, mut slots, _) = opened.into_parts();
-    let mut producer = producers.pop().expect(rt, "a producer");
+    let mut producer = last(rt, &mut producers);
     assert_same(rt, producer.stream(), 0);
     assert_numbers(rt, &producer, (0, 0, 0, 0));
-    assert_same(
-        rt,
-        offer(rt, &mut slots, 0, &mut producer, 1, 50),
-        Err(OfferFault::Inactive),
-    );
+    let inactive = Err(OfferFault::Inactive);
+    assert_offered(rt, &mut slots, 0, &mut producer, 1, 50, inactive);
     activate(rt, &mut slots, 0);
     let mut at = 1;
     'steps: for (len, answer, numbers) in steps {
-        assert_same(
-            rt,
-            offer(rt, &mut slots, 0, &mut producer, at, *len),
-            *answer,
-        );
+        assert_offered(rt, &mut slots, 0, &mut producer, at, *len, *answer);
         assert_numbers(rt, &producer, *numbers);
         at = 2;
     }
 }
 
+const DISCARDING: [Step; 7] = [
+    (50, Ok(Offered::Stored { serial: 0, seq: 0 }), (1, 0, 0, 0)),
+    (50, Ok(Offered::Stored { serial: 1, seq: 0 }), (2, 0, 0, 0)),
+    (153, Err(OfferFault::TooBig), (2, 0, 0, 0)),
+    (50, Ok(Offered::Stored { serial: 2, seq: 1 }), (3, 0, 0, 0)),
+    (50, Ok(Offered::Stored { serial: 3, seq: 1 }), (4, 0, 0, 0)),
+    (50, Ok(Offered::Discarded { serial: 4 }), (5, 1, 0, 0)),
+    (4, Ok(Offered::Stored { serial: 5, seq: 1 }), (6, 1, 0, 0)),
+];
+
 #[test]
 fn a_full_ring_discards_and_its_producer_tells(rt: HostRuntime) {
-    let steps = [
-        (50, Ok(Offered::Stored { serial: 0, seq: 0 }), (1, 0, 0, 0)),
-        (50, Ok(Offered::Stored { serial: 1, seq: 0 }), (2, 0, 0, 0)),
-        (153, Err(OfferFault::TooBig), (2, 0, 0, 0)),
-        (50, Ok(Offered::Stored { serial: 2, seq: 1 }), (3, 0, 0, 0)),
-        (50, Ok(Offered::Stored { serial: 3, seq: 1 }), (4, 0, 0, 0)),
-        (50, Ok(Offered::Discarded { serial: 4 }), (5, 1, 0, 0)),
-        (4, Ok(Offered::Stored { serial: 5, seq: 1 }), (6, 1, 0, 0)),
-    ];
-    offers::<Brand>(&rt, plan_of(&rt, rt.alloc(), Mode::Discard, 1), &steps);
+    let plan = plan_of(&rt, rt.alloc(), Mode::Discard, 1);
+    offers::<Brand>(&rt, plan, &DISCARDING);
 }
+
+const OVERWRITING: [Step; 6] = [
+    (64, Ok(Offered::Stored { serial: 0, seq: 0 }), (1, 0, 0, 0)),
+    (64, Ok(Offered::Stored { serial: 1, seq: 0 }), (2, 0, 0, 0)),
+    (64, Ok(Offered::Stored { serial: 2, seq: 1 }), (3, 0, 0, 0)),
+    (64, Ok(Offered::Stored { serial: 3, seq: 1 }), (4, 0, 0, 0)),
+    (
+        64,
+        Ok(Offered::StoredOver {
+            serial: 4,
+            seq: 2,
+            gone_seq: 0,
+            gone_count: 2,
+        }),
+        (5, 0, 2, 1),
+    ),
+    (64, Ok(Offered::Stored { serial: 5, seq: 2 }), (6, 0, 2, 1)),
+];
 
 #[test]
 fn an_overwriting_ring_loses_whole_packets_and_its_producer_tells(rt: HostRuntime) {
-    let over = Offered::StoredOver {
-        serial: 4,
-        seq: 2,
-        gone_seq: 0,
-        gone_count: 2,
-    };
-    let steps = [
-        (64, Ok(Offered::Stored { serial: 0, seq: 0 }), (1, 0, 0, 0)),
-        (64, Ok(Offered::Stored { serial: 1, seq: 0 }), (2, 0, 0, 0)),
-        (64, Ok(Offered::Stored { serial: 2, seq: 1 }), (3, 0, 0, 0)),
-        (64, Ok(Offered::Stored { serial: 3, seq: 1 }), (4, 0, 0, 0)),
-        (64, Ok(over), (5, 0, 2, 1)),
-        (64, Ok(Offered::Stored { serial: 5, seq: 2 }), (6, 0, 2, 1)),
-    ];
-    offers::<Brand>(&rt, plan_of(&rt, rt.alloc(), Mode::Overwrite, 1), &steps);
+    let plan = plan_of(&rt, rt.alloc(), Mode::Overwrite, 1);
+    offers::<Brand>(&rt, plan, &OVERWRITING);
 }
 
 /// A drainer with a seat of each stream, which was begun at the desk.
@@ -182,55 +195,57 @@ fn assert_consumed<N: Names>(
 fn takes<N: Names>(rt: &impl Abort, alloc: Global, plan: Plan)
     requires { plan ≡ N.plan }
 {
-    let (opened, mut producers) = plan.build::<N>().expect(rt, "memory");
+    let (opened, mut producers) = built::<N>(rt, plan);
     let (_, mut desk, mut slots, _) = opened.into_parts();
-    let mut second = producers.pop().expect(rt, "a producer");
+    let mut second = last(rt, &mut producers);
     let mut drainer = drainer_of(rt, alloc, &mut desk, &mut slots);
     assert_same(rt, desk.drainers(), 1);
     activate(rt, &mut slots, 1);
-    accept(rt, &mut slots, 1, &mut second, 1, 64);
-    accept(rt, &mut slots, 1, &mut second, 1, 64);
-    accept(rt, &mut slots, 1, &mut second, 1, 64);
+    assert_offered(rt, &mut slots, 1, &mut second, 1, 64, stored(0, 0));
+    assert_offered(rt, &mut slots, 1, &mut second, 1, 64, stored(1, 0));
+    assert_offered(rt, &mut slots, 1, &mut second, 1, 64, stored(2, 1));
     let taken = Taken {
         seq: 0,
         count: 2,
         chunk: 0,
     };
-    assert_same(rt, take(rt, &mut slots, 1, &mut drainer, 1), Ok(taken));
+    assert_taken(rt, &mut slots, 1, &mut drainer, 1, Ok(taken));
     assert_consumed(rt, &slots, &drainer, (0, 2));
-    assert_same(
-        rt,
-        take(rt, &mut slots, 1, &mut drainer, 1),
-        Err(TakeFault::Nothing),
-    );
-    assert_same(
-        rt,
-        take(rt, &mut slots, 0, &mut drainer, 1),
-        Err(TakeFault::Misplaced),
-    );
+    let nothing = Err(TakeFault::Nothing);
+    assert_taken(rt, &mut slots, 1, &mut drainer, 1, nothing);
+    let misplaced = Err(TakeFault::Misplaced);
+    assert_taken(rt, &mut slots, 0, &mut drainer, 1, misplaced);
     assert_consumed(rt, &slots, &drainer, (0, 2));
-    let misplaced = offer(rt, &mut slots, 0, &mut second, 1, 64);
-    assert_same(rt, misplaced, Err(OfferFault::Misplaced));
+    let misplaced = Err(OfferFault::Misplaced);
+    assert_offered(rt, &mut slots, 0, &mut second, 1, 64, misplaced);
     assert_numbers(rt, &second, (3, 0, 0, 0));
     assert_slots(rt, &mut slots);
 }
 
-/// Asserts what two slots show after three offers to the second and one take.
-fn assert_slots<N: Names>(rt: &impl Abort, slots: &mut Vec<Slot<N>>) {
-    assert!(rt; slots.len() == 2);
-    assert_same(rt, (slots[0].number(), slots[0].made()), (0, 1));
-    assert_same(rt, slots[0].split(1).is_err(), true);
-    assert_same(rt, slots[0].made(), 1);
-    assert_same(rt, slots[0].split(0).is_ok(), true);
-    assert_same(rt, slots[0].made(), 2);
-    let counts = slots[1].counts();
-    assert_same(
-        rt,
-        (counts.offered, counts.in_ring, counts.consumed),
-        (3, 1, 2),
-    );
-    let shown = slots[1].peek(moment(9)).expect(rt, "memory");
+/// Asserts whether a slot gives a seat of the stream of number `i`, and how many it made then.
+fn assert_split<N: Names>(rt: &impl Abort, slot: &mut Slot<N>, i: usize, wanted: (bool, u64)) {
+    let gave = slot.split(i).is_ok();
+    assert_same(rt, (gave, slot.made()), wanted);
+}
+
+/// Asserts what a slot counts and shows after three offers and one take.
+fn assert_shown<N: Names>(rt: &impl Abort, slot: &Slot<N>) {
+    let counts = slot.counts();
+    let found = (counts.offered, counts.in_ring, counts.consumed);
+    assert_same(rt, found, (3, 1, 2));
+    let shown = slot.peek(moment(9)).expect(rt, "memory");
     assert_same(rt, (shown.offered(), shown.packets().len()), (3, 1));
+}
+
+/// Asserts what two slots show after three offers to the second and one take.
+fn assert_slots<N: Names>(rt: &impl Abort, slots: &mut [Slot<N>]) {
+    let [first, second] = slots else {
+        panic!(rt; "two slots")
+    };
+    assert_same(rt, (first.number(), first.made()), (0, 1));
+    assert_split(rt, first, 1, (false, 1));
+    assert_split(rt, first, 0, (true, 2));
+    assert_shown(rt, second);
 }
 
 #[test]
@@ -239,18 +254,38 @@ fn a_take_raises_the_seat_of_its_stream(rt: HostRuntime) {
     takes::<Brand>(&rt, rt.alloc(), plan);
 }
 
+/// Asserts what starting at a moment answers.
+fn assert_started<N: Names>(
+    rt: &impl Abort,
+    desk: &mut Desk<N>,
+    at: u64,
+    want: Result<(), SessionFault>,
+) {
+    assert_same(rt, (at, desk.start(moment(at))), (at, want));
+}
+
+/// Asserts what stopping answers, and the state then.
+fn assert_stopped<N: Names>(
+    rt: &impl Abort,
+    desk: &mut Desk<N>,
+    wanted: (Result<(), SessionFault>, State),
+) {
+    let answer = desk.stop();
+    assert_same(rt, (answer, desk.book().state()), wanted);
+}
+
 /// A desk starts and stops as its book does.
 fn desks<N: Names>(rt: &impl Abort, plan: Plan)
     requires { plan ≡ N.plan }
 {
-    let (opened, _) = plan.build::<N>().expect(rt, "memory");
+    let (opened, _) = built::<N>(rt, plan);
     let (alloc, mut desk, _, _) = opened.into_parts();
-    assert_same(rt, desk.stop(), Err(SessionFault::NotActive));
-    assert_same(rt, desk.start(moment(3)), Ok(()));
-    assert_same(rt, desk.start(moment(4)), Err(SessionFault::AlreadyActive));
+    let not_active = Err(SessionFault::NotActive);
+    assert_stopped(rt, &mut desk, (not_active, State::New));
+    assert_started(rt, &mut desk, 3, Ok(()));
+    assert_started(rt, &mut desk, 4, Err(SessionFault::AlreadyActive));
     assert_same(rt, desk.book().state(), State::Active);
-    assert_same(rt, desk.stop(), Ok(()));
-    assert_same(rt, desk.book().state(), State::Inactive);
+    assert_stopped(rt, &mut desk, (Ok(()), State::Inactive));
     for _ in 0..3 {
         assert_same(rt, desk.begin_drainer(alloc).is_ok(), true);
     }
@@ -262,32 +297,23 @@ fn a_desk_starts_and_stops_its_session(rt: HostRuntime) {
     desks::<Brand>(&rt, plan_of(&rt, rt.alloc(), Mode::Discard, 1));
 }
 
+/// Modes of sessions, sizes of sub-buffers, numbers of threads, and why such a session is refused.
+const REFUSED: [(SessionMode, u64, u64, SessionFault); 3] = [
+    (SessionMode::Local, 255, 1, SessionFault::BadGeometry),
+    (SessionMode::Local, 256, 257, SessionFault::TooMany),
+    (
+        SessionMode::Snapshot,
+        256,
+        1,
+        SessionFault::DiscardInSnapshot,
+    ),
+];
+
 #[test]
 fn a_plan_is_refused_as_channels_and_threads_are(rt: HostRuntime) {
-    for (session, mode, size, threads, fault) in [
-        (
-            SessionMode::Local,
-            Mode::Discard,
-            255,
-            1,
-            SessionFault::BadGeometry,
-        ),
-        (
-            SessionMode::Local,
-            Mode::Discard,
-            256,
-            257,
-            SessionFault::TooMany,
-        ),
-        (
-            SessionMode::Snapshot,
-            Mode::Discard,
-            256,
-            1,
-            SessionFault::DiscardInSnapshot,
-        ),
-    ] {
-        let planned = plan_with(&rt, rt.alloc(), session, mode, size, threads);
-        assert_same(&rt, planned.err(), Some(fault));
+    for (session, size, threads, fault) in &REFUSED {
+        let discard = Mode::Discard;
+        let planned = plan_with(&rt, rt.alloc(), *session, discard, *size, *threads);
+        assert_same(&rt, (*size, planned.err()), (*size, Some(*fault)));
     }
 }

@@ -7,7 +7,7 @@ mod rotating;
 mod snapshots;
 mod threads;
 
-use crate::plans::{PAYLOAD, assert_same, plan_of};
+use crate::plans::{PAYLOAD, assert_same, last, plan_of, push};
 use std::alloc::Global;
 use std::marker::Brand;
 use std::process::Abort;
@@ -16,62 +16,108 @@ use std::test::*;
 use tr_session_book::SessionFault;
 use tr_shared::{
     Drainer, MOST_DRAINERS, Names, Plan, Producer, SettleError, SettleFault, Settled, Shared,
+    Totals,
 };
 use tr_stream::{OfferFault, Offered, TakeFault, Taken};
 use tr_terms::Mode;
 use tr_testing::moment;
 
-/// Offers a record of three bytes at a moment.
-fn offer<N: Names>(
-    rt: &impl Wait,
+/// The session that was planned, and its producers.
+fn built<N: Names>(rt: &impl Abort, plan: Plan) -> (Shared<N>, Vec<Producer<N>>)
+    requires { plan ≡ N.plan }
+{
+    Shared::<N>::build(plan).expect(rt, "memory")
+}
+
+/// A drainer of the session.
+fn drainer_of<N: Names>(rt: &(impl Abort + Wait), shared: &Shared<N>) -> Drainer<N> {
+    shared.drainer(rt).expect(rt, "a drainer")
+}
+
+/// Asserts what starting at a moment answers.
+fn assert_started<N: Names>(
+    rt: &(impl Abort + Wait),
+    shared: &Shared<N>,
+    at: u64,
+    want: Result<(), SessionFault>,
+) {
+    assert_same(rt, (at, shared.start(rt, moment(at))), (at, want));
+}
+
+/// Asserts what stopping answers.
+fn assert_stopped<N: Names>(
+    rt: &(impl Abort + Wait),
+    shared: &Shared<N>,
+    want: Result<(), SessionFault>,
+) {
+    assert_same(rt, shared.stop(rt), want);
+}
+
+/// Asserts what an offer of so many bytes at a moment answers.
+fn assert_offered<N: Names>(
+    rt: &(impl Abort + Wait),
     shared: &Shared<N>,
     producer: &mut Producer<N>,
     at: u64,
-) -> Result<Offered, OfferFault> {
-    shared.offer(rt, producer, moment(at), 1, &PAYLOAD[..3])
+    len: usize,
+    want: Result<Offered, OfferFault>,
+) {
+    let payload = PAYLOAD.get(..len).expect(rt, "a shorter payload");
+    let answer = shared.offer(rt, producer, moment(at), 1, payload);
+    assert_same(rt, (at, answer), (at, want));
 }
 
-/// Takes from the first stream.
-fn take<N: Names>(
+/// What is answered to a record that is stored with this serial, in the sub-buffer of this number.
+fn stored(serial: u64, seq: u64) -> Result<Offered, OfferFault> {
+    Ok(Offered::Stored { serial, seq })
+}
+
+/// Asserts what a take from a stream answers.
+fn assert_taken<N: Names>(
     rt: &(impl Abort + Wait),
     shared: &Shared<N>,
     drainer: &mut Drainer<N>,
-) -> Result<Taken, TakeFault> {
-    assert!(rt; 0 < shared.streams());
-    shared.take(rt, drainer, 0)
+    i: usize,
+    want: Result<Taken, TakeFault>,
+) {
+    assert!(rt; i < shared.streams());
+    assert_same(rt, (i, shared.take(rt, drainer, i)), (i, want));
+}
+
+/// What the session is settled with, and the totals of its streams.
+fn settled<N: Names>(
+    rt: &impl Abort,
+    shared: Shared<N>,
+    producers: Vec<Producer<N>>,
+    drainers: Vec<Drainer<N>>,
+) -> (Settled, Totals) {
+    match shared.settle(producers, drainers) {
+        Ok(settled) => settled,
+        Err(_) => panic!(rt; "not settled"),
+    }
 }
 
 /// Starts and stops, with what is refused before, between and after.
 fn starts<N: Names>(rt: &(impl Abort + Wait), plan: Plan)
     requires { plan ≡ N.plan }
 {
-    let (shared, mut producers) = Shared::<N>::build(plan).expect(rt, "memory");
+    let (shared, mut producers) = built::<N>(rt, plan);
     assert_same(rt, (shared.streams(), producers.len()), (2, 2));
-    let mut second = producers.pop().expect(rt, "a producer");
+    let mut second = last(rt, &mut producers);
     assert_same(rt, second.stream(), 1);
-    let mut drainer = shared.drainer(rt).expect(rt, "a drainer");
-    assert_same(
-        rt,
-        offer(rt, &shared, &mut second, 1),
-        Err(OfferFault::Inactive),
-    );
-    assert_same(rt, shared.stop(rt), Err(SessionFault::NotActive));
-    assert_same(rt, shared.start(rt, moment(1)), Ok(()));
-    assert_same(
-        rt,
-        shared.start(rt, moment(2)),
-        Err(SessionFault::AlreadyActive),
-    );
-    assert_same(rt, take(rt, &shared, &mut drainer), Err(TakeFault::Nothing));
-    assert_same(rt, offer(rt, &shared, &mut second, 3).is_ok(), true);
-    let long = shared.offer(rt, &mut second, moment(3), 1, &PAYLOAD);
-    assert_same(rt, long, Err(OfferFault::TooBig));
-    assert_same(rt, shared.stop(rt), Ok(()));
-    assert_same(
-        rt,
-        offer(rt, &shared, &mut second, 4),
-        Err(OfferFault::Inactive),
-    );
+    let mut drainer = drainer_of(rt, &shared);
+    let inactive = Err(OfferFault::Inactive);
+    assert_offered(rt, &shared, &mut second, 1, 3, inactive);
+    assert_stopped(rt, &shared, Err(SessionFault::NotActive));
+    assert_started(rt, &shared, 1, Ok(()));
+    assert_started(rt, &shared, 2, Err(SessionFault::AlreadyActive));
+    let nothing = Err(TakeFault::Nothing);
+    assert_taken(rt, &shared, &mut drainer, 0, nothing);
+    assert_offered(rt, &shared, &mut second, 3, 3, stored(0, 0));
+    let too_big = Err(OfferFault::TooBig);
+    assert_offered(rt, &shared, &mut second, 3, 153, too_big);
+    assert_stopped(rt, &shared, Ok(()));
+    assert_offered(rt, &shared, &mut second, 4, 3, inactive);
     assert_same(rt, second.offered(), 1);
 }
 
@@ -84,7 +130,7 @@ fn a_session_takes_offers_from_its_start_to_its_stop(rt: HostRuntime) {
 fn makes_drainers<N: Names>(rt: &(impl Abort + Wait), plan: Plan)
     requires { plan ≡ N.plan }
 {
-    let (shared, _) = Shared::<N>::build(plan).expect(rt, "memory");
+    let (shared, _) = built::<N>(rt, plan);
     let mut made = true;
     for _ in 0..MOST_DRAINERS {
         made &= shared.drainer(rt).is_ok();
@@ -105,20 +151,15 @@ fn unsettled<N: Names>(
     producers: Vec<Producer<N>>,
     drainers: Vec<Drainer<N>>,
     error: SettleError,
-) -> (Shared<N>, Vec<Producer<N>>, Vec<Drainer<N>>) {
+) -> SettleFault<N> {
     let counts = (producers.len(), drainers.len());
     match shared.settle(producers, drainers) {
         Ok(_) => panic!(rt; "it was settled"),
         Err(refused) => {
-            let SettleFault {
-                fault,
-                shared,
-                producers,
-                drainers,
-            } = refused;
-            assert_same(rt, fault, error);
-            assert_same(rt, (producers.len(), drainers.len()), counts);
-            (shared, producers, drainers)
+            assert_same(rt, refused.fault, error);
+            let back = (refused.producers.len(), refused.drainers.len());
+            assert_same(rt, back, counts);
+            refused
         }
     }
 }
@@ -128,47 +169,42 @@ fn unsettled<N: Names>(
 fn settles<N: Names>(rt: &(impl Abort + Wait), alloc: Global, plan: Plan)
     requires { plan ≡ N.plan }
 {
-    let (shared, mut producers) = Shared::<N>::build(plan).expect(rt, "memory");
-    let drainer = shared.drainer(rt).expect(rt, "a drainer");
-    assert_same(rt, shared.start(rt, moment(0)), Ok(()));
-    let second = producers.pop().expect(rt, "a producer");
-    let mut first = producers.pop().expect(rt, "a producer");
-    assert_same(rt, offer(rt, &shared, &mut first, 9), Ok(stored(0)));
-    assert_same(rt, offer(rt, &shared, &mut first, 5), Ok(stored(1)));
-    producers.push(second).expect(rt, "memory");
+    let (shared, mut producers) = built::<N>(rt, plan);
+    let drainer = drainer_of(rt, &shared);
+    assert_started(rt, &shared, 0, Ok(()));
+    let second = last(rt, &mut producers);
+    let mut first = last(rt, &mut producers);
+    assert_offered(rt, &shared, &mut first, 9, 3, stored(0, 0));
+    assert_offered(rt, &shared, &mut first, 5, 3, stored(1, 0));
+    push(rt, &mut producers, second);
     let none = Vec::new(alloc);
-    let (shared, mut producers, none) = unsettled(
+    let without = SettleError::ProducerMissing;
+    let SettleFault {
+        shared,
+        mut producers,
+        drainers,
+        ..
+    } = unsettled(rt, shared, producers, none, without);
+    assert_offered(
         rt,
+        &shared,
+        &mut first,
+        9_000_000_000_000_000_000,
+        3,
+        stored(2, 0),
+    );
+    push(rt, &mut producers, first);
+    let without = SettleError::DrainerMissing;
+    let SettleFault {
         shared,
         producers,
-        none,
-        SettleError::ProducerMissing,
-    );
-    assert_same(
-        rt,
-        offer(rt, &shared, &mut first, 9_000_000_000_000_000_000),
-        Ok(stored(2)),
-    );
-    producers.push(first).expect(rt, "memory");
-    let (shared, producers, mut drainers) = unsettled(
-        rt,
-        shared,
-        producers,
-        none,
-        SettleError::DrainerMissing,
-    );
-    drainers.push(drainer).expect(rt, "memory");
-    match shared.settle(producers, drainers) {
-        Ok((settled, totals)) => {
-            assert_same(rt, totals.offered, 3);
-            assert_records(rt, &settled);
-        }
-        Err(_) => panic!(rt; "not settled"),
-    }
-}
-
-fn stored(serial: u64) -> Offered {
-    Offered::Stored { serial, seq: 0 }
+        mut drainers,
+        ..
+    } = unsettled(rt, shared, producers, drainers, without);
+    push(rt, &mut drainers, drainer);
+    let (settled, totals) = settled(rt, shared, producers, drainers);
+    assert_same(rt, totals.offered, 3);
+    assert_records(rt, &settled);
 }
 
 /// Asserts what the first stream's ring has: each record as it was offered, and no moment less than the one before.

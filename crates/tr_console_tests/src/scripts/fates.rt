@@ -1,9 +1,6 @@
 //! What `fate` answers.
 
-use super::{
-    OPENED, OPENING, SIX_ANSWERS, SIX_OFFERS, assert_goes_on, assert_goes_on_overwriting,
-    assert_joined,
-};
+use super::{Case, OPENED, OPENING, OVERWRITING, OVERWRITTEN, SIX_ANSWERS, SIX_OFFERS, assert_all};
 
 /// A discarded record, one in the ring, two that were taken, and none.
 const FATES: &str = "fate s 0 4
@@ -21,13 +18,6 @@ in chunk 0 0
 not offered
 not offered
 ";
-
-#[test]
-fn tells_fates_of_discarded_and_consumed_records(rt: HostRuntime) {
-    let scripts = [OPENING, SIX_OFFERS, FATES];
-    let answers = [OPENED, SIX_ANSWERS, FATES_ANSWERS];
-    assert_joined(&rt, rt.alloc(), &scripts, &answers, 0);
-}
 
 /// Records that were overwritten, before a take and after it.
 const OVERWRITES: &str = "fate s 0 1
@@ -58,12 +48,6 @@ in ring 3
 in ring 4
 ";
 
-#[test]
-fn tells_fates_of_overwritten_records(rt: HostRuntime) {
-    let answers = OVERWRITES_ANSWERS;
-    assert_goes_on_overwriting(&rt, rt.alloc(), OVERWRITES, answers, 0);
-}
-
 /// Questions about fates in no session or no stream, and bad ones.
 const NO_STREAMS: &str = "fate t 0 0
 fate t 1 0
@@ -85,7 +69,28 @@ bad line
 bad line
 ";
 
+const CASES: [Case; 3] = [
+    (
+        "discarded and consumed records",
+        &[OPENING, SIX_OFFERS, FATES],
+        &[OPENED, SIX_ANSWERS, FATES_ANSWERS],
+        0,
+    ),
+    (
+        "overwritten records",
+        &[OVERWRITING, OVERWRITES],
+        &[OVERWRITTEN, OVERWRITES_ANSWERS],
+        0,
+    ),
+    (
+        "no session and no stream",
+        &[OPENING, NO_STREAMS],
+        &[OPENED, NO_STREAMS_ANSWERS],
+        7,
+    ),
+];
+
 #[test]
-fn refuses_fates_of_no_stream(rt: HostRuntime) {
-    assert_goes_on(&rt, rt.alloc(), NO_STREAMS, NO_STREAMS_ANSWERS, 7);
+fn tells_fates_of_records(rt: HostRuntime) {
+    assert_all(&rt, rt.alloc(), &CASES);
 }

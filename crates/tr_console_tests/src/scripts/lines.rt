@@ -1,11 +1,6 @@
 //! Lines one by one: what is answered, refused, bad and skipped.
 
-use super::{SIX_ANSWERS, SIX_OFFERS, assert_answered, assert_goes_on};
-
-#[test]
-fn answers_a_script_however_it_is_cut(rt: HostRuntime) {
-    assert_goes_on(&rt, rt.alloc(), SIX_OFFERS, SIX_ANSWERS, 0);
-}
+use super::{Case, OPENED, OPENING, SIX_ANSWERS, SIX_OFFERS, assert_all, assert_answered};
 
 /// A record that fills a sub-buffer, one that fits none, and an empty one.
 const SIZES: &str = "offer s 0 1 7 --fill 152
@@ -17,11 +12,6 @@ const SIZES_ANSWERS: &str = "stored 0 in 0
 refused O2 TooBig
 stored 1 in 1
 ";
-
-#[test]
-fn refuses_what_fits_no_sub_buffer(rt: HostRuntime) {
-    assert_goes_on(&rt, rt.alloc(), SIZES, SIZES_ANSWERS, 1);
-}
 
 /// Moments that go back, and the last one.
 const MOMENTS: &str = "offer s 0 9 1
@@ -36,28 +26,47 @@ bad line
 stored 2 in 0
 ";
 
-#[test]
-fn takes_moments_up_to_the_last(rt: HostRuntime) {
-    assert_goes_on(&rt, rt.alloc(), MOMENTS, MOMENTS_ANSWERS, 1);
-}
+const CASES: [Case; 6] = [
+    (
+        "offers, a take and a status",
+        &[OPENING, SIX_OFFERS],
+        &[OPENED, SIX_ANSWERS],
+        0,
+    ),
+    (
+        "what fits no sub-buffer",
+        &[OPENING, SIZES],
+        &[OPENED, SIZES_ANSWERS],
+        1,
+    ),
+    (
+        "moments up to the last",
+        &[OPENING, MOMENTS],
+        &[OPENED, MOMENTS_ANSWERS],
+        1,
+    ),
+    (
+        "a refused last line",
+        &["offer nobody 0 1 1"],
+        &["refused K1 NoSession\n"],
+        1,
+    ),
+    ("no line", &[], &[], 0),
+    ("a comment and an empty line", &["# x\n\n"], &[], 0),
+];
 
 #[test]
-fn counts_a_refused_last_line(rt: HostRuntime) {
-    let last = b"offer nobody 0 1 1";
-    assert_answered(&rt, rt.alloc(), last, b"refused K1 NoSession\n", 1);
+fn answers_a_script_however_it_is_cut(rt: HostRuntime) {
+    assert_all(&rt, rt.alloc(), &CASES);
 }
 
-#[test]
-fn skips_empty_lines_and_short_comments(rt: HostRuntime) {
-    assert_answered(&rt, rt.alloc(), b"", b"", 0);
-    assert_answered(&rt, rt.alloc(), b"# x\n\n", b"", 0);
-    assert_answered(&rt, rt.alloc(), b"# \x80\n#\n", b"bad line\n", 1);
-}
-
+// a comment has at most 4,096 bytes, and is text
 #[test]
 fn skips_comments_up_to_the_longest_line(rt: HostRuntime) {
+    let bad = (b"bad line\n".as_slice(), 1);
+    assert_answered(&rt, rt.alloc(), "no text", b"# \x80\n#\n", bad);
     let mut comment = vec![in rt.alloc(); b'#'; 4096].expect(&rt, "memory");
-    assert_answered(&rt, rt.alloc(), comment.as_slice(), b"", 0);
+    assert_answered(&rt, rt.alloc(), "4,096 bytes", &comment, (b"", 0));
     comment.push(b'#').expect(&rt, "memory");
-    assert_answered(&rt, rt.alloc(), comment.as_slice(), b"bad line\n", 1);
+    assert_answered(&rt, rt.alloc(), "4,097 bytes", &comment, bad);
 }

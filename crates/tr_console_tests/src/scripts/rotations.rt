@@ -1,6 +1,6 @@
 //! Rotations: what they archive, and what is refused while one is pending or a session stopped.
 
-use super::{assert_goes_on, assert_goes_on_overwriting, assert_joined};
+use super::{Case, OPENED, OPENING, OVERWRITING, OVERWRITTEN, assert_all};
 
 /// Six offers, one of them discarded, a take, a rotation, and where the records are.
 const DISCARDS: &str = "offer s 0 1 7 --fill 50
@@ -31,11 +31,6 @@ in chunk 0 1
 not offered
 ";
 
-#[test]
-fn archives_what_was_taken_and_cut(rt: HostRuntime) {
-    assert_goes_on(&rt, rt.alloc(), DISCARDS, DISCARDS_ANSWERS, 0);
-}
-
 /// A take and four offers to an overwriting ring, and a rotation.
 const OVERWRITES: &str = "consume s 0
 offer s 0 7 7 --fill 64
@@ -55,12 +50,6 @@ archived 0 19700101T000000+0000-19700101T000000+0000-0
 0 19700101T000000+0000-19700101T000000+0000-0 packets 3 bytes 768
 ";
 
-#[test]
-fn archives_no_packet_that_gave_way(rt: HostRuntime) {
-    let answers = OVERWRITES_ANSWERS;
-    assert_goes_on_overwriting(&rt, rt.alloc(), OVERWRITES, answers, 0);
-}
-
 /// A rotation before any offer.
 const EMPTY: &str = "rotate s 0
 archives s
@@ -71,11 +60,6 @@ const EMPTY_ANSWERS: &str = "archived 0 19700101T000000+0000-19700101T000000+000
 0 19700101T000000+0000-19700101T000000+0000-0 packets 0 bytes 0
 stored 0 in 0
 ";
-
-#[test]
-fn archives_a_chunk_without_packets(rt: HostRuntime) {
-    assert_goes_on(&rt, rt.alloc(), EMPTY, EMPTY_ANSWERS, 0);
-}
 
 /// A session with two streams, started.
 const TWO_STREAMS: &str = "create s 00000000-0000-0000-0000-000000000001
@@ -138,13 +122,6 @@ in ring 2
 in chunk 0 1
 ";
 
-#[test]
-fn cuts_streams_one_after_another(rt: HostRuntime) {
-    let scripts = [TWO_STREAMS, STEPS, LAST_STEPS];
-    let answers = [TWO_STREAMS_ANSWERS, STEPS_ANSWERS, LAST_STEPS_ANSWERS];
-    assert_joined(&rt, rt.alloc(), &scripts, &answers, 1);
-}
-
 /// What is refused while a rotation is pending, and when none is.
 const PENDING: &str = "rotate-begin s 10
 rotate-begin s 11
@@ -161,11 +138,6 @@ cut 0 records 0
 archived 0 19700101T000000+0000-19700101T000000+0000-0
 refused S13 NotPending
 ";
-
-#[test]
-fn refuses_rotations_and_stops_while_one_is_pending(rt: HostRuntime) {
-    assert_goes_on(&rt, rt.alloc(), PENDING, PENDING_ANSWERS, 3);
-}
 
 /// A stop, a rotation, another one, and a second start.
 const STOPPED: &str = "stop s
@@ -184,7 +156,46 @@ started
 archived 1 19700101T000000+0000-19700101T000000+0000-1
 ";
 
+const CASES: [Case; 6] = [
+    (
+        "what was taken and cut",
+        &[OPENING, DISCARDS],
+        &[OPENED, DISCARDS_ANSWERS],
+        0,
+    ),
+    (
+        "no packet that gave way",
+        &[OVERWRITING, OVERWRITES],
+        &[OVERWRITTEN, OVERWRITES_ANSWERS],
+        0,
+    ),
+    (
+        "a chunk without packets",
+        &[OPENING, EMPTY],
+        &[OPENED, EMPTY_ANSWERS],
+        0,
+    ),
+    (
+        "streams one after another",
+        &[TWO_STREAMS, STEPS, LAST_STEPS],
+        &[TWO_STREAMS_ANSWERS, STEPS_ANSWERS, LAST_STEPS_ANSWERS],
+        1,
+    ),
+    (
+        "a pending rotation",
+        &[OPENING, PENDING],
+        &[OPENED, PENDING_ANSWERS],
+        3,
+    ),
+    (
+        "a stopped session",
+        &[OPENING, STOPPED],
+        &[OPENED, STOPPED_ANSWERS],
+        2,
+    ),
+];
+
 #[test]
-fn rotates_a_stopped_session_once(rt: HostRuntime) {
-    assert_goes_on(&rt, rt.alloc(), STOPPED, STOPPED_ANSWERS, 2);
+fn rotates_sessions(rt: HostRuntime) {
+    assert_all(&rt, rt.alloc(), &CASES);
 }

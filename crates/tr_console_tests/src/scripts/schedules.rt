@@ -1,6 +1,6 @@
 //! Schedules and ticks.
 
-use super::{assert_goes_on, assert_goes_on_shown};
+use super::{Case, OPENED, OPENING, SHOWN, SHOWN_ANSWERS, assert_all};
 
 /// A rotation that is due by the period, and one that is due by the bytes consumed.
 const DUE: &str = "schedule s --every 100 --size 200
@@ -23,11 +23,6 @@ taken 0 records 2 chunk 1
 rotated size 1 19700101T000000+0000-19700101T000000+0000-1
 ";
 
-#[test]
-fn rotates_where_that_is_due(rt: HostRuntime) {
-    assert_goes_on(&rt, rt.alloc(), DUE, DUE_ANSWERS, 0);
-}
-
 /// Schedules that don't exist, and none.
 const NONE: &str = "schedule s --every 0 --size 0
 schedule s --size 0
@@ -45,23 +40,34 @@ schedule off
 idle
 ";
 
-#[test]
-fn refuses_schedules_of_nothing(rt: HostRuntime) {
-    assert_goes_on(&rt, rt.alloc(), NONE, NONE_ANSWERS, 4);
-}
-
 /// The session's refusal comes first, and its ticks do nothing.
-const SHOWN: &str = "schedule z --every 0
+const UNSCHEDULED: &str = "schedule z --every 0
 schedule z
 tick z 1000
 ";
 
-const SHOWN_ANSWERS: &str = "refused S1 SnapshotMode
+const UNSCHEDULED_ANSWERS: &str = "refused S1 SnapshotMode
 refused S1 SnapshotMode
 idle
 ";
 
+const CASES: [Case; 3] = [
+    ("what is due", &[OPENING, DUE], &[OPENED, DUE_ANSWERS], 0),
+    (
+        "schedules of nothing",
+        &[OPENING, NONE],
+        &[OPENED, NONE_ANSWERS],
+        4,
+    ),
+    (
+        "a snapshot session",
+        &[SHOWN, UNSCHEDULED],
+        &[SHOWN_ANSWERS, UNSCHEDULED_ANSWERS],
+        2,
+    ),
+];
+
 #[test]
-fn snapshot_sessions_have_no_schedule(rt: HostRuntime) {
-    assert_goes_on_shown(&rt, rt.alloc(), SHOWN, SHOWN_ANSWERS, 2);
+fn rotates_by_schedules(rt: HostRuntime) {
+    assert_all(&rt, rt.alloc(), &CASES);
 }

@@ -1,6 +1,6 @@
 //! Sessions: their clocks, their status, what is refused before a start, and their order.
 
-use super::{assert_answered, assert_goes_on, assert_same};
+use super::{Case, OPENED, OPENING, assert_all, assert_same};
 use std::process::Abort;
 use tr_console::{Console, run_script};
 use tr_record::{MemorySink, MemorySource};
@@ -15,12 +15,6 @@ const WEST_ANSWERS: &str = "created s
 started
 archived 0 20231114T171320-0500-20231114T171420-0500-0
 ";
-
-#[test]
-fn names_archives_by_the_clock_of_the_session(rt: HostRuntime) {
-    let script = WEST.as_bytes();
-    assert_answered(&rt, rt.alloc(), script, WEST_ANSWERS.as_bytes(), 0);
-}
 
 /// Rotations of a session without streams.
 const BARE: &str = "create s 00000000-0000-0000-0000-000000000001
@@ -41,12 +35,6 @@ archived 1 19700101T000000+0000-19700101T000000+0000-1
 0 19700101T000000+0000-19700101T000000+0000-0 packets 0 bytes 0
 1 19700101T000000+0000-19700101T000000+0000-1 packets 0 bytes 0
 ";
-
-#[test]
-fn rotates_a_session_without_streams(rt: HostRuntime) {
-    let script = BARE.as_bytes();
-    assert_answered(&rt, rt.alloc(), script, BARE_ANSWERS.as_bytes(), 0);
-}
 
 /// The status of an active session, of one that is rotated, and of one that is stopped.
 const STATES: &str = "status s
@@ -73,11 +61,6 @@ stream     offered   discarded overwritten     in-ring   in-chunks
      0           0           0           0           0           0
 ";
 
-#[test]
-fn tells_the_state_and_the_pending_rotation(rt: HostRuntime) {
-    assert_goes_on(&rt, rt.alloc(), STATES, STATES_ANSWERS, 0);
-}
-
 /// What a session that was never started refuses, and what it has.
 const NEW: &str = "create s 00000000-0000-0000-0000-000000000001
 archives s
@@ -100,12 +83,6 @@ session s local new channels 0 streams 0 archives 0
 stream     offered   discarded overwritten     in-ring   in-chunks
 ";
 
-#[test]
-fn refuses_rotations_and_stops_before_a_start(rt: HostRuntime) {
-    let script = NEW.as_bytes();
-    assert_answered(&rt, rt.alloc(), script, NEW_ANSWERS.as_bytes(), 5);
-}
-
 /// Calls of a session that doesn't exist.
 const NOBODY: &str = "archives nobody
 stop nobody
@@ -125,10 +102,22 @@ refused K1 NoSession
 refused K1 NoSession
 ";
 
+const CASES: [Case; 5] = [
+    ("the clock of a session", &[WEST], &[WEST_ANSWERS], 0),
+    ("a session without streams", &[BARE], &[BARE_ANSWERS], 0),
+    (
+        "the state and the pending rotation",
+        &[OPENING, STATES],
+        &[OPENED, STATES_ANSWERS],
+        0,
+    ),
+    ("before a start", &[NEW], &[NEW_ANSWERS], 5),
+    ("no session", &[NOBODY], &[NOBODY_ANSWERS], 7),
+];
+
 #[test]
-fn refuses_calls_of_no_session(rt: HostRuntime) {
-    let script = NOBODY.as_bytes();
-    assert_answered(&rt, rt.alloc(), script, NOBODY_ANSWERS.as_bytes(), 7);
+fn tells_and_refuses_by_the_state_of_a_session(rt: HostRuntime) {
+    assert_all(&rt, rt.alloc(), &CASES);
 }
 
 /// Two sessions; the second one has a stream.

@@ -1,6 +1,6 @@
 //! Snapshots: what they show, and what snapshot sessions refuse.
 
-use super::{assert_answered, assert_goes_on, assert_goes_on_shown, assert_same, run};
+use super::{Case, OPENED, OPENING, SHOWN, SHOWN_ANSWERS, assert_all, assert_same, run};
 use linked_list_allocator::LocalHeap;
 use tr_console::ScriptFault;
 use tr_record::{MemorySink, MemorySource};
@@ -20,11 +20,6 @@ refused T2 SnapshotMode
 refused S1 SnapshotMode
 ";
 
-#[test]
-fn refuses_discards_takes_and_rotations(rt: HostRuntime) {
-    assert_goes_on_shown(&rt, rt.alloc(), REFUSED, REFUSED_ANSWERS, 4);
-}
-
 /// Snapshots of a local session, of none, and at bad moments.
 const LOCAL: &str = "snapshot s 6
 snapshot t 6
@@ -37,11 +32,6 @@ refused K1 NoSession
 bad line
 bad line
 ";
-
-#[test]
-fn refuses_snapshots_of_local_sessions(rt: HostRuntime) {
-    assert_goes_on(&rt, rt.alloc(), LOCAL, LOCAL_ANSWERS, 4);
-}
 
 /// Six offers, two of them overwritten, and two snapshots.
 const SIX: &str = "start z 0
@@ -71,11 +61,6 @@ stream 0 offered 6 packets 2 records 4
 packet 1 records 2 first 2 last 3
 packet 2 records 2 first 4 last 5
 ";
-
-#[test]
-fn shows_the_same_twice(rt: HostRuntime) {
-    assert_goes_on_shown(&rt, rt.alloc(), SIX, SIX_ANSWERS, 0);
-}
 
 /// An offer after six others and a snapshot, and a snapshot at a moment before its own.
 const SEVENTH: &str = "start z 0
@@ -113,11 +98,6 @@ packet 2 records 2 first 4 last 5
 packet 3 records 1 first 6 last 6
 ";
 
-#[test]
-fn shows_what_was_offered_since(rt: HostRuntime) {
-    assert_goes_on_shown(&rt, rt.alloc(), SEVENTH, SEVENTH_ANSWERS, 0);
-}
-
 /// A stream without offers, and its status.
 const EMPTY: &str = "start z 0
 snapshot z 5
@@ -132,21 +112,54 @@ stream     offered   discarded overwritten     in-ring   in-chunks
      0           0           0           0           0           0
 ";
 
-#[test]
-fn shows_a_stream_without_offers(rt: HostRuntime) {
-    assert_goes_on_shown(&rt, rt.alloc(), EMPTY, EMPTY_ANSWERS, 0);
-}
-
 /// A snapshot of a session without streams.
 const BARE: &str = "create z 00000000-0000-0000-0000-000000000001 --snapshot
 start z 0
 snapshot z 5
 ";
 
+const BARE_ANSWERS: &str = "created z
+started
+snapshot 5
+";
+
+const CASES: [Case; 6] = [
+    (
+        "discards, takes and rotations",
+        &[SHOWN, REFUSED],
+        &[SHOWN_ANSWERS, REFUSED_ANSWERS],
+        4,
+    ),
+    (
+        "local sessions",
+        &[OPENING, LOCAL],
+        &[OPENED, LOCAL_ANSWERS],
+        4,
+    ),
+    (
+        "the same twice",
+        &[SHOWN, SIX],
+        &[SHOWN_ANSWERS, SIX_ANSWERS],
+        0,
+    ),
+    (
+        "what was offered since",
+        &[SHOWN, SEVENTH],
+        &[SHOWN_ANSWERS, SEVENTH_ANSWERS],
+        0,
+    ),
+    (
+        "a stream without offers",
+        &[SHOWN, EMPTY],
+        &[SHOWN_ANSWERS, EMPTY_ANSWERS],
+        0,
+    ),
+    ("no stream", &[BARE], &[BARE_ANSWERS], 0),
+];
+
 #[test]
-fn shows_no_stream(rt: HostRuntime) {
-    let text = b"created z\nstarted\nsnapshot 5\n";
-    assert_answered(&rt, rt.alloc(), BARE.as_bytes(), text, 0);
+fn shows_what_rings_hold(rt: HostRuntime) {
+    assert_all(&rt, rt.alloc(), &CASES);
 }
 
 /// Records that fill a ring of four sub-buffers, and a snapshot.

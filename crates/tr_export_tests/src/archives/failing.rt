@@ -3,7 +3,7 @@
 ghost use Rattle.std.specs.Prelude.{◌≡◌, OnOk, OnErr, option_map};
 ghost use Rattle.tr_record.specs.Bytes.{once_more};
 
-use super::{assert_same, assert_written, rotated};
+use super::{assert_same, rotated, write};
 use std::alloc::Global;
 use std::mem;
 use std::process::Abort;
@@ -112,30 +112,38 @@ fn assert_told(
     } else {
         Ok(())
     };
-    assert_written(rt, alloc, &mut disk, "d", session, wanted);
+    let answer = write(rt, alloc, &mut disk, "d", session);
     assert_same(
         rt,
-        (calls, first, later, disk.failures),
-        (calls, first, later, Some(u64::from(fails))),
+        (calls, first, later, answer, disk.failures),
+        (calls, first, later, wanted, Some(u64::from(fails))),
     );
 }
 
-// five calls: a folder, and the begin and the end of two files
-#[test]
-fn each_failed_call_is_told(rt: HostRuntime) {
-    let session = rotated(&rt, rt.alloc());
-    for calls in 0..7 {
-        assert_told(&rt, rt.alloc(), &session, (calls, 4096, 4096), calls < 5);
-    }
-}
+/// After how many calls the disk fails, how many bytes its first file has room for and each later one, and whether that is
+/// told. There are five calls: a folder, and the begin and the end of two files. The metadata has 1,082 bytes, the stream's
+/// file 484.
+const FAILURES: [(usize, usize, usize, bool); 13] = [
+    (0, 4096, 4096, true),
+    (1, 4096, 4096, true),
+    (2, 4096, 4096, true),
+    (3, 4096, 4096, true),
+    (4, 4096, 4096, true),
+    (5, 4096, 4096, false),
+    (6, 4096, 4096, false),
+    // files that are cut short
+    (9, 0, 4096, true),
+    (9, 1081, 4096, true),
+    (9, 4096, 0, true),
+    (9, 4096, 228, true),
+    (9, 4096, 483, true),
+    (9, 1082, 484, false),
+];
 
-// the metadata has 1,082 bytes, the stream's file 484
 #[test]
-fn a_file_that_is_cut_short_is_told(rt: HostRuntime) {
+fn each_failed_call_and_each_file_cut_short_is_told(rt: HostRuntime) {
     let session = rotated(&rt, rt.alloc());
-    let short = [(0, 4096), (1081, 4096), (4096, 0), (4096, 228), (4096, 483)];
-    for (first, later) in short {
-        assert_told(&rt, rt.alloc(), &session, (9, first, later), true);
+    for (calls, first, later, fails) in FAILURES {
+        assert_told(&rt, rt.alloc(), &session, (calls, first, later), fails);
     }
-    assert_told(&rt, rt.alloc(), &session, (9, 1082, 484), false);
 }

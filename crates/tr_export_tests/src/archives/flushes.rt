@@ -1,6 +1,6 @@
 //! A runtime's file system that sees what is flushed.
 
-use super::{assert_same, assert_written, rotated};
+use super::{assert_same, rotated, write};
 use std::alloc::{Allocator, Global};
 use std::cell::Cell;
 use std::fs::{Metadata, OpenFile, OpenOptions};
@@ -169,19 +169,18 @@ fn assert_seen(
     let seen = Rc::new(alloc, Seen::new(room)).expect(rt, "memory");
     let host = SeenFiles { seen };
     let mut disk = SystemDisk::new(HostFiles::new(&host));
-    assert_written(rt, alloc, &mut disk, "d", &rotated(rt, alloc), answer);
-    assert_same(rt, disk.failures(), Some(failures));
-    assert_same(rt, host.seen.counts(), counts);
+    let found = write(rt, alloc, &mut disk, "d", &rotated(rt, alloc));
+    assert_same(
+        rt,
+        (room, found, disk.failures(), host.seen.counts()),
+        (room, answer, Some(failures), counts),
+    );
 }
 
 // the metadata and the stream's file
 #[test]
-fn each_file_is_flushed_once(rt: HostRuntime) {
+fn each_file_is_flushed_once_and_a_last_flush_that_fails_is_told(rt: HostRuntime) {
     assert_seen(&rt, rt.alloc(), 9, (Ok(()), 0), (2, 2, 0));
-}
-
-#[test]
-fn a_last_flush_that_fails_is_told(rt: HostRuntime) {
     let told = (Err(ExportFault::Write), 1);
     assert_seen(&rt, rt.alloc(), 1, told, (2, 1, 0));
 }

@@ -1,6 +1,8 @@
 //! A disk that is full when a file is to be flushed.
 
-use super::{FOLDER, Kind, METADATA, STREAM, assert_made, assert_same, assert_written, rotated};
+use super::{
+    FOLDER, Item, METADATA, ONE_ARCHIVE, STREAM, assert_made, assert_same, rotated, write,
+};
 use std::alloc::Global;
 use std::process::Abort;
 use tr_export::{CountingFile, Disk, ExportFault, FileSystem, MemoryDisk, SystemDisk};
@@ -46,46 +48,37 @@ fn assert_left(
     room: usize,
     answer: Result<(), ExportFault>,
     counts: (u64, u64),
-    made: &[(Kind, &str)],
+    made: &[Item<'_>],
 ) {
     let mut disk = SystemDisk::new(FullFiles {
         disk: MemoryDisk::new(alloc, 4096),
         room,
         ends: 0,
     });
-    assert_written(rt, alloc, &mut disk, "d", &rotated(rt, alloc), answer);
+    let found = write(rt, alloc, &mut disk, "d", &rotated(rt, alloc));
     let (failures, ends) = counts;
     assert_same(
         rt,
-        (disk.failures(), disk.files().ends),
-        (Some(failures), ends),
+        (room, found, disk.failures(), disk.files().ends),
+        (room, answer, Some(failures), ends),
     );
     assert_made(rt, &disk.files().disk, made);
 }
 
-#[test]
-fn each_file_is_ended_once(rt: HostRuntime) {
-    let made = [
-        (Kind::Folder, FOLDER),
-        (Kind::File(1082), METADATA),
-        (Kind::File(484), STREAM),
-    ];
-    assert_left(&rt, rt.alloc(), 2, Ok(()), (0, 2), &made);
-}
+/// What is made if the stream's file, the last one, can't be flushed, and if the metadata can't.
+const WITHOUT_STREAM: [Item<'static>; 3] = [
+    ("folder", 0, FOLDER),
+    ("file", 1082, METADATA),
+    ("broken", 0, STREAM),
+];
 
-// the stream's file is the last one
-#[test]
-fn a_disk_that_is_full_at_the_last_flush_is_told(rt: HostRuntime) {
-    let made = [
-        (Kind::Folder, FOLDER),
-        (Kind::File(1082), METADATA),
-        (Kind::Broken, STREAM),
-    ];
-    assert_left(&rt, rt.alloc(), 1, Err(ExportFault::Write), (1, 2), &made);
-}
+const WITHOUT_METADATA: [Item<'static>; 2] = [("folder", 0, FOLDER), ("broken", 0, METADATA)];
 
 #[test]
-fn nothing_follows_a_broken_file(rt: HostRuntime) {
-    let made = [(Kind::Folder, FOLDER), (Kind::Broken, METADATA)];
-    assert_left(&rt, rt.alloc(), 0, Err(ExportFault::Write), (1, 1), &made);
+fn each_file_is_ended_once_and_nothing_follows_a_broken_file(rt: HostRuntime) {
+    let alloc = rt.alloc();
+    assert_left(&rt, alloc, 2, Ok(()), (0, 2), &ONE_ARCHIVE);
+    let full = Err(ExportFault::Write);
+    assert_left(&rt, alloc, 1, full, (1, 2), &WITHOUT_STREAM);
+    assert_left(&rt, alloc, 0, full, (1, 1), &WITHOUT_METADATA);
 }

@@ -1,6 +1,6 @@
 //! Archives in the file system.
 
-use super::{assert_same, assert_written, rotated, session_of, uuid};
+use super::{assert_same, assert_written, rotated, session_of, uuid, write};
 use std::alloc::Global;
 use std::os::unix::fs::symlink;
 use std::process::Abort;
@@ -11,12 +11,9 @@ use tr_packet::metadata_text;
 /// A path of this test's own in the folder for temporary files, where nothing is.
 fn free_path(rt: &impl Abort, host: &HostRuntime, test: &str) -> String {
     let id = process::id(host.process());
-    let name = format!(in host.alloc(); "tr_export_{test}_{id}").expect(rt, "memory");
     let folder = env::temp_dir(host).expect(rt, "a folder");
-    let path = folder
-        .join(host.alloc(), name.as_str())
-        .expect(rt, "memory");
-    let path = String::from_str(host.alloc(), path.as_path().as_str()).expect(rt, "memory");
+    let folder = folder.as_path().as_str();
+    let path = format!(in host.alloc(); "{folder}/tr_export_{test}_{id}").expect(rt, "memory");
     if exists(rt, host, path.as_str()) {
         remove(rt, host, path.as_str());
     }
@@ -68,11 +65,11 @@ fn files_are_written_and_replaced(rt: HostRuntime) {
     let dir = free_path(&rt, &rt, "files");
     let session = rotated(&rt, rt.alloc());
     let mut disk = SystemDisk::new(HostFiles::new(&rt));
-    assert_written(&rt, rt.alloc(), &mut disk, dir.as_str(), &session, Ok(()));
+    assert_written(&rt, rt.alloc(), &mut disk, dir.as_str(), &session);
     assert_files(&rt, &rt, dir.as_str());
     let path = path_in(&rt, rt.alloc(), dir.as_str(), "c_0");
     write_file(&rt, &rt, path.as_str(), &[0x62; 600]);
-    assert_written(&rt, rt.alloc(), &mut disk, dir.as_str(), &session, Ok(()));
+    assert_written(&rt, rt.alloc(), &mut disk, dir.as_str(), &session);
     assert_files(&rt, &rt, dir.as_str());
     remove(&rt, &rt, dir.as_str());
 }
@@ -82,7 +79,7 @@ fn without_an_archive_there_is_no_folder(rt: HostRuntime) {
     let dir = free_path(&rt, &rt, "nothing");
     let session = session_of(&rt, rt.alloc());
     let mut disk = SystemDisk::new(HostFiles::new(&rt));
-    assert_written(&rt, rt.alloc(), &mut disk, dir.as_str(), &session, Ok(()));
+    assert_written(&rt, rt.alloc(), &mut disk, dir.as_str(), &session);
     assert_same(&rt, exists(&rt, &rt, dir.as_str()), false);
 }
 
@@ -90,9 +87,12 @@ fn without_an_archive_there_is_no_folder(rt: HostRuntime) {
 fn assert_told(rt: &impl Abort, host: &HostRuntime, dir: &str) {
     let session = rotated(rt, host.alloc());
     let mut disk = SystemDisk::new(HostFiles::new(host));
-    let wanted = Err(ExportFault::Write);
-    assert_written(rt, host.alloc(), &mut disk, dir, &session, wanted);
-    assert_same(rt, disk.failures(), Some(1));
+    let answer = write(rt, host.alloc(), &mut disk, dir, &session);
+    assert_same(
+        rt,
+        (answer, disk.failures()),
+        (Err(ExportFault::Write), Some(1)),
+    );
     remove(rt, host, dir);
 }
 

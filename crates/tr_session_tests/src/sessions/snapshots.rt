@@ -1,32 +1,34 @@
 //! Snapshots of a session, and what a snapshot session refuses.
 
-use super::{
-    assert_last, assert_same, assert_taken, make_offers, new_session, start, with_streams,
+use super::Step::{
+    self, Begin, Channel, Last, NoShow, Offers, Rotate, Schedule, Show, Start, Stop, Take, Threads,
 };
+use super::{Place, after, assert_at, assert_same, assert_steps, new_session};
 use linked_list_allocator::LocalHeap;
-use std::alloc::{AllocError, Allocator, Global};
+use std::alloc::{Allocator, Global};
 use std::process::Abort;
 use tr_book::StreamSnap;
 use tr_record::MemorySink;
-use tr_schedule::Schedule;
 use tr_session::{Session, StepFault};
-use tr_session_book::SessionFault;
+use tr_session_book::SessionFault::{
+    BadGeometry, DiscardInSnapshot, NameTaken, NeverStarted, NoMemory, NoStream, NotSnapshotMode,
+    SnapshotMode,
+};
 use tr_snapshot::{Snapshot, oldest_serial, records_shown, write_snap};
 use tr_stream::TakeFault;
-use tr_terms::{Mode, Name, SessionMode};
+use tr_terms::{Mode, SessionMode};
 use tr_testing::{fill, moment};
 
-/// A snapshot session of one stream with two sub-buffers of 256 bytes, which isn't started.
-fn unstarted<A: Allocator + Copy>(rt: &impl Abort, alloc: A) -> Session<A> {
-    with_streams(rt, alloc, SessionMode::Snapshot, Mode::Overwrite, 1)
-}
-
-/// The same, started at moment 0, with offers of 64 bytes at 1 to 6: two of them fill a sub-buffer.
-fn filled<A: Allocator + Copy>(rt: &impl Abort, alloc: A) -> Session<A> {
-    let mut session = unstarted(rt, alloc);
-    start(rt, &mut session, 0);
-    make_offers(rt, &mut session, 1..7, 64);
-    session
+/// What a snapshot shows of its only stream.
+#[derive(Clone, Copy)]
+pub(super) struct Shown {
+    moment: u64,
+    offered: u64,
+    discarded: u64,
+    oldest: Option<u64>,
+    count: u64,
+    /// Each record, as the number of its packet and its serial.
+    records: &'static [(u64, u64)],
 }
 
 /// What is shown of the only stream.
@@ -38,73 +40,132 @@ fn only<'a, A: Allocator>(rt: &impl Abort, snapshot: &'a Snapshot<A>) -> &'a Str
     snap
 }
 
-/// Each record that is shown, as the number of its packet and its serial.
-fn records(alloc: Global, snap: &StreamSnap) -> Result<Vec<(u64, u64)>, AllocError> {
-    let mut records = Vec::new(alloc);
+/// Asserts each record that is shown.
+fn assert_records<A: Allocator>(
+    rt: &impl Abort,
+    place: Place,
+    snap: &StreamSnap<A>,
+    records: &[(u64, u64)],
+) {
+    let mut wanted = records.iter();
     for packet in snap.packets() {
         for record in packet.records() {
-            records.push((packet.head().seq, record.serial()))?;
+            let found = (packet.head().seq, record.serial());
+            assert_at(rt, place, Some(&found), wanted.next());
         }
     }
-    Ok(records)
-}
-
-/// What a snapshot shows of its only stream.
-#[derive(Clone, Copy)]
-struct Shown<'a> {
-    moment: u64,
-    offered: u64,
-    discarded: u64,
-    oldest: Option<u64>,
-    count: u64,
-    /// Each record, as the number of its packet and its serial.
-    records: &'a [(u64, u64)],
+    assert_at(rt, place, wanted.next(), None);
 }
 
 /// Takes a snapshot at this moment, and asserts what it shows.
-fn assert_shown(rt: &impl Abort, alloc: Global, session: &mut Session, at: u64, shown: &Shown<'_>) {
-    let snapshot = session.snapshot(moment(at)).expect(rt, "a snapshot");
-    assert_same(rt, (at, snapshot.moment().get()), (at, shown.moment));
-    let snap = only(rt, &snapshot);
-    assert_same(
-        rt,
-        (
-            snap.offered(),
-            snap.discarded(),
-            oldest_serial(snap),
-            records_shown(snap),
-        ),
-        (shown.offered, shown.discarded, shown.oldest, shown.count),
-    );
-    let found = records(alloc, snap).expect(rt, "memory");
-    assert_same(rt, found.as_slice(), shown.records);
-}
-
-/// Asserts why a snapshot at this moment is refused.
-fn assert_refused<A: Allocator + Copy>(
+pub(super) fn assert_shown<A: Allocator + Copy>(
     rt: &impl Abort,
     session: &mut Session<A>,
+    place: Place,
     at: u64,
-    fault: SessionFault,
+    shown: &Shown,
 ) {
-    let answer = session.snapshot(moment(at)).err();
-    assert_same(rt, (at, answer), (at, Some(fault)));
+    let snapshot = session.snapshot(moment(at)).expect(rt, "a snapshot");
+    assert_at(rt, place, snapshot.moment().get(), shown.moment);
+    let snap = only(rt, &snapshot);
+    let counts = (snap.offered(), snap.discarded(), records_shown(snap));
+    assert_at(
+        rt,
+        place,
+        counts,
+        (shown.offered, shown.discarded, shown.count),
+    );
+    assert_at(rt, place, oldest_serial(snap), shown.oldest);
+    assert_records(rt, place, snap, shown.records);
 }
+
+/// Channels of a snapshot session overwrite.
+const CHANNELS: [Step; 4] = [
+    Channel("c", (255, 2, Mode::Discard), Err(BadGeometry)),
+    Channel("c", (256, 2, Mode::Discard), Err(DiscardInSnapshot)),
+    Channel("c", (256, 2, Mode::Overwrite), Ok(())),
+    Channel("c", (256, 2, Mode::Discard), Err(NameTaken)),
+];
 
 #[test]
 fn channels_of_a_snapshot_session_overwrite(rt: HostRuntime) {
-    let mut session = new_session(&rt, rt.alloc(), SessionMode::Snapshot);
-    let name = Name::new("c").expect(&rt, "a name");
-    for (size, mode, want) in [
-        (255, Mode::Discard, Err(SessionFault::BadGeometry)),
-        (256, Mode::Discard, Err(SessionFault::DiscardInSnapshot)),
-        (256, Mode::Overwrite, Ok(())),
-        (256, Mode::Discard, Err(SessionFault::NameTaken)),
-    ] {
-        assert_same(&rt, session.add_channel(&name, size, 2, mode), want);
-    }
+    let session = after(&rt, rt.alloc(), SessionMode::Snapshot, &CHANNELS);
     assert_same(&rt, session.book().mode(), SessionMode::Snapshot);
     assert_same(&rt, session.book().channels(), 1);
+}
+
+/// A stream of two sub-buffers of 256 bytes.
+const UNSTARTED: [Step; 2] = [
+    Channel("c", (256, 2, Mode::Overwrite), Ok(())),
+    Threads("c", 0, 1),
+];
+
+/// Offers of 64 bytes at 1 to 6: two of them fill a sub-buffer.
+const OFFERED: [Step; 2] = [Start(0, Ok(())), Offers(1, 7, 64)];
+
+/// A session that made these steps.
+fn filled<A: Allocator + Copy>(rt: &impl Abort, alloc: A) -> Session<A> {
+    let mut session = new_session(rt, alloc, SessionMode::Snapshot);
+    assert_steps(rt, &mut session, 0, &UNSTARTED);
+    assert_steps(rt, &mut session, 1, &OFFERED);
+    session
+}
+
+/// What it shows at 10.
+const SIX: Shown = Shown {
+    moment: 10,
+    offered: 6,
+    discarded: 0,
+    oldest: Some(2),
+    count: 4,
+    records: &[(1, 2), (1, 3), (2, 4), (2, 5)],
+};
+
+/// What it shows of a seventh record, which begins a sub-buffer and overwrites the oldest packet.
+const SEVEN: Shown = Shown {
+    moment: 12,
+    offered: 7,
+    discarded: 0,
+    oldest: Some(4),
+    count: 3,
+    records: &[(2, 4), (2, 5), (3, 6)],
+};
+
+/// Snapshots change nothing but the last moment, and never go back in time.
+const LOOKS: [Step; 6] = [
+    Show(10, SIX),
+    Show(10, SIX),
+    Last(10),
+    Offers(11, 12, 64),
+    Show(12, SEVEN),
+    Show(3, SEVEN),
+];
+
+/// What is shown of a stream without offers.
+const NONE: Shown = Shown {
+    moment: 5,
+    offered: 0,
+    discarded: 0,
+    oldest: None,
+    count: 0,
+    records: &[],
+};
+
+const WITHOUT_OFFERS: [Step; 6] = [
+    NoShow(5, NeverStarted),
+    Last(0),
+    Start(2, Ok(())),
+    Show(5, NONE),
+    Stop(Ok(())),
+    Show(4, NONE),
+];
+
+#[test]
+fn a_snapshot_shows_what_the_ring_holds(rt: HostRuntime) {
+    let mut session = filled(&rt, rt.alloc());
+    assert_steps(&rt, &mut session, 2, &LOOKS);
+    let mut session = after(&rt, rt.alloc(), SessionMode::Snapshot, &UNSTARTED);
+    assert_steps(&rt, &mut session, 3, &WITHOUT_OFFERS);
 }
 
 /// The bytes of what is shown of a stream.
@@ -122,98 +183,34 @@ fn a_snapshot_of_two_full_packets_has_512_bytes(rt: HostRuntime) {
     assert_same(&rt, bytes.len(), 512);
 }
 
-#[test]
-fn a_snapshot_shows_what_the_ring_holds(rt: HostRuntime) {
-    let mut session = filled(&rt, rt.alloc());
-    let shown = Shown {
-        moment: 10,
-        offered: 6,
-        discarded: 0,
-        oldest: Some(2),
-        count: 4,
-        records: &[(1, 2), (1, 3), (2, 4), (2, 5)],
-    };
-    for _ in 0..2 {
-        assert_shown(&rt, rt.alloc(), &mut session, 10, &shown);
-    }
-    assert_last(&rt, &session, 10);
-}
+/// A snapshot session has no chunks.
+const NO_CHUNKS: [Step; 6] = [
+    Take(1, Err(StepFault::Session(NoStream))),
+    Take(0, Err(StepFault::Take(TakeFault::SnapshotMode))),
+    Rotate(6, Err(SnapshotMode)),
+    Begin(6, Err(SnapshotMode)),
+    Schedule(Some((1, None)), Err(SnapshotMode)),
+    Last(0),
+];
 
-// the seventh record begins a sub-buffer, and overwrites the oldest packet; a snapshot never goes back in time
-#[test]
-fn an_offer_after_a_snapshot(rt: HostRuntime) {
-    let mut session = filled(&rt, rt.alloc());
-    assert_count(&rt, &mut session, 10, 4);
-    make_offers(&rt, &mut session, 11..12, 64);
-    let shown = Shown {
-        moment: 12,
-        offered: 7,
-        discarded: 0,
-        oldest: Some(4),
-        count: 3,
-        records: &[(2, 4), (2, 5), (3, 6)],
-    };
-    for at in [12, 3] {
-        assert_shown(&rt, rt.alloc(), &mut session, at, &shown);
-    }
-}
+/// A local session has no snapshots.
+const NO_SNAPSHOTS: [Step; 6] = [
+    Channel("c", (256, 2, Mode::Overwrite), Ok(())),
+    Threads("c", 0, 1),
+    NoShow(5, NotSnapshotMode),
+    Start(0, Ok(())),
+    NoShow(5, NotSnapshotMode),
+    Last(0),
+];
 
 #[test]
-fn a_snapshot_without_offers(rt: HostRuntime) {
-    let mut session = unstarted(&rt, rt.alloc());
-    assert_refused(&rt, &mut session, 5, SessionFault::NeverStarted);
-    assert_last(&rt, &session, 0);
-    start(&rt, &mut session, 2);
-    let shown = Shown {
-        moment: 5,
-        offered: 0,
-        discarded: 0,
-        oldest: None,
-        count: 0,
-        records: &[],
-    };
-    assert_shown(&rt, rt.alloc(), &mut session, 5, &shown);
-    session.stop().expect(&rt, "a stop");
-    assert_shown(&rt, rt.alloc(), &mut session, 4, &shown);
-}
-
-#[test]
-fn a_snapshot_session_has_no_chunks(rt: HostRuntime) {
+fn what_a_session_s_mode_refuses(rt: HostRuntime) {
     let mut session = filled(&rt, rt.alloc());
-    let none = StepFault::Session(SessionFault::NoStream);
-    assert_taken(&rt, &mut session, 1, Err(none));
-    let kept = StepFault::Take(TakeFault::SnapshotMode);
-    assert_taken(&rt, &mut session, 0, Err(kept));
-    let refused = SessionFault::SnapshotMode;
-    assert_same(&rt, session.rotate(moment(6)), Err(refused));
-    assert_same(&rt, session.rotate_begin(moment(6)), Err(refused));
-    let schedule = Schedule::new(Some(1), None).expect(&rt, "a schedule");
-    assert_same(&rt, session.set_schedule(Some(schedule)), Err(refused));
+    assert_steps(&rt, &mut session, 2, &NO_CHUNKS);
     assert_same(&rt, session.book().schedule(), None);
-    assert_last(&rt, &session, 0);
-}
-
-#[test]
-fn a_local_session_has_no_snapshots(rt: HostRuntime) {
-    let mut session = with_streams(&rt, rt.alloc(), SessionMode::Local, Mode::Overwrite, 1);
-    let refused = SessionFault::NotSnapshotMode;
-    assert_refused(&rt, &mut session, 5, refused);
-    start(&rt, &mut session, 0);
-    assert_refused(&rt, &mut session, 5, refused);
-    assert_same(&rt, session.snap(0, moment(5)).err(), Some(refused));
-    assert_last(&rt, &session, 0);
-}
-
-/// Takes a snapshot at this moment, and asserts how many records it shows of its only stream.
-fn assert_count<A: Allocator + Copy>(
-    rt: &impl Abort,
-    session: &mut Session<A>,
-    at: u64,
-    wanted: u64,
-) {
-    let snapshot = session.snapshot(moment(at)).expect(rt, "a snapshot");
-    let found = (snapshot.moment().get(), records_shown(only(rt, &snapshot)));
-    assert_same(rt, found, (at, wanted));
+    let session = after(&rt, rt.alloc(), SessionMode::Local, &NO_SNAPSHOTS);
+    assert_same(&rt, session.snap(0, moment(5)).err(), Some(NotSnapshotMode));
+    assert_same(&rt, session.book().last().get(), 0);
 }
 
 #[test]
@@ -221,9 +218,7 @@ fn a_snapshot_that_is_refused_memory(rt: HostRuntime) {
     let heap = LocalHeap::new(rt.alloc(), 16_384).expect(&rt, "memory");
     let mut session = filled(&rt, &heap);
     let blocks = fill(rt.alloc(), &heap).expect(&rt, "memory");
-    assert_refused(&rt, &mut session, 10, SessionFault::NoMemory);
-    assert_last(&rt, &session, 0);
+    assert_steps(&rt, &mut session, 2, &[NoShow(10, NoMemory), Last(0)]);
     drop(blocks);
-    assert_count(&rt, &mut session, 10, 4);
-    assert_last(&rt, &session, 10);
+    assert_steps(&rt, &mut session, 3, &[Show(10, SIX), Last(10)]);
 }

@@ -2,8 +2,8 @@
 
 ghost use Rattle.std.specs.Prelude.{◌≡◌, length};
 
-use super::{accept, activate, drainer_of, take};
-use crate::plans::{assert_same, plan_of};
+use super::{activate, assert_offered, assert_taken, built, drainer_of, settled, stored};
+use crate::plans::{assert_same, last, plan_of, push};
 use std::alloc::Global;
 use std::marker::Brand;
 use std::process::Abort;
@@ -11,6 +11,7 @@ use std::test::*;
 use tr_seats::{
     Drainer, Names, Opened, Plan, Producer, SettleError, Settled, Slot, Totals, Unsettled,
 };
+use tr_stream::{Offered, Taken};
 use tr_terms::Mode;
 
 /// Asserts that a session isn't settled for this reason, and gives back all that came back.
@@ -20,20 +21,15 @@ fn unsettled<N: Names>(
     producers: Vec<Producer<N>>,
     drainers: Vec<Drainer<N>>,
     error: SettleError,
-) -> (Opened<N>, Vec<Producer<N>>, Vec<Drainer<N>>) {
+) -> Unsettled<N> {
     let counts = (producers.len(), drainers.len());
     match opened.settle(producers, drainers) {
         Ok(_) => panic!(rt; "it was settled"),
         Err(refused) => {
-            let Unsettled {
-                error: found,
-                opened,
-                producers,
-                drainers,
-            } = refused;
-            assert_same(rt, found, error);
-            assert_same(rt, (producers.len(), drainers.len()), counts);
-            (opened, producers, drainers)
+            assert_same(rt, refused.error, error);
+            let back = (refused.producers.len(), refused.drainers.len());
+            assert_same(rt, back, counts);
+            refused
         }
     }
 }
@@ -43,75 +39,82 @@ fn unsettled<N: Names>(
 fn settles<N: Names>(rt: &impl Abort, alloc: Global, plan: Plan)
     requires { plan ≡ N.plan }
 {
-    let (opened, mut producers) = plan.build::<N>().expect(rt, "memory");
+    let (opened, mut producers) = built::<N>(rt, plan);
     let (_, mut desk, mut slots, room) = opened.into_parts();
-    let mut second = producers.pop().expect(rt, "a producer");
-    let mut first = producers.pop().expect(rt, "a producer");
+    let mut second = last(rt, &mut producers);
+    let mut first = last(rt, &mut producers);
     let mut drainer = drainer_of(rt, alloc, &mut desk, &mut slots);
     activate(rt, &mut slots, 0);
     activate(rt, &mut slots, 1);
-    accept_five(rt, &mut slots, &mut first);
-    assert_same(rt, take(rt, &mut slots, 0, &mut drainer, 0).is_ok(), true);
-    accept(rt, &mut slots, 1, &mut second, 9, 0);
-    accept(rt, &mut slots, 1, &mut second, 5, 0);
+    offer_five(rt, &mut slots, &mut first);
+    let taken = Taken {
+        seq: 0,
+        count: 2,
+        chunk: 0,
+    };
+    assert_taken(rt, &mut slots, 0, &mut drainer, 0, Ok(taken));
+    assert_offered(rt, &mut slots, 1, &mut second, 9, 0, stored(0, 0));
+    assert_offered(rt, &mut slots, 1, &mut second, 5, 0, stored(1, 0));
+    push(rt, &mut producers, second);
     let opened = Opened::from_parts(alloc, desk, slots, room);
-    let drainers = vec![in alloc; drainer].expect(rt, "memory");
-    let producers = vec![in alloc; second].expect(rt, "memory");
-    let (opened, mut producers, drainers) = unsettled(
-        rt,
-        opened,
-        producers,
-        drainers,
-        SettleError::ProducerMissing,
-    );
-    producers.push(first).expect(rt, "memory");
-    let (opened, producers) = without_drainers(rt, alloc, opened, producers);
-    let opened = swapped(alloc, opened);
-    let (opened, producers, drainers) = unsettled(
-        rt,
-        opened,
-        producers,
-        drainers,
-        SettleError::Misplaced,
-    );
-    let opened = swapped(alloc, opened);
-    match opened.settle(producers, drainers) {
-        Ok((settled, totals)) => assert_settled(rt, &settled, totals),
-        Err(_) => panic!(rt; "not settled"),
-    }
+    refuses(rt, alloc, opened, producers, first, drainer);
 }
 
 /// Five offers to the first stream.
-fn accept_five<N: Names>(rt: &impl Abort, slots: &mut Vec<Slot<N>>, producer: &mut Producer<N>)
+fn offer_five<N: Names>(rt: &impl Abort, slots: &mut Vec<Slot<N>>, producer: &mut Producer<N>)
     ensures { length slots.new.items ≡ length slots.old.items }
 {
-    accept(rt, slots, 0, producer, 1, 64);
-    accept(rt, slots, 0, producer, 1, 64);
-    accept(rt, slots, 0, producer, 1, 64);
-    accept(rt, slots, 0, producer, 1, 64);
-    accept(rt, slots, 0, producer, 1, 64);
+    assert_offered(rt, slots, 0, producer, 1, 64, stored(0, 0));
+    assert_offered(rt, slots, 0, producer, 1, 64, stored(1, 0));
+    assert_offered(rt, slots, 0, producer, 1, 64, stored(2, 1));
+    assert_offered(rt, slots, 0, producer, 1, 64, stored(3, 1));
+    let discarded = Ok(Offered::Discarded { serial: 4 });
+    assert_offered(rt, slots, 0, producer, 1, 64, discarded);
 }
 
-/// A session isn't settled without the drainer that was made.
-fn without_drainers<N: Names>(
+/// The session isn't settled until both producers and the drainer are there, and the streams are in their places.
+fn refuses<N: Names>(
     rt: &impl Abort,
     alloc: Global,
     opened: Opened<N>,
     producers: Vec<Producer<N>>,
-) -> (Opened<N>, Vec<Producer<N>>) {
-    let none = Vec::new(alloc);
-    let (opened, producers, _) = unsettled(
-        rt,
+    first: Producer<N>,
+    drainer: Drainer<N>,
+) {
+    let mut drainers = Vec::new(alloc);
+    push(rt, &mut drainers, drainer);
+    let without = SettleError::ProducerMissing;
+    let Unsettled {
+        opened,
+        mut producers,
+        mut drainers,
+        ..
+    } = unsettled(rt, opened, producers, drainers, without);
+    push(rt, &mut producers, first);
+    let drainer = last(rt, &mut drainers);
+    let without = SettleError::DrainerMissing;
+    let Unsettled {
         opened,
         producers,
-        none,
-        SettleError::DrainerMissing,
-    );
-    (opened, producers)
+        mut drainers,
+        ..
+    } = unsettled(rt, opened, producers, drainers, without);
+    push(rt, &mut drainers, drainer);
+    let swapped = reversed(alloc, opened);
+    let misplaced = SettleError::Misplaced;
+    let Unsettled {
+        opened,
+        producers,
+        drainers,
+        ..
+    } = unsettled(rt, swapped, producers, drainers, misplaced);
+    let opened = reversed(alloc, opened);
+    let (settled, totals) = settled(rt, opened, producers, drainers);
+    assert_settled(rt, &settled, totals);
 }
 
 /// The same session with its streams in reverse order.
-fn swapped<N: Names>(alloc: Global, opened: Opened<N>) -> Opened<N> {
+fn reversed<N: Names>(alloc: Global, opened: Opened<N>) -> Opened<N> {
     let (_, desk, mut slots, room) = opened.into_parts();
     slots.reverse();
     Opened::from_parts(alloc, desk, slots, room)

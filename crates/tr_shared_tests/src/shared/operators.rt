@@ -2,75 +2,24 @@
 
 ghost use Rattle.std.specs.Prelude.{◌≡◌};
 
-use super::threads::{drain, feed, gather, nothing};
+use super::threads::{ROTATIONS, Worked, work};
+use super::{assert_started, built, settled};
 use crate::plans::{assert_same, plan_of};
 use std::alloc::Global;
 use std::marker::Brand;
 use std::process::Abort;
 use std::sync::Wait;
 use std::test::*;
-use std::thread;
 use std::thread::Threads;
 use tr_chunk::{audit_stream, write_part};
 use tr_record::MemorySink;
 use tr_schedule::Schedule;
-use tr_session::{Session, Ticked};
-use tr_shared::{Drainer, Names, Plan, Producer, Shared, Totals};
+use tr_session::Session;
+use tr_shared::{Names, Plan, Shared, Totals};
 use tr_stream::Stream;
 use tr_terms::Mode;
 use tr_testing::moment;
 use uuid::Uuid;
-
-/// How often an operator's thread rotates, and ticks.
-const ROTATIONS: u64 = 100;
-
-/// Rotates and ticks again and again, and counts the archives that were answered.
-fn operate<N: Names>(rt: &impl Wait, shared: &Shared<N>) -> u64 {
-    let mut archives: u64 = 0;
-    for k in 0..ROTATIONS {
-        if shared.rotate(rt, moment(k)).is_ok() {
-            archives = archives.wrapping_add(1);
-        }
-        if let Ok(Ticked::Rotated { .. }) = shared.tick(rt, moment(k)) {
-            archives = archives.wrapping_add(1);
-        }
-    }
-    archives
-}
-
-/// What threads gave back: producers and drainers with what they counted, and how many archives were made.
-#[derive(Drop)]
-struct Worked<N: Names> {
-    producers: Vec<(Producer<N>, Totals)>,
-    drainers: Vec<(Drainer<N>, Totals)>,
-    archives: u64,
-}
-
-/// A thread for each producer, for each drainer and for each of two operators.
-fn work<N: Names + Send + Sync, R: Threads + Wait + Abort + Sync>(
-    rt: &R,
-    shared: &Shared<N>,
-    producers: Vec<Producer<N>>,
-    drainers: Vec<Drainer<N>>,
-) -> Worked<N> {
-    let (fed, (drained, operated)) = thread::join(
-        rt,
-        move || thread::map_vec(rt, producers, &|producer| feed(rt, shared, producer)),
-        move || {
-            thread::join(
-                rt,
-                move || thread::map_vec(rt, drainers, &|drainer| drain(rt, shared, drainer)),
-                move || thread::join(rt, move || operate(rt, shared), move || operate(rt, shared)),
-            )
-        },
-    );
-    let (one, other) = operated;
-    Worked {
-        producers: fed.expect(rt, "memory"),
-        drainers: drained.expect(rt, "memory"),
-        archives: one.wrapping_add(other),
-    }
-}
 
 /// Ends a rotation that an operator left pending, if there is one, and rotates once more: how many archives this made.
 fn end_rotations<N: Names>(rt: &(impl Abort + Wait), shared: &Shared<N>) -> u64 {
@@ -86,24 +35,18 @@ fn end_rotations<N: Names>(rt: &(impl Abort + Wait), shared: &Shared<N>) -> u64 
 fn run<N: Names + Send + Sync, R: Threads + Wait + Abort + Sync>(rt: &R, alloc: Global, plan: Plan)
     requires { plan ≡ N.plan }
 {
-    let (shared, producers) = Shared::<N>::build(plan).expect(rt, "memory");
-    let first = shared.drainer(rt).expect(rt, "a drainer");
-    let second = shared.drainer(rt).expect(rt, "a drainer");
-    let drainers = vec![in alloc; first, second].expect(rt, "memory");
+    let (shared, producers) = built::<N>(rt, plan);
     let schedule = Schedule::new(None, Some(1)).expect(rt, "a schedule");
     assert_same(rt, shared.set_schedule(rt, Some(schedule)), Ok(()));
-    assert_same(rt, shared.start(rt, moment(0)), Ok(()));
+    assert_started(rt, &shared, 0, Ok(()));
     let Worked {
         producers,
         drainers,
+        told,
         archives,
-    } = work(rt, &shared, producers, drainers);
+    } = work(rt, alloc, &shared, producers, 2);
     let archives = archives.wrapping_add(end_rotations(rt, &shared));
-    let (producers, told) = gather(rt, alloc, producers, nothing());
-    let (drainers, told) = gather(rt, alloc, drainers, told);
-    let Ok((settled, totals)) = shared.settle(producers, drainers) else {
-        panic!(rt; "not settled")
-    };
+    let (settled, totals) = settled(rt, shared, producers, drainers);
     assert_totals(rt, totals, told, archives);
     assert_archives(rt, settled.session(), totals, archives);
     'streams: for i in 0..settled.session().streams() {

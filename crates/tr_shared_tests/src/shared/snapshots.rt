@@ -2,7 +2,9 @@
 
 ghost use Rattle.std.specs.Prelude.{◌≡◌};
 
-use crate::plans::{PAYLOAD, assert_same, plan_of, plan_with};
+use super::rotating::{assert_begun, assert_rotated, assert_ticked};
+use super::{assert_offered, assert_started, built, stored};
+use crate::plans::{PAYLOAD, assert_same, last, plan_of, plan_with};
 use std::alloc::Global;
 use std::marker::Brand;
 use std::process::Abort;
@@ -53,40 +55,65 @@ fn assert_shown(
     }
 }
 
-/// Offers a record of 64 bytes at a moment: two of them fill a sub-buffer.
-fn offer<N: Names>(
-    rt: &(impl Abort + Wait),
-    shared: &Shared<N>,
-    producer: &mut Producer<N>,
-    at: u64,
-) -> Offered {
-    let answer = shared.offer(rt, producer, moment(at), 7, &PAYLOAD[..64]);
-    answer.expect(rt, "an offer")
-}
+/// When records of 64 bytes are offered, and what is answered: two of them fill a sub-buffer.
+const OFFERS: [(u64, Offered); 6] = [
+    (1, Offered::Stored { serial: 0, seq: 0 }),
+    (2, Offered::Stored { serial: 1, seq: 0 }),
+    (3, Offered::Stored { serial: 2, seq: 1 }),
+    (4, Offered::Stored { serial: 3, seq: 1 }),
+    (
+        5,
+        Offered::StoredOver {
+            serial: 4,
+            seq: 2,
+            gone_seq: 0,
+            gone_count: 2,
+        },
+    ),
+    (6, Offered::Stored { serial: 5, seq: 2 }),
+];
 
 /// Six offers, of which the first two are overwritten, and snapshots with the producer and without it; then a seventh.
 fn shows<N: Names>(rt: &(impl Abort + Wait), plan: Plan)
     requires { plan ≡ N.plan }
 {
-    let (shared, mut producers) = Shared::<N>::build(plan).expect(rt, "memory");
-    let mut producer = producers.pop().expect(rt, "a producer");
-    assert_same(
+    let (shared, mut producers) = built::<N>(rt, plan);
+    let mut producer = last(rt, &mut producers);
+    assert_refused(
         rt,
-        shared.snapshot(rt, moment(5)).err(),
-        Some(SessionFault::NeverStarted),
+        shared.snapshot(rt, moment(5)),
+        SessionFault::NeverStarted,
     );
-    assert_same(rt, shared.start(rt, moment(0)), Ok(()));
-    for k in 1..7 {
-        let _ = offer(rt, &shared, &mut producer, k);
+    assert_started(rt, &shared, 0, Ok(()));
+    for (at, want) in &OFFERS {
+        assert_offered(rt, &shared, &mut producer, *at, 64, Ok(*want));
     }
     let packets = [(1, 2, 2, 3), (2, 2, 4, 5)];
     for _ in 0..2 {
-        let alone = shared.snapshot(rt, moment(10));
-        assert_shown(rt, alone, 10, 6, &packets);
-        let beside = shared.snapshot_with(rt, &mut producer, moment(10));
-        assert_shown(rt, beside, 10, 6, &packets);
+        assert_shots(rt, &shared, &mut producer, (10, 10), 6, &packets);
     }
     assert_seventh(rt, &shared, &mut producer);
+}
+
+/// Asserts that a snapshot is refused for this reason.
+fn assert_refused(rt: &impl Abort, snapshot: Result<Snapshot, SessionFault>, want: SessionFault) {
+    assert_same(rt, snapshot.err(), Some(want));
+}
+
+/// Asserts what snapshots show that are asked for at the first moment, with the producer and without it, and are of the
+/// second one.
+fn assert_shots<N: Names>(
+    rt: &(impl Abort + Wait),
+    shared: &Shared<N>,
+    producer: &mut Producer<N>,
+    (asked, at): (u64, u64),
+    offered: u64,
+    packets: &[(u64, usize, u64, u64)],
+) {
+    let beside = shared.snapshot_with(rt, producer, moment(asked));
+    assert_shown(rt, beside, at, offered, packets);
+    let alone = shared.snapshot(rt, moment(asked));
+    assert_shown(rt, alone, at, offered, packets);
 }
 
 /// The seventh record begins a sub-buffer, and overwrites the oldest packet; a snapshot never goes back in time.
@@ -101,11 +128,10 @@ fn assert_seventh<N: Names>(
         gone_seq: 1,
         gone_count: 2,
     };
-    assert_same(rt, offer(rt, shared, producer, 11), over);
+    assert_offered(rt, shared, producer, 11, 64, Ok(over));
     let packets = [(2, 2, 4, 5), (3, 1, 6, 6)];
-    let beside = shared.snapshot_with(rt, producer, moment(12));
-    assert_shown(rt, beside, 12, 7, &packets);
-    assert_shown(rt, shared.snapshot(rt, moment(3)), 12, 7, &packets);
+    assert_shots(rt, shared, producer, (12, 12), 7, &packets);
+    assert_shots(rt, shared, producer, (3, 12), 7, &packets);
     assert_same(rt, (producer.offered(), producer.overwritten()), (7, 4));
 }
 
@@ -118,14 +144,14 @@ fn a_snapshot_shows_what_the_ring_holds(rt: HostRuntime) {
 fn refuses<N: Names>(rt: &(impl Abort + Wait), plan: Plan)
     requires { plan ≡ N.plan }
 {
-    let (shared, _) = Shared::<N>::build(plan).expect(rt, "memory");
-    assert_same(rt, shared.start(rt, moment(5)), Ok(()));
+    let (shared, _) = built::<N>(rt, plan);
+    assert_started(rt, &shared, 5, Ok(()));
     let refused = SessionFault::SnapshotMode;
-    assert_same(rt, shared.rotate(rt, moment(6)), Err(refused));
-    assert_same(rt, shared.rotate_begin(rt, moment(6)), Err(refused));
+    assert_rotated(rt, &shared, 6, Err(refused));
+    assert_begun(rt, &shared, 6, Err(refused));
     let schedule = Schedule::new(Some(1), None).expect(rt, "a schedule");
     assert_same(rt, shared.set_schedule(rt, Some(schedule)), Err(refused));
-    assert_same(rt, shared.tick(rt, moment(6)), Ok(Ticked::Idle));
+    assert_ticked(rt, &shared, 6, Ticked::Idle);
 }
 
 #[test]
@@ -137,16 +163,17 @@ fn a_snapshot_session_is_not_rotated(rt: HostRuntime) {
 fn holds<N: Names>(rt: &(impl Abort + Wait), plan: Plan)
     requires { plan ≡ N.plan }
 {
-    let (shared, mut producers) = Shared::<N>::build(plan).expect(rt, "memory");
-    let mut second = producers.pop().expect(rt, "a producer");
-    assert_same(rt, shared.start(rt, moment(0)), Ok(()));
-    let refused = Some(SessionFault::NotSnapshotMode);
-    assert_same(rt, shared.snapshot(rt, moment(6)).err(), refused);
+    let (shared, mut producers) = built::<N>(rt, plan);
+    let mut second = last(rt, &mut producers);
+    assert_started(rt, &shared, 0, Ok(()));
+    let refused = SessionFault::NotSnapshotMode;
+    assert_refused(rt, shared.snapshot(rt, moment(6)), refused);
     let beside = shared.snapshot_with(rt, &mut second, moment(6));
-    assert_same(rt, beside.err(), refused);
+    assert_refused(rt, beside, refused);
     assert!(rt; 0 < shared.streams());
-    let stored = shared.hold_stream(rt, 0, || offer(rt, &shared, &mut second, 1));
-    assert_same(rt, stored, Offered::Stored { serial: 0, seq: 0 });
+    shared.hold_stream(rt, 0, || {
+        assert_offered(rt, &shared, &mut second, 1, 64, stored(0, 0))
+    });
     assert_same(rt, shared.hold_stream(rt, 0, || 7_u64), 7);
 }
 

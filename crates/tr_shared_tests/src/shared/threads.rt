@@ -2,7 +2,8 @@
 
 ghost use Rattle.std.specs.Prelude.{◌≡◌};
 
-use crate::plans::{PAYLOAD, assert_same, plan_of};
+use super::{assert_started, built, drainer_of, settled};
+use crate::plans::{PAYLOAD, assert_same, last, plan_of, push};
 use std::alloc::Global;
 use std::marker::Brand;
 use std::process::Abort;
@@ -10,6 +11,7 @@ use std::sync::Wait;
 use std::test::*;
 use std::thread;
 use std::thread::Threads;
+use tr_session::Ticked;
 use tr_shared::{Drainer, Names, Plan, Producer, Shared, Totals};
 use tr_stream::{OfferFault, Offered};
 use tr_terms::Mode;
@@ -20,8 +22,36 @@ const OFFERS: u64 = 10_000;
 
 const TURNS: u64 = 2_000;
 
+/// How often an operator's thread rotates, and ticks.
+pub(super) const ROTATIONS: u64 = 100;
+
+/// What a thread works with.
+#[derive(Drop)]
+enum Job<N: Names> {
+    Feed(Producer<N>),
+    Drain(Drainer<N>),
+    Operate,
+}
+
+/// What a thread gives back: its seat with what it counted, or how many archives were answered to it.
+#[derive(Drop)]
+enum Done<N: Names> {
+    Fed(Producer<N>, Totals),
+    Drained(Drainer<N>, Totals),
+    Operated(u64),
+}
+
+/// What all threads gave back: their seats, the sum of what they counted, and how many archives were made.
+#[derive(Drop)]
+pub(super) struct Worked<N: Names> {
+    pub(super) producers: Vec<Producer<N>>,
+    pub(super) drainers: Vec<Drainer<N>>,
+    pub(super) told: Totals,
+    pub(super) archives: u64,
+}
+
 /// Nothing was counted.
-pub(super) fn nothing() -> Totals {
+fn nothing() -> Totals {
     Totals {
         offered: 0,
         discarded: 0,
@@ -62,49 +92,104 @@ fn counted(answer: Result<Offered, OfferFault>) -> Totals {
 }
 
 /// Offers again and again, and counts what is answered.
-pub(super) fn feed<N: Names>(
-    rt: &impl Wait,
-    shared: &Shared<N>,
-    mut producer: Producer<N>,
-) -> (Producer<N>, Totals) {
+fn feed<N: Names>(rt: &impl Wait, shared: &Shared<N>, producer: &mut Producer<N>) -> Totals {
     let mut totals = nothing();
     for k in 0..OFFERS {
-        let answer = shared.offer(rt, &mut producer, moment(k), 7, &PAYLOAD[..50]);
+        let answer = shared.offer(rt, producer, moment(k), 7, &PAYLOAD[..50]);
         totals = sum(totals, counted(answer));
     }
-    (producer, totals)
+    totals
 }
 
 /// Takes from all streams again and again, and counts what is taken.
-pub(super) fn drain<N: Names>(
-    rt: &impl Wait,
-    shared: &Shared<N>,
-    mut drainer: Drainer<N>,
-) -> (Drainer<N>, Totals) {
+fn drain<N: Names>(rt: &impl Wait, shared: &Shared<N>, drainer: &mut Drainer<N>) -> Totals {
     let mut totals = nothing();
     for _ in 0..TURNS {
         for i in 0..shared.streams() {
-            if let Ok(taken) = shared.take(rt, &mut drainer, i) {
+            if let Ok(taken) = shared.take(rt, drainer, i) {
                 totals.consumed = totals.consumed.wrapping_add(u128::from(taken.count));
             }
         }
     }
-    (drainer, totals)
+    totals
+}
+
+/// Rotates and ticks again and again, and counts the archives that were answered.
+fn operate<N: Names>(rt: &impl Wait, shared: &Shared<N>) -> u64 {
+    let mut archives: u64 = 0;
+    for k in 0..ROTATIONS {
+        if shared.rotate(rt, moment(k)).is_ok() {
+            archives = archives.wrapping_add(1);
+        }
+        if let Ok(Ticked::Rotated { .. }) = shared.tick(rt, moment(k)) {
+            archives = archives.wrapping_add(1);
+        }
+    }
+    archives
+}
+
+/// What a thread does.
+fn done_by<N: Names>(rt: &impl Wait, shared: &Shared<N>, job: Job<N>) -> Done<N> {
+    match job {
+        Job::Feed(mut producer) => {
+            let told = feed(rt, shared, &mut producer);
+            Done::Fed(producer, told)
+        }
+        Job::Drain(mut drainer) => {
+            let told = drain(rt, shared, &mut drainer);
+            Done::Drained(drainer, told)
+        }
+        Job::Operate => Done::Operated(operate(rt, shared)),
+    }
 }
 
 /// The seats that the threads gave back, and the sum of what they counted.
-pub(super) fn gather<S: Drop>(
-    rt: &impl Abort,
-    alloc: Global,
-    given_back: Vec<(S, Totals)>,
-    mut totals: Totals,
-) -> (Vec<S>, Totals) {
-    let mut seats = Vec::new(alloc);
-    'seats: for (seat, counted) in given_back {
-        seats.push(seat).expect(rt, "memory");
-        totals = sum(totals, counted);
+fn gather<N: Names>(rt: &impl Abort, alloc: Global, given_back: Vec<Done<N>>) -> Worked<N> {
+    let mut producers = Vec::new(alloc);
+    let mut drainers = Vec::new(alloc);
+    let mut told = nothing();
+    let mut archives: u64 = 0;
+    'threads: for done in given_back {
+        match done {
+            Done::Fed(producer, counted) => {
+                push(rt, &mut producers, producer);
+                told = sum(told, counted);
+            }
+            Done::Drained(drainer, counted) => {
+                push(rt, &mut drainers, drainer);
+                told = sum(told, counted);
+            }
+            Done::Operated(count) => archives = archives.wrapping_add(count),
+        }
     }
-    (seats, totals)
+    Worked {
+        producers,
+        drainers,
+        told,
+        archives,
+    }
+}
+
+/// A thread for each producer, for each of two drainers, and for each of so many operators.
+pub(super) fn work<N: Names + Send + Sync, R: Threads + Wait + Abort + Sync>(
+    rt: &R,
+    alloc: Global,
+    shared: &Shared<N>,
+    mut producers: Vec<Producer<N>>,
+    operators: usize,
+) -> Worked<N> {
+    let mut jobs = Vec::new(alloc);
+    for _ in 0..producers.len() {
+        push(rt, &mut jobs, Job::Feed(last(rt, &mut producers)));
+    }
+    for _ in 0..2 {
+        push(rt, &mut jobs, Job::Drain(drainer_of(rt, shared)));
+    }
+    for _ in 0..operators {
+        push(rt, &mut jobs, Job::Operate);
+    }
+    let given_back = thread::map_vec(rt, jobs, &|job| done_by(rt, shared, job));
+    gather(rt, alloc, given_back.expect(rt, "memory"))
 }
 
 /// A producer's thread for each stream, and a drainer's thread each of two, on one session: what they count together is what
@@ -112,24 +197,13 @@ pub(super) fn gather<S: Drop>(
 fn run<N: Names + Send + Sync, R: Threads + Wait + Abort + Sync>(rt: &R, alloc: Global, plan: Plan)
     requires { plan ≡ N.plan }
 {
-    let (shared, producers) = Shared::<N>::build(plan).expect(rt, "memory");
-    let first = shared.drainer(rt).expect(rt, "a drainer");
-    let second = shared.drainer(rt).expect(rt, "a drainer");
-    let drainers = vec![in alloc; first, second].expect(rt, "memory");
-    assert_same(rt, shared.start(rt, moment(0)), Ok(()));
-    let lent = &shared;
-    let (fed, drained) = thread::join(
-        rt,
-        move || thread::map_vec(rt, producers, &|producer| feed(rt, lent, producer)),
-        move || thread::map_vec(rt, drainers, &|drainer| drain(rt, lent, drainer)),
-    );
-    let (producers, totals) = gather(rt, alloc, fed.expect(rt, "memory"), nothing());
-    let (drainers, totals) = gather(rt, alloc, drained.expect(rt, "memory"), totals);
-    assert_same(rt, totals.offered, 40_000);
-    match shared.settle(producers, drainers) {
-        Ok((_, settled)) => assert_same(rt, settled, totals),
-        Err(_) => panic!(rt; "not settled"),
-    }
+    let (shared, producers) = built::<N>(rt, plan);
+    assert_started(rt, &shared, 0, Ok(()));
+    let worked = work(rt, alloc, &shared, producers, 0);
+    assert_same(rt, worked.told.offered, 40_000);
+    let told = worked.told;
+    let (_, totals) = settled(rt, shared, worked.producers, worked.drainers);
+    assert_same(rt, totals, told);
 }
 
 #[test]

@@ -1,0 +1,45 @@
+//! Lines with what clap's rules say that they ask for, and what a range lets through.
+
+mod asking;
+mod layout;
+mod numbers;
+mod others;
+mod rotation;
+mod running;
+mod schedules;
+
+use std::alloc::Global;
+use std::fmt::Debug;
+use std::process::Abort;
+use tr_command::{Request, parse};
+
+/// Compares what a test found with what it expects. As a call without clauses it keeps the proofs of the tests short.
+fn assert_same<T: PartialEq + Debug + Drop>(rt: &impl Abort, found: T, expected: T) {
+    assert_eq!(rt; found, expected);
+}
+
+/// The program's name and the words of the line, and how many they are.
+fn words_of<'a>(rt: &impl Abort, line: &'a str) -> ([&'a str; 16], usize) {
+    let mut words = ["tracerd"; 16];
+    let mut count = 1;
+    for word in line.split(' ') {
+        *words.get_mut(count).expect(rt, "room for a word") = word;
+        count = count.wrapping_add(1);
+    }
+    (words, count)
+}
+
+/// Asserts what the line asks for. A bad line asks for nothing.
+fn assert_asks(rt: &impl Abort, alloc: Global, line: &str, request: Option<Request<'_>>) {
+    let (words, count) = words_of(rt, line);
+    let words = words.get(..count).expect(rt, "words");
+    let asked = parse(alloc, words).expect(rt, "memory");
+    assert_same(rt, (line, asked), (line, request));
+}
+
+/// Asserts that each of the lines is a bad one.
+fn assert_bad(rt: &impl Abort, alloc: Global, lines: &[&str]) {
+    for line in lines {
+        assert_asks(rt, alloc, line, None);
+    }
+}

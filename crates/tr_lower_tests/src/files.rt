@@ -1,0 +1,314 @@
+//! Worked examples of files and audits, and damaged files.
+
+mod archive_names;
+mod damage;
+
+use std::alloc::Global;
+use std::fmt::{Debug, Display};
+use std::process::Abort;
+use tr_book::Parts;
+use tr_chunk::{
+    AuditCause, AuditFault, WriteFault, audit_stream, stream_file_name, write_metadata,
+    write_packets, write_part,
+};
+use tr_packet::{Head, Packet, PacketFault, encode_packet, metadata_text};
+use tr_record::{MemorySink, Rec, WriterSink};
+use tr_terms::Name;
+use tr_testing::{FailsAfter, moment};
+use uuid::Uuid;
+
+/// Compares what a test found with what it expects. As a call without clauses it keeps the proofs of the tests short.
+fn assert_same<T: PartialEq + Debug + Drop>(rt: &impl Abort, found: T, expected: T) {
+    assert_eq!(rt; found, expected);
+}
+
+/// The identifier 1.
+const TRACE: [u8; 16] = [0, 0, 0, 0, 0, 0, 0, 0, 0, 0, 0, 0, 0, 0, 0, 1];
+
+fn uuid() -> Uuid {
+    Uuid::from_bytes(TRACE)
+}
+
+/// A packet of records with these serials, moments and lengths; the first is at the packet's begin.
+fn packet(
+    rt: &impl Abort,
+    alloc: Global,
+    (seq, begin, end, discarded): (u64, u64, u64, u64),
+    rows: &[(u64, u64, usize)],
+) -> Packet {
+    let payload = [0x61; 64];
+    let mut records = Vec::new(alloc);
+    for (serial, at, len) in rows {
+        let bytes = payload.get(..*len).expect(rt, "a short payload");
+        let record = Rec::copy_of(alloc, *serial, moment(*at), 7, bytes).expect(rt, "memory");
+        records.push(record).expect(rt, "memory");
+    }
+    let head = Head {
+        uuid: uuid(),
+        stream: 0,
+        begin: moment(begin),
+        end: moment(end),
+        seq,
+        discarded,
+    };
+    Packet::checked(head, records).expect(rt, "a packet")
+}
+
+/// A part of two packets, of 228 and of 256 bytes; one record was discarded between them.
+fn parts(rt: &impl Abort, alloc: Global) -> Parts {
+    let first = packet(rt, alloc, (0, 1, 3, 0), &[(0, 1, 50), (1, 2, 50)]);
+    let rows = [(2, 3, 50), (3, 4, 50), (5, 6, 4)];
+    let second = packet(rt, alloc, (1, 3, 10, 1), &rows);
+    let mut parts = Parts::new(alloc);
+    parts.push(first).expect(rt, "memory");
+    parts.push(second).expect(rt, "memory");
+    parts
+}
+
+/// The file of the current part, which is written to a sink that is flushed at this size.
+fn file_of(rt: &impl Abort, alloc: Global, parts: &Parts, size: usize) -> Vec<u8> {
+    let mut sink = MemorySink::new(alloc, size);
+    write_part(alloc, &mut sink, parts.current()).expect(rt, "a file");
+    sink.into_bytes()
+}
+
+/// The file of that part: 484 bytes.
+fn file(rt: &impl Abort, alloc: Global) -> Vec<u8> {
+    let file = file_of(rt, alloc, &parts(rt, alloc), 7);
+    assert_same(rt, file.len(), 484);
+    file
+}
+
+/// Appends the text of a packet.
+fn append(rt: &impl Abort, alloc: Global, texts: &mut Vec<u8>, packet: &Packet) {
+    let text = encode_packet(alloc, packet).expect(rt, "memory");
+    texts.extend_from_slice(&text).expect(rt, "memory");
+}
+
+/// What an audit says of a file.
+#[derive(Clone, Copy)]
+struct Told<'a> {
+    packets: u64,
+    records: u64,
+    gaps: &'a [(u64, u64)],
+    last_seq: Option<u64>,
+    last_serial: Option<u64>,
+    last_discarded: u64,
+}
+
+/// What the audit of no byte says.
+const NOTHING: Told<'static> = Told {
+    packets: 0,
+    records: 0,
+    gaps: &[],
+    last_seq: None,
+    last_serial: None,
+    last_discarded: 0,
+};
+
+/// What the audit of both packets says.
+const BOTH: Told<'static> = Told {
+    packets: 2,
+    records: 5,
+    gaps: &[],
+    last_seq: Some(1),
+    last_serial: Some(5),
+    last_discarded: 1,
+};
+
+/// Asserts what the audit of these pieces says, in this case of a test.
+fn assert_told(rt: &impl Abort, alloc: Global, case: usize, pieces: &[&[u8]], told: &Told<'_>) {
+    let audit = match audit_stream(alloc, &uuid(), 0, pieces) {
+        Ok(audit) => audit,
+        Err(fault) => panic!(rt; "case {case}: {fault:?}"),
+    };
+    assert_same(
+        rt,
+        (case, audit.packets, audit.records),
+        (case, told.packets, told.records),
+    );
+    assert_same(rt, (case, audit.gaps.as_slice()), (case, told.gaps));
+    assert_same(rt, (case, audit.last_seq), (case, told.last_seq));
+    assert_same(rt, (case, audit.last_serial), (case, told.last_serial));
+    assert_same(
+        rt,
+        (case, audit.last_discarded),
+        (case, told.last_discarded),
+    );
+}
+
+/// Asserts the fault of the audit of these pieces, as those of this stream, in this case of a test.
+fn assert_fault(
+    rt: &impl Abort,
+    alloc: Global,
+    case: usize,
+    (uuid, stream): (&Uuid, u64),
+    pieces: &[&[u8]],
+    fault: AuditFault,
+) {
+    let answer = audit_stream(alloc, uuid, stream, pieces).err();
+    assert_same(rt, (case, answer), (case, Some(fault)));
+}
+
+fn at(piece: u64, offset: u64, cause: AuditCause) -> AuditFault {
+    AuditFault {
+        piece,
+        offset,
+        cause,
+    }
+}
+
+/// Asserts the name of a stream's file.
+fn assert_file_name(rt: &impl Abort, alloc: Global, channel: &str, stream: u64, want: &str) {
+    let channel = Name::new(channel).expect(rt, "a name");
+    let name = stream_file_name(alloc, &channel, stream).expect(rt, "memory");
+    assert_same(rt, name.as_str(), want);
+}
+
+#[test]
+fn files_have_names(rt: HostRuntime) {
+    assert_file_name(&rt, rt.alloc(), "c", 0, "c_0");
+    let last = "Net_4_18446744073709551615";
+    assert_file_name(&rt, rt.alloc(), "Net_4", u64::MAX, last);
+}
+
+#[test]
+fn the_metadata_is_written(rt: HostRuntime) {
+    let text = metadata_text(rt.alloc(), &uuid()).expect(&rt, "memory");
+    let mut sink = MemorySink::new(rt.alloc(), 100);
+    write_metadata(rt.alloc(), &mut sink, &uuid()).expect(&rt, "a file");
+    assert_same(&rt, sink.into_bytes().as_slice(), text.as_bytes());
+}
+
+#[test]
+fn packets_are_written_one_after_another(rt: HostRuntime) {
+    let parts = parts(&rt, rt.alloc());
+    let mut sink = MemorySink::new(rt.alloc(), 100);
+    write_packets(rt.alloc(), &mut sink, parts.current().packets()).expect(&rt, "a file");
+    let mut texts = Vec::new(rt.alloc());
+    for packet in parts.current().packets() {
+        append(&rt, rt.alloc(), &mut texts, packet);
+    }
+    assert_same(&rt, texts.len(), 484);
+    assert_same(&rt, sink.into_bytes().as_slice(), texts.as_slice());
+    // a part without packets is no byte
+    let none = file_of(&rt, rt.alloc(), &Parts::new(rt.alloc()), 100);
+    assert_same(&rt, none.len(), 0);
+}
+
+#[test]
+fn a_sink_that_fails(rt: HostRuntime) {
+    let parts = parts(&rt, rt.alloc());
+    for (bytes, want) in [
+        (0, Err(WriteFault::Write)),
+        (227, Err(WriteFault::Write)),
+        (228, Err(WriteFault::Write)),
+        (483, Err(WriteFault::Write)),
+        (484, Ok(())),
+    ] {
+        let mut sink = WriterSink::new(FailsAfter::new(bytes));
+        let answer = write_part(rt.alloc(), &mut sink, parts.current());
+        assert_same(&rt, (bytes, answer), (bytes, want));
+    }
+    let mut sink = WriterSink::new(FailsAfter::new(3));
+    let answer = write_metadata(rt.alloc(), &mut sink, &uuid());
+    assert_same(&rt, answer, Err(WriteFault::Write));
+}
+
+#[test]
+fn whole_files(rt: HostRuntime) {
+    let file = file(&rt, rt.alloc());
+    let (first, second) = file.split_at_checked(228).expect(&rt, "two packets");
+    assert_told(&rt, rt.alloc(), 0, &[&file], &BOTH);
+    assert_told(&rt, rt.alloc(), 1, &[first, b"", second], &BOTH);
+    assert_told(&rt, rt.alloc(), 2, &[], &NOTHING);
+    assert_told(&rt, rt.alloc(), 3, &[b""], &NOTHING);
+}
+
+#[test]
+fn absent_numbers(rt: HostRuntime) {
+    let mut file = Vec::new(rt.alloc());
+    for (seq, serial) in [(2, 7), (3, 8), (5, 9), (u64::MAX, 10)] {
+        let packet = packet(&rt, rt.alloc(), (seq, 9, 9, 4), &[(serial, 9, 0)]);
+        append(&rt, rt.alloc(), &mut file, &packet);
+    }
+    let told = Told {
+        packets: 4,
+        records: 4,
+        gaps: &[(0, 2), (4, 1), (6, u64::MAX - 6)],
+        last_seq: Some(u64::MAX),
+        last_serial: Some(10),
+        last_discarded: 4,
+    };
+    assert_told(&rt, rt.alloc(), 0, &[&file], &told);
+}
+
+#[test]
+fn pieces_in_another_order(rt: HostRuntime) {
+    let file = file(&rt, rt.alloc());
+    let (first, second) = file.split_at_checked(228).expect(&rt, "two packets");
+    let repeat = at(1, 0, AuditCause::NumberRepeat);
+    let foreign = at(0, 0, AuditCause::Foreign);
+    let own = uuid();
+    let nil = Uuid::nil();
+    assert_fault(&rt, rt.alloc(), 0, (&own, 0), &[second, first], repeat);
+    assert_fault(&rt, rt.alloc(), 1, (&own, 0), &[&file, &file], repeat);
+    assert_fault(&rt, rt.alloc(), 2, (&own, 1), &[&file], foreign);
+    assert_fault(&rt, rt.alloc(), 3, (&nil, 0), &[&file], foreign);
+}
+
+/// Asserts a fault's code and its name, and that it prints this text.
+fn assert_named(
+    rt: &impl Abort,
+    alloc: Global,
+    fault: &impl Display,
+    found: (&str, &str),
+    (code, name, text): (&str, &str, &str),
+) {
+    assert_same(rt, found, (code, name));
+    let printed = format!(in alloc; "{fault}").expect(rt, "memory");
+    assert_same(rt, printed.as_str(), text);
+}
+
+/// The faults of an audit: the code, the name, and both as they are printed.
+const CAUSES: [(AuditCause, (&str, &str, &str)); 5] = [
+    (
+        AuditCause::Packet(PacketFault::Short),
+        ("A1", "Packet", "A1 Packet"),
+    ),
+    (
+        AuditCause::NumberRepeat,
+        ("A2", "NumberRepeat", "A2 NumberRepeat"),
+    ),
+    (
+        AuditCause::SerialRepeat,
+        ("A3", "SerialRepeat", "A3 SerialRepeat"),
+    ),
+    (AuditCause::Foreign, ("A4", "Foreign", "A4 Foreign")),
+    (AuditCause::NoMemory, ("A5", "NoMemory", "A5 NoMemory")),
+];
+
+fn assert_causes(rt: &impl Abort, alloc: Global, rows: &[(AuditCause, (&str, &str, &str))]) {
+    for (cause, words) in rows {
+        assert_named(rt, alloc, cause, (cause.code(), cause.name()), *words);
+    }
+}
+
+/// Asserts a fault of writing as faults of audits.
+fn assert_write_fault(
+    rt: &impl Abort,
+    alloc: Global,
+    fault: WriteFault,
+    words: (&str, &str, &str),
+) {
+    assert_named(rt, alloc, &fault, (fault.code(), fault.name()), words);
+}
+
+#[test]
+fn faults_have_codes_and_names(rt: HostRuntime) {
+    assert_causes(&rt, rt.alloc(), &CAUSES);
+    let write = ("W1", "Write", "W1 Write");
+    assert_write_fault(&rt, rt.alloc(), WriteFault::Write, write);
+    let memory = ("W2", "NoMemory", "W2 NoMemory");
+    assert_write_fault(&rt, rt.alloc(), WriteFault::NoMemory, memory);
+}

@@ -1,0 +1,412 @@
+//! Worked examples of the packet format and of the metadata, what makes no packet, and damaged bytes.
+
+use std::alloc::Global;
+use std::fmt::Debug;
+use std::process::Abort;
+use tr_packet::{
+    Head, Packet, PacketFault, PacketView, Packets, decode_packet, encode_packet, metadata_text,
+};
+use tr_record::Rec;
+use tr_testing::moment;
+use uuid::Uuid;
+
+/// Compares what a test found with what it expects. As a call without clauses it keeps the proofs of the tests short.
+fn assert_same<T: PartialEq + Debug + Drop>(rt: &impl Abort, found: T, expected: T) {
+    assert_eq!(rt; found, expected);
+}
+
+/// A packet of one record, as it is written: the trace 1, stream 0, closed at moment 9, number 0, nothing discarded, and the
+/// record of id 7, moment 1 and serial 0 with the payload `A`.
+const ONE: [u8; 105] = [
+    0xc1, 0x1f, 0xfc, 0xc1, 0, 0, 0, 0, 0, 0, 0, 0, 0, 0, 0, 0, 0, 0, 0, 1, 0, 0, 0, 0, 0, 0, 0, 0,
+    0, 0, 0, 0, 1, 0, 0, 0, 0, 0, 0, 0, 9, 0, 0, 0, 0, 0, 0, 0, 0x48, 3, 0, 0, 0, 0, 0, 0, 0x48, 3,
+    0, 0, 0, 0, 0, 0, 0, 0, 0, 0, 0, 0, 0, 0, 0, 0, 0, 0, 0, 0, 0, 0, 7, 0, 0, 0, 1, 0, 0, 0, 0, 0,
+    0, 0, 0, 0, 0, 0, 0, 0, 0, 0, 1, 0, 0, 0, 0x41,
+];
+
+/// The identifier 1.
+const TRACE: [u8; 16] = [0, 0, 0, 0, 0, 0, 0, 0, 0, 0, 0, 0, 0, 0, 0, 1];
+
+fn head() -> Head {
+    Head {
+        uuid: Uuid::from_bytes(TRACE),
+        stream: 0,
+        begin: moment(1),
+        end: moment(9),
+        seq: 0,
+        discarded: 0,
+    }
+}
+
+/// The serial, the moment and the length of a record.
+type Row = (u64, u64, usize);
+
+/// Records with these serials, moments and lengths.
+fn records(rt: &impl Abort, alloc: Global, rows: &[Row]) -> Vec<Rec> {
+    let mut records = Vec::new(alloc);
+    for (serial, at, len) in rows {
+        let payload = vec![in alloc; 0x41; *len].expect(rt, "memory");
+        assert!(rt; payload.len() <= 70_000);
+        records
+            .push(Rec::new(*serial, moment(*at), 7, payload))
+            .expect(rt, "memory");
+    }
+    records
+}
+
+/// A packet with this head and records.
+fn packet(rt: &impl Abort, alloc: Global, head: Head, rows: &[Row]) -> Packet {
+    Packet::checked(head, records(rt, alloc, rows)).expect(rt, "a packet")
+}
+
+/// The bytes of the packet with this head and records.
+fn written(rt: &impl Abort, alloc: Global, head: Head, rows: &[Row]) -> Vec<u8> {
+    encode_packet(alloc, &packet(rt, alloc, head, rows)).expect(rt, "memory")
+}
+
+#[test]
+fn a_packet_of_one_record(rt: HostRuntime) {
+    let packet = packet(&rt, rt.alloc(), head(), &[(0, 1, 1)]);
+    assert_same(&rt, packet.head(), head());
+    assert_same(&rt, packet.size(), 105);
+    assert_same(&rt, packet.records().len(), 1);
+    let bytes = written(&rt, rt.alloc(), head(), &[(0, 1, 1)]);
+    assert_same(&rt, bytes.as_slice(), ONE.as_slice());
+}
+
+/// Asserts the number of the packet that is shown next, and how many there are with it.
+fn assert_next(rt: &impl Abort, shown: &mut Packets<'_>, count: usize, seq: u64) {
+    assert_same(rt, shown.len(), count);
+    let packet = shown.next().expect(rt, "a packet");
+    assert_same(rt, packet.head().seq, seq);
+}
+
+#[test]
+fn packets_are_shown_by_place_and_one_after_another(rt: HostRuntime) {
+    let mut packets = Vec::new(rt.alloc());
+    for seq in [3, 5] {
+        let mut head = head();
+        head.seq = seq;
+        packets
+            .push(packet(&rt, rt.alloc(), head, &[(seq, 1, 1)]))
+            .expect(&rt, "memory");
+    }
+    let mut shown = Packets::new(&packets);
+    let second = shown.at(1).expect(&rt, "a packet");
+    assert_same(&rt, second.head().seq, 5);
+    assert!(rt; second.records().has(5) && !second.records().has(3));
+    assert!(rt; shown.at(2).is_none());
+    assert_next(&rt, &mut shown, 2, 3);
+    assert_next(&rt, &mut shown, 1, 5);
+    assert!(rt; shown.next().is_none());
+}
+
+/// Records, and whether they make a packet with that head.
+const MAKES: [(&[Row], bool); 10] = [
+    (&[(4, 1, 0), (6, 1, 3), (7, 9, 0)], true),
+    (&[(0, 1, 65_432)], true),
+    (&[(0, 1, 65_433)], false),
+    (&[(0, 1, 40_000), (1, 1, 40_000)], false),
+    (&[], false),
+    (&[(0, 2, 0)], false),
+    (&[(0, 1, 0), (1, 3, 0), (2, 2, 0)], false),
+    (&[(0, 1, 0), (1, 10, 0)], false),
+    (&[(0, 1, 0), (0, 1, 0)], false),
+    (&[(1, 1, 0), (0, 1, 0)], false),
+];
+
+/// Asserts which records make a packet.
+fn assert_makes(rt: &impl Abort, alloc: Global, rows: &[(&[Row], bool)]) {
+    for (number, (row, makes)) in rows.iter().enumerate() {
+        let made = Packet::checked(head(), records(rt, alloc, row)).is_some();
+        assert_same(rt, (number, made), (number, *makes));
+    }
+}
+
+#[test]
+fn what_makes_a_packet(rt: HostRuntime) {
+    assert_makes(&rt, rt.alloc(), &MAKES);
+}
+
+/// The packet of records 0 and 1, of moments 1 and 2 with payloads of 50 bytes, closed at moment 3: 228 bytes.
+fn two_records(rt: &impl Abort, alloc: Global) -> Vec<u8> {
+    let mut head = head();
+    head.end = moment(3);
+    written(rt, alloc, head, &[(0, 1, 50), (1, 2, 50)])
+}
+
+/// Asserts the fault of the bytes, if any. `case` says which bytes they are.
+fn assert_fault(rt: &impl Abort, case: (u64, u64), bytes: &[u8], fault: Option<PacketFault>) {
+    assert_same(rt, (case, decode_packet(bytes).err()), (case, fault));
+}
+
+/// Asserts that the bytes begin with a packet of this size.
+fn assert_size(rt: &impl Abort, bytes: &[u8], size: usize) {
+    assert_same(rt, decode_packet(bytes).expect(rt, "a packet").1, size);
+}
+
+/// Asserts the serial, the moment and the length of each record of a packet.
+fn assert_records(rt: &impl Abort, packet: &PacketView<'_>, rows: &[Row]) {
+    assert_same(rt, packet.count(), rows.len());
+    let mut records = packet.records();
+    for row in rows {
+        let r = records.next().expect(rt, "a record");
+        assert_same(rt, (r.serial(), r.moment().get(), r.payload().len()), *row);
+    }
+    assert!(rt; records.next().is_none());
+}
+
+#[test]
+fn the_packet_of_one_record_is_read(rt: HostRuntime) {
+    let (packet, size) = decode_packet(&ONE).expect(&rt, "a packet");
+    assert_same(&rt, size, 105);
+    assert_same(&rt, packet.head(), head());
+    assert_same(&rt, packet.last_serial(), 0);
+    assert_records(&rt, &packet, &[(0, 1, 1)]);
+    let r = packet.records().next().expect(&rt, "a record");
+    assert_same(&rt, r.id(), 7);
+    assert_same(&rt, r.payload(), b"A".as_slice());
+}
+
+/// The head of a packet at the limits of its numbers.
+fn head_at_limits() -> Head {
+    let mut head = head();
+    head.stream = 255;
+    head.seq = u64::MAX;
+    head.discarded = 1 << 63;
+    head
+}
+
+/// Records at the limits of their serials.
+const LIMITS: [Row; 3] = [(4, 1, 0), (u64::MAX - 1, 1, 3), (u64::MAX, 9, 700)];
+
+#[test]
+fn what_was_written_is_read_whatever_follows(rt: HostRuntime) {
+    let mut bytes = written(&rt, rt.alloc(), head_at_limits(), &LIMITS);
+    append(&rt, &mut bytes, &ONE);
+    append(&rt, &mut bytes, b"and more");
+    let (read, size) = decode_packet(&bytes).expect(&rt, "a packet");
+    assert_same(&rt, size, 80 + 3 * 24 + 703);
+    assert_same(&rt, read.head(), head_at_limits());
+    assert_same(&rt, read.last_serial(), u64::MAX);
+    assert_records(&rt, &read, &LIMITS);
+    let rest = bytes.get(size..).expect(&rt, "the bytes behind");
+    assert_size(&rt, rest, 105);
+}
+
+/// Appends bytes.
+fn append(rt: &impl Abort, bytes: &mut Vec<u8>, more: &[u8]) {
+    bytes.extend_from_slice(more).expect(rt, "memory");
+}
+
+/// Inverts the byte at this place.
+fn invert(rt: &impl Abort, bytes: &mut [u8], at: usize) {
+    *bytes.get_mut(at).expect(rt, "a byte") ^= 0xFF;
+}
+
+#[test]
+fn a_damaged_byte(rt: HostRuntime) {
+    let mut bytes = two_records(&rt, rt.alloc());
+    assert_same(&rt, bytes.len(), 228);
+    for at in 0..228 {
+        let fault = match at {
+            0..=3 => Some(PacketFault::BadMagic),
+            20..=23 => Some(PacketFault::BadStreamId),
+            48..=63 => Some(PacketFault::BadSize),
+            100..=103 | 174..=177 => Some(PacketFault::BadRecord),
+            92..=99 => Some(PacketFault::SerialOrder),
+            32..=39 | 47 | 84..=91 | 158..=165 => Some(PacketFault::MomentOrder),
+            _ => None,
+        };
+        invert(&rt, &mut bytes, at);
+        assert_fault(&rt, (0, at as u64), &bytes, fault);
+        invert(&rt, &mut bytes, at);
+    }
+}
+
+#[test]
+fn cut_bytes_are_short(rt: HostRuntime) {
+    let bytes = two_records(&rt, rt.alloc());
+    for len in 0..bytes.len() {
+        assert_fault(
+            &rt,
+            (0, len as u64),
+            &bytes[..len],
+            Some(PacketFault::Short),
+        );
+    }
+    assert_fault(&rt, (0, 228), &bytes, None);
+}
+
+/// Sets the size of a packet's content and its own, in bits.
+fn set_sizes(rt: &impl Abort, bytes: &mut [u8], content: u64, size: u64) {
+    let sizes = bytes.get_mut(48..64).expect(rt, "a head");
+    let (first, second) = sizes.split_at_mut(8);
+    first.copy_from_slice(&content.to_le_bytes());
+    second.copy_from_slice(&size.to_le_bytes());
+}
+
+/// The size of the content and of the packet in bits, and the fault of two records with these.
+const SIZES: [(u64, u64, Option<PacketFault>); 9] = [
+    (1824, 1824, None),
+    (1824, 1832, Some(PacketFault::BadSize)),
+    (1832, 1824, Some(PacketFault::BadSize)),
+    (1825, 1825, Some(PacketFault::BadSize)),
+    (8 * 103, 8 * 103, Some(PacketFault::BadSize)),
+    (8 * 104, 8 * 104, Some(PacketFault::BadRecord)),
+    (8 * 65_537, 8 * 65_537, Some(PacketFault::BadSize)),
+    (1832, 1832, Some(PacketFault::BadRecord)),
+    (1816, 1816, Some(PacketFault::BadRecord)),
+];
+
+/// Asserts the fault of these bytes with each of these sizes.
+fn assert_sizes(rt: &impl Abort, bytes: &mut [u8], rows: &[(u64, u64, Option<PacketFault>)]) {
+    for (content, size, fault) in rows {
+        set_sizes(rt, bytes, *content, *size);
+        assert_fault(rt, (*content, *size), bytes, *fault);
+    }
+}
+
+#[test]
+fn sizes(rt: HostRuntime) {
+    let mut bytes = two_records(&rt, rt.alloc());
+    append(&rt, &mut bytes, &[0; 70_000]);
+    assert_sizes(&rt, &mut bytes, &SIZES);
+    // the size of a packet without a byte of payload, and of the largest
+    let least = written(&rt, rt.alloc(), head(), &[(0, 1, 0)]);
+    assert_same(&rt, least.len(), 104);
+    let bits = 832u64.to_le_bytes();
+    assert_same(&rt, least.get(48..56), Some(bits.as_slice()));
+    assert_same(&rt, least.get(56..64), Some(bits.as_slice()));
+    assert_size(&rt, &least, 104);
+    let greatest = written(&rt, rt.alloc(), head(), &[(0, 1, 65_432)]);
+    assert_size(&rt, &greatest, 65_536);
+}
+
+/// Where bytes are damaged for all faults at once, in the decoder's order.
+const PLACES: [usize; 6] = [0, 20, 48, 174, 92, 32];
+
+/// How many of the faults are mended, how many bytes are left, and the fault that shows.
+const FAULTS: [(usize, usize, PacketFault); 8] = [
+    (0, 79, PacketFault::Short),
+    (0, 200, PacketFault::BadMagic),
+    (1, 200, PacketFault::BadStreamId),
+    (2, 200, PacketFault::BadSize),
+    (3, 200, PacketFault::Short),
+    (3, 228, PacketFault::BadRecord),
+    (4, 228, PacketFault::SerialOrder),
+    (5, 228, PacketFault::MomentOrder),
+];
+
+/// Asserts the fault that shows when the first of the faults at these places are mended.
+fn assert_first_faults(
+    rt: &impl Abort,
+    alloc: Global,
+    places: &[usize],
+    rows: &[(usize, usize, PacketFault)],
+) {
+    for (mended, len, fault) in rows {
+        let mut bytes = two_records(rt, alloc);
+        for at in places.get(*mended..).expect(rt, "a place") {
+            invert(rt, &mut bytes, *at);
+        }
+        let left = bytes.get(..*len).expect(rt, "a longer packet");
+        assert_fault(rt, (*mended as u64, *len as u64), left, Some(*fault));
+    }
+}
+
+#[test]
+fn the_first_fault_is_answered(rt: HostRuntime) {
+    assert_first_faults(&rt, rt.alloc(), &PLACES, &FAULTS);
+}
+
+const NAMES: [(PacketFault, &str, &str); 7] = [
+    (PacketFault::Short, "P1", "Short"),
+    (PacketFault::BadMagic, "P2", "BadMagic"),
+    (PacketFault::BadStreamId, "P3", "BadStreamId"),
+    (PacketFault::BadSize, "P4", "BadSize"),
+    (PacketFault::BadRecord, "P5", "BadRecord"),
+    (PacketFault::SerialOrder, "P6", "SerialOrder"),
+    (PacketFault::MomentOrder, "P7", "MomentOrder"),
+];
+
+/// Asserts the codes and the names of faults, and that each prints both.
+fn assert_named(rt: &impl Abort, alloc: Global, rows: &[(PacketFault, &str, &str)]) {
+    for (fault, code, name) in rows {
+        assert_same(rt, (fault.code(), fault.name()), (*code, *name));
+        let words = format!(in alloc; "{code} {name}").expect(rt, "memory");
+        let printed = format!(in alloc; "{fault}").expect(rt, "memory");
+        assert_same(rt, printed.as_str(), words.as_str());
+    }
+}
+
+#[test]
+fn faults_have_codes_and_names(rt: HostRuntime) {
+    assert_named(&rt, rt.alloc(), &NAMES);
+}
+
+/// The metadata of the trace 67e55044-10b1-426f-9247-bb680e5fe0c8, as readers of the standard take it.
+const METADATA: &str = "\
+/* CTF 1.8 */
+
+typealias integer { size = 8; align = 8; signed = false; } := uint8_t;
+typealias integer { size = 32; align = 8; signed = false; } := uint32_t;
+typealias integer { size = 64; align = 8; signed = false; } := uint64_t;
+
+trace {
+  major = 1;
+  minor = 8;
+  uuid = \"67e55044-10b1-426f-9247-bb680e5fe0c8\";
+  byte_order = le;
+  packet.header := struct {
+    uint32_t magic;
+    uint8_t uuid[16];
+    uint32_t stream_id;
+    uint64_t stream_instance_id;
+  };
+};
+
+clock {
+  name = \"moment\";
+  freq = 1000000000;
+  offset = 0;
+};
+
+typealias integer {
+  size = 64; align = 8; signed = false;
+  map = clock.moment.value;
+} := moment_t;
+
+stream {
+  id = 0;
+  packet.context := struct {
+    moment_t timestamp_begin;
+    moment_t timestamp_end;
+    uint64_t content_size;
+    uint64_t packet_size;
+    uint64_t packet_seq_num;
+    uint64_t events_discarded;
+  };
+  event.header := struct {
+    uint32_t kind;
+    moment_t timestamp;
+  };
+};
+
+event {
+  name = \"record\";
+  stream_id = 0;
+  fields := struct {
+    uint64_t serial;
+    uint32_t len;
+    uint8_t payload[len];
+  };
+};
+";
+
+#[test]
+fn the_metadata_of_a_trace(rt: HostRuntime) {
+    let uuid = Uuid::parse_str("67E55044-10B1-426F-9247-BB680E5FE0C8").expect(&rt, "an identifier");
+    let text = metadata_text(rt.alloc(), &uuid).expect(&rt, "memory");
+    assert_same(&rt, text.as_str(), METADATA);
+}

@@ -1,5 +1,0 @@
-//! The tests of tr_pool: feeders and workers in threads on one session, and what is reconciled.
-#![tactic(auto)]
-
-#[cfg(test)]
-mod feeding;
