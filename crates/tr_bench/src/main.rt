@@ -5,8 +5,8 @@
 //! `tr_bench offers CASE ROUNDS` makes 100,000 offers to a new stream, ROUNDS times.
 //! `tr_bench shared CASE ROUNDS` makes the same offers to the stream of a new shared session, and settles it, ROUNDS times.
 //! No packet is taken there, so CASE isn't `taken`.
-//! `tr_bench decode ROUNDS` and `tr_bench audit ROUNDS` read packets from standard input, and then decode or audit them
-//! ROUNDS times.
+//! `tr_bench decode ROUNDS`, `tr_bench audit ROUNDS` and `tr_bench feed ROUNDS` read packets from standard input, and then
+//! decode or audit them ROUNDS times, the last in feeds of 64 KiB.
 //! `tr_bench fill LENGTH ROUNDS` fills the rings of a new session with records with payloads of LENGTH bytes, ROUNDS times;
 //! `tr_bench rotate LENGTH ROUNDS` rotates each of these sessions too, and also prints how long the quickest rotation took.
 //! All print what they counted and, except for `fill`, a sum over all answers that they got.
@@ -22,6 +22,7 @@ mod sums;
 
 use cases::Case;
 use offers::Total;
+use packets::Given;
 use std::alloc::Global;
 use std::fmt::Debug;
 use std::process::ExitCode;
@@ -98,8 +99,14 @@ fn decode(rt: &impl Print, bytes: &[u8], rounds: u64) -> io::Result<ExitCode> {
     }
 }
 
-fn audit(rt: &impl Print, alloc: Global, bytes: &[u8], rounds: u64) -> io::Result<ExitCode> {
-    match packets::audit_rounds(alloc, bytes, rounds) {
+fn audit(
+    rt: &impl Print,
+    alloc: Global,
+    bytes: &[u8],
+    given: Given,
+    rounds: u64,
+) -> io::Result<ExitCode> {
+    match packets::audit_rounds(alloc, bytes, given, rounds) {
         Ok(t) => {
             println!(rt;
                 "packets {} records {} gaps {} absent {} sum {}",
@@ -176,14 +183,15 @@ fn main(rt: HostRuntime) -> io::Result<ExitCode> {
                 _ => Ok(ExitCode::from(2)),
             }
         }
-        [what @ ("decode" | "audit"), rounds] => {
+        [what @ ("decode" | "audit" | "feed"), rounds] => {
             let Some(rounds) = number(rounds, 1_000_000) else {
                 return Ok(ExitCode::from(2));
             };
             let bytes = bytes_of(alloc, rt.reader())?;
             match *what {
                 "decode" => decode(&rt, &bytes, rounds),
-                _ => audit(&rt, alloc, &bytes, rounds),
+                "audit" => audit(&rt, alloc, &bytes, Given::Whole, rounds),
+                _ => audit(&rt, alloc, &bytes, Given::InFeeds, rounds),
             }
         }
         _ => Ok(ExitCode::from(2)),

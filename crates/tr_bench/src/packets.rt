@@ -1,8 +1,8 @@
-//! Packets read again: decoded one after another, and audited.
+//! Packets read again: decoded one after another, and audited whole or in feeds.
 
 use crate::sums::mix;
 use std::alloc::Global;
-use tr_chunk::{AuditFault, StreamAudit, audit_stream};
+use tr_chunk::{AuditCause, AuditFault, AuditReader, StreamAudit, audit_stream};
 use tr_packet::{PacketFault, PacketView, decode_packet};
 use uuid::Uuid;
 
@@ -88,8 +88,44 @@ fn add_audit(audit: &StreamAudit, total: Audited) -> Audited {
     }
 }
 
+/// How an audit gets its bytes: whole, or in feeds.
+#[derive(Clone, Copy, Debug, PartialEq)]
+pub enum Given {
+    Whole,
+    InFeeds,
+}
+
+/// The bytes of a feed.
+const FEED: usize = 65_536;
+
+/// More bytes aren't fed.
+const MOST_BYTES: u64 = 1 << 61;
+
+/// The audit of bytes that come in feeds, as one piece of the trace's stream 0.
+fn audit_in_feeds(alloc: Global, uuid: &Uuid, bytes: &[u8]) -> Result<StreamAudit, AuditFault> {
+    let Ok(mut reader) = AuditReader::new(alloc, uuid, 0) else {
+        return Err(AuditFault {
+            piece: 0,
+            offset: 0,
+            cause: AuditCause::NoMemory,
+        });
+    };
+    for feed in bytes.chunks(FEED) {
+        if reader.bytes() >= MOST_BYTES {
+            break;
+        }
+        reader.feed(feed)?;
+    }
+    reader.finish()
+}
+
 /// Audits the bytes `rounds` times, as one piece of stream 0 of the trace 1.
-pub fn audit_rounds(alloc: Global, bytes: &[u8], rounds: u64) -> Result<Audited, AuditFault> {
+pub fn audit_rounds(
+    alloc: Global,
+    bytes: &[u8],
+    given: Given,
+    rounds: u64,
+) -> Result<Audited, AuditFault> {
     let mut total = Audited {
         packets: 0,
         records: 0,
@@ -99,7 +135,10 @@ pub fn audit_rounds(alloc: Global, bytes: &[u8], rounds: u64) -> Result<Audited,
     };
     let uuid = Uuid::from_u128(1);
     for _ in 0..rounds {
-        let audit = audit_stream(alloc, &uuid, 0, &[bytes])?;
+        let audit = match given {
+            Given::Whole => audit_stream(alloc, &uuid, 0, &[bytes])?,
+            Given::InFeeds => audit_in_feeds(alloc, &uuid, bytes)?,
+        };
         total = add_audit(&audit, total);
     }
     Ok(total)

@@ -177,7 +177,7 @@ pub record Passed {A : Type 0} (uuid : List ℕ) (stream : ℕ) (pieces : List (
   pub texts : take i pieces ≡ map packets_text before
   pub tells : Tells uuid stream (all_of before) a
 
-all_of-push : (pss : List (List Contents)) (ps : List Contents) → all_of (pss ++ ps ∷ []) ≡ all_of pss ++ ps
+pub all_of-push : (pss : List (List Contents)) (ps : List Contents) → all_of (pss ++ ps ∷ []) ≡ all_of pss ++ ps
 all_of-push pss ps = flat_map-append (λ (l : List Contents). l) pss (ps ∷ []) ∙ ap (λ (l : List Contents). all_of pss ++ l) (append-nil ps)
 
 pub passed_more : {A : Type 0} (uuid : List ℕ) (stream : ℕ) (pieces : List (List ℕ)) (i : ℕ) (bytes : List ℕ)

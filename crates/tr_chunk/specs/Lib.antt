@@ -3,3 +3,4 @@ pub mod Audit
 pub mod Civil
 pub mod Faults
 pub mod Files
+pub mod Reading

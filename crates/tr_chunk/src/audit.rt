@@ -1,6 +1,6 @@
 //! The audit of a stream's files.
 
-ghost use Rattle.std.specs.Prelude.{◌≡◌, ◌++◌, ◌<◌, ◌≤◌, ℕ, length, List, map, drop, take, Option, Some, None, IfOk, IfErr, MatchResult};
+ghost use Rattle.std.specs.Prelude.{◌≡◌, ◌++◌, ◌<◌, ◌≤◌, ℕ, length, List, map, drop, take, Option, Some, None, IfOk, IfErr, MatchResult, OnErr};
 ghost use Rattle.std.specs.List.{flat_map};
 ghost use Rattle.tr_packet.specs.Decoding.{Begins};
 ghost use Rattle.tr_packet.specs.Order.{follows};
@@ -58,7 +58,7 @@ fn cause_of<A: Allocator>(
 }
 
 /// Audits the packet that bytes start with, and returns how many bytes it has.
-fn add_front<A: Allocator>(
+pub(crate) fn add_front<A: Allocator>(
     audit: &mut StreamAudit<A>,
     uuid: &Uuid,
     stream: u64,
@@ -68,6 +68,7 @@ fn add_front<A: Allocator>(
         × (packet_cause uuid.now stream audit.old.last_seq audit.old.last_serial p ≡ None)
         × (audit.new ≡ after_packet audit.old p)) }
     ensures err { IfErr result (λ c. IsCause uuid.now stream audit.old.last_seq audit.old.last_serial c bytes.now) }
+    ensures same { OnErr result (audit.new ≡ audit.old) }
     ensures within { IfOk result (λ n. (0 < n) × (n ≤ length bytes.now)) }
 {
     let (packet, size) = match decode_packet(bytes) {

@@ -2,14 +2,15 @@
 
 mod archive_names;
 mod damage;
+mod readers;
 
 use std::alloc::Global;
 use std::fmt::{Debug, Display};
 use std::process::Abort;
 use tr_book::Parts;
 use tr_chunk::{
-    AuditCause, AuditFault, WriteFault, audit_stream, stream_file_name, write_metadata,
-    write_packets, write_part,
+    AuditCause, AuditFault, StreamAudit, WriteFault, audit_stream, stream_file_name,
+    write_metadata, write_packets, write_part,
 };
 use tr_packet::{Head, Packet, PacketFault, encode_packet, metadata_text};
 use tr_record::{MemorySink, Rec, WriterSink};
@@ -116,12 +117,35 @@ const BOTH: Told<'static> = Told {
     last_discarded: 1,
 };
 
-/// Asserts what the audit of these pieces says, in this case of a test.
+/// How the bytes of each piece come to an audit: whole, or in feeds of this size.
+const FEEDS: [Option<usize>; 4] = [None, Some(1), Some(7), Some(1000)];
+
+/// What an audit says of these pieces, whose bytes come in this way.
+fn audit_in(
+    rt: &impl Abort,
+    alloc: Global,
+    (uuid, stream): (&Uuid, u64),
+    pieces: &[&[u8]],
+    feeds: Option<usize>,
+) -> Result<StreamAudit, AuditFault> {
+    match feeds {
+        None => audit_stream(alloc, uuid, stream, pieces),
+        Some(size) => readers::audit_fed(rt, alloc, (uuid, stream), pieces, size),
+    }
+}
+
+/// Asserts what the audit of these pieces says, in this case of a test, however their bytes come.
 fn assert_told(rt: &impl Abort, alloc: Global, case: usize, pieces: &[&[u8]], told: &Told<'_>) {
-    let audit = match audit_stream(alloc, &uuid(), 0, pieces) {
-        Ok(audit) => audit,
-        Err(fault) => panic!(rt; "case {case}: {fault:?}"),
-    };
+    for feeds in FEEDS {
+        match audit_in(rt, alloc, (&uuid(), 0), pieces, feeds) {
+            Ok(audit) => assert_audit(rt, case, &audit, told),
+            Err(fault) => panic!(rt; "case {case}: {fault:?}"),
+        }
+    }
+}
+
+/// Asserts what an audit says, in this case of a test.
+fn assert_audit(rt: &impl Abort, case: usize, audit: &StreamAudit, told: &Told<'_>) {
     assert_same(
         rt,
         (case, audit.packets, audit.records),
@@ -137,7 +161,7 @@ fn assert_told(rt: &impl Abort, alloc: Global, case: usize, pieces: &[&[u8]], to
     );
 }
 
-/// Asserts the fault of the audit of these pieces, as those of this stream, in this case of a test.
+/// Asserts the fault of the audit of these pieces, as those of this stream, in this case of a test, however their bytes come.
 fn assert_fault(
     rt: &impl Abort,
     alloc: Global,
@@ -146,8 +170,10 @@ fn assert_fault(
     pieces: &[&[u8]],
     fault: AuditFault,
 ) {
-    let answer = audit_stream(alloc, uuid, stream, pieces).err();
-    assert_same(rt, (case, answer), (case, Some(fault)));
+    for feeds in FEEDS {
+        let answer = audit_in(rt, alloc, (uuid, stream), pieces, feeds).err();
+        assert_same(rt, (case, answer), (case, Some(fault)));
+    }
 }
 
 fn at(piece: u64, offset: u64, cause: AuditCause) -> AuditFault {

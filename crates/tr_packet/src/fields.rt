@@ -69,7 +69,7 @@ fn bytes_of(content: u64, size: u64) -> Option<usize>
 /// The size of the packet at the front, by the 80 bytes of its header and context, or the first fault of these. It doesn't
 /// look whether that many bytes are there.
 #[tactic(auto, unfolding(crate::specs::Decoding::fields_fault))]
-fn size_by_fields(bytes: &[u8]) -> Result<usize, PacketFault>
+pub fn size_by_fields(bytes: &[u8]) -> Result<usize, PacketFault>
     ensures size { IfOk result (λ n. (fields_fault bytes.now ≡ None) × (n ≡ packet_bits_in bytes.now / 8)) }
     ensures fault { IfErr result (λ f. fields_fault bytes.now ≡ Some f) }
 {

@@ -17,6 +17,7 @@ mod view;
 pub use decoding::decode_packet;
 pub use encoding::encode_packet;
 pub use fault::PacketFault;
+pub use fields::size_by_fields;
 pub use head::Head;
 pub use metadata::metadata_text;
 pub use packet::Packet;

@@ -1,0 +1,682 @@
+-- What a reader knows after each step.
+use Rattle.std.proofs.Common.{◌≡◌, ◌≢◌, ℕ, suc, ◌+◌, ◌-◌, ◌*◌, ◌/◌, ◌%◌, ◌<◌, ◌≤◌, Bool, true, false, not, cond, ◌&&◌, leb, ltb, eqb, List, [], ◌∷◌, ◌++◌, length, map, take, drop, Option, Some, None, refl, sym, ap, subst, ◌∙◌, append-nil, append_assoc, length-append, arith}
+use Rattle.std.specs.Prelude.{slice_get}
+use Rattle.std.specs.Int.{Width, w32, w64, byte_len, from_le_bytes}
+use Rattle.std.specs.List.{starts_with, flat_map}
+use Rattle.std.specs.Option.{option_or}
+use Rattle.std.proofs.lemmas.Bool.{leb-true, ltb-true, ltb-false, le-ltb}
+use Rattle.std.proofs.lemmas.List.{map-append, length-drop, take_at, drop_at, take_all, take-append-drop, take-append-le, drop-append-le}
+use Rattle.std.proofs.Math.Seq.{take-add}
+use Rattle.std.proofs.lemmas.List.Concat.{flat_map-append}
+use Rattle.tr_record.specs.Records.{Entry}
+use Rattle.tr_packet.specs.Decoding.{Begins, number_from, stream_id_in, begin_in, end_in, content_bits_in, packet_bits_in, body_in, sizes_hold, fields_fault, front_fault, records_fault, first_fault}
+use Rattle.tr_record.specs.Whole.{entries_at}
+use Rattle.tr_packet.specs.Packets.{Contents, magic, packet_text, packet_size}
+use Rattle.tr_packet.specs.declared.fault.PacketFault.{PacketFault}
+use Rattle.tr_packet.specs.declared.fault.PacketFault.TheVariants.{Short, BadMagic, BadStreamId, BadSize, SerialOrder, MomentOrder}
+use Rattle.tr_packet.proofs.DecodingLemmas.{packet_read}
+use Rattle.tr_packet.proofs.OrderLemmas.{second_holds}
+use Rattle.tr_packet.proofs.TextLemmas.{length-packet_text}
+use Rattle.tr_chunk.specs.Audit.{packet_cause, after_packet, IsCause, StopsAt, AreAudited, Tells, audit_of, all_of}
+use Rattle.tr_chunk.specs.Files.{packets_text}
+use Rattle.tr_chunk.specs.Reading.{Reading, Waits, IsAt, Is, StopsHowever, Says, HasRead, Takes, Finds, bytes_of_pieces, with_front}
+use Rattle.tr_chunk.specs.declared.audit_fault.AuditCause.{AuditCause}
+use Rattle.tr_chunk.specs.declared.audit_fault.AuditCause.TheVariants.{Packet, NumberRepeat, SerialRepeat, Foreign, NoMemory}
+use Rattle.tr_chunk.specs.declared.audit_fault.AuditFault.{AuditFault}
+use Rattle.tr_chunk.specs.declared.stream_audit.StreamAudit.{StreamAudit}
+use Rattle.tr_chunk.proofs.AuditLemmas.{tells_more, front_within, all_of-push}
+use Rattle.tr_chunk.proofs.FileLemmas.{packets_text-push}
+
+-- ---- bytes that may still become a packet
+
+some_same : (f g : PacketFault) → Some f ≡ Some g → f ≡ g
+some_same f g e = cc
+
+none_is_some : {X : Type 0} (x : X) → None ≡ Some x → ⊥
+none_is_some x e = cc
+
+pub nothing_waits : Waits []
+unfolding front_fault fields_fault
+nothing_waits = refl
+
+-- the fault of the fields of 80 bytes and more
+abbrev later_faults : List ℕ → Option PacketFault
+later_faults bytes =
+    cond (not (starts_with eqb bytes magic)) (Some BadMagic)
+    (cond (not (eqb (stream_id_in bytes) 0)) (Some BadStreamId)
+    (cond (not (sizes_hold (content_bits_in bytes) (packet_bits_in bytes))) (Some BadSize) None))
+
+few : (bytes : List ℕ) → ltb (length bytes) 80 ≡ true → fields_fault bytes ≡ Some Short
+unfolding fields_fault
+few bytes test = ap (λ (b : Bool). cond b (Some Short) (later_faults bytes)) test
+
+enough : (bytes : List ℕ) → ltb (length bytes) 80 ≡ false → fields_fault bytes ≡ later_faults bytes
+unfolding fields_fault
+enough bytes test = ap (λ (b : Bool). cond b (Some Short) (later_faults bytes)) test
+
+not_short : (a b c : Bool) → cond a (Some BadMagic) (cond b (Some BadStreamId) (cond c (Some BadSize) None)) ≡ Some Short → ⊥
+not_short true b c e = cc
+not_short false true c e = cc
+not_short false false true e = cc
+not_short false false false e = cc
+
+-- the first fault of more than the fields, of so many bytes
+abbrev behind_fields : List ℕ → Option PacketFault → Bool → Option PacketFault
+behind_fields bytes fields lacks =
+    option_or (option_or fields (cond lacks (Some Short) None)) (records_fault (begin_in bytes) (end_in bytes) (entries_at (body_in bytes)))
+
+abbrev lacks : List ℕ → Bool
+lacks bytes = ltb (length bytes) (packet_bits_in bytes / 8)
+
+first_is : (bytes : List ℕ) → first_fault bytes ≡ behind_fields bytes (fields_fault bytes) (lacks bytes)
+unfolding front_fault
+first_is bytes = refl
+
+-- ---- what waits
+
+order_not_short : (a b : Bool) → cond (not a) (Some SerialOrder) (cond (not b) (Some MomentOrder) None) ≡ Some Short → ⊥
+order_not_short true true e = cc
+order_not_short true false e = cc
+order_not_short false b e = cc
+
+records_not_short : (begin end : ℕ) (o : Option (List Entry)) → records_fault begin end o ≡ Some Short → ⊥
+records_not_short begin end None e = cc
+records_not_short begin end (Some es) e = order_not_short _ _ e
+
+-- bytes that wait are fewer than 80, or their fields are right and they are fewer than these say
+pub record Lacks (bytes : List ℕ) : Type 0 where
+  pub fields : fields_fault bytes ≡ None
+  pub some : length bytes < packet_bits_in bytes / 8
+
+lacks_by : (bytes : List ℕ) (fields : Option PacketFault) (test : Bool) → fields_fault bytes ≡ fields → lacks bytes ≡ test
+    → (fields ≡ Some Short → ⊥) → behind_fields bytes fields test ≡ Some Short → Lacks bytes
+lacks_by bytes (Some f) test is is-test other e = absurd (other e)
+lacks_by bytes None true is is-test other e = record { fields = is; some = ltb-true (length bytes) (packet_bits_in bytes / 8) is-test }
+lacks_by bytes None false is is-test other e = absurd (records_not_short (begin_in bytes) (end_in bytes) (entries_at (body_in bytes)) e)
+
+pub waits_long : (bytes : List ℕ) → Waits bytes → 80 ≤ length bytes → Lacks bytes
+waits_long bytes waits long =
+    lacks_by bytes (fields_fault bytes) (lacks bytes) refl refl
+    (λ e. not_short _ _ _ (sym (enough bytes (le-ltb (length bytes) 80 long)) ∙ e))
+    (sym (first_is bytes) ∙ waits)
+
+long_if_right : (bytes : List ℕ) (test : Bool) → ltb (length bytes) 80 ≡ test → fields_fault bytes ≡ None → test ≡ false
+long_if_right bytes true is none = absurd (none_is_some Short (sym none ∙ few bytes is))
+long_if_right bytes false is none = refl
+
+no_fault : (test : Bool) (f : PacketFault) (o : Option PacketFault) → cond test (Some f) o ≡ None → (test ≡ false) × (o ≡ None)
+no_fault true f o e = absurd (none_is_some f (sym e))
+no_fault false f o e = (refl, e)
+
+holds : (test : Bool) → not test ≡ false → test ≡ true
+holds true e = refl
+holds false e = absurd cc
+
+-- the size that right fields say
+size_within : (bytes : List ℕ) → fields_fault bytes ≡ None → packet_bits_in bytes / 8 ≤ 65536
+size_within bytes none =
+    let size = packet_bits_in bytes in
+    let limits = leb (8 * 104) size && leb size (8 * 65536) in
+    let rest = eqb (size % 8) 0 && limits in
+    let sizes = cond (not (sizes_hold (content_bits_in bytes) size)) (Some BadSize) None in
+    let id = cond (not (eqb (stream_id_in bytes) 0)) (Some BadStreamId) sizes in
+    let long = long_if_right bytes (ltb (length bytes) 80) refl none in
+    let a = no_fault (not (starts_with eqb bytes magic)) BadMagic id (sym (enough bytes long) ∙ none) in
+    let b = no_fault (not (eqb (stream_id_in bytes) 0)) BadStreamId sizes a.1 in
+    let c = no_fault (not (sizes_hold (content_bits_in bytes) size)) BadSize None b.1 in
+    let hold = holds (sizes_hold (content_bits_in bytes) size) c.0 in
+    let high = second_holds (leb (8 * 104) size) (leb size (8 * 65536))
+    (second_holds (eqb (size % 8) 0) limits (second_holds (eqb (content_bits_in bytes) size) rest hold)) in
+    omega (arith, leb-true size (8 * 65536) high)
+
+pub wanted_by_size : (bytes : List ℕ) (size : ℕ) → Waits bytes → fields_fault bytes ≡ None → size ≡ packet_bits_in bytes / 8
+    → (length bytes < size) × (size ≤ 65536)
+wanted_by_size bytes size waits none is =
+    let long = ltb-false (length bytes) 80 (long_if_right bytes (ltb (length bytes) 80) refl none) in
+    (omega (arith, (waits_long bytes waits long).some, is), omega (arith, size_within bytes none, is))
+
+fields_first : (bytes : List ℕ) (f : PacketFault) (o : Option PacketFault) → o ≡ Some f → behind_fields bytes o (lacks bytes) ≡ Some f
+fields_first bytes f o e = rw e refl
+
+short_of : (bytes : List ℕ) (test : Bool) → ltb (length bytes) 80 ≡ test → fields_fault bytes ≡ Some Short → length bytes < 80
+short_of bytes true is short = ltb-true (length bytes) 80 is
+short_of bytes false is short = absurd (not_short _ _ _ (sym (enough bytes is) ∙ short))
+
+pub wanted_by_header : (bytes : List ℕ) (f : PacketFault) → Waits bytes → fields_fault bytes ≡ Some f → length bytes < 80
+wanted_by_header bytes f waits fault =
+    let is : f ≡ Short = some_same f Short (sym (fields_first bytes f (fields_fault bytes) fault) ∙ sym (first_is bytes) ∙ waits) in
+    short_of bytes (ltb (length bytes) 80) refl (fault ∙ ap Some is)
+
+within_by : (bytes : List ℕ) (test : Bool) → ltb (length bytes) 80 ≡ test → Waits bytes → length bytes < 65536
+within_by bytes true is waits = omega (arith, ltb-true (length bytes) 80 is)
+within_by bytes false is waits =
+    let lacks = waits_long bytes waits (ltb-false (length bytes) 80 is) in
+    omega (arith, lacks.some, size_within bytes lacks.fields)
+
+pub waits_within : (bytes : List ℕ) → Waits bytes → length bytes < 65536
+waits_within bytes waits = within_by bytes (ltb (length bytes) 80) refl waits
+
+-- ---- a fault stands firm, whatever follows
+
+field_stays : (w : Width) (at : ℕ) (bytes more : List ℕ) → at + byte_len w ≤ length bytes
+    → number_from w at (bytes ++ more) ≡ number_from w at bytes
+field_stays w at bytes more within =
+    ap (λ (t : List ℕ). from_le_bytes w (take (byte_len w) t)) (drop-append-le at bytes more (omega (arith, within)))
+    ∙ ap (from_le_bytes w) (take-append-le (byte_len w) (drop at bytes) more (omega (arith, within, length-drop at bytes)))
+
+starts_stays : (bytes more : List ℕ) → 4 ≤ length bytes → starts_with eqb (bytes ++ more) magic ≡ starts_with eqb bytes magic
+starts_stays [] more within = absurd (omega (arith, within))
+starts_stays (a ∷ []) more within = absurd (omega (arith, within))
+starts_stays (a ∷ b ∷ []) more within = absurd (omega (arith, within))
+starts_stays (a ∷ b ∷ c ∷ []) more within = absurd (omega (arith, within))
+starts_stays (a ∷ b ∷ c ∷ d ∷ rest) more within = refl
+
+record SameFields (bytes more : List ℕ) : Type 0 where
+  fields : fields_fault (bytes ++ more) ≡ fields_fault bytes
+  size : packet_bits_in (bytes ++ more) ≡ packet_bits_in bytes
+  begin : begin_in (bytes ++ more) ≡ begin_in bytes
+  end : end_in (bytes ++ more) ≡ end_in bytes
+
+same_later : (a a' b b' c c' : Bool) → a ≡ a' → b ≡ b' → c ≡ c'
+    → cond a (Some BadMagic) (cond b (Some BadStreamId) (cond c (Some BadSize) None))
+    ≡ cond a' (Some BadMagic) (cond b' (Some BadStreamId) (cond c' (Some BadSize) None))
+same_later a a' b b' c c' x y z = rw (x, y, z) refl
+
+fields_stay : (bytes more : List ℕ) → 80 ≤ length bytes → SameFields bytes more
+fields_stay bytes more long =
+    let size = field_stays w64 56 bytes more (omega (arith, long)) in
+    record {
+      fields =
+          enough (bytes ++ more) (le-ltb (length (bytes ++ more)) 80 (omega (arith, long, length-append bytes more)))
+          ∙ same_later _ _ _ _ _ _ (ap not (starts_stays bytes more (omega (arith, long))))
+          (ap (λ (n : ℕ). not (eqb n 0)) (field_stays w32 20 bytes more (omega (arith, long))))
+          (ap (λ (n : ℕ). not (sizes_hold n (packet_bits_in (bytes ++ more)))) (field_stays w64 48 bytes more (omega (arith, long)))
+          ∙ ap (λ (n : ℕ). not (sizes_hold (content_bits_in bytes) n)) size)
+          ∙ sym (enough bytes (le-ltb (length bytes) 80 long));
+      size = size;
+      begin = field_stays w64 32 bytes more (omega (arith, long));
+      end = field_stays w64 40 bytes more (omega (arith, long));
+    }
+
+body_stays : (bytes more : List ℕ) → packet_bits_in (bytes ++ more) ≡ packet_bits_in bytes → packet_bits_in bytes / 8 ≤ length bytes
+    → body_in (bytes ++ more) ≡ body_in bytes
+body_stays bytes more size there =
+    ap (λ (n : ℕ). drop 80 (take (n / 8) (bytes ++ more))) size
+    ∙ ap (drop 80) (take-append-le (packet_bits_in bytes / 8) bytes more there)
+
+same_behind : (bytes more : List ℕ) (f : PacketFault) (fields : Option PacketFault) (test : Bool) → 80 ≤ length bytes
+    → fields_fault bytes ≡ fields → lacks bytes ≡ test → behind_fields bytes fields test ≡ Some f → (f ≡ Short → ⊥)
+    → first_fault (bytes ++ more) ≡ Some f
+same_behind bytes more f (Some g) test long is is-test e other =
+    first_is (bytes ++ more) ∙ fields_first (bytes ++ more) f (fields_fault (bytes ++ more)) ((fields_stay bytes more long).fields ∙ is ∙ e)
+same_behind bytes more f None true long is is-test e other = absurd (other (some_same f Short (sym e)))
+same_behind bytes more f None false long is is-test e other =
+    let same = fields_stay bytes more long in
+    let there = ltb-false (length bytes) (packet_bits_in bytes / 8) is-test in
+    first_is (bytes ++ more)
+    ∙ ap (λ (o : Option PacketFault). behind_fields (bytes ++ more) o (lacks (bytes ++ more))) (same.fields ∙ is)
+    ∙ ap (behind_fields (bytes ++ more) None)
+    (le-ltb (length (bytes ++ more)) (packet_bits_in (bytes ++ more) / 8)
+    (omega (arith, there, length-append bytes more, ap (λ (n : ℕ). n / 8) same.size)))
+    ∙ same_records (begin_in (bytes ++ more)) (begin_in bytes) (end_in (bytes ++ more)) (end_in bytes) (body_in (bytes ++ more)) (body_in bytes)
+    same.begin same.end (body_stays bytes more same.size there)
+    ∙ e
+  where
+    same_records : (b b' e e' : ℕ) (t t' : List ℕ) → b ≡ b' → e ≡ e' → t ≡ t'
+        → records_fault b e (entries_at t) ≡ records_fault b' e' (entries_at t')
+    same_records b b' e e' t t' x y z = rw (x, y, z) refl
+
+first_stays_by : (bytes more : List ℕ) (f : PacketFault) (test : Bool) → ltb (length bytes) 80 ≡ test
+    → first_fault bytes ≡ Some f → (f ≡ Short → ⊥) → first_fault (bytes ++ more) ≡ Some f
+first_stays_by bytes more f true is e other =
+    absurd (other (some_same f Short (sym e ∙ first_is bytes ∙ fields_first bytes Short (fields_fault bytes) (few bytes is))))
+first_stays_by bytes more f false is e other =
+    same_behind bytes more f (fields_fault bytes) (lacks bytes) (ltb-false (length bytes) 80 is) refl refl (sym (first_is bytes) ∙ e) other
+
+begins_more : (p : Contents) (rest bytes more : List ℕ) → Begins p rest bytes → Begins p (rest ++ more) (bytes ++ more)
+begins_more p rest bytes more b = record {
+  packet = b.packet;
+  parts = ap (λ (t : List ℕ). t ++ more) b.parts ∙ append_assoc (packet_text p) rest more;
+}
+
+is_short : (f : PacketFault) → f ≡ Short → Packet f ≡ Packet Short
+is_short f e = ap Packet e
+
+cause_stays : (uuid : List ℕ) (stream : ℕ) (number serial : Option ℕ) (cause : AuditCause) (bytes more : List ℕ)
+    → IsCause uuid stream number serial cause bytes → cause ≢ Packet Short → IsCause uuid stream number serial cause (bytes ++ more)
+cause_stays uuid stream number serial NoMemory bytes more is other = record {
+  packet = is.packet;
+  rest = is.rest ++ more;
+  begins = begins_more is.packet is.rest bytes more is.begins;
+  right = is.right;
+  absent = is.absent;
+}
+cause_stays uuid stream number serial (Packet f) bytes more is other =
+    first_stays_by bytes more f (ltb (length bytes) 80) refl is (λ e. other (is_short f e))
+cause_stays uuid stream number serial NumberRepeat bytes more is other = (is.0, is.1 ++ more, begins_more is.0 is.1 bytes more is.2, is.3)
+cause_stays uuid stream number serial SerialRepeat bytes more is other = (is.0, is.1 ++ more, begins_more is.0 is.1 bytes more is.2, is.3)
+cause_stays uuid stream number serial Foreign bytes more is other = (is.0, is.1 ++ more, begins_more is.0 is.1 bytes more is.2, is.3)
+
+-- ---- a packet that becomes whole
+
+-- it ends behind the bytes that waited
+pub whole_behind : (p : Contents) (n : ℕ) (held bytes : List ℕ) → Waits held → Begins p (drop n (held ++ bytes)) (held ++ bytes)
+    → n ≡ packet_size p → length held < n
+whole_behind p n held bytes waits begins size = behind (ltb (length held) n) refl
+  where
+    text : take n (held ++ bytes) ≡ packet_text p
+    text = ap (take n) begins.parts ∙ take_at (packet_text p) (drop n (held ++ bytes)) n (length-packet_text p begins.packet.uuid ∙ sym size)
+
+    stands : n ≤ length held → Begins p (drop n held) held
+    stands within = record {
+      packet = begins.packet;
+      parts =
+          sym (take-append-drop n held)
+          ∙ ap (λ (t : List ℕ). t ++ drop n held) (sym (take-append-le n held bytes within) ∙ text);
+    }
+
+    behind : (test : Bool) → ltb (length held) n ≡ test → length held < n
+    behind true is = ltb-true (length held) n is
+    behind false is =
+        absurd (none_is_some Short (sym (packet_read p (drop n held) held (stands (ltb-false (length held) n is))).sound ∙ waits))
+
+take_behind : (xs ys : List ℕ) (k : ℕ) → take (length xs + k) (xs ++ ys) ≡ xs ++ take k ys
+take_behind [] ys k = ap (λ (n : ℕ). take n ys) (omega arith)
+take_behind (x ∷ xs) ys k = ap (λ (n : ℕ). take n (x ∷ (xs ++ ys))) (longer (length xs)) ∙ ap (λ (t : List ℕ). x ∷ t) (take_behind xs ys k)
+  where
+    longer : (n : ℕ) → suc n + k ≡ suc (n + k)
+    longer n = omega arith
+
+-- bytes that are taken by a whole packet
+pub at_whole : {A : Type 0} (uuid : List ℕ) (stream : ℕ) (done : List (List ℕ)) (piece : List ℕ) (a b : StreamAudit A)
+    (held : List ℕ) (offset : ℕ) (p : Contents) (n k : ℕ) (bytes : List ℕ) → IsAt uuid stream done piece a held offset
+    → Begins p (drop n (held ++ bytes)) (held ++ bytes) → n ≡ packet_size p
+    → packet_cause uuid stream a.last_seq a.last_serial p ≡ None → b ≡ after_packet a p → n ≡ length held + k
+    → IsAt uuid stream done (piece ++ take k bytes) b [] (offset + n)
+at_whole {A = A} uuid stream done piece a b held offset p n k bytes is begins size none after more =
+    let text : packet_text p ≡ held ++ take k bytes =
+    sym (take_at (packet_text p) (drop n (held ++ bytes)) n (length-packet_text p begins.packet.uuid ∙ sym size))
+    ∙ ap (take n) (sym begins.parts) ∙ ap (λ (i : ℕ). take i (held ++ bytes)) more ∙ take_behind held bytes k in
+    let ends : piece ++ take k bytes ≡ packets_text (is.here ++ p ∷ []) =
+    ap (λ (t : List ℕ). t ++ take k bytes) is.text ∙ append_assoc (packets_text is.here) held (take k bytes)
+    ∙ ap (λ (t : List ℕ). packets_text is.here ++ t) (sym text) ∙ sym (packets_text-push is.here p) in
+    record {
+      before = is.before;
+      here = is.here ++ p ∷ [];
+      texts = is.texts;
+      text = ends ∙ sym (append-nil (packets_text (is.here ++ p ∷ [])));
+      place =
+          omega (
+            arith,
+            is.place,
+            size,
+            length-packet_text p begins.packet.uuid,
+            ap length (packets_text-push is.here p),
+            length-append (packets_text is.here) (packet_text p),
+          );
+      tells =
+          subst (λ (l : List Contents). Tells uuid stream l b) (append_assoc (all_of is.before) is.here (p ∷ []))
+          (tells_more uuid stream (all_of is.before ++ is.here) p a b is.tells begins.packet none after);
+    }
+
+-- bytes that are held
+pub at_part : {A : Type 0} (uuid : List ℕ) (stream : ℕ) (done : List (List ℕ)) (piece : List ℕ) (a : StreamAudit A)
+    (held : List ℕ) (offset : ℕ) (bytes : List ℕ) → IsAt uuid stream done piece a held offset
+    → IsAt uuid stream done (piece ++ bytes) a (held ++ bytes) offset
+at_part uuid stream done piece a held offset bytes is = record {
+  before = is.before;
+  here = is.here;
+  texts = is.texts;
+  text = ap (λ (t : List ℕ). t ++ bytes) is.text ∙ append_assoc (packets_text is.here) held bytes;
+  place = is.place;
+  tells = is.tells;
+}
+
+-- ---- where it stops
+
+-- the place of a piece
+take_done : (done others : List (List ℕ)) → take (length done) (done ++ others) ≡ done
+take_done done others = take_at done others (length done) refl
+
+get_done : (done : List (List ℕ)) (piece : List ℕ) (others : List (List ℕ)) → slice_get (done ++ piece ∷ others) (length done) ≡ Some piece
+get_done [] piece others = refl
+get_done (d ∷ done) piece others = get_done done piece others
+
+stops_at : {A : Type 0} (uuid : List ℕ) (stream : ℕ) (done : List (List ℕ)) (piece : List ℕ) (a : StreamAudit A) (held : List ℕ)
+    (offset : ℕ) (cause : AuditCause) (bytes : List ℕ) (others : List (List ℕ)) → IsAt uuid stream done piece a held offset
+    → IsCause uuid stream a.last_seq a.last_serial cause (held ++ bytes) → 0 < length (held ++ bytes)
+    → StopsAt uuid stream (done ++ (piece ++ bytes) ∷ others) (record { piece = length done; offset = offset; cause = cause })
+stops_at {A = A} uuid stream done piece a held offset cause bytes others is is_cause some =
+    let whole : piece ++ bytes ≡ packets_text is.here ++ (held ++ bytes) =
+    ap (λ (t : List ℕ). t ++ bytes) is.text ∙ append_assoc (packets_text is.here) held bytes in
+    record {
+      before = is.before;
+      bytes = piece ++ bytes;
+      texts = take_done done ((piece ++ bytes) ∷ others) ∙ is.texts;
+      piece = get_done done (piece ++ bytes) others;
+      stop = record {
+        here = is.here;
+        within = omega (arith, some, is.place, ap length whole, length-append (packets_text is.here) (held ++ bytes));
+        texts = ap (take offset) whole ∙ take_at (packets_text is.here) (held ++ bytes) offset (sym is.place);
+        sound = is.tells.sound;
+        is_cause =
+            subst (λ (x : StreamAudit A). IsCause uuid stream x.last_seq x.last_serial cause (drop offset (piece ++ bytes))) is.tells.is
+            (subst (IsCause uuid stream a.last_seq a.last_serial cause)
+            (sym (ap (drop offset) whole ∙ drop_at (packets_text is.here) (held ++ bytes) offset (sym is.place))) is_cause);
+      };
+    }
+
+-- a fault other than that bytes are too few, with all that follows
+pub stops_however : {A : Type 0} (uuid : List ℕ) (stream : ℕ) (done : List (List ℕ)) (piece : List ℕ) (a : StreamAudit A)
+    (held : List ℕ) (offset : ℕ) (cause : AuditCause) (front back bytes : List ℕ) → IsAt uuid stream done piece a held offset
+    → IsCause uuid stream a.last_seq a.last_serial cause (held ++ front) → cause ≢ Packet Short → 0 < length front
+    → bytes ≡ front ++ back
+    → StopsHowever uuid stream done (piece ++ bytes) (record { piece = length done; offset = offset; cause = cause })
+stops_however uuid stream done piece a held offset cause front back bytes is is_cause other some parts =
+    λ more others.
+    let all : (held ++ front) ++ (back ++ more) ≡ held ++ (front ++ (back ++ more)) = append_assoc held front (back ++ more) in
+    let regroup : (piece ++ bytes) ++ more ≡ piece ++ (front ++ (back ++ more)) =
+    ap (λ (t : List ℕ). (piece ++ t) ++ more) parts ∙ regrouped piece front back more in
+    subst (λ (t : List ℕ). StopsAt uuid stream (done ++ t ∷ others) (record { piece = length done; offset = offset; cause = cause })) (sym regroup)
+    (stops_at uuid stream done piece a held offset cause (front ++ (back ++ more)) others is
+    (subst (IsCause uuid stream a.last_seq a.last_serial cause) all
+    (cause_stays uuid stream a.last_seq a.last_serial cause (held ++ front) (back ++ more) is_cause other))
+    (omega (arith, some, length-append held (front ++ (back ++ more)), length-append front (back ++ more))))
+  where
+    regrouped : (p f b m : List ℕ) → (p ++ (f ++ b)) ++ m ≡ p ++ (f ++ (b ++ m))
+    regrouped p f b m = simp append_assoc
+
+-- ---- steps
+
+-- a whole packet ends within these bytes
+pub takes_whole : {A : Type 0} (r : Reading A) (b : StreamAudit A) (p : Contents) (n k : ℕ) (front back bytes : List ℕ)
+    → Begins p (drop n (r.held ++ front)) (r.held ++ front) → n ≡ packet_size p
+    → packet_cause r.uuid r.stream r.audit.last_seq r.audit.last_serial p ≡ None → b ≡ after_packet r.audit p
+    → n ≡ length r.held + k → 0 < k → bytes ≡ front ++ back
+    → Takes r (with_front r b [] (r.offset + n)) bytes k
+takes_whole r b p n k front back bytes begins size none after more some parts =
+    let long : k ≤ length front =
+    omega (arith, more, (front_within p n (r.held ++ front) begins size).1, length-append r.held front) in
+    record {
+      some = some;
+      within = omega (arith, long, ap length parts, length-append front back);
+      place = omega (arith, more);
+      is = λ done piece is.
+          subst (λ (t : List ℕ). IsAt r.uuid r.stream done (piece ++ t) b [] (r.offset + n))
+          (sym (ap (take k) parts ∙ take-append-le k front back long))
+          (at_whole r.uuid r.stream done piece r.audit b r.held r.offset p n k front is begins size none after more);
+      waits = nothing_waits;
+    }
+
+-- these bytes are held
+pub takes_part : {A : Type 0} (r : Reading A) (n : ℕ) (front back bytes : List ℕ) → bytes ≡ front ++ back → length front ≡ n → 0 < n
+    → Waits (r.held ++ front) → Takes r (with_front r r.audit (r.held ++ front) r.offset) bytes n
+takes_part r n front back bytes parts long some waits = record {
+  some = some;
+  within = omega (arith, long, ap length parts, length-append front back);
+  place = omega (arith, length-append r.held front, long);
+  is = λ done piece is.
+      subst (λ (t : List ℕ). IsAt r.uuid r.stream done (piece ++ t) r.audit (r.held ++ front) r.offset)
+      (sym (ap (take n) parts ∙ take_at front back n long))
+      (at_part r.uuid r.stream done piece r.audit r.held r.offset front is);
+  waits = waits;
+}
+
+pub finds : {A : Type 0} (r : Reading A) (front back bytes : List ℕ) (cause : AuditCause)
+    → IsCause r.uuid r.stream r.audit.last_seq r.audit.last_serial cause (r.held ++ front) → cause ≢ Packet Short → 0 < length front
+    → bytes ≡ front ++ back → Finds r bytes cause
+finds r front back bytes cause is_cause other some parts =
+    λ done piece is.
+    stops_however r.uuid r.stream done piece r.audit r.held r.offset cause front back bytes is is_cause other some parts
+
+-- ---- pieces
+
+pub at_start : {A : Type 0} (uuid : List ℕ) (stream : ℕ) (a : StreamAudit A) → a ≡ audit_of [] → IsAt uuid stream [] [] a [] 0
+at_start uuid stream a is = record {
+  before = [];
+  here = [];
+  texts = refl;
+  text = refl;
+  place = refl;
+  tells = record { sound = record { packets = tt; belong = tt; numbers = refl; serials = refl }; is = is };
+}
+
+-- after a fault, whatever is fed is told by it
+however_more : (uuid : List ℕ) (stream : ℕ) (done : List (List ℕ)) (piece bytes : List ℕ) (f : AuditFault)
+    → StopsHowever uuid stream done piece f → StopsHowever uuid stream done (piece ++ bytes) f
+however_more uuid stream done piece bytes f stops =
+    λ more others.
+    subst (λ (t : List ℕ). StopsAt uuid stream (done ++ t ∷ others) f) (sym (append_assoc piece bytes more)) (stops (bytes ++ more) others)
+
+however_next : (uuid : List ℕ) (stream : ℕ) (done : List (List ℕ)) (piece : List ℕ) (f : AuditFault)
+    → StopsHowever uuid stream done piece f → StopsHowever uuid stream (done ++ piece ∷ []) [] f
+however_next uuid stream done piece f stops =
+    λ more others.
+    subst (λ (l : List (List ℕ)). StopsAt uuid stream l f)
+    (ap (λ (t : List ℕ). done ++ t ∷ (more ∷ others)) (append-nil piece) ∙ sym (append_assoc done (piece ∷ []) (more ∷ others)))
+    (stops [] (more ∷ others))
+
+pub however_end : (uuid : List ℕ) (stream : ℕ) (done : List (List ℕ)) (piece : List ℕ) (f : AuditFault)
+    → StopsHowever uuid stream done piece f → StopsAt uuid stream (done ++ piece ∷ []) f
+however_end uuid stream done piece f stops =
+    subst (λ (t : List ℕ). StopsAt uuid stream (done ++ t ∷ []) f) (append-nil piece) (stops [] [])
+
+-- a reader that met a fault
+pub says_fault : {A : Type 0} (uuid : List ℕ) (stream : ℕ) (done : List (List ℕ)) (piece : List ℕ) (r : Reading A) (f : AuditFault)
+    → r.fault ≡ Some f → HasRead uuid stream done piece r → StopsHowever uuid stream done piece f
+says_fault uuid stream done piece r f met has =
+    subst (λ (u : List ℕ). StopsHowever u stream done piece f) has.of_trace
+    (subst (λ (s : ℕ). StopsHowever r.uuid s done piece f) has.of_stream (subst (Says done piece r) met has.says))
+
+-- a reader that met none
+pub says_none : {A : Type 0} (uuid : List ℕ) (stream : ℕ) (done : List (List ℕ)) (piece : List ℕ) (r : Reading A)
+    → r.fault ≡ None → HasRead uuid stream done piece r → Says done piece r None
+says_none uuid stream done piece r none has = subst (Says done piece r) none has.says
+
+pub has_met : {A : Type 0} (uuid : List ℕ) (stream : ℕ) (done : List (List ℕ)) (piece : List ℕ) (r : Reading A) (f : AuditFault)
+    → r.uuid ≡ uuid → r.stream ≡ stream → r.fault ≡ Some f → StopsHowever r.uuid r.stream done piece f → HasRead uuid stream done piece r
+has_met uuid stream done piece r f of_trace of_stream met stops =
+    record { of_trace = of_trace; of_stream = of_stream; says = subst (Says done piece r) (sym met) stops }
+
+pub has_met_more : {A : Type 0} (uuid : List ℕ) (stream : ℕ) (done : List (List ℕ)) (piece bytes : List ℕ) (r : Reading A) (f : AuditFault)
+    → r.fault ≡ Some f → HasRead uuid stream done piece r → HasRead uuid stream done (piece ++ bytes) r
+has_met_more uuid stream done piece bytes r f met has =
+    has_met uuid stream done (piece ++ bytes) r f has.of_trace has.of_stream met
+    (however_more r.uuid r.stream done piece bytes f (subst (Says done piece r) met has.says))
+
+pub has_met_next : {A : Type 0} (uuid : List ℕ) (stream : ℕ) (done : List (List ℕ)) (piece : List ℕ) (r : Reading A) (f : AuditFault)
+    → r.fault ≡ Some f → HasRead uuid stream done piece r → HasRead uuid stream (done ++ piece ∷ []) [] r
+has_met_next uuid stream done piece r f met has =
+    has_met uuid stream (done ++ piece ∷ []) [] r f has.of_trace has.of_stream met
+    (however_next r.uuid r.stream done piece f (subst (Says done piece r) met has.says))
+
+-- a piece that ends within a packet
+pub short_at_end : {A : Type 0} (done : List (List ℕ)) (piece : List ℕ) (r : Reading A) (others : List (List ℕ)) → Is done piece r
+    → Waits r.held → 0 < length r.held
+    → StopsAt r.uuid r.stream (done ++ piece ∷ others) (record { piece = length done; offset = r.offset; cause = Packet Short })
+short_at_end done piece r others is waits some =
+    let whole : r.held ++ [] ≡ r.held = append-nil r.held in
+    subst (λ (t : List ℕ). StopsAt r.uuid r.stream (done ++ t ∷ others) (record { piece = length done; offset = r.offset; cause = Packet Short }))
+    (append-nil piece)
+    (stops_at r.uuid r.stream done piece r.audit r.held r.offset (Packet Short) [] others is (subst Waits (sym whole) waits)
+    (omega (arith, some, ap length whole)))
+
+pub short_however : {A : Type 0} (done : List (List ℕ)) (piece : List ℕ) (r : Reading A) → Is done piece r → Waits r.held → 0 < length r.held
+    → StopsHowever r.uuid r.stream (done ++ piece ∷ []) [] (record { piece = length done; offset = r.offset; cause = Packet Short })
+short_however done piece r is waits some =
+    λ more others.
+    subst (λ (l : List (List ℕ)). StopsAt r.uuid r.stream l (record { piece = length done; offset = r.offset; cause = Packet Short }))
+    (sym (append_assoc done (piece ∷ []) (more ∷ others)))
+    (short_at_end done piece r (more ∷ others) is waits some)
+
+-- a piece that ends behind a packet
+pub audited : {A : Type 0} (done : List (List ℕ)) (piece : List ℕ) (r : Reading A) → Is done piece r → r.held ≡ []
+    → (pss : List (List Contents)) × AreAudited r.uuid r.stream (done ++ piece ∷ []) pss × (r.audit ≡ audit_of (all_of pss))
+audited {A = A} done piece r is none =
+    let text : piece ≡ packets_text is.here = is.text ∙ ap (λ (t : List ℕ). packets_text is.here ++ t) none ∙ append-nil (packets_text is.here) in
+    let texts : done ++ piece ∷ [] ≡ map packets_text (is.before ++ is.here ∷ []) =
+    ap (λ (l : List (List ℕ)). l ++ piece ∷ []) is.texts ∙ ap (λ (t : List ℕ). map packets_text is.before ++ t ∷ []) text
+    ∙ sym (map-append packets_text is.before (is.here ∷ [])) in
+    let tells = subst (λ (l : List Contents). Tells r.uuid r.stream l r.audit) (sym (all_of-push is.before is.here)) is.tells in
+    (is.before ++ is.here ∷ [], record { texts = texts; sound = tells.sound }, tells.is)
+
+pub at_next : {A : Type 0} (done : List (List ℕ)) (piece : List ℕ) (r : Reading A) → Is done piece r → r.held ≡ []
+    → IsAt r.uuid r.stream (done ++ piece ∷ []) [] r.audit r.held 0
+at_next done piece r is none =
+    let all = audited done piece r is none in
+    record {
+      before = all.0;
+      here = [];
+      texts = all.1.texts;
+      text = sym none;
+      place = refl;
+      tells =
+          subst (λ (l : List Contents). Tells r.uuid r.stream l r.audit) (sym (append-nil (all_of all.0)))
+          (record { sound = all.1.sound; is = all.2 });
+    }
+
+pub bytes_next : (done : List (List ℕ)) (piece : List ℕ) → bytes_of_pieces (done ++ piece ∷ []) ≡ bytes_of_pieces done + length piece
+bytes_next done piece =
+    ap length (flat_map-append (λ (bytes : List ℕ). bytes) done (piece ∷ []) ∙ ap (λ (t : List ℕ). flat_map (λ (bytes : List ℕ). bytes) done ++ t) (append-nil piece))
+    ∙ length-append (flat_map (λ (bytes : List ℕ). bytes) done) piece
+
+pub next_read : {A : Type 0} (uuid : List ℕ) (stream : ℕ) (done : List (List ℕ)) (piece : List ℕ) (r : Reading A) → r.fault ≡ None
+    → r.held ≡ [] → HasRead uuid stream done piece r
+    → HasRead uuid stream (done ++ piece ∷ []) [] (record r { offset = 0; pieces = r.pieces + 1 })
+next_read uuid stream done piece r none free has =
+    let says = says_none uuid stream done piece r none has in
+    record {
+      of_trace = has.of_trace;
+      of_stream = has.of_stream;
+      says =
+          subst (Says (done ++ piece ∷ []) [] (record r { offset = 0; pieces = r.pieces + 1 })) (sym none) (
+            at_next done piece r says.0 free,
+            omega (arith, says.1, length-append done (piece ∷ [])),
+            omega (arith, says.2, bytes_next done piece),
+            says.3,
+          );
+    }
+
+-- the fault of a piece that ends within a packet
+abbrev pub ends_short : {A : Type 0} → Reading A → AuditFault
+ends_short r = record { piece = r.pieces - 1; offset = r.offset; cause = Packet Short }
+
+ends_at : {A : Type 0} (done : List (List ℕ)) (r : Reading A) → r.pieces ≡ length done + 1
+    → record { piece = length done; offset = r.offset; cause = Packet Short } ≡ ends_short r
+ends_at done r pieces = ap (λ (n : ℕ). record { piece = n; offset = r.offset; cause = Packet Short }) (omega (arith, pieces))
+
+pub next_short : {A : Type 0} (uuid : List ℕ) (stream : ℕ) (done : List (List ℕ)) (piece : List ℕ) (r s : Reading A) (f : AuditFault)
+    → r.fault ≡ None → Waits r.held → 0 < length r.held → f ≡ ends_short r → s ≡ record r { fault = Some f }
+    → HasRead uuid stream done piece r → HasRead uuid stream (done ++ piece ∷ []) [] s
+next_short uuid stream done piece r s f none waits some is met has =
+    let says = says_none uuid stream done piece r none has in
+    subst (HasRead uuid stream (done ++ piece ∷ []) []) (sym met)
+    (has_met uuid stream (done ++ piece ∷ []) [] (record r { fault = Some f }) f has.of_trace has.of_stream refl
+    (subst (StopsHowever r.uuid r.stream (done ++ piece ∷ []) []) (ends_at done r says.1 ∙ sym is)
+    (short_however done piece r says.0 waits some)))
+
+pub finish_short : {A : Type 0} (uuid : List ℕ) (stream : ℕ) (done : List (List ℕ)) (piece : List ℕ) (r : Reading A) (f : AuditFault)
+    → r.fault ≡ None → Waits r.held → 0 < length r.held → f ≡ ends_short r
+    → HasRead uuid stream done piece r → StopsAt uuid stream (done ++ piece ∷ []) f
+finish_short uuid stream done piece r f none waits some is has =
+    let says = says_none uuid stream done piece r none has in
+    subst (λ (u : List ℕ). StopsAt u stream (done ++ piece ∷ []) f) has.of_trace
+    (subst (λ (s : ℕ). StopsAt r.uuid s (done ++ piece ∷ []) f) has.of_stream
+    (subst (StopsAt r.uuid r.stream (done ++ piece ∷ [])) (ends_at done r says.1 ∙ sym is) (short_at_end done piece r [] says.0 waits some)))
+
+pub finish_found : {A : Type 0} (uuid : List ℕ) (stream : ℕ) (done : List (List ℕ)) (piece : List ℕ) (r : Reading A) → r.fault ≡ None
+    → r.held ≡ [] → HasRead uuid stream done piece r
+    → (pss : List (List Contents)) × AreAudited uuid stream (done ++ piece ∷ []) pss × (r.audit ≡ audit_of (all_of pss))
+finish_found uuid stream done piece r none free has =
+    let found = audited done piece r (says_none uuid stream done piece r none has).0 free in (
+      found.0,
+      subst (λ (u : List ℕ). AreAudited u stream (done ++ piece ∷ []) found.0) has.of_trace
+          (subst (λ (s : ℕ). AreAudited r.uuid s (done ++ piece ∷ []) found.0) has.of_stream found.1),
+      found.2,
+    )
+
+-- ---- a feed
+
+-- so many of the bytes of a feed are taken; the first reader has counted them all and taken none
+pub record Fed {A : Type 0} (first now : Reading A) (bytes : List ℕ) (at : ℕ) : Type 0 where
+  pub within : at ≤ length bytes
+  pub room : now.offset + length now.held + (length bytes - at) ≤ now.bytes
+  pub others : now ≡ with_front first now.audit now.held now.offset
+  pub is : (done : List (List ℕ)) (piece : List ℕ) → Is done piece first → Is done (piece ++ take at bytes) now
+  pub waits : Waits now.held
+
+pub fed_none : {A : Type 0} (first : Reading A) (bytes : List ℕ) → first.offset + length first.held + length bytes ≤ first.bytes
+    → Waits first.held → Fed first first bytes 0
+fed_none first bytes room waits = record {
+  within = omega arith;
+  room = omega (arith, room);
+  others = refl;
+  is = λ done piece is. subst (λ (t : List ℕ). IsAt first.uuid first.stream done t first.audit first.held first.offset) (sym (append-nil piece)) is;
+  waits = waits;
+}
+
+pub fed_more : {A : Type 0} (first now after : Reading A) (bytes rest : List ℕ) (at n : ℕ) → Fed first now bytes at → rest ≡ drop at bytes
+    → Takes now after rest n → after ≡ with_front now after.audit after.held after.offset → Fed first after bytes (at + n)
+fed_more first now after bytes rest at n fed is_rest takes same = record {
+  within = omega (arith, takes.within, fed.within, ap length is_rest, length-drop at bytes);
+  room = omega (arith, fed.room, takes.place, takes.within, fed.within, ap length is_rest, length-drop at bytes, ap (λ r. r.bytes) same);
+  others = same ∙ ap (λ r. with_front r after.audit after.held after.offset) fed.others;
+  is = λ done piece is.
+      subst (λ (t : List ℕ). IsAt after.uuid after.stream done t after.audit after.held after.offset)
+      (append_assoc piece (take at bytes) (take n rest)
+      ∙ ap (λ (t : List ℕ). piece ++ t) (ap (λ (t : List ℕ). take at bytes ++ take n t) is_rest ∙ sym (take-add at n bytes)))
+      (takes.is done (piece ++ take at bytes) (fed.is done piece is));
+  waits = takes.waits;
+}
+
+-- the reader before the feed, which counts these bytes first
+pub fed_all : {A : Type 0} (uuid : List ℕ) (stream : ℕ) (done : List (List ℕ)) (piece : List ℕ) (before first now : Reading A)
+    (bytes : List ℕ) (at : ℕ) → first ≡ record before { bytes = before.bytes + length bytes } → Fed first now bytes at → length bytes ≤ at
+    → before.fault ≡ None → HasRead uuid stream done piece before → HasRead uuid stream done (piece ++ bytes) now
+fed_all uuid stream done piece before first now bytes at begins fed end none has =
+    let says = says_none uuid stream done piece before none has in
+    let is_first = subst (λ (r : Reading _). Is done piece r) (sym begins) says.0 in
+    let is = subst (λ (t : List ℕ). Is done (piece ++ t) now) (take_all at bytes end) (fed.is done piece is_first) in
+    record {
+      of_trace = ap (λ r. r.uuid) fed.others ∙ ap (λ r. r.uuid) begins ∙ has.of_trace;
+      of_stream = ap (λ r. r.stream) fed.others ∙ ap (λ r. r.stream) begins ∙ has.of_stream;
+      says =
+          subst (Says done (piece ++ bytes) now) (sym (ap (λ r. r.fault) fed.others ∙ ap (λ r. r.fault) begins ∙ none)) (
+            is,
+            ap (λ r. r.pieces) fed.others ∙ ap (λ r. r.pieces) begins ∙ says.1,
+            omega (arith, ap (λ r. r.bytes) fed.others, ap (λ r. r.bytes) begins, says.2, length-append piece bytes),
+            fed.waits,
+          );
+    }
+
+pub fed_found : {A : Type 0} (uuid : List ℕ) (stream : ℕ) (done : List (List ℕ)) (piece : List ℕ) (before first now after met : Reading A)
+    (bytes rest : List ℕ) (at : ℕ) (cause : AuditCause) (f : AuditFault) → first ≡ record before { bytes = before.bytes + length bytes }
+    → Fed first now bytes at → rest ≡ drop at bytes → Finds now rest cause
+    → after ≡ with_front now after.audit after.held after.offset → now.offset ≡ after.offset
+    → f ≡ record { piece = after.pieces - 1; offset = after.offset; cause = cause } → met ≡ record after { fault = Some f }
+    → before.fault ≡ None → HasRead uuid stream done piece before → HasRead uuid stream done (piece ++ bytes) met
+fed_found uuid stream done piece before first now after met bytes rest at cause f begins fed is_rest finds same place is is_met none has =
+    let says = says_none uuid stream done piece before none has in
+    let is_first = subst (λ (r : Reading _). Is done piece r) (sym begins) says.0 in
+    let of_trace = ap (λ r. r.uuid) same in
+    let of_stream = ap (λ r. r.stream) same in
+    let pieces : after.pieces - 1 ≡ length done =
+    omega (arith, ap (λ r. r.pieces) same, ap (λ r. r.pieces) fed.others, ap (λ r. r.pieces) begins, says.1) in
+    let text : (piece ++ take at bytes) ++ rest ≡ piece ++ bytes =
+    append_assoc piece (take at bytes) rest
+    ∙ ap (λ (t : List ℕ). piece ++ t) (ap (λ (t : List ℕ). take at bytes ++ t) is_rest ∙ take-append-drop at bytes) in
+    let fault : record { piece = length done; offset = now.offset; cause = cause } ≡ f =
+    at_place (length done) (after.pieces - 1) now.offset after.offset cause f pieces place is in
+    let stops = finds done (piece ++ take at bytes) (fed.is done piece is_first) in
+    subst (HasRead uuid stream done (piece ++ bytes)) (sym is_met)
+    (has_met uuid stream done (piece ++ bytes) (record after { fault = Some f }) f
+    (of_trace ∙ ap (λ r. r.uuid) fed.others ∙ ap (λ r. r.uuid) begins ∙ has.of_trace)
+    (of_stream ∙ ap (λ r. r.stream) fed.others ∙ ap (λ r. r.stream) begins ∙ has.of_stream) refl
+    (subst (λ (u : List ℕ). StopsHowever u after.stream done (piece ++ bytes) f) (sym of_trace)
+    (subst (λ (s : ℕ). StopsHowever now.uuid s done (piece ++ bytes) f) (sym of_stream)
+    (subst (λ (t : List ℕ). StopsHowever now.uuid now.stream done t f) text
+    (subst (StopsHowever now.uuid now.stream done ((piece ++ take at bytes) ++ rest)) fault stops)))))
+  where
+    at_place : (n m o p : ℕ) (cause : AuditCause) (f : AuditFault) → m ≡ n → o ≡ p → f ≡ record { piece = m; offset = p; cause = cause }
+        → record { piece = n; offset = o; cause = cause } ≡ f
+    at_place n m o p cause f x y z = sym (z ∙ rw (x, sym y) refl)
