@@ -1,5 +1,8 @@
 //! An audit whose bytes come in feeds.
 
+ghost use Rattle.std.specs.Prelude.{◌≡◌, [], None};
+ghost use Rattle.tr_chunk.specs.Reading.{HasRead};
+
 use super::{assert_same, at, file, uuid};
 use std::alloc::Global;
 use std::process::Abort;
@@ -57,7 +60,10 @@ pub(super) fn audit_fed(
 }
 
 /// A reader of the file's stream.
-fn reader(rt: &impl Abort, alloc: Global) -> AuditReader {
+fn reader(rt: &impl Abort, alloc: Global) -> AuditReader
+    ensures new { HasRead result.uuid result.stream [] [] result }
+    ensures none { result.fault ≡ None }
+{
     AuditReader::new(alloc, &uuid(), 0).expect(rt, "memory")
 }
 
