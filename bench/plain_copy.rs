@@ -87,16 +87,16 @@ fn number(bytes: &[u8], at: usize) -> u64 {
     u64::from_le_bytes(bytes[at..at + 8].try_into().expect("eight bytes"))
 }
 
-/// The sum with a packet's head and its last record.
+/// The sum with a packet's head and its first record.
 fn mix_packet(before: u64, packet: &[u8], length: usize) -> u64 {
     let [stream, begin, end, seq, discarded] = [24, 32, 40, 64, 72].map(|at| number(packet, at));
     let mut sum = [stream, seq, begin, end, discarded]
         .into_iter()
         .fold(before, mix);
-    let last = &packet[packet.len() - RECORD_FRONT - length..];
-    let byte = if length == 0 { 0 } else { last[last.len() - 1] };
-    let id = number(last, 0) & u64::from(u32::MAX);
-    for value in [number(last, 12), number(last, 4), id, u64::from(byte)] {
+    let first = &packet[PACKET_FRONT..PACKET_FRONT + RECORD_FRONT + length];
+    let byte = if length == 0 { 0 } else { first[first.len() - 1] };
+    let id = number(first, 0) & u64::from(u32::MAX);
+    for value in [number(first, 12), number(first, 4), id, u64::from(byte)] {
         sum = mix(sum, value);
     }
     sum

@@ -2,13 +2,15 @@
 //!
 //!     plain_stream offers CASE ROUNDS
 //!
-//! Its offers are those of `plain_ring`. A take copies each record into a packet, with a payload of its own, as tr_stream
-//! does. It prints what tr_bench prints. It has no proof, and it ends if an allocation fails.
+//! Its offers are those of `plain_ring`. A take writes a packet's header and copies the sub-buffer's page behind it, as
+//! tr_stream does. It prints what tr_bench prints. It has no proof, and it ends if an allocation fails.
 #![forbid(unsafe_code)]
 
 mod plain_ring;
 
-use plain_ring::{number_at, Counts, OfferFault, Offered, Ring, EMPTY_PACKET, RECORD_HEADER};
+use plain_ring::{
+    number_at, Closed, Counts, OfferFault, Offered, Ring, EMPTY_PACKET, RECORD_HEADER,
+};
 use std::ops::Range;
 use std::process::ExitCode;
 
@@ -17,26 +19,7 @@ const OFFERS: u64 = 100_000;
 /// How many offers come between two takes.
 const OFFERS_A_TAKE: u64 = 125;
 
-struct Record {
-    serial: u64,
-    moment: u64,
-    id: u32,
-    payload: Vec<u8>,
-}
-
-struct Head {
-    uuid: [u8; 16],
-    stream: u64,
-    begin: u64,
-    end: u64,
-    seq: u64,
-    discarded: u64,
-}
-
-struct Packet {
-    head: Head,
-    records: Vec<Record>,
-}
+const MAGIC: [u8; 4] = [0xC1, 0x1F, 0xFC, 0xC1];
 
 struct Taken {
     seq: u64,
@@ -44,13 +27,13 @@ struct Taken {
     chunk: u64,
 }
 
-/// A ring, and the packets that it was consumed into.
+/// A ring, and the texts of the packets that it was consumed into, with the place at which each ends.
 struct Stream {
     uuid: [u8; 16],
     number: u64,
     ring: Ring,
-    packets: Vec<Packet>,
-    packets_bytes: u128,
+    part: Vec<u8>,
+    ends: Vec<usize>,
     consumed: u64,
 }
 
@@ -60,78 +43,72 @@ impl Stream {
             uuid,
             number,
             ring,
-            packets: Vec::new(),
-            packets_bytes: 0,
+            part: Vec::new(),
+            ends: Vec::new(),
             consumed: 0,
         }
     }
 
-    /// Moves the oldest sub-buffer that waits, as a packet with copies of its records.
+    /// The header and the context of a closed sub-buffer's packet.
+    fn head(&self, closed: &Closed) -> [u8; EMPTY_PACKET] {
+        let text = &closed.page.bytes;
+        let bits = 8 * (EMPTY_PACKET + text.len()) as u64;
+        let begin = u64::from_le_bytes(number_at(text, 4));
+        let (seq, discarded) = (closed.seq, closed.discarded);
+        let numbers = [self.number, begin, closed.end, bits, bits, seq, discarded];
+        let mut head = [0; EMPTY_PACKET];
+        head[0..4].copy_from_slice(&MAGIC);
+        head[4..20].copy_from_slice(&self.uuid);
+        for (place, number) in head[24..].chunks_exact_mut(8).zip(numbers) {
+            place.copy_from_slice(&number.to_le_bytes());
+        }
+        head
+    }
+
+    /// Moves the oldest sub-buffer that waits to the end of the part: the packet's head, and one copy of the page.
     fn take(&mut self) -> Option<Taken> {
         let oldest = self.ring.waiting.front()?;
-        let text = &oldest.page.bytes;
-        let records = records_of(text, oldest.page.count as usize);
+        let head = self.head(oldest);
         let taken = Taken {
             seq: oldest.seq,
             count: oldest.page.count,
             chunk: 0,
         };
-        let head = Head {
-            uuid: self.uuid,
-            stream: self.number,
-            begin: records.first().map_or(0, |r| r.moment),
-            end: oldest.end,
-            seq: oldest.seq,
-            discarded: oldest.discarded,
-        };
-        self.packets_bytes += (EMPTY_PACKET + text.len()) as u128;
-        self.packets.push(Packet { head, records });
+        self.part.extend_from_slice(&head);
+        self.part.extend_from_slice(&oldest.page.bytes);
+        self.ends.push(self.part.len());
         self.ring.remove_oldest();
         self.consumed += taken.count;
         Some(taken)
     }
-}
 
-/// Copies of the records of this text, in order.
-fn records_of(mut text: &[u8], count: usize) -> Vec<Record> {
-    let mut records = Vec::with_capacity(count);
-    while let Some((header, rest)) = text.split_first_chunk::<RECORD_HEADER>() {
-        let len = u32::from_le_bytes(number_at(header, 20)) as usize;
-        let (payload, after) = rest.split_at(len);
-        records.push(Record {
-            serial: u64::from_le_bytes(number_at(header, 12)),
-            moment: u64::from_le_bytes(number_at(header, 4)),
-            id: u32::from_le_bytes(number_at(header, 0)),
-            payload: payload.to_vec(),
-        });
-        text = after;
+    /// The sum with each packet's head and first record.
+    fn mix_packets(&self, mut sum: u64) -> u64 {
+        let mut begin = 0;
+        for end in &self.ends {
+            sum = mix_packet(sum, &self.part[begin..*end]);
+            begin = *end;
+        }
+        sum
     }
-    records
 }
 
 fn mix(sum: u64, value: u64) -> u64 {
     sum.wrapping_mul(31).wrapping_add(value)
 }
 
-fn mix_packet(sum: u64, packet: &Packet) -> u64 {
-    let Head {
-        uuid,
-        stream,
-        begin,
-        end,
-        seq,
-        discarded,
-    } = packet.head;
-    let sum = [u64::from(uuid[15]), stream, begin, end, seq, discarded]
-        .into_iter()
-        .fold(sum, mix);
-    let Some(last) = packet.records.last() else {
-        return sum;
-    };
-    let sum = [last.serial, last.moment, u64::from(last.id)]
-        .into_iter()
-        .fold(sum, mix);
-    last.payload
+/// The sum with a packet's head and its first record.
+fn mix_packet(sum: u64, packet: &[u8]) -> u64 {
+    let number = |at| u64::from_le_bytes(number_at(packet, at));
+    // of a context: the stream, both moments, the number and the discarded records
+    let head = [24, 32, 40, 64, 72].map(number);
+    let sum = head.into_iter().fold(mix(sum, u64::from(packet[19])), mix);
+    let record = &packet[EMPTY_PACKET..];
+    let field = |at| u64::from_le_bytes(number_at(record, at));
+    let id = u64::from(u32::from_le_bytes(number_at(record, 0)));
+    let len = u32::from_le_bytes(number_at(record, 20)) as usize;
+    let sum = [field(12), field(4), id].into_iter().fold(sum, mix);
+    record[RECORD_HEADER..RECORD_HEADER + len]
         .iter()
         .fold(sum, |sum, byte| mix(sum, u64::from(*byte)))
 }
@@ -197,8 +174,7 @@ fn round(
     } else {
         feed(&mut stream, 0..OFFERS, total.sum)?
     };
-    let sum = stream.packets.iter().fold(sum, mix_packet);
-    total.sum = mix(sum, stream.packets_bytes as u64);
+    total.sum = mix(stream.mix_packets(sum), stream.part.len() as u64);
     total.counts.add(&stream.ring.counts);
     total.consumed += stream.consumed;
     Ok(())

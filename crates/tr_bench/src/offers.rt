@@ -4,7 +4,7 @@ use crate::cases::Case;
 use crate::sums::mix;
 use std::alloc::{AllocError, Global};
 use std::ops::Range;
-use tr_packet::Packet;
+use tr_packet::PacketView;
 use tr_record::Moment;
 use tr_stream::{OfferFault, Offered, SessionMode, Stream};
 use uuid::Uuid;
@@ -74,20 +74,20 @@ fn take(stream: &mut Stream, sum: u64) -> u64 {
     }
 }
 
-/// The sum with a packet's head and its last record.
-fn mix_packet(sum: u64, packet: &Packet) -> u64 {
+/// The sum with a packet's head and its first record.
+fn mix_packet(sum: u64, packet: &PacketView<'_>) -> u64 {
     let head = packet.head();
     let mut sum = mix(mix(sum, u64::from(head.uuid.into_bytes()[15])), head.stream);
     sum = mix(mix(sum, head.begin.get()), head.end.get());
     sum = mix(mix(sum, head.seq), head.discarded);
-    let Some(last) = packet.records().last() else {
+    let Some(first) = packet.records().next() else {
         return sum;
     };
     sum = mix(
-        mix(mix(sum, last.serial()), last.moment().get()),
-        u64::from(last.id()),
+        mix(mix(sum, first.serial()), first.moment().get()),
+        u64::from(first.id()),
     );
-    for byte in last.payload() {
+    for byte in first.payload() {
         sum = mix(sum, u64::from(*byte));
     }
     sum
@@ -99,7 +99,7 @@ impl Total {
         let mut sum = before;
         if let Some(part) = stream.part(0) {
             for packet in part.packets() {
-                sum = mix_packet(sum, packet);
+                sum = mix_packet(sum, &packet);
             }
         }
         let counts = stream.counts();

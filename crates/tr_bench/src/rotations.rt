@@ -3,7 +3,7 @@
 use crate::sums::mix;
 use std::alloc::Global;
 use std::time::CpuClock;
-use tr_packet::Packet;
+use tr_packet::PacketView;
 use tr_session::{Session, StepFault};
 use tr_session_book::SessionFault;
 use tr_terms::{Mode, Moment, Name, OffsetMinutes, SessionMode};
@@ -28,7 +28,7 @@ pub struct Rotated {
     pub packets: u128,
     pub records: u128,
     pub bytes: u128,
-    /// A sum over each packet's head and its last record.
+    /// A sum over each packet's head and its first record.
     pub sum: u64,
 }
 
@@ -93,20 +93,20 @@ fn full_session(alloc: Global, payload: &[u8]) -> Result<Session, RotateFault> {
     Ok(session)
 }
 
-/// The sum with a packet's head and its last record.
-fn mix_packet(before: u64, packet: &Packet) -> u64 {
+/// The sum with a packet's head and its first record.
+fn mix_packet(before: u64, packet: &PacketView<'_>) -> u64 {
     let head = packet.head();
     let mut sum = mix(mix(before, head.stream), head.seq);
     sum = mix(
         mix(mix(sum, head.begin.get()), head.end.get()),
         head.discarded,
     );
-    let Some(last) = packet.records().last() else {
+    let Some(first) = packet.records().next() else {
         return sum;
     };
-    let byte = last.payload().last().copied().unwrap_or(0);
-    sum = mix(mix(sum, last.serial()), last.moment().get());
-    mix(mix(sum, u64::from(last.id())), u64::from(byte))
+    let byte = first.payload().last().copied().unwrap_or(0);
+    sum = mix(mix(sum, first.serial()), first.moment().get());
+    mix(mix(sum, u64::from(first.id())), u64::from(byte))
 }
 
 /// The counts with those of the first archive.
@@ -117,7 +117,7 @@ fn add_archive(session: &Session, total: Rotated) -> Rotated {
             break;
         };
         for packet in part.packets() {
-            sum = mix_packet(sum, packet);
+            sum = mix_packet(sum, &packet);
         }
     }
     let size = session.archive_size(0);

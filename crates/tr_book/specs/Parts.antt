@@ -1,9 +1,8 @@
 -- The packets that were consumed, in parts.
-use Rattle.std.specs.Prelude.{◌≡◌, ℕ, ◌+◌, ◌*◌, ◌≤◌, List, [], ◌∷◌, ◌++◌, length, sum_by, slice_get, Option, Some, find, ◌==◌, if◌then◌else◌}
+use Rattle.std.specs.Prelude.{◌≡◌, ℕ, ◌+◌, List, [], ◌∷◌, ◌++◌, length, sum_by, slice_get, Option, Some, find, ◌==◌, if◌then◌else◌}
 use Rattle.std.specs.Option.{option_map}
 use Rattle.tr_packet.specs.Packets.{Contents, packet_size}
 use Rattle.tr_record.specs.Records.{has_serial}
-use Rattle.tr_terms.specs.declared.limits.TheConstants.{LARGEST_PACKET}
 
 -- the packets of one stream in one trace chunk
 pub record PartState : Type 0 where
@@ -54,12 +53,6 @@ part_at k s = if k == length s.closed then Some s.current else slice_get s.close
 abbrev pub seq_among : ℕ → List Contents → Option ℕ
 seq_among n packets = option_map (λ (p : Contents). p.head.seq)
     (find (λ (p : Contents). has_serial n p.records) packets)
-
--- what is counted beside a part's packets
-pub record AreTallied (packets : List Contents) (bytes records : ℕ) : Type 0 where
-  pub bytes_are : bytes ≡ bytes_of packets
-  pub records_are : records ≡ records_of packets
-  pub small : bytes ≤ LARGEST_PACKET * records
 
 -- the current part's number is the number of closed ones
 abbrev pub IsNumbered : PartsState → Type 0

@@ -9,7 +9,7 @@ mod snap;
 
 pub use counters::Counters;
 pub use counts::Counts;
-pub use part::Part;
+pub use part::{Part, records_in};
 pub use parts::Parts;
 pub use snap::StreamSnap;
 pub use tr_terms::{Geometry, GeometryFault, Mode};

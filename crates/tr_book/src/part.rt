@@ -1,53 +1,61 @@
 //! A part: what a stream's ring gave to one trace chunk.
 
-ghost use Rattle.std.specs.Prelude.{◌≡◌, ◌≤◌, ◌+◌, ◌*◌, ◌<◌, ◌^◌, ◌∷◌, [], ◌++◌, OnOk, OnErr, IfErr, length};
-ghost use Rattle.tr_book.specs.Parts.{AreTallied, bytes_of, records_of, empty_part, seq_among};
-ghost use Rattle.tr_record.specs.Records.{has_serial};
+ghost use Rattle.std.specs.Prelude.{◌≡◌, ◌≤◌, ◌+◌, ◌*◌, ◌<◌, ◌^◌, ◌∷◌, [], ◌++◌, OnOk, OnErr, length};
+ghost use Rattle.tr_book.specs.Parts.{bytes_of, records_of, empty_part, seq_among};
+ghost use Rattle.tr_packet.specs.Packets.{IsPacket, contents};
+ghost use Rattle.tr_packet.specs.Texts.{packets_text};
 ghost use Rattle.tr_terms.specs.declared.limits.TheConstants.{LARGEST_PACKET};
 
-use std::alloc::{AllocError, AllocFailed, Allocator, Global};
+use std::alloc::{AllocError, Allocator, Global};
 use std::marker::Model;
-use tr_packet::{Packet, Packets};
+use tr_packet::{Head, PacketTexts, Packets};
+use tr_record::Records;
 
-/// The packets of one trace chunk, in order, with their sums. Contracts see a `PartState`.
+/// The packets of one trace chunk, in order, as their texts, and how many records they have. Contracts see a `PartState`.
 #[derive(Drop)]
 pub struct Part<A: Allocator = Global> {
     id: u64,
-    packets: Vec<Packet<A>, A>,
-    bytes: u128,
+    texts: PacketTexts<A>,
     records: u64,
 }
 
 impl<A: Allocator> Model for Part<A> {
-    ghost use Rattle.tr_book.specs.Parts.{PartState, AreTallied, part_state};
+    ghost use Rattle.std.specs.Prelude.{◌≡◌};
+    ghost use Rattle.tr_book.specs.Parts.{PartState, part_state, records_of};
 
     ghost Value = { PartState };
 
-    ghost view = { λ p. part_state p.id p.packets.items };
+    ghost view = { λ p. part_state p.id p.texts };
 
-    ghost invariant = { λ p. AreTallied p.packets.items p.bytes p.records };
+    ghost invariant = { λ p. p.records ≡ records_of p.texts };
 }
 
-/// Whether a packet has the record of this serial.
-fn has_record<A: Allocator>(packet: &Packet<A>, serial: u64) -> bool
-    ensures { result ≡ has_serial serial packet.now.records }
+/// How many records packets have.
+pub fn records_in(packets: Packets<'_>) -> u64
+    requires { records_of packets < 2 ^ 64 }
+    ensures { result ≡ records_of packets.entry }
 {
-    packet.records().has(serial)
+    let mut count = 0;
+    for packet in packets {
+        count += packet.count() as u64;
+    }
+    count
 }
 
-impl<A: Allocator> Part<A> {
+impl<A: Allocator + Copy> Part<A> {
     /// A part without packets. It takes no memory.
     pub(crate) fn new(alloc: A, id: u64) -> Part<A>
         ensures { result ≡ empty_part id }
     {
         Part {
             id,
-            packets: Vec::new(alloc),
-            bytes: 0,
+            texts: PacketTexts::new(alloc),
             records: 0,
         }
     }
+}
 
+impl<A: Allocator> Part<A> {
     /// The number of its trace chunk.
     pub fn id(&self) -> u64
         ensures { result ≡ self.now.id }
@@ -56,10 +64,17 @@ impl<A: Allocator> Part<A> {
     }
 
     /// Its packets, in order.
-    pub fn packets(&self) -> Packets<'_, A>
+    pub fn packets(&self) -> Packets<'_>
         ensures { result ≡ self.now.packets }
     {
-        Packets::new(self.packets.as_slice())
+        self.texts.packets()
+    }
+
+    /// The texts of its packets, one after another.
+    pub fn text(&self) -> &[u8]
+        ensures { result.now ≡ packets_text self.now.packets }
+    {
+        self.texts.bytes()
     }
 
     /// The bytes of all its packets.
@@ -67,7 +82,9 @@ impl<A: Allocator> Part<A> {
         ensures value { result ≡ bytes_of self.now.packets }
         ensures small { result ≤ LARGEST_PACKET * records_of self.now.packets }
     {
-        self.bytes
+        // Its packets are packets.
+        let _ = self.texts.packets();
+        self.texts.bytes().len() as u128
     }
 
     /// How many records its packets have.
@@ -81,51 +98,42 @@ impl<A: Allocator> Part<A> {
     pub fn seq_of(&self, serial: u64) -> Option<u64>
         ensures { result ≡ seq_among serial self.now.packets }
     {
-        self.packets
-            .iter()
-            .find(|p| has_record(p, serial))
-            .map(|p| p.head().seq)
+        for packet in self.texts.packets() {
+            if packet.records().has(serial) {
+                return Some(packet.head().seq);
+            }
+        }
+        None
     }
 
-    /// Adds a packet at the end. If an allocation fails, the part is as it was and the packet comes back.
-    pub(crate) fn push(&mut self, packet: Packet<A>) -> Result<(), AllocFailed<Packet<A>>>
-        requires { records_of self.old.packets + length packet.records < 2 ^ 64 }
-        ensures ok { OnOk result (self.new ≡ record self.old { packets = self.old.packets ++ packet ∷ [] }) }
+    /// Writes the packet of this head and these records, of which there are `count`, at the end. If an allocation fails, the
+    /// part is as it was.
+    pub(crate) fn push(
+        &mut self,
+        head: Head,
+        count: usize,
+        records: &Records<'_>,
+    ) -> Result<(), AllocError>
+        requires packet { IsPacket (contents head records.now) }
+        requires count { count ≡ length records.now }
+        requires few { records_of self.old.packets + count < 2 ^ 64 }
+        ensures ok { OnOk result (self.new ≡ record self.old { packets = self.old.packets ++ contents head records.now ∷ [] }) }
         ensures err { OnErr result (self.new ≡ self.old) }
-        ensures returned { IfErr result (λ f. f.value ≡ packet) }
     {
-        let bytes = packet.size();
-        let count = packet.records().len();
-        self.packets.push(packet)?;
-        self.bytes += bytes as u128;
+        self.texts.push(head, count, records)?;
         self.records += count as u64;
         Ok(())
     }
 
-    /// Adds packets at the end, in order. If an allocation fails, the part is as it was.
-    pub(crate) fn append(&mut self, mut packets: Vec<Packet<A>, A>) -> Result<(), AllocError>
-        requires { records_of self.old.packets + records_of packets.items < 2 ^ 64 }
-        ensures ok { OnOk result (self.new ≡ record self.old { packets = self.old.packets ++ packets.items }) }
+    /// Moves packets to the end, in order. If an allocation fails, the part is as it was.
+    pub(crate) fn append(&mut self, packets: PacketTexts<A>) -> Result<(), AllocError>
+        requires { records_of self.old.packets + records_of packets < 2 ^ 64 }
+        ensures ok { OnOk result (self.new ≡ record self.old { packets = self.old.packets ++ packets }) }
         ensures err { OnErr result (self.new ≡ self.old) }
     {
-        let (bytes, records) = tally(packets.as_slice());
-        self.packets.append(&mut packets)?;
-        self.bytes += bytes;
-        self.records += records;
+        let count = records_in(packets.packets());
+        self.texts.append(packets)?;
+        self.records += count;
         Ok(())
     }
-}
-
-/// The bytes of packets, and how many records they have.
-fn tally<A: Allocator>(packets: &[Packet<A>]) -> (u128, u64)
-    requires { records_of packets.now < 2 ^ 64 }
-    ensures { AreTallied packets.now result.0 result.1 }
-{
-    let mut bytes = 0;
-    let mut records = 0;
-    'packets: for packet in packets {
-        bytes += packet.size() as u128;
-        records += packet.records().len() as u64;
-    }
-    (bytes, records)
 }

@@ -1,13 +1,15 @@
 //! The parts of a stream.
 
-ghost use Rattle.std.specs.Prelude.{◌≡◌, ◌+◌, ◌<◌, ◌^◌, OnOk, OnErr, IfErr, length, option_copied};
+ghost use Rattle.std.specs.Prelude.{◌≡◌, ◌+◌, ◌<◌, ◌^◌, OnOk, OnErr, length, option_copied};
+ghost use Rattle.tr_packet.specs.Packets.{IsPacket, contents};
 ghost use Rattle.tr_book.specs.Parts.{IsNumbered, records_of, no_parts, with_packet, with_packets, close_part, part_at};
 
 use crate::part::Part;
-use std::alloc::{AllocError, AllocFailed, Allocator, Global};
+use std::alloc::{AllocError, Allocator, Global};
 use std::marker::Model;
 use std::mem;
-use tr_packet::Packet;
+use tr_packet::{Head, PacketTexts};
+use tr_record::Records;
 
 /// The closed parts of a stream in order, and the current one. Contracts see a `PartsState`.
 #[derive(Drop)]
@@ -61,14 +63,21 @@ impl<A: Allocator> Parts<A> {
         self.closed.len() as u64
     }
 
-    /// Adds a packet at the end of the current part. If an allocation fails, all is as it was and the packet comes back.
-    pub fn push(&mut self, packet: Packet<A>) -> Result<(), AllocFailed<Packet<A>>>
-        requires { records_of self.old.current.packets + length packet.records < 2 ^ 64 }
-        ensures ok { OnOk result (self.new ≡ with_packet packet self.old) }
+    /// Writes the packet of this head and these records, of which there are `count`, at the end of the current part. If an
+    /// allocation fails, all is as it was.
+    pub fn push(
+        &mut self,
+        head: Head,
+        count: usize,
+        records: &Records<'_>,
+    ) -> Result<(), AllocError>
+        requires packet { IsPacket (contents head records.now) }
+        requires count { count ≡ length records.now }
+        requires few { records_of self.old.current.packets + count < 2 ^ 64 }
+        ensures ok { OnOk result (self.new ≡ with_packet (contents head records.now) self.old) }
         ensures err { OnErr result (self.new ≡ self.old) }
-        ensures returned { IfErr result (λ f. f.value ≡ packet) }
     {
-        self.current.push(packet)
+        self.current.push(head, count, records)
     }
 }
 
@@ -84,11 +93,11 @@ impl<A: Allocator + Copy> Parts<A> {
         }
     }
 
-    /// Adds packets at the end of the current part, in order, closes it and begins the next one. If an allocation fails,
+    /// Moves packets to the end of the current part, in order, closes it and begins the next one. If an allocation fails,
     /// nothing changes.
-    pub fn cut(&mut self, packets: Vec<Packet<A>, A>) -> Result<(), AllocError>
-        requires { records_of self.old.current.packets + records_of packets.items < 2 ^ 64 }
-        ensures ok { OnOk result (self.new ≡ close_part (with_packets packets.items self.old)) }
+    pub fn cut(&mut self, packets: PacketTexts<A>) -> Result<(), AllocError>
+        requires { records_of self.old.current.packets + records_of packets < 2 ^ 64 }
+        ensures ok { OnOk result (self.new ≡ close_part (with_packets packets self.old)) }
         ensures err { OnErr result (self.new ≡ self.old) }
     {
         self.closed.reserve(1)?;

@@ -3,19 +3,20 @@
 ghost use Rattle.std.specs.Prelude.{◌≡◌, ◌<◌, ◌^◌};
 ghost use Rattle.tr_book.specs.Parts.{records_of};
 ghost use Rattle.tr_book.specs.Snaps.{snap_state};
+ghost use Rattle.tr_packet.specs.Texts.{packets_text};
 
 use std::alloc::{Allocator, Global};
 use std::marker::Model;
-use tr_packet::{Packet, Packets};
+use tr_packet::{PacketTexts, Packets};
 
-/// One stream at one step: how many offers it had accepted, how many of their records it had discarded, and copies of the
-/// packets that its ring held, the oldest first. Contracts see a `SnapState`.
+/// One stream at one step: how many offers it had accepted, how many of their records it had discarded, and the
+/// packets that its ring held, the oldest first, as their texts. Contracts see a `SnapState`.
 #[derive(Drop)]
 pub struct StreamSnap<A: Allocator = Global> {
     stream: u64,
     offered: u64,
     discarded: u64,
-    packets: Vec<Packet<A>, A>,
+    texts: PacketTexts<A>,
 }
 
 impl<A: Allocator> Model for StreamSnap<A> {
@@ -23,30 +24,25 @@ impl<A: Allocator> Model for StreamSnap<A> {
 
     ghost Value = { SnapState };
 
-    ghost view = { λ s. snap_state s.stream s.offered s.discarded s.packets.items };
+    ghost view = { λ s. snap_state s.stream s.offered s.discarded s.texts };
 
     ghost use Rattle.std.specs.Prelude.{◌<◌, ◌^◌};
     ghost use Rattle.tr_book.specs.Parts.{records_of};
 
-    ghost invariant = { λ s. records_of s.packets.items < 2 ^ 64 };
+    ghost invariant = { λ s. records_of s.texts < 2 ^ 64 };
 }
 
 impl<A: Allocator> StreamSnap<A> {
     /// What is shown of the stream with this number. It takes no memory.
-    pub fn new(
-        stream: u64,
-        offered: u64,
-        discarded: u64,
-        packets: Vec<Packet<A>, A>,
-    ) -> StreamSnap<A>
-        requires { records_of packets.items < 2 ^ 64 }
-        ensures { result ≡ snap_state stream offered discarded packets.items }
+    pub fn new(stream: u64, offered: u64, discarded: u64, texts: PacketTexts<A>) -> StreamSnap<A>
+        requires { records_of texts < 2 ^ 64 }
+        ensures { result ≡ snap_state stream offered discarded texts }
     {
         StreamSnap {
             stream,
             offered,
             discarded,
-            packets,
+            texts,
         }
     }
 
@@ -72,10 +68,17 @@ impl<A: Allocator> StreamSnap<A> {
     }
 
     /// The packets of its ring, the oldest first.
-    pub fn packets(&self) -> Packets<'_, A>
+    pub fn packets(&self) -> Packets<'_>
         ensures value { result ≡ self.now.packets }
         ensures few { records_of self.now.packets < 2 ^ 64 }
     {
-        Packets::new(self.packets.as_slice())
+        self.texts.packets()
+    }
+
+    /// The texts of these packets, one after another.
+    pub fn text(&self) -> &[u8]
+        ensures { result.now ≡ packets_text self.now.packets }
+    {
+        self.texts.bytes()
     }
 }

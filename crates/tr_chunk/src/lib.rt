@@ -21,4 +21,4 @@ pub use feeds::audit_feeds;
 pub use names::stream_file_name;
 pub use stream_audit::{Gaps, StreamAudit};
 pub use tr_terms::OffsetMinutes;
-pub use writing::{write_metadata, write_packets, write_part};
+pub use writing::{write_metadata, write_part, write_standing};

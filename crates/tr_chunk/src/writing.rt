@@ -1,53 +1,31 @@
 //! Writing the files of a trace chunk.
 
 ghost use Rattle.tr_packet.specs.Metadata.{metadata_of};
-ghost use Rattle.tr_packet.specs.Packets.{packet_text};
-ghost use Rattle.tr_chunk.specs.Files.{WritesPackets, WritesText, sunk_of};
+ghost use Rattle.tr_chunk.specs.Files.{WritesPackets, WritesStanding, WritesText, sunk_of};
 
 use crate::faults::WriteFault;
 use std::alloc::Allocator;
 use tr_book::Part;
-use tr_packet::{Packet, Packets, encode_packet, metadata_text};
+use tr_packet::metadata_text;
 use tr_record::{ByteSink, put_all};
 use uuid::Uuid;
 
-/// Writes a packet's text, from memory of its own.
-fn write_packet<A: Allocator, B: Allocator, K: ByteSink>(
-    alloc: B,
-    sink: &mut K,
-    packet: &Packet<A>,
-) -> Result<(), WriteFault>
-    ensures { WritesText (packet_text packet.now) (sunk_of K.ByteSink sink.old) (sunk_of K.ByteSink sink.new) result }
+/// Writes the text of packets as it stands in memory. After W1 a prefix of it went out.
+pub fn write_standing<K: ByteSink>(sink: &mut K, text: &[u8]) -> Result<(), WriteFault>
+    ensures { WritesStanding text.now (sunk_of K.ByteSink sink.old) (sunk_of K.ByteSink sink.new) result }
 {
-    let text = encode_packet(alloc, packet)?;
-    put_all(sink, &text)?;
-    Ok(())
-}
-
-/// Writes packets, one after another. After a refusal a prefix of them went out; after W2, a number of whole packets.
-pub fn write_packets<A: Allocator, B: Allocator + Copy, K: ByteSink>(
-    alloc: B,
-    sink: &mut K,
-    packets: Packets<'_, A>,
-) -> Result<(), WriteFault>
-    ensures { WritesPackets packets.entry (sunk_of K.ByteSink sink.old) (sunk_of K.ByteSink sink.new) result }
-{
-    for packet in packets {
-        write_packet(alloc, sink, packet)?;
+    if text.is_empty() {
+        return Ok(());
     }
+    put_all(sink, text)?;
     Ok(())
 }
 
-/// Writes the packets of a part, one after another. After a refusal a prefix of them went out; after W2, a number of whole
-/// packets.
-pub fn write_part<A: Allocator, B: Allocator + Copy, K: ByteSink>(
-    alloc: B,
-    sink: &mut K,
-    part: &Part<A>,
-) -> Result<(), WriteFault>
+/// Writes the packets of a part, one after another. It takes no memory. After W1 a prefix of them went out.
+pub fn write_part<A: Allocator, K: ByteSink>(sink: &mut K, part: &Part<A>) -> Result<(), WriteFault>
     ensures { WritesPackets part.now.packets (sunk_of K.ByteSink sink.old) (sunk_of K.ByteSink sink.new) result }
 {
-    write_packets(alloc, sink, part.packets())
+    write_standing(sink, part.text())
 }
 
 /// Writes the metadata text of a trace. After a refusal a prefix of it went out; after W2, none of it.

@@ -42,8 +42,7 @@ fn write_metadata_file<B: Allocator, D: Disk>(
 }
 
 /// Writes a part's packets to a file of this path.
-fn write_part_file<A: Allocator, B: Allocator + Copy, D: Disk>(
-    alloc: B,
+fn write_part_file<A: Allocator, D: Disk>(
     disk: &mut D,
     path: &str,
     part: &Part<A>,
@@ -55,7 +54,7 @@ fn write_part_file<A: Allocator, B: Allocator + Copy, D: Disk>(
     ensures failures { FailedByWrite (D.failures disk.old) (D.failures disk.new) result }
 {
     let mut file = disk.open_file(path)?;
-    if let Err(fault) = write_part(alloc, &mut file, part) {
+    if let Err(fault) = write_part(&mut file, part) {
         disk.give_up(file);
         return Err(ExportFault::from(fault));
     }
@@ -89,7 +88,7 @@ fn write_stream<A: Allocator, B: Allocator + Copy, D: Disk>(
     };
     let name = stream_file_name(alloc, &channel, i)?;
     let path = file_path(alloc, folder, name.as_str())?;
-    write_part_file(alloc, disk, path.as_str(), part)
+    write_part_file(disk, path.as_str(), part)
 }
 
 /// Writes what each stream got in chunk `id` to its file in the folder.

@@ -4,13 +4,14 @@ mod archive_names;
 mod damage;
 mod readers;
 
+use crate::packing::put_in_part;
 use std::alloc::Global;
 use std::fmt::{Debug, Display};
 use std::process::Abort;
 use tr_book::Parts;
 use tr_chunk::{
     AuditCause, AuditFault, StreamAudit, WriteFault, audit_stream, stream_file_name,
-    write_metadata, write_packets, write_part,
+    write_metadata, write_part,
 };
 use tr_packet::{Head, Packet, PacketFault, encode_packet, metadata_text};
 use tr_record::{MemorySink, Rec, WriterSink};
@@ -55,21 +56,28 @@ fn packet(
     Packet::checked(head, records).expect(rt, "a packet")
 }
 
-/// A part of two packets, of 228 and of 256 bytes; one record was discarded between them.
-fn parts(rt: &impl Abort, alloc: Global) -> Parts {
+/// Two packets, of 228 and of 256 bytes; one record was discarded between them.
+fn both(rt: &impl Abort, alloc: Global) -> Vec<Packet> {
     let first = packet(rt, alloc, (0, 1, 3, 0), &[(0, 1, 50), (1, 2, 50)]);
     let rows = [(2, 3, 50), (3, 4, 50), (5, 6, 4)];
     let second = packet(rt, alloc, (1, 3, 10, 1), &rows);
+    vec![in alloc; first, second].expect(rt, "memory")
+}
+
+/// A part of both.
+fn parts(rt: &impl Abort, alloc: Global) -> Parts {
+    let both = both(rt, alloc);
     let mut parts = Parts::new(alloc);
-    parts.push(first).expect(rt, "memory");
-    parts.push(second).expect(rt, "memory");
+    for packet in &both {
+        put_in_part(rt, alloc, &mut parts, packet);
+    }
     parts
 }
 
 /// The file of the current part, which is written to a sink that is flushed at this size.
 fn file_of(rt: &impl Abort, alloc: Global, parts: &Parts, size: usize) -> Vec<u8> {
     let mut sink = MemorySink::new(alloc, size);
-    write_part(alloc, &mut sink, parts.current()).expect(rt, "a file");
+    write_part(&mut sink, parts.current()).expect(rt, "a file");
     sink.into_bytes()
 }
 
@@ -208,15 +216,14 @@ fn the_metadata_is_written(rt: HostRuntime) {
 
 #[test]
 fn packets_are_written_one_after_another(rt: HostRuntime) {
-    let parts = parts(&rt, rt.alloc());
-    let mut sink = MemorySink::new(rt.alloc(), 100);
-    write_packets(rt.alloc(), &mut sink, parts.current().packets()).expect(&rt, "a file");
+    let both = both(&rt, rt.alloc());
     let mut texts = Vec::new(rt.alloc());
-    for packet in parts.current().packets() {
+    for packet in &both {
         append(&rt, rt.alloc(), &mut texts, packet);
     }
+    let file = file_of(&rt, rt.alloc(), &parts(&rt, rt.alloc()), 100);
     assert_same(&rt, texts.len(), 484);
-    assert_same(&rt, sink.into_bytes().as_slice(), texts.as_slice());
+    assert_same(&rt, file.as_slice(), texts.as_slice());
     // a part without packets is no byte
     let none = file_of(&rt, rt.alloc(), &Parts::new(rt.alloc()), 100);
     assert_same(&rt, none.len(), 0);
@@ -233,7 +240,7 @@ fn a_sink_that_fails(rt: HostRuntime) {
         (484, Ok(())),
     ] {
         let mut sink = WriterSink::new(FailsAfter::new(bytes));
-        let answer = write_part(rt.alloc(), &mut sink, parts.current());
+        let answer = write_part(&mut sink, parts.current());
         assert_same(&rt, (bytes, answer), (bytes, want));
     }
     let mut sink = WriterSink::new(FailsAfter::new(3));

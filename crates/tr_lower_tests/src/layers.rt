@@ -76,8 +76,7 @@ fn packet(rt: &impl Abort, alloc: Global, seq: u64, begin: u64, end: u64, len: u
 
 /// Asserts how many packets there are, and the number of the last one.
 fn assert_packets(rt: &impl Abort, packets: Packets<'_>, wanted: (usize, u64)) {
-    let last = packets
-        .at(packets.len().wrapping_sub(1))
-        .expect(rt, "a packet");
-    assert_same(rt, (packets.len(), last.head().seq), wanted);
+    let count = packets.len();
+    let last = packets.last().expect(rt, "a packet");
+    assert_same(rt, (count, last.head().seq), wanted);
 }

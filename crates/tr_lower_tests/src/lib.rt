@@ -11,3 +11,5 @@ mod layers;
 mod metadata;
 #[cfg(test)]
 mod packets;
+#[cfg(test)]
+mod packing;

@@ -1,9 +1,12 @@
 //! Worked examples of the packet format, what makes no packet, and damaged bytes.
 
+use crate::packing::put;
 use std::alloc::Global;
 use std::fmt::Debug;
 use std::process::Abort;
-use tr_packet::{Head, Packet, PacketFault, PacketView, Packets, decode_packet, encode_packet};
+use tr_packet::{
+    Head, Packet, PacketFault, PacketTexts, PacketView, Packets, decode_packet, encode_packet,
+};
 use tr_record::Rec;
 use tr_testing::moment;
 use uuid::Uuid;
@@ -72,31 +75,57 @@ fn a_packet_of_one_record(rt: HostRuntime) {
     assert_same(&rt, bytes.as_slice(), ONE.as_slice());
 }
 
-/// Asserts the number of the packet that is shown next, and how many there are with it.
+/// Asserts the number of the packet that is shown next, the serial of its only record, and how many there are with it.
 fn assert_next(rt: &impl Abort, shown: &mut Packets<'_>, count: usize, seq: u64) {
     assert_same(rt, shown.len(), count);
     let packet = shown.next().expect(rt, "a packet");
-    assert_same(rt, packet.head().seq, seq);
+    assert_same(rt, (packet.head().seq, packet.last_serial()), (seq, seq));
+    assert!(rt; packet.records().has(seq) && !packet.records().has(4));
 }
 
 #[test]
-fn packets_are_shown_by_place_and_one_after_another(rt: HostRuntime) {
-    let mut packets = Vec::new(rt.alloc());
+fn packets_are_shown_one_after_another(rt: HostRuntime) {
+    let mut texts = PacketTexts::new(rt.alloc());
     for seq in [3, 5] {
         let mut head = head();
         head.seq = seq;
-        packets
-            .push(packet(&rt, rt.alloc(), head, &[(seq, 1, 1)]))
-            .expect(&rt, "memory");
+        let packet = packet(&rt, rt.alloc(), head, &[(seq, 1, 1)]);
+        put(&rt, rt.alloc(), &mut texts, &packet);
     }
-    let mut shown = Packets::new(&packets);
-    let second = shown.at(1).expect(&rt, "a packet");
-    assert_same(&rt, second.head().seq, 5);
-    assert!(rt; second.records().has(5) && !second.records().has(3));
-    assert!(rt; shown.at(2).is_none());
+    let mut shown = texts.packets();
     assert_next(&rt, &mut shown, 2, 3);
     assert_next(&rt, &mut shown, 1, 5);
     assert!(rt; shown.next().is_none());
+}
+
+/// The texts of packets with these numbers, which are also the serials of their only records.
+fn texts_of(rt: &impl Abort, alloc: Global, numbers: &[u64]) -> PacketTexts {
+    let mut texts = PacketTexts::new(alloc);
+    for seq in numbers {
+        let mut head = head();
+        head.seq = *seq;
+        put(
+            rt,
+            alloc,
+            &mut texts,
+            &packet(rt, alloc, head, &[(*seq, 1, 1)]),
+        );
+    }
+    texts
+}
+
+#[test]
+fn packets_are_moved_behind_others(rt: HostRuntime) {
+    let mut texts = PacketTexts::new(rt.alloc());
+    for numbers in [[3].as_slice(), &[], &[5, 6]] {
+        let more = texts_of(&rt, rt.alloc(), numbers);
+        texts.append(more).expect(&rt, "memory");
+    }
+    let whole = texts_of(&rt, rt.alloc(), &[3, 5, 6]);
+    assert_same(&rt, (texts.len(), texts.bytes().len()), (3, 3 * 105));
+    assert_same(&rt, texts.bytes(), whole.bytes());
+    let last = texts.packets().last().expect(&rt, "a packet");
+    assert_same(&rt, (last.head().seq, last.last_serial()), (6, 6));
 }
 
 /// Records, and whether they make a packet with that head.

@@ -1,6 +1,7 @@
 pub mod AnswerLemmas
 pub mod BodyLemmas
 pub mod DecodingLemmas
+pub mod LabelLemmas
 pub mod LawLemmas
 pub mod LayoutLemmas
 pub mod MetadataLemmas

@@ -4,3 +4,4 @@ pub mod Metadata
 pub mod Order
 pub mod Packets
 pub mod Seen
+pub mod Texts

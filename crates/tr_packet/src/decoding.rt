@@ -24,7 +24,7 @@ fn packet_in(bytes: &[u8]) -> Result<(PacketView<'_>, usize), PacketFault>
     let Some(head) = head_in(bytes) else {
         return Err(PacketFault::MomentOrder);
     };
-    Ok((PacketView::new(head, count, last_serial, body), size))
+    Ok((PacketView::new(head, count, Some(last_serial), body), size))
 }
 
 /// The packet that the bytes start with, and how many bytes it has, whatever follows. If they don't start with a packet,

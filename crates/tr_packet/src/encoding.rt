@@ -11,7 +11,7 @@ use crate::packet::Packet;
 use std::alloc::{AllocError, Allocator};
 use tr_record::{RecViews, put_bytes, put_rec, put_u32, put_u64};
 
-fn put_header<A: Allocator>(out: &mut Vec<u8, A>, head: &Head)
+pub(crate) fn put_header<A: Allocator>(out: &mut Vec<u8, A>, head: &Head)
     requires uuid { length head.now.uuid ≡ 16 }
     requires room { vec_len out.old + 32 ≤ vec_capacity out.old }
     ensures items { out.new.items ≡ out.old.items ++ header_text head.now }
@@ -37,7 +37,7 @@ fn put_times<A: Allocator>(out: &mut Vec<u8, A>, head: &Head, bits: u64)
     put_u64(out, bits);
 }
 
-fn put_context<A: Allocator>(out: &mut Vec<u8, A>, head: &Head, bits: u64)
+pub(crate) fn put_context<A: Allocator>(out: &mut Vec<u8, A>, head: &Head, bits: u64)
     requires { vec_len out.old + 48 ≤ vec_capacity out.old }
     ensures items { out.new.items ≡ out.old.items ++ context_text head.now bits }
     ensures len { vec_len out.new ≡ vec_len out.old + 48 }

@@ -12,6 +12,7 @@ mod order;
 mod packet;
 mod packets;
 mod seen;
+mod texts;
 mod view;
 
 pub use decoding::decode_packet;
@@ -22,4 +23,5 @@ pub use head::Head;
 pub use metadata::metadata_text;
 pub use packet::Packet;
 pub use packets::Packets;
+pub use texts::PacketTexts;
 pub use view::PacketView;

@@ -1,60 +1,72 @@
-//! The packets that lie in memory, one after another.
+//! The packets whose texts lie in memory, one after another.
 
-ghost use Rattle.std.specs.Prelude.{◌≡◌, length, option_copied, slice_get};
-ghost use Rattle.std.specs.Iterator.{YieldsFirstRef, item_count};
+ghost use Rattle.std.specs.Prelude.{◌≡◌, length};
+ghost use Rattle.std.specs.Iterator.{YieldsFirst, item_count};
+ghost use Rattle.tr_packet.specs.Texts.{AreLabelled, packets_in};
 
-use crate::packet::Packet;
-use std::alloc::{Allocator, Global};
+use crate::head::Head;
+use crate::view::PacketView;
 use std::marker::Model;
+use tr_terms::limits::PACKET_HEADER;
 
-/// Packets in order. Contracts see the list of those that are left, as `Contents`.
-#[derive(Drop)]
-pub struct Packets<'a, A: Allocator = Global> {
-    rest: &'a [Packet<A>],
+/// What is known of a packet's text without a look at it: the packet's head, how many records it has, and how many bytes its
+/// text has.
+#[derive(Clone, Copy, Debug)]
+pub(crate) struct Label {
+    pub head: Head,
+    pub count: usize,
+    pub size: usize,
 }
 
-impl<'a, A: Allocator> Model for Packets<'a, A> {
+/// Packets in order, each shown by a view. Contracts see the list of those that are left, as `Contents`.
+#[derive(Drop)]
+pub struct Packets<'a> {
+    labels: &'a [Label],
+    bytes: &'a [u8],
+}
+
+impl<'a> Model for Packets<'a> {
     ghost use Rattle.std.specs.Prelude.{List};
     ghost use Rattle.tr_packet.specs.Packets.{Contents};
+    ghost use Rattle.tr_packet.specs.Texts.{AreLabelled, packets_in};
 
     ghost Value = { List Contents };
 
-    ghost view = { λ p. p.rest.now };
+    ghost view = { λ p. packets_in p.labels.now p.bytes.now };
+
+    ghost invariant = { λ p. AreLabelled p.labels.now p.bytes.now };
 }
 
-impl<'a, A: Allocator> Packets<'a, A> {
-    /// These packets. It takes no memory.
-    pub fn new(packets: &'a [Packet<A>]) -> Packets<'a, A>
-        ensures { result ≡ packets.entry.now }
+impl<'a> Packets<'a> {
+    /// The packets with these labels.
+    pub(crate) fn new(labels: &'a [Label], bytes: &'a [u8]) -> Packets<'a>
+        requires { AreLabelled labels.now bytes.now }
+        ensures { result ≡ packets_in labels.entry.now bytes.entry.now }
     {
-        Packets { rest: packets }
+        Packets { labels, bytes }
     }
 
     /// How many packets are left.
     pub fn len(&self) -> usize
         ensures { result ≡ length self.now }
     {
-        self.rest.len()
-    }
-
-    /// The packet number `i` of those that are left, from 0 on.
-    pub fn at(&self, i: usize) -> Option<&'a Packet<A>>
-        ensures { option_copied result ≡ slice_get self.now i }
-    {
-        self.rest.get(i)
+        self.labels.len()
     }
 }
 
-impl<'a, A: Allocator> Iterator for Packets<'a, A> {
-    type Item = &'a Packet<A>;
+impl<'a> Iterator for Packets<'a> {
+    type Item = PacketView<'a>;
 
-    ghost next_gives = { YieldsFirstRef (λ left. left) };
+    ghost next_gives = { YieldsFirst (λ left. left) };
 
     ghost remaining = { item_count (λ left. left) };
 
-    fn next(&mut self) -> Option<&'a Packet<A>> {
-        let (first, rest) = self.rest.split_first()?;
-        self.rest = rest;
-        Some(first)
+    fn next(&mut self) -> Option<PacketView<'a>> {
+        let (label, labels) = self.labels.split_first()?;
+        let (text, bytes) = self.bytes.split_at(label.size);
+        let (_, body) = text.split_at(PACKET_HEADER);
+        self.labels = labels;
+        self.bytes = bytes;
+        Some(PacketView::new(label.head, label.count, None, body))
     }
 }

@@ -1,6 +1,6 @@
 //! A packet whose records lie in bytes.
 
-ghost use Rattle.std.specs.Prelude.{◌≡◌, Some, None, length};
+ghost use Rattle.std.specs.Prelude.{◌≡◌, Some, None, IfSome, length};
 ghost use Rattle.tr_record.specs.Whole.{AreWhole, entries_of};
 ghost use Rattle.tr_packet.specs.Order.{last_serial_after};
 ghost use Rattle.tr_packet.specs.Packets.{IsPacket, contents};
@@ -15,12 +15,12 @@ use tr_record::Records;
 pub struct PacketView<'a> {
     head: Head,
     count: usize,
-    last_serial: u64,
+    last_serial: Option<u64>,
     body: &'a [u8],
 }
 
 impl<'a> Model for PacketView<'a> {
-    ghost use Rattle.std.specs.Prelude.{◌≡◌, Some, None, length};
+    ghost use Rattle.std.specs.Prelude.{◌≡◌, Some, None, IfSome, length};
     ghost use Rattle.tr_record.specs.Whole.{AreWhole, entries_of};
     ghost use Rattle.tr_packet.specs.Order.{last_serial_after};
     ghost use Rattle.tr_packet.specs.Packets.{Contents, IsPacket, contents};
@@ -31,16 +31,21 @@ impl<'a> Model for PacketView<'a> {
 
     ghost invariant = { λ p. IsPacket (contents p.head (entries_of p.body.now)) × AreWhole p.body.now
         × (p.count ≡ length (entries_of p.body.now))
-        × (last_serial_after None (entries_of p.body.now) ≡ Some p.last_serial) };
+        × IfSome p.last_serial (λ last. last_serial_after None (entries_of p.body.now) ≡ Some last) };
 }
 
 impl<'a> PacketView<'a> {
-    /// The packet of `count` records with this last serial, whose texts these bytes are.
-    pub(crate) fn new(head: Head, count: usize, last_serial: u64, body: &'a [u8]) -> PacketView<'a>
+    /// The packet of `count` records, whose texts these bytes are; with the last serial if that is known.
+    pub(crate) fn new(
+        head: Head,
+        count: usize,
+        last_serial: Option<u64>,
+        body: &'a [u8],
+    ) -> PacketView<'a>
         requires packet { IsPacket (contents head (entries_of body.now)) }
         requires whole { AreWhole body.now }
         requires count { count ≡ length (entries_of body.now) }
-        requires last_serial { last_serial_after None (entries_of body.now) ≡ Some last_serial }
+        requires last_serial { IfSome last_serial (λ last. last_serial_after None (entries_of body.now) ≡ Some last) }
         ensures { result ≡ contents head (entries_of body.entry.now) }
     {
         PacketView {
@@ -72,7 +77,13 @@ impl<'a> PacketView<'a> {
         ensures value { last_serial_after None self.now.records ≡ Some result }
         ensures packet { IsPacket self.now }
     {
-        self.last_serial
+        if let Some(last) = self.last_serial {
+            return last;
+        }
+        match last_serial_of(self.records()) {
+            Some(last) => last,
+            None => unreachable!(),
+        }
     }
 
     /// Its records, in order.
@@ -82,4 +93,15 @@ impl<'a> PacketView<'a> {
     {
         Records::new(self.body)
     }
+}
+
+/// The last record's serial, if there are records.
+fn last_serial_of(records: Records<'_>) -> Option<u64>
+    ensures { result ≡ last_serial_after None records.entry }
+{
+    let mut last = None;
+    for r in records {
+        last = Some(r.serial());
+    }
+    last
 }

@@ -9,7 +9,7 @@ ghost use Rattle.tr_stream.specs.Fates.{all_parts};
 
 use crate::items::Item;
 use tr_packet::Packets;
-use tr_record::{RecView, RecViews};
+use tr_record::{RecView, Records};
 use tr_stream::Stream;
 
 /// Whether a record is that of an item.
@@ -50,29 +50,23 @@ fn judge(items: &[Item], record: &RecView<'_>, least: Option<u64>) -> Option<u64
 }
 
 /// The least wrong serial after these records too.
-fn judge_records(items: &[Item], records: &RecViews<'_>, least: Option<u64>) -> Option<u64>
-    ensures { Judges items.now records.now least result }
+fn judge_records(items: &[Item], records: Records<'_>, least: Option<u64>) -> Option<u64>
+    ensures { Judges items.now records.entry least result }
 {
     let mut least = least;
-    'records: for k in 0..records.len() {
-        let Some(record) = records.at(k) else {
-            unreachable!()
-        };
+    'records: for record in records {
         least = judge(items, &record, least);
     }
     least
 }
 
 /// The least wrong serial after the records of these packets too.
-fn judge_packets(items: &[Item], packets: &Packets<'_>, least: Option<u64>) -> Option<u64>
-    ensures { Judges items.now (packet_records packets.now) least result }
+fn judge_packets(items: &[Item], packets: Packets<'_>, least: Option<u64>) -> Option<u64>
+    ensures { Judges items.now (packet_records packets.entry) least result }
 {
     let mut least = least;
-    'packets: for k in 0..packets.len() {
-        let Some(packet) = packets.at(k) else {
-            unreachable!()
-        };
-        least = judge_records(items, &packet.records(), least);
+    'packets: for packet in packets {
+        least = judge_records(items, packet.records(), least);
     }
     least
 }
@@ -83,7 +77,7 @@ fn judge_part(items: &[Item], stream: &Stream, k: u64, least: Option<u64>) -> Op
         → Judges items.now (packet_records part.packets) least result }
 {
     match stream.part(k) {
-        Some(part) => judge_packets(items, &part.packets(), least),
+        Some(part) => judge_packets(items, part.packets(), least),
         None => least,
     }
 }

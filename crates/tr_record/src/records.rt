@@ -2,6 +2,7 @@
 
 ghost use Rattle.std.specs.Prelude.{◌≡◌, ◌↔◌, IsTrue, IsSome, IfSome};
 ghost use Rattle.std.specs.Iterator.{YieldsFirst, item_count};
+ghost use Rattle.tr_record.specs.Records.{has_serial, records_text};
 ghost use Rattle.tr_record.specs.Whole.{AreWhole, entries_of};
 
 use crate::reading::{read_raw, read_rec};
@@ -45,6 +46,27 @@ impl<'a> Records<'a> {
             return None;
         }
         Some(Records::new(bytes))
+    }
+
+    /// The texts of the records that are left, end to end.
+    pub fn text(&self) -> &'a [u8]
+        ensures text { result.now ≡ records_text self.now }
+        ensures whole { AreWhole result.now }
+        ensures records { entries_of result.now ≡ self.now }
+    {
+        self.rest
+    }
+
+    /// Whether one of the records that are left has this serial.
+    pub fn has(&self, serial: u64) -> bool
+        ensures { result ≡ has_serial serial self.now }
+    {
+        for r in Records::new(self.rest) {
+            if r.serial() == serial {
+                return true;
+            }
+        }
+        false
     }
 }
 

@@ -1,4 +1,5 @@
 pub mod ArchiveLaws
 pub mod ColumnLaws
 pub mod DropLaws
+pub mod PacketLaws
 pub mod StatusLaws

@@ -10,24 +10,23 @@ use std::alloc::{AllocError, Allocator};
 use std::fmt::Write;
 use tr_book::StreamSnap;
 use tr_outcome::LineFault;
-use tr_packet::Packet;
+use tr_packet::PacketView;
 use tr_snapshot::{Snapshot, records_shown};
 
 /// Adds the line of a packet.
-fn push_packet<A: Allocator, B: Allocator>(
+fn push_packet<A: Allocator>(
     text: &mut String<A>,
-    packet: &Packet<B>,
+    packet: &PacketView<'_>,
 ) -> Result<(), AllocError>
     ensures { OnOk result (string_bytes text.new ≡ string_bytes text.old ++ (10 ∷ packet_line packet.now)) }
 {
     let seq = packet.head().seq;
-    let records = packet.records();
-    let count = records.len();
-    let (Some(first), Some(last)) = (records.first(), records.last()) else {
+    let count = packet.count();
+    let Some(first) = packet.records().next() else {
         unreachable!()
     };
     let first = first.serial();
-    let last = last.serial();
+    let last = packet.last_serial();
     match write!(
         text,
         "\npacket {seq} records {count} first {first} last {last}"
@@ -68,7 +67,7 @@ fn push_stream<A: Allocator, B: Allocator>(
     push_head(text, snap)?;
     let packets = snap.packets();
     'packets: for packet in packets {
-        push_packet(text, packet)?;
+        push_packet(text, &packet)?;
     }
     Ok(())
 }

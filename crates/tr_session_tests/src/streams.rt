@@ -10,7 +10,7 @@ use std::alloc::{Allocator, Global};
 use std::fmt::Debug;
 use std::process::Abort;
 use tr_book::{Counts, Geometry, Mode, StreamSnap};
-use tr_packet::{Head, Packet, Packets};
+use tr_packet::{Head, PacketView, Packets};
 use tr_record::RecView;
 use tr_stream::{
     CutDone, CutFault, Fate, OfferFault, Offered, SessionMode, Stream, StreamConfig, TakeFault,
@@ -182,7 +182,7 @@ fn assert_record(rt: &impl Abort, place: Place, record: &RecView<'_>, (serial, a
 }
 
 /// Asserts a packet's whole head and each record.
-fn assert_packet(rt: &impl Abort, place: Place, packet: &Packet, row: &PacketRow) {
+fn assert_packet(rt: &impl Abort, place: Place, packet: &PacketView<'_>, row: &PacketRow) {
     let head = Head {
         uuid: Uuid::from_u128(1),
         stream: 0,
@@ -193,7 +193,7 @@ fn assert_packet(rt: &impl Abort, place: Place, packet: &Packet, row: &PacketRow
     };
     assert_at(rt, place, packet.head(), head);
     let mut records = packet.records();
-    assert_at(rt, place, records.len(), row.records.len());
+    assert_at(rt, place, packet.count(), row.records.len());
     for row in row.records {
         let record = records.next().expect(rt, "a record");
         assert_record(rt, place, &record, *row);
@@ -204,7 +204,8 @@ fn assert_packet(rt: &impl Abort, place: Place, packet: &Packet, row: &PacketRow
 fn assert_packets(rt: &impl Abort, place: Place, mut packets: Packets<'_>, rows: &[PacketRow]) {
     assert_at(rt, place, packets.len(), rows.len());
     for row in rows {
-        assert_packet(rt, place, packets.next().expect(rt, "a packet"), row);
+        let packet = packets.next().expect(rt, "a packet");
+        assert_packet(rt, place, &packet, row);
     }
 }
 

@@ -2,6 +2,7 @@
 use Rattle.std.proofs.Common.{◌≡◌, ◌≢◌, ℕ, ◌+◌, ◌^◌, ◌≤◌, ◌<◌, zero, suc, Bool, false, List, [], ◌∷◌, ◌++◌, length, map, max, take, Option, Some, None, Result, Ok, Err, refl, sym, ◌∙◌, ap, subst, arith}
 use Rattle.std.proofs.lemmas.Grind.{common_steps}
 use Rattle.std.proofs.lemmas.List.{append-nil, map-append, length-map, take_more}
+use Rattle.std.proofs.lemmas.List.Sums.{sum_by-cons}
 use Rattle.std.proofs.lemmas.Option.{slice_get_within, get_or_from_slice_get}
 use Rattle.std.specs.Prelude.{slice_get}
 use Rattle.tr_book.specs.Counters.{CountersState, at_moment, new_counters, with_consumed, with_offer, with_overwritten}
@@ -24,7 +25,7 @@ use Rattle.tr_stream.specs.History.{History}
 use Rattle.tr_stream.specs.Kept.{IsKept}
 use Rattle.tr_stream.specs.Sound.{IsMade, ArePackets}
 use Rattle.tr_stream.specs.StandsFor.{StandsFor}
-use Rattle.tr_stream.specs.State.{StreamState, in_ring}
+use Rattle.tr_stream.specs.State.{StreamState, in_ring, records_in}
 use Rattle.tr_stream.specs.StateSteps.{new_state, overwrites, counters_after_push, state_entry, refusal_of, state_answer_unless, state_unless, state_with_offer, offered_as, state_offer_answer, state_after_offer, move_oldest, state_take_answer, state_after_take, state_cut_ring, cut_done, state_cut_answer, state_after_cut}
 use Rattle.tr_stream.specs.Steps.{history_offer_answer, history_after_offer, history_take_answer, history_after_take, history_cut_answer, history_after_cut, taken_from}
 use Rattle.tr_stream.specs.declared.answers.CutDone.{CutDone}
@@ -127,6 +128,19 @@ waiting-at c (x ∷ xs) (suc i) b at are = waiting-at c xs i b at are.1
 -- the oldest sub-buffer that waits can be sent
 pub oldest-is_packet : (s : StreamState) (b : ClosedBuffer) → IsKept s → slice_get s.ring.waiting 0 ≡ Some b → IsPacket (packet_of s.config b)
 oldest-is_packet s b is first = waiting-at s.config s.ring.waiting 0 b first is.sound.packets
+
+first_few : (waiting : List ClosedBuffer) (b : ClosedBuffer) → slice_get waiting 0 ≡ Some b → length b.records ≤ records_in waiting
+first_few [] b first = cc
+first_few (x ∷ xs) b first =
+    let e : x ≡ b = cc in
+    omega (arith, ap (λ (y : ClosedBuffer). length y.records) e, sum_by-cons (λ (y : ClosedBuffer). length y.records) x xs)
+
+-- a counter has room for its records and those of the part
+pub oldest-fits : (s : StreamState) (b : ClosedBuffer) → IsKept s → slice_get s.ring.waiting 0 ≡ Some b
+    → records_of s.parts.current.packets + length b.records < 2 ^ 64
+oldest-fits s b is first =
+    let sound = is.sound in
+    omega (arith, first_few s.ring.waiting b first, sound.total, sound.consumed, sound.few)
 
 moved_first : (s : StreamState) (waiting : List ClosedBuffer) (b : ClosedBuffer) → slice_get waiting 0 ≡ Some b
     → move_oldest waiting s ≡ with_moved b s

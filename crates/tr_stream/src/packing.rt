@@ -1,6 +1,7 @@
 //! The packets that sub-buffers become.
 
-ghost use Rattle.std.specs.Prelude.{◌≡◌, ◌≢◌, [], map, IfOk, OnErr};
+ghost use Rattle.std.specs.Prelude.{◌≡◌, ◌≢◌, ◌∷◌, [], ◌++◌, ◌+◌, ◌<◌, ◌^◌, map, length, IfOk, OnOk, OnErr};
+ghost use Rattle.tr_book.specs.Parts.{records_of, with_packet};
 ghost use Rattle.tr_packet.specs.Packets.{IsPacket};
 ghost use Rattle.tr_ring.specs.Ring.{closed_current};
 ghost use Rattle.tr_stream.specs.Chunks.{begin_of, packet_of, ring_buffers};
@@ -8,24 +9,10 @@ ghost use Rattle.tr_stream.specs.Sound.{ArePackets};
 
 use crate::config::StreamConfig;
 use std::alloc::{AllocError, Allocator};
-use tr_packet::{Head, Packet};
-use tr_record::{Moment, Rec, Records};
+use tr_book::Parts;
+use tr_packet::{Head, PacketTexts};
+use tr_record::{Moment, Records};
 use tr_ring::{ClosedSubBuf, Ring};
-
-/// Copies of records, in order. `count`: how many there are.
-fn copy_records<A: Allocator + Copy>(
-    alloc: A,
-    records: Records<'_>,
-    count: usize,
-) -> Result<Vec<Rec<A>, A>, AllocError>
-    ensures { IfOk result (λ v. v.items ≡ records.entry) }
-{
-    let mut copies = Vec::with_capacity(alloc, count)?;
-    for r in records {
-        copies.push(Rec::copy_of(alloc, r.serial(), r.moment(), r.id(), r.payload())?)?;
-    }
-    Ok(copies)
-}
 
 /// The moment of the first record.
 fn begin(mut records: Records<'_>) -> Moment
@@ -37,38 +24,59 @@ fn begin(mut records: Records<'_>) -> Moment
     }
 }
 
-/// The packet of a closed sub-buffer, with copies of its records. Fails if an allocation fails.
-pub fn packet_from<A: Allocator + Copy>(
-    alloc: A,
-    config: StreamConfig,
-    buffer: &ClosedSubBuf<'_, A>,
-) -> Result<Packet<A>, AllocError>
-    requires { IsPacket (packet_of config buffer.now) }
-    ensures { IfOk result (λ p. p ≡ packet_of config buffer.now) }
+/// What the packet of a closed sub-buffer says beside its records.
+fn head_of<A: Allocator>(config: &StreamConfig, buffer: &ClosedSubBuf<'_, A>) -> Head
+    ensures { result ≡ (packet_of config.now buffer.now).head }
 {
-    let records = copy_records(alloc, buffer.records(), buffer.count())?;
-    let head = Head {
+    Head {
         uuid: config.uuid,
         stream: config.number,
         begin: begin(buffer.records()),
         end: buffer.end(),
         seq: buffer.seq(),
         discarded: buffer.discarded(),
-    };
-    Ok(Packet::new(head, records))
+    }
 }
 
-/// The packet that the current sub-buffer would be, if it were closed at this moment.
-fn packet_of_current<A: Allocator + Copy>(
-    alloc: A,
-    config: StreamConfig,
+/// Writes the packet of a closed sub-buffer at the end of the current part. If an allocation fails, the parts are as they
+/// were.
+pub fn move_to_part<A: Allocator>(
+    parts: &mut Parts<A>,
+    config: &StreamConfig,
+    buffer: &ClosedSubBuf<'_, A>,
+) -> Result<(), AllocError>
+    requires packet { IsPacket (packet_of config.now buffer.now) }
+    requires few { records_of parts.old.current.packets + length buffer.now.records < 2 ^ 64 }
+    ensures ok { OnOk result (parts.new ≡ with_packet (packet_of config.now buffer.now) parts.old) }
+    ensures err { OnErr result (parts.new ≡ parts.old) }
+{
+    let head = head_of(config, buffer);
+    parts.push(head, buffer.count(), &buffer.records())
+}
+
+/// Writes the packet of a closed sub-buffer behind others.
+fn put_closed<A: Allocator>(
+    packets: &mut PacketTexts<A>,
+    config: &StreamConfig,
+    buffer: &ClosedSubBuf<'_, A>,
+) -> Result<(), AllocError>
+    requires { IsPacket (packet_of config.now buffer.now) }
+    ensures { OnOk result (packets.new ≡ packets.old ++ packet_of config.now buffer.now ∷ []) }
+{
+    let head = head_of(config, buffer);
+    packets.push(head, buffer.count(), &buffer.records())
+}
+
+/// Writes the packet that the current sub-buffer would be, if it were closed at this moment, behind others.
+fn put_current<A: Allocator>(
+    packets: &mut PacketTexts<A>,
+    config: &StreamConfig,
     ring: &Ring<A>,
     end: Moment,
-) -> Result<Packet<A>, AllocError>
-    requires { IsPacket (packet_of config (closed_current end ring.now)) }
-    ensures { IfOk result (λ p. p ≡ packet_of config (closed_current end ring.now)) }
+) -> Result<(), AllocError>
+    requires { IsPacket (packet_of config.now (closed_current end ring.now)) }
+    ensures { OnOk result (packets.new ≡ packets.old ++ packet_of config.now (closed_current end ring.now) ∷ []) }
 {
-    let records = copy_records(alloc, ring.current().records(), ring.current().count())?;
     let head = Head {
         uuid: config.uuid,
         stream: config.number,
@@ -77,24 +85,24 @@ fn packet_of_current<A: Allocator + Copy>(
         seq: ring.seq(),
         discarded: ring.discarded(),
     };
-    Ok(Packet::new(head, records))
+    packets.push(head, ring.current().count(), &ring.current().records())
 }
 
-/// The packets of the sub-buffers that wait, the oldest first, in a list with room for all that the ring can hold.
+/// The packets of the sub-buffers that wait, the oldest first.
 fn waiting_packets<A: Allocator + Copy>(
     alloc: A,
     config: StreamConfig,
     ring: &Ring<A>,
-) -> Result<Vec<Packet<A>, A>, AllocError>
+) -> Result<PacketTexts<A>, AllocError>
     requires { ArePackets config ring.now.waiting }
-    ensures { IfOk result (λ v. v.items ≡ map (packet_of config) ring.now.waiting) }
+    ensures { IfOk result (λ t. t ≡ map (packet_of config) ring.now.waiting) }
 {
-    let mut packets = Vec::with_capacity(alloc, ring.count())?;
+    let mut packets = PacketTexts::new(alloc);
     for i in 0..ring.waiting() {
         let Some(buffer) = ring.closed(i) else {
             unreachable!()
         };
-        packets.push(packet_from(alloc, config, &buffer)?)?;
+        put_closed(&mut packets, &config, &buffer)?;
     }
     Ok(packets)
 }
@@ -106,19 +114,19 @@ pub fn ring_packets<A: Allocator + Copy>(
     config: StreamConfig,
     ring: &Ring<A>,
     end: Moment,
-) -> Result<Vec<Packet<A>, A>, AllocError>
+) -> Result<PacketTexts<A>, AllocError>
     requires waiting { ArePackets config ring.now.waiting }
     requires current { ring.now.current ≢ [] → IsPacket (packet_of config (closed_current end ring.now)) }
-    ensures packets { IfOk result (λ v. v.items ≡ map (packet_of config) (ring_buffers end ring.now)) }
+    ensures packets { IfOk result (λ t. t ≡ map (packet_of config) (ring_buffers end ring.now)) }
     ensures memory { OnErr result (ring_buffers end ring.now ≢ []) }
 {
     if ring.waiting() == 0 && ring.current().is_empty() {
-        return Ok(Vec::new(alloc));
+        return Ok(PacketTexts::new(alloc));
     }
     let mut packets = waiting_packets(alloc, config, ring)?;
     if ring.current().is_empty() {
         return Ok(packets);
     }
-    packets.push(packet_of_current(alloc, config, ring, end)?)?;
+    put_current(&mut packets, &config, ring, end)?;
     Ok(packets)
 }

@@ -6,7 +6,7 @@ ghost use Rattle.tr_stream.specs.Calls.{part_in, IsConsistent, history_fate, sta
 use crate::answers::{CutDone, CutFault, OfferFault, Offered, TakeFault, Taken};
 use crate::config::StreamConfig;
 use crate::fate::{Fate, fate_in_parts, loss};
-use crate::packing::{packet_from, ring_packets};
+use crate::packing::{move_to_part, ring_packets};
 use std::alloc::{AllocError, Allocator, Global};
 use std::marker::Model;
 use tr_book::{Counters, Counts, Geometry, Mode, Part, Parts, StreamSnap};
@@ -174,8 +174,7 @@ impl<A: Allocator + Copy> Stream<A> {
             count: oldest.count() as u64,
             chunk: self.parts.current().id(),
         };
-        let packet = packet_from(self.alloc, self.config, &oldest)?;
-        self.parts.push(packet)?;
+        move_to_part(&mut self.parts, &self.config, &oldest)?;
         self.ring.remove_oldest();
         self.counters.note_consumed(taken.count);
         Ok(taken)

@@ -4,28 +4,34 @@ ghost use Rattle.std.specs.Prelude.{◌≤◌};
 ghost use Rattle.tr_book.specs.Parts.{records_of};
 
 use super::{assert_packets, assert_same, packet};
+use crate::packing::{put, put_in_part};
 use std::alloc::Global;
 use std::process::Abort;
 use tr_book::{Geometry, GeometryFault, Part, Parts, StreamSnap};
-use tr_packet::Packet;
+use tr_packet::PacketTexts;
 
 /// A packet of two records with payloads of `len` bytes.
-fn only(rt: &impl Abort, alloc: Global, seq: u64, len: usize) -> Vec<Packet>
-    ensures { records_of result.items ≤ 2 }
+fn only(rt: &impl Abort, alloc: Global, seq: u64, len: usize) -> PacketTexts
+    ensures { records_of result ≤ 2 }
 {
-    vec![in alloc; packet(rt, alloc, seq, 1000, 1000, len)].expect(rt, "memory")
+    let mut texts = PacketTexts::new(alloc);
+    put(
+        rt,
+        alloc,
+        &mut texts,
+        &packet(rt, alloc, seq, 1000, 1000, len),
+    );
+    texts
 }
 
 /// Puts such a packet into the current part.
 fn push(rt: &impl Abort, alloc: Global, parts: &mut Parts, seq: u64, len: usize) {
-    assert!(rt; parts.current().records() < 1000);
-    let pushed = parts.push(packet(rt, alloc, seq, 1000, 1000, len));
-    pushed.expect(rt, "memory");
+    put_in_part(rt, alloc, parts, &packet(rt, alloc, seq, 1000, 1000, len));
 }
 
 /// Cuts behind packets.
-fn cut(rt: &impl Abort, parts: &mut Parts, packets: Vec<Packet>)
-    requires { records_of packets.items ≤ 2 }
+fn cut(rt: &impl Abort, parts: &mut Parts, packets: PacketTexts)
+    requires { records_of packets ≤ 2 }
 {
     assert!(rt; parts.current().records() < 1000);
     parts.cut(packets).expect(rt, "a cut");
@@ -74,7 +80,7 @@ fn a_cut_closes_the_part_behind_its_packets(rt: HostRuntime) {
     push(&rt, rt.alloc(), &mut parts, 2, 50);
     assert_only_closed(&rt, &parts);
     assert_part_at(&rt, &parts, 1, 2, 228);
-    cut(&rt, &mut parts, Vec::new(rt.alloc()));
+    cut(&rt, &mut parts, PacketTexts::new(rt.alloc()));
     assert_part_at(&rt, &parts, 2, 0, 0);
     assert_same(&rt, parts.part(3).is_none(), true);
 }

@@ -1,12 +1,12 @@
-//! Worked examples of snapshots, sinks that fail and failed allocations.
+//! Worked examples of snapshots, and sinks that fail.
 
 use super::{assert_same, packet};
-use linked_list_allocator::LocalHeap;
+use crate::packing::put;
 use std::alloc::Global;
 use std::process::Abort;
 use tr_book::StreamSnap;
 use tr_chunk::WriteFault;
-use tr_packet::decode_packet;
+use tr_packet::{PacketTexts, decode_packet};
 use tr_record::{MemorySink, WriterSink};
 use tr_snapshot::{Snapshot, oldest_serial, records_shown, write_snap};
 use tr_testing::{FailsAfter, moment};
@@ -15,7 +15,9 @@ use tr_testing::{FailsAfter, moment};
 fn snap(rt: &impl Abort, alloc: Global) -> StreamSnap {
     let older = packet(rt, alloc, 1, 3, 4, 64);
     let newer = packet(rt, alloc, 2, 5, 6, 64);
-    let packets = vec![in alloc; older, newer].expect(rt, "memory");
+    let mut packets = PacketTexts::new(alloc);
+    put(rt, alloc, &mut packets, &older);
+    put(rt, alloc, &mut packets, &newer);
     StreamSnap::new(0, 6, 0, packets)
 }
 
@@ -32,7 +34,7 @@ fn assert_shown(rt: &impl Abort, snap: &StreamSnap, wanted: (u64, u64, Option<u6
 
 #[test]
 fn a_session_of_two_streams(rt: HostRuntime) {
-    let empty = StreamSnap::new(1, 0, 0, Vec::new(rt.alloc()));
+    let empty = StreamSnap::new(1, 0, 0, PacketTexts::new(rt.alloc()));
     let streams = vec![in rt.alloc(); snap(&rt, rt.alloc()), empty].expect(&rt, "memory");
     let snapshot = Snapshot::new(moment(10), streams);
     assert_same(&rt, snapshot.moment().get(), 10);
@@ -49,7 +51,7 @@ fn a_session_of_two_streams(rt: HostRuntime) {
 /// records.
 fn assert_written(rt: &impl Abort, alloc: Global, snap: &StreamSnap, packets: &[(u64, u64)]) {
     let mut sink = MemorySink::new(alloc, 7);
-    write_snap(alloc, &mut sink, snap).expect(rt, "a file");
+    write_snap(&mut sink, snap).expect(rt, "a file");
     let file = sink.into_bytes();
     let mut bytes = file.as_slice();
     for (seq, serial) in packets {
@@ -85,17 +87,7 @@ fn a_sink_that_fails(rt: HostRuntime) {
     let snap = snap(&rt, rt.alloc());
     for (bytes, want) in &WRITES {
         let mut sink = WriterSink::new(FailsAfter::new(*bytes));
-        let answer = write_snap(rt.alloc(), &mut sink, &snap);
+        let answer = write_snap(&mut sink, &snap);
         assert_same(&rt, (*bytes, answer), (*bytes, *want));
     }
-}
-
-#[test]
-fn memory_is_refused(rt: HostRuntime) {
-    let snap = snap(&rt, rt.alloc());
-    let heap = LocalHeap::new(rt.alloc(), 64).expect(&rt, "memory");
-    let mut sink = MemorySink::new(rt.alloc(), 7);
-    let answer = write_snap(&heap, &mut sink, &snap);
-    assert_same(&rt, answer, Err(WriteFault::NoMemory));
-    assert_same(&rt, sink.into_bytes().len(), 0);
 }

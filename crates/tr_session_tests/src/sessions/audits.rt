@@ -46,7 +46,7 @@ fn file(rt: &impl Abort, alloc: Global, (mode, before, after, cut): Life) -> Vec
     let _ = stream.cut(moment(cut));
     let part = stream.part(0).expect(rt, "a part");
     let mut sink = MemorySink::new(alloc, 1);
-    write_part(alloc, &mut sink, part).expect(rt, "a file");
+    write_part(&mut sink, part).expect(rt, "a file");
     sink.into_bytes()
 }
 

@@ -45,9 +45,9 @@ const CHUNKS: [Step; 9] = [
 /// Asserts the moments of the only packet of the third chunk.
 fn assert_third_chunk(rt: &impl Abort, session: &Session) {
     let stream = session.stream(0).expect(rt, "a stream");
-    let packets = stream.part(2).expect(rt, "a part").packets();
+    let mut packets = stream.part(2).expect(rt, "a part").packets();
     assert_same(rt, packets.len(), 1);
-    let head = packets.at(0).expect(rt, "a packet").head();
+    let head = packets.next().expect(rt, "a packet").head();
     assert_same(rt, (head.begin.get(), head.end.get()), (10, 12));
 }
 

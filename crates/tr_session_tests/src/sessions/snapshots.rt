@@ -171,7 +171,7 @@ fn a_snapshot_shows_what_the_ring_holds(rt: HostRuntime) {
 /// The bytes of what is shown of a stream.
 fn bytes_of(rt: &impl Abort, alloc: Global, snap: &StreamSnap) -> Vec<u8> {
     let mut sink = MemorySink::new(alloc, 512);
-    write_snap(alloc, &mut sink, snap).expect(rt, "the bytes");
+    write_snap(&mut sink, snap).expect(rt, "the bytes");
     sink.into_bytes()
 }
 

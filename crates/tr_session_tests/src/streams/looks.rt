@@ -5,7 +5,7 @@ use super::{PacketRow, assert_lists, assert_same, make_offers, new_stream};
 use std::alloc::Global;
 use std::process::Abort;
 use tr_book::{Counts, Mode};
-use tr_packet::{Packet, decode_packet, encode_packet};
+use tr_packet::{PacketView, decode_packet};
 use tr_stream::{CutFault, Offered, SessionMode, TakeFault};
 use tr_testing::moment;
 
@@ -214,14 +214,13 @@ fn looks_show_the_ring_and_change_nothing(rt: HostRuntime) {
     assert_lists(&rt, rt.alloc(), SessionMode::Local, &DISCARDING);
 }
 
-/// Asserts that a packet of 256 bytes is read again from its text.
-fn assert_read_again(rt: &impl Abort, alloc: Global, packet: &Packet) {
-    let bytes = encode_packet(alloc, packet).expect(rt, "memory");
-    let (view, size) = decode_packet(&bytes).expect(rt, "a packet");
-    assert_same(rt, (bytes.len(), size), (256, 256));
+/// Asserts that a packet of 256 bytes is read again from the front of a text. What is behind it.
+fn assert_read_again<'a>(rt: &impl Abort, bytes: &'a [u8], packet: &PacketView<'_>) -> &'a [u8] {
+    let (view, size) = decode_packet(bytes).expect(rt, "a packet");
+    assert_same(rt, size, 256);
     assert_same(rt, view.head(), packet.head());
+    assert_same(rt, view.count(), packet.count());
     let mut records = packet.records();
-    assert_same(rt, view.count(), records.len());
     for read in view.records() {
         let record = records.next().expect(rt, "a record");
         let found = (read.serial(), read.moment(), read.id(), read.payload());
@@ -234,6 +233,7 @@ fn assert_read_again(rt: &impl Abort, alloc: Global, packet: &Packet) {
         assert_same(rt, found, wanted);
     }
     assert_same(rt, records.next().is_none(), true);
+    bytes.get(size..).expect(rt, "what is behind")
 }
 
 #[test]
@@ -243,7 +243,9 @@ fn packets_of_a_look_are_read_as_they_are(rt: HostRuntime) {
     make_offers(&rt, &mut stream, 1, 7, 64);
     let snap = stream.peek(moment(10)).expect(&rt, "a look");
     assert_same(&rt, snap.packets().len(), 2);
+    let mut bytes = snap.text();
     for packet in snap.packets() {
-        assert_read_again(&rt, rt.alloc(), packet);
+        bytes = assert_read_again(&rt, bytes, &packet);
     }
+    assert_same(&rt, bytes.len(), 0);
 }

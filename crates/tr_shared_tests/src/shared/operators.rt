@@ -88,7 +88,7 @@ fn assert_audited(rt: &impl Abort, alloc: Global, stream: &Stream, number: u64, 
     let mut sink = MemorySink::new(alloc, 65_536);
     for id in 0..archives {
         let part = stream.part(id).expect(rt, "a part");
-        write_part(alloc, &mut sink, part).expect(rt, "a file");
+        write_part(&mut sink, part).expect(rt, "a file");
     }
     let file = sink.into_bytes();
     let audit = audit_stream(alloc, &Uuid::nil(), number, &[file.as_slice()]).expect(

@@ -39,19 +39,17 @@ fn assert_shown(
     };
     let found = (snapshot.moment().get(), snap.stream(), snap.offered());
     assert_same(rt, found, (at, 0, offered));
-    assert_same(rt, snap.packets().len(), packets.len());
-    let mut k: usize = 0;
+    let mut shown = snap.packets();
+    assert_same(rt, shown.len(), packets.len());
     'packets: for (seq, count, first, last) in packets {
-        let packet = snap.packets().at(k).expect(rt, "a packet");
-        let records = packet.records();
+        let packet = shown.next().expect(rt, "a packet");
         let found = (
             packet.head().seq,
-            records.len(),
-            records.first().map(|r| r.serial()),
-            records.last().map(|r| r.serial()),
+            packet.count(),
+            packet.records().next().map(|r| r.serial()),
+            packet.last_serial(),
         );
-        assert_same(rt, found, (*seq, *count, Some(*first), Some(*last)));
-        k = k.wrapping_add(1);
+        assert_same(rt, found, (*seq, *count, Some(*first), *last));
     }
 }
 

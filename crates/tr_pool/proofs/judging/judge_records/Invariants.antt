@@ -1,8 +1,7 @@
-use Rattle.std.proofs.Common.{◌∷◌, [], take}
-use Rattle.std.specs.List.{flat_map}
+use Rattle.std.proofs.Common.{ℕ, Option}
 use Rattle.tr_pool.specs.Judging.{Judges}
-use Rattle.tr_record.specs.Records.{Entry}
 use Rattle.tr_pool.proofs.judging.judge_records.Given as goal
 
+-- what is judged of the records that are left is judged of all
 abbrev pub invariant-records : goal.invariant-records
-invariant-records l = Judges l.items (flat_map (λ (e : Entry). e ∷ []) (take l.k l.records)) l.fn.least l.least
+invariant-records l = (last : Option ℕ) → Judges l.items l.record-iterator l.least last → Judges l.items l.fn.records l.fn.least last

@@ -13,7 +13,7 @@ returns-in_err-packet g c =
 
 pub returns : goal.returns
 returns g c =
-    let p = c.in_ok-packet.packet.now in
+    let p = c.in_ok-packet.packet in
     let first : slice_get c.args.snap.now.packets 0 ≡ Some p = search rules in
     let told : c.map.result ≡ option_map (λ (e : Entry). e.serial) (slice_get p.records 0) = search rules in
     told ∙ sym (oldest_some c.args.snap.now p first c.records.ensures.packet)

@@ -26,7 +26,7 @@ cut-requires g c =
       counters = c.self.inside.counters;
       active = c.self.inside.active;
     } in
-    cut-fits s c.args.end c.in_ok-packets.packets.items c.self.invariant c.in_ok-packets.ensures.packets
+    cut-fits s c.args.end c.in_ok-packets.packets c.self.invariant c.in_ok-packets.ensures.packets
 
 pub invariant_of-self-2 : goal.invariant_of-self-2
 invariant_of-self-2 g c =
@@ -38,7 +38,7 @@ invariant_of-self-2 g c =
       active = c.self.inside.active;
     } in
     let later : s.counters.last ≤ c.args.end = search rules in
-    kept-cut_now s c.args.end c.in_ring.result c.in_ok-packets.packets.items c.clear.new.self c.cut.new.self
+    kept-cut_now s c.args.end c.in_ring.result c.in_ok-packets.packets c.clear.new.self c.cut.new.self
     c.note_consumed.new.self c.note_moment.new.self (search rules) c.self.invariant later (omega arith)
     c.in_ok-packets.ensures.packets (search rules) (search rules) (search rules) (search rules) (search rules)
 
@@ -51,7 +51,7 @@ returns-clause-answer g c =
       counters = c.self.inside.counters;
       active = c.self.inside.active;
     } in
-    cut-told s c.args.end c.id.result c.len.result c.in_ring.result c.in_ok-packets.packets.items
+    cut-told s c.args.end c.id.result c.len.result c.in_ring.result c.in_ok-packets.packets
     c.in_ok-packets.ensures.packets (search rules) (search rules) (search rules)
     ∙ ap (cut_done c.args.end) c.self.view_is
 
@@ -64,6 +64,6 @@ returns-clause-ok g c =
       counters = c.self.inside.counters;
       active = c.self.inside.active;
     } in
-    cut-is s c.args.end c.in_ring.result c.in_ok-packets.packets.items c.clear.new.self c.cut.new.self
+    cut-is s c.args.end c.in_ring.result c.in_ok-packets.packets c.clear.new.self c.cut.new.self
     c.note_consumed.new.self c.note_moment.new.self c.in_ok-packets.ensures.packets (search rules) (search rules)
     (search rules) (search rules) (search rules) ∙ ap (state_cut_ring c.args.end) c.self.view_is

@@ -1,11 +1,11 @@
 use Rattle.std.proofs.Common.{rules, ◌∙◌, ap, sym}
-use Rattle.tr_stream.proofs.CallLaws.{oldest-is_packet, moved-local, kept-moved}
+use Rattle.tr_stream.proofs.CallLaws.{oldest-is_packet, oldest-fits, moved-local, kept-moved}
 use Rattle.tr_stream.proofs.stream.Stream.move_oldest.Goals as goal
 use Rattle.tr_stream.specs.State.{StreamState}
 use Rattle.tr_stream.specs.StateSteps.{state_after_take}
 
-pub packet_from-requires : goal.packet_from-requires
-packet_from-requires g c =
+pub move_to_part-requires-clause-packet : goal.move_to_part-requires-clause-packet
+move_to_part-requires-clause-packet g c =
     let s : StreamState = record {
       config = c.self.inside.config;
       ring = c.self.inside.ring;
@@ -14,6 +14,17 @@ packet_from-requires g c =
       active = c.self.inside.active;
     } in
     oldest-is_packet s c.in-Some.oldest c.self.invariant (sym (search rules))
+
+pub move_to_part-requires-clause-few : goal.move_to_part-requires-clause-few
+move_to_part-requires-clause-few g c =
+    let s : StreamState = record {
+      config = c.self.inside.config;
+      ring = c.self.inside.ring;
+      parts = c.self.inside.parts;
+      counters = c.self.inside.counters;
+      active = c.self.inside.active;
+    } in
+    oldest-fits s c.in-Some.oldest c.self.invariant (sym (search rules))
 
 pub invariant_of-self-2 : goal.invariant_of-self-2
 invariant_of-self-2 g c =
@@ -24,7 +35,7 @@ invariant_of-self-2 g c =
       counters = c.self.inside.counters;
       active = c.self.inside.active;
     } in
-    kept-moved s c.in-Some.oldest c.remove_oldest.new.self c.push.new.self c.note_consumed.new.self (search rules)
+    kept-moved s c.in-Some.oldest c.remove_oldest.new.self c.move_to_part.new.parts c.note_consumed.new.self (search rules)
     c.self.invariant (search rules) (search rules) (search rules) (search rules)
 
 pub returns-clause-ok : goal.returns-clause-ok
@@ -36,5 +47,5 @@ returns-clause-ok g c =
       counters = c.self.inside.counters;
       active = c.self.inside.active;
     } in
-    moved-local s c.in-Some.oldest c.remove_oldest.new.self c.push.new.self c.note_consumed.new.self (search rules)
+    moved-local s c.in-Some.oldest c.remove_oldest.new.self c.move_to_part.new.parts c.note_consumed.new.self (search rules)
     (search rules) (search rules) (search rules) (search rules) ∙ ap state_after_take c.self.view_is
