@@ -58,6 +58,22 @@ pub struct Closed {
     pub discarded: u64,
 }
 
+/// The header and the context of a closed sub-buffer's packet.
+pub fn packet_head(uuid: [u8; 16], stream: u64, closed: &Closed) -> [u8; EMPTY_PACKET] {
+    let text = &closed.page.bytes;
+    let bits = 8 * (EMPTY_PACKET + text.len()) as u64;
+    let begin = u64::from_le_bytes(number_at(text, 4));
+    let (seq, discarded) = (closed.seq, closed.discarded);
+    let numbers = [stream, begin, closed.end, bits, bits, seq, discarded];
+    let mut head = [0; EMPTY_PACKET];
+    head[0..4].copy_from_slice(&[0xC1, 0x1F, 0xFC, 0xC1]);
+    head[4..20].copy_from_slice(&uuid);
+    for (place, number) in head[24..].chunks_exact_mut(8).zip(numbers) {
+        place.copy_from_slice(&number.to_le_bytes());
+    }
+    head
+}
+
 #[derive(Clone, Copy)]
 pub enum Offered {
     Stored {

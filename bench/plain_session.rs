@@ -6,10 +6,8 @@
 //! no proof, and it ends if an allocation fails. Each of the two programs uses a part of it.
 #![allow(dead_code)]
 
-use crate::plain_ring::{number_at, Closed, Counts, OfferFault, Offered, Ring, EMPTY_PACKET};
+use crate::plain_ring::{packet_head, Counts, OfferFault, Offered, Ring};
 use std::sync::Mutex;
-
-const MAGIC: [u8; 4] = [0xC1, 0x1F, 0xFC, 0xC1];
 
 /// A ring, and the parts that it was consumed into, the last of which isn't closed.
 pub struct Stream {
@@ -31,28 +29,12 @@ impl Stream {
         }
     }
 
-    /// The head of a closed sub-buffer's packet.
-    fn head(&self, closed: &Closed) -> [u8; EMPTY_PACKET] {
-        let text = &closed.page.bytes;
-        let bits = 8 * (EMPTY_PACKET + text.len()) as u64;
-        let begin = u64::from_le_bytes(number_at(text, 4));
-        let (seq, discarded) = (closed.seq, closed.discarded);
-        let numbers = [self.number, begin, closed.end, bits, bits, seq, discarded];
-        let mut head = [0; EMPTY_PACKET];
-        head[0..4].copy_from_slice(&MAGIC);
-        head[4..20].copy_from_slice(&self.uuid);
-        for (place, number) in head[24..].chunks_exact_mut(8).zip(numbers) {
-            place.copy_from_slice(&number.to_le_bytes());
-        }
-        head
-    }
-
     /// Moves the oldest sub-buffer that waits, as a packet, to the end of the part, if one does.
     pub fn take(&mut self) -> bool {
         let Some(oldest) = self.ring.waiting.front() else {
             return false;
         };
-        let head = self.head(oldest);
+        let head = packet_head(self.uuid, self.number, oldest);
         self.part.extend_from_slice(&head);
         self.part.extend_from_slice(&oldest.page.bytes);
         self.ring.remove_oldest();

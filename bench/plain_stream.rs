@@ -9,7 +9,7 @@
 mod plain_ring;
 
 use plain_ring::{
-    number_at, Closed, Counts, OfferFault, Offered, Ring, EMPTY_PACKET, RECORD_HEADER,
+    number_at, packet_head, Counts, OfferFault, Offered, Ring, EMPTY_PACKET, RECORD_HEADER,
 };
 use std::ops::Range;
 use std::process::ExitCode;
@@ -18,8 +18,6 @@ use std::process::ExitCode;
 const OFFERS: u64 = 100_000;
 /// How many offers come between two takes.
 const OFFERS_A_TAKE: u64 = 125;
-
-const MAGIC: [u8; 4] = [0xC1, 0x1F, 0xFC, 0xC1];
 
 struct Taken {
     seq: u64,
@@ -49,26 +47,10 @@ impl Stream {
         }
     }
 
-    /// The header and the context of a closed sub-buffer's packet.
-    fn head(&self, closed: &Closed) -> [u8; EMPTY_PACKET] {
-        let text = &closed.page.bytes;
-        let bits = 8 * (EMPTY_PACKET + text.len()) as u64;
-        let begin = u64::from_le_bytes(number_at(text, 4));
-        let (seq, discarded) = (closed.seq, closed.discarded);
-        let numbers = [self.number, begin, closed.end, bits, bits, seq, discarded];
-        let mut head = [0; EMPTY_PACKET];
-        head[0..4].copy_from_slice(&MAGIC);
-        head[4..20].copy_from_slice(&self.uuid);
-        for (place, number) in head[24..].chunks_exact_mut(8).zip(numbers) {
-            place.copy_from_slice(&number.to_le_bytes());
-        }
-        head
-    }
-
     /// Moves the oldest sub-buffer that waits to the end of the part: the packet's head, and one copy of the page.
     fn take(&mut self) -> Option<Taken> {
         let oldest = self.ring.waiting.front()?;
-        let head = self.head(oldest);
+        let head = packet_head(self.uuid, self.number, oldest);
         let taken = Taken {
             seq: oldest.seq,
             count: oldest.page.count,

@@ -5,3 +5,4 @@ pub mod FileLemmas
 pub mod GapLemmas
 pub mod OnlyLemmas
 pub mod ReadingLemmas
+pub mod WaitingLemmas

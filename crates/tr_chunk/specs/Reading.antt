@@ -36,7 +36,8 @@ reading uuid stream audit held offset bytes pieces fault = record {
   fault = fault;
 }
 
--- the bytes may still become a packet: they are too few, and nothing of them is at fault
+-- the decoder's first fault of the bytes is that they are too few: of the first 80 nothing is judged before all are there, and
+-- nothing behind them before the packet is whole
 abbrev pub Waits : List ℕ → Type 0
 Waits bytes = first_fault bytes ≡ Some Short
 
@@ -77,8 +78,8 @@ Says done piece r None =
     Is done piece r × (r.pieces ≡ length done + 1) × (r.bytes ≡ bytes_of_pieces done + length piece) × Waits r.held
 Says done piece r (Some fault) = StopsHowever r.uuid r.stream done piece fault
 
--- the reader, which audits this stream, was fed these pieces, the last of which may go on. It met a fault as soon as one
--- stood firm: as long as it met none, it holds bytes that may still become a packet, and has counted all
+-- the reader, which audits this stream, was fed these pieces, the last of which may go on. As long as it
+-- met no fault, it holds bytes that are too few for a packet, and has counted all
 pub record HasRead {A : Type 0} (uuid : List ℕ) (stream : ℕ) (done : List (List ℕ)) (piece : List ℕ) (r : Reading A) : Type 0 where
   pub of_trace : r.uuid ≡ uuid
   pub of_stream : r.stream ≡ stream

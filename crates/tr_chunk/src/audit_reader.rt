@@ -19,7 +19,7 @@ use tr_record::put_bytes;
 use tr_terms::limits::{LARGEST_PACKET, PACKET_HEADER};
 use uuid::Uuid;
 
-/// Audits the packet that bytes start with. Its size; or None if they may still become one.
+/// Audits the packet that bytes start with. Its size; or None if they are too few.
 fn judge_front<A: Allocator>(
     audit: &mut StreamAudit<A>,
     uuid: &Uuid,
@@ -39,7 +39,7 @@ fn judge_front<A: Allocator>(
     }
 }
 
-/// How many bytes are wanted behind these, which may still become a packet: up to the end of its context, or else to its own.
+/// How many bytes are wanted behind these, which are too few: up to the end of the context, or else to the packet's own.
 fn wanted(bytes: &[u8]) -> usize
     requires { Waits bytes.now }
     ensures some { 0 < result }
@@ -222,7 +222,9 @@ impl<A: Allocator> AuditReader<A> {
             → HasRead uuid stream (done ++ piece ∷ []) [] self.new }
         ensures answer { result ≡ answer_at self.new.fault }
         ensures again { IfSome self.old.fault (λ _. self.new ≡ self.old) }
-        ensures counts { IfOk result (λ _. (self.new.bytes ≡ self.old.bytes) × (self.new.pieces ≡ self.old.pieces + 1)) }
+        ensures counts { MatchResult result
+            (λ _. (self.new.bytes ≡ self.old.bytes) × (self.new.pieces ≡ self.old.pieces + 1))
+            (λ _. (self.new.bytes ≡ self.old.bytes) × (self.new.pieces ≡ self.old.pieces)) }
     {
         if let Some(fault) = self.fault {
             return Err(fault);

@@ -1,5 +1,5 @@
 use Rattle.std.proofs.Common.{arith}
-use Rattle.tr_chunk.proofs.ReadingLemmas.{wanted_by_size, wanted_by_header}
+use Rattle.tr_chunk.proofs.WaitingLemmas.{wanted_by_size, wanted_by_header}
 use Rattle.tr_chunk.proofs.audit_reader.wanted.Goals as goal
 
 pub overflow_sub-result : goal.overflow_sub-result

@@ -1,6 +1,7 @@
 use Rattle.std.proofs.Common.{[], length, refl, sym, ap, subst, arith}
 use Rattle.tr_chunk.specs.Reading.{IsAt, Waits}
-use Rattle.tr_chunk.proofs.ReadingLemmas.{nothing_waits, at_start}
+use Rattle.tr_chunk.proofs.ReadingLemmas.{at_start}
+use Rattle.tr_chunk.proofs.WaitingLemmas.{nothing_waits}
 use Rattle.tr_chunk.proofs.audit_reader.AuditReader.new.Goals as goal
 
 pub invariant_of-result : goal.invariant_of-result

@@ -2,7 +2,8 @@ use Rattle.std.proofs.Common.{◌≡◌, ◌≤◌, ◌+◌, ◌++◌, [], ℕ, 
 use Rattle.tr_packet.specs.Decoding.{Begins}
 use Rattle.tr_chunk.specs.Audit.{IsCause}
 use Rattle.tr_chunk.specs.Reading.{Reading, reading, Takes, Finds, Waits}
-use Rattle.tr_chunk.proofs.ReadingLemmas.{waits_within, takes_whole, finds}
+use Rattle.tr_chunk.proofs.ReadingLemmas.{takes_whole, finds}
+use Rattle.tr_chunk.proofs.WaitingLemmas.{waits_within}
 use Rattle.tr_chunk.proofs.AuditLemmas.{front_within}
 use Rattle.tr_chunk.proofs.audit_reader.AuditReader.take_free.Goals as goal
 

@@ -4,7 +4,8 @@ use Rattle.tr_packet.specs.Decoding.{Begins}
 use Rattle.tr_chunk.specs.Audit.{IsCause}
 use Rattle.tr_chunk.specs.Reading.{Reading, reading, Takes, Finds, Waits}
 use Rattle.tr_chunk.proofs.AuditLemmas.{front_within}
-use Rattle.tr_chunk.proofs.ReadingLemmas.{nothing_waits, takes_part, takes_whole, whole_behind, finds}
+use Rattle.tr_chunk.proofs.ReadingLemmas.{takes_part, takes_whole, whole_behind, finds}
+use Rattle.tr_chunk.proofs.WaitingLemmas.{nothing_waits}
 use Rattle.tr_chunk.proofs.audit_reader.AuditReader.take_more.Goals as goal
 
 pub invariant_of-self : goal.invariant_of-self
