@@ -1,0 +1,14 @@
+use Rattle.std.proofs.Common.{◌≡◌, ◌-◌, ◌≤◌, ℕ, List, ◌++◌, Some, length, take}
+use Rattle.tr_folders.proofs.reading.read_front.Given as goal
+
+abbrev pub invariant-loop-at : goal.invariant-loop-at
+invariant-loop-at g l = record {
+  within : l.at ≤ length l.buffer;
+  tree : g.F.Folders.tree l.folders ≡ g.F.Folders.tree l.initial.folders;
+  failures : g.F.Folders.failures l.folders ≡ g.F.Folders.failures l.initial.folders;
+  front : (bytes : List ℕ) → g.F.Folders.left l.initial.folders ≡ Some bytes
+      → (rest : List ℕ) × (bytes ≡ take l.at l.buffer ++ rest) × (g.F.Folders.left l.folders ≡ Some rest);
+}
+
+abbrev pub decreases-loop-at : goal.decreases-loop-at
+decreases-loop-at g l = length l.initial.buffer - l.at

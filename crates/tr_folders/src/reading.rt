@@ -1,0 +1,26 @@
+//! Reading the file that is open.
+
+ghost use Rattle.std.specs.Prelude.{◌≡◌, ◌≤◌, ℕ, List, Some, IfOk, length, take};
+ghost use Rattle.tr_folders.specs.Failures.{after_reading};
+
+use crate::faults::ReadFault;
+use crate::folders::Folders;
+
+/// Reads the open file until the buffer is full or the file ends. How many bytes are there.
+pub fn read_front<F: Folders>(folders: &mut F, buffer: &mut [u8]) -> Result<usize, ReadFault>
+    ensures count { IfOk result (λ n. n ≤ length buffer.new) }
+    ensures front { IfOk result (λ n. (bytes : List ℕ) → F.left folders.old ≡ Some bytes
+        → take n buffer.new ≡ take (length buffer.old) bytes) }
+    ensures len { length buffer.new ≡ length buffer.old }
+    ensures tree { F.tree folders.new ≡ F.tree folders.old }
+    ensures failures { F.failures folders.new ≡ after_reading result (F.failures folders.old) }
+{
+    let mut at = 0;
+    while at < buffer.len() {
+        match folders.read(&mut buffer[at..])? {
+            0 => break,
+            count => at += count,
+        }
+    }
+    Ok(at)
+}

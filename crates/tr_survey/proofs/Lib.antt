@@ -1,0 +1,12 @@
+pub mod FindLemmas
+pub mod FrontLemmas
+pub mod ListingLemmas
+pub mod MetadataLaws
+pub mod MetadataLemmas
+pub mod NameLaws
+pub mod NameLemmas
+pub mod NumberLemmas
+pub mod PieceLemmas
+pub mod StampLaws
+pub mod SurveyLemmas
+pub mod TellLemmas

@@ -1,0 +1,10 @@
+pub mod Failures
+pub mod Findings
+pub mod Fronts
+pub mod Lines
+pub mod Listing
+pub mod Metadata
+pub mod Names
+pub mod Order
+pub mod Paths
+pub mod Sessions

@@ -1,0 +1,33 @@
+//! The paths of what is read.
+
+ghost use Rattle.std.specs.Prelude.{◌≡◌, IfOk};
+ghost use Rattle.std.specs.String.{string_bytes};
+ghost use Rattle.tr_survey.specs.Paths.{archives_folder, file_path, path_of};
+
+use std::alloc::{AllocError, Global};
+
+/// The folder of a session's archives: `DIR/SESSION/archives`.
+pub(crate) fn archives_path(alloc: Global, dir: &str, session: &str) -> Result<String, AllocError>
+    ensures { IfOk result (λ s. string_bytes s ≡ archives_folder dir.now session.now) }
+{
+    format!(in alloc; "{dir}/{session}/archives")
+}
+
+/// What has this name in a folder: `FOLDER/NAME`.
+pub(crate) fn path_in(alloc: Global, folder: &str, name: &str) -> Result<String, AllocError>
+    ensures { IfOk result (λ s. string_bytes s ≡ path_of folder.now name.now) }
+{
+    format!(in alloc; "{folder}/{name}")
+}
+
+/// The path of a file in an archive of a folder: `FOLDER/ARCHIVE/FILE`.
+pub(crate) fn file_path(
+    alloc: Global,
+    folder: &str,
+    archive: &str,
+    file: &str,
+) -> Result<String, AllocError>
+    ensures { IfOk result (λ s. string_bytes s ≡ file_path folder.now archive.now file.now) }
+{
+    format!(in alloc; "{folder}/{archive}/{file}")
+}

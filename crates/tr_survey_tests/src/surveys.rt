@@ -1,0 +1,332 @@
+//! Surveys of folders in memory: a worked example, and what can be wrong.
+
+mod failing;
+mod real;
+
+use std::alloc::Global;
+use std::fmt::Debug;
+use std::process::Abort;
+use tr_folders::MemoryFolders;
+use tr_packet::{Head, Packet, encode_packet, metadata_text};
+use tr_record::{MemorySink, Rec};
+use tr_survey::survey;
+use tr_terms::Moment;
+use uuid::Uuid;
+
+/// The name of an archive, up to its number.
+const STAMPS: &str = "19700101T000000+0000-19700101T000000+0000-";
+
+/// Compares what a test found with what it expects. As a call without clauses it keeps the proofs of the tests short.
+fn assert_same<T: PartialEq + Debug + Drop>(rt: &impl Abort, found: T, expected: T) {
+    assert_eq!(rt; found, expected);
+}
+
+fn uuid(last: u8) -> Uuid {
+    Uuid::from_bytes([0, 0, 0, 0, 0, 0, 0, 0, 0, 0, 0, 0, 0, 0, 0, last])
+}
+
+fn text(rt: &impl Abort, alloc: Global, parts: &[&str]) -> String {
+    let mut text = String::new(alloc);
+    for part in parts {
+        text.push_str(part).expect(rt, "memory");
+    }
+    text
+}
+
+/// The bytes of packets of the trace 1, each with its number and the serials of its records.
+fn packets(rt: &impl Abort, alloc: Global, stream: u64, rows: &[(u64, &[u64])]) -> Vec<u8> {
+    let mut bytes = Vec::new(alloc);
+    for (seq, serials) in rows {
+        let mut records = Vec::new(alloc);
+        for serial in serials.iter() {
+            let record = Rec::copy_of(alloc, *serial, Moment::zero(), 7, &[0x61; 50]);
+            records
+                .push(record.expect(rt, "memory"))
+                .expect(rt, "memory");
+        }
+        let head = Head {
+            uuid: uuid(1),
+            stream,
+            begin: Moment::zero(),
+            end: Moment::zero(),
+            seq: *seq,
+            discarded: 0,
+        };
+        let packet = Packet::checked(head, records).expect(rt, "a packet");
+        let packet = encode_packet(alloc, &packet).expect(rt, "memory");
+        for byte in &packet {
+            bytes.push(*byte).expect(rt, "memory");
+        }
+    }
+    bytes
+}
+
+/// Folders below `d` with the names in them, and files.
+#[derive(Drop)]
+struct Room<'a, R: Abort> {
+    rt: &'a R,
+    alloc: Global,
+    folders: Vec<(String, Vec<String>)>,
+    files: Vec<(String, Vec<u8>)>,
+}
+
+impl<'a, R: Abort> Room<'a, R> {
+    fn new(rt: &'a R, alloc: Global) -> Self {
+        Room {
+            rt,
+            alloc,
+            folders: Vec::new(alloc),
+            files: Vec::new(alloc),
+        }
+    }
+
+    fn add_folder(&mut self, path: String, names: Vec<String>) {
+        self.folders.push((path, names)).expect(self.rt, "memory");
+    }
+
+    fn add_file(&mut self, path: String, bytes: Vec<u8>) {
+        self.files.push((path, bytes)).expect(self.rt, "memory");
+    }
+
+    fn kept(self, piece: usize) -> MemoryFolders {
+        MemoryFolders::new(self.alloc, self.folders, self.files, piece)
+    }
+
+    fn folder(&mut self, path: &[&str], names: &[&str]) {
+        let path = text(self.rt, self.alloc, path);
+        let mut found = Vec::new(self.alloc);
+        for name in names {
+            let name = text(self.rt, self.alloc, &[name]);
+            found.push(name).expect(self.rt, "memory");
+        }
+        self.add_folder(path, found);
+    }
+
+    fn archive(&mut self, number: &str, files: &[&str]) {
+        self.folder(&["d/s/archives/", STAMPS, number], files);
+    }
+
+    fn file(&mut self, archive: &str, name: &str, bytes: Vec<u8>) {
+        let path = text(
+            self.rt,
+            self.alloc,
+            &["d/s/archives/", STAMPS, archive, "/", name],
+        );
+        self.add_file(path, bytes);
+    }
+
+    fn metadata(&mut self, archive: &str, uuid: Uuid) {
+        let text = metadata_text(self.alloc, &uuid).expect(self.rt, "memory");
+        self.file(archive, "metadata", text.into_bytes());
+    }
+
+    fn packets(&mut self, archive: &str, name: &str, stream: u64, rows: &[(u64, &[u64])]) {
+        let bytes = packets(self.rt, self.alloc, stream, rows);
+        self.file(archive, name, bytes);
+    }
+
+    fn session(&mut self, archives: &[&str]) {
+        self.folder(&["d"], &["s"]);
+        let mut names = Vec::new(self.alloc);
+        for archive in archives {
+            let name = text(self.rt, self.alloc, &[STAMPS, archive]);
+            names.push(name).expect(self.rt, "memory");
+        }
+        let path = text(self.rt, self.alloc, &["d/s/archives"]);
+        self.add_folder(path, names);
+    }
+
+    fn says(self, piece: usize, expected: &str, faults: u64) {
+        let rt = self.rt;
+        let alloc = self.alloc;
+        let mut folders = self.kept(piece);
+        let mut sink = MemorySink::new(alloc, 7);
+        let found = survey(alloc, &mut folders, &mut sink, "d");
+        assert_same(rt, found, Ok(Some(faults)));
+        let found = String::from_utf8(sink.into_bytes()).expect(rt, "text");
+        assert_same(rt, found.as_str(), expected);
+    }
+}
+
+/// The worked example: two archives, three streams, one of which is cut off in its second packet.
+fn worked<'a, R: Abort>(rt: &'a R, alloc: Global) -> Room<'a, R> {
+    let mut room = Room::new(rt, alloc);
+    room.session(&["1", "0"]);
+    for archive in ["0", "1"] {
+        room.archive(archive, &["c_2", "metadata", "c_0", "c_1"]);
+        room.metadata(archive, uuid(1));
+        room.packets(archive, "c_1", 1, &[]);
+    }
+    room.packets("0", "c_0", 0, &[(1, &[0, 2]), (3, &[4, 5])]);
+    room.packets("1", "c_0", 0, &[(4, &[8, 9])]);
+    let mut cut = packets(rt, alloc, 2, &[(0, &[0, 1]), (1, &[2])]);
+    cut.truncate(300);
+    room.file("0", "c_2", cut);
+    room.packets("1", "c_2", 2, &[(2, &[3])]);
+    room
+}
+
+const WORKED: &str = "\
+session s uuid 00000000-0000-0000-0000-000000000001 archives 2
+stream 0 c packets 3 records 6 absent 2 lost 0 last 4 9
+gap 0 0 1
+gap 0 2 1
+stream 1 c packets 0 records 0 absent 0 lost 0 last none
+fault 2 19700101T000000+0000-19700101T000000+0000-0 228 A1 Packet P1 Short
+faulty 1
+";
+
+#[test]
+fn worked_example(rt: HostRuntime) {
+    for piece in [1, 7, 100, 70_000] {
+        worked(&rt, rt.alloc()).says(piece, WORKED, 1);
+    }
+}
+
+#[test]
+fn nothing_wrong(rt: HostRuntime) {
+    let mut room = Room::new(&rt, rt.alloc());
+    room.session(&["9", "10"]);
+    for (archive, seq) in [("9", 0), ("10", 1)] {
+        room.archive(archive, &["metadata", "a_b_2_3"]);
+        room.metadata(archive, uuid(1));
+        room.packets(archive, "a_b_2_3", 3, &[(seq, &[seq])]);
+    }
+    let expected = "session s uuid 00000000-0000-0000-0000-000000000001 archives 2
+stream 3 a_b_2 packets 2 records 2 absent 0 lost 0 last 1 1
+whole
+";
+    room.says(64, expected, 0);
+}
+
+/// What isn't named as a session, an archive or a stream's file is passed over.
+#[test]
+fn other_names(rt: HostRuntime) {
+    let mut room = Room::new(&rt, rt.alloc());
+    room.folder(&["d"], &["9s", "s.old", "t", "s", "r", "u"]);
+    room.folder(&["d/r/archives"], &["index"]);
+    let archive = "19700101T000000+0000-19700101T000000-0130-7";
+    let names = [
+        "19700101T000000+0000-19700101T000000+0000-07",
+        "19700101T000000+0000-19700101T000000+0000-",
+        "19700101T000000+0000-19700101T000000+0000-8",
+        "19700101T000000*0000-19700101T000000+0000-7",
+        "19700101T000000+0000-7",
+        archive,
+    ];
+    room.folder(&["d/s/archives"], &names);
+    let files = [
+        "index",
+        "c_",
+        "_1",
+        "c_01",
+        "c_+1",
+        "c1",
+        "9c_1",
+        "c_18446744073709551616",
+        "c_0",
+    ];
+    room.folder(&["d/s/archives/", archive], &files);
+    for name in ["metadata", "c_0"] {
+        let bytes = match name {
+            "metadata" => text(
+                &rt,
+                rt.alloc(),
+                &["  uuid = \"00000000-0000-0000-0000-000000000001\";"],
+            )
+            .into_bytes(),
+            _ => Vec::new(rt.alloc()),
+        };
+        let path = text(&rt, rt.alloc(), &["d/s/archives/", archive, "/", name]);
+        room.add_file(path, bytes);
+    }
+    let expected = "session r uuid none archives 0
+session s uuid 00000000-0000-0000-0000-000000000001 archives 1
+stream 0 c packets 0 records 0 absent 0 lost 0 last none
+whole
+";
+    room.says(64, expected, 0);
+}
+
+/// The first archive that names an identifier gives the session's.
+#[test]
+fn metadata_at_fault(rt: HostRuntime) {
+    let mut room = Room::new(&rt, rt.alloc());
+    room.session(&["0", "1", "2", "3"]);
+    for archive in ["0", "1", "2", "3"] {
+        room.archive(archive, &["c_0"]);
+        room.packets(archive, "c_0", 0, &[]);
+    }
+    room.file(
+        "1",
+        "metadata",
+        text(&rt, rt.alloc(), &["uuid = 1;\n"]).into_bytes(),
+    );
+    room.metadata("2", uuid(1));
+    room.metadata("3", uuid(2));
+    let expected = "session s uuid 00000000-0000-0000-0000-000000000001 archives 4
+fault 19700101T000000+0000-19700101T000000+0000-0 no metadata
+fault 19700101T000000+0000-19700101T000000+0000-1 no uuid
+fault 19700101T000000+0000-19700101T000000+0000-3 another uuid
+stream 0 c packets 0 records 0 absent 0 lost 0 last none
+faulty 3
+";
+    room.says(64, expected, 3);
+}
+
+#[test]
+fn no_identifier(rt: HostRuntime) {
+    let mut room = Room::new(&rt, rt.alloc());
+    room.session(&["0"]);
+    room.archive("0", &["c_0"]);
+    room.packets("0", "c_0", 0, &[]);
+    let expected = "session s uuid none archives 1
+fault 19700101T000000+0000-19700101T000000+0000-0 no metadata
+faulty 1
+";
+    room.says(64, expected, 1);
+}
+
+/// Of each stream the first thing that is wrong, in order of archives.
+#[test]
+fn streams_at_fault(rt: HostRuntime) {
+    let mut room = Room::new(&rt, rt.alloc());
+    room.session(&["0", "1", "2"]);
+    for archive in ["0", "1", "2"] {
+        room.metadata(archive, uuid(1));
+    }
+    room.archive("0", &["c_0", "c_1", "c_3"]);
+    room.archive("1", &["c_0", "c_3"]);
+    room.archive("2", &["c_0", "c_1", "d_2"]);
+    room.packets("0", "c_0", 0, &[(0, &[0])]);
+    room.packets("1", "c_0", 0, &[(1, &[1]), (1, &[2])]);
+    room.packets("2", "c_0", 0, &[]);
+    room.packets("0", "c_1", 1, &[]);
+    room.packets("2", "c_1", 1, &[]);
+    room.packets("2", "d_2", 2, &[]);
+    room.packets("0", "c_3", 4, &[(0, &[0])]);
+    let expected = "session s uuid 00000000-0000-0000-0000-000000000001 archives 3
+fault 0 19700101T000000+0000-19700101T000000+0000-1 154 A2 NumberRepeat
+fault 1 19700101T000000+0000-19700101T000000+0000-1 no file
+fault 2 19700101T000000+0000-19700101T000000+0000-0 no file
+fault 3 19700101T000000+0000-19700101T000000+0000-0 0 A4 Foreign
+faulty 4
+";
+    room.says(64, expected, 4);
+}
+
+#[test]
+fn no_session(rt: HostRuntime) {
+    let alloc = rt.alloc();
+    for names in [None, Some("9"), Some("t")] {
+        let mut room = Room::new(&rt, alloc);
+        if let Some(name) = names {
+            room.folder(&["d"], &[name]);
+        }
+        let mut sink = MemorySink::new(alloc, 7);
+        let mut folders = room.kept(64);
+        let found = survey(alloc, &mut folders, &mut sink, "d");
+        assert_same(&rt, found, Ok(None));
+        assert_same(&rt, sink.into_bytes().len(), 0);
+    }
+}
