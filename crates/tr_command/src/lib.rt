@@ -13,7 +13,7 @@ mod readings;
 mod requests;
 mod values;
 
-pub use arguments::option;
+pub use arguments::{option, place};
 pub use numbers::number;
 pub use parsing::parse;
 pub use requests::Request;

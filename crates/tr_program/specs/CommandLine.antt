@@ -3,7 +3,7 @@ use Rattle.std.specs.Prelude.{ℕ, List, [], ◌∷◌, ◌≤◌, Option, Some,
 use Rattle.std.specs.Borrow.{Bor}
 use Rattle.std.specs.Str.{bytes_eq}
 use Rattle.clap.specs.Words.{App, Row, Text, fault_of, first_of, new_app, subcommand_of, with_rule, with_subcommand}
-use Rattle.tr_command.specs.CommandLine.{option}
+use Rattle.tr_command.specs.CommandLine.{option, place}
 use Rattle.tr_command.specs.Language.{is_free_of_faults}
 use Rattle.tr_command.specs.Reading.{and_last, and_then, number_given}
 use Rattle.tr_load.specs.declared.limits.TheConstants.{MOST_RECORDS, MOST_WORKERS}
@@ -19,6 +19,7 @@ Folder = Option Text
 pub data Task : Type 0 where
   Script : (out : Folder) → Task
   Load : (threads records workers : ℕ) (out : Folder) → Task
+  Audit : (dir : Text) → Task
 
 -- a folder by its text
 abbrev pub folder_named : Option (Bor Text) → Folder
@@ -27,12 +28,14 @@ folder_named out = option_map (λ d. d.now) out
 abbrev pub task_of : Job → Task
 task_of (job.Script out) = Script (folder_named out)
 task_of (job.Load threads records workers out) = Load threads records workers (folder_named out)
+task_of (job.Audit dir) = Audit dir.now
 
 -- the numbers of a load lie within their limits
 abbrev pub IsWithinLimits : Job → Type 0
 IsWithinLimits (job.Script out) = Unit
 IsWithinLimits (job.Load threads records workers out) =
     ((1 ≤ threads) × (threads ≤ MOST_STREAMS)) × (records ≤ MOST_RECORDS) × ((1 ≤ workers) × (workers ≤ MOST_WORKERS))
+IsWithinLimits (job.Audit dir) = Unit
 
 -- `script [--out DIR]`
 abbrev pub script_app : App
@@ -46,9 +49,17 @@ load_counts = with_rule (with_rule (new_app (codes "load")) (option (codes "thre
 abbrev pub load_app : App
 load_app = with_rule (with_rule load_counts (option (codes "workers"))) (option (codes "out"))
 
+-- `audit DIR`
+abbrev pub audit_app : App
+audit_app = with_rule (new_app (codes "audit")) (place (codes "dir"))
+
 -- `tracerd script ..` and `tracerd load ..`
+abbrev pub running_app : App
+running_app = with_subcommand (with_subcommand (new_app (codes "tracerd")) script_app.top) load_app.top
+
+-- `tracerd script ..`, `tracerd load ..` and `tracerd audit ..`
 abbrev pub program_app : App
-program_app = with_subcommand (with_subcommand (new_app (codes "tracerd")) script_app.top) load_app.top
+program_app = with_subcommand running_app audit_app.top
 
 -- a named folder has a name that isn't empty
 abbrev pub folder_given : Option Text → Option Folder
@@ -71,13 +82,19 @@ load_given rows =
     and_then (count_given (codes "workers") 1 MOST_WORKERS rows) (λ workers.
     and_last (folder_given (first_of (codes "out") rows)) (λ out. Load threads records workers out))))
 
+-- the folder to audit, if its name isn't empty
+abbrev pub audit_given : List Row → Option Task
+audit_given rows =
+    and_then (folder_given (first_of (codes "dir") rows)) (λ named. and_last named (λ dir. Audit dir))
+
 -- what the command that was entered asks for
 abbrev pub job_named : Text → List Row → Option Task
 job_named name rows =
     if bytes_eq name (codes "script") then script_given rows else
-    (if bytes_eq name (codes "load") then load_given rows else None)
+    (if bytes_eq name (codes "load") then load_given rows else
+    (if bytes_eq name (codes "audit") then audit_given rows else None))
 
--- what these words ask for, the program's name before them: a run of a script, or a load; none is a bad command line
+-- what these words ask for, the program's name before them: a run of a script, a load, or an audit; none is a bad command line
 unfoldable pub job_of : List Text → Option Task
 job_of words = if is_free_of_faults (fault_of program_app words)
     then option_and_then (λ entered. job_named entered.0 entered.1) (subcommand_of program_app words) else None

@@ -10,22 +10,28 @@ use Rattle.tr_load.specs.declared.loaded.LoadFault.{LoadFault}
 use Rattle.tr_load.specs.declared.loaded.LoadFault.TheVariants as load
 use Rattle.tr_pool.specs.declared.report.Mismatch.{Mismatch}
 use Rattle.tr_pool.specs.declared.report.Report.{Report}
+use Rattle.tr_survey.specs.declared.faults.SurveyFault.{SurveyFault}
+use Rattle.tr_survey.specs.declared.faults.SurveyFault.TheVariants as survey
 use Rattle.tr_program.specs.declared.ending.Ending.{Ending}
-use Rattle.tr_program.specs.declared.ending.Ending.TheVariants.{Done, Refused, BadCommandLine, ReadOrWrite, NoMemory}
+use Rattle.tr_program.specs.declared.ending.Ending.TheVariants.{Done, Refused, Faulty, BadCommandLine, ReadOrWrite, NoSession, NoMemory}
 
 abbrev pub status_of : Ending → ℕ
 status_of Done = 0
 status_of Refused = 1
+status_of Faulty = 1
 status_of BadCommandLine = 2
 status_of ReadOrWrite = 3
+status_of NoSession = 3
 status_of NoMemory = 4
 
 -- the line that standard error gets, if any
 abbrev pub message_of : Ending → Option (List ℕ)
 message_of Done = None
 message_of Refused = None
+message_of Faulty = None
 message_of BadCommandLine = Some (codes "tracerd: bad command line" ++ 10 ∷ [])
 message_of ReadOrWrite = Some (codes "tracerd: read or write fault" ++ 10 ∷ [])
+message_of NoSession = Some (codes "tracerd: no session" ++ 10 ∷ [])
 message_of NoMemory = Some (codes "tracerd: no memory" ++ 10 ∷ [])
 
 abbrev pub ending_of_script : ScriptFault → Ending
@@ -61,3 +67,15 @@ ending_of_load load.NoMemory = NoMemory
 abbrev pub ending_of_told : Result Report Mismatch → Result (Unit {0}) ExportFault → Ending
 ending_of_told outcome (Ok done) = ending_of_outcome outcome
 ending_of_told outcome (Err fault) = ending_of_export fault
+
+-- an audit that came to its end: there is no session, or so many faults
+abbrev pub ending_of_audit : Option ℕ → Ending
+ending_of_audit None = NoSession
+ending_of_audit (Some zero) = Done
+ending_of_audit (Some (suc n)) = Faulty
+
+abbrev pub ending_of_survey : Result (Option ℕ) SurveyFault → Ending
+ending_of_survey (Ok found) = ending_of_audit found
+ending_of_survey (Err survey.Read) = ReadOrWrite
+ending_of_survey (Err survey.Write) = ReadOrWrite
+ending_of_survey (Err survey.NoMemory) = NoMemory

@@ -1,5 +1,5 @@
 -- What a run of the program does.
-use Rattle.std.specs.Prelude.{◌≡◌, ◌⊎◌, ℕ, List, Option, Some, None, Result}
+use Rattle.std.specs.Prelude.{◌≡◌, ◌⊎◌, ℕ, [], List, Option, Some, None, Result, Ok, Err}
 use Rattle.tr_calls.specs.World.{World}
 use Rattle.tr_chunk.specs.Files.{Sunk}
 use Rattle.tr_console.specs.Runs.{AnsweredSome, BrokeOff, Ran, WentTooFar, WroteSome}
@@ -7,6 +7,8 @@ use Rattle.tr_export.specs.Failures.{HasFailed, HasNotFailed}
 use Rattle.tr_export.specs.Making.{MadeFront, Makings}
 use Rattle.tr_export.specs.declared.disk.Disk as Disk
 use Rattle.tr_export.specs.declared.faults.ExportFault.{ExportFault}
+use Rattle.tr_folders.specs.Tree.{Tree}
+use Rattle.tr_folders.specs.declared.folders.Folders as Folders
 use Rattle.tr_load.specs.Loads.{IsLoaded}
 use Rattle.tr_load.specs.Telling.{DiskState, TellsLoad}
 use Rattle.tr_load.specs.declared.loaded.LoadFault.{LoadFault}
@@ -17,11 +19,15 @@ use Rattle.tr_record.specs.declared.bytes.ByteSink as Sink
 use Rattle.tr_record.specs.declared.bytes.ByteSource as Source
 use Rattle.tr_session.specs.Session.{SessionOf}
 use Rattle.tr_stream.specs.State.{StreamState}
-use Rattle.tr_program.specs.CommandLine.{Folder, Script, Load, Task}
-use Rattle.tr_program.specs.Endings.{ending_of_load, ending_of_refused, ending_of_told, message_of, status_of}
+use Rattle.tr_survey.specs.Failures.{reads_after, writes_after}
+use Rattle.tr_survey.specs.Fronts.{HasToldFront}
+use Rattle.tr_survey.specs.Sessions.{TellsFolder, sessions_of}
+use Rattle.tr_survey.specs.declared.faults.SurveyFault.{SurveyFault}
+use Rattle.tr_program.specs.CommandLine.{Folder, Script, Load, Audit, Task}
+use Rattle.tr_program.specs.Endings.{ending_of_load, ending_of_refused, ending_of_survey, ending_of_told, message_of, status_of}
 use Rattle.tr_program.specs.Exports.{IsMadeBelow, all_made}
 use Rattle.tr_program.specs.declared.ending.Ending.{Ending}
-use Rattle.tr_program.specs.declared.ending.Ending.TheVariants.{Done, Refused, BadCommandLine, ReadOrWrite, NoMemory}
+use Rattle.tr_program.specs.declared.ending.Ending.TheVariants.{Done, Refused, Faulty, BadCommandLine, ReadOrWrite, NoSession, NoMemory}
 
 -- the line went out, if there is one
 abbrev pub GotLine : Option (List ℕ) → Option (List ℕ) → Option (List ℕ) → Type 0
@@ -55,6 +61,42 @@ output_of host = record { taken = host.taken; failures = host.output_failures }
 
 abbrev pub disk_in : Host → DiskState
 disk_in host = record { made = host.made; failures = host.disk_failures }
+
+-- what is known of folders at one step: what stands there, and how often reading failed
+pub record FoldersState : Type 0 where
+  pub tree : Option Tree
+  pub failures : ℕ
+
+abbrev pub folders_of : {F : Type 0} → Folders.Ghosts F → F → FoldersState
+folders_of ghosts folders = record { tree = ghosts.tree folders; failures = ghosts.failures folders }
+
+-- what is known at one step of all that a run reads and writes, but standard error
+pub record Outside : Type 0 where
+  pub host : Host
+  pub folders : FoldersState
+
+abbrev pub outside_of : {S K D C F : Type 0} → Source.Ghosts S → Sink.Ghosts K → Disk.Ghosts D C → Folders.Ghosts F → S → K → D → F → Outside
+outside_of source sink disks ghosts input out disk folders = record {
+  host = host_of source sink disks input out disk;
+  folders = folders_of ghosts folders;
+}
+
+-- what is told of a folder by an audit with this result, before which this was out, and after which that is
+abbrev pub TellsAudit : Tree → List ℕ → Result (Option ℕ) SurveyFault → Option (List ℕ) → Option (List ℕ) → Type 0
+TellsAudit t dir (Ok found) before now = TellsFolder t dir found before now
+TellsAudit t dir (Err fault) before now = HasToldFront t dir before now
+
+-- what stands in a folder was told to an output, or a front of it, and the ending says how many faults there are, or why not
+pub record HasAudited (dir : List ℕ) (folders folders_now : FoldersState) (out out_now : Sunk) (ending : Ending) : Type 0 where
+  pub result : Result (Option ℕ) SurveyFault
+  pub ends : ending ≡ ending_of_survey result
+  pub tells : (t : Tree) → folders.tree ≡ Some t → TellsAudit t dir result out.taken out_now.taken
+  pub reads : folders_now.failures ≡ reads_after result folders.failures
+  pub writes : out_now.failures ≡ writes_after result out.failures
+
+-- no session stands in a folder, as far as is known
+abbrev pub HasNoSession : List ℕ → Option Tree → Type 0
+HasNoSession dir tree = (t : Tree) → tree ≡ Some t → sessions_of t dir ≡ []
 
 -- what a settled load came to was told to an output and a disk, and the ending says with which result
 pub record EndsTold (dir : Folder) (threads : ℕ) (session : SessionOf StreamState) (outcome : Result Report Mismatch)
@@ -117,7 +159,9 @@ module _ (old new : Host) where
   abbrev pub EndsAs : Folder → Ending → Type 0
   EndsAs dir Done = CameToEnd dir Done
   EndsAs dir Refused = CameToEnd dir Refused
+  EndsAs dir Faulty = ⊥
   EndsAs dir BadCommandLine = ⊥
+  EndsAs dir NoSession = ⊥
   EndsAs dir ReadOrWrite = EndsByFault dir
   EndsAs dir NoMemory = EndsByMemory dir
 
@@ -137,15 +181,15 @@ module _ (old new : Host) where
   EndsLoad threads records dir ending =
       (new.given ≡ old.given) × (HasLoaded threads records dir ending ⊎ HasNotLoaded ending)
 
-  -- neither a run of a script nor a load is asked for
+  -- an audit of a folder; it reads no input and makes nothing
+  pub record EndsAudit (dir : List ℕ) (folders folders_now : FoldersState) (ending : Ending) : Type 0 where
+    pub audited : HasAudited dir folders folders_now (output_of old) (output_of new) ending
+    pub given : new.given ≡ old.given
+    pub made : new.made ≡ old.made
+
+  -- neither a run of a script, nor a load, nor an audit is asked for
   abbrev pub IsNoRun : Ending → Type 0
   IsNoRun ending = ((ending ≡ BadCommandLine) ⊎ (ending ≡ NoMemory)) × IsUntouched
-
-  -- the run ended as what was asked for does
-  abbrev pub EndsSo : Option Task → Ending → Type 0
-  EndsSo None ending = IsNoRun ending
-  EndsSo (Some (Script dir)) ending = EndsAs dir ending
-  EndsSo (Some (Load threads records workers dir)) ending = EndsLoad threads records dir ending
 
   -- the input, the output or the disk failed, or the script was too long
   abbrev pub HasCause : Type 0
@@ -162,9 +206,31 @@ module _ (old new : Host) where
 abbrev pub IsTold : Ending → Sunk → Sunk → Type 0
 IsTold ending old new = GotLine old.taken new.taken (message_of ending) ⊎ (new.failures ≡ once_more old.failures)
 
--- the run ended as what was asked for does: its status and its line say how
-pub record HasEnded (asked : Option Task) (old new : Host) (told told_now : Sunk) (status : ℕ) : Type 0 where
+-- the run ended as what was asked for does
+abbrev pub EndsSo : Outside → Outside → Option Task → Ending → Type 0
+EndsSo old new None ending = IsNoRun old.host new.host ending
+EndsSo old new (Some (Script dir)) ending = EndsAs old.host new.host dir ending
+EndsSo old new (Some (Load threads records workers dir)) ending = EndsLoad old.host new.host threads records dir ending
+EndsSo old new (Some (Audit dir)) ending = EndsAudit old.host new.host dir old.folders new.folders ending
+
+-- the same: its status and its line say how
+pub record HasEnded (asked : Option Task) (old new : Outside) (told told_now : Sunk) (status : ℕ) : Type 0 where
   pub ending : Ending
   pub says : status ≡ status_of ending
   pub line : IsTold ending told told_now
   pub ends : EndsSo old new asked ending
+
+-- an audit is asked for, and reading failed, or there is no session
+abbrev pub LacksArchives : Option Task → FoldersState → FoldersState → Type 0
+LacksArchives None old new = ⊥
+LacksArchives (Some (Script dir)) old new = ⊥
+LacksArchives (Some (Load threads records workers dir)) old new = ⊥
+LacksArchives (Some (Audit dir)) old new = (new.failures ≡ once_more old.failures) ⊎ HasNoSession dir old.tree
+
+-- what a status of 3 says
+abbrev pub HasFault : Option Task → Outside → Outside → Type 0
+HasFault asked old new = HasCause old.host new.host ⊎ LacksArchives asked old.folders new.folders
+
+-- what any other status says: nothing failed
+abbrev pub FailedNowhere : Outside → Outside → Type 0
+FailedNowhere old new = HasNoFault old.host new.host × (new.folders.failures ≡ old.folders.failures)

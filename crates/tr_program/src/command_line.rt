@@ -4,13 +4,13 @@ ghost use Rattle.std.specs.Prelude.{◌≡◌, ◌≤◌, ◌∷◌, IfOk, IfSom
 ghost use Rattle.std.specs.Vec.Iter.{into_iter_items};
 ghost use Rattle.clap.specs.Words.{app_of, first_of, found_of, rows_of};
 ghost use Rattle.clap.specs.declared.builder.command.Command.TheViews.{out-Command as fields_of};
-ghost use Rattle.tr_program.specs.CommandLine.{IsWithinLimits, count_given, folder_given, folder_named, job_named, job_of, load_app, load_given, load_counts, program_app, script_app, script_given, task_of, words_of};
+ghost use Rattle.tr_program.specs.CommandLine.{IsWithinLimits, audit_app, audit_given, count_given, folder_given, folder_named, job_named, job_of, load_app, load_given, load_counts, program_app, running_app, script_app, script_given, task_of, words_of};
 
 use clap::error::ErrorKind;
 use clap::{ArgMatches, Command};
 use std::alloc::{AllocError, Global};
 use std::env::Args;
-use tr_command::{number_given, option, text_given};
+use tr_command::{number_given, option, place, text_given};
 use tr_load::{MOST_RECORDS, MOST_WORKERS};
 use tr_terms::limits::MOST_STREAMS;
 
@@ -32,6 +32,11 @@ pub enum Job<'a> {
         workers: u64,
         /// The folder for the archives, if one is named.
         out: Option<&'a str>,
+    },
+    /// Audits the archives of the sessions below a folder.
+    Audit {
+        /// The folder.
+        dir: &'a str,
     },
 }
 
@@ -63,13 +68,28 @@ fn load_command<'a>(alloc: Global) -> Result<Command<'a>, AllocError>
         .arg(option(alloc, "out"))
 }
 
-/// The whole command line: `tracerd script ..` and `tracerd load ..`.
-fn command_line<'a>(alloc: Global) -> Result<Command<'a>, AllocError>
-    ensures { IfOk result (λ c. app_of c ≡ program_app) }
+/// `audit DIR`.
+fn audit_command<'a>(alloc: Global) -> Result<Command<'a>, AllocError>
+    ensures shape { IfOk result (λ c. app_of c ≡ audit_app) }
+    ensures local { IfOk result (λ c. (fields_of c).has_globals ≡ false) }
+{
+    Command::new(alloc, "audit").arg(place(alloc, "dir"))
+}
+
+/// `tracerd script ..` and `tracerd load ..`.
+fn running_command<'a>(alloc: Global) -> Result<Command<'a>, AllocError>
+    ensures { IfOk result (λ c. app_of c ≡ running_app) }
 {
     Command::new(alloc, "tracerd")
         .subcommand(script_command(alloc)?)?
         .subcommand(load_command(alloc)?)
+}
+
+/// The whole command line: `tracerd script ..`, `tracerd load ..` and `tracerd audit ..`.
+fn command_line<'a>(alloc: Global) -> Result<Command<'a>, AllocError>
+    ensures { IfOk result (λ c. app_of c ≡ program_app) }
+{
+    running_command(alloc)?.subcommand(audit_command(alloc)?)
 }
 
 /// The arguments as a list.
@@ -140,6 +160,7 @@ fn job_named<'a>(name: &str, matches: &ArgMatches<'a>) -> Option<Job<'a>>
     match name {
         "script" => script_given(matches),
         "load" => load_given(matches),
+        "audit" => audit_given(matches),
         _ => None,
     }
 }
@@ -149,7 +170,7 @@ fn script_given<'a>(matches: &ArgMatches<'a>) -> Option<Job<'a>>
     ensures value { option_map task_of result ≡ script_given (rows_of (found_of matches.now)) }
     ensures within { IfSome result IsWithinLimits }
 {
-    let out = folder_given(matches)?;
+    let out = folder_given(matches, "out")?;
     Some(Job::Script { out })
 }
 
@@ -161,13 +182,22 @@ fn load_given<'a>(matches: &ArgMatches<'a>) -> Option<Job<'a>>
     let threads = count_given(matches, "threads", 1, MOST_STREAMS as u64)?;
     let records = count_given(matches, "records", 0, MOST_RECORDS)?;
     let workers = count_given(matches, "workers", 1, MOST_WORKERS as u64)?;
-    let out = folder_given(matches)?;
+    let out = folder_given(matches, "out")?;
     Some(Job::Load {
         threads,
         records,
         workers,
         out,
     })
+}
+
+/// An audit of a folder, if its name isn't empty.
+fn audit_given<'a>(matches: &ArgMatches<'a>) -> Option<Job<'a>>
+    ensures value { option_map task_of result ≡ audit_given (rows_of (found_of matches.now)) }
+    ensures within { IfSome result IsWithinLimits }
+{
+    let dir = folder_given(matches, "dir")??;
+    Some(Job::Audit { dir })
 }
 
 /// The number of an option, if one is given and lies within these limits.
@@ -182,11 +212,11 @@ fn count_given(matches: &ArgMatches<'_>, id: &str, least: u64, most: u64) -> Opt
 }
 
 /// The folder that is named, if one is; none if its name is empty.
-fn folder_given<'a>(matches: &ArgMatches<'a>) -> Option<Option<&'a str>>
-    ensures { option_map folder_named result ≡ folder_given (first_of (codes "out") (rows_of (found_of matches.now))) }
+fn folder_given<'a>(matches: &ArgMatches<'a>, id: &str) -> Option<Option<&'a str>>
+    ensures { option_map folder_named result ≡ folder_given (first_of id.now (rows_of (found_of matches.now))) }
 {
-    match text_given(matches, "out") {
+    match text_given(matches, id) {
         Some("") => None,
-        out => Some(out),
+        dir => Some(dir),
     }
 }

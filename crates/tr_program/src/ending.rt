@@ -1,13 +1,14 @@
 //! How a run of the program ends.
 
 ghost use Rattle.std.specs.Prelude.{◌≡◌, option_map};
-ghost use Rattle.tr_program.specs.Endings.{ending_of_script, ending_of_arguments, ending_of_export, ending_of_load, ending_of_outcome, ending_of_refused, message_of, status_of};
+ghost use Rattle.tr_program.specs.Endings.{ending_of_script, ending_of_arguments, ending_of_export, ending_of_load, ending_of_outcome, ending_of_refused, ending_of_survey, message_of, status_of};
 
 use std::io::ErrorKind;
 use tr_console::ScriptFault;
 use tr_export::ExportFault;
 use tr_load::LoadFault;
 use tr_pool::{Mismatch, Report};
+use tr_survey::SurveyFault;
 
 /// How a run of the program ends.
 #[derive(Clone, Copy, Debug, PartialEq, Eq)]
@@ -17,10 +18,15 @@ pub enum Ending {
     /// The script came to its end, and some of its lines were refused; or a load's logs don't agree with its session, or
     /// one of its calls was refused.
     Refused,
+    /// An audit found something wrong.
+    Faulty,
     /// The command line was bad.
     BadCommandLine,
-    /// The input couldn't be read or was too long, or the output or an archive couldn't be written.
+    /// The input, a folder or a file couldn't be read, or the input was too long, or the output or an archive couldn't be
+    /// written.
     ReadOrWrite,
+    /// There was no session to audit.
+    NoSession,
     /// An allocation failed, or a thread of a load couldn't be made.
     NoMemory,
 }
@@ -32,9 +38,9 @@ impl Ending {
     {
         match self {
             Ending::Done => 0,
-            Ending::Refused => 1,
+            Ending::Refused | Ending::Faulty => 1,
             Ending::BadCommandLine => 2,
-            Ending::ReadOrWrite => 3,
+            Ending::ReadOrWrite | Ending::NoSession => 3,
             Ending::NoMemory => 4,
         }
     }
@@ -44,9 +50,10 @@ impl Ending {
         ensures { option_map (λ t. t.now) result ≡ message_of self }
     {
         match self {
-            Ending::Done | Ending::Refused => None,
+            Ending::Done | Ending::Refused | Ending::Faulty => None,
             Ending::BadCommandLine => Some("tracerd: bad command line\n"),
             Ending::ReadOrWrite => Some("tracerd: read or write fault\n"),
+            Ending::NoSession => Some("tracerd: no session\n"),
             Ending::NoMemory => Some("tracerd: no memory\n"),
         }
     }
@@ -109,6 +116,19 @@ impl Ending {
         match fault {
             LoadFault::Misplaced => Ending::Refused,
             LoadFault::NoMemory => Ending::NoMemory,
+        }
+    }
+
+    /// How an audit that came to its end ends the program, or one that didn't.
+    pub fn of_survey(survey: Result<Option<u64>, SurveyFault>) -> Ending
+        ensures { result ≡ ending_of_survey survey }
+    {
+        match survey {
+            Ok(None) => Ending::NoSession,
+            Ok(Some(0)) => Ending::Done,
+            Ok(Some(_)) => Ending::Faulty,
+            Err(SurveyFault::Read | SurveyFault::Write) => Ending::ReadOrWrite,
+            Err(SurveyFault::NoMemory) => Ending::NoMemory,
         }
     }
 }

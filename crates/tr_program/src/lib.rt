@@ -1,4 +1,4 @@
-//! The program: its command line, its run over any input, output and disk, and how that ends.
+//! The program: its command line, its run over any input, output, disk and folders, and how that ends.
 #![tactic(auto)]
 
 mod command_line;

@@ -1,4 +1,4 @@
-//! A run of the program, over any input, output and disk.
+//! A run of the program, over any input, output, disk and folders.
 
 ghost use Rattle.std.specs.Prelude.{◌≡◌, ◌⊎◌, OnOk, OnErr, IfErr, map, option_and_then, option_map};
 ghost use Rattle.std.specs.IoError.{error_kind};
@@ -11,7 +11,7 @@ ghost use Rattle.tr_program.specs.CommandLine.{job_asked, words_of};
 ghost use Rattle.tr_load.specs.Telling.{disk_of};
 ghost use Rattle.tr_program.specs.Endings.{ending_of_arguments, status_of};
 ghost use Rattle.tr_program.specs.Exports.{all_made};
-ghost use Rattle.tr_program.specs.Runs.{EndsAs, EndsSo, EndsTold, HasCause, HasEnded, HasNoFault, IsTold, host_of};
+ghost use Rattle.tr_program.specs.Runs.{EndsAs, EndsSo, EndsTold, FailedNowhere, HasAudited, HasCause, HasEnded, HasFault, HasNoFault, IsTold, folders_of, host_of, outside_of};
 ghost use Rattle.tr_record.specs.Bytes.{once_more};
 
 use crate::command_line::{Job, collected, job_of, with_program, words_behind};
@@ -24,8 +24,10 @@ use std::thread::Threads;
 use std::time::Clock;
 use tr_console::{Console, run_script};
 use tr_export::{Disk, ExportFault, write_archives};
+use tr_folders::Folders;
 use tr_load::{Loaded, load, tell_load};
 use tr_record::{ByteSink, ByteSource, put_all};
+use tr_survey::survey;
 
 /// Writes the archives of every session below a folder, in order of creation.
 fn write_all<D: Disk>(
@@ -102,24 +104,44 @@ fn end_load<K: ByteSink, D: Disk>(
     }
 }
 
+/// Audits the archives below a folder.
+fn end_audit<K: ByteSink, F: Folders>(
+    alloc: Global,
+    out: &mut K,
+    folders: &mut F,
+    dir: &str,
+) -> Ending
+    ensures { HasAudited dir.now (folders_of F.Folders folders.old) (folders_of F.Folders folders.new)
+        (sunk_of K.ByteSink out.old) (sunk_of K.ByteSink out.new) result }
+{
+    Ending::of_survey(survey(alloc, folders, out, dir))
+}
+
 /// Does what the words ask for.
-fn end<R: Threads + Wait + Clock + Sync, S: ByteSource, K: ByteSink, D: Disk>(
+fn end<R: Threads + Wait + Clock + Sync, S: ByteSource, K: ByteSink, D: Disk, F: Folders>(
     rt: &R,
     alloc: Global,
     words: &[&str],
     input: &mut S,
     out: &mut K,
     disk: &mut D,
+    folders: &mut F,
 ) -> Ending
-    ensures ends { EndsSo (host_of S.ByteSource K.ByteSink D.Disk input.old out.old disk.old)
-        (host_of S.ByteSource K.ByteSink D.Disk input.new out.new disk.new) (job_asked (map (λ w. w.now) words.now))
-        result }
+    ensures ends { EndsSo (outside_of S.ByteSource K.ByteSink D.Disk F.Folders input.old out.old disk.old folders.old)
+        (outside_of S.ByteSource K.ByteSink D.Disk F.Folders input.new out.new disk.new folders.new)
+        (job_asked (map (λ w. w.now) words.now)) result }
     ensures fault { result ≡ Ending.ReadOrWrite
-        → HasCause (host_of S.ByteSource K.ByteSink D.Disk input.old out.old disk.old)
-        (host_of S.ByteSource K.ByteSink D.Disk input.new out.new disk.new) }
+        → HasFault (job_asked (map (λ w. w.now) words.now))
+        (outside_of S.ByteSource K.ByteSink D.Disk F.Folders input.old out.old disk.old folders.old)
+        (outside_of S.ByteSource K.ByteSink D.Disk F.Folders input.new out.new disk.new folders.new) }
+    ensures no_session { result ≡ Ending.NoSession
+        → HasFault (job_asked (map (λ w. w.now) words.now))
+        (outside_of S.ByteSource K.ByteSink D.Disk F.Folders input.old out.old disk.old folders.old)
+        (outside_of S.ByteSource K.ByteSink D.Disk F.Folders input.new out.new disk.new folders.new) }
     ensures no_fault { (result ≡ Ending.ReadOrWrite → ⊥)
-        → HasNoFault (host_of S.ByteSource K.ByteSink D.Disk input.old out.old disk.old)
-        (host_of S.ByteSource K.ByteSink D.Disk input.new out.new disk.new) }
+        → FailedNowhere
+        (outside_of S.ByteSource K.ByteSink D.Disk F.Folders input.old out.old disk.old folders.old)
+        (outside_of S.ByteSource K.ByteSink D.Disk F.Folders input.new out.new disk.new folders.new) }
 {
     let Ok(words) = with_program(alloc, words) else {
         return Ending::NoMemory;
@@ -139,6 +161,7 @@ fn end<R: Threads + Wait + Clock + Sync, S: ByteSource, K: ByteSink, D: Disk>(
             Ok(loaded) => end_load(alloc, out, disk, dir, threads, &loaded),
             Err(fault) => Ending::of_load(fault),
         },
+        Ok(Some(Job::Audit { dir })) => end_audit(alloc, out, folders, dir),
         Ok(None) => Ending::BadCommandLine,
         Err(_) => Ending::NoMemory,
     }
@@ -157,13 +180,21 @@ fn tell<E: ByteSink>(ending: Ending, err: &mut E) -> u8
 }
 
 /// Runs the program with the words after its name. The answer is the exit status: 0 if all was done, 1 if a line was
-/// refused, or if a load's logs don't agree with its session or one of its calls was refused, 2 for a bad command line, 3
-/// for a fault of input, output or a file, or a script that is too long, 4 for a failed allocation or a thread that can't be
-/// made. From 2 on `err` gets one line. Archives are made only once the input was read to its end and answered whole, or a
-/// load was told whole; if one can't be made, those before it stay, and a prefix of its own folder and files.
+/// refused, or if a load's logs don't agree with its session or one of its calls was refused, or if an audit found something
+/// wrong, 2 for a bad command line, 3 for a fault of input, output, a folder or a file, a script that is too long, or an audit
+/// that found no session, 4 for a failed allocation or a thread that can't be made. From 2 on `err` gets one line. Archives
+/// are made only once the input was read to its end and answered whole, or a load was told whole; if one can't be made, those
+/// before it stay, and a prefix of its own folder and files.
 ///
 /// Only a load starts threads and waits for them.
-pub fn run<R: Threads + Wait + Clock + Sync, S: ByteSource, K: ByteSink, E: ByteSink, D: Disk>(
+pub fn run<
+    R: Threads + Wait + Clock + Sync,
+    S: ByteSource,
+    K: ByteSink,
+    E: ByteSink,
+    D: Disk,
+    F: Folders,
+>(
     rt: &R,
     alloc: Global,
     words: &[&str],
@@ -171,19 +202,22 @@ pub fn run<R: Threads + Wait + Clock + Sync, S: ByteSource, K: ByteSink, E: Byte
     out: &mut K,
     err: &mut E,
     disk: &mut D,
+    folders: &mut F,
 ) -> u8
     ensures ends { HasEnded (job_asked (map (λ w. w.now) words.now))
-        (host_of S.ByteSource K.ByteSink D.Disk input.old out.old disk.old)
-        (host_of S.ByteSource K.ByteSink D.Disk input.new out.new disk.new) (sunk_of E.ByteSink err.old)
-        (sunk_of E.ByteSink err.new) result }
+        (outside_of S.ByteSource K.ByteSink D.Disk F.Folders input.old out.old disk.old folders.old)
+        (outside_of S.ByteSource K.ByteSink D.Disk F.Folders input.new out.new disk.new folders.new)
+        (sunk_of E.ByteSink err.old) (sunk_of E.ByteSink err.new) result }
     ensures fault { result ≡ 3
-        → HasCause (host_of S.ByteSource K.ByteSink D.Disk input.old out.old disk.old)
-        (host_of S.ByteSource K.ByteSink D.Disk input.new out.new disk.new) }
+        → HasFault (job_asked (map (λ w. w.now) words.now))
+        (outside_of S.ByteSource K.ByteSink D.Disk F.Folders input.old out.old disk.old folders.old)
+        (outside_of S.ByteSource K.ByteSink D.Disk F.Folders input.new out.new disk.new folders.new) }
     ensures no_fault { (result ≡ 3 → ⊥)
-        → HasNoFault (host_of S.ByteSource K.ByteSink D.Disk input.old out.old disk.old)
-        (host_of S.ByteSource K.ByteSink D.Disk input.new out.new disk.new) }
+        → FailedNowhere
+        (outside_of S.ByteSource K.ByteSink D.Disk F.Folders input.old out.old disk.old folders.old)
+        (outside_of S.ByteSource K.ByteSink D.Disk F.Folders input.new out.new disk.new folders.new) }
 {
-    let ending = end(rt, alloc, words, input, out, disk);
+    let ending = end(rt, alloc, words, input, out, disk, folders);
     tell(ending, err)
 }
 
@@ -194,23 +228,35 @@ fn run_arguments<
     K: ByteSink,
     E: ByteSink,
     D: Disk,
->(rt: &R, alloc: Global, given: Args, input: &mut S, out: &mut K, err: &mut E, disk: &mut D) -> u8
+    F: Folders,
+>(
+    rt: &R,
+    alloc: Global,
+    given: Args,
+    input: &mut S,
+    out: &mut K,
+    err: &mut E,
+    disk: &mut D,
+    folders: &mut F,
+) -> u8
     ensures ends { HasEnded (job_asked (words_of (into_iter_items given)))
-        (host_of S.ByteSource K.ByteSink D.Disk input.old out.old disk.old)
-        (host_of S.ByteSource K.ByteSink D.Disk input.new out.new disk.new) (sunk_of E.ByteSink err.old)
-        (sunk_of E.ByteSink err.new) result }
+        (outside_of S.ByteSource K.ByteSink D.Disk F.Folders input.old out.old disk.old folders.old)
+        (outside_of S.ByteSource K.ByteSink D.Disk F.Folders input.new out.new disk.new folders.new)
+        (sunk_of E.ByteSink err.old) (sunk_of E.ByteSink err.new) result }
     ensures fault { result ≡ 3
-        → HasCause (host_of S.ByteSource K.ByteSink D.Disk input.old out.old disk.old)
-        (host_of S.ByteSource K.ByteSink D.Disk input.new out.new disk.new) }
+        → HasFault (job_asked (words_of (into_iter_items given)))
+        (outside_of S.ByteSource K.ByteSink D.Disk F.Folders input.old out.old disk.old folders.old)
+        (outside_of S.ByteSource K.ByteSink D.Disk F.Folders input.new out.new disk.new folders.new) }
     ensures no_fault { (result ≡ 3 → ⊥)
-        → HasNoFault (host_of S.ByteSource K.ByteSink D.Disk input.old out.old disk.old)
-        (host_of S.ByteSource K.ByteSink D.Disk input.new out.new disk.new) }
+        → FailedNowhere
+        (outside_of S.ByteSource K.ByteSink D.Disk F.Folders input.old out.old disk.old folders.old)
+        (outside_of S.ByteSource K.ByteSink D.Disk F.Folders input.new out.new disk.new folders.new) }
 {
     let Ok(given) = collected(alloc, given) else {
         return tell(Ending::NoMemory, err);
     };
     match words_behind(alloc, given.as_slice()) {
-        Ok(words) => run(rt, alloc, words.as_slice(), input, out, err, disk),
+        Ok(words) => run(rt, alloc, words.as_slice(), input, out, err, disk, folders),
         Err(_) => tell(Ending::NoMemory, err),
     }
 }
@@ -223,6 +269,7 @@ pub fn run_given<
     K: ByteSink,
     E: ByteSink,
     D: Disk,
+    F: Folders,
 >(
     rt: &R,
     alloc: Global,
@@ -231,21 +278,24 @@ pub fn run_given<
     out: &mut K,
     err: &mut E,
     disk: &mut D,
+    folders: &mut F,
 ) -> u8
-    ensures ends { HasEnded (option_and_then (λ arguments. job_asked (words_of (into_iter_items arguments)))
-        (result_ok given)) (host_of S.ByteSource K.ByteSink D.Disk input.old out.old disk.old)
-        (host_of S.ByteSource K.ByteSink D.Disk input.new out.new disk.new) (sunk_of E.ByteSink err.old)
-        (sunk_of E.ByteSink err.new) result }
+    ensures ends { HasEnded (option_and_then (λ arguments. job_asked (words_of (into_iter_items arguments))) (result_ok given))
+        (outside_of S.ByteSource K.ByteSink D.Disk F.Folders input.old out.old disk.old folders.old)
+        (outside_of S.ByteSource K.ByteSink D.Disk F.Folders input.new out.new disk.new folders.new)
+        (sunk_of E.ByteSink err.old) (sunk_of E.ByteSink err.new) result }
     ensures arguments { IfErr given (λ error. result ≡ status_of (ending_of_arguments (error_kind error))) }
     ensures fault { result ≡ 3
-        → HasCause (host_of S.ByteSource K.ByteSink D.Disk input.old out.old disk.old)
-        (host_of S.ByteSource K.ByteSink D.Disk input.new out.new disk.new) }
+        → HasFault (option_and_then (λ arguments. job_asked (words_of (into_iter_items arguments))) (result_ok given))
+        (outside_of S.ByteSource K.ByteSink D.Disk F.Folders input.old out.old disk.old folders.old)
+        (outside_of S.ByteSource K.ByteSink D.Disk F.Folders input.new out.new disk.new folders.new) }
     ensures no_fault { (result ≡ 3 → ⊥)
-        → HasNoFault (host_of S.ByteSource K.ByteSink D.Disk input.old out.old disk.old)
-        (host_of S.ByteSource K.ByteSink D.Disk input.new out.new disk.new) }
+        → FailedNowhere
+        (outside_of S.ByteSource K.ByteSink D.Disk F.Folders input.old out.old disk.old folders.old)
+        (outside_of S.ByteSource K.ByteSink D.Disk F.Folders input.new out.new disk.new folders.new) }
 {
     match given {
-        Ok(given) => run_arguments(rt, alloc, given, input, out, err, disk),
+        Ok(given) => run_arguments(rt, alloc, given, input, out, err, disk, folders),
         Err(error) => tell(Ending::of_arguments(error.kind()), err),
     }
 }

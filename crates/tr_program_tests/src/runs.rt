@@ -1,5 +1,6 @@
 //! Runs of the program over memory.
 
+mod audits;
 mod exporting;
 mod failing;
 mod loads;
@@ -12,12 +13,18 @@ use std::sync::Wait;
 use std::thread::Threads;
 use std::time::Clock;
 use tr_export::MemoryDisk;
+use tr_folders::MemoryFolders;
 use tr_program::{run, run_given};
 use tr_record::{MemorySink, MemorySource};
 
 /// Compares what a test found with what it expects. As a call without clauses it keeps the proofs of the tests short.
 fn assert_same<T: PartialEq + Debug + Drop>(rt: &impl Abort, found: T, expected: T) {
     assert_eq!(rt; found, expected);
+}
+
+/// Folders in which nothing stands.
+fn no_folders(alloc: Global) -> MemoryFolders {
+    MemoryFolders::new(alloc, Vec::new(alloc), Vec::new(alloc), 1)
 }
 
 /// The status, and whether these bytes went out and these to standard error, and no file was made.
@@ -33,7 +40,17 @@ fn ends_with<R: Threads + Wait + Clock + Sync>(
     let mut out = MemorySink::new(alloc, 4096);
     let mut err = MemorySink::new(alloc, 4096);
     let mut disk = MemoryDisk::new(alloc, 4096);
-    let status = run(rt, alloc, words, &mut input, &mut out, &mut err, &mut disk);
+    let mut folders = no_folders(alloc);
+    let status = run(
+        rt,
+        alloc,
+        words,
+        &mut input,
+        &mut out,
+        &mut err,
+        &mut disk,
+        &mut folders,
+    );
     let untouched = disk.made().is_empty();
     let out = out.into_bytes();
     let err = err.into_bytes();
@@ -208,7 +225,17 @@ fn ends_without_arguments<R: Threads + Wait + Clock + Sync>(
     let mut err = MemorySink::new(alloc, 4096);
     let mut disk = MemoryDisk::new(alloc, 4096);
     let given = Err(io::Error::from(kind));
-    let status = run_given(rt, alloc, given, &mut input, &mut out, &mut err, &mut disk);
+    let mut folders = no_folders(alloc);
+    let status = run_given(
+        rt,
+        alloc,
+        given,
+        &mut input,
+        &mut out,
+        &mut err,
+        &mut disk,
+        &mut folders,
+    );
     let out = out.into_bytes();
     let err = err.into_bytes();
     (status, out.is_empty() && err.as_slice() == fault)

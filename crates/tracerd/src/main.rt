@@ -1,4 +1,4 @@
-//! The daemon's program: answers a script of commands, or runs a load.
+//! The daemon's program: answers a script of commands, runs a load, or audits archives.
 #![tactic(auto)]
 
 use std::alloc::Global;
@@ -6,6 +6,7 @@ use std::io::IsTerminal;
 use std::process::ExitCode;
 use std::{env, io};
 use tr_export::{HostFiles, SystemDisk};
+use tr_folders::HostFolders;
 use tr_program::{notice_given, run_given};
 use tr_record::{ReaderSource, WriterSink, put_all};
 
@@ -23,6 +24,16 @@ fn main(rt: HostRuntime) -> ExitCode {
     let mut input = ReaderSource::new(rt.reader());
     let mut out = WriterSink::new(io::writer(&rt));
     let mut disk = SystemDisk::new(HostFiles::new(&rt));
-    let status = run_given(&rt, alloc, given, &mut input, &mut out, &mut err, &mut disk);
+    let mut folders = HostFolders::new(&rt);
+    let status = run_given(
+        &rt,
+        alloc,
+        given,
+        &mut input,
+        &mut out,
+        &mut err,
+        &mut disk,
+        &mut folders,
+    );
     ExitCode::from(status)
 }

@@ -1,6 +1,6 @@
 //! Runs that write archives.
 
-use super::assert_same;
+use super::{assert_same, no_folders};
 use std::alloc::Global;
 use std::sync::Wait;
 use std::test::Fail;
@@ -43,6 +43,7 @@ fn exported<R: Threads + Wait + Clock + Sync>(
     let mut out = MemorySink::new(alloc, 4096);
     let mut err = MemorySink::new(alloc, 4096);
     let mut disk = MemoryDisk::new(alloc, 100);
+    let mut folders = no_folders(alloc);
     let words = ["script", "--out", "d"];
     let status = run(
         rt,
@@ -52,6 +53,7 @@ fn exported<R: Threads + Wait + Clock + Sync>(
         &mut out,
         &mut err,
         &mut disk,
+        &mut folders,
     );
     (status, disk)
 }

@@ -3,7 +3,7 @@
 ghost use Rattle.std.specs.Prelude.{◌≡◌, OnOk, OnErr, option_map};
 ghost use Rattle.tr_record.specs.Bytes.{once_more};
 
-use super::assert_same;
+use super::{assert_same, no_folders};
 use std::alloc::Global;
 use std::sync::Wait;
 use std::thread::Threads;
@@ -209,7 +209,17 @@ fn ends<R: Threads + Wait + Clock + Sync, S: ByteSource, K: ByteSink>(
         left: calls,
         failures: Some(0),
     };
-    let status = run(rt, alloc, words, input, out, &mut err, &mut disk);
+    let mut folders = no_folders(alloc);
+    let status = run(
+        rt,
+        alloc,
+        words,
+        input,
+        out,
+        &mut err,
+        &mut disk,
+        &mut folders,
+    );
     (status, disk.left, err.into_bytes().as_slice() == FAULT)
 }
 
@@ -340,6 +350,7 @@ fn a_fault_that_cannot_be_told_keeps_its_status(rt: HostRuntime) {
         left: 0,
         failures: Some(0),
     };
+    let mut folders = no_folders(rt.alloc());
     let status = run(
         &rt,
         rt.alloc(),
@@ -348,6 +359,7 @@ fn a_fault_that_cannot_be_told_keeps_its_status(rt: HostRuntime) {
         &mut out,
         &mut err,
         &mut disk,
+        &mut folders,
     );
     assert_same(&rt, status, 3);
     assert!(rt; err.taken.as_slice() == b"tracerd".as_slice());
