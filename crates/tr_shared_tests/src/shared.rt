@@ -2,6 +2,7 @@
 
 ghost use Rattle.std.specs.Prelude.{◌≡◌, ◌<◌, length};
 
+mod contention;
 mod operators;
 mod rotating;
 mod snapshots;

@@ -1,5 +1,8 @@
 //! Audits of folders in memory.
 
+ghost use Rattle.std.specs.Prelude.{◌≡◌};
+ghost use Rattle.tr_folders.specs.Failures.{read_failures};
+
 use super::{assert_same, ends_with};
 use std::alloc::Global;
 use std::process::Abort;
@@ -25,35 +28,48 @@ fn text(rt: &impl Abort, alloc: Global, parts: &[&str]) -> String {
     text
 }
 
-fn named(rt: &impl Abort, alloc: Global, path: &str, names: &[&str]) -> (String, Vec<String>) {
+/// Adds a folder with these names in it.
+fn add_folder(
+    rt: &impl Abort,
+    alloc: Global,
+    folders: &mut Vec<(String, Vec<String>)>,
+    path: &str,
+    names: &[&str],
+) {
     let mut found = Vec::new(alloc);
     for name in names {
         let name = text(rt, alloc, &[name]);
         found.push(name).expect(rt, "memory");
     }
-    (text(rt, alloc, &[path]), found)
+    let path = text(rt, alloc, &[path]);
+    folders.push((path, found)).expect(rt, "memory");
+}
+
+/// Adds a file of the archive.
+fn add_file(
+    rt: &impl Abort,
+    alloc: Global,
+    files: &mut Vec<(String, Vec<u8>)>,
+    name: &str,
+    bytes: &[u8],
+) {
+    let path = text(rt, alloc, &[ARCHIVE, "/", name]);
+    let bytes = bytes.to_vec(alloc).expect(rt, "memory");
+    files.push((path, bytes)).expect(rt, "memory");
 }
 
 /// The folder `d` with a session of one archive, in which one stream has these bytes.
 fn session(rt: &impl Abort, alloc: Global, bytes: &[u8]) -> MemoryFolders {
     let mut folders = Vec::new(alloc);
+    add_folder(rt, alloc, &mut folders, "d", &["s", "other"]);
     let archive = "19700101T000000+0000-19700101T000000+0000-0";
-    for (path, names) in [
-        ("d", ["s", "other"].as_slice()),
-        ("d/s/archives", [archive].as_slice()),
-        (ARCHIVE, ["c_0", "metadata"].as_slice()),
-    ] {
-        let folder = named(rt, alloc, path, names);
-        folders.push(folder).expect(rt, "memory");
-    }
+    add_folder(rt, alloc, &mut folders, "d/s/archives", &[archive]);
+    add_folder(rt, alloc, &mut folders, ARCHIVE, &["c_0", "metadata"]);
     let mut files = Vec::new(alloc);
     let uuid = Uuid::from_bytes([0, 0, 0, 0, 0, 0, 0, 0, 0, 0, 0, 0, 0, 0, 0, 1]);
     let metadata = metadata_text(alloc, &uuid).expect(rt, "memory");
-    for (name, bytes) in [("/metadata", metadata.as_bytes()), ("/c_0", bytes)] {
-        let path = text(rt, alloc, &[ARCHIVE, name]);
-        let bytes = bytes.to_vec(alloc).expect(rt, "memory");
-        files.push((path, bytes)).expect(rt, "memory");
-    }
+    add_file(rt, alloc, &mut files, "metadata", metadata.as_bytes());
+    add_file(rt, alloc, &mut files, "c_0", bytes);
     MemoryFolders::new(alloc, folders, files, 4096)
 }
 
@@ -151,11 +167,16 @@ struct Unreadable {
 }
 
 impl Unreadable {
-    fn fail(&mut self) -> ReadFault {
-        if self.fault == ReadFault::Read {
-            self.failures = self.failures.wrapping_add(1);
+    fn fail(&mut self) -> ReadFault
+        ensures { self.new.failures ≡ read_failures result self.old.failures }
+    {
+        match self.fault {
+            ReadFault::Read => {
+                self.failures = self.failures.wrapping_add(1);
+                ReadFault::Read
+            }
+            ReadFault::NoMemory => ReadFault::NoMemory,
         }
-        self.fault
     }
 }
 

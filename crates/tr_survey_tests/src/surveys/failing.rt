@@ -1,5 +1,8 @@
 //! Folders that fail, at each of their calls, and sinks that fail, at each byte.
 
+ghost use Rattle.std.specs.Prelude.{◌≡◌};
+ghost use Rattle.tr_folders.specs.Failures.{after_reading, read_failures};
+
 use super::{WORKED, assert_same, worked};
 use std::alloc::Global;
 use std::process::Abort;
@@ -16,10 +19,26 @@ struct FailingFolders {
 }
 
 impl FailingFolders {
-    fn count(&mut self) -> Result<(), ReadFault> {
+    /// Counts a fault, if it isn't want of memory.
+    fn counted(&mut self, fault: ReadFault) -> ReadFault
+        ensures fault { result ≡ fault }
+        ensures folders { self.new.folders ≡ self.old.folders }
+        ensures failures { self.new.failures ≡ read_failures fault self.old.failures }
+    {
+        match fault {
+            ReadFault::Read => self.failures = self.failures.wrapping_add(1),
+            ReadFault::NoMemory => {}
+        }
+        fault
+    }
+
+    /// Counts one call, which fails if it is one too many.
+    fn spend(&mut self) -> Result<(), ReadFault>
+        ensures folders { self.new.folders ≡ self.old.folders }
+        ensures failures { self.new.failures ≡ after_reading result self.old.failures }
+    {
         if self.calls == 0 {
-            self.failures = self.failures.wrapping_add(1);
-            return Err(ReadFault::Read);
+            return Err(self.counted(ReadFault::Read));
         }
         self.calls -= 1;
         Ok(())
@@ -38,18 +57,27 @@ impl Folders for FailingFolders {
     ghost failures = { λ s. s.failures };
 
     fn names_in(&mut self, alloc: Global, path: &str) -> Result<Option<Vec<String>>, ReadFault> {
-        self.count()?;
-        self.folders.names_in(alloc, path)
+        self.spend()?;
+        match self.folders.names_in(alloc, path) {
+            Ok(found) => Ok(found),
+            Err(fault) => Err(self.counted(fault)),
+        }
     }
 
     fn open(&mut self, path: &str) -> Result<bool, ReadFault> {
-        self.count()?;
-        self.folders.open(path)
+        self.spend()?;
+        match self.folders.open(path) {
+            Ok(is_file) => Ok(is_file),
+            Err(fault) => Err(self.counted(fault)),
+        }
     }
 
     fn read(&mut self, buffer: &mut [u8]) -> Result<usize, ReadFault> {
-        self.count()?;
-        self.folders.read(buffer)
+        self.spend()?;
+        match self.folders.read(buffer) {
+            Ok(count) => Ok(count),
+            Err(fault) => Err(self.counted(fault)),
+        }
     }
 }
 
