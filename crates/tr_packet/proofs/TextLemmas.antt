@@ -6,17 +6,22 @@ use Rattle.tr_record.proofs.RecordLemmas.{length-records_text}
 use Rattle.tr_packet.specs.declared.head.Head.{Head}
 use Rattle.tr_packet.specs.Packets.{Contents, magic, header_text, context_text, packet_text, packet_size}
 
-four_parts : (out a b c d : List ℕ) → (((out ++ a) ++ b) ++ c) ++ d ≡ out ++ (a ++ (b ++ (c ++ d)))
-four_parts out a b c d = simp append_assoc
+-- what stands behind the trace's identifier
+abbrev numbers_text : Head → ℕ → List ℕ
+numbers_text h bits = to_le_bytes w32 0 ++ (to_le_bytes w64 h.stream ++ context_text h bits)
 
-pub header_written : (h : Head) (out a b c d uuid : List ℕ) → uuid ≡ h.uuid → a ≡ out ++ magic → b ≡ a ++ uuid
-    → c ≡ b ++ to_le_bytes w32 0 → d ≡ c ++ to_le_bytes w64 h.stream → d ≡ out ++ header_text h
-header_written h out a b c d uuid uuid-is first second third last =
+in_one : (out m u zero stream rest : List ℕ)
+    → ((out ++ m) ++ u) ++ (zero ++ (stream ++ rest)) ≡ (out ++ (m ++ (u ++ (zero ++ stream)))) ++ rest
+in_one out m u zero stream rest = simp append_assoc
+
+pub head_written : (h : Head) (bits : ℕ) (out a b c uuid numbers : List ℕ) → uuid ≡ h.uuid → numbers ≡ numbers_text h bits
+    → a ≡ out ++ magic → b ≡ a ++ uuid → c ≡ b ++ numbers → c ≡ (out ++ header_text h) ++ context_text h bits
+head_written h bits out a b c uuid numbers uuid-is numbers-are first second last =
     last
-    ∙ ap (λ (t : List ℕ). t ++ to_le_bytes w64 h.stream)
-    (third ∙ ap (λ (t : List ℕ). t ++ to_le_bytes w32 0) (second ∙ ap (λ (t : List ℕ). t ++ uuid) first))
-    ∙ four_parts out magic uuid (to_le_bytes w32 0) (to_le_bytes w64 h.stream)
-    ∙ ap (λ (u : List ℕ). out ++ (magic ++ (u ++ (to_le_bytes w32 0 ++ to_le_bytes w64 h.stream)))) uuid-is
+    ∙ ap (λ (t : List ℕ). b ++ t) numbers-are
+    ∙ ap (λ (t : List ℕ). t ++ numbers_text h bits) (second ∙ ap (λ (t : List ℕ). a ++ t) uuid-is
+    ∙ ap (λ (t : List ℕ). t ++ h.uuid) first)
+    ∙ in_one out magic h.uuid (to_le_bytes w32 0) (to_le_bytes w64 h.stream) (context_text h bits)
 
 -- the size that a packet states is that of its text
 pub length-packet_text : (p : Contents) → length p.head.uuid ≡ 16 → length (packet_text p) ≡ packet_size p

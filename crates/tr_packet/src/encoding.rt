@@ -1,51 +1,51 @@
 //! Writing a packet's text.
 
 ghost use Rattle.std.specs.Prelude.{◌≡◌, ◌+◌, ◌*◌, ◌≤◌, ◌++◌, IfOk, length, sum_by, vec_len, vec_capacity};
+ghost use Rattle.std.specs.Int.{w32, w64, to_le_bytes};
 ghost use Rattle.tr_record.specs.Records.{records_text};
 ghost use Rattle.tr_record.specs.Weight.{record_weight};
-ghost use Rattle.tr_packet.specs.Packets.{header_text, times_text, context_text, packet_text, packet_size};
+ghost use Rattle.tr_packet.specs.Packets.{header_text, context_text, packet_text, packet_size};
+ghost use Rattle.tr_terms.specs.declared.limits.TheConstants.{PACKET_HEADER};
 
 use crate::fields::MAGIC;
 use crate::head::Head;
 use crate::packet::Packet;
 use std::alloc::{AllocError, Allocator};
-use tr_record::{RecViews, put_bytes, put_rec, put_u32, put_u64};
+use tr_record::{RecViews, put_bytes, put_rec};
+use tr_terms::limits::PACKET_HEADER;
 
-pub(crate) fn put_header<A: Allocator>(out: &mut Vec<u8, A>, head: &Head)
+/// The text of a packet's header and context behind the trace's identifier.
+#[inline(always)]
+fn numbers_of(head: &Head, bits: u64) -> [u8; 60]
+    ensures { result ≡ to_le_bytes w32 0 ++ (to_le_bytes w64 head.now.stream ++ context_text head.now bits) }
+{
+    let stream = head.stream.to_le_bytes();
+    let begin = head.begin.get().to_le_bytes();
+    let end = head.end.get().to_le_bytes();
+    let bits = bits.to_le_bytes();
+    let seq = head.seq.to_le_bytes();
+    let lost = head.discarded.to_le_bytes();
+    [
+        0, 0, 0, 0, stream[0], stream[1], stream[2], stream[3], stream[4], stream[5], stream[6],
+        stream[7], begin[0], begin[1], begin[2], begin[3], begin[4], begin[5], begin[6], begin[7],
+        end[0], end[1], end[2], end[3], end[4], end[5], end[6], end[7], bits[0], bits[1], bits[2],
+        bits[3], bits[4], bits[5], bits[6], bits[7], bits[0], bits[1], bits[2], bits[3], bits[4],
+        bits[5], bits[6], bits[7], seq[0], seq[1], seq[2], seq[3], seq[4], seq[5], seq[6], seq[7],
+        lost[0], lost[1], lost[2], lost[3], lost[4], lost[5], lost[6], lost[7],
+    ]
+}
+
+/// Writes a packet's header and context, which state its size in bits, into room that is reserved.
+pub(crate) fn put_head<A: Allocator>(out: &mut Vec<u8, A>, head: &Head, bits: u64)
     requires uuid { length head.now.uuid ≡ 16 }
-    requires room { vec_len out.old + 32 ≤ vec_capacity out.old }
-    ensures items { out.new.items ≡ out.old.items ++ header_text head.now }
-    ensures len { vec_len out.new ≡ vec_len out.old + 32 }
+    requires room { vec_len out.old + PACKET_HEADER ≤ vec_capacity out.old }
+    ensures items { out.new.items ≡ (out.old.items ++ header_text head.now) ++ context_text head.now bits }
+    ensures len { vec_len out.new ≡ vec_len out.old + PACKET_HEADER }
     ensures capacity { vec_capacity out.old ≤ vec_capacity out.new }
 {
     put_bytes(out, &MAGIC);
     put_bytes(out, head.uuid.as_bytes());
-    put_u32(out, 0);
-    put_u64(out, head.stream);
-}
-
-/// Writes the moments, and the size in bits twice.
-fn put_times<A: Allocator>(out: &mut Vec<u8, A>, head: &Head, bits: u64)
-    requires { vec_len out.old + 32 ≤ vec_capacity out.old }
-    ensures items { out.new.items ≡ out.old.items ++ times_text head.now bits }
-    ensures len { vec_len out.new ≡ vec_len out.old + 32 }
-    ensures capacity { vec_capacity out.old ≤ vec_capacity out.new }
-{
-    put_u64(out, head.begin.get());
-    put_u64(out, head.end.get());
-    put_u64(out, bits);
-    put_u64(out, bits);
-}
-
-pub(crate) fn put_context<A: Allocator>(out: &mut Vec<u8, A>, head: &Head, bits: u64)
-    requires { vec_len out.old + 48 ≤ vec_capacity out.old }
-    ensures items { out.new.items ≡ out.old.items ++ context_text head.now bits }
-    ensures len { vec_len out.new ≡ vec_len out.old + 48 }
-    ensures capacity { vec_capacity out.old ≤ vec_capacity out.new }
-{
-    put_times(out, head, bits);
-    put_u64(out, head.seq);
-    put_u64(out, head.discarded);
+    put_bytes(out, &numbers_of(head, bits));
 }
 
 fn put_records<A: Allocator, B: Allocator>(out: &mut Vec<u8, B>, records: RecViews<'_, A>)
@@ -69,8 +69,7 @@ pub fn encode_packet<A: Allocator, B: Allocator>(
     let head = packet.head();
     let size = packet.size();
     let mut out = Vec::with_capacity(alloc, size)?;
-    put_header(&mut out, &head);
-    put_context(&mut out, &head, 8 * size as u64);
+    put_head(&mut out, &head, 8 * size as u64);
     put_records(&mut out, packet.records());
     Ok(out)
 }

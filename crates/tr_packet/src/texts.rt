@@ -5,7 +5,7 @@ ghost use Rattle.std.specs.List.{AllByRecursion};
 ghost use Rattle.tr_packet.specs.Packets.{IsPacket, contents, packet_size};
 ghost use Rattle.tr_packet.specs.Texts.{AreLabelled, packets_text};
 
-use crate::encoding::{put_context, put_header};
+use crate::encoding::put_head;
 use crate::head::Head;
 use crate::packets::{Label, Packets};
 use std::alloc::{AllocError, Allocator, Global};
@@ -85,8 +85,7 @@ impl<A: Allocator> PacketTexts<A> {
         let size = PACKET_HEADER + text.len();
         self.labels.reserve(1)?;
         self.bytes.reserve(size)?;
-        put_header(&mut self.bytes, &head);
-        put_context(&mut self.bytes, &head, 8 * size as u64);
+        put_head(&mut self.bytes, &head, 8 * size as u64);
         put_bytes(&mut self.bytes, text);
         self.labels.push_reserved(Label { head, count, size });
         Ok(())

@@ -23,4 +23,4 @@ pub use records::Records;
 pub use streams::{ReaderSource, WriterSink};
 pub use tr_terms::Moment;
 pub use view::RecView;
-pub use writing::{put_bytes, put_rec, put_u32, put_u64, rec_size};
+pub use writing::{put_bytes, put_rec, rec_size};

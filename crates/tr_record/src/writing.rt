@@ -1,7 +1,6 @@
-//! Appending numbers and records to bytes, into room that is reserved.
+//! Appending records to bytes, into room that is reserved.
 
 ghost use Rattle.std.specs.Prelude.{◌≡◌, ◌+◌, ◌≤◌, ◌<◌, ◌^◌, ◌++◌, length, vec_len, vec_capacity};
-ghost use Rattle.std.specs.Int.{w32, w64, to_le_bytes};
 ghost use Rattle.tr_record.specs.Records.{header_text, record_text, Fits};
 ghost use Rattle.tr_record.specs.Weight.{record_weight};
 ghost use Rattle.tr_terms.specs.declared.limits.TheConstants.{RECORD_HEADER};
@@ -26,26 +25,6 @@ pub fn put_bytes<A: Allocator>(out: &mut Vec<u8, A>, bytes: &[u8])
     ensures capacity { vec_capacity out.old ≤ vec_capacity out.new }
 {
     let _ = out.extend_from_slice(bytes);
-}
-
-/// Appends a number in four bytes, lowest byte first, into room that is reserved.
-pub fn put_u32<A: Allocator>(out: &mut Vec<u8, A>, n: u32)
-    requires { vec_len out.old + 4 ≤ vec_capacity out.old }
-    ensures items { out.new.items ≡ out.old.items ++ to_le_bytes w32 n }
-    ensures len { vec_len out.new ≡ vec_len out.old + 4 }
-    ensures capacity { vec_capacity out.old ≤ vec_capacity out.new }
-{
-    put_bytes(out, &n.to_le_bytes());
-}
-
-/// Appends a number in eight bytes, lowest byte first, into room that is reserved.
-pub fn put_u64<A: Allocator>(out: &mut Vec<u8, A>, number: u64)
-    requires { vec_len out.old + 8 ≤ vec_capacity out.old }
-    ensures items { out.new.items ≡ out.old.items ++ to_le_bytes w64 number }
-    ensures len { vec_len out.new ≡ vec_len out.old + 8 }
-    ensures capacity { vec_capacity out.old ≤ vec_capacity out.new }
-{
-    put_bytes(out, &number.to_le_bytes());
 }
 
 /// The text of a record before its payload.

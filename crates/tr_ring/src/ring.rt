@@ -124,14 +124,12 @@ impl<A: Allocator> Ring<A> {
         ensures answer { result ≡ push_answer (entry serial moment id payload.now) self.old }
         ensures after { self.new ≡ after_push (entry serial moment id payload.now) self.old }
     {
-        let joins = self.current.fits(payload.len());
-        let entry = RecView::new(serial, moment, id, payload);
-        if joins {
-            self.current.put(&entry);
+        if self.current.fits(payload.len()) {
+            self.current.put(&RecView::new(serial, moment, id, payload));
             return Pushed::Stored { seq: self.seq };
         }
         if !self.waiting.is_full() {
-            self.follow(&entry);
+            self.follow(moment, id, serial, payload);
             return Pushed::Stored { seq: self.seq };
         }
         if !self.overwrite {
@@ -143,7 +141,7 @@ impl<A: Allocator> Ring<A> {
         };
         let (gone_seq, gone_count) = (oldest.seq(), oldest.count() as u64);
         self.remove_oldest();
-        self.follow(&entry);
+        self.follow(moment, id, serial, payload);
         Pushed::StoredOver {
             seq: self.seq,
             gone_seq,
@@ -152,15 +150,16 @@ impl<A: Allocator> Ring<A> {
     }
 
     /// Closes the current sub-buffer, which has a record, and begins the next one with this record.
-    fn follow(&mut self, entry: &RecView<'_>)
-        requires fits { SMALLEST_PACKET + length entry.now.payload ≤ self.old.size }
+    // It takes a record's parts: a view would have to lie in memory at each push.
+    fn follow(&mut self, moment: Moment, id: u32, serial: u64, payload: &[u8])
+        requires fits { SMALLEST_PACKET + length payload.now ≤ self.old.size }
         requires room { length self.old.waiting + 1 < self.old.count }
         requires some { 1 ≤ length self.old.current }
         requires numbers { self.old.seq + 1 < 2 ^ 64 }
-        ensures { self.new ≡ follow_current entry.now self.old }
+        ensures { self.new ≡ follow_current (entry serial moment id payload.now) self.old }
     {
-        self.close_current(entry.moment());
-        self.current.put(entry);
+        self.close_current(moment);
+        self.current.put(&RecView::new(serial, moment, id, payload));
     }
 
     /// Closes the current sub-buffer, which has a record, and begins an empty one. It takes no memory.

@@ -78,8 +78,9 @@ impl<A: Allocator> SubBuf<A> {
     pub fn fits(&self, len: usize) -> bool
         ensures { result ≡ has_room self.now len }
     {
-        let left = self.size.saturating_sub(self.used());
-        RECORD_HEADER <= left && len <= left - RECORD_HEADER
+        let with_header = self.bytes.len() + PACKET_HEADER + RECORD_HEADER;
+        // a sum that saturates is still more than any size
+        with_header.saturating_add(len) <= self.size
     }
 
     /// Its records, in order.
