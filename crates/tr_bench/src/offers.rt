@@ -1,5 +1,8 @@
 //! Offers to one stream.
 
+ghost use Rattle.std.specs.Prelude.{◌≤◌, ◌<◌};
+ghost use Rattle.tr_bench.specs.declared.offers.TheConstants.{OFFERS};
+
 use crate::cases::Case;
 use crate::sums::mix;
 use std::alloc::{AllocError, Global};
@@ -48,8 +51,10 @@ pub struct Total {
 }
 
 /// The moment of the offer that has `k` others before it. Every second moment is earlier than the last one.
-pub fn moment_of(k: u64) -> Moment {
-    Moment::new(k ^ 1).unwrap_or(Moment::zero())
+pub fn moment_of(k: u64) -> Moment
+    requires { k < OFFERS }
+{
+    Moment::within_limit(k ^ 1)
 }
 
 /// The sum with an offer's answer.
@@ -117,9 +122,10 @@ impl Total {
 }
 
 /// The sum with the answers to the offers of these numbers, each with 8 bytes.
-// Where the numbers are known, no test for the last moment is left.
 #[inline(always)]
-fn feed(stream: &mut Stream, numbers: Range<u64>, before: u64) -> Result<u64, OfferFault> {
+fn feed(stream: &mut Stream, numbers: Range<u64>, before: u64) -> Result<u64, OfferFault>
+    requires { numbers.end ≤ OFFERS }
+{
     let mut sum = before;
     for k in numbers {
         let answer = stream.offer(moment_of(k), 7, &k.to_le_bytes())?;
