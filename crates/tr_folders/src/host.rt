@@ -25,7 +25,8 @@ pub struct HostFolders<'a, R: Files + Alloc + Clone + Drop> {
 impl<'a, R: Files + Alloc + Clone + Drop> HostFolders<'a, R> {
     /// The file system that the runtime reaches.
     pub fn new(files: &'a R) -> Self
-        ensures { ⟦<HostFolders<'a, R> as Folders>⟧.failures result ≡ 0 }
+        ensures given { ⟦<HostFolders<'a, R> as Folders>⟧.given result ≡ 0 }
+        ensures failures { ⟦<HostFolders<'a, R> as Folders>⟧.failures result ≡ 0 }
     {
         HostFolders {
             files,

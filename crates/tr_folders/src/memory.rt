@@ -36,6 +36,7 @@ impl MemoryFolders {
     ) -> Self
         ensures tree { ⟦<MemoryFolders as Folders>⟧.tree result ≡ Some (tree_kept folders.items files.items) }
         ensures left { ⟦<MemoryFolders as Folders>⟧.left result ≡ Some [] }
+        ensures given { ⟦<MemoryFolders as Folders>⟧.given result ≡ 0 }
         ensures failures { ⟦<MemoryFolders as Folders>⟧.failures result ≡ 0 }
     {
         MemoryFolders {

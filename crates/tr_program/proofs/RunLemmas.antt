@@ -22,6 +22,8 @@ ends_without_memory (Some (Audit dir)) o = record {
   audited = record { result = Err survey.NoMemory; ends = refl; tells = λ t known. nothing_told t dir o.host.taken; reads = refl; writes = refl };
   given = refl;
   made = refl;
+  inputs = refl;
+  disks = refl;
 }
 
 found_none : (t : Tree) (dir : List ℕ) (result : Result (Option ℕ) SurveyFault) (before now : Option (List ℕ)) → NoSession ≡ ending_of_survey result

@@ -181,11 +181,13 @@ module _ (old new : Host) where
   EndsLoad threads records dir ending =
       (new.given ≡ old.given) × (HasLoaded threads records dir ending ⊎ HasNotLoaded ending)
 
-  -- an audit of a folder; it reads no input and makes nothing
+  -- an audit of a folder; it reads no input and makes nothing, so neither fails
   pub record EndsAudit (dir : List ℕ) (folders folders_now : FoldersState) (ending : Ending) : Type 0 where
     pub audited : HasAudited dir folders folders_now (output_of old) (output_of new) ending
     pub given : new.given ≡ old.given
     pub made : new.made ≡ old.made
+    pub inputs : new.input_failures ≡ old.input_failures
+    pub disks : new.disk_failures ≡ old.disk_failures
 
   -- neither a run of a script, nor a load, nor an audit is asked for
   abbrev pub IsNoRun : Ending → Type 0
