@@ -2,23 +2,12 @@
 
 use super::{assert_same, assert_written, rotated, session_of, uuid, write};
 use std::alloc::Global;
+use std::fs;
 use std::os::unix::fs::symlink;
 use std::process::Abort;
-use std::{env, fs, process};
 use tr_export::{ExportFault, HostFiles, SystemDisk};
 use tr_packet::metadata_text;
-
-/// A path of this test's own in the folder for temporary files, where nothing is.
-fn free_path(rt: &impl Abort, host: &HostRuntime, test: &str) -> String {
-    let id = process::id(host.process());
-    let folder = env::temp_dir(host).expect(rt, "a folder");
-    let folder = folder.as_path().as_str();
-    let path = format!(in host.alloc(); "{folder}/tr_export_{test}_{id}").expect(rt, "memory");
-    if exists(rt, host, path.as_str()) {
-        remove(rt, host, path.as_str());
-    }
-    path
-}
+use tr_testing::free_path;
 
 fn exists(rt: &impl Abort, host: &HostRuntime, path: &str) -> bool {
     fs::exists(host, path).expect(rt, "the file system")
@@ -62,7 +51,7 @@ fn assert_files(rt: &impl Abort, host: &HostRuntime, dir: &str) {
 
 #[test]
 fn files_are_written_and_replaced(rt: HostRuntime) {
-    let dir = free_path(&rt, &rt, "files");
+    let dir = free_path(&rt, "tr_export_files").expect(&rt, "a path");
     let session = rotated(&rt, rt.alloc());
     let mut disk = SystemDisk::new(HostFiles::new(&rt));
     assert_written(&rt, rt.alloc(), &mut disk, dir.as_str(), &session);
@@ -76,7 +65,7 @@ fn files_are_written_and_replaced(rt: HostRuntime) {
 
 #[test]
 fn without_an_archive_there_is_no_folder(rt: HostRuntime) {
-    let dir = free_path(&rt, &rt, "nothing");
+    let dir = free_path(&rt, "tr_export_nothing").expect(&rt, "a path");
     let session = session_of(&rt, rt.alloc());
     let mut disk = SystemDisk::new(HostFiles::new(&rt));
     assert_written(&rt, rt.alloc(), &mut disk, dir.as_str(), &session);
@@ -98,7 +87,7 @@ fn assert_told(rt: &impl Abort, host: &HostRuntime, dir: &str) {
 
 #[test]
 fn a_file_in_the_folder_s_place_is_told(rt: HostRuntime) {
-    let dir = free_path(&rt, &rt, "taken");
+    let dir = free_path(&rt, "tr_export_taken").expect(&rt, "a path");
     make_folder(&rt, &rt, dir.as_str());
     let taken = format!(in rt.alloc(); "{dir}/s").expect(&rt, "memory");
     write_file(&rt, &rt, taken.as_str(), b"here");
@@ -108,7 +97,7 @@ fn a_file_in_the_folder_s_place_is_told(rt: HostRuntime) {
 // the path of the stream's file leads to a device without room
 #[test]
 fn a_full_device_is_told(rt: HostRuntime) {
-    let dir = free_path(&rt, &rt, "full");
+    let dir = free_path(&rt, "tr_export_full").expect(&rt, "a path");
     make_folder(
         &rt,
         &rt,

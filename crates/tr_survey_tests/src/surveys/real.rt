@@ -2,24 +2,13 @@
 
 use super::{Room, STAMPS, WORKED, assert_same, worked};
 use std::alloc::Global;
+use std::fs;
 use std::os::unix::fs::symlink;
 use std::process::Abort;
-use std::{env, fs, process};
 use tr_folders::HostFolders;
 use tr_record::MemorySink;
 use tr_survey::{SurveyFault, survey};
-
-/// A path of this test's own in the folder for temporary files, where nothing is.
-fn free_path(rt: &impl Abort, host: &HostRuntime, test: &str) -> String {
-    let id = process::id(host.process());
-    let folder = env::temp_dir(host).expect(rt, "a folder");
-    let folder = folder.as_path().as_str();
-    let path = format!(in host.alloc(); "{folder}/tr_survey_{test}_{id}").expect(rt, "memory");
-    if fs::exists(host, path.as_str()).expect(rt, "the file system") {
-        remove(rt, host, path.as_str());
-    }
-    path
-}
+use tr_testing::free_path;
 
 /// Removes a folder with all that is in it.
 fn remove(rt: &impl Abort, host: &HostRuntime, path: &str) {
@@ -66,7 +55,7 @@ fn assert_says(
 
 #[test]
 fn files_are_surveyed(rt: HostRuntime) {
-    let home = free_path(&rt, &rt, "files");
+    let home = free_path(&rt, "tr_survey_files").expect(&rt, "a path");
     lay_out(&rt, &rt, home.as_str(), &worked(&rt, rt.alloc()));
     assert_says(&rt, &rt, home.as_str(), Ok(Some(1)), WORKED);
     remove(&rt, &rt, home.as_str());
@@ -75,7 +64,7 @@ fn files_are_surveyed(rt: HostRuntime) {
 /// A folder in a file's place is no file, and a file in a folder's place is no folder.
 #[test]
 fn what_is_no_file_is_none(rt: HostRuntime) {
-    let home = free_path(&rt, &rt, "places");
+    let home = free_path(&rt, "tr_survey_places").expect(&rt, "a path");
     let mut room = Room::new(&rt, rt.alloc());
     room.archive("0", &[]);
     room.file("0", "c_0", Vec::new(rt.alloc()));
@@ -103,7 +92,7 @@ faulty 1
 
 #[test]
 fn without_a_session_nothing_is_said(rt: HostRuntime) {
-    let home = free_path(&rt, &rt, "nothing");
+    let home = free_path(&rt, "tr_survey_nothing").expect(&rt, "a path");
     assert_says(&rt, &rt, home.as_str(), Ok(None), "");
     make_folder(&rt, &rt, home.as_str());
     assert_says(&rt, &rt, home.as_str(), Ok(None), "");
@@ -116,7 +105,7 @@ fn without_a_session_nothing_is_said(rt: HostRuntime) {
 /// Links that lead to themselves can't be read.
 #[test]
 fn a_loop_of_links_is_told(rt: HostRuntime) {
-    let home = free_path(&rt, &rt, "links");
+    let home = free_path(&rt, "tr_survey_links").expect(&rt, "a path");
     make_folder(&rt, &rt, home.as_str());
     let dir = joined(&rt, rt.alloc(), home.as_str(), "d");
     symlink(&rt, dir.as_str(), dir.as_str()).expect(&rt, "a link");
