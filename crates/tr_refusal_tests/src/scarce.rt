@@ -12,8 +12,8 @@ pub(crate) fn new_heap(plain: Global) -> Result<LocalHeap, AllocError> {
     LocalHeap::new(plain, 262_144)
 }
 
-/// Blocks that leave a heap this many free bytes, in one piece, until they are dropped.
-pub(crate) fn leave<'h>(
+/// Blocks that fill a heap but for this many bytes, which lie in one piece, until they are dropped.
+pub(crate) fn fill_all_but<'h>(
     plain: Global,
     heap: &'h LocalHeap,
     bytes: usize,

@@ -1,6 +1,6 @@
 //! Calls that are made with too little memory, and again with more.
 
-use crate::scarce::leave;
+use crate::scarce::fill_all_but;
 use linked_list_allocator::LocalHeap;
 use std::alloc::{Allocator, Global};
 use std::fmt::Debug;
@@ -66,7 +66,7 @@ fn make_with<'h, C: Call<&'h LocalHeap>>(
 ) -> C::Answer {
     let mut object = call.object(rt, heap);
     let mut other = call.object(rt, heap);
-    let blocks = leave(plain, heap, bytes).expect(rt, "room for blocks");
+    let blocks = fill_all_but(plain, heap, bytes).expect(rt, "room for blocks");
     let answer = call.make(rt, &mut object);
     drop(blocks);
     let granted = call.granted(rt);

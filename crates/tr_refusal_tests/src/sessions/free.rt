@@ -2,7 +2,7 @@
 
 use super::alike::assert_same_session;
 use super::{Step, make_steps, new_session};
-use crate::scarce::{leave, new_heap};
+use crate::scarce::{fill_all_but, new_heap};
 use linked_list_allocator::LocalHeap;
 use std::alloc::Global;
 use std::process::Abort;
@@ -44,11 +44,11 @@ fn freely<'h>(
     (first, later): (&[Step], &[Step]),
 ) -> Session<&'h LocalHeap> {
     let free = if is_full { 0 } else { 32_768 };
-    let blocks = leave(plain, heap, free).expect(rt, "room for blocks");
+    let blocks = fill_all_but(plain, heap, free).expect(rt, "room for blocks");
     let mut session = new_session(rt, heap, SessionMode::Local);
     drop(blocks);
     make_steps(rt, &mut session, first);
-    let blocks = leave(plain, heap, free).expect(rt, "room for blocks");
+    let blocks = fill_all_but(plain, heap, free).expect(rt, "room for blocks");
     make_steps(rt, &mut session, later);
     drop(blocks);
     session
