@@ -7,7 +7,7 @@ use Rattle.tr_ledger.specs.Ledgers.{SeatState, seat_state}
 use Rattle.tr_seats.proofs.Rows.{amount-at, length-seats}
 use Rattle.tr_seats.specs.Books.{Books, IsPlanned, PlanState, cut_books, no_table}
 use Rattle.tr_seats.specs.Desks.{IsDesk}
-use Rattle.tr_seats.specs.Settling.{streams_of}
+use Rattle.tr_seats.specs.Settling.{IsSessionOf, streams_of}
 use Rattle.tr_seats.specs.Slots.{SlotState}
 use Rattle.tr_seats.specs.Sums.{totals_in}
 use Rattle.tr_session.specs.Session.{HasItsStreams, IsStreamOf, session_of}
@@ -59,6 +59,19 @@ module _ (plan : PlanState) (book : SessionBookState) (consumed cuts : List Seat
           let none = seat_state no_table 0 0 in
           sym (ap (λ (x : SlotState). length x.stream.parts.closed) there) ∙ sym (cut i none s lt)
           ∙ sym (amount-at cuts i none wide) ∙ desk.operator i below
+
+  -- what was planned is as it was
+  pub settled-planned : IsSessionOf plan (session_of book (streams_of slots))
+  settled-planned = record {
+    book = desk.book_is;
+    many = length-map slots stream_in ∙ len;
+    streams = λ i t at.
+        let was = mapped stream_in (slice_get slots i) t (sym (slice_get-map stream_in slots i) ∙ at) in
+        let there : get_or slots i was.0 ≡ was.0 = get_or_from_slice_get slots i was.0 was.0 was.1 in
+        let own = planned i was.0 (slice_get_within slots i was.0 was.1) in
+        subst (λ (x : StreamState). IsPlanned plan i x.config) was.2
+        (subst (λ (x : SlotState). IsPlanned plan i x.stream.config) there own);
+  }
 
   -- each stream is that of its thread, and the book says how many parts it closed
   pub settled-streams : HasItsStreams (session_of book (streams_of slots))

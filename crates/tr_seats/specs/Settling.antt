@@ -1,11 +1,13 @@
 -- What settling answers.
-use Rattle.std.specs.Prelude.{◌≡◌, ◌≢◌, ℕ, ◌+◌, ◌<◌, ◌==◌, List, length, map, sum, count_by, slice_index_or, All}
+use Rattle.std.specs.Prelude.{◌≡◌, ◌≢◌, ℕ, ◌+◌, ◌<◌, ◌==◌, List, Some, length, map, sum, count_by, slice_get, slice_index_or, All}
 use Rattle.std.specs.List.{sum_by}
-use Rattle.tr_seats.specs.Desks.{DeskState}
+use Rattle.tr_seats.specs.Books.{IsPlanned, PlanState}
+use Rattle.tr_seats.specs.Desks.{DeskState, IsOfPlan}
 use Rattle.tr_seats.specs.Slots.{ProducerState, SlotState}
 use Rattle.tr_seats.specs.declared.settling.SettleError.{SettleError}
 use Rattle.tr_seats.specs.declared.settling.SettleError.TheVariants.{ProducerMissing, DrainerMissing, Misplaced}
 use Rattle.tr_seats.specs.declared.totals.Totals.{Totals}
+use Rattle.tr_session.specs.Session.{SessionOf}
 use Rattle.tr_stream.specs.State.{StreamState}
 
 -- a session out of its locks
@@ -18,6 +20,13 @@ opened_state desk slots = record { desk = desk; slots = slots }
 
 abbrev pub streams_of : List SlotState → List StreamState
 streams_of slots = map (λ (s : SlotState). s.stream) slots
+
+-- a session is that of a plan: what was planned of its book is as it was, and its streams are the planned ones, in order of
+-- number
+pub record IsSessionOf (plan : PlanState) (s : SessionOf StreamState) : Type 0 where
+  pub book : IsOfPlan plan.session.book s.book
+  pub many : length s.streams ≡ length plan.books
+  pub streams : (i : ℕ) (t : StreamState) → slice_get s.streams i ≡ Some t → IsPlanned plan i t.config
 
 -- the sums of what all seats have: the producers', the drainers' and the desk's
 abbrev pub totals_of_seats : List ProducerState → List (List ℕ) → DeskState → Totals

@@ -1,13 +1,18 @@
-//! What a cut at a desk has to do with its session.
+//! What the calls on a stream under its lock have to do with its history, and what a cut at a desk has to do with its session.
 
-ghost use Rattle.std.specs.Prelude.{◌≡◌, ℕ, List, Some, slice_get, slice_set};
+ghost use Rattle.std.specs.Prelude.{◌≡◌, ℕ, Bool, List, Some, slice_get, slice_set};
 ghost use Rattle.tr_seats.specs.Cuts.{desk_after_cut, desk_cut_answer, slot_after_cut};
 ghost use Rattle.tr_seats.specs.Desks.{DeskState};
 ghost use Rattle.tr_seats.specs.Slots.{SlotState};
 ghost use Rattle.tr_session.specs.Session.{session_of};
 ghost use Rattle.tr_session.specs.Steps.{session_after_cut, session_cut_answer};
+ghost use Rattle.tr_stream.specs.History.{History};
+ghost use Rattle.tr_stream.specs.Kept.{IsKept};
 ghost use Rattle.tr_stream.specs.Rules.{by_state};
+ghost use Rattle.tr_stream.specs.StandsFor.{StandsFor};
 ghost use Rattle.tr_stream.specs.State.{StreamState};
+ghost use Rattle.tr_stream.specs.StateSteps.{state_after_cut, state_after_offer, state_after_switch, state_after_take, state_cut_answer, state_offer_answer, state_snap, state_take_answer};
+ghost use Rattle.tr_stream.specs.Steps.{history_after_cut, history_after_offer, history_after_switch, history_after_take, history_cut_answer, history_offer_answer, history_snap, history_take_answer};
 
 use tr_terms::SessionMode;
 
@@ -23,4 +28,23 @@ pub fn every_cut()
         → session_of (desk_after_cut (desk_cut_answer i desk slot) i desk).book
         (slice_set streams i (slot_after_cut i desk slot).stream)
         ≡ session_after_cut by_state i (session_of desk.book streams) }
+{}
+
+/// The calls on a stream under its lock are its history's steps: whatever history a stream stands for, what a `Slot` or a
+/// `Desk` answers of it is what that history answers, and what they leave stands for the history after that step. Does
+/// nothing.
+pub fn every_step()
+    ensures offer { (s : StreamState) (h : History) (moment id : ℕ) (payload : List ℕ) → IsKept s → StandsFor s h
+        → (state_offer_answer moment id payload s ≡ history_offer_answer s.config payload h)
+        × StandsFor (state_after_offer moment id payload s) (history_after_offer s.config moment id payload h) }
+    ensures take { (s : StreamState) (h : History) → StandsFor s h
+        → (state_take_answer s ≡ history_take_answer s.config h)
+        × StandsFor (state_after_take s) (history_after_take s.config h) }
+    ensures cut { (s : StreamState) (h : History) (moment : ℕ) → StandsFor s h
+        → (state_cut_answer moment s ≡ history_cut_answer s.config moment h)
+        × StandsFor (state_after_cut moment s) (history_after_cut s.config moment h) }
+    ensures switch { (s : StreamState) (h : History) (active : Bool) → StandsFor s h
+        → StandsFor (state_after_switch active s) (history_after_switch active h) }
+    ensures look { (s : StreamState) (h : History) (moment : ℕ) → StandsFor s h
+        → state_snap moment s ≡ history_snap s.config moment h }
 {}

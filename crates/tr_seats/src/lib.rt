@@ -20,7 +20,7 @@ mod totals;
 
 pub use desk::Desk;
 pub use drainer::{Drainer, DrainerBegun};
-pub use laws::every_cut;
+pub use laws::{every_cut, every_step};
 pub use limits::MOST_DRAINERS;
 pub use making::plan;
 pub use names::Names;

@@ -4,7 +4,7 @@ ghost use Rattle.std.specs.Prelude.{◌≡◌, ◌+◌, ◌<◌, ◌≤◌, ◌=
 ghost use Rattle.tr_ledger.specs.Ledgers.{SeatState, seat_state};
 ghost use Rattle.tr_seats.specs.Books.{IsPlanned, books_at, consumed_books, cut_books};
 ghost use Rattle.tr_seats.specs.Desks.{DeskState};
-ghost use Rattle.tr_seats.specs.Settling.{AreAllMade, AreInPlace, AreWhole, CanSettle, IsOneEach, IsWhy, opened_state, streams_of, totals_of_seats};
+ghost use Rattle.tr_seats.specs.Settling.{AreAllMade, AreInPlace, AreWhole, CanSettle, IsOneEach, IsSessionOf, IsWhy, opened_state, streams_of, totals_of_seats};
 ghost use Rattle.tr_seats.specs.Slots.{AreJoined, AreSeatsOf, IsOwn, ProducerState, SlotState, amounts_of};
 ghost use Rattle.tr_seats.specs.Sums.{totals_in, totals_of};
 ghost use Rattle.tr_session.specs.Session.{session_of};
@@ -295,6 +295,7 @@ pub(crate) fn settle_all<N: Names, A: Allocator + Copy>(
     requires may { CanSettle producers.items (length drainers.items) (opened_state desk slots.items) }
     requires room { (vec_len room ≡ 0) × (length N.plan.books ≤ vec_capacity room) }
     ensures session { result.0 ≡ session_of desk.book (streams_of slots.items) }
+    ensures planned { IsSessionOf N.plan result.0 }
     ensures totals { result.1 ≡ totals_of (streams_of slots.items) }
     ensures seats { result.1 ≡ totals_of_seats producers.items drainers.items desk }
     ensures places { result.1.offered ≡ result.1.discarded + result.1.overwritten

@@ -1,3 +1,4 @@
+pub mod ModeLaws
 pub mod RotationLaws
 pub mod ShownLaws
 pub mod SnapLaws

@@ -1,10 +1,10 @@
 //! What is shown of a stream that lies in its slot.
 
-ghost use Rattle.std.specs.Prelude.{◌≡◌, ◌≢◌, ◌≤◌, ◌⊎◌, Err, IfErr, IfOk, OnOk};
+ghost use Rattle.std.specs.Prelude.{◌≡◌, ◌≢◌, ◌≤◌, ◌⊎◌, ◌↔◌, Err, IfErr, IfOk, OnOk};
 ghost use Rattle.tr_seats.specs.Books.{IsPlan};
 ghost use Rattle.tr_session_book.specs.BookSteps.{book_after_snapshot_begin, book_snapshot_begin_answer};
 ghost use Rattle.tr_shared.specs.Operating.{IsLookFault};
-ghost use Rattle.tr_shared.specs.Shown.{IsShown, IsShownFrom, IsShownWith};
+ghost use Rattle.tr_shared.specs.Shown.{IsLookAt, IsShown, IsShownFrom, IsShownWith};
 ghost use Rattle.tr_stream.specs.StateSteps.{state_snap};
 
 use std::alloc::Allocator;
@@ -22,6 +22,7 @@ pub(crate) fn begin_snapshot<N: Names, A: Allocator>(
     ensures after { desk.new ≡ record desk.old { book = book_after_snapshot_begin moment desk.old.book } }
     ensures later { IfOk result (λ stored. moment ≤ stored) }
     ensures planned { OnOk result (IsPlan N.plan × (N.plan.session.book.mode ≡ SessionMode.Snapshot)) }
+    ensures mode { (result ≡ Err SessionFault.NotSnapshotMode) ↔ (N.plan.session.book.mode ≡ SessionMode.Local) }
     ensures refused { IfErr result
         (λ fault. (fault ≡ SessionFault.NotSnapshotMode) ⊎ (fault ≡ SessionFault.NeverStarted)) }
 {
@@ -45,6 +46,7 @@ pub(crate) fn look<N: Names, A: Allocator + Copy>(
     ensures value { IfOk result (λ snap. snap ≡ state_snap moment slot.now.stream) }
     ensures number { IfOk result (λ snap. snap.stream ≡ i) }
     ensures from { IfOk result (IsShownFrom slot.now.stream.counters.overwritten) }
+    ensures look { IfOk result (IsLookAt N.plan i moment slot.now.stream) }
     ensures misplaced { i ≢ slot.now.number → result ≡ Err SessionFault.Misplaced }
     ensures refused { IfErr result IsLookFault }
 {
@@ -68,8 +70,8 @@ pub(crate) fn look_with<N: Names, A: Allocator + Copy>(
     requires plan { IsPlan N.plan }
     requires mode { N.plan.session.book.mode ≡ SessionMode.Snapshot }
     ensures same { (slot.new ≡ slot.old) × (producer.new ≡ producer.old) }
-    ensures shown { IfOk result (IsShown producer.old.number) }
-    ensures own { IfOk result (IsShownWith producer.old) }
+    ensures shown { IfOk result (IsShown N.plan moment producer.old.number) }
+    ensures own { IfOk result (IsShownWith N.plan moment producer.old) }
     ensures refused { IfErr result IsLookFault }
 {
     let snap = look(slot, producer.stream(), moment)?;

@@ -1,6 +1,7 @@
 //! Schedules, rotations and ticks of a shared session.
 
-ghost use Rattle.std.specs.Prelude.{◌≡◌, IfErr, IfOk, length};
+ghost use Rattle.std.specs.Prelude.{◌≡◌, ◌↔◌, Err, IfErr, IfOk, length};
+ghost use Rattle.tr_session_book.specs.BookSteps.{book_schedule_answer};
 ghost use Rattle.tr_shared.specs.Operating.{IsBeginFault, IsCutOf, IsEndFault, IsFinishFault, IsLookFault, IsNextFault, IsRotateFault};
 
 use crate::rotating::{begin_if_due, cut_next, next_of};
@@ -11,7 +12,7 @@ use tr_schedule::{Cause, Schedule};
 use tr_seats::Names;
 use tr_session::{Next, Ticked};
 use tr_session_book::{Archive, SessionFault};
-use tr_terms::Moment;
+use tr_terms::{Moment, SessionMode};
 
 impl<N: Names, A: Allocator> Shared<N, A> {
     /// Sets when rotations are due: by this schedule, or never.
@@ -24,9 +25,11 @@ impl<N: Names, A: Allocator> Shared<N, A> {
         rt: &impl Wait,
         schedule: Option<Schedule>,
     ) -> Result<(), SessionFault>
-        ensures { IfErr result (λ fault. fault ≡ SessionFault.SnapshotMode) }
+        ensures answer { result ≡ book_schedule_answer N.plan.session.book }
+        ensures refused { IfErr result (λ fault. fault ≡ SessionFault.SnapshotMode) }
     {
         let mut desk = self.desk.lock(rt);
+        let _ = desk.book();
         desk.set_schedule(schedule)
     }
 
@@ -50,9 +53,11 @@ impl<N: Names, A: Allocator + Copy> Shared<N, A> {
     ///
     /// `SnapshotMode`, `NeverStarted`, `RotationPending`, `AlreadyRotated`, `NoMemory`: nothing changed.
     pub fn rotate_begin(&self, rt: &impl Wait, moment: Moment) -> Result<u64, SessionFault>
-        ensures { IfErr result IsBeginFault }
+        ensures mode { (result ≡ Err SessionFault.SnapshotMode) ↔ (N.plan.session.book.mode ≡ SessionMode.Snapshot) }
+        ensures refused { IfErr result IsBeginFault }
     {
         let mut desk = self.desk.lock(rt);
+        let _ = desk.book();
         desk.rotate_begin(moment)
     }
 

@@ -1,7 +1,7 @@
 //! The session under its locks.
 
 ghost use Rattle.std.specs.Prelude.{◌≡◌, ◌+◌, ◌<◌, ◌≤◌, ◌↔◌, IfErr, IfOk, length, replicate, sum_by, vec_capacity, vec_len};
-ghost use Rattle.tr_seats.specs.Settling.{IsOneEach};
+ghost use Rattle.tr_seats.specs.Settling.{IsOneEach, IsSessionOf};
 ghost use Rattle.tr_seats.specs.Slots.{AreNew, drainer_after, producer_after, serial_of};
 ghost use Rattle.tr_seats.specs.Books.{IsTooBig};
 ghost use Rattle.tr_seats.specs.Sums.{totals_of};
@@ -241,6 +241,7 @@ impl<N: Names, A: Allocator + Copy> Shared<N, A> {
         producers: Vec<Producer<N>, A>,
         drainers: Vec<Drainer<N, A>, A>,
     ) -> Result<(Settled<A>, Totals), SettleFault<N, A>>
+        ensures planned { IfOk result (λ r. IsSessionOf N.plan r.0) }
         ensures totals { IfOk result (λ r. r.1 ≡ totals_of r.0.streams) }
         ensures seats { IfOk result (λ r. AreOffersOf producers.items drainers.items r.1) }
         ensures places { IfOk result

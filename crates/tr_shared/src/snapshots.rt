@@ -1,9 +1,9 @@
 //! Snapshots of a shared session.
 
-ghost use Rattle.std.specs.Prelude.{◌≡◌, ◌≤◌, ◌<◌, IfErr, IfOk, length};
+ghost use Rattle.std.specs.Prelude.{◌≡◌, ◌≤◌, ◌<◌, ◌↔◌, Err, IfErr, IfOk, length};
 ghost use Rattle.tr_seats.specs.Books.{IsPlan};
 ghost use Rattle.tr_shared.specs.Operating.{IsLookFault, IsSnapshotFault};
-ghost use Rattle.tr_shared.specs.Shown.{AreShown, IsShown, IsShownWith, OwnIsShown};
+ghost use Rattle.tr_shared.specs.Shown.{IsShown, IsShownWith, ShowsAll, ShowsOwn};
 
 use crate::looking::{begin_snapshot, look, look_with};
 use crate::shared::Shared;
@@ -26,7 +26,8 @@ impl<N: Names, A: Allocator + Copy> Shared<N, A> {
     pub fn snapshot(&self, rt: &impl Wait, moment: Moment) -> Result<Snapshot<A>, SessionFault>
         ensures moment { IfOk result (λ s. moment ≤ s.moment) }
         ensures all { IfOk result (λ s. length s.streams ≡ length N.plan.books) }
-        ensures shown { IfOk result (λ s. AreShown s.streams) }
+        ensures shown { IfOk result (ShowsAll N.plan) }
+        ensures mode { (result ≡ Err SessionFault.NotSnapshotMode) ↔ (N.plan.session.book.mode ≡ SessionMode.Local) }
         ensures refused { IfErr result IsSnapshotFault }
     {
         let mut desk = self.desk.lock(rt);
@@ -54,8 +55,9 @@ impl<N: Names, A: Allocator + Copy> Shared<N, A> {
         ensures moment { IfOk result (λ s. moment ≤ s.moment) }
         ensures all { IfOk result (λ s. length s.streams ≡ length N.plan.books) }
         ensures there { producer.old.number < length N.plan.books }
-        ensures shown { IfOk result (λ s. AreShown s.streams) }
-        ensures own { IfOk result (λ s. OwnIsShown producer.old s.streams) }
+        ensures shown { IfOk result (ShowsAll N.plan) }
+        ensures own { IfOk result (ShowsOwn N.plan producer.old) }
+        ensures mode { (result ≡ Err SessionFault.NotSnapshotMode) ↔ (N.plan.session.book.mode ≡ SessionMode.Local) }
         ensures refused { IfErr result IsSnapshotFault }
     {
         let _ = producer.stream();
@@ -78,7 +80,7 @@ impl<N: Names, A: Allocator + Copy> Shared<N, A> {
         requires there { i < length N.plan.books }
         requires plan { IsPlan N.plan }
         requires mode { N.plan.session.book.mode ≡ SessionMode.Snapshot }
-        ensures shown { IfOk result (IsShown i) }
+        ensures shown { IfOk result (IsShown N.plan moment i) }
         ensures refused { IfErr result IsLookFault }
     {
         let slot = self.slots[i].lock(rt);
@@ -97,8 +99,8 @@ impl<N: Names, A: Allocator + Copy> Shared<N, A> {
         requires plan { IsPlan N.plan }
         requires mode { N.plan.session.book.mode ≡ SessionMode.Snapshot }
         ensures same { producer.new ≡ producer.old }
-        ensures shown { IfOk result (IsShown i) }
-        ensures own { IfOk result (λ snap. producer.old.number ≡ i → IsShownWith producer.old snap) }
+        ensures shown { IfOk result (IsShown N.plan moment i) }
+        ensures own { IfOk result (λ snap. producer.old.number ≡ i → IsShownWith N.plan moment producer.old snap) }
         ensures refused { IfErr result IsLookFault }
     {
         let mut slot = self.slots[i].lock(rt);

@@ -2,14 +2,14 @@ use Rattle.std.proofs.Common.{◌≡◌, ℕ, ◌+◌, ◌<◌, ◌++◌, List, 
 use Rattle.std.specs.List.{sum_by}
 use Rattle.std.proofs.lemmas.List.{take_at}
 use Rattle.tr_ledger.specs.Ledgers.{SeatState}
-use Rattle.tr_seats.proofs.SettledLaws.{settled-streams}
+use Rattle.tr_seats.proofs.SettledLaws.{settled-planned, settled-streams}
 use Rattle.tr_seats.proofs.settling.settle_all.Goals as goal
 use Rattle.tr_seats.specs.Books.{IsPlanned, PlanState, consumed_books, cut_books}
 use Rattle.tr_seats.specs.Desks.{DeskState}
-use Rattle.tr_seats.specs.Settling.{IsOneEach, streams_of, totals_of_seats}
+use Rattle.tr_seats.specs.Settling.{IsOneEach, IsSessionOf, streams_of, totals_of_seats}
 use Rattle.tr_seats.specs.Slots.{AreSeatsOf, ProducerState, SlotState, amounts_of}
 use Rattle.tr_seats.specs.Sums.{totals_in, totals_of}
-use Rattle.tr_session.specs.Session.{HasItsStreams, session_of}
+use Rattle.tr_session.specs.Session.{HasItsStreams, SessionOf, session_of}
 use Rattle.tr_stream.specs.State.{StreamState, in_ring}
 
 -- what is written back over a list
@@ -56,6 +56,22 @@ from_parts-requires g c =
     let cut : AreCutAs (c.desk.inside.cuts.items, all) = subst AreCutAs (λ j. (cuts j, slots j)) c.join_all.ensures.cut in
     subst (λ (l : List StreamState). HasItsStreams (session_of c.desk.inside.book l)) (sym items)
     (settled-streams plan c.desk.inside.book c.desk.inside.consumed.items c.desk.inside.cuts.items all c.desk.invariant c.requires.slots planned
+    cut)
+
+pub returns-clause-planned : goal.returns-clause-planned
+returns-clause-planned g c =
+    let plan = g.N.Names.plan in
+    let all = c.args.slots.items in
+    let slots : c.as_mut_slice.result.now ≡ all = c.as_mut_slice.ensures.value in
+    let cuts : c.as_mut_slice-4.result.now ≡ c.desk.inside.cuts.items = c.as_mut_slice-4.ensures.value in
+    let back = written-back all c.join_all.new.slots c.args.slots.len (c.join_all.ensures.slots ∙ slots) c.args.slots.ok.0 in
+    let items : c.streams_out-streams.result.items ≡ streams_of all = c.streams_out-streams.ensures ∙ ap streams_of back in
+    let planned : ArePlanned plan all = subst (ArePlanned plan) slots c.join_all.ensures.planned in
+    let cut : AreCutAs (c.desk.inside.cuts.items, all) = subst AreCutAs (λ j. (cuts j, slots j)) c.join_all.ensures.cut in
+    let made : c.of.result ≡ session_of c.desk.inside.book (streams_of all) =
+    c.of.ensures ∙ c.from_parts.ensures ∙ (λ j. session_of c.desk.inside.book (items j)) in
+    subst (IsSessionOf plan) (sym made)
+    (settled-planned plan c.desk.inside.book c.desk.inside.consumed.items c.desk.inside.cuts.items all c.desk.invariant c.requires.slots planned
     cut)
 
 pub returns-clause-session : goal.returns-clause-session

@@ -1,7 +1,8 @@
-use Rattle.std.proofs.Common.{rules, ◌≡◌, ◌∙◌, ap, subst, sym}
+use Rattle.std.proofs.Common.{rules, ◌≡◌, ◌∙◌, ℕ, ap, subst, sym}
 use Rattle.tr_book.specs.Snaps.{SnapState}
 use Rattle.tr_shared.proofs.ShownLaws.{IsOver, planned-over, shows-last}
 use Rattle.tr_shared.proofs.looking.look.Goals as goal
+use Rattle.tr_seats.specs.Books.{IsPlanned}
 use Rattle.tr_shared.specs.Shown.{IsShownFrom}
 use Rattle.tr_stream.specs.Consistent.{IsConsistent}
 use Rattle.tr_stream.specs.Kept.{IsKept}
@@ -23,3 +24,13 @@ returns-clause-from g c =
     let is : IsConsistent slot.stream = subst IsConsistent c.stream.ensures.value c.config.ensures.consistent in
     subst (IsShownFrom slot.stream.counters.overwritten) (sym c.in_ok-peek.ensures.value)
     (shows-last c.args.moment slot.stream kept.sound is made.mode made.session)
+
+pub returns-clause-look : goal.returns-clause-look
+returns-clause-look g c =
+    let slot = c.args.slot.now in
+    let here : c.args.i ≡ slot.number = search rules in
+    record {
+      kept = subst IsKept c.stream.ensures.value c.config.ensures.kept;
+      planned = subst (λ (i : ℕ). IsPlanned g.N.Names.plan i slot.stream.config) (sym here) c.stream.ensures.planned;
+      value = c.in_ok-peek.ensures.value;
+    }

@@ -9,5 +9,5 @@ invariant-loop-i g l = record {
   many : vec_len l.snaps ≡ l.i;
   items : length l.snaps.items ≡ l.i;
   room : l.i-end ≤ vec_capacity l.snaps;
-  shown : AreShown l.snaps.items;
+  shown : AreShown g.N.Names.plan l.stored l.snaps.items;
 }
