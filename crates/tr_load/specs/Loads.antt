@@ -1,5 +1,6 @@
 -- What a load comes to.
 use Rattle.std.specs.Prelude.{◌≡◌, ℕ, ◌<◌, List, length, slice_index_or, Result, Ok, Err}
+use Rattle.tr_load.specs.Plans.{load_session}
 use Rattle.tr_load.specs.Works.{work_of}
 use Rattle.tr_pool.specs.Feeding.{IsFed}
 use Rattle.tr_pool.specs.Logs.{AgreeBelow, IsFirstWrong, report_of}
@@ -7,7 +8,10 @@ use Rattle.tr_pool.specs.declared.items.Item.{Item}
 use Rattle.tr_pool.specs.declared.items.Log.{Log}
 use Rattle.tr_pool.specs.declared.report.Mismatch.{Mismatch}
 use Rattle.tr_pool.specs.declared.report.Report.{Report}
+use Rattle.tr_seats.specs.Books.{PlanState}
+use Rattle.tr_seats.specs.Settling.{IsSessionOf}
 use Rattle.tr_seats.specs.Slots.{ProducerState, new_producer}
+use Rattle.tr_session.specs.Session.{SessionOf}
 use Rattle.tr_stream.specs.State.{StreamState}
 
 abbrev pub log_in : ℕ → List Item → Log
@@ -27,8 +31,16 @@ abbrev pub IsJudged : List Log → List StreamState → Result Report Mismatch �
 IsJudged logs streams (Ok report) = AgreeBelow logs streams (length streams) × (report ≡ report_of streams)
 IsJudged logs streams (Err mismatch) = IsFirstWrong logs streams mismatch
 
--- the streams of a load are judged by what its feeders logged
-pub record IsLoaded (threads records : ℕ) (streams : List StreamState) (outcome : Result Report Mismatch) : Type 0 where
+-- a session is a load's: it is that of a load's plan, and has a stream for each thread
+pub record IsOfLoad (threads : ℕ) (session : SessionOf StreamState) : Type 0 where
+  pub plan : PlanState
+  pub made : load_session threads ≡ Ok plan.session
+  pub planned : IsSessionOf plan session
+  pub many : length session.streams ≡ threads
+
+-- the streams of a load's session are judged by what its feeders logged
+pub record IsLoaded (threads records : ℕ) (session : SessionOf StreamState) (outcome : Result Report Mismatch) : Type 0 where
+  pub own : IsOfLoad threads session
   pub logs : List Log
   pub are_logs : AreLogs threads records logs
-  pub judged : IsJudged logs streams outcome
+  pub judged : IsJudged logs session.streams outcome

@@ -2,6 +2,7 @@
 
 ghost use Rattle.std.specs.Prelude.{◌≡◌, IfOk, length, map};
 ghost use Rattle.tr_load.specs.Loads.{IsJudged, log_in};
+ghost use Rattle.tr_seats.specs.Settling.{IsSessionOf};
 
 use crate::loaded::{LoadFault, Loaded};
 use std::alloc::{AllocError, Global};
@@ -39,7 +40,7 @@ pub(crate) fn settled<N: Names>(
     drainers: Vec<Drainer<N>>,
     logs: &[Log],
 ) -> Result<Loaded, LoadFault>
-    ensures { IfOk result (λ l. IsJudged logs.now l.settled.streams l.outcome) }
+    ensures { IfOk result (λ l. IsJudged logs.now l.settled.streams l.outcome × IsSessionOf N.plan l.settled) }
 {
     match shared.settle(producers, drainers) {
         Ok((settled, _)) => {

@@ -1,7 +1,8 @@
 //! A load from its begin to its end.
 
-ghost use Rattle.std.specs.Prelude.{◌≡◌, ◌≤◌, IfOk, vec_len};
+ghost use Rattle.std.specs.Prelude.{◌≡◌, ◌≤◌, IfOk, Ok, vec_len};
 ghost use Rattle.tr_load.specs.Loads.{IsLoaded};
+ghost use Rattle.tr_load.specs.Plans.{load_session};
 ghost use Rattle.tr_load.specs.declared.limits.TheConstants.{MOST_RECORDS, MOST_WORKERS};
 ghost use Rattle.tr_terms.specs.declared.limits.TheConstants.{MOST_STREAMS};
 
@@ -46,9 +47,10 @@ fn run<N: Names + Send + Sync, R: Threads + Wait + Clock + Sync>(
     workers: usize,
 ) -> Result<Loaded, LoadFault>
     requires plan { plan ≡ N.plan }
+    requires session { load_session threads ≡ Ok plan.session }
     requires threads { threads ≤ MOST_STREAMS }
     requires records { records ≤ MOST_RECORDS }
-    ensures { IfOk result (λ l. IsLoaded threads records l.settled.streams l.outcome) }
+    ensures { IfOk result (λ l. IsLoaded threads records l.settled l.outcome) }
 {
     let (shared, producers) = Shared::<N>::build(plan)?;
     if producers.len() != threads {
@@ -95,7 +97,7 @@ pub fn load<R: Threads + Wait + Clock + Sync>(
     requires threads { threads ≤ MOST_STREAMS }
     requires records { records ≤ MOST_RECORDS }
     requires workers { (1 ≤ workers) × (workers ≤ MOST_WORKERS) }
-    ensures { IfOk result (λ l. IsLoaded threads records l.settled.streams l.outcome) }
+    ensures { IfOk result (λ l. IsLoaded threads records l.settled l.outcome) }
 {
     let plan = load_plan(alloc, threads as u64)?;
     run::<Brand, R>(rt, alloc, plan, threads, records, workers)

@@ -169,7 +169,7 @@ module _ (old new : Host) where
   pub record HasLoaded (threads records : ℕ) (dir : Folder) (ending : Ending) : Type 0 where
     pub session : SessionOf StreamState
     pub outcome : Result Report Mismatch
-    pub loaded : IsLoaded threads records session.streams outcome
+    pub loaded : IsLoaded threads records session outcome
     pub told : EndsTold dir threads session outcome (output_of old) (output_of new) (disk_in old) (disk_in new) ending
 
   -- a load wasn't settled

@@ -1,9 +1,12 @@
-use Rattle.std.proofs.Common.{rules, arith, Vec, Global, ◌≡◌, length, map, vec_len, sym, ◌∙◌, subst}
+use Rattle.std.proofs.Common.{rules, arith, Vec, Global, ◌≡◌, Ok, ap, length, map, vec_len, sym, ◌∙◌, subst}
 use Rattle.tr_load.specs.Loads.{AreLogs, IsJudged, IsLoaded, log_in}
 use Rattle.tr_load.proofs.LoadLaws.{if_ok_too, logs_of}
 use Rattle.tr_pool.specs.declared.feeding.LoggedProducer.{LoggedProducer}
 use Rattle.tr_pool.specs.declared.items.Item.{Item}
+use Rattle.tr_seats.specs.Books.{PlanState}
+use Rattle.tr_seats.specs.Settling.{IsSessionOf}
 use Rattle.tr_seats.specs.Slots.{AreNew}
+use Rattle.tr_load.specs.Plans.{load_session}
 use Rattle.tr_load.proofs.running.run.Goals as goal
 
 -- the logs are those of the load
@@ -24,10 +27,17 @@ returns g c =
     c.args.threads c.args.records (back ∙ same ∙ asked) new c.in_ok-works.ensures.works
     (λ i p w b low. c.in_ok-drainers-2.ensures.fed i p w b (omega (arith, low, asked))) in
     let logs : c.as_slice-2.result.now ≡ map (λ (b : Fed). log_in b.producer.number b.log.items) fed = search rules in
-    if_ok_too (λ l. IsJudged c.as_slice-2.result.now l.settled.streams l.outcome)
-    (λ l. IsLoaded c.args.threads c.args.records l.settled.streams l.outcome) c.settled.result
+    let plan = g.N.Names.plan in
+    if_ok_too (λ l. IsJudged c.as_slice-2.result.now l.settled.streams l.outcome × IsSessionOf plan l.settled)
+    (λ l. IsLoaded c.args.threads c.args.records l.settled l.outcome) c.settled.result
     (λ l is. record {
+      own = record {
+        plan = plan;
+        made = subst (λ (p : PlanState). load_session c.args.threads ≡ Ok p.session) c.requires.plan c.requires.session;
+        planned = is.1;
+        many = is.1.many ∙ ap (λ (p : PlanState). length p.books) (sym c.requires.plan) ∙ sym made.0 ∙ all ∙ asked;
+      };
       logs = c.as_slice-2.result.now;
       are_logs = subst (λ ls. AreLogs c.args.threads c.args.records ls) (sym logs) are;
-      judged = is;
+      judged = is.0;
     }) c.settled.ensures
