@@ -1,6 +1,6 @@
 //! The audit of one stream over the archives.
 
-ghost use Rattle.std.specs.Prelude.{◌≡◌, ◌≢◌, ◌+◌, ◌<◌, ◌≤◌, ◌^◌, ◌∷◌, ◌++◌, [], ℕ, List, Some, None, Ok, IfOk, IfErr, length, map};
+ghost use Rattle.std.specs.Prelude.{◌≡◌, ◌≢◌, ◌+◌, ◌<◌, ◌≤◌, ◌^◌, ◌∷◌, ◌++◌, [], ℕ, List, Some, None, Ok, IfOk, OnErr, IfErr, length, map};
 ghost use Rattle.std.specs.String.{string_bytes};
 ghost use Rattle.tr_chunk.specs.Files.{file_name};
 ghost use Rattle.tr_chunk.specs.Reading.{HasRead};
@@ -111,6 +111,7 @@ fn stream_path(
 fn stopped(fault: AuditFault) -> Result<Finding, SurveyFault>
     ensures ok { IfOk result (λ finding. (finding ≡ Stopped fault) × (fault.cause ≢ cause.NoMemory)) }
     ensures err { IfErr result (λ fault. fault ≡ NoMemory) }
+    ensures memory { OnErr result (fault.cause ≡ cause.NoMemory) }
 {
     match fault.cause {
         AuditCause::NoMemory => Err(SurveyFault::NoMemory),
