@@ -6,7 +6,7 @@ use Rattle.std.proofs.lemmas.List.{length-map}
 use Rattle.std.proofs.lemmas.List.FromFn.{get_or-map-range_with_len, length-map-range_with_len}
 use Rattle.tr_load.specs.Loads.{AreLogs, IsLogOf, log_in}
 use Rattle.tr_load.specs.Works.{work_of}
-use Rattle.tr_pool.specs.Feeding.{IsFed}
+use Rattle.tr_pool.specs.Feeding.{IsFed, IsOffered}
 use Rattle.tr_pool.specs.declared.items.Item.{Item}
 use Rattle.tr_pool.specs.declared.items.Log.{Log}
 use Rattle.tr_seats.specs.Slots.{AreNew, ProducerState, new_producer}
@@ -24,7 +24,7 @@ pub logs_of : {B W : Type 0} (producer : B → ProducerState) (logged : B → Li
     → length fed ≡ threads → AreNew threads producers
     → map work works ≡ map (work_of records) (range_with_len 0 threads)
     → ((i : ℕ) (p : ProducerState) (w : W) (b : B) → i < threads
-    → IsFed (get_or producers i p) (work (get_or works i w)) (producer (get_or fed i b)) (logged (get_or fed i b)))
+    → IsFed IsOffered (get_or producers i p) (work (get_or works i w)) (producer (get_or fed i b)) (logged (get_or fed i b)))
     → AreLogs threads records (map (λ (b : B). log_in (producer b).number (logged b)) fed)
 logs_of {B} {W} producer logged work fed works producers threads records len new are did =
     let log : B → Log = λ b. log_in (producer b).number (logged b) in
@@ -36,12 +36,12 @@ logs_of {B} {W} producer logged work fed works producers threads records len new
           let before = get_or producers t (new_producer t) in
           let own : get_or (map work works) t [] ≡ work_of records t =
           ap (λ xs. get_or xs t []) are ∙ get_or-map-range_with_len (work_of records) 0 threads t t [] low (omega arith) in
-          let all : IsFed before (get_or (map work works) t []) after items =
-          at_made work works t [] (λ w. IsFed before w after items) (omega (arith, low, many)) (λ w. did t (new_producer t) w b low) in (
+          let all : IsFed IsOffered before (get_or (map work works) t []) after items =
+          at_made work works t [] (λ w. IsFed IsOffered before w after items) (omega (arith, low, many)) (λ w. did t (new_producer t) w b low) in (
             after,
             refl,
-            subst (λ q. IsFed q (work_of records t) after items) (new.1 t (new_producer t) low)
-                (subst (λ w. IsFed before w after items) own all),
+            subst (λ q. IsFed IsOffered q (work_of records t) after items) (new.1 t (new_producer t) low)
+                (subst (λ w. IsFed IsOffered before w after items) own all),
           ))),
     )
 

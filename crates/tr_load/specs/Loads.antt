@@ -2,7 +2,7 @@
 use Rattle.std.specs.Prelude.{◌≡◌, ℕ, ◌<◌, List, length, slice_index_or, Result, Ok, Err}
 use Rattle.tr_load.specs.Plans.{load_session}
 use Rattle.tr_load.specs.Works.{work_of}
-use Rattle.tr_pool.specs.Feeding.{IsFed}
+use Rattle.tr_pool.specs.Feeding.{IsFed, IsOffered}
 use Rattle.tr_pool.specs.Logs.{AgreeBelow, IsFirstWrong, report_of}
 use Rattle.tr_pool.specs.declared.items.Item.{Item}
 use Rattle.tr_pool.specs.declared.items.Log.{Log}
@@ -19,7 +19,7 @@ log_in stream items = record { stream = stream; items = items }
 
 -- what a feeder logged: what its stream accepted of its work
 abbrev pub IsLogOf : ℕ → ℕ → Log → Type 0
-IsLogOf records t log = (p : ProducerState) × (log.stream ≡ p.number) × IsFed (new_producer t) (work_of records t) p log.items
+IsLogOf records t log = (p : ProducerState) × (log.stream ≡ p.number) × IsFed IsOffered (new_producer t) (work_of records t) p log.items
 
 -- a log of each feeder, in order of number
 abbrev pub AreLogs : (threads records : ℕ) → List Log → Type 0

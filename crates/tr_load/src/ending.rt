@@ -12,7 +12,7 @@ use tr_shared::{Drainer, Names, Producer, Settled, Shared};
 /// The producers, and their logs.
 pub(crate) fn parted<N: Names>(
     alloc: Global,
-    fed: Vec<LoggedProducer<N>>,
+    fed: Vec<LoggedProducer<Producer<N>>>,
 ) -> Result<(Vec<Producer<N>>, Vec<Log>), AllocError>
     ensures { IfOk result (λ r. r.1.items ≡ map (λ b. log_in b.producer.number b.log.items) fed.items) }
 {

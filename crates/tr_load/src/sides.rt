@@ -1,7 +1,7 @@
 //! Feeders and workers side by side.
 
 ghost use Rattle.std.specs.Prelude.{◌≡◌, ◌<◌, ℕ, IfOk, IfSome, slice_index_or, vec_len};
-ghost use Rattle.tr_pool.specs.Feeding.{IsFed};
+ghost use Rattle.tr_pool.specs.Feeding.{IsFed, IsOffered};
 
 use crate::gate::Rounds;
 use crate::loaded::LoadFault;
@@ -25,12 +25,12 @@ fn feed_to_the_end<N: Names + Send + Sync, R: Threads + Wait + Sync>(
     producers: Vec<Producer<N>>,
     works: Vec<Vec<Item>>,
     ended: &AtomicBool,
-) -> Option<Vec<LoggedProducer<N>>>
+) -> Option<Vec<LoggedProducer<Producer<N>>>>
     requires { vec_len works ≡ vec_len producers }
     ensures len { IfSome result (λ back. vec_len back ≡ vec_len producers) }
     ensures fed { IfSome result
         (λ back. (i : ℕ) (p : _) (w : _) (b : _) → i < vec_len producers
-        → IsFed (slice_index_or producers.items i p) (slice_index_or works.items i w).items
+        → IsFed IsOffered (slice_index_or producers.items i p) (slice_index_or works.items i w).items
         (slice_index_or back.items i b).producer (slice_index_or back.items i b).log.items) }
 {
     let fed = feed(rt, alloc, shared, producers, works);
@@ -47,12 +47,12 @@ pub(crate) fn feed_and_drain<N: Names + Send + Sync, R: Threads + Wait + Clock +
     producers: Vec<Producer<N>>,
     works: Vec<Vec<Item>>,
     paces: &[Pace],
-) -> Result<(Vec<Drainer<N>>, Vec<LoggedProducer<N>>), LoadFault>
+) -> Result<(Vec<Drainer<N>>, Vec<LoggedProducer<Producer<N>>>), LoadFault>
     requires { vec_len works ≡ vec_len producers }
     ensures len { IfOk result (λ r. vec_len r.1 ≡ vec_len producers) }
     ensures fed { IfOk result
         (λ r. (i : ℕ) (p : _) (w : _) (b : _) → i < vec_len producers
-        → IsFed (slice_index_or producers.items i p) (slice_index_or works.items i w).items
+        → IsFed IsOffered (slice_index_or producers.items i p) (slice_index_or works.items i w).items
         (slice_index_or r.1.items i b).producer (slice_index_or r.1.items i b).log.items) }
 {
     let ended = AtomicBool::new(false);
@@ -67,12 +67,12 @@ pub(crate) fn feed_and_drain<N: Names + Send + Sync, R: Threads + Wait + Clock +
     let (drained, fed) = thread::join(
         rt,
         || drain_all(rt, alloc, &watched, drainers, &gate),
-        || -> Option<Vec<LoggedProducer<N>>>
+        || -> Option<Vec<LoggedProducer<Producer<N>>>>
             requires { vec_len works ≡ vec_len producers }
             ensures len { IfSome result (λ back. vec_len back ≡ vec_len producers) }
             ensures fed { IfSome result
                 (λ back. (i : ℕ) (p : _) (w : _) (b : _) → i < vec_len producers
-                → IsFed (slice_index_or producers.items i p) (slice_index_or works.items i w).items
+                → IsFed IsOffered (slice_index_or producers.items i p) (slice_index_or works.items i w).items
                 (slice_index_or back.items i b).producer (slice_index_or back.items i b).log.items) }
         { feed_to_the_end(rt, alloc, shared, producers, works, &ended) },
     );

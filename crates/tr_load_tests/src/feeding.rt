@@ -20,7 +20,7 @@ use tr_testing::moment;
 use uuid::Uuid;
 
 /// Compares what a test found with what it expects. As a call without clauses it keeps the proofs of the tests short.
-fn assert_same<T: PartialEq + Debug + Drop>(rt: &impl Abort, found: T, expected: T) {
+pub(crate) fn assert_same<T: PartialEq + Debug + Drop>(rt: &impl Abort, found: T, expected: T) {
     assert_eq!(rt; found, expected);
 }
 
@@ -43,7 +43,7 @@ fn plan_of(rt: &impl Abort, alloc: Global, size: u64, threads: u64) -> Plan {
 }
 
 /// The item of number `k`: `k` bytes of value `k` at moment `2k`, with an id that falls.
-fn item(rt: &impl Abort, alloc: Global, k: u8) -> Item {
+pub(crate) fn item(rt: &impl Abort, alloc: Global, k: u8) -> Item {
     let payload = vec![in alloc; k; usize::from(k)].expect(rt, "memory");
     Item {
         moment: moment(2 * u64::from(k)),
@@ -53,7 +53,7 @@ fn item(rt: &impl Abort, alloc: Global, k: u8) -> Item {
 }
 
 /// The items of the first numbers.
-fn items(rt: &impl Abort, alloc: Global, count: u8) -> Vec<Item> {
+pub(crate) fn items(rt: &impl Abort, alloc: Global, count: u8) -> Vec<Item> {
     let mut items = Vec::new(alloc);
     for k in 0..count {
         items.push(item(rt, alloc, k)).expect(rt, "memory");

@@ -5,6 +5,8 @@
 #[cfg(test)]
 mod feeding;
 #[cfg(test)]
+mod intakes;
+#[cfg(test)]
 mod loads;
 #[cfg(test)]
 mod telling;

@@ -1,16 +1,18 @@
 -- Offers one after another.
-use Rattle.std.proofs.Common.{◌≡◌, List, [], ◌∷◌, ◌++◌, map, reverse, ap, sym, ◌∙◌, subst, append_assoc, refl, length, arith, ℕ, zero, suc, ◌<◌, get_or}
+use Rattle.std.proofs.Common.{◌≡◌, List, [], ◌∷◌, ◌++◌, map, reverse, ap, sym, ◌∙◌, subst, append_assoc, refl, length, arith, ℕ, zero, suc, ◌<◌, get_or, inl, inr, ⊎_elim, Result}
 use Rattle.std.specs.List.{AllByRecursion, FoldsTo}
-use Rattle.std.proofs.lemmas.List.{reverse-append}
+use Rattle.std.proofs.lemmas.List.{get_or_default, length-map, map-append, reverse-append, reverse-reverse}
 use Rattle.tr_pool.proofs.JudgeLaws.{all_append}
+use Rattle.tr_pool.proofs.StartLaws.{default_of}
+use Rattle.tr_pool.specs.Feeding.{IsFed, WasFed}
+use Rattle.tr_pool.specs.Pools.{EachCame, IsKeptOr}
+use Rattle.tr_pool.specs.declared.items.Item.{Item}
+use Rattle.tr_stream.specs.declared.answers.OfferFault.{OfferFault}
+use Rattle.tr_stream.specs.declared.answers.Offered.{Offered}
 
 pub folds_one : {P A : Type 0} (R : P → A → P → Type 0) (p : P) (xs : List A) (q : P) (x : A) (r : P) → FoldsTo R p xs q → R q x r → FoldsTo R p (xs ++ x ∷ []) r
 folds_one R p [] q x r done one = (r, subst (λ s. R s x r) (sym done) one, refl)
 folds_one R p (y ∷ ys) q x r done one = (done.0, done.1, folds_one R done.0 ys q x r done.2 one)
-
-map-append : {A B : Type 0} (f : A → B) (xs ys : List A) → map f (xs ++ ys) ≡ map f xs ++ map f ys
-map-append f [] ys = refl
-map-append f (x ∷ xs) ys = ap (λ zs. f x ∷ zs) (map-append f xs ys)
 
 -- the last of those that are left is taken, and what was made of it is put behind the others
 pub moves_one : {A B : Type 0} (f : B → A) (all left rest : List A) (made : List B) (x : A) (y : B)
@@ -44,3 +46,58 @@ pub made_of : {A B : Type 0} (f : B → A) (made : List B) (all : List A) (i : �
 made_of f [] all i a b is low = absurd (omega (arith, low))
 made_of f (x ∷ xs) all zero a b is low = ap (λ ys. get_or ys 0 a) is
 made_of f (x ∷ xs) all (suc i) a b is low = made_of f xs (map f xs) i a b refl (omega (arith, low)) ∙ ap (λ ys. get_or ys (suc i) a) is
+
+map_twice : {A B C : Type 0} (f : A → B) (g : B → C) (xs : List A) → map (λ (x : A). g (f x)) xs ≡ map g (map f xs)
+map_twice f g [] = refl
+map_twice f g (x ∷ xs) = ap (λ ys. g (f x) ∷ ys) (map_twice f g xs)
+
+-- the last of those that are left gives its own back, behind the others
+pub gives_one : {A B : Type 0} (f : B → A) (all given : List A) (left rest : List B) (x : B)
+    → all ≡ given ++ reverse (map f left) → left ≡ rest ++ x ∷ [] → all ≡ (given ++ f x ∷ []) ++ reverse (map f rest)
+gives_one f all given left rest x is last =
+    is ∙ ap (λ xs. given ++ reverse (map f xs)) last ∙ ap (λ xs. given ++ reverse xs) (map-append f rest (x ∷ []))
+    ∙ ap (λ xs. given ++ xs) (reverse-append (map f rest) (f x ∷ [])) ∙ sym (append_assoc given (f x ∷ []) (reverse (map f rest)))
+
+-- all were given back behind none, and turned round
+pub turned_back : {A B : Type 0} (f : B → A) (given back seats : List A) (all : List B)
+    → given ≡ [] → back ≡ given ++ reverse (map f all) → seats ≡ reverse back → seats ≡ map f all
+turned_back f given back seats all none is turned =
+    turned ∙ ap reverse (is ∙ ap (λ xs. xs ++ reverse (map f all)) none) ∙ reverse-reverse (map f all)
+
+-- all came back as they were
+pub all_kept : {S : Type 0} (did : ℕ → S → S → Type 0) (given back : List S) → back ≡ given → EachCame (λ (i : ℕ). IsKeptOr (did i)) given back
+all_kept did given back same = (ap length same, λ i s u low. inl (ap (λ xs. get_or xs i u) same ∙ get_or_default given i u s low))
+
+-- feeders come back, each as it was or with its work offered; so do their producers
+pub producers_came : {B S W : Type 0} (producer : B → S) (work : B → W) (items : W → List Item) (log : B → List Item)
+    (offers : S → ℕ → ℕ → List ℕ → Result Offered OfferFault → S → Type 0) (feeders back : List B) (producers seats : List S) (works : List W)
+    → map producer feeders ≡ producers → map work feeders ≡ works → AllByRecursion (λ (b : B). log b ≡ []) feeders
+    → seats ≡ map producer back
+    → EachCame (λ (i : ℕ). IsKeptOr (λ (p q : B). log p ≡ [] → IsFed offers (producer p) (items (work p)) (producer q) (log q))) feeders back
+    → EachCame (λ (i : ℕ). IsKeptOr (WasFed offers (get_or (map items works) i []))) producers seats
+producers_came {B} {S} {W} producer work items log offers feeders back producers seats works are have empty gave came =
+    let many : length feeders ≡ length producers = sym (length-map feeders producer) ∙ ap length are in
+    let all : length seats ≡ length back = ap length gave ∙ length-map back producer in (
+      all ∙ came.0 ∙ many,
+      (λ i s u low.
+          let small : i < length feeders = omega (arith, low, many) in
+          let small_too : i < length back = omega (arith, small, came.0) in
+          let p : B = get_or feeders i (default_of feeders i small) in
+          let q : B = get_or back i (default_of back i small_too) in
+          let before : producer p ≡ get_or producers i s = made_of producer feeders producers i s (default_of feeders i small) are small in
+          let after : producer q ≡ get_or seats i u =
+          made_of producer back (map producer back) i u (default_of back i small_too) refl small_too ∙ ap (λ xs. get_or xs i u) (sym gave) in
+          let own : items (work p) ≡ get_or (map items works) i [] =
+          made_of (λ (b : B). items (work b)) feeders (map items works) i [] (default_of feeders i small)
+          (map_twice work items feeders ∙ ap (map items) have) small in
+          let none : log p ≡ [] = all_at (λ (b : B). log b ≡ []) feeders i (default_of feeders i small) empty small in
+          ⊎_elim
+          (λ (kept : q ≡ p). inl (sym after ∙ ap producer kept ∙ before))
+          (λ did. inr (
+            log q,
+            subst (λ x. IsFed offers (get_or producers i s) (get_or (map items works) i []) x (log q)) after
+                (subst (λ x. IsFed offers x (get_or (map items works) i []) (producer q) (log q)) before
+                (subst (λ x. IsFed offers (producer p) x (producer q) (log q)) own (did none))),
+          ))
+          (came.1 i (default_of feeders i small) (default_of back i small_too) small)),
+    )

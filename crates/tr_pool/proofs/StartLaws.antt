@@ -3,7 +3,7 @@ use Rattle.std.proofs.Common.{◌≡◌, ℕ, ◌+◌, ◌-◌, ◌<◌, ◌≤�
 use Rattle.std.proofs.lemmas.List.{get_or_push, get_or_append_left, length-append}
 use Rattle.std.proofs.lemmas.Bool.{cases_lt}
 
-default_of : {X : Type 0} → (xs : List X) (j : ℕ) → j < length xs → X
+pub default_of : {X : Type 0} → (xs : List X) (j : ℕ) → j < length xs → X
 default_of [] j low = absurd (not-suc-le-zero low)
 default_of (x ∷ xs) j low = x
 

@@ -1,9 +1,11 @@
 //! Feeders in threads of their own.
 
-ghost use Rattle.std.specs.Prelude.{◌≡◌, ◌+◌, ◌<◌, ◌≤◌, ℕ, [], map, slice_index_or, vec_len, vec_capacity, IfOk, IfErr};
+ghost use Rattle.std.specs.Prelude.{◌≡◌, ◌+◌, ◌++◌, ◌<◌, ◌≤◌, ℕ, [], map, reverse, slice_index_or, vec_len, vec_capacity, IfOk, IfErr};
 ghost use Rattle.std.specs.List.{AllByRecursion};
-ghost use Rattle.tr_pool.specs.Feeding.{IsFed};
+ghost use Rattle.tr_pool.specs.Feeding.{IsFed, WasFed};
+ghost use Rattle.tr_pool.specs.Pools.{EachCame, IsKeptOr};
 
+use crate::intake::Intake;
 use crate::items::{Item, Items, Log};
 use crate::pool_fault::{PoolError, PoolFault};
 use crate::threads::set_to_work;
@@ -11,54 +13,60 @@ use crate::work::Work;
 use std::alloc::Global;
 use std::sync::Wait;
 use std::thread::Threads;
-use tr_shared::{Names, Producer, Shared};
+use tr_shared::{Names, Producer};
 
-/// A producer, the items that it is still to offer, and the log of those that were accepted.
+/// A producer, the items that it is still to offer, and the log of those that were accepted. The producer is the seat of an
+/// intake: of a shared session it is a `Producer`.
 #[derive(Drop)]
-pub struct LoggedProducer<N: Names> {
-    producer: Producer<N>,
+pub struct LoggedProducer<S: Drop> {
+    producer: S,
     work: Vec<Item>,
     log: Vec<Item>,
     // the log has room for the work
     ghost room: { vec_len work + vec_len log ≤ vec_capacity log },
 }
 
-impl<N: Names> LoggedProducer<N> {
-    /// The producer, and its log. It takes no memory.
-    pub fn into_parts(self) -> (Producer<N>, Log)
+impl<S: Drop> LoggedProducer<S> {
+    /// The producer, and the items of its log. It takes no memory.
+    pub fn into_items(self) -> (S, Items)
         ensures producer { result.0 ≡ self.producer }
-        ensures stream { result.1.stream ≡ self.producer.number }
-        ensures items { result.1.items ≡ self.log.items }
+        ensures items { result.1 ≡ self.log.items }
     {
         let LoggedProducer {
             producer,
             work: _,
             log,
         } = self;
+        (producer, Items::new(log))
+    }
+}
+
+impl<N: Names> LoggedProducer<Producer<N>> {
+    /// The producer, and its log. It takes no memory.
+    pub fn into_parts(self) -> (Producer<N>, Log)
+        ensures producer { result.0 ≡ self.producer }
+        ensures stream { result.1.stream ≡ self.producer.number }
+        ensures items { result.1.items ≡ self.log.items }
+    {
+        let (producer, items) = self.into_items();
         let stream = producer.stream() as u64;
-        (
-            producer,
-            Log {
-                stream,
-                items: Items::new(log),
-            },
-        )
+        (producer, Log { stream, items })
     }
 }
 
 /// Offers a producer's work, in order, and logs what is accepted.
-fn feed_one<N: Names, R: Wait>(
+fn feed_one<T: Intake, R: Wait>(
     rt: &R,
-    shared: &Shared<N>,
-    mut producer: Producer<N>,
+    intake: &T,
+    mut producer: T::Seat,
     work: Vec<Item>,
     mut log: Vec<Item>,
-) -> (Producer<N>, Vec<Item>)
+) -> (T::Seat, Vec<Item>)
     requires { vec_len work + vec_len log ≤ vec_capacity log }
-    ensures { log.items ≡ [] → IsFed producer work.items result.0 result.1.items }
+    ensures { log.items ≡ [] → IsFed (T.offers intake.now) producer work.items result.0 result.1.items }
 {
     'offering: for item in work {
-        let answer = shared.offer(
+        let answer = intake.offer_with(
             rt,
             &mut producer,
             item.moment,
@@ -76,17 +84,17 @@ fn feed_one<N: Names, R: Wait>(
 ///
 /// # Errors
 ///
-/// Out of memory: all producers come back.
-fn pair<N: Names>(
+/// Out of memory: all producers come back, in order.
+fn pair<S: Drop>(
     alloc: Global,
-    mut producers: Vec<Producer<N>>,
+    mut producers: Vec<S>,
     mut works: Vec<Vec<Item>>,
-) -> Result<Vec<LoggedProducer<N>>, Vec<Producer<N>>>
+) -> Result<Vec<LoggedProducer<S>>, Vec<S>>
     requires { vec_len works ≡ vec_len producers }
     ensures producers { IfOk result (λ seats. map (λ s. s.producer) seats.items ≡ producers.items) }
     ensures works { IfOk result (λ seats. map (λ s. s.work) seats.items ≡ works.items) }
     ensures logs { IfOk result (λ seats. AllByRecursion (λ s. s.log.items ≡ []) seats.items) }
-    ensures back { IfErr result (λ back. vec_len back ≡ vec_len producers) }
+    ensures back { IfErr result (λ back. back.items ≡ producers.items) }
 {
     let Ok(mut seats) = Vec::with_capacity(alloc, producers.len()) else {
         return Err(producers);
@@ -110,12 +118,9 @@ fn pair<N: Names>(
 }
 
 /// The producers of these seats, the last first, behind those that are there.
-fn unpair<N: Names>(
-    mut seats: Vec<LoggedProducer<N>>,
-    mut producers: Vec<Producer<N>>,
-) -> Vec<Producer<N>>
+fn unpair<S: Drop>(mut seats: Vec<LoggedProducer<S>>, mut producers: Vec<S>) -> Vec<S>
     requires { vec_len producers + vec_len seats ≤ vec_capacity producers }
-    ensures { vec_len result ≡ vec_len producers + vec_len seats }
+    ensures { result.items ≡ producers.items ++ reverse (map (λ s. s.producer) seats.items) }
 {
     'seats: while let Some(seat) = seats.pop() {
         let LoggedProducer {
@@ -128,29 +133,34 @@ fn unpair<N: Names>(
     producers
 }
 
-/// The work of feeders on a session.
+/// The work of feeders on an intake.
 #[derive(Drop)]
-struct Feeding<'a, N: Names> {
-    shared: &'a Shared<N>,
+struct Feeding<'a, T: Intake> {
+    intake: &'a T,
     alloc: Global,
 }
 
-impl<'a, N: Names> Work for Feeding<'a, N> {
+impl<'a, T: Intake> Work for Feeding<'a, T> {
     ghost use Rattle.std.specs.Prelude.{◌≡◌, []};
     ghost use Rattle.tr_pool.specs.Feeding.{IsFed};
 
-    type Seat = LoggedProducer<N>;
+    type Seat = LoggedProducer<T::Seat>;
 
-    ghost did = { λ _ worker before after. before.log.items ≡ []
-        → IsFed before.producer before.work.items after.producer after.log.items };
+    ghost did = { λ d _ before after. before.log.items ≡ []
+        → IsFed (T.offers d.intake.now) before.producer before.work.items after.producer after.log.items };
 
-    fn run<R: Wait>(&self, rt: &R, _worker: usize, seat: LoggedProducer<N>) -> LoggedProducer<N> {
+    fn run<R: Wait>(
+        &self,
+        rt: &R,
+        _worker: usize,
+        seat: LoggedProducer<T::Seat>,
+    ) -> LoggedProducer<T::Seat> {
         let LoggedProducer {
             producer,
             work,
             log,
         } = seat;
-        let (producer, log) = feed_one(rt, self.shared, producer, work, log);
+        let (producer, log) = feed_one(rt, self.intake, producer, work, log);
         LoggedProducer {
             producer,
             work: Vec::new(self.alloc),
@@ -164,22 +174,28 @@ impl<'a, N: Names> Work for Feeding<'a, N> {
 ///
 /// # Errors
 ///
-/// `NoMemory`: no thread was started. `NoThread`: all threads have ended, and what they offered stands. All producers come
-/// back.
-pub fn feed<N: Names + Send + Sync, R: Threads + Wait + Sync>(
+/// `NoMemory`: no thread was started, and the producers are as they were. `NoThread`: all threads have ended, and each
+/// producer is as it was, or has offered all its work; that stands, and its log is gone. All producers come back, in order.
+pub fn feed<T: Intake + Sync, R: Threads + Wait + Sync>(
     rt: &R,
     alloc: Global,
-    shared: &Shared<N>,
-    producers: Vec<Producer<N>>,
+    intake: &T,
+    producers: Vec<T::Seat>,
     works: Vec<Vec<Item>>,
-) -> Result<Vec<LoggedProducer<N>>, PoolFault<Producer<N>>>
+) -> Result<Vec<LoggedProducer<T::Seat>>, PoolFault<T::Seat>>
+where
+    T::Seat: Send,
     requires { vec_len works ≡ vec_len producers }
     ensures len { IfOk result (λ back. vec_len back ≡ vec_len producers) }
     ensures fed { IfOk result
         (λ back. (i : ℕ) (p : _) (w : _) (b : _) → i < vec_len producers
-        → IsFed (slice_index_or producers.items i p) (slice_index_or works.items i w).items
+        → IsFed (T.offers intake.now) (slice_index_or producers.items i p) (slice_index_or works.items i w).items
         (slice_index_or back.items i b).producer (slice_index_or back.items i b).log.items) }
-    ensures came { IfErr result (λ f. vec_len f.seats ≡ vec_len producers) }
+    ensures came { IfErr result
+        (λ f. EachCame
+        (λ i. IsKeptOr (WasFed (T.offers intake.now) (slice_index_or (map (λ w. w.items) works.items) i [])))
+        producers.items f.seats.items) }
+    ensures memory { IfErr result (λ f. f.fault ≡ PoolError.NoMemory → f.seats.items ≡ producers.items) }
 {
     let Ok(room) = Vec::with_capacity(alloc, producers.len()) else {
         return Err(PoolFault {
@@ -196,7 +212,7 @@ pub fn feed<N: Names + Send + Sync, R: Threads + Wait + Sync>(
             });
         }
     };
-    match set_to_work(rt, alloc, &Feeding { shared, alloc }, feeders) {
+    match set_to_work(rt, alloc, &Feeding { intake, alloc }, feeders) {
         Ok(fed) => Ok(fed),
         Err(PoolFault { fault, seats }) => {
             let mut seats = unpair(seats, room);

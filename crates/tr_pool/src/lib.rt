@@ -5,6 +5,7 @@
 mod draining;
 mod feeding;
 mod gate;
+mod intake;
 mod items;
 mod judging;
 mod limits;
@@ -20,6 +21,7 @@ mod worker;
 pub use draining::drain_all;
 pub use feeding::{LoggedProducer, feed};
 pub use gate::Gate;
+pub use intake::Intake;
 pub use items::{Item, Items, Log};
 pub use pool_fault::{PoolError, PoolFault};
 pub use reconciling::reconcile;

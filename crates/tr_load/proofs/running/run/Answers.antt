@@ -5,14 +5,14 @@ use Rattle.tr_pool.specs.declared.feeding.LoggedProducer.{LoggedProducer}
 use Rattle.tr_pool.specs.declared.items.Item.{Item}
 use Rattle.tr_seats.specs.Books.{PlanState}
 use Rattle.tr_seats.specs.Settling.{IsSessionOf}
-use Rattle.tr_seats.specs.Slots.{AreNew}
+use Rattle.tr_seats.specs.Slots.{AreNew, ProducerState}
 use Rattle.tr_load.specs.Plans.{load_session}
 use Rattle.tr_load.proofs.running.run.Goals as goal
 
 -- the logs are those of the load
 pub returns : goal.returns
 returns g c =
-    let Fed = LoggedProducer g.row.N.Denot g.N.Names in
+    let Fed = LoggedProducer ProducerState in
     let fed = c.in_ok-drainers-2.fed.items in let producers = c.in_ok-shared.producers.items in
     let works = c.in_ok-works.works.items in
     let all : length producers ≡ vec_len c.in_ok-shared.producers = search rules in

@@ -7,6 +7,6 @@ use Rattle.tr_pool.proofs.feeding.feed_one.Given as goal
 -- what was offered so far, and the room for the rest
 abbrev pub invariant-offering : goal.invariant-offering
 invariant-offering g l =
-    FoldsTo OffersOne (l.fn.producer, l.fn.log.items) l.yielded (l.producer, l.log.items)
+    FoldsTo (OffersOne (g.T.Intake.offers l.intake)) (l.fn.producer, l.fn.log.items) l.yielded (l.producer, l.log.items)
     × (vec_len l.log + length l.item-iterator.rest.items ≤ vec_capacity l.log)
     × (l.yielded ++ l.item-iterator.rest.items ≡ l.fn.work.items)
