@@ -4,63 +4,192 @@ ghost use Rattle.std.specs.Prelude.{◌≡◌};
 
 use super::rotating::{assert_begun, assert_rotated, assert_ticked};
 use super::{assert_offered, assert_started, built, stored};
-use crate::plans::{PAYLOAD, assert_same, last, plan_of, plan_with};
+use crate::plans::{assert_same, last, plan_of, plan_with};
 use std::alloc::Global;
 use std::marker::Brand;
 use std::process::Abort;
 use std::sync::Wait;
 use std::test::*;
+use tr_book::StreamSnap;
+use tr_packet::{Head, PacketView};
 use tr_schedule::Schedule;
 use tr_session::Ticked;
 use tr_session_book::SessionFault;
 use tr_shared::{Names, Plan, Producer, Shared};
 use tr_snapshot::Snapshot;
 use tr_stream::Offered;
-use tr_terms::{Mode, SessionMode};
+use tr_terms::{Mode, Moment, SessionMode};
 use tr_testing::moment;
+use uuid::Uuid;
 
-/// A plan of one stream with two sub-buffers of 256 bytes, of a snapshot session.
+/// A plan of three streams with two sub-buffers of 256 bytes each, of a snapshot session: a packet's records have 176 bytes,
+/// each its payload's and 24 more.
 fn snapshot_plan(rt: &impl Abort, alloc: Global) -> Plan {
-    plan_with(rt, alloc, SessionMode::Snapshot, Mode::Overwrite, 256, 1).expect(rt, "a plan")
+    plan_with(rt, alloc, SessionMode::Snapshot, Mode::Overwrite, 256, 3).expect(rt, "a plan")
 }
 
-/// Asserts what a snapshot shows: its moment, how many records its only stream was offered, and of each packet its number,
-/// how many records it has, and the first and the last one's serial.
-fn assert_shown(
-    rt: &impl Abort,
-    snapshot: Result<Snapshot, SessionFault>,
-    at: u64,
+/// A record of a stream: its serial, its moment, its id and its payload.
+type Record = (u64, u64, u32, &'static [u8]);
+
+/// What is shown of a packet.
+struct PacketShown {
+    seq: u64,
+    begin: u64,
+    /// None of the open one.
+    end: Option<u64>,
+    records: &'static [Record],
+}
+
+/// What is shown of a stream.
+struct StreamShown {
     offered: u64,
-    packets: &[(u64, usize, u64, u64)],
-) {
-    let snapshot = snapshot.expect(rt, "a snapshot");
-    let [snap] = snapshot.streams() else {
-        panic!(rt; "one stream")
-    };
-    let found = (snapshot.moment().get(), snap.stream(), snap.offered());
-    assert_same(rt, found, (at, 0, offered));
-    let mut shown = snap.packets();
-    assert_same(rt, shown.len(), packets.len());
-    'packets: for (seq, count, first, last) in packets {
-        let packet = shown.next().expect(rt, "a packet");
+    packets: &'static [PacketShown],
+}
+
+/// Asserts which records a packet has.
+fn assert_records(rt: &impl Abort, packet: &PacketView<'_>, records: &[Record]) {
+    assert_same(rt, packet.count(), records.len());
+    let mut shown = packet.records();
+    'records: for record in records {
+        let found = shown.next().expect(rt, "a record");
         let found = (
-            packet.head().seq,
-            packet.count(),
-            packet.records().next().map(|r| r.serial()),
-            packet.last_serial(),
+            found.serial(),
+            found.moment().get(),
+            found.id(),
+            found.payload(),
         );
-        assert_same(rt, found, (*seq, *count, Some(*first), *last));
+        assert_same(rt, found, *record);
+    }
+    assert_same(rt, shown.next().is_none(), true);
+    let last = records.last().expect(rt, "a last record");
+    assert_same(rt, packet.last_serial(), last.0);
+}
+
+/// Asserts what is shown of the stream of this number, whose open packet ends at this moment.
+fn assert_stream(
+    rt: &impl Abort,
+    snap: &StreamSnap,
+    (number, open_end): (u64, u64),
+    want: &StreamShown,
+) {
+    let found = (snap.stream(), snap.offered(), snap.discarded());
+    assert_same(rt, found, (number, want.offered, 0));
+    let mut shown = snap.packets();
+    assert_same(rt, shown.len(), want.packets.len());
+    'packets: for packet in want.packets {
+        let head = Head {
+            uuid: Uuid::nil(),
+            stream: number,
+            begin: moment(packet.begin),
+            end: moment(packet.end.unwrap_or(open_end)),
+            seq: packet.seq,
+            discarded: 0,
+        };
+        let found = shown.next().expect(rt, "a packet");
+        assert_same(rt, found.head(), head);
+        assert_records(rt, &found, packet.records);
     }
 }
 
-/// When records of 64 bytes are offered, and what is answered: two of them fill a sub-buffer.
-const OFFERS: [(u64, Offered); 6] = [
-    (1, Offered::Stored { serial: 0, seq: 0 }),
-    (2, Offered::Stored { serial: 1, seq: 0 }),
-    (3, Offered::Stored { serial: 2, seq: 1 }),
-    (4, Offered::Stored { serial: 3, seq: 1 }),
+/// A snapshot: the number of the stream whose producer is lent, if one is, when it is asked for, the moment that it stores, and
+/// the moments at which the open packets of the streams end.
+type Look = (Option<usize>, u64, u64, [u64; 3]);
+
+/// Three streams, and the snapshots of them.
+struct Stage {
+    streams: [StreamShown; 3],
+    looks: &'static [Look],
+}
+
+/// Asserts what a snapshot shows.
+fn assert_shown(
+    rt: &impl Abort,
+    snapshot: Result<Snapshot, SessionFault>,
+    (stored, ends): (u64, [u64; 3]),
+    want: &[StreamShown; 3],
+) {
+    let snapshot = snapshot.expect(rt, "a snapshot");
+    assert_same(rt, snapshot.moment().get(), stored);
+    let [first, second, third] = snapshot.streams() else {
+        panic!(rt; "three streams")
+    };
+    assert_stream(rt, first, (0, ends[0]), &want[0]);
+    assert_stream(rt, second, (1, ends[1]), &want[1]);
+    assert_stream(rt, third, (2, ends[2]), &want[2]);
+}
+
+/// A snapshot, with the producer of the stream of this number if there is one.
+fn snapshot_beside<N: Names>(
+    rt: &(impl Abort + Wait),
+    shared: &Shared<N>,
+    producers: &mut Vec<Producer<N>>,
+    beside: Option<usize>,
+    at: Moment,
+) -> Result<Snapshot, SessionFault> {
+    match beside {
+        Some(i) => {
+            let producer = producers.get_mut(i).expect(rt, "a producer");
+            shared.snapshot_with(rt, producer, at)
+        }
+        None => shared.snapshot(rt, at),
+    }
+}
+
+/// Asserts what the snapshots of a stage show, one after another.
+fn assert_stage<N: Names>(
+    rt: &(impl Abort + Wait),
+    shared: &Shared<N>,
+    producers: &mut Vec<Producer<N>>,
+    stage: &Stage,
+) {
+    for (beside, asked, stored, ends) in stage.looks {
+        let snapshot = snapshot_beside(rt, shared, producers, *beside, moment(*asked));
+        assert_shown(rt, snapshot, (*stored, *ends), &stage.streams);
+    }
+}
+
+/// An offer: the stream's number, the moment, the id and the payload, and what is answered.
+type Offer = (usize, u64, u32, &'static [u8], Offered);
+
+/// Makes the offers, and asserts what they answer.
+fn assert_offers<N: Names>(
+    rt: &(impl Abort + Wait),
+    shared: &Shared<N>,
+    producers: &mut Vec<Producer<N>>,
+    offers: &[Offer],
+) {
+    for (i, at, id, payload, want) in offers {
+        let producer = producers.get_mut(*i).expect(rt, "a producer");
+        let answer = shared.offer(rt, producer, moment(*at), *id, payload);
+        assert_same(rt, (*i, *at, answer), (*i, *at, Ok(*want)));
+    }
+}
+
+/// The first stream's offers make three packets, of which the third overwrites the first, and the second stream's make one.
+/// The first stream's last offer is at an earlier moment than the one before it.
+const OFFERS: [Offer; 8] = [
+    (0, 5, 7, &[0x62; 64], Offered::Stored { serial: 0, seq: 0 }),
+    (0, 9, 8, &[0x63; 64], Offered::Stored { serial: 1, seq: 0 }),
+    (1, 30, 21, b"second", Offered::Stored { serial: 0, seq: 0 }),
     (
-        5,
+        0,
+        12,
+        9,
+        &[0x64; 100],
+        Offered::Stored { serial: 2, seq: 1 },
+    ),
+    (
+        0,
+        15,
+        10,
+        &[0x65; 28],
+        Offered::Stored { serial: 3, seq: 1 },
+    ),
+    (
+        0,
+        20,
+        11,
+        b"abc",
         Offered::StoredOver {
             serial: 4,
             seq: 2,
@@ -68,29 +197,142 @@ const OFFERS: [(u64, Offered); 6] = [
             gone_count: 2,
         },
     ),
-    (6, Offered::Stored { serial: 5, seq: 2 }),
+    (0, 18, 12, b"", Offered::Stored { serial: 5, seq: 2 }),
+    (
+        1,
+        40,
+        22,
+        b"of the second",
+        Offered::Stored { serial: 1, seq: 0 },
+    ),
 ];
 
-/// Six offers, of which the first two are overwritten, and snapshots with the producer and without it; then a seventh.
+/// What is shown after these offers: a closed packet of the first stream ends with the offer that closed it, and an open one at
+/// the moment that the snapshot stores or at its stream's last one, whichever is later.
+const AFTER_OFFERS: Stage = Stage {
+    streams: [
+        StreamShown {
+            offered: 6,
+            packets: &[
+                PacketShown {
+                    seq: 1,
+                    begin: 12,
+                    end: Some(20),
+                    records: &[(2, 12, 9, &[0x64; 100]), (3, 15, 10, &[0x65; 28])],
+                },
+                PacketShown {
+                    seq: 2,
+                    begin: 20,
+                    end: None,
+                    records: &[(4, 20, 11, b"abc"), (5, 20, 12, b"")],
+                },
+            ],
+        },
+        StreamShown {
+            offered: 2,
+            packets: &[PacketShown {
+                seq: 0,
+                begin: 30,
+                end: None,
+                records: &[(0, 30, 21, b"second"), (1, 40, 22, b"of the second")],
+            }],
+        },
+        StreamShown {
+            offered: 0,
+            packets: &[],
+        },
+    ],
+    looks: &[
+        (None, 10, 10, [20, 40, 0]),
+        (Some(1), 10, 10, [20, 40, 0]),
+        (Some(0), 25, 25, [25, 40, 0]),
+        (None, 3, 25, [25, 40, 0]),
+        (None, 50, 50, [50, 50, 0]),
+        (Some(1), 3, 50, [50, 50, 0]),
+        (Some(2), 3, 50, [50, 50, 0]),
+    ],
+};
+
+/// The first stream's offer begins a packet that overwrites the oldest one, and the third stream's is its first.
+const LATER_OFFERS: [Offer; 2] = [
+    (
+        0,
+        45,
+        13,
+        &[0x66; 110],
+        Offered::StoredOver {
+            serial: 6,
+            seq: 3,
+            gone_seq: 1,
+            gone_count: 2,
+        },
+    ),
+    (2, 90, 31, b"third", Offered::Stored { serial: 0, seq: 0 }),
+];
+
+const AFTER_LATER_OFFERS: Stage = Stage {
+    streams: [
+        StreamShown {
+            offered: 7,
+            packets: &[
+                PacketShown {
+                    seq: 2,
+                    begin: 20,
+                    end: Some(45),
+                    records: &[(4, 20, 11, b"abc"), (5, 20, 12, b"")],
+                },
+                PacketShown {
+                    seq: 3,
+                    begin: 45,
+                    end: None,
+                    records: &[(6, 45, 13, &[0x66; 110])],
+                },
+            ],
+        },
+        StreamShown {
+            offered: 2,
+            packets: &[PacketShown {
+                seq: 0,
+                begin: 30,
+                end: None,
+                records: &[(0, 30, 21, b"second"), (1, 40, 22, b"of the second")],
+            }],
+        },
+        StreamShown {
+            offered: 1,
+            packets: &[PacketShown {
+                seq: 0,
+                begin: 90,
+                end: None,
+                records: &[(0, 90, 31, b"third")],
+            }],
+        },
+    ],
+    looks: &[
+        (Some(0), 3, 50, [50, 50, 90]),
+        (None, 3, 50, [50, 50, 90]),
+        (Some(1), 70, 70, [70, 70, 90]),
+        (Some(2), 60, 70, [70, 70, 90]),
+        (None, 100, 100, [100, 100, 100]),
+        (Some(0), 0, 100, [100, 100, 100]),
+    ],
+};
+
+/// Offers to three streams and snapshots of them, and then more of both: no snapshot goes back in time, and none changes what
+/// is offered after it.
 fn shows<N: Names>(rt: &(impl Abort + Wait), plan: Plan)
     requires { plan ≡ N.plan }
 {
     let (shared, mut producers) = built::<N>(rt, plan);
-    let mut producer = last(rt, &mut producers);
-    assert_refused(
-        rt,
-        shared.snapshot(rt, moment(5)),
-        SessionFault::NeverStarted,
-    );
+    let never = SessionFault::NeverStarted;
+    assert_refused(rt, shared.snapshot(rt, moment(5)), never);
     assert_started(rt, &shared, 0, Ok(()));
-    for (at, want) in &OFFERS {
-        assert_offered(rt, &shared, &mut producer, *at, 64, Ok(*want));
-    }
-    let packets = [(1, 2, 2, 3), (2, 2, 4, 5)];
-    for _ in 0..2 {
-        assert_shots(rt, &shared, &mut producer, (10, 10), 6, &packets);
-    }
-    assert_seventh(rt, &shared, &mut producer);
+    assert_offers(rt, &shared, &mut producers, &OFFERS);
+    assert_stage(rt, &shared, &mut producers, &AFTER_OFFERS);
+    assert_offers(rt, &shared, &mut producers, &LATER_OFFERS);
+    assert_stage(rt, &shared, &mut producers, &AFTER_LATER_OFFERS);
+    let first = producers.first().expect(rt, "a producer");
+    assert_same(rt, (first.offered(), first.overwritten()), (7, 4));
 }
 
 /// Asserts that a snapshot is refused for this reason.
@@ -98,43 +340,8 @@ fn assert_refused(rt: &impl Abort, snapshot: Result<Snapshot, SessionFault>, wan
     assert_same(rt, snapshot.err(), Some(want));
 }
 
-/// Asserts what snapshots show that are asked for at the first moment, with the producer and without it, and are of the
-/// second one.
-fn assert_shots<N: Names>(
-    rt: &(impl Abort + Wait),
-    shared: &Shared<N>,
-    producer: &mut Producer<N>,
-    (asked, at): (u64, u64),
-    offered: u64,
-    packets: &[(u64, usize, u64, u64)],
-) {
-    let beside = shared.snapshot_with(rt, producer, moment(asked));
-    assert_shown(rt, beside, at, offered, packets);
-    let alone = shared.snapshot(rt, moment(asked));
-    assert_shown(rt, alone, at, offered, packets);
-}
-
-/// The seventh record begins a sub-buffer, and overwrites the oldest packet; a snapshot never goes back in time.
-fn assert_seventh<N: Names>(
-    rt: &(impl Abort + Wait),
-    shared: &Shared<N>,
-    producer: &mut Producer<N>,
-) {
-    let over = Offered::StoredOver {
-        serial: 6,
-        seq: 3,
-        gone_seq: 1,
-        gone_count: 2,
-    };
-    assert_offered(rt, shared, producer, 11, 64, Ok(over));
-    let packets = [(2, 2, 4, 5), (3, 1, 6, 6)];
-    assert_shots(rt, shared, producer, (12, 12), 7, &packets);
-    assert_shots(rt, shared, producer, (3, 12), 7, &packets);
-    assert_same(rt, (producer.offered(), producer.overwritten()), (7, 4));
-}
-
 #[test]
-fn a_snapshot_shows_what_the_ring_holds(rt: HostRuntime) {
+fn a_snapshot_shows_what_the_rings_hold(rt: HostRuntime) {
     shows::<Brand>(&rt, snapshot_plan(&rt, rt.alloc()));
 }
 
