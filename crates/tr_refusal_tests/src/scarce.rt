@@ -12,6 +12,11 @@ pub(crate) fn new_heap(plain: Global) -> Result<LocalHeap, AllocError> {
     LocalHeap::new(plain, 262_144)
 }
 
+/// A heap for two sessions of four streams, which is filled in a quarter of the time.
+pub(crate) fn small_heap(plain: Global) -> Result<LocalHeap, AllocError> {
+    LocalHeap::new(plain, 65_536)
+}
+
 /// Blocks that fill a heap but for this many bytes, which lie in one piece, until they are dropped.
 pub(crate) fn fill_all_but<'h>(
     plain: Global,

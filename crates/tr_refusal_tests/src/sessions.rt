@@ -3,6 +3,7 @@
 mod alike;
 mod free;
 mod rotations;
+mod shared;
 mod single;
 
 use crate::scarce::{UNIT, new_heap};
@@ -66,6 +67,10 @@ enum Asked {
     Snapshot,
     /// A look at a stream at moment 100.
     Look(u64),
+    /// A snapshot at moment 100, to which the producer of a stream is lent if threads share the session.
+    SnapshotWith(u64),
+    /// A drainer, if threads share the session.
+    Drainer,
 }
 
 /// An archive's number, its begin and its end.
@@ -254,7 +259,8 @@ fn ask<A: Allocator + Copy>(rt: &impl Abort, session: &mut Session<A>, asked: As
         Asked::Next => Told::Next(session.rotate_next()),
         Asked::Rotate => Told::Archived(rotate(session), cuts_made(session)),
         Asked::Tick => Told::Ticked(tick(session), cuts_made(session)),
-        Asked::Snapshot => Told::Shown(snapshot(session, moment(100))),
+        Asked::Snapshot | Asked::SnapshotWith(_) => Told::Shown(snapshot(session, moment(100))),
+        Asked::Drainer => Told::Done(Ok(())),
         Asked::Look(i) => Told::Shown(look(session, i, moment(100))),
     }
 }
@@ -318,11 +324,7 @@ impl<A: Allocator + Copy> Call<A> for Row {
             return again;
         }
         assert_same(rt, again, self.held_up(cuts));
-        let chunk = go_on(rt, object);
-        match self.asked {
-            Asked::Tick => Told::Ticked(Ok(Some((Cause::Size, chunk))), None),
-            _ => Told::Archived(Ok(chunk), None),
-        }
+        self.gone_on(go_on(rt, object))
     }
 }
 
@@ -332,6 +334,14 @@ impl Row {
         match self.asked {
             Asked::Tick => Told::Ticked(Ok(None), cuts),
             _ => Told::Archived(Err(SessionFault::RotationPending), cuts),
+        }
+    }
+
+    /// What the call would have answered whose rotation went on after all, and made this archive.
+    fn gone_on(&self, chunk: Chunk) -> Told {
+        match self.asked {
+            Asked::Tick => Told::Ticked(Ok(Some((Cause::Size, chunk))), None),
+            _ => Told::Archived(Ok(chunk), None),
         }
     }
 }

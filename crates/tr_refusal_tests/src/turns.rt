@@ -7,7 +7,7 @@ use std::fmt::Debug;
 use std::process::Abort;
 
 /// No call of these tests is made more often.
-const MOST: usize = 10_000;
+pub(crate) const MOST: usize = 10_000;
 
 /// Compares what a test found with what it expects. As a call without clauses it keeps the proofs of the tests short.
 pub(crate) fn assert_same<T: PartialEq + Debug + Drop>(rt: &impl Abort, found: T, expected: T) {
@@ -82,6 +82,49 @@ fn make_with<'h, C: Call<&'h LocalHeap>>(
     answer
 }
 
+/// The answers of a call that gets more and more memory: the last one, and how many refusals came so far.
+#[derive(Drop)]
+pub(crate) struct Turns<T: Drop> {
+    last: Option<T>,
+    seen: usize,
+}
+
+impl<T: PartialEq + Debug + Copy + Drop> Turns<T> {
+    /// No answer yet.
+    pub(crate) fn new() -> Turns<T> {
+        Turns {
+            last: None,
+            seen: 0,
+        }
+    }
+
+    /// The number of the next refusal.
+    pub(crate) fn seen(&self) -> usize {
+        self.seen
+    }
+
+    /// Asserts that an answer is as the one before it or the next refusal, or what is granted if there is no next refusal.
+    /// Whether it is granted.
+    pub(crate) fn is_last(
+        &mut self,
+        rt: &impl Abort,
+        bytes: usize,
+        answer: T,
+        (granted, next): (T, Option<T>),
+    ) -> bool {
+        if answer == granted {
+            assert_at(rt, bytes, None, next);
+            return true;
+        }
+        if self.last != Some(answer) {
+            assert_at(rt, bytes, Some(answer), next);
+            self.last = Some(answer);
+            self.seen = self.seen.wrapping_add(1);
+        }
+        false
+    }
+}
+
 /// Makes a call with no free byte, and then with `step` bytes more each time, until it isn't refused. Asserts that its refusals
 /// come in their order, and that none is missing. How often it was refused.
 pub(crate) fn refuse_each<'h, C: Call<&'h LocalHeap>>(
@@ -92,18 +135,13 @@ pub(crate) fn refuse_each<'h, C: Call<&'h LocalHeap>>(
     call: &C,
 ) -> usize {
     let granted = call.granted(rt);
-    let (mut last, mut seen) = (None, 0usize);
+    let mut turns = Turns::new();
     for times in 0..MOST {
         let bytes = times.wrapping_mul(step);
         let answer = make_with(rt, plain, heap, call, bytes);
-        if answer == granted {
-            assert_at(rt, bytes, None, call.refusal(seen));
+        let next = call.refusal(turns.seen());
+        if turns.is_last(rt, bytes, answer, (granted, next)) {
             return times;
-        }
-        if last != Some(answer) {
-            assert_at(rt, bytes, Some(answer), call.refusal(seen));
-            last = Some(answer);
-            seen = seen.wrapping_add(1);
         }
     }
     panic!(rt; "no end of refusals")

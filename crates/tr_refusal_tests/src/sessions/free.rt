@@ -10,7 +10,7 @@ use tr_session::Session;
 use tr_terms::SessionMode;
 
 /// Steps with memory, and then some that take none.
-const FREE: [(&[Step], &[Step]); 3] = [
+pub(super) const FREE: [(&[Step], &[Step]); 3] = [
     (&[], &[Step::Schedule(1), Step::Start, Step::Stop]),
     (
         &[Step::Channel("c"), Step::Threads("c", 2)],
@@ -36,7 +36,7 @@ const FREE: [(&[Step], &[Step]); 3] = [
 ];
 
 /// A session that is made, and makes the later steps, with no free byte or with memory.
-fn freely<'h>(
+pub(super) fn freely<'h>(
     rt: &impl Abort,
     plain: Global,
     heap: &'h LocalHeap,

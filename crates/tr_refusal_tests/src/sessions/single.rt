@@ -45,7 +45,7 @@ const ADDING: [Row; 4] = [
 ];
 
 /// The same, with a rotation that has begun.
-const BEGUN: [Step; 6] = [
+pub(super) const BEGUN: [Step; 6] = [
     Step::Channel("c"),
     Step::Threads("c", 3),
     Step::Start,
