@@ -20,7 +20,7 @@ pub trait Intake {
     // what an offer of a record may answer, by its moment, its id and its payload, and make of the seat
     ghost offers: { Self → Self.Seat → ℕ → ℕ → List ℕ → Result Offered OfferFault → Self.Seat → Type 0 };
 
-    /// Offers a record.
+    /// Offers a record with this seat: when its event happened, the kind of the event, and its bytes.
     ///
     /// # Errors
     ///
