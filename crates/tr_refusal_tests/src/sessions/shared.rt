@@ -94,6 +94,18 @@ fn work<'h, N: Names>(
     }
 }
 
+/// The same of a session that is planned for it.
+fn work_anew<'h>(
+    rt: &(impl Abort + Wait),
+    plain: Global,
+    heap: &'h LocalHeap,
+    row: &Row,
+    memory: Memory,
+) -> Worked<&'h LocalHeap> {
+    let plan = planned(rt, heap, row.mode, row.steps);
+    work::<Brand>(rt, plain, heap, row, memory, plan)
+}
+
 /// The same answer, with the cuts that a rotation has made that is held up.
 fn with_cuts(told: Told, cuts: Option<u64>) -> Told {
     match told {
@@ -164,8 +176,7 @@ fn make_case<'h>(
     bytes: usize,
 ) -> Told {
     let row = case.row;
-    let plan = planned(rt, heap, row.mode, row.steps);
-    let worked = work::<Brand>(rt, plain, heap, row, (bytes, None), plan);
+    let worked = work_anew(rt, plain, heap, row, (bytes, None));
     let told = worked.told;
     let mut like = row.object(rt, heap);
     if told == row.granted {
@@ -176,8 +187,7 @@ fn make_case<'h>(
     leave(rt, row, told, &mut like);
     case.assert_stands(rt, &worked, &like);
     drop(worked);
-    let plan = planned(rt, heap, row.mode, row.steps);
-    let worked = work::<Brand>(rt, plain, heap, row, (bytes, Some(told)), plan);
+    let worked = work_anew(rt, plain, heap, row, (bytes, Some(told)));
     assert_same(rt, worked.told, row.granted);
     assert_same(rt, row.make_again(rt, told, &mut like), row.granted);
     case.assert_stands(rt, &worked, &like);
