@@ -1,7 +1,8 @@
 //! The command line of each command, and of all of them.
 
-ghost use Rattle.std.specs.Prelude.{◌≡◌, IfOk, false};
-ghost use Rattle.clap.specs.Words.{app_of};
+ghost use Rattle.std.specs.Prelude.{◌≡◌, IfOk, Ok, false};
+ghost use Rattle.clap.specs.Words.{app_of, with_subcommand};
+ghost use Rattle.clap.specs.declared.builder.command.Command.{Command};
 ghost use Rattle.clap.specs.declared.builder.command.Command.TheViews.{out-Command as fields_of};
 ghost use Rattle.tr_command.specs.CommandLine.{activity_app, archives_app, channel_app, channel_head, channel_sizes, consume_app, create_app, create_head, create_offset, fate_app, layout_app, moment_app, offer_app, offer_head, rotate_app, rotate_begin_app, rotate_finish_app, rotate_next_app, rotation_app, rotation_steps_app, running_app, schedule_app, schedules_app, script_app, session_app, snapshot_app, snapshots_app, start_app, status_app, stop_app, stream_app, thread_app, tick_app};
 
@@ -219,73 +220,78 @@ pub fn archives_command<'a>(alloc: Global) -> Result<Command<'a>, AllocError>
     of_session(alloc, "archives")
 }
 
+/// A command with one more below it, if both were made.
+fn joined<'a>(
+    command: Result<Command<'a>, AllocError>,
+    below: Result<Command<'a>, AllocError>,
+) -> Result<Command<'a>, AllocError>
+    ensures { IfOk result (λ r. (c : Command) × (b : Command) × (command.entry ≡ Ok c) × (below.entry ≡ Ok b)
+        × ((fields_of b).has_globals ≡ false → app_of r ≡ with_subcommand (app_of c) (app_of b).top)) }
+{
+    command?.subcommand(below?)
+}
+
 /// The commands that lay a session out.
 fn layout_command<'a>(alloc: Global) -> Result<Command<'a>, AllocError>
     ensures { IfOk result (λ c. app_of c ≡ layout_app) }
 {
-    Command::new(alloc, "tracerd")
-        .subcommand(create_command(alloc)?)?
-        .subcommand(channel_command(alloc)?)?
-        .subcommand(thread_command(alloc)?)
+    let command = joined(Ok(Command::new(alloc, "tracerd")), create_command(alloc));
+    let command = joined(command, channel_command(alloc));
+    joined(command, thread_command(alloc))
 }
 
 /// And those that start and stop it.
 fn activity_command<'a>(alloc: Global) -> Result<Command<'a>, AllocError>
     ensures { IfOk result (λ c. app_of c ≡ activity_app) }
 {
-    layout_command(alloc)?
-        .subcommand(start_command(alloc)?)?
-        .subcommand(stop_command(alloc)?)
+    let command = joined(layout_command(alloc), start_command(alloc));
+    joined(command, stop_command(alloc))
 }
 
 /// And those for its streams while it runs.
 fn running_command<'a>(alloc: Global) -> Result<Command<'a>, AllocError>
     ensures { IfOk result (λ c. app_of c ≡ running_app) }
 {
-    activity_command(alloc)?
-        .subcommand(offer_command(alloc)?)?
-        .subcommand(consume_command(alloc)?)
+    let command = joined(activity_command(alloc), offer_command(alloc));
+    joined(command, consume_command(alloc))
 }
 
 /// And the steps of a rotation.
 fn rotation_steps_command<'a>(alloc: Global) -> Result<Command<'a>, AllocError>
     ensures { IfOk result (λ c. app_of c ≡ rotation_steps_app) }
 {
-    running_command(alloc)?
-        .subcommand(rotate_begin_command(alloc)?)?
-        .subcommand(rotate_next_command(alloc)?)?
-        .subcommand(rotate_finish_command(alloc)?)
+    let command = joined(running_command(alloc), rotate_begin_command(alloc));
+    let command = joined(command, rotate_next_command(alloc));
+    joined(command, rotate_finish_command(alloc))
 }
 
 /// And a rotation in all its steps at once.
 fn rotation_command<'a>(alloc: Global) -> Result<Command<'a>, AllocError>
     ensures { IfOk result (λ c. app_of c ≡ rotation_app) }
 {
-    rotation_steps_command(alloc)?.subcommand(rotate_command(alloc)?)
+    joined(rotation_steps_command(alloc), rotate_command(alloc))
 }
 
 /// And snapshots.
 fn snapshots_command<'a>(alloc: Global) -> Result<Command<'a>, AllocError>
     ensures { IfOk result (λ c. app_of c ≡ snapshots_app) }
 {
-    rotation_command(alloc)?.subcommand(snapshot_command(alloc)?)
+    joined(rotation_command(alloc), snapshot_command(alloc))
 }
 
 /// And rotations by a schedule.
 fn schedules_command<'a>(alloc: Global) -> Result<Command<'a>, AllocError>
     ensures { IfOk result (λ c. app_of c ≡ schedules_app) }
 {
-    snapshots_command(alloc)?
-        .subcommand(schedule_command(alloc)?)?
-        .subcommand(tick_command(alloc)?)
+    let command = joined(snapshots_command(alloc), schedule_command(alloc));
+    joined(command, tick_command(alloc))
 }
 
 /// The whole command line of a script's line: all these, and the commands that ask.
 pub fn script_command<'a>(alloc: Global) -> Result<Command<'a>, AllocError>
     ensures { IfOk result (λ c. app_of c ≡ script_app) }
 {
-    schedules_command(alloc)?
-        .subcommand(fate_command(alloc)?)?
-        .subcommand(status_command(alloc)?)?
-        .subcommand(archives_command(alloc)?)
+    let command = joined(schedules_command(alloc), fate_command(alloc));
+    let command = joined(command, status_command(alloc));
+    joined(command, archives_command(alloc))
 }

@@ -46,6 +46,8 @@ impl<'a, R: Clock> Gate for Rounds<'a, R> {
                 return false;
             }
             pace.rest(self.clock);
+        } else {
+            pace.begin();
         }
         if self.ended.load(Ordering::SeqCst) {
             pace.end();

@@ -5,7 +5,7 @@ ghost use Rattle.tr_pool.specs.Feeding.{IsFed, IsOffered};
 
 use crate::gate::Rounds;
 use crate::loaded::LoadFault;
-use crate::pace::Pace;
+use crate::pace::{Pace, await_begun};
 use crate::target::Watched;
 use std::alloc::Global;
 use std::sync::Wait;
@@ -63,6 +63,8 @@ pub(crate) fn feed_and_drain<N: Names + Send + Sync, R: Threads + Wait + Clock +
         paces,
         ended: &ended,
     };
+    // a worker without a stream never begins
+    let busy = &paces[..paces.len().min(shared.streams())];
     // the feeders are last here, since a thread that can't be made has its work done after theirs
     let (drained, fed) = thread::join(
         rt,
@@ -74,7 +76,10 @@ pub(crate) fn feed_and_drain<N: Names + Send + Sync, R: Threads + Wait + Clock +
                 (λ back. (i : ℕ) (p : _) (w : _) (b : _) → i < vec_len producers
                 → IsFed IsOffered (slice_index_or producers.items i p) (slice_index_or works.items i w).items
                 (slice_index_or back.items i b).producer (slice_index_or back.items i b).log.items) }
-        { feed_to_the_end(rt, alloc, shared, producers, works, &ended) },
+        {
+            await_begun(rt, busy);
+            feed_to_the_end(rt, alloc, shared, producers, works, &ended)
+        },
     );
     match (drained, fed) {
         (Ok(drained), Some(fed)) => Ok((drained, fed)),

@@ -86,7 +86,8 @@ impl<N: Names, A: Allocator + Copy> Shared<N, A> {
     /// Those of `rotate_begin`: nothing changed. `NoMemory` or `Misplaced` once it has begun: it is pending with the cuts that
     /// were made, and `rotate_next` goes on. `NotPending` or `CutMissing` if another operator's steps came between.
     pub fn rotate(&self, rt: &impl Wait, moment: Moment) -> Result<Archive, SessionFault>
-        ensures { IfErr result IsRotateFault }
+        ensures mode { (result ≡ Err SessionFault.SnapshotMode) ↔ (N.plan.session.book.mode ≡ SessionMode.Snapshot) }
+        ensures refused { IfErr result IsRotateFault }
     {
         self.rotate_begin(rt, moment)?;
         self.rotate_on(rt)
