@@ -41,18 +41,19 @@ fn work(feeder: u32, records: u64) -> Vec<Item> {
     (0..records as u32).map(item).collect()
 }
 
-/// Offers the work, and gives back what was accepted.
-fn feed(shared: &Shared, producer: &mut Producer, work: Vec<Item>) -> Vec<Item> {
+/// Offers the work, and gives the producer back with what was accepted. The producer lies in the feeder's own memory: counts
+/// beside those of another thread would slow both.
+fn feed(shared: &Shared, mut producer: Producer, work: Vec<Item>) -> (Producer, Vec<Item>) {
     let mut log = Vec::with_capacity(work.len());
     for item in work {
         if shared
-            .offer(producer, item.moment, item.id, &item.payload)
+            .offer(&mut producer, item.moment, item.id, &item.payload)
             .is_ok()
         {
             log.push(item);
         }
     }
-    log
+    (producer, log)
 }
 
 /// Takes from every so many streams, in rounds.
@@ -113,25 +114,25 @@ fn load(threads: usize, records: u64, workers: usize) -> (Vec<Stream>, Vec<Vec<I
         stream,
         counts: Counts::default(),
     };
-    let mut producers: Vec<Producer> = (0..threads).map(producer).collect();
+    let producers: Vec<Producer> = (0..threads).map(producer).collect();
     let works: Vec<Vec<Item>> = (0..threads as u32).map(|it| work(it, records)).collect();
     let ended = AtomicBool::new(false);
-    let logs = thread::scope(|scope| {
+    let (producers, logs): (Vec<_>, Vec<_>) = thread::scope(|scope| {
         let (shared, ended) = (&shared, &ended);
         for worker in 0..workers {
             scope.spawn(move || drain(shared, worker, workers, ended));
         }
         let feeders: Vec<_> = producers
-            .iter_mut()
+            .into_iter()
             .zip(works)
             .map(|(producer, work)| scope.spawn(move || feed(shared, producer, work)))
             .collect();
-        let logs = feeders
+        let fed = feeders
             .into_iter()
-            .map(|it| it.join().expect("no thread panics"));
-        let logs = logs.collect();
+            .map(|it| it.join().expect("no thread panics"))
+            .unzip();
         ended.store(true, Ordering::SeqCst);
-        logs
+        fed
     });
     for stream in &shared.streams {
         stream.lock().expect("no thread panics").cut(records);
