@@ -1,7 +1,7 @@
 //! A session before its first call, with the books of its streams.
 
 ghost use Rattle.std.specs.Prelude.{◌≡◌, ◌≤◌, ℕ, Some, IfErr, IfOk, length, slice_get, vec_capacity, vec_len};
-ghost use Rattle.tr_seats.specs.Plans.{opened_of, planned_state, no_totals};
+ghost use Rattle.tr_seats.specs.Plans.{IsOpened, opened_of, planned_state, no_totals};
 ghost use Rattle.tr_seats.specs.Slots.{AreNew};
 ghost use Rattle.tr_seats.specs.Sums.{totals_in};
 
@@ -45,6 +45,20 @@ impl<A: Allocator> Model for PlannedStream<A> {
         × IsOpened p.cuts.0 p.cuts.1 };
 }
 
+/// Three books in which nothing is, with their whole seats.
+fn three_books<A: Allocator + Copy>(
+    alloc: A,
+) -> Result<((Ledger<A>, Seat), (Ledger<A>, Seat), (Ledger<A>, Seat)), AllocError>
+    ensures { IfOk result
+        (λ b. IsOpened b.0.0 b.0.1 × IsOpened b.1.0 b.1.1 × IsOpened b.2.0 b.2.1) }
+{
+    Ok((
+        Ledger::open(alloc)?,
+        Ledger::open(alloc)?,
+        Ledger::open(alloc)?,
+    ))
+}
+
 impl<A: Allocator> PlannedStream<A> {
     /// Opens the books of a stream on which nothing was done.
     pub(crate) fn open(alloc: A, stream: Stream<A>) -> Result<PlannedStream<A>, AllocError>
@@ -53,14 +67,16 @@ impl<A: Allocator> PlannedStream<A> {
         requires { totals_in stream ≡ no_totals }
         ensures { IfOk result (λ p. p.stream ≡ stream) }
     {
+        let (offered, discarded, overwritten) = three_books(alloc)?;
+        let (overwritten_packets, consumed, cuts) = three_books(alloc)?;
         Ok(PlannedStream {
             stream,
-            offered: Ledger::open(alloc)?,
-            discarded: Ledger::open(alloc)?,
-            overwritten: Ledger::open(alloc)?,
-            overwritten_packets: Ledger::open(alloc)?,
-            consumed: Ledger::open(alloc)?,
-            cuts: Ledger::open(alloc)?,
+            offered,
+            discarded,
+            overwritten,
+            overwritten_packets,
+            consumed,
+            cuts,
         })
     }
 }
