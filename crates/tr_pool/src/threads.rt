@@ -9,7 +9,7 @@ use crate::pool_fault::{PoolError, PoolFault};
 use crate::work::Work;
 use std::alloc::Global;
 use std::snapshot::Snapshot;
-use std::sync::{Mutex, Wait};
+use std::sync::{RwLock, Wait};
 use std::thread;
 use std::thread::{Promise, PromisedHandle, Threads};
 
@@ -37,14 +37,14 @@ impl<W: Work> Promise<Ended<W::Seat>> for Task<W> {
 /// Waits for the word, and works if it is given; else the seat comes back as it was.
 fn begin<W: Work, R: Wait>(
     rt: &R,
-    word: &Mutex<bool>,
+    word: &RwLock<bool>,
     work: &W,
     worker: usize,
     seat: W::Seat,
 ) -> Ended<W::Seat>
     ensures { DidIfBegun (W.did work.now worker) result.began seat result.seat }
 {
-    let began = *word.lock(rt);
+    let began = *word.read(rt);
     let seat = if began {
         work.run(rt, worker, seat)
     } else {
@@ -98,7 +98,7 @@ where
             seats,
         });
     };
-    let word = Mutex::new(false);
+    let word = RwLock::new(false);
     let word = &word;
     thread::scope(
         thread::scope_env(),
@@ -111,7 +111,7 @@ where
                 (λ f. EachCame (λ worker. IsKeptOr (W.did work.entry.now worker)) seats.items f.seats.items) }
             ensures memory { IfErr result (λ f. f.fault ≡ PoolError.NoThread) }
         {
-            let mut said = word.lock(rt);
+            let mut said = word.write(rt);
             'starting: while let Some(seat) = seats.pop() {
                 let worker = seats.len();
                 let task = Task {
