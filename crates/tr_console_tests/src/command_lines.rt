@@ -8,15 +8,10 @@ mod rotation;
 mod running;
 mod schedules;
 
+use crate::asserting::assert_same;
 use std::alloc::Global;
-use std::fmt::Debug;
 use std::process::Abort;
 use tr_command::{Request, parse};
-
-/// Compares what a test found with what it expects. As a call without clauses it keeps the proofs of the tests short.
-fn assert_same<T: PartialEq + Debug + Drop>(rt: &impl Abort, found: T, expected: T) {
-    assert_eq!(rt; found, expected);
-}
 
 /// The program's name and the words of the line, and how many they are.
 fn words_of<'a>(rt: &impl Abort, line: &'a str) -> ([&'a str; 16], usize) {

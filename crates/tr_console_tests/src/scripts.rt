@@ -8,16 +8,11 @@ mod schedules;
 mod sessions;
 mod snapshots;
 
+use crate::asserting::assert_same;
 use std::alloc::{Allocator, Global};
-use std::fmt::Debug;
 use std::process::Abort;
 use tr_console::{ScriptFault, run_script, run_text};
 use tr_record::{ByteSink, ByteSource, MemorySink, MemorySource};
-
-/// Compares what a test found with what it expects. As a call without clauses it keeps the proofs of the tests short.
-fn assert_same<T: PartialEq + Debug + Drop>(rt: &impl Abort, found: T, expected: T) {
-    assert_eq!(rt; found, expected);
-}
 
 /// A session with one stream, started.
 const OPENING: &str = "create s 00000000-0000-0000-0000-000000000001

@@ -4,9 +4,10 @@ mod archive_names;
 mod damage;
 mod readers;
 
+use crate::asserting::assert_same;
 use crate::packing::put_in_part;
 use std::alloc::Global;
-use std::fmt::{Debug, Display};
+use std::fmt::Display;
 use std::process::Abort;
 use tr_book::Parts;
 use tr_chunk::{
@@ -18,11 +19,6 @@ use tr_record::{MemorySink, Rec, WriterSink};
 use tr_terms::Name;
 use tr_testing::{FailsAfter, moment};
 use uuid::Uuid;
-
-/// Compares what a test found with what it expects. As a call without clauses it keeps the proofs of the tests short.
-fn assert_same<T: PartialEq + Debug + Drop>(rt: &impl Abort, found: T, expected: T) {
-    assert_eq!(rt; found, expected);
-}
 
 /// The identifier 1.
 const TRACE: [u8; 16] = [0, 0, 0, 0, 0, 0, 0, 0, 0, 0, 0, 0, 0, 0, 0, 1];

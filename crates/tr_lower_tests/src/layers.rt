@@ -15,18 +15,13 @@ mod streams;
 mod sub_buffers;
 mod words;
 
+use crate::asserting::assert_same;
 use std::alloc::Global;
-use std::fmt::Debug;
 use std::process::Abort;
 use tr_packet::{Head, Packet, Packets};
 use tr_record::{Rec, RecView};
 use tr_testing::moment;
 use uuid::Uuid;
-
-/// Compares what a test found with what it expects. As a call without clauses it keeps the proofs of the tests short.
-fn assert_same<T: PartialEq + Debug + Drop>(rt: &impl Abort, found: T, expected: T) {
-    assert_eq!(rt; found, expected);
-}
 
 /// Asserts a record's serial, its moment, its id and its payload.
 fn assert_record(rt: &impl Abort, record: Option<RecView<'_>>, wanted: (u64, u64, u32, &[u8])) {

@@ -1,8 +1,8 @@
 //! Worked examples of the packet format, what makes no packet, and damaged bytes.
 
+use crate::asserting::assert_same;
 use crate::packing::put;
 use std::alloc::Global;
-use std::fmt::Debug;
 use std::process::Abort;
 use tr_packet::{
     Head, Packet, PacketFault, PacketTexts, PacketView, Packets, decode_packet, encode_packet,
@@ -10,11 +10,6 @@ use tr_packet::{
 use tr_record::Rec;
 use tr_testing::moment;
 use uuid::Uuid;
-
-/// Compares what a test found with what it expects. As a call without clauses it keeps the proofs of the tests short.
-fn assert_same<T: PartialEq + Debug + Drop>(rt: &impl Abort, found: T, expected: T) {
-    assert_eq!(rt; found, expected);
-}
 
 /// A packet of one record, as it is written: the trace 1, stream 0, closed at moment 9, number 0, nothing discarded, and the
 /// record of id 7, moment 1 and serial 0 with the payload `A`.

@@ -6,8 +6,8 @@ mod memory;
 mod rings;
 mod runs;
 
+use crate::asserting::{Place, assert_at, assert_same};
 use std::alloc::{Allocator, Global};
-use std::fmt::Debug;
 use std::process::Abort;
 use tr_book::{Counts, Geometry, Mode, StreamSnap};
 use tr_packet::{Head, PacketView, Packets};
@@ -18,19 +18,6 @@ use tr_stream::{
 };
 use tr_testing::moment;
 use uuid::Uuid;
-
-/// Compares what a test found with what it expects. As a call without clauses it keeps the proofs of the tests short.
-fn assert_same<T: PartialEq + Debug + Drop>(rt: &impl Abort, found: T, expected: T) {
-    assert_eq!(rt; found, expected);
-}
-
-/// Which step of a test this is: the number of its list, and its place there.
-type Place = (usize, usize);
-
-/// The same, with the step that it is about.
-fn assert_at<T: PartialEq + Debug + Drop>(rt: &impl Abort, place: Place, found: T, expected: T) {
-    assert_eq!(rt; found, expected, "list and step {place:?}");
-}
 
 /// The serial, the moment and the length of a record.
 type Row = (u64, u64, usize);
