@@ -5,10 +5,9 @@ mod exporting;
 mod failing;
 mod loads;
 
+use crate::asserting::assert_same;
 use std::alloc::Global;
-use std::fmt::Debug;
 use std::io;
-use std::process::Abort;
 use std::sync::Wait;
 use std::thread::Threads;
 use std::time::Clock;
@@ -16,11 +15,6 @@ use tr_export::MemoryDisk;
 use tr_folders::MemoryFolders;
 use tr_program::{run, run_given};
 use tr_record::{MemorySink, MemorySource};
-
-/// Compares what a test found with what it expects. As a call without clauses it keeps the proofs of the tests short.
-fn assert_same<T: PartialEq + Debug + Drop>(rt: &impl Abort, found: T, expected: T) {
-    assert_eq!(rt; found, expected);
-}
 
 /// Folders in which nothing stands.
 fn no_folders(alloc: Global) -> MemoryFolders {

@@ -1,6 +1,7 @@
 //! Archives in the file system.
 
 use super::{assert_same, assert_written, rotated, session_of, uuid, write};
+use crate::folders::{make_folder, remove};
 use std::alloc::Global;
 use std::fs;
 use std::os::unix::fs::symlink;
@@ -11,15 +12,6 @@ use tr_testing::free_path;
 
 fn exists(rt: &impl Abort, host: &HostRuntime, path: &str) -> bool {
     fs::exists(host, path).expect(rt, "the file system")
-}
-
-/// Removes a folder with all that is in it.
-fn remove(rt: &impl Abort, host: &HostRuntime, path: &str) {
-    fs::remove_dir_all(host, path).expect(rt, "the file system");
-}
-
-fn make_folder(rt: &impl Abort, host: &HostRuntime, path: &str) {
-    fs::create_dir_all(host, path).expect(rt, "the file system");
 }
 
 fn write_file(rt: &impl Abort, host: &HostRuntime, path: &str, bytes: &[u8]) {

@@ -1,6 +1,7 @@
 //! Surveys of folders in the file system.
 
 use super::{Room, STAMPS, WORKED, assert_same, worked};
+use crate::folders::{make_folder, remove};
 use std::alloc::Global;
 use std::fs;
 use std::os::unix::fs::symlink;
@@ -9,15 +10,6 @@ use tr_folders::HostFolders;
 use tr_record::MemorySink;
 use tr_survey::{SurveyFault, survey};
 use tr_testing::free_path;
-
-/// Removes a folder with all that is in it.
-fn remove(rt: &impl Abort, host: &HostRuntime, path: &str) {
-    fs::remove_dir_all(host, path).expect(rt, "the file system");
-}
-
-fn make_folder(rt: &impl Abort, host: &HostRuntime, path: &str) {
-    fs::create_dir_all(host, path).expect(rt, "the file system");
-}
 
 fn joined(rt: &impl Abort, alloc: Global, folder: &str, path: &str) -> String {
     format!(in alloc; "{folder}/{path}").expect(rt, "memory")

@@ -1,4 +1,4 @@
-use Rattle.tr_load_tests.proofs.feeding.records_of_all_lengths_come_through.Given as goal
+use Rattle.tr_program_tests.proofs.feeding.records_of_all_lengths_come_through.Given as goal
 
 -- the plan that is given names itself
 abbrev pub ghosts-feeds : goal.ghosts-feeds

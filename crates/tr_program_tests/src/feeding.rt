@@ -2,8 +2,8 @@
 
 ghost use Rattle.std.specs.Prelude.{◌≡◌, vec_len};
 
+use crate::asserting::assert_same;
 use std::alloc::Global;
-use std::fmt::Debug;
 use std::marker::Brand;
 use std::process::Abort;
 use std::sync::Wait;
@@ -18,11 +18,6 @@ use tr_stream::Payload;
 use tr_terms::{Mode, Name, OffsetMinutes, SessionMode};
 use tr_testing::moment;
 use uuid::Uuid;
-
-/// Compares what a test found with what it expects. As a call without clauses it keeps the proofs of the tests short.
-pub(crate) fn assert_same<T: PartialEq + Debug + Drop>(rt: &impl Abort, found: T, expected: T) {
-    assert_eq!(rt; found, expected);
-}
 
 /// A plan of this many streams, each with two sub-buffers of this many bytes, in discard mode.
 fn plan_of(rt: &impl Abort, alloc: Global, size: u64, threads: u64) -> Plan {

@@ -5,8 +5,8 @@ mod flushes;
 mod full;
 mod real;
 
+use crate::asserting::assert_same;
 use std::alloc::Global;
-use std::fmt::Debug;
 use std::process::Abort;
 use tr_export::{Disk, ExportFault, Made, MemoryDisk, write_archives};
 use tr_packet::metadata_text;
@@ -14,11 +14,6 @@ use tr_session::Session;
 use tr_terms::{Mode, Name, OffsetMinutes, SessionMode};
 use tr_testing::moment;
 use uuid::Uuid;
-
-/// Compares what a test found with what it expects. As a call without clauses it keeps the proofs of the tests short.
-fn assert_same<T: PartialEq + Debug + Drop>(rt: &impl Abort, found: T, expected: T) {
-    assert_eq!(rt; found, expected);
-}
 
 /// The paths in the archive of a chunk that begins at 0 and ends at 10.
 const FOLDER: &str = "d/s/archives/19700101T000000+0000-19700101T000000+0000-0";

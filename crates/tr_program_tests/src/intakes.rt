@@ -1,6 +1,7 @@
 //! Feeders on an intake that is no session.
 
-use crate::feeding::{assert_same, item, items};
+use crate::asserting::assert_same;
+use crate::feeding::{item, items};
 use std::alloc::Global;
 use std::process::Abort;
 use std::sync::Wait;

@@ -3,8 +3,8 @@
 mod failing;
 mod real;
 
+use crate::asserting::assert_same;
 use std::alloc::Global;
-use std::fmt::Debug;
 use std::process::Abort;
 use tr_folders::MemoryFolders;
 use tr_packet::{Head, Packet, encode_packet, metadata_text};
@@ -15,11 +15,6 @@ use uuid::Uuid;
 
 /// The name of an archive, up to its number.
 const STAMPS: &str = "19700101T000000+0000-19700101T000000+0000-";
-
-/// Compares what a test found with what it expects. As a call without clauses it keeps the proofs of the tests short.
-fn assert_same<T: PartialEq + Debug + Drop>(rt: &impl Abort, found: T, expected: T) {
-    assert_eq!(rt; found, expected);
-}
 
 fn uuid(last: u8) -> Uuid {
     Uuid::from_bytes([0, 0, 0, 0, 0, 0, 0, 0, 0, 0, 0, 0, 0, 0, 0, last])

@@ -1,6 +1,7 @@
 //! Loads that are told to an output and a disk.
 
-use crate::loads::{assert_same, loaded};
+use crate::asserting::assert_same;
+use crate::loads::loaded;
 use std::alloc::Global;
 use std::process::Abort;
 use std::test::*;

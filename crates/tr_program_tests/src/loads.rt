@@ -1,7 +1,7 @@
 //! Loads, and what is said of them.
 
+use crate::asserting::assert_same;
 use std::alloc::Global;
-use std::fmt::Debug;
 use std::process::Abort;
 use std::sync::Wait;
 use std::test::*;
@@ -9,11 +9,6 @@ use std::thread::Threads;
 use std::time::Clock;
 use tr_load::{Loaded, MOST_RECORDS, MOST_WORKERS, load, outcome_text};
 use tr_pool::{Mismatch, Report};
-
-/// Compares what a test found with what it expects. As a call without clauses it keeps the proofs of the tests short.
-pub(crate) fn assert_same<T: PartialEq + Debug + Drop>(rt: &impl Abort, found: T, expected: T) {
-    assert_eq!(rt; found, expected);
-}
 
 /// A load of so many threads with so many records each, and so many workers.
 pub(crate) fn loaded<R: Threads + Wait + Clock + Abort + Sync>(
