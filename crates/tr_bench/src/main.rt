@@ -158,6 +158,52 @@ fn fill(rt: &impl Print, alloc: Global, length: u64, rounds: u64) -> io::Result<
     }
 }
 
+/// Reads packets from the input, and reads them again in so many rounds.
+fn read(
+    rt: &impl Print,
+    alloc: Global,
+    input: impl io::Read + Drop,
+    what: &str,
+    rounds: u64,
+) -> io::Result<ExitCode> {
+    let bytes = bytes_of(alloc, input)?;
+    match what {
+        "decode" => decode(rt, &bytes, rounds),
+        "audit" => audit(rt, alloc, &bytes, Given::Whole, rounds),
+        _ => audit(rt, alloc, &bytes, Given::InFeeds, rounds),
+    }
+}
+
+/// Does what the words behind the program's name ask for.
+fn run(
+    rt: &(impl Print + Wait + CpuClock),
+    alloc: Global,
+    input: impl io::Read + Drop,
+    words: &[&str],
+) -> io::Result<ExitCode> {
+    match words {
+        ["parse"] => parse(rt, alloc, input),
+        [what @ ("offers" | "shared"), case, rounds] => {
+            match (Case::named(case), number(rounds, 1_000_000)) {
+                (Some(case), Some(rounds)) => offer(rt, alloc, what, &case, rounds),
+                _ => Ok(ExitCode::from(2)),
+            }
+        }
+        [what @ ("fill" | "rotate"), length, rounds] => {
+            match (*what, number(length, 4_000), number(rounds, 1_000_000)) {
+                ("fill", Some(length), Some(rounds)) => fill(rt, alloc, length, rounds),
+                ("rotate", Some(length), Some(rounds)) => rotate(rt, alloc, length, rounds),
+                _ => Ok(ExitCode::from(2)),
+            }
+        }
+        [what @ ("decode" | "audit" | "feed"), rounds] => match number(rounds, 1_000_000) {
+            Some(rounds) => read(rt, alloc, input, what, rounds),
+            None => Ok(ExitCode::from(2)),
+        },
+        _ => Ok(ExitCode::from(2)),
+    }
+}
+
 fn main(rt: HostRuntime) -> io::Result<ExitCode> {
     let alloc: Global = rt.alloc();
     let mut given = Vec::new(alloc);
@@ -168,32 +214,5 @@ fn main(rt: HostRuntime) -> io::Result<ExitCode> {
     for word in given.iter().skip(1) {
         words.push(word.as_str())?;
     }
-    match words.as_slice() {
-        ["parse"] => parse(&rt, alloc, rt.reader()),
-        [what @ ("offers" | "shared"), case, rounds] => {
-            match (Case::named(case), number(rounds, 1_000_000)) {
-                (Some(case), Some(rounds)) => offer(&rt, alloc, what, &case, rounds),
-                _ => Ok(ExitCode::from(2)),
-            }
-        }
-        [what @ ("fill" | "rotate"), length, rounds] => {
-            match (*what, number(length, 4_000), number(rounds, 1_000_000)) {
-                ("fill", Some(length), Some(rounds)) => fill(&rt, alloc, length, rounds),
-                ("rotate", Some(length), Some(rounds)) => rotate(&rt, alloc, length, rounds),
-                _ => Ok(ExitCode::from(2)),
-            }
-        }
-        [what @ ("decode" | "audit" | "feed"), rounds] => {
-            let Some(rounds) = number(rounds, 1_000_000) else {
-                return Ok(ExitCode::from(2));
-            };
-            let bytes = bytes_of(alloc, rt.reader())?;
-            match *what {
-                "decode" => decode(&rt, &bytes, rounds),
-                "audit" => audit(&rt, alloc, &bytes, Given::Whole, rounds),
-                _ => audit(&rt, alloc, &bytes, Given::InFeeds, rounds),
-            }
-        }
-        _ => Ok(ExitCode::from(2)),
-    }
+    run(&rt, alloc, rt.reader(), &words)
 }

@@ -70,12 +70,8 @@ fn records_of_ring(payload: &[u8]) -> u64 {
     }
 }
 
-/// A session that was started at moment 0; each of its rings is full of records with this payload.
-fn full_session(alloc: Global, payload: &[u8]) -> Result<Session, RotateFault> {
-    let Some(offset) = OffsetMinutes::new(0) else {
-        return Err(RotateFault::NoOffset);
-    };
-    let mut session = Session::new(alloc, Uuid::from_u128(1), offset, SessionMode::Local);
+/// Adds the session's streams, and starts it at moment 0.
+fn begin(session: &mut Session) -> Result<(), RotateFault> {
     let Some(name) = Name::new("c") else {
         return Err(RotateFault::NoName);
     };
@@ -83,13 +79,28 @@ fn full_session(alloc: Global, payload: &[u8]) -> Result<Session, RotateFault> {
     for _ in 0..STREAMS {
         session.add_thread("c")?;
     }
-    session.start(moment(0))?;
+    Ok(session.start(moment(0))?)
+}
+
+/// Fills each of its rings with records with this payload.
+fn fill(session: &mut Session, payload: &[u8]) -> Result<(), RotateFault> {
     let records = records_of_ring(payload);
     for stream in 0..STREAMS {
         for k in 0..records {
             session.offer(stream, moment(k), 7, payload)?;
         }
     }
+    Ok(())
+}
+
+/// A session that was started at moment 0; each of its rings is full of records with this payload.
+fn full_session(alloc: Global, payload: &[u8]) -> Result<Session, RotateFault> {
+    let Some(offset) = OffsetMinutes::new(0) else {
+        return Err(RotateFault::NoOffset);
+    };
+    let mut session = Session::new(alloc, Uuid::from_u128(1), offset, SessionMode::Local);
+    begin(&mut session)?;
+    fill(&mut session, payload)?;
     Ok(session)
 }
 

@@ -88,6 +88,22 @@ fn feed<N: Names>(
     Ok(sum)
 }
 
+/// Starts a session, and offers by its one producer. Gives its producers, and the sum with the answers.
+fn offered<N: Names>(
+    rt: &impl Wait,
+    shared: &Shared<N>,
+    mut producers: Vec<Producer<N>>,
+    before: u64,
+) -> Result<(Vec<Producer<N>>, u64), SharedFault> {
+    shared.start(rt, Moment::zero())?;
+    let Some(mut producer) = producers.pop() else {
+        return Err(SharedFault::NoStream);
+    };
+    let sum = feed(rt, shared, &mut producer, before)?;
+    producers.push(producer)?;
+    Ok((producers, sum))
+}
+
 /// One round: the offers to a new session, which is then settled.
 fn round<N: Names>(
     rt: &impl Wait,
@@ -97,13 +113,8 @@ fn round<N: Names>(
 ) -> Result<Total, SharedFault>
     requires { plan ≡ N.plan }
 {
-    let (shared, mut producers) = Shared::<N>::build(plan)?;
-    shared.start(rt, Moment::zero())?;
-    let Some(mut producer) = producers.pop() else {
-        return Err(SharedFault::NoStream);
-    };
-    let sum = feed(rt, &shared, &mut producer, total.sum)?;
-    producers.push(producer)?;
+    let (shared, producers) = Shared::<N>::build(plan)?;
+    let (producers, sum) = offered(rt, &shared, producers, total.sum)?;
     let settled = match shared.settle(producers, Vec::new(alloc)) {
         Ok((settled, _)) => settled,
         Err(unsettled) => return Err(SharedFault::Unsettled(unsettled.fault)),
