@@ -1,27 +1,14 @@
 //! The command line of each command, and of all of them.
 
 ghost use Rattle.std.specs.Prelude.{◌≡◌, IfOk, Ok, false};
-ghost use Rattle.clap.specs.Words.{app_of, rule_of, with_rule, with_subcommand};
+ghost use Rattle.clap.specs.Words.{app_of, with_subcommand};
 ghost use Rattle.clap.specs.declared.builder.command.Command.{Command};
 ghost use Rattle.clap.specs.declared.builder.command.Command.TheViews.{out-Command as fields_of};
 ghost use Rattle.tr_command.specs.CommandLine.{activity_app, archives_app, channel_app, channel_head, channel_sizes, consume_app, create_app, create_head, create_offset, fate_app, layout_app, moment_app, offer_app, offer_head, rotate_app, rotate_begin_app, rotate_finish_app, rotate_next_app, rotation_app, rotation_steps_app, running_app, schedule_app, schedules_app, script_app, session_app, snapshot_app, snapshots_app, start_app, status_app, stop_app, stream_app, thread_app, tick_app};
 
 use crate::arguments::{flag, option, place};
-use clap::{Arg, Command};
+use clap::Command;
 use std::alloc::{AllocError, Global};
-
-/// A command with one more argument, if it was made.
-fn with_argument<'a>(
-    command: Result<Command<'a>, AllocError>,
-    argument: Arg<'a>,
-) -> Result<Command<'a>, AllocError>
-    requires { argument.global ≡ false }
-    ensures { IfOk result (λ r. (c : Command) × (command.entry ≡ Ok c)
-        × (app_of r ≡ with_rule (app_of c) (rule_of argument.entry))
-        × ((fields_of c).has_globals ≡ false → (fields_of r).has_globals ≡ false)) }
-{
-    command?.arg(argument)
-}
 
 /// A command of a session: `NAME SESSION ..`.
 fn of_session<'a>(alloc: Global, name: &'a str) -> Result<Command<'a>, AllocError>
@@ -36,7 +23,7 @@ fn at_moment<'a>(alloc: Global, name: &'a str) -> Result<Command<'a>, AllocError
     ensures shape { IfOk result (λ c. app_of c ≡ moment_app name.entry.now) }
     ensures local { IfOk result (λ c. (fields_of c).has_globals ≡ false) }
 {
-    with_argument(of_session(alloc, name), place(alloc, "moment"))
+    of_session(alloc, name)?.arg(place(alloc, "moment"))
 }
 
 /// `NAME SESSION STREAM ..`.
@@ -44,7 +31,7 @@ fn of_stream<'a>(alloc: Global, name: &'a str) -> Result<Command<'a>, AllocError
     ensures shape { IfOk result (λ c. app_of c ≡ stream_app name.entry.now) }
     ensures local { IfOk result (λ c. (fields_of c).has_globals ≡ false) }
 {
-    with_argument(of_session(alloc, name), place(alloc, "stream"))
+    of_session(alloc, name)?.arg(place(alloc, "stream"))
 }
 
 /// `create SESSION UUID ..`.
@@ -52,7 +39,7 @@ fn create_head_command<'a>(alloc: Global) -> Result<Command<'a>, AllocError>
     ensures shape { IfOk result (λ c. app_of c ≡ create_head) }
     ensures local { IfOk result (λ c. (fields_of c).has_globals ≡ false) }
 {
-    with_argument(of_session(alloc, "create"), place(alloc, "uuid"))
+    of_session(alloc, "create")?.arg(place(alloc, "uuid"))
 }
 
 /// `create SESSION UUID [--east MIN] [--west MIN] ..`.
@@ -60,8 +47,9 @@ fn create_offset_command<'a>(alloc: Global) -> Result<Command<'a>, AllocError>
     ensures shape { IfOk result (λ c. app_of c ≡ create_offset) }
     ensures local { IfOk result (λ c. (fields_of c).has_globals ≡ false) }
 {
-    let command = with_argument(create_head_command(alloc), option(alloc, "east"));
-    with_argument(command, option(alloc, "west"))
+    create_head_command(alloc)?
+        .arg(option(alloc, "east"))?
+        .arg(option(alloc, "west"))
 }
 
 /// `create SESSION UUID [--east MIN] [--west MIN] [--snapshot]`.
@@ -69,7 +57,7 @@ pub fn create_command<'a>(alloc: Global) -> Result<Command<'a>, AllocError>
     ensures shape { IfOk result (λ c. app_of c ≡ create_app) }
     ensures local { IfOk result (λ c. (fields_of c).has_globals ≡ false) }
 {
-    with_argument(create_offset_command(alloc), flag(alloc, "snapshot"))
+    create_offset_command(alloc)?.arg(flag(alloc, "snapshot"))
 }
 
 /// `channel SESSION CHANNEL ..`.
@@ -77,7 +65,7 @@ fn channel_head_command<'a>(alloc: Global) -> Result<Command<'a>, AllocError>
     ensures shape { IfOk result (λ c. app_of c ≡ channel_head) }
     ensures local { IfOk result (λ c. (fields_of c).has_globals ≡ false) }
 {
-    with_argument(of_session(alloc, "channel"), place(alloc, "channel"))
+    of_session(alloc, "channel")?.arg(place(alloc, "channel"))
 }
 
 /// `channel SESSION CHANNEL SIZE COUNT ..`.
@@ -85,8 +73,9 @@ fn channel_sizes_command<'a>(alloc: Global) -> Result<Command<'a>, AllocError>
     ensures shape { IfOk result (λ c. app_of c ≡ channel_sizes) }
     ensures local { IfOk result (λ c. (fields_of c).has_globals ≡ false) }
 {
-    let command = with_argument(channel_head_command(alloc), place(alloc, "size"));
-    with_argument(command, place(alloc, "count"))
+    channel_head_command(alloc)?
+        .arg(place(alloc, "size"))?
+        .arg(place(alloc, "count"))
 }
 
 /// `channel SESSION CHANNEL SIZE COUNT MODE`.
@@ -94,7 +83,7 @@ pub fn channel_command<'a>(alloc: Global) -> Result<Command<'a>, AllocError>
     ensures shape { IfOk result (λ c. app_of c ≡ channel_app) }
     ensures local { IfOk result (λ c. (fields_of c).has_globals ≡ false) }
 {
-    with_argument(channel_sizes_command(alloc), place(alloc, "mode"))
+    channel_sizes_command(alloc)?.arg(place(alloc, "mode"))
 }
 
 /// `thread SESSION CHANNEL`.
@@ -102,7 +91,7 @@ pub fn thread_command<'a>(alloc: Global) -> Result<Command<'a>, AllocError>
     ensures shape { IfOk result (λ c. app_of c ≡ thread_app) }
     ensures local { IfOk result (λ c. (fields_of c).has_globals ≡ false) }
 {
-    with_argument(of_session(alloc, "thread"), place(alloc, "channel"))
+    of_session(alloc, "thread")?.arg(place(alloc, "channel"))
 }
 
 /// `start SESSION MOMENT`.
@@ -126,8 +115,9 @@ fn offer_head_command<'a>(alloc: Global) -> Result<Command<'a>, AllocError>
     ensures shape { IfOk result (λ c. app_of c ≡ offer_head) }
     ensures local { IfOk result (λ c. (fields_of c).has_globals ≡ false) }
 {
-    let command = with_argument(of_stream(alloc, "offer"), place(alloc, "moment"));
-    with_argument(command, place(alloc, "id"))
+    of_stream(alloc, "offer")?
+        .arg(place(alloc, "moment"))?
+        .arg(place(alloc, "id"))
 }
 
 /// `offer SESSION STREAM MOMENT ID [--text TEXT] [--fill LEN]`.
@@ -135,8 +125,9 @@ pub fn offer_command<'a>(alloc: Global) -> Result<Command<'a>, AllocError>
     ensures shape { IfOk result (λ c. app_of c ≡ offer_app) }
     ensures local { IfOk result (λ c. (fields_of c).has_globals ≡ false) }
 {
-    let command = with_argument(offer_head_command(alloc), option(alloc, "text"));
-    with_argument(command, option(alloc, "fill"))
+    offer_head_command(alloc)?
+        .arg(option(alloc, "text"))?
+        .arg(option(alloc, "fill"))
 }
 
 /// `consume SESSION STREAM`.
@@ -192,7 +183,7 @@ pub fn fate_command<'a>(alloc: Global) -> Result<Command<'a>, AllocError>
     ensures shape { IfOk result (λ c. app_of c ≡ fate_app) }
     ensures local { IfOk result (λ c. (fields_of c).has_globals ≡ false) }
 {
-    with_argument(of_stream(alloc, "fate"), place(alloc, "serial"))
+    of_stream(alloc, "fate")?.arg(place(alloc, "serial"))
 }
 
 /// `schedule SESSION [--every NS] [--size BYTES]`.
@@ -200,8 +191,9 @@ pub fn schedule_command<'a>(alloc: Global) -> Result<Command<'a>, AllocError>
     ensures shape { IfOk result (λ c. app_of c ≡ schedule_app) }
     ensures local { IfOk result (λ c. (fields_of c).has_globals ≡ false) }
 {
-    let command = with_argument(of_session(alloc, "schedule"), option(alloc, "every"));
-    with_argument(command, option(alloc, "size"))
+    of_session(alloc, "schedule")?
+        .arg(option(alloc, "every"))?
+        .arg(option(alloc, "size"))
 }
 
 /// `tick SESSION MOMENT`.
