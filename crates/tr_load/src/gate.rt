@@ -4,7 +4,7 @@ ghost use Rattle.std.specs.Prelude.{◌≡◌, ◌≤◌};
 ghost use Rattle.tr_load.specs.Rounds.{round_of};
 
 use crate::pace::Pace;
-use std::sync::atomic::{AtomicBool, Ordering};
+use std::sync::atomic::{AtomicUsize, Ordering};
 use std::time::Clock;
 use tr_pool::Gate;
 
@@ -23,8 +23,8 @@ pub(crate) struct Rounds<'a, R: Clock> {
     pub(crate) clock: &'a R,
     pub(crate) streams: usize,
     pub(crate) paces: &'a [Pace],
-    /// Whether the feeders have ended.
-    pub(crate) ended: &'a AtomicBool,
+    /// How many feeders are still at work.
+    pub(crate) left: &'a AtomicUsize,
 }
 
 impl<'a, R: Clock> Gate for Rounds<'a, R> {
@@ -46,10 +46,8 @@ impl<'a, R: Clock> Gate for Rounds<'a, R> {
                 return false;
             }
             pace.rest(self.clock);
-        } else {
-            pace.begin();
         }
-        if self.ended.load(Ordering::SeqCst) {
+        if self.left.load(Ordering::SeqCst) == 0 {
             pace.end();
         }
         true

@@ -10,14 +10,9 @@ use std::time::{Clock, Duration};
 /// How many microseconds a worker sleeps that found nothing, twice in a row or more often.
 const REST: u64 = 10;
 
-/// How many such sleeps the feeders wait at most for the workers to begin.
-const MOST_WAITS: u32 = 1_000;
-
 /// What is known of one worker's rounds.
 #[derive(Drop)]
 pub(crate) struct Pace {
-    /// Whether its first round has begun.
-    has_begun: AtomicBool,
     /// Whether a packet was taken since the worker's last round began.
     took: AtomicBool,
     /// How many rounds in a row had none.
@@ -30,16 +25,10 @@ impl Pace {
     /// The pace of a worker that made no round yet.
     fn new() -> Pace {
         Pace {
-            has_begun: AtomicBool::new(false),
             took: AtomicBool::new(false),
             idle: AtomicU64::new(0),
             is_last: AtomicBool::new(false),
         }
-    }
-
-    /// The worker's first round begins.
-    pub(crate) fn begin(&self) {
-        self.has_begun.store(true, Ordering::SeqCst);
     }
 
     /// The worker took a packet.
@@ -67,26 +56,6 @@ impl Pace {
             thread::sleep(clock, Duration::from_micros(REST));
         }
     }
-}
-
-/// Waits until the workers of these paces have begun, but not for ever: they may be short of a thread.
-pub(crate) fn await_begun(clock: &impl Clock, paces: &[Pace]) {
-    for _ in 0..MOST_WAITS {
-        if have_begun(paces) {
-            return;
-        }
-        thread::sleep(clock, Duration::from_micros(REST));
-    }
-}
-
-/// Whether all workers of these paces have begun.
-fn have_begun(paces: &[Pace]) -> bool {
-    for pace in paces {
-        if !pace.has_begun.load(Ordering::SeqCst) {
-            return false;
-        }
-    }
-    true
 }
 
 /// The paces of so many workers.

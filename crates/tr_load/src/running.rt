@@ -10,7 +10,7 @@ use crate::ending::{parted, settled};
 use crate::loaded::{LoadFault, Loaded};
 use crate::pace::paces;
 use crate::plan::load_plan;
-use crate::sides::feed_and_drain;
+use crate::sides::run_threads;
 use crate::works::load_works;
 use std::alloc::Global;
 use std::marker::Brand;
@@ -60,7 +60,7 @@ fn run<N: Names + Send + Sync, R: Threads + Wait + Clock + Sync>(
     let works = load_works(alloc, threads, records)?;
     let paces = paces(alloc, workers)?;
     shared.start(rt, Moment::zero())?;
-    let (drainers, fed) = feed_and_drain(
+    let (drainers, fed) = run_threads(
         rt,
         alloc,
         &shared,

@@ -68,6 +68,21 @@ turned_back f given back seats all none is turned =
 pub all_kept : {S : Type 0} (did : ℕ → S → S → Type 0) (given back : List S) → back ≡ given → EachCame (λ (i : ℕ). IsKeptOr (did i)) given back
 all_kept did given back same = (ap length same, λ i s u low. inl (ap (λ xs. get_or xs i u) same ∙ get_or_default given i u s low))
 
+-- each feeder that comes back was made of the producer and the work at its place
+pub all_fed : {B S W : Type 0} (producer : B → S) (work : B → W) (items : W → List Item) (log : B → List Item)
+    (offers : S → ℕ → ℕ → List ℕ → Result Offered OfferFault → S → Type 0) (feeders back : List B) (producers : List S) (works : List W)
+    → map producer feeders ≡ producers → map work feeders ≡ works → AllByRecursion (λ (b : B). log b ≡ []) feeders
+    → EachCame (λ (i : ℕ) (p q : B). log p ≡ [] → IsFed offers (producer p) (items (work p)) (producer q) (log q)) feeders back
+    → (i : ℕ) (p : S) (w : W) (b : B) → i < length producers
+    → IsFed offers (get_or producers i p) (items (get_or works i w)) (producer (get_or back i b)) (log (get_or back i b))
+all_fed {B} {S} {W} producer work items log offers feeders back producers works are have empty came i p w b low =
+    let many : length feeders ≡ length producers = sym (length-map feeders producer) ∙ ap length are in
+    let small : i < length feeders = omega (arith, low, many) in
+    let before : B = get_or feeders i b in let after : B = get_or back i b in
+    subst (λ x. IsFed offers x (items (get_or works i w)) (producer after) (log after)) (made_of producer feeders producers i p b are small)
+    (subst (λ x. IsFed offers (producer before) (items x) (producer after) (log after)) (made_of work feeders works i w b have small)
+    (came.1 i b b small (all_at (λ (x : B). log x ≡ []) feeders i b empty small)))
+
 -- feeders come back, each as it was or with its work offered; so do their producers
 pub producers_came : {B S W : Type 0} (producer : B → S) (work : B → W) (items : W → List Item) (log : B → List Item)
     (offers : S → ℕ → ℕ → List ℕ → Result Offered OfferFault → S → Type 0) (feeders back : List B) (producers seats : List S) (works : List W)

@@ -3,3 +3,4 @@ pub mod StartLaws
 pub mod JudgeLaws
 pub mod ReportLaws
 pub mod FeedLaws
+pub mod SideLaws

@@ -16,10 +16,10 @@ use std::thread::Threads;
 
 /// The work of so many workers on a target, by a gate.
 #[derive(Drop)]
-struct Draining<'a, T: Target, G: Gate> {
-    target: &'a T,
-    gate: &'a G,
-    workers: usize,
+pub(crate) struct Draining<'a, T: Target, G: Gate> {
+    pub(crate) target: &'a T,
+    pub(crate) gate: &'a G,
+    pub(crate) workers: usize,
 }
 
 impl<'a, T: Target, G: Gate> Work for Draining<'a, T, G> {

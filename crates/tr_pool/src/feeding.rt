@@ -12,6 +12,7 @@ use crate::threads::set_to_work;
 use crate::work::Work;
 use std::alloc::Global;
 use std::sync::Wait;
+use std::sync::atomic::{AtomicUsize, Ordering};
 use std::thread::Threads;
 use tr_shared::{Names, Producer};
 
@@ -80,6 +81,31 @@ fn feed_one<T: Intake, R: Wait>(
     (producer, log)
 }
 
+/// Each producer with the work at its place, and an empty log that has room for all of it; and room for the producers, for
+/// when they come back without their logs.
+///
+/// # Errors
+///
+/// Out of memory: all producers come back, in order.
+pub(crate) fn prepared<S: Drop>(
+    alloc: Global,
+    producers: Vec<S>,
+    works: Vec<Vec<Item>>,
+) -> Result<(Vec<LoggedProducer<S>>, Vec<S>), Vec<S>>
+    requires { vec_len works ≡ vec_len producers }
+    ensures producers { IfOk result (λ r. map (λ s. s.producer) r.0.items ≡ producers.items) }
+    ensures works { IfOk result (λ r. map (λ s. s.work) r.0.items ≡ works.items) }
+    ensures logs { IfOk result (λ r. AllByRecursion (λ s. s.log.items ≡ []) r.0.items) }
+    ensures room { IfOk result (λ r. (r.1.items ≡ []) × (vec_len r.0 ≤ vec_capacity r.1)) }
+    ensures back { IfErr result (λ back. back.items ≡ producers.items) }
+{
+    let Ok(room) = Vec::with_capacity(alloc, producers.len()) else {
+        return Err(producers);
+    };
+    let feeders = pair(alloc, producers, works)?;
+    Ok((feeders, room))
+}
+
 /// Each producer with the work at its place, and an empty log that has room for all of it.
 ///
 /// # Errors
@@ -133,11 +159,23 @@ fn unpair<S: Drop>(mut seats: Vec<LoggedProducer<S>>, mut producers: Vec<S>) -> 
     producers
 }
 
+/// The producers of these seats, in order, in what has room for them.
+pub(crate) fn given_back<S: Drop>(seats: Vec<LoggedProducer<S>>, room: Vec<S>) -> Vec<S>
+    requires { (room.items ≡ []) × (vec_len seats ≤ vec_capacity room) }
+    ensures { result.items ≡ map (λ s. s.producer) seats.items }
+{
+    let mut producers = unpair(seats, room);
+    producers.reverse();
+    producers
+}
+
 /// The work of feeders on an intake.
 #[derive(Drop)]
-struct Feeding<'a, T: Intake> {
-    intake: &'a T,
-    alloc: Global,
+pub(crate) struct Feeding<'a, T: Intake> {
+    pub(crate) intake: &'a T,
+    pub(crate) alloc: Global,
+    /// How many feeders are still at work, for whoever waits for them.
+    pub(crate) left: Option<&'a AtomicUsize>,
 }
 
 impl<'a, T: Intake> Work for Feeding<'a, T> {
@@ -161,6 +199,9 @@ impl<'a, T: Intake> Work for Feeding<'a, T> {
             log,
         } = seat;
         let (producer, log) = feed_one(rt, self.intake, producer, work, log);
+        if let Some(left) = self.left {
+            left.fetch_sub(1, Ordering::SeqCst);
+        }
         LoggedProducer {
             producer,
             work: Vec::new(self.alloc),
@@ -197,14 +238,8 @@ where
         producers.items f.seats.items) }
     ensures memory { IfErr result (λ f. f.fault ≡ PoolError.NoMemory → f.seats.items ≡ producers.items) }
 {
-    let Ok(room) = Vec::with_capacity(alloc, producers.len()) else {
-        return Err(PoolFault {
-            fault: PoolError::NoMemory,
-            seats: producers,
-        });
-    };
-    let feeders = match pair(alloc, producers, works) {
-        Ok(feeders) => feeders,
+    let (feeders, room) = match prepared(alloc, producers, works) {
+        Ok(prepared) => prepared,
         Err(seats) => {
             return Err(PoolFault {
                 fault: PoolError::NoMemory,
@@ -212,12 +247,16 @@ where
             });
         }
     };
-    match set_to_work(rt, alloc, &Feeding { intake, alloc }, feeders) {
+    let feeding = Feeding {
+        intake,
+        alloc,
+        left: None,
+    };
+    match set_to_work(rt, alloc, &feeding, feeders) {
         Ok(fed) => Ok(fed),
-        Err(PoolFault { fault, seats }) => {
-            let mut seats = unpair(seats, room);
-            seats.reverse();
-            Err(PoolFault { fault, seats })
-        }
+        Err(PoolFault { fault, seats }) => Err(PoolFault {
+            fault,
+            seats: given_back(seats, room),
+        }),
     }
 }

@@ -135,8 +135,8 @@ fn records_of_all_lengths_come_through(rt: HostRuntime) {
     feeds::<Brand, HostRuntime>(&rt, rt.alloc(), plan_of(&rt, rt.alloc(), 65_536, 1));
 }
 
-/// How often a worker looks whether the other has come.
-const TRIES: u64 = 1_000_000;
+/// How often a worker looks whether what it waits for has come.
+pub(crate) const TRIES: u64 = 1_000_000;
 
 /// A gate that holds each worker at its first turn until both have come.
 #[derive(Drop)]

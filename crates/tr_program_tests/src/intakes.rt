@@ -1,13 +1,17 @@
-//! Feeders on an intake that is no session.
+//! Feeders on an intake that is no session, and a worker beside them on a target that is none.
 
 use crate::asserting::assert_same;
-use crate::feeding::{item, items};
+use crate::feeding::{TRIES, item, items};
 use std::alloc::Global;
 use std::process::Abort;
 use std::sync::Wait;
+use std::sync::atomic::{AtomicUsize, Ordering};
 use std::test::*;
-use tr_pool::{Intake, Items, LoggedProducer, feed};
-use tr_stream::{OfferFault, Offered};
+use std::thread;
+use tr_pool::{
+    Feeders, Gate, Intake, Item, Items, LoggedProducer, Target, Workers, feed, feed_and_drain,
+};
+use tr_stream::{OfferFault, Offered, TakeFault, Taken};
 use tr_terms::Moment;
 
 /// What was offered with a seat: how often, and the sums of the moments and of the lengths of the payloads.
@@ -71,19 +75,23 @@ fn assert_fed(
     }
 }
 
-#[test]
-fn a_log_has_what_was_accepted(rt: HostRuntime) {
+/// Two producers with which nothing was offered yet.
+fn producers(rt: &impl Abort, alloc: Global) -> Vec<Told> {
     let none = Told {
         offers: 0,
         moments: 0,
         bytes: 0,
     };
-    let alloc = rt.alloc();
-    let producers = vec![in alloc; none, none].expect(&rt, "memory");
-    let works = vec![in alloc; items(&rt, alloc, 6), items(&rt, alloc, 3)].expect(&rt, "memory");
-    let Ok(mut fed) = feed(&rt, alloc, &Picky, producers, works) else {
-        panic!(&rt; "not fed")
-    };
+    vec![in alloc; none, none].expect(rt, "memory")
+}
+
+/// What they are to offer: the first 6 items, and the first 3.
+fn works(rt: &impl Abort, alloc: Global) -> Vec<Vec<Item>> {
+    vec![in alloc; items(rt, alloc, 6), items(rt, alloc, 3)].expect(rt, "memory")
+}
+
+/// Asserts that they have offered it.
+fn assert_both_fed(rt: &impl Abort, alloc: Global, mut fed: Vec<LoggedProducer<Told>>) {
     // the moments 0, 2, 4 of 0, 1, 2 bytes
     let three = Told {
         offers: 3,
@@ -96,13 +104,99 @@ fn a_log_has_what_was_accepted(rt: HostRuntime) {
         moments: 30,
         bytes: 15,
     };
-    assert_fed(&rt, alloc, fed.pop().expect(&rt, "a feeder"), three, &[1]);
-    assert_fed(
-        &rt,
-        alloc,
-        fed.pop().expect(&rt, "a feeder"),
-        six,
-        &[1, 3, 5],
-    );
-    assert_same(&rt, fed.len(), 0);
+    let last = fed.pop().expect(rt, "a feeder");
+    assert_fed(rt, alloc, last, three, &[1]);
+    let first = fed.pop().expect(rt, "a feeder");
+    assert_fed(rt, alloc, first, six, &[1, 3, 5]);
+    assert_same(rt, fed.len(), 0);
+}
+
+#[test]
+fn a_log_has_what_was_accepted(rt: HostRuntime) {
+    let alloc = rt.alloc();
+    let producers = producers(&rt, alloc);
+    let works = works(&rt, alloc);
+    assert!(&rt; works.len() == producers.len());
+    let Ok(fed) = feed(&rt, alloc, &Picky, producers, works) else {
+        panic!(&rt; "not fed")
+    };
+    assert_both_fed(&rt, alloc, fed);
+}
+
+/// A target with one stream in which nothing waits. A seat counts the takes.
+#[derive(Drop)]
+struct Still;
+
+impl Target for Still {
+    ghost use Rattle.std.specs.Prelude.{⊤};
+
+    type Seat = u64;
+
+    ghost stream_count = { λ _. 1 };
+
+    ghost takes = { λ _ _ _ _ _. ⊤ };
+
+    fn streams(&self) -> usize {
+        1
+    }
+
+    fn take_at<R: Wait>(&self, _rt: &R, seat: &mut u64, _i: usize) -> Result<Taken, TakeFault> {
+        *seat = seat.wrapping_add(1);
+        Err(TakeFault::Nothing)
+    }
+}
+
+/// A gate that holds a worker until no feeder is at work, and then lets it make one turn.
+#[derive(Drop)]
+struct AfterFeeders<'a, R: Abort> {
+    rt: &'a R,
+    left: &'a AtomicUsize,
+}
+
+impl<'a, R: Abort> Gate for AfterFeeders<'a, R> {
+    ghost use Rattle.std.specs.Prelude.{⊤};
+
+    ghost lets = { λ _ _ _ _. ⊤ };
+
+    fn before(&self, _worker: usize, turn: u64) -> bool {
+        if turn > 0 {
+            return false;
+        }
+        'tries: for _ in 0..TRIES {
+            if self.left.load(Ordering::SeqCst) == 0 {
+                return true;
+            }
+            thread::yield_now();
+        }
+        panic!(self.rt; "the feeders don't end")
+    }
+
+    fn after(&self, _worker: usize, _turn: u64) {}
+}
+
+#[test]
+fn a_worker_waits_for_the_feeders_beside_it(rt: HostRuntime) {
+    let alloc = rt.alloc();
+    let left = AtomicUsize::new(0);
+    let gate = AfterFeeders {
+        rt: &rt,
+        left: &left,
+    };
+    let workers = Workers {
+        target: &Still,
+        gate: &gate,
+        drainers: vec![in alloc; 0].expect(&rt, "memory"),
+    };
+    let feeders = Feeders {
+        intake: &Picky,
+        producers: producers(&rt, alloc),
+        works: works(&rt, alloc),
+        left: &left,
+    };
+    assert!(&rt; feeders.works.len() == feeders.producers.len());
+    let Ok((takes, fed)) = feed_and_drain(&rt, alloc, workers, feeders) else {
+        panic!(&rt; "not fed and drained")
+    };
+    assert_same(&rt, takes.as_slice() == [1], true);
+    assert_both_fed(&rt, alloc, fed);
 }
