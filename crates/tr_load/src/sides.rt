@@ -16,14 +16,14 @@ use tr_pool::{Feeders, Item, LoggedProducer, Workers, feed_and_drain};
 use tr_shared::{Drainer, Names, Producer, Shared};
 
 /// Feeds a session and drains it meanwhile, in threads of their own.
-pub(crate) fn run_threads<N: Names + Send + Sync, R: Threads + Wait + Clock + Sync>(
-    rt: &R,
+pub(crate) fn run_threads<'a, N: Names + Send + Sync, R: Threads + Wait + Clock + Sync>(
+    rt: &'a R,
     alloc: Global,
-    shared: &Shared<N>,
+    shared: &'a Shared<N>,
     drainers: Vec<Drainer<N>>,
     producers: Vec<Producer<N>>,
     works: Vec<Vec<Item>>,
-    paces: &[Pace],
+    paces: &'a [Pace],
 ) -> Result<(Vec<Drainer<N>>, Vec<LoggedProducer<Producer<N>>>), LoadFault>
     requires { vec_len works ≡ vec_len producers }
     ensures len { IfOk result (λ r. vec_len r.1 ≡ vec_len producers) }
