@@ -40,19 +40,19 @@ pub(crate) fn run_threads<'a, N: Names + Send + Sync, R: Threads + Wait + Clock 
         paces,
         left: &left,
     };
-    let workers = Workers {
-        target: &target,
-        gate: &gate,
-        drainers,
-    };
     let feeders = Feeders {
         intake: shared,
         producers,
         works,
         left: &left,
     };
-    match feed_and_drain(rt, alloc, workers, feeders) {
-        Ok(back) => Ok(back),
+    let workers = Workers {
+        target: &target,
+        gate: &gate,
+        drainers,
+    };
+    match feed_and_drain(rt, alloc, feeders, workers) {
+        Ok((fed, drainers)) => Ok((drainers, fed)),
         Err(_) => Err(LoadFault::NoMemory),
     }
 }

@@ -1,9 +1,9 @@
-//! Workers and feeders side by side, in threads that begin together.
+//! Feeders and workers side by side, in threads that begin together.
 
 ghost use Rattle.std.specs.Prelude.{◌≡◌, ◌+◌, ◌++◌, ◌≤◌, [], flat_map, map, length, vec_len, vec_capacity, IfOk, IfErr};
 ghost use Rattle.tr_pool.specs.Pools.{EachCame, IsKeptOr};
-ghost use Rattle.tr_pool.specs.Sides.{as_drainer, as_producer};
-ghost use Rattle.tr_pool.specs.declared.sides.Side.TheVariants.{Drainer, Producer};
+ghost use Rattle.tr_pool.specs.Sides.{as_producer, as_drainer};
+ghost use Rattle.tr_pool.specs.declared.sides.Side.TheVariants.{Producer, Drainer};
 
 use crate::pool_fault::{PoolError, PoolFault};
 use crate::threads::set_to_work;
@@ -12,19 +12,19 @@ use std::alloc::Global;
 use std::sync::Wait;
 use std::thread::Threads;
 
-/// The seat of a worker, or that of a feeder.
+/// The seat of a feeder, or that of a worker.
 #[derive(Drop)]
 enum Side<S: Drop, U: Drop> {
-    Drainer(S),
-    Producer(U),
+    Producer(S),
+    Drainer(U),
 }
 
-/// What workers do, and what feeders do. The workers' numbers come first.
+/// What feeders do, and what workers do. The feeders' numbers come first, so that workers are started first.
 #[derive(Drop)]
 struct Sides<'a, V: Work, W: Work> {
-    draining: &'a V,
-    feeding: &'a W,
-    workers: usize,
+    feeding: &'a V,
+    draining: &'a W,
+    feeders: usize,
 }
 
 impl<'a, V: Work, W: Work> Work for Sides<'a, V, W> {
@@ -33,7 +33,7 @@ impl<'a, V: Work, W: Work> Work for Sides<'a, V, W> {
 
     type Seat = Side<V::Seat, W::Seat>;
 
-    ghost did = { λ w worker. DidAside (V.did w.draining.now worker) (W.did w.feeding.now (worker - w.workers)) };
+    ghost did = { λ w worker. DidAside (V.did w.feeding.now worker) (W.did w.draining.now (worker - w.feeders)) };
 
     fn run<R: Wait>(
         &self,
@@ -42,116 +42,116 @@ impl<'a, V: Work, W: Work> Work for Sides<'a, V, W> {
         seat: Side<V::Seat, W::Seat>,
     ) -> Side<V::Seat, W::Seat> {
         match seat {
-            Side::Drainer(seat) => Side::Drainer(self.draining.run(rt, worker, seat)),
-            Side::Producer(seat) => {
-                let feeder = worker.saturating_sub(self.workers);
-                Side::Producer(self.feeding.run(rt, feeder, seat))
+            Side::Producer(seat) => Side::Producer(self.feeding.run(rt, worker, seat)),
+            Side::Drainer(seat) => {
+                let worker = worker.saturating_sub(self.feeders);
+                Side::Drainer(self.draining.run(rt, worker, seat))
             }
         }
     }
 }
 
-/// Why workers and feeders were not set to work, and the seats that were given, in their order.
+/// Why feeders and workers were not set to work, and the seats that were given, in their order.
 #[derive(Drop)]
 pub struct SidesFault<S: Drop, U: Drop> {
     /// What was missing.
     pub fault: PoolError,
-    /// All the workers' seats.
-    pub drainers: Vec<S>,
     /// All the feeders' seats.
-    pub producers: Vec<U>,
+    pub producers: Vec<S>,
+    /// All the workers' seats.
+    pub drainers: Vec<U>,
 }
 
-/// All the seats in one row, the workers' in front; and the two that they stood in, now empty.
+/// All the seats in one row, the feeders' in front; and the two that they stood in, now empty.
 fn lined_up<S: Drop, U: Drop>(
     mut seats: Vec<Side<S, U>>,
-    mut drainers: Vec<S>,
-    mut producers: Vec<U>,
+    mut producers: Vec<S>,
+    mut drainers: Vec<U>,
 ) -> (Vec<Side<S, U>>, Vec<S>, Vec<U>)
     requires empty { seats.items ≡ [] }
-    requires room { vec_len drainers + vec_len producers ≤ vec_capacity seats }
-    ensures line { result.0.items ≡ map Drainer drainers.items ++ map Producer producers.items }
-    ensures drainers { (result.1.items ≡ []) × (vec_len drainers ≤ vec_capacity result.1) }
-    ensures producers { (result.2.items ≡ []) × (vec_len producers ≤ vec_capacity result.2) }
+    requires room { vec_len producers + vec_len drainers ≤ vec_capacity seats }
+    ensures line { result.0.items ≡ map Producer producers.items ++ map Drainer drainers.items }
+    ensures producers { (result.1.items ≡ []) × (vec_len producers ≤ vec_capacity result.1) }
+    ensures drainers { (result.2.items ≡ []) × (vec_len drainers ≤ vec_capacity result.2) }
 {
-    'producers: while let Some(seat) = producers.pop() {
-        seats.push_reserved(Side::Producer(seat));
-    }
     'drainers: while let Some(seat) = drainers.pop() {
         seats.push_reserved(Side::Drainer(seat));
     }
+    'producers: while let Some(seat) = producers.pop() {
+        seats.push_reserved(Side::Producer(seat));
+    }
     seats.reverse();
-    (seats, drainers, producers)
+    (seats, producers, drainers)
 }
 
 /// The seats of each side, in order, in the two that have room for them.
 fn told_apart<S: Drop, U: Drop>(
     mut seats: Vec<Side<S, U>>,
-    mut drainers: Vec<S>,
-    mut producers: Vec<U>,
+    mut producers: Vec<S>,
+    mut drainers: Vec<U>,
 ) -> (Vec<S>, Vec<U>)
-    requires empty { (drainers.items ≡ []) × (producers.items ≡ []) }
-    requires room { (length (flat_map as_drainer seats.items) ≤ vec_capacity drainers)
-        × (length (flat_map as_producer seats.items) ≤ vec_capacity producers) }
-    ensures drainers { result.0.items ≡ flat_map as_drainer seats.items }
-    ensures producers { result.1.items ≡ flat_map as_producer seats.items }
+    requires empty { (producers.items ≡ []) × (drainers.items ≡ []) }
+    requires room { (length (flat_map as_producer seats.items) ≤ vec_capacity producers)
+        × (length (flat_map as_drainer seats.items) ≤ vec_capacity drainers) }
+    ensures producers { result.0.items ≡ flat_map as_producer seats.items }
+    ensures drainers { result.1.items ≡ flat_map as_drainer seats.items }
 {
     'seats: while let Some(seat) = seats.pop() {
         match seat {
-            Side::Drainer(seat) => drainers.push_reserved(seat),
             Side::Producer(seat) => producers.push_reserved(seat),
+            Side::Drainer(seat) => drainers.push_reserved(seat),
         }
     }
-    drainers.reverse();
     producers.reverse();
-    (drainers, producers)
+    drainers.reverse();
+    (producers, drainers)
 }
 
-/// Lets a thread of its own do the workers' work with each of the drainers, and one the feeders' with each of the producers:
+/// Lets a thread of its own do the feeders' work with each of the producers, and one the workers' with each of the drainers:
 /// none begins before all are started.
 pub(crate) fn set_sides_to_work<V: Work + Sync, W: Work + Sync, R: Threads + Wait + Sync>(
     rt: &R,
     alloc: Global,
-    draining: &V,
-    drainers: Vec<V::Seat>,
-    feeding: &W,
-    producers: Vec<W::Seat>,
+    feeding: &V,
+    producers: Vec<V::Seat>,
+    draining: &W,
+    drainers: Vec<W::Seat>,
 ) -> Result<(Vec<V::Seat>, Vec<W::Seat>), SidesFault<V::Seat, W::Seat>>
 where
     V::Seat: Send,
     W::Seat: Send,
     ensures worked { IfOk result
-        (λ back. EachCame (V.did draining.now) drainers.items back.0.items
-        × EachCame (W.did feeding.now) producers.items back.1.items) }
+        (λ back. EachCame (V.did feeding.now) producers.items back.0.items
+        × EachCame (W.did draining.now) drainers.items back.1.items) }
     ensures came { IfErr result
-        (λ f. EachCame (λ worker. IsKeptOr (V.did draining.now worker)) drainers.items f.drainers.items
-        × EachCame (λ feeder. IsKeptOr (W.did feeding.now feeder)) producers.items f.producers.items) }
+        (λ f. EachCame (λ feeder. IsKeptOr (V.did feeding.now feeder)) producers.items f.producers.items
+        × EachCame (λ worker. IsKeptOr (W.did draining.now worker)) drainers.items f.drainers.items) }
     ensures memory { IfErr result
         (λ f. f.fault ≡ PoolError.NoMemory
-        → (f.drainers.items ≡ drainers.items) × (f.producers.items ≡ producers.items)) }
+        → (f.producers.items ≡ producers.items) × (f.drainers.items ≡ drainers.items)) }
 {
-    let count = drainers.len().saturating_add(producers.len());
+    let count = producers.len().saturating_add(drainers.len());
     let Ok(line) = Vec::with_capacity(alloc, count) else {
         return Err(SidesFault {
             fault: PoolError::NoMemory,
-            drainers,
             producers,
+            drainers,
         });
     };
     let sides = Sides {
-        draining,
         feeding,
-        workers: drainers.len(),
+        draining,
+        feeders: producers.len(),
     };
-    let (line, drainers, producers) = lined_up(line, drainers, producers);
+    let (line, producers, drainers) = lined_up(line, producers, drainers);
     match set_to_work(rt, alloc, &sides, line) {
-        Ok(line) => Ok(told_apart(line, drainers, producers)),
+        Ok(line) => Ok(told_apart(line, producers, drainers)),
         Err(PoolFault { fault, seats }) => {
-            let (drainers, producers) = told_apart(seats, drainers, producers);
+            let (producers, drainers) = told_apart(seats, producers, drainers);
             Err(SidesFault {
                 fault,
-                drainers,
                 producers,
+                drainers,
             })
         }
     }

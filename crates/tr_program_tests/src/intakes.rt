@@ -182,21 +182,21 @@ fn a_worker_waits_for_the_feeders_beside_it(rt: HostRuntime) {
         rt: &rt,
         left: &left,
     };
-    let workers = Workers {
-        target: &Still,
-        gate: &gate,
-        drainers: vec![in alloc; 0].expect(&rt, "memory"),
-    };
     let feeders = Feeders {
         intake: &Picky,
         producers: producers(&rt, alloc),
         works: works(&rt, alloc),
         left: &left,
     };
+    let workers = Workers {
+        target: &Still,
+        gate: &gate,
+        drainers: vec![in alloc; 0].expect(&rt, "memory"),
+    };
     assert!(&rt; feeders.works.len() == feeders.producers.len());
-    let Ok((takes, fed)) = feed_and_drain(&rt, alloc, workers, feeders) else {
+    let Ok((fed, takes)) = feed_and_drain(&rt, alloc, feeders, workers) else {
         panic!(&rt; "not fed and drained")
     };
-    assert_same(&rt, takes.as_slice() == [1], true);
+    assert_same(&rt, takes.as_slice() == [1].as_slice(), true);
     assert_both_fed(&rt, alloc, fed);
 }
