@@ -117,7 +117,7 @@ fn written(rt: &impl Abort, alloc: Global, piece: usize, session: &Session) -> M
 type Item<'a> = (&'a str, usize, &'a str);
 
 /// All that is made of `rotated`.
-const ONE_ARCHIVE: [Item<'static>; 3] = [
+static ONE_ARCHIVE: [Item<'static>; 3] = [
     ("folder", 0, FOLDER),
     ("file", 1082, METADATA),
     ("file", 484, STREAM),
@@ -176,7 +176,7 @@ fn an_archive_is_a_folder_with_its_files(rt: HostRuntime) {
 }
 
 /// Two archives of two streams.
-const TWO_ARCHIVES: [Item<'static>; 8] = [
+static TWO_ARCHIVES: [Item<'static>; 8] = [
     ("folder", 0, FOLDER),
     ("file", 1082, METADATA),
     ("file", 0, STREAM),

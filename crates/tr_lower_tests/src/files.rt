@@ -21,7 +21,7 @@ use tr_testing::{FailsAfter, moment};
 use uuid::Uuid;
 
 /// The identifier 1.
-const TRACE: [u8; 16] = [0, 0, 0, 0, 0, 0, 0, 0, 0, 0, 0, 0, 0, 0, 0, 1];
+static TRACE: [u8; 16] = [0, 0, 0, 0, 0, 0, 0, 0, 0, 0, 0, 0, 0, 0, 0, 1];
 
 fn uuid() -> Uuid {
     Uuid::from_bytes(TRACE)
@@ -122,7 +122,7 @@ const BOTH: Told<'static> = Told {
 };
 
 /// How the bytes of each piece come to an audit: whole, or in feeds of this size.
-const FEEDS: [Option<usize>; 4] = [None, Some(1), Some(7), Some(1000)];
+static FEEDS: [Option<usize>; 4] = [None, Some(1), Some(7), Some(1000)];
 
 /// What an audit says of these pieces, whose bytes come in this way.
 fn audit_in(
@@ -300,7 +300,7 @@ fn assert_named(
 }
 
 /// The faults of an audit: the code, the name, and both as they are printed.
-const CAUSES: [(AuditCause, (&str, &str, &str)); 5] = [
+static CAUSES: [(AuditCause, (&str, &str, &str)); 5] = [
     (
         AuditCause::Packet(PacketFault::Short),
         ("A1", "Packet", "A1 Packet"),

@@ -13,7 +13,7 @@ use uuid::Uuid;
 
 /// A packet of one record, as it is written: the trace 1, stream 0, closed at moment 9, number 0, nothing discarded, and the
 /// record of id 7, moment 1 and serial 0 with the payload `A`.
-const ONE: [u8; 105] = [
+static ONE: [u8; 105] = [
     0xc1, 0x1f, 0xfc, 0xc1, 0, 0, 0, 0, 0, 0, 0, 0, 0, 0, 0, 0, 0, 0, 0, 1, 0, 0, 0, 0, 0, 0, 0, 0,
     0, 0, 0, 0, 1, 0, 0, 0, 0, 0, 0, 0, 9, 0, 0, 0, 0, 0, 0, 0, 0x48, 3, 0, 0, 0, 0, 0, 0, 0x48, 3,
     0, 0, 0, 0, 0, 0, 0, 0, 0, 0, 0, 0, 0, 0, 0, 0, 0, 0, 0, 0, 0, 0, 7, 0, 0, 0, 1, 0, 0, 0, 0, 0,
@@ -21,7 +21,7 @@ const ONE: [u8; 105] = [
 ];
 
 /// The identifier 1.
-const TRACE: [u8; 16] = [0, 0, 0, 0, 0, 0, 0, 0, 0, 0, 0, 0, 0, 0, 0, 1];
+static TRACE: [u8; 16] = [0, 0, 0, 0, 0, 0, 0, 0, 0, 0, 0, 0, 0, 0, 0, 1];
 
 fn head() -> Head {
     Head {
@@ -124,7 +124,7 @@ fn packets_are_moved_behind_others(rt: HostRuntime) {
 }
 
 /// Records, and whether they make a packet with that head.
-const MAKES: [(&[Row], bool); 10] = [
+static MAKES: [(&[Row], bool); 10] = [
     (&[(4, 1, 0), (6, 1, 3), (7, 9, 0)], true),
     (&[(0, 1, 65_432)], true),
     (&[(0, 1, 65_433)], false),
@@ -200,7 +200,7 @@ fn head_at_limits() -> Head {
 }
 
 /// Records at the limits of their serials.
-const LIMITS: [Row; 3] = [(4, 1, 0), (u64::MAX - 1, 1, 3), (u64::MAX, 9, 700)];
+static LIMITS: [Row; 3] = [(4, 1, 0), (u64::MAX - 1, 1, 3), (u64::MAX, 9, 700)];
 
 #[test]
 fn what_was_written_is_read_whatever_follows(rt: HostRuntime) {
@@ -269,7 +269,7 @@ fn set_sizes(rt: &impl Abort, bytes: &mut [u8], content: u64, size: u64) {
 }
 
 /// The size of the content and of the packet in bits, and the fault of two records with these.
-const SIZES: [(u64, u64, Option<PacketFault>); 9] = [
+static SIZES: [(u64, u64, Option<PacketFault>); 9] = [
     (1824, 1824, None),
     (1824, 1832, Some(PacketFault::BadSize)),
     (1832, 1824, Some(PacketFault::BadSize)),
@@ -306,10 +306,10 @@ fn sizes(rt: HostRuntime) {
 }
 
 /// Where bytes are damaged for all faults at once, in the decoder's order.
-const PLACES: [usize; 6] = [0, 20, 48, 174, 92, 32];
+static PLACES: [usize; 6] = [0, 20, 48, 174, 92, 32];
 
 /// How many of the faults are mended, how many bytes are left, and the fault that shows.
-const FAULTS: [(usize, usize, PacketFault); 8] = [
+static FAULTS: [(usize, usize, PacketFault); 8] = [
     (0, 79, PacketFault::Short),
     (0, 200, PacketFault::BadMagic),
     (1, 200, PacketFault::BadStreamId),
@@ -342,7 +342,7 @@ fn the_first_fault_is_answered(rt: HostRuntime) {
     assert_first_faults(&rt, rt.alloc(), &PLACES, &FAULTS);
 }
 
-const NAMES: [(PacketFault, &str, &str); 7] = [
+static NAMES: [(PacketFault, &str, &str); 7] = [
     (PacketFault::Short, "P1", "Short"),
     (PacketFault::BadMagic, "P2", "BadMagic"),
     (PacketFault::BadStreamId, "P3", "BadStreamId"),

@@ -36,7 +36,7 @@ fn assert_said(
 }
 
 /// Threads, the records of each, workers, and what is said of such a load.
-const LOADS: [(usize, u64, usize, &str); 3] = [
+static LOADS: [(usize, u64, usize, &str); 3] = [
     // records that fit are all in chunks
     (
         4,
@@ -80,7 +80,7 @@ fn a_full_ring_discards_and_agrees(rt: HostRuntime) {
 }
 
 /// Numbers of threads, mismatches, and what is said of them.
-const MISMATCHES: [(u64, Result<Report, Mismatch>, &str); 2] = [
+static MISMATCHES: [(u64, Result<Report, Mismatch>, &str); 2] = [
     (
         4,
         Err(Mismatch::WrongRecord {

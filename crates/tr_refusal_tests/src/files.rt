@@ -55,7 +55,7 @@ struct Row<'a> {
 const PACKET: usize = 228;
 
 /// Of twelve packets every second one was overwritten, the first one among them.
-const GAPS: [(u64, u64); 6] = [(0, 1), (2, 1), (4, 1), (6, 1), (8, 1), (10, 1)];
+static GAPS: [(u64, u64); 6] = [(0, 1), (2, 1), (4, 1), (6, 1), (8, 1), (10, 1)];
 
 /// A stream, from which the second packet of each two was taken, and the first one overwritten.
 fn with_gaps(rt: &impl Abort, alloc: Global) -> Stream {
@@ -170,7 +170,7 @@ fn read<A: Allocator + Copy>(rt: &impl Abort, alloc: A, pieces: &[&[u8]]) -> Tol
 }
 
 /// An audit's want of memory for its first list of gaps, which has room for four, or for the next one.
-const STOPS: [AuditFault; 2] = [
+static STOPS: [AuditFault; 2] = [
     AuditFault {
         piece: 0,
         offset: 0,
@@ -229,7 +229,7 @@ impl<'a, A: Allocator + Copy> Call<A> for Row<'a> {
     fn assert_alike(&self, _rt: &impl Abort, _one: &A, _other: &A) {}
 }
 
-const CALLS: [Asked; 4] = [Asked::Name, Asked::Metadata, Asked::Audit, Asked::Read];
+static CALLS: [Asked; 4] = [Asked::Name, Asked::Metadata, Asked::Audit, Asked::Read];
 
 /// The two halves of the stream's file.
 fn halves<'a>(rt: &impl Abort, stream: &'a Stream) -> [&'a [u8]; 2] {

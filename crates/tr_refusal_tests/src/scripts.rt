@@ -8,7 +8,7 @@ use tr_console::{ScriptFault, run_script};
 use tr_record::{MemorySink, MemorySource};
 
 /// The lines of a script, each with its answer. None comes after the last one, not even an empty one.
-const LINES: [(&str, &str); 12] = [
+static LINES: [(&str, &str); 12] = [
     (
         "create s 00000000-0000-0000-0000-000000000001\n",
         "created s\n",

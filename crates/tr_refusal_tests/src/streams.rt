@@ -197,7 +197,7 @@ impl<A: Allocator + Copy> Call<A> for Row {
 }
 
 /// Packets have a list, with room for four at first, and their bytes, whose room doubles when they grow.
-const ROWS: [Row; 7] = [
+static ROWS: [Row; 7] = [
     Row {
         ring: (2, Mode::Discard),
         cuts: 0,

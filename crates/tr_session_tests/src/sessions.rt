@@ -70,7 +70,7 @@ enum Step {
     Size(u64, (u128, u128, u128)),
 }
 
-const PAYLOAD: [u8; 153] = [0x61; 153];
+static PAYLOAD: [u8; 153] = [0x61; 153];
 
 /// A session of the nil identifier, at no offset.
 fn new_session<A: Allocator + Copy>(rt: &impl Abort, alloc: A, mode: SessionMode) -> Session<A> {

@@ -103,7 +103,7 @@ fn assert_steps(rt: &impl Abort, stream: &mut Stream, list: usize, steps: &[Step
     }
 }
 
-const PAYLOAD: [u8; 153] = [97; 153];
+static PAYLOAD: [u8; 153] = [97; 153];
 
 /// Makes a step, and asserts what it answers.
 fn assert_step(rt: &impl Abort, stream: &mut Stream, place: Place, step: &Step) {

@@ -26,7 +26,7 @@ pub(crate) fn last<T: Drop>(rt: &impl Abort, items: &mut Vec<T>) -> T {
 }
 
 /// The longest payload is what all others are the front of.
-pub(crate) const PAYLOAD: [u8; 153] = [0x61; 153];
+pub(crate) static PAYLOAD: [u8; 153] = [0x61; 153];
 
 /// What planning a session answers: one channel `c` with this many threads, of two sub-buffers of this many bytes each.
 pub(crate) fn plan_with(

@@ -121,7 +121,7 @@ fn offers<N: Names>(rt: &impl Abort, plan: Plan, steps: &[Step])
     }
 }
 
-const DISCARDING: [Step; 7] = [
+static DISCARDING: [Step; 7] = [
     (50, Ok(Offered::Stored { serial: 0, seq: 0 }), (1, 0, 0, 0)),
     (50, Ok(Offered::Stored { serial: 1, seq: 0 }), (2, 0, 0, 0)),
     (153, Err(OfferFault::TooBig), (2, 0, 0, 0)),
@@ -137,7 +137,7 @@ fn a_full_ring_discards_and_its_producer_tells(rt: HostRuntime) {
     offers::<Brand>(&rt, plan, &DISCARDING);
 }
 
-const OVERWRITING: [Step; 6] = [
+static OVERWRITING: [Step; 6] = [
     (64, Ok(Offered::Stored { serial: 0, seq: 0 }), (1, 0, 0, 0)),
     (64, Ok(Offered::Stored { serial: 1, seq: 0 }), (2, 0, 0, 0)),
     (64, Ok(Offered::Stored { serial: 2, seq: 1 }), (3, 0, 0, 0)),
@@ -298,7 +298,7 @@ fn a_desk_starts_and_stops_its_session(rt: HostRuntime) {
 }
 
 /// Modes of sessions, sizes of sub-buffers, numbers of threads, and why such a session is refused.
-const REFUSED: [(SessionMode, u64, u64, SessionFault); 3] = [
+static REFUSED: [(SessionMode, u64, u64, SessionFault); 3] = [
     (SessionMode::Local, 255, 1, SessionFault::BadGeometry),
     (SessionMode::Local, 256, 257, SessionFault::TooMany),
     (

@@ -66,13 +66,13 @@ fn assert_left(
 }
 
 /// What is made if the stream's file, the last one, can't be flushed, and if the metadata can't.
-const WITHOUT_STREAM: [Item<'static>; 3] = [
+static WITHOUT_STREAM: [Item<'static>; 3] = [
     ("folder", 0, FOLDER),
     ("file", 1082, METADATA),
     ("broken", 0, STREAM),
 ];
 
-const WITHOUT_METADATA: [Item<'static>; 2] = [("folder", 0, FOLDER), ("broken", 0, METADATA)];
+static WITHOUT_METADATA: [Item<'static>; 2] = [("folder", 0, FOLDER), ("broken", 0, METADATA)];
 
 #[test]
 fn each_file_is_ended_once_and_nothing_follows_a_broken_file(rt: HostRuntime) {

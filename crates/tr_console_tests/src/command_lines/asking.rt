@@ -8,7 +8,7 @@ const LAST: u64 = 9_000_000_000_000_000_000;
 const MOST: u64 = 18_446_744_073_709_551_615;
 
 /// Lines with the session, the stream and the serial that they ask about.
-const FATES: [(&str, &str, u64, u64); 7] = [
+static FATES: [(&str, &str, u64, u64); 7] = [
     ("fate s 0 5", "s", 0, 5),
     ("fate s 18446744073709551615 5", "s", MOST, 5),
     ("fate s 1 18446744073709551615", "s", 1, MOST),
@@ -18,7 +18,7 @@ const FATES: [(&str, &str, u64, u64); 7] = [
     ("fate 1x 2 1", "1x", 2, 1),
 ];
 
-const STATUSES: [(&str, &str); 5] = [
+static STATUSES: [(&str, &str); 5] = [
     ("status s", "s"),
     ("status help", "help"),
     ("status -- -x", "-x"),
@@ -26,14 +26,14 @@ const STATUSES: [(&str, &str); 5] = [
     ("status status", "status"),
 ];
 
-const ARCHIVES: [(&str, &str); 3] = [
+static ARCHIVES: [(&str, &str); 3] = [
     ("archives s", "s"),
     ("archives status", "status"),
     ("archives -- -x", "-x"),
 ];
 
 /// Lines with the session and the moment of a snapshot.
-const SNAPSHOTS: [(&str, &str, u64); 6] = [
+static SNAPSHOTS: [(&str, &str, u64); 6] = [
     ("snapshot s 1", "s", 1),
     ("snapshot s 0", "s", 0),
     ("snapshot s 9000000000000000000", "s", LAST),
@@ -66,7 +66,7 @@ fn reads_fates_statuses_archives_and_snapshots(rt: HostRuntime) {
 }
 
 /// The last six are of bad numbers.
-const BAD_FATES: [&str; 16] = [
+static BAD_FATES: [&str; 16] = [
     "fate",
     "fate s",
     "fate s 0",
@@ -85,9 +85,9 @@ const BAD_FATES: [&str; 16] = [
     "fate s 0 ",
 ];
 
-const BAD_STATUSES: [&str; 4] = ["status", "status -x", "status s t", "status -- s t"];
+static BAD_STATUSES: [&str; 4] = ["status", "status -x", "status s t", "status -- s t"];
 
-const BAD_ARCHIVES: [&str; 7] = [
+static BAD_ARCHIVES: [&str; 7] = [
     "archives",
     "archives s t",
     "archives s 0",
@@ -98,7 +98,7 @@ const BAD_ARCHIVES: [&str; 7] = [
 ];
 
 /// The last six are of bad moments.
-const BAD_SNAPSHOTS: [&str; 16] = [
+static BAD_SNAPSHOTS: [&str; 16] = [
     "snapshot",
     "snapshot s",
     "snapshot s 1 2",

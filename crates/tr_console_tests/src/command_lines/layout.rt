@@ -7,7 +7,7 @@ use tr_terms::Mode;
 const LONG: &str = "00000000-0000-0000-0000-000000000001";
 
 /// Lines with the session, its identifier, its offset, and whether it is to be a snapshot session.
-const SESSIONS: [(&str, &str, &str, i32, bool); 24] = [
+static SESSIONS: [(&str, &str, &str, i32, bool); 24] = [
     (
         "create s 00000000-0000-0000-0000-000000000001",
         "s",
@@ -50,7 +50,7 @@ const SESSIONS: [(&str, &str, &str, i32, bool); 24] = [
 ];
 
 /// Lines with the count and the mode of a channel.
-const CHANNELS: [(&str, u32, Mode); 4] = [
+static CHANNELS: [(&str, u32, Mode); 4] = [
     (
         "channel s c 256 4294967295 discard",
         4_294_967_295,
@@ -89,7 +89,7 @@ fn reads_sessions_channels_and_threads(rt: HostRuntime) {
     assert_asks(&rt, rt.alloc(), "thread s 1x", Some(thread));
 }
 
-const BAD_SNAPSHOT_FLAGS: [&str; 17] = [
+static BAD_SNAPSHOT_FLAGS: [&str; 17] = [
     "create s u --snapshot=x",
     "create s u --snapshot=true",
     "create s u --snapshot=",
@@ -110,7 +110,7 @@ const BAD_SNAPSHOT_FLAGS: [&str; 17] = [
     "--snapshot create s u",
 ];
 
-const BAD_SESSIONS: [&str; 6] = [
+static BAD_SESSIONS: [&str; 6] = [
     "create",
     "create s",
     "create s u t",
@@ -119,7 +119,7 @@ const BAD_SESSIONS: [&str; 6] = [
     "create -h",
 ];
 
-const BAD_OFFSETS: [&str; 18] = [
+static BAD_OFFSETS: [&str; 18] = [
     "create s u --west 1440",
     "create s u --east 1440",
     "create s u --east -5",
@@ -141,7 +141,7 @@ const BAD_OFFSETS: [&str; 18] = [
     "create s --east 3",
 ];
 
-const BAD_CHANNELS_AND_THREADS: [&str; 10] = [
+static BAD_CHANNELS_AND_THREADS: [&str; 10] = [
     "channel s c 4294967296 2 discard",
     "channel s c 256 4294967296 discard",
     "channel s c 256 2 overwrite2",

@@ -6,7 +6,7 @@ use tr_command::number;
 const MOST: u64 = 18_446_744_073_709_551_615;
 
 /// Texts, the most that is let through, and the number.
-const NUMBERS: [(&str, u64, Option<u64>); 11] = [
+static NUMBERS: [(&str, u64, Option<u64>); 11] = [
     ("0", 0, Some(0)),
     ("1", 0, None),
     ("000000000000000000000000000000000000000003", 3, Some(3)),

@@ -6,7 +6,7 @@ use std::process::Abort;
 use tr_command::parse;
 
 /// The last six are calls for help.
-const BAD: [&str; 18] = [
+static BAD: [&str; 18] = [
     "nope s",
     "statu s",
     "Status s",

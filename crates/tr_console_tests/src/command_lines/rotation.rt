@@ -6,14 +6,14 @@ use tr_command::Request;
 const LAST: u64 = 9_000_000_000_000_000_000;
 
 /// Lines with the session and the moment.
-const ROTATIONS: [(&str, &str, u64); 4] = [
+static ROTATIONS: [(&str, &str, u64); 4] = [
     ("rotate s 1", "s", 1),
     ("rotate s 9000000000000000000", "s", LAST),
     ("rotate rotate-begin 7", "rotate-begin", 7),
     ("rotate -- -s 007", "-s", 7),
 ];
 
-const BEGINS: [(&str, &str, u64); 5] = [
+static BEGINS: [(&str, &str, u64); 5] = [
     ("rotate-begin s 9000000000000000000", "s", LAST),
     ("rotate-begin s 0", "s", 0),
     ("rotate-begin s 0017", "s", 17),
@@ -21,9 +21,9 @@ const BEGINS: [(&str, &str, u64); 5] = [
     ("rotate-begin rotate 5", "rotate", 5),
 ];
 
-const NEXTS: [(&str, &str); 2] = [("rotate-next s", "s"), ("rotate-next help", "help")];
+static NEXTS: [(&str, &str); 2] = [("rotate-next s", "s"), ("rotate-next help", "help")];
 
-const FINISHES: [(&str, &str); 2] = [("rotate-finish s", "s"), ("rotate-finish -- -x", "-x")];
+static FINISHES: [(&str, &str); 2] = [("rotate-finish s", "s"), ("rotate-finish -- -x", "-x")];
 
 #[test]
 fn reads_rotations_and_their_steps(rt: HostRuntime) {
@@ -43,7 +43,7 @@ fn reads_rotations_and_their_steps(rt: HostRuntime) {
     }
 }
 
-const BAD_ROTATIONS: [&str; 8] = [
+static BAD_ROTATIONS: [&str; 8] = [
     "rotate",
     "rotate s",
     "rotate s 1 2",
@@ -54,7 +54,7 @@ const BAD_ROTATIONS: [&str; 8] = [
     "rotate s 1 --help",
 ];
 
-const BAD_STEPS: [&str; 18] = [
+static BAD_STEPS: [&str; 18] = [
     "rotate-begin",
     "rotate-begin s",
     "rotate-begin s 1 2",
@@ -75,7 +75,7 @@ const BAD_STEPS: [&str; 18] = [
     "rotate-finish -h",
 ];
 
-const PARTS_OF_THE_WORDS: [&str; 10] = [
+static PARTS_OF_THE_WORDS: [&str; 10] = [
     "rotate-b s 1",
     "rotate-begi s 1",
     "rotate-begins s 1",

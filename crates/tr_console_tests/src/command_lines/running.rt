@@ -7,9 +7,9 @@ const LAST: u64 = 9_000_000_000_000_000_000;
 
 const MOST: u64 = 18_446_744_073_709_551_615;
 
-const STOPS: [(&str, &str); 3] = [("stop s", "s"), ("stop stop", "stop"), ("stop -- -x", "-x")];
+static STOPS: [(&str, &str); 3] = [("stop s", "s"), ("stop stop", "stop"), ("stop -- -x", "-x")];
 
-const CONSUMES: [(&str, u64); 2] = [("consume s 3", 3), ("consume -- s 0", 0)];
+static CONSUMES: [(&str, u64); 2] = [("consume s 3", 3), ("consume -- s 0", 0)];
 
 #[test]
 fn reads_starts_stops_and_consumes(rt: HostRuntime) {
@@ -31,7 +31,7 @@ fn reads_starts_stops_and_consumes(rt: HostRuntime) {
 }
 
 /// Lines with the session, the text and the fill of an offer of the record 7 to stream 0 at moment 1.
-const OFFERS: [(&str, &str, &str, u32); 14] = [
+static OFFERS: [(&str, &str, &str, u32); 14] = [
     ("offer s 0 1 7", "s", "", 0),
     ("offer s 000 01 007 --fill 000003", "s", "", 3),
     ("offer help 0 1 7", "help", "", 0),
@@ -75,7 +75,7 @@ fn reads_offers(rt: HostRuntime) {
     }
 }
 
-const BAD_STARTS_AND_STOPS: [&str; 11] = [
+static BAD_STARTS_AND_STOPS: [&str; 11] = [
     "start s",
     "start s 1 2",
     "start s 9000000000000000001",
@@ -89,7 +89,7 @@ const BAD_STARTS_AND_STOPS: [&str; 11] = [
     "stop s --help",
 ];
 
-const BAD_OFFERS: [&str; 7] = [
+static BAD_OFFERS: [&str; 7] = [
     "offer s 0 1",
     "offer s 0 1 7 8",
     "offer -h",
@@ -99,7 +99,7 @@ const BAD_OFFERS: [&str; 7] = [
     "offer s 18446744073709551616 1 7",
 ];
 
-const BAD_OPTIONS: [&str; 16] = [
+static BAD_OPTIONS: [&str; 16] = [
     "offer s 0 1 7 --nope",
     "offer s 0 1 7 -t a",
     "offer s 0 1 7 --te a",
@@ -119,7 +119,7 @@ const BAD_OPTIONS: [&str; 16] = [
     "offer s 0 1 7 --fill x",
 ];
 
-const BAD_CONSUMES: [&str; 5] = [
+static BAD_CONSUMES: [&str; 5] = [
     "consume s",
     "consume s -1",
     "consume s 18446744073709551616",

@@ -8,7 +8,7 @@ const LAST: u64 = 9_000_000_000_000_000_000;
 const MOST: u64 = 18_446_744_073_709_551_615;
 
 /// Lines with the period and the size.
-const SCHEDULES: [(&str, Option<u64>, Option<u64>); 13] = [
+static SCHEDULES: [(&str, Option<u64>, Option<u64>); 13] = [
     ("schedule s", None, None),
     ("schedule s --every 5", Some(5), None),
     ("schedule s --size 7", None, Some(7)),
@@ -26,7 +26,7 @@ const SCHEDULES: [(&str, Option<u64>, Option<u64>); 13] = [
 ];
 
 /// Lines with the session and the moment.
-const TICKS: [(&str, &str, u64); 6] = [
+static TICKS: [(&str, &str, u64); 6] = [
     ("tick s 1", "s", 1),
     ("tick s 0", "s", 0),
     ("tick s 9000000000000000000", "s", LAST),
@@ -51,7 +51,7 @@ fn reads_schedules_and_ticks(rt: HostRuntime) {
     }
 }
 
-const BAD_SCHEDULES: [&str; 10] = [
+static BAD_SCHEDULES: [&str; 10] = [
     "schedule",
     "schedule --every 5",
     "schedule s t",
@@ -64,7 +64,7 @@ const BAD_SCHEDULES: [&str; 10] = [
     "Schedule s",
 ];
 
-const BAD_SCHEDULE_OPTIONS: [&str; 18] = [
+static BAD_SCHEDULE_OPTIONS: [&str; 18] = [
     "schedule s --every",
     "schedule s --size",
     "schedule s --every --size 7",
@@ -87,7 +87,7 @@ const BAD_SCHEDULE_OPTIONS: [&str; 18] = [
 ];
 
 /// The last six are of bad moments.
-const BAD_TICKS: [&str; 16] = [
+static BAD_TICKS: [&str; 16] = [
     "tick",
     "tick s",
     "tick s 1 2",

@@ -69,7 +69,7 @@ bad line
 bad line
 ";
 
-const CASES: [Case; 3] = [
+static CASES: [Case; 3] = [
     (
         "discarded and consumed records",
         &[OPENING, SIX_OFFERS, FATES],

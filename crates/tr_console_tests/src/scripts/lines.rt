@@ -26,7 +26,7 @@ bad line
 stored 2 in 0
 ";
 
-const CASES: [Case; 6] = [
+static CASES: [Case; 6] = [
     (
         "offers, a take and a status",
         &[OPENING, SIX_OFFERS],

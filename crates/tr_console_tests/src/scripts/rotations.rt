@@ -156,7 +156,7 @@ started
 archived 1 19700101T000000+0000-19700101T000000+0000-1
 ";
 
-const CASES: [Case; 6] = [
+static CASES: [Case; 6] = [
     (
         "what was taken and cut",
         &[OPENING, DISCARDS],

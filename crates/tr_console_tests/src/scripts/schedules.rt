@@ -51,7 +51,7 @@ refused S1 SnapshotMode
 idle
 ";
 
-const CASES: [Case; 3] = [
+static CASES: [Case; 3] = [
     ("what is due", &[OPENING, DUE], &[OPENED, DUE_ANSWERS], 0),
     (
         "schedules of nothing",

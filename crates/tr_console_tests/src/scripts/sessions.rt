@@ -102,7 +102,7 @@ refused K1 NoSession
 refused K1 NoSession
 ";
 
-const CASES: [Case; 5] = [
+static CASES: [Case; 5] = [
     ("the clock of a session", &[WEST], &[WEST_ANSWERS], 0),
     ("a session without streams", &[BARE], &[BARE_ANSWERS], 0),
     (

@@ -123,7 +123,7 @@ started
 snapshot 5
 ";
 
-const CASES: [Case; 6] = [
+static CASES: [Case; 6] = [
     (
         "discards, takes and rotations",
         &[SHOWN, REFUSED],

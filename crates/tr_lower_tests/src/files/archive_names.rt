@@ -27,7 +27,7 @@ fn assert_name(rt: &impl Abort, alloc: Global, (begin, end, minutes, id): Archiv
     );
 }
 
-const NAMES: [(Archive, &str); 15] = [
+static NAMES: [(Archive, &str); 15] = [
     // worked examples
     (
         (1_700_000_000 * SECOND, 1_700_000_060 * SECOND, -300, 0),

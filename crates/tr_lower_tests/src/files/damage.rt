@@ -78,7 +78,7 @@ fn assert_wanted(
 }
 
 /// For each length from the first number up to the second, what the audit of so many bytes of the file is to say.
-const CUTS: [(usize, usize, Want); 4] = [
+static CUTS: [(usize, usize, Want); 4] = [
     (0, 1, Want::Nothing),
     (1, 228, Want::Fault(0, Packet(Short))),
     (228, 229, Want::First),
@@ -107,7 +107,7 @@ fn a_cut_file(rt: HostRuntime) {
 }
 
 /// For each byte of the first packet, from the first number up to the second, what the audit is to say if it is damaged.
-const FIRST_PACKET: [(usize, usize, Want); 18] = [
+static FIRST_PACKET: [(usize, usize, Want); 18] = [
     (0, 4, Want::Fault(0, Packet(BadMagic))),
     (4, 20, Want::Fault(0, Foreign)),
     (20, 24, Want::Fault(0, Packet(BadStreamId))),
@@ -133,7 +133,7 @@ const FIRST_PACKET: [(usize, usize, Want); 18] = [
 ];
 
 /// The same for the second packet, whose fields are 228 bytes further on. It has a third record, at 456.
-const SECOND_PACKET: [(usize, usize, Want); 23] = [
+static SECOND_PACKET: [(usize, usize, Want); 23] = [
     (228, 232, Want::Fault(228, Packet(BadMagic))),
     (232, 248, Want::Fault(228, Foreign)),
     (248, 252, Want::Fault(228, Packet(BadStreamId))),

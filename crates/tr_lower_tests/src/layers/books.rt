@@ -86,7 +86,7 @@ fn a_cut_closes_the_part_behind_its_packets(rt: HostRuntime) {
 }
 
 /// Sizes and counts, and why they are refused.
-const GEOMETRIES: [(u64, u64, Option<GeometryFault>); 14] = [
+static GEOMETRIES: [(u64, u64, Option<GeometryFault>); 14] = [
     (255, 2, Some(GeometryFault::BadSize)),
     (131_072, 2, Some(GeometryFault::BadSize)),
     (255, 3, Some(GeometryFault::BadSize)),

@@ -9,7 +9,7 @@ use tr_record::{ByteSource, Failed, MemorySource};
 /// What a call of a reader answers: what it found with its text, or why nothing.
 type Answer<'a> = Result<(Found, Option<&'a str>), ReadFault>;
 
-const SCRIPTS: [(&[u8], &[Answer<'static>]); 4] = [
+static SCRIPTS: [(&[u8], &[Answer<'static>]); 4] = [
     (
         b"",
         &[Ok((Found::Last, Some(""))), Ok((Found::Last, Some("")))],
@@ -106,9 +106,9 @@ fn takes_lines_of_4096_bytes(rt: HostRuntime) {
     assert_script(&rt, rt.alloc(), &script, &pieces, &answers);
 }
 
-const FOUND: [Answer<'static>; 1] = [Ok((Found::Last, None))];
+static FOUND: [Answer<'static>; 1] = [Ok((Found::Last, None))];
 
-const REFUSED: [Answer<'static>; 1] = [Err(ReadFault::TooLong)];
+static REFUSED: [Answer<'static>; 1] = [Err(ReadFault::TooLong)];
 
 #[test]
 fn takes_scripts_of_16777216_bytes(rt: HostRuntime) {
@@ -150,7 +150,7 @@ impl ByteSource for Failing {
     }
 }
 
-const BROKEN_OFF: [Answer<'static>; 3] = [
+static BROKEN_OFF: [Answer<'static>; 3] = [
     Ok((Found::Whole, Some("a"))),
     Err(ReadFault::Read),
     Err(ReadFault::Read),

@@ -11,7 +11,7 @@ const LONGEST: &str = "abcdefghijklmnopqrstuvwxyz_ABCDEFGHIJKLMNOPQRSTUVWXYZ_012
 const TOO_LONG: &str = "abcdefghijklmnopqrstuvwxyz_ABCDEFGHIJKLMNOPQRSTUVWXYZ_0123456789x";
 
 /// Texts, and whether they are names.
-const TEXTS: [(&str, bool); 23] = [
+static TEXTS: [(&str, bool); 23] = [
     ("", false),
     (".", false),
     ("..", false),

@@ -7,7 +7,7 @@ use tr_record::{Moment, Rec, RecView, RecViews, Records, put_rec, read_raw, read
 use tr_testing::moment;
 
 /// The text of a record of id 7, moment 1 and serial 0 with the payload `A`.
-const ONE: [u8; 25] = [
+static ONE: [u8; 25] = [
     7, 0, 0, 0, 1, 0, 0, 0, 0, 0, 0, 0, 0, 0, 0, 0, 0, 0, 0, 0, 1, 0, 0, 0, 0x41,
 ];
 
@@ -130,7 +130,7 @@ fn moments_have_a_limit(rt: HostRuntime) {
 }
 
 /// Three records one after another, of 25, 25 and 24 bytes.
-const ROW: [u8; 74] = [
+static ROW: [u8; 74] = [
     7, 0, 0, 0, 1, 0, 0, 0, 0, 0, 0, 0, 0, 0, 0, 0, 0, 0, 0, 0, 1, 0, 0, 0, 0x41, //
     7, 0, 0, 0, 1, 0, 0, 0, 0, 0, 0, 0, 0, 0, 0, 0, 0, 0, 0, 0, 1, 0, 0, 0, 0x41, //
     7, 0, 0, 0, 1, 0, 0, 0, 0, 0, 0, 0, 0, 0, 0, 0, 0, 0, 0, 0, 0, 0, 0, 0,

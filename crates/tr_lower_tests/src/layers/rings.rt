@@ -97,7 +97,7 @@ fn assert_records(rt: &impl Abort, ring: &Ring, rows: &[(u64, usize)]) {
 }
 
 // two records of 74 bytes fit beside the packet's 80
-const DISCARDING: [(u64, usize, Pushed); 6] = [
+static DISCARDING: [(u64, usize, Pushed); 6] = [
     (0, 50, Pushed::Stored { seq: 0 }),
     (1, 50, Pushed::Stored { seq: 0 }),
     (2, 50, Pushed::Stored { seq: 1 }),
@@ -125,7 +125,7 @@ fn a_full_ring_discards_the_newest(rt: HostRuntime) {
 }
 
 // two records of 88 bytes fill a sub-buffer
-const OVERWRITING: [(u64, usize, Pushed); 5] = [
+static OVERWRITING: [(u64, usize, Pushed); 5] = [
     (0, 64, Pushed::Stored { seq: 0 }),
     (1, 64, Pushed::Stored { seq: 0 }),
     (2, 64, Pushed::Stored { seq: 1 }),
@@ -167,7 +167,7 @@ fn a_closed_current_one_waits(rt: HostRuntime) {
 }
 
 // two records of 74 bytes, or one of 176, leave no room for another of 74 beside the packet's 80
-const FIVE: [(u64, usize, Pushed); 5] = [
+static FIVE: [(u64, usize, Pushed); 5] = [
     (10, 50, Pushed::Stored { seq: 0 }),
     (11, 50, Pushed::Stored { seq: 0 }),
     (12, 152, Pushed::Stored { seq: 1 }),

@@ -12,7 +12,7 @@ type Words = (Option<u64>, Option<u64>);
 const BOTH: Words = (Some(100), Some(200));
 
 /// Schedules, when a chunk began and when it is looked at, how much of it there is, and why its rotation is due then.
-const DUE: [(Words, (u64, u64), &[u64], Option<Cause>); 16] = [
+static DUE: [(Words, (u64, u64), &[u64], Option<Cause>); 16] = [
     // a period and a size
     (BOTH, (0, 99), &[], None),
     (BOTH, (0, 100), &[], Some(Cause::Timer)),
@@ -65,7 +65,7 @@ fn a_rotation_is_due_by_its_period_or_its_size(rt: HostRuntime) {
 }
 
 /// Periods and sizes, and why they are no schedule.
-const SCHEDULES: [(Words, Option<ScheduleFault>); 7] = [
+static SCHEDULES: [(Words, Option<ScheduleFault>); 7] = [
     ((Some(0), None), Some(ScheduleFault::ZeroPeriod)),
     ((Some(0), Some(0)), Some(ScheduleFault::ZeroPeriod)),
     ((None, Some(0)), Some(ScheduleFault::ZeroSize)),

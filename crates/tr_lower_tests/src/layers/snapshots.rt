@@ -74,7 +74,7 @@ fn assert_packet<'a>(rt: &impl Abort, bytes: &'a [u8], seq: u64, serial: u64) ->
 }
 
 /// How many bytes a sink takes, and what writing 512 bytes to it answers.
-const WRITES: [(u64, Result<(), WriteFault>); 5] = [
+static WRITES: [(u64, Result<(), WriteFault>); 5] = [
     (0, Err(WriteFault::Write)),
     (255, Err(WriteFault::Write)),
     (256, Err(WriteFault::Write)),

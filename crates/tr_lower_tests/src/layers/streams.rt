@@ -34,7 +34,7 @@ fn bytes_go_through_memory_in_pieces_of_any_size(rt: HostRuntime) {
 }
 
 /// The size of pieces, and how many of four bytes are given and taken at once then.
-const PIECES: [(usize, usize); 4] = [(0, 1), (1, 1), (3, 3), (9, 4)];
+static PIECES: [(usize, usize); 4] = [(0, 1), (1, 1), (3, 3), (9, 4)];
 
 #[test]
 fn a_piece_has_the_size_that_was_asked(rt: HostRuntime) {
@@ -58,7 +58,7 @@ fn std_streams_go_through(rt: HostRuntime) {
 }
 
 /// What is put into a sink that fails after two bytes, what that answers, and what its flush answers then.
-const PUTS: [(&[u8], Result<(), Failed>, Result<(), Failed>); 3] = [
+static PUTS: [(&[u8], Result<(), Failed>, Result<(), Failed>); 3] = [
     (b"a", Ok(()), Ok(())),
     (b"b", Ok(()), Err(Failed)),
     (b"c", Err(Failed), Err(Failed)),

@@ -7,12 +7,12 @@ use std::process::Abort;
 use tr_book::GeometryFault;
 use tr_schedule::{Cause, ScheduleFault};
 
-const GEOMETRY: [(GeometryFault, (&str, &str, &str)); 2] = [
+static GEOMETRY: [(GeometryFault, (&str, &str, &str)); 2] = [
     (GeometryFault::BadSize, ("G1", "BadSize", "G1 BadSize")),
     (GeometryFault::BadCount, ("G2", "BadCount", "G2 BadCount")),
 ];
 
-const SCHEDULE: [(ScheduleFault, (&str, &str, &str)); 2] = [
+static SCHEDULE: [(ScheduleFault, (&str, &str, &str)); 2] = [
     (
         ScheduleFault::ZeroPeriod,
         ("D1", "ZeroPeriod", "D1 ZeroPeriod"),

@@ -46,10 +46,10 @@ bad line
 
 const FAULT: &[u8] = b"tracerd: read or write fault\n";
 
-const WORDS: [&str; 3] = ["script", "--out", "d"];
+static WORDS: [&str; 3] = ["script", "--out", "d"];
 
 /// A load of one thread and three records, and what is said of it.
-const LOAD: [&str; 9] = [
+static LOAD: [&str; 9] = [
     "load",
     "--threads",
     "1",

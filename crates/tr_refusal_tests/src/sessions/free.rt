@@ -10,7 +10,7 @@ use tr_session::Session;
 use tr_terms::SessionMode;
 
 /// Steps with memory, and then some that take none.
-pub(super) const FREE: [(&[Step], &[Step]); 3] = [
+pub(super) static FREE: [(&[Step], &[Step]); 3] = [
     (&[], &[Step::Schedule(1), Step::Start, Step::Stop]),
     (
         &[Step::Channel("c"), Step::Threads("c", 2)],

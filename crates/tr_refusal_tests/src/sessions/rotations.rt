@@ -42,7 +42,7 @@ const ROTATED: [Step; 8] = [
 
 /// A rotation asks for its archive's place before it begins, and a tick for the streams' sizes before that. A cut of an empty
 /// ring that had one before asks for nothing.
-pub(super) const ROTATIONS: [Row; 4] = [
+pub(super) static ROTATIONS: [Row; 4] = [
     Row {
         mode: SessionMode::Local,
         steps: &FOUR,

@@ -9,7 +9,7 @@ const NO_TAKE: Told = Told::Taken(Err(StepFault::Take(TakeFault::NoMemory)));
 
 const NO_CUT: StepFault = StepFault::Cut(CutFault::NoMemory);
 
-const ADDING: [Row; 4] = [
+static ADDING: [Row; 4] = [
     Row {
         mode: SessionMode::Local,
         steps: &[],
@@ -54,7 +54,7 @@ pub(super) const BEGUN: [Step; 6] = [
     Step::Begin(50),
 ];
 
-const STEPS: [Row; 6] = [
+static STEPS: [Row; 6] = [
     Row {
         mode: SessionMode::Local,
         steps: &THREE,

@@ -16,7 +16,7 @@ use tr_terms::{Mode, SessionMode};
 
 /// One stream from the start to a packet. Beside a packet's 80 bytes there are 176: two records of 74 leave room for one of
 /// 28 and for no third of 74.
-const ONE_STREAM: [Step; 13] = [
+static ONE_STREAM: [Step; 13] = [
     Channel("c", (256, 2, Mode::Discard), Ok(())),
     Threads("c", 0, 1),
     State(New),
@@ -52,7 +52,7 @@ fn one_stream_from_the_start_to_a_packet(rt: HostRuntime) {
 }
 
 /// Streams that stand apart. Two records of 88 bytes fill a sub-buffer.
-const THREE_STREAMS: [Step; 13] = [
+static THREE_STREAMS: [Step; 13] = [
     Channel("small", (256, 2, Mode::Overwrite), Ok(())),
     Channel("large", (512, 4, Mode::Discard), Ok(())),
     Threads("large", 0, 1),
@@ -104,7 +104,7 @@ fn streams_stand_apart(rt: HostRuntime) {
 }
 
 /// Fates tell where records are. Two records of 88 bytes fill a sub-buffer, and the fifth overwrites the first two.
-const FATES: [Step; 30] = [
+static FATES: [Step; 30] = [
     Channel("c", (256, 2, Mode::Overwrite), Ok(())),
     Channel("d", (256, 2, Mode::Discard), Ok(())),
     Threads("c", 0, 1),
@@ -155,7 +155,7 @@ const SMALL: (u64, u64, Mode) = (256, 2, Mode::Discard);
 
 /// Channels are refused in order: a count or a size that no ring has; then a name that is taken, and a ninth channel,
 /// whatever its geometry.
-const CHANNELS: [Step; 15] = [
+static CHANNELS: [Step; 15] = [
     Channel("c", (255, 2, Mode::Discard), Err(BadGeometry)),
     Channel("c", (256, 3, Mode::Discard), Err(BadGeometry)),
     Channel("c", (131_072, 2, Mode::Discard), Err(BadGeometry)),
@@ -174,7 +174,7 @@ const CHANNELS: [Step; 15] = [
 ];
 
 /// What is refused of a session that was started.
-const STARTED: [Step; 4] = [
+static STARTED: [Step; 4] = [
     Start(0, Ok(())),
     Channel("a", (255, 2, Mode::Discard), Err(AlreadyStarted)),
     NoThread("x", AlreadyStarted),
@@ -197,7 +197,7 @@ fn channels_are_refused_in_order(rt: HostRuntime) {
 }
 
 /// Streams are refused in order.
-const STREAMS: [Step; 12] = [
+static STREAMS: [Step; 12] = [
     NoThread("c", NoChannel),
     Channel("c", SMALL, Ok(())),
     Threads("c", 0, 256),
@@ -219,7 +219,7 @@ fn streams_are_refused_in_order(rt: HostRuntime) {
 }
 
 /// The channel that the book tells of each stream.
-const CHANNEL_OF: [Step; 4] = [
+static CHANNEL_OF: [Step; 4] = [
     Channel("c", (256, 2, Mode::Discard), Ok(())),
     Channel("d", (512, 2, Mode::Overwrite), Ok(())),
     Threads("d", 0, 1),
@@ -250,7 +250,7 @@ fn assert_named(rt: &impl Abort, alloc: Global, fault: StepFault, text: &str) {
 }
 
 /// The faults of a session, and what they print.
-const FAULTS: [(SessionFault, &str); 18] = [
+static FAULTS: [(SessionFault, &str); 18] = [
     (SessionFault::SnapshotMode, "S1 SnapshotMode"),
     (SessionFault::NotSnapshotMode, "S2 NotSnapshotMode"),
     (SessionFault::NeverStarted, "S3 NeverStarted"),

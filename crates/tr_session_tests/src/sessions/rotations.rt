@@ -17,7 +17,7 @@ use tr_terms::{Mode, OffsetMinutes, SessionMode};
 use uuid::Uuid;
 
 /// A session of no stream.
-const EMPTY: [Step; 6] = [
+static EMPTY: [Step; 6] = [
     Start(0, Ok(())),
     Begin(5, Ok(0)),
     Next(Ok(AllCut)),
@@ -30,7 +30,7 @@ const EMPTY: [Step; 6] = [
 const DISCARD: Step = Channel("c", (256, 2, Mode::Discard), Ok(()));
 
 /// Chunks that follow each other: a rotation's moment is never before the session's last one.
-const CHUNKS: [Step; 9] = [
+static CHUNKS: [Step; 9] = [
     DISCARD,
     Threads("c", 0, 1),
     Start(0, Ok(())),
@@ -60,7 +60,7 @@ fn chunks_follow_each_other(rt: HostRuntime) {
 }
 
 /// Refusals before a rotation, while it is pending, and after it.
-const REFUSALS: [Step; 16] = [
+static REFUSALS: [Step; 16] = [
     DISCARD,
     Threads("c", 0, 1),
     Start(0, Ok(())),
@@ -89,7 +89,7 @@ const NOTHING: CutDone = CutDone {
 };
 
 /// Streams are cut in order, each once.
-const CUTS: [Step; 10] = [
+static CUTS: [Step; 10] = [
     DISCARD,
     Threads("c", 0, 2),
     Start(0, Ok(())),
@@ -103,7 +103,7 @@ const CUTS: [Step; 10] = [
 ];
 
 /// A stopped session rotates once.
-const STOPPED: [Step; 12] = [
+static STOPPED: [Step; 12] = [
     DISCARD,
     Threads("c", 0, 1),
     Start(0, Ok(())),
@@ -130,9 +130,9 @@ fn refusals_of_a_rotation(rt: HostRuntime) {
 }
 
 /// A new session has no chunk, and its first begins with its first start.
-const NEW: [Step; 2] = [Rotate(1, Err(NeverStarted)), Stop(Err(NotActive))];
+static NEW: [Step; 2] = [Rotate(1, Err(NeverStarted)), Stop(Err(NotActive))];
 
-const BEGINS: [Step; 5] = [
+static BEGINS: [Step; 5] = [
     Start(20, Ok(())),
     Stop(Ok(())),
     Start(30, Ok(())),
@@ -151,7 +151,7 @@ fn a_new_session_has_no_chunk(rt: HostRuntime) {
 }
 
 /// Of six records of 88 bytes the first two were overwritten; two of the next four overwrite two others.
-const OVERWRITTEN: [Step; 11] = [
+static OVERWRITTEN: [Step; 11] = [
     Channel("c", (256, 2, Mode::Overwrite), Ok(())),
     Threads("c", 0, 1),
     Start(0, Ok(())),

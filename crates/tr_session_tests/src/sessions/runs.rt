@@ -159,7 +159,7 @@ const TAKEN_BEFORE: Taken = Taken {
 };
 
 /// A rotation of two streams. The first is cut, and takes from both go on: what each takes goes to its own chunk.
-const ROTATION: [Call; 17] = [
+static ROTATION: [Call; 17] = [
     SessionStart(0, Ok(())),
     Start(0, Ok(())),
     Start(1, Ok(())),
@@ -180,14 +180,14 @@ const ROTATION: [Call; 17] = [
 ];
 
 /// Where records are before the second cut.
-const BEFORE: [Step; 3] = [
+static BEFORE: [Step; 3] = [
     Step::Fate(0, 1, Ok(Some(Fate::InChunk { chunk: 1, seq: 1 }))),
     Step::Fate(0, 3, Ok(Some(Fate::InRing { seq: 2 }))),
     Step::Fate(1, 2, Ok(Some(Fate::InRing { seq: 1 }))),
 ];
 
 /// Where they are after it: it moved the record that was offered after the rotation's begin.
-const BEHIND: [Step; 3] = [
+static BEHIND: [Step; 3] = [
     Step::Fate(0, 1, Ok(Some(Fate::InChunk { chunk: 1, seq: 1 }))),
     Step::Fate(0, 3, Ok(Some(Fate::InRing { seq: 2 }))),
     Step::Fate(1, 2, Ok(Some(Fate::InChunk { chunk: 0, seq: 1 }))),
@@ -207,7 +207,7 @@ fn takes_during_a_rotation(rt: HostRuntime) {
 }
 
 /// A rotation that ends, and what follows it.
-const ENDED: [Call; 13] = [
+static ENDED: [Call; 13] = [
     SessionStart(0, Ok(())),
     Start(0, Ok(())),
     Start(1, Ok(())),
@@ -239,7 +239,7 @@ fn a_rotation_begins_and_ends(rt: HostRuntime) {
 }
 
 /// Two looks, after six offers and after a seventh.
-const LOOKS: [Call; 11] = [
+static LOOKS: [Call; 11] = [
     SessionStart(0, Ok(())),
     Start(0, Ok(())),
     Offer(0, 1, Ok(Offered::Stored { serial: 0, seq: 0 })),
@@ -272,7 +272,7 @@ const LOOKS: [Call; 11] = [
 ];
 
 /// Looks that are refused.
-const REFUSED: [Call; 4] = [
+static REFUSED: [Call; 4] = [
     Snap(0, 5, Err(SessionFault::NeverStarted)),
     SessionStart(0, Ok(())),
     Snap(1, 5, Err(SessionFault::NoStream)),

@@ -80,7 +80,7 @@ pub(super) fn assert_shown<A: Allocator + Copy>(
 }
 
 /// Channels of a snapshot session overwrite.
-const CHANNELS: [Step; 4] = [
+static CHANNELS: [Step; 4] = [
     Channel("c", (255, 2, Mode::Discard), Err(BadGeometry)),
     Channel("c", (256, 2, Mode::Discard), Err(DiscardInSnapshot)),
     Channel("c", (256, 2, Mode::Overwrite), Ok(())),
@@ -95,13 +95,13 @@ fn channels_of_a_snapshot_session_overwrite(rt: HostRuntime) {
 }
 
 /// A stream of two sub-buffers of 256 bytes.
-const UNSTARTED: [Step; 2] = [
+static UNSTARTED: [Step; 2] = [
     Channel("c", (256, 2, Mode::Overwrite), Ok(())),
     Threads("c", 0, 1),
 ];
 
 /// Offers of 64 bytes at 1 to 6: two of them fill a sub-buffer.
-const OFFERED: [Step; 2] = [Start(0, Ok(())), Offers(1, 7, 64)];
+static OFFERED: [Step; 2] = [Start(0, Ok(())), Offers(1, 7, 64)];
 
 /// A session that made these steps.
 fn filled<A: Allocator + Copy>(rt: &impl Abort, alloc: A) -> Session<A> {
@@ -132,7 +132,7 @@ const SEVEN: Shown = Shown {
 };
 
 /// Snapshots change nothing but the last moment, and never go back in time.
-const LOOKS: [Step; 6] = [
+static LOOKS: [Step; 6] = [
     Show(10, SIX),
     Show(10, SIX),
     Last(10),
@@ -151,7 +151,7 @@ const NONE: Shown = Shown {
     records: &[],
 };
 
-const WITHOUT_OFFERS: [Step; 6] = [
+static WITHOUT_OFFERS: [Step; 6] = [
     NoShow(5, NeverStarted),
     Last(0),
     Start(2, Ok(())),
@@ -184,7 +184,7 @@ fn a_snapshot_of_two_full_packets_has_512_bytes(rt: HostRuntime) {
 }
 
 /// A snapshot session has no chunks.
-const NO_CHUNKS: [Step; 6] = [
+static NO_CHUNKS: [Step; 6] = [
     Take(1, Err(StepFault::Session(NoStream))),
     Take(0, Err(StepFault::Take(TakeFault::SnapshotMode))),
     Rotate(6, Err(SnapshotMode)),
@@ -194,7 +194,7 @@ const NO_CHUNKS: [Step; 6] = [
 ];
 
 /// A local session has no snapshots.
-const NO_SNAPSHOTS: [Step; 6] = [
+static NO_SNAPSHOTS: [Step; 6] = [
     Channel("c", (256, 2, Mode::Overwrite), Ok(())),
     Threads("c", 0, 1),
     NoShow(5, NotSnapshotMode),

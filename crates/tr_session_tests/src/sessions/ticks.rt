@@ -11,7 +11,7 @@ use tr_stream::Taken;
 use tr_terms::{Mode, SessionMode};
 
 /// A session of one stream with two sub-buffers of 256 bytes, with a rotation every 100 nanoseconds and at 200 bytes.
-const SCHEDULED: [Step; 4] = [
+static SCHEDULED: [Step; 4] = [
     Channel("c", (256, 2, Mode::Discard), Ok(())),
     Threads("c", 0, 1),
     Schedule(Some((100, Some(200))), Ok(())),
@@ -26,7 +26,7 @@ const TAKEN: Taken = Taken {
 };
 
 /// What follows the start of that session.
-const DUE: [&[Step]; 3] = [
+static DUE: [&[Step]; 3] = [
     // a period, and then a size
     &[
         Tick(99, None),
@@ -60,7 +60,7 @@ fn ticks_rotate_when_it_is_due(rt: HostRuntime) {
 }
 
 /// Ticks of a session before its start, and of one without a schedule.
-const UNSCHEDULED: [Step; 8] = [
+static UNSCHEDULED: [Step; 8] = [
     Channel("c", (256, 2, Mode::Discard), Ok(())),
     Threads("c", 0, 1),
     Schedule(Some((100, None)), Ok(())),
@@ -72,7 +72,7 @@ const UNSCHEDULED: [Step; 8] = [
 ];
 
 /// Ticks of a scheduled session while a rotation is pending, and while the session is stopped.
-const HELD: [Step; 14] = [
+static HELD: [Step; 14] = [
     Tick(100, Some((Timer, (0, 0, 100)))),
     Offers(101, 104, 50),
     Take(0, Ok(TAKEN)),

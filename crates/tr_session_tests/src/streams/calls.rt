@@ -12,7 +12,7 @@ use tr_stream::Fate::{Discarded, InChunk, InRing, Overwritten};
 use tr_stream::{CutDone, CutFault, OfferFault, Offered, SessionMode, TakeFault, Taken};
 use tr_testing::moment;
 
-const OFFERS: [(Mode, &[Step]); 3] = [
+static OFFERS: [(Mode, &[Step]); 3] = [
     // a record fills a sub-buffer
     (
         Mode::Discard,
@@ -108,7 +108,7 @@ fn offers_and_takes(rt: HostRuntime) {
 }
 
 /// The packet of the first record. The second record's own moment was before the first one's.
-const TAKE: [Step; 3] = [
+static TAKE: [Step; 3] = [
     Take(Ok(Taken {
         seq: 0,
         count: 1,
@@ -139,7 +139,7 @@ fn a_take_makes_a_packet_of_the_current_part(rt: HostRuntime) {
     assert_steps(&rt, &mut stream, 0, &TAKE);
 }
 
-const CUTS: [(Mode, &[Step]); 3] = [
+static CUTS: [(Mode, &[Step]); 3] = [
     // a cut closes a part with all that the ring has
     (
         Mode::Discard,

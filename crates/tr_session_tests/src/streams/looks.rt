@@ -31,7 +31,7 @@ const CLOSED: PacketRow = PacketRow {
     records: &[(2, 3, 64), (3, 4, 64)],
 };
 
-const SNAPSHOTS: [(Mode, &[Step]); 4] = [
+static SNAPSHOTS: [(Mode, &[Step]); 4] = [
     // what offers answer
     (
         Mode::Overwrite,
@@ -178,7 +178,7 @@ const SNAPSHOTS: [(Mode, &[Step]); 4] = [
     ),
 ];
 
-const DISCARDING: [(Mode, &[Step]); 1] = [(
+static DISCARDING: [(Mode, &[Step]); 1] = [(
     Mode::Discard,
     &[
         Peek(5, (0, 0), &[]),

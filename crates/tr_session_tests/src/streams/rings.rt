@@ -5,7 +5,7 @@ use super::assert_lists;
 use tr_book::Mode;
 use tr_stream::{CutDone, OfferFault, Offered, SessionMode, TakeFault, Taken};
 
-const RINGS: [(Mode, &[Step]); 4] = [
+static RINGS: [(Mode, &[Step]); 4] = [
     // a record has the moment that was stored
     (
         Mode::Discard,

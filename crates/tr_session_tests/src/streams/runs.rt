@@ -12,7 +12,7 @@ use tr_stream::{
 use tr_testing::moment;
 
 /// The offer at 3 closes the first packet, and record 4 is discarded.
-const CALLS: [Step; 13] = [
+static CALLS: [Step; 13] = [
     Start,
     Offer(1, 50, Ok(Offered::Stored { serial: 0, seq: 0 })),
     Offer(2, 50, Ok(Offered::Stored { serial: 1, seq: 0 })),

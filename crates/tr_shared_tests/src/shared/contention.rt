@@ -559,7 +559,7 @@ fn settles<N: Names>(
 }
 
 /// How many producers and how many drainers are held back, and why the session isn't settled then.
-const HELD_BACK: [((usize, usize), SettleError); 3] = [
+static HELD_BACK: [((usize, usize), SettleError); 3] = [
     ((1, 0), SettleError::ProducerMissing),
     ((1, 1), SettleError::ProducerMissing),
     ((0, 1), SettleError::DrainerMissing),

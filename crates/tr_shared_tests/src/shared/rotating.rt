@@ -120,7 +120,7 @@ fn rotates_between<N: Names>(rt: &(impl Abort + Wait), alloc: Global, plan: Plan
 }
 
 /// A stream, a serial, and what became of that record.
-const FATES: [(u64, u64, Fate); 3] = [
+static FATES: [(u64, u64, Fate); 3] = [
     (0, 1, Fate::InChunk { chunk: 1, seq: 1 }),
     (0, 3, Fate::InRing { seq: 2 }),
     (1, 2, Fate::InChunk { chunk: 0, seq: 1 }),

@@ -167,7 +167,7 @@ fn assert_offers<N: Names>(
 
 /// The first stream's offers make three packets, of which the third overwrites the first, and the second stream's make one.
 /// The first stream's last offer is at an earlier moment than the one before it.
-const OFFERS: [Offer; 8] = [
+static OFFERS: [Offer; 8] = [
     (0, 5, 7, &[0x62; 64], Offered::Stored { serial: 0, seq: 0 }),
     (0, 9, 8, &[0x63; 64], Offered::Stored { serial: 1, seq: 0 }),
     (1, 30, 21, b"second", Offered::Stored { serial: 0, seq: 0 }),
@@ -254,7 +254,7 @@ const AFTER_OFFERS: Stage = Stage {
 };
 
 /// The first stream's offer begins a packet that overwrites the oldest one, and the third stream's is its first.
-const LATER_OFFERS: [Offer; 2] = [
+static LATER_OFFERS: [Offer; 2] = [
     (
         0,
         45,

@@ -8,7 +8,7 @@ use tr_session::{Next, StepFault};
 use tr_stream::{TakeFault, Taken};
 use tr_terms::SessionMode;
 
-const CALLS: [Row; 6] = [
+static CALLS: [Row; 6] = [
     Row {
         mode: SessionMode::Local,
         steps: &THREE,
@@ -61,7 +61,7 @@ const CALLS: [Row; 6] = [
 ];
 
 /// A take moves two records to a chunk, and the first stream's cut all seven that it has. Nothing else does.
-const CALL_SUMS: [&[Sums]; 6] = [
+static CALL_SUMS: [&[Sums]; 6] = [
     &[(8, 0, &[0, 0, 0]), (8, 2, &[0, 0, 0])],
     &[(8, 0, &[0, 0, 0]), (8, 0, &[0, 0, 0])],
     &[(8, 0, &[0, 0, 0]), (8, 7, &[1, 0, 0])],
@@ -77,7 +77,7 @@ fn a_call_of_a_shared_session_without_memory_changes_nothing_else(rt: HostRuntim
 }
 
 /// What whole rotations leave: the cuts that were made are of the first streams, and moved all that these had.
-const ROTATION_SUMS: [&[Sums]; 4] = [
+static ROTATION_SUMS: [&[Sums]; 4] = [
     &[
         (16, 0, &[0, 0, 0, 0]),
         (16, 0, &[0, 0, 0, 0]),
