@@ -198,5 +198,6 @@ fn a_worker_waits_for_the_feeders_beside_it(rt: HostRuntime) {
         panic!(&rt; "not fed and drained")
     };
     assert_same(&rt, takes.as_slice() == [1].as_slice(), true);
+    assert_same(&rt, left.load(Ordering::SeqCst), 0);
     assert_both_fed(&rt, alloc, fed);
 }
