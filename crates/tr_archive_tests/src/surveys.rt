@@ -143,21 +143,59 @@ impl<'a, R: Abort> Room<'a, R> {
     }
 }
 
+/// What a room has.
+enum Thing {
+    /// The session, with its archives of these numbers.
+    Session(&'static [&'static str]),
+    /// The folder of an archive, with the names of the files in it.
+    Archive(&'static str, &'static [&'static str]),
+    /// The metadata of an archive, which name this identifier.
+    Metadata(&'static str, u8),
+    /// A file of an archive with packets of a stream, as `packets` takes them.
+    Packets(&'static str, &'static str, u64, &'static [(u64, &'static [u64])]),
+}
+
+impl<'a, R: Abort> Room<'a, R> {
+    fn thing(&mut self, thing: &Thing) {
+        match thing {
+            Thing::Session(archives) => self.session(archives),
+            Thing::Archive(number, files) => self.archive(number, files),
+            Thing::Metadata(archive, last) => self.metadata(archive, uuid(*last)),
+            Thing::Packets(archive, name, stream, rows) => {
+                self.packets(archive, name, *stream, rows);
+            }
+        }
+    }
+}
+
+/// A room with these things.
+fn furnished<'a, R: Abort>(rt: &'a R, alloc: Global, things: &[Thing]) -> Room<'a, R> {
+    let mut room = Room::new(rt, alloc);
+    for thing in things {
+        room.thing(thing);
+    }
+    room
+}
+
+static EXAMPLE: [Thing; 10] = [
+    Thing::Session(&["1", "0"]),
+    Thing::Archive("0", &["c_2", "metadata", "c_0", "c_1"]),
+    Thing::Metadata("0", 1),
+    Thing::Packets("0", "c_1", 1, &[]),
+    Thing::Archive("1", &["c_2", "metadata", "c_0", "c_1"]),
+    Thing::Metadata("1", 1),
+    Thing::Packets("1", "c_1", 1, &[]),
+    Thing::Packets("0", "c_0", 0, &[(1, &[0, 2]), (3, &[4, 5])]),
+    Thing::Packets("1", "c_0", 0, &[(4, &[8, 9])]),
+    Thing::Packets("1", "c_2", 2, &[(2, &[3])]),
+];
+
 /// The worked example: two archives, three streams, one of which is cut off in its second packet.
 fn worked<'a, R: Abort>(rt: &'a R, alloc: Global) -> Room<'a, R> {
-    let mut room = Room::new(rt, alloc);
-    room.session(&["1", "0"]);
-    for archive in ["0", "1"] {
-        room.archive(archive, &["c_2", "metadata", "c_0", "c_1"]);
-        room.metadata(archive, uuid(1));
-        room.packets(archive, "c_1", 1, &[]);
-    }
-    room.packets("0", "c_0", 0, &[(1, &[0, 2]), (3, &[4, 5])]);
-    room.packets("1", "c_0", 0, &[(4, &[8, 9])]);
+    let mut room = furnished(rt, alloc, &EXAMPLE);
     let mut cut = packets(rt, alloc, 2, &[(0, &[0, 1]), (1, &[2])]);
     cut.truncate(300);
     room.file("0", "c_2", cut);
-    room.packets("1", "c_2", 2, &[(2, &[3])]);
     room
 }
 
@@ -178,21 +216,48 @@ fn worked_example(rt: HostRuntime) {
     }
 }
 
+static WHOLE: [Thing; 7] = [
+    Thing::Session(&["9", "10"]),
+    Thing::Archive("9", &["metadata", "a_b_2_3"]),
+    Thing::Metadata("9", 1),
+    Thing::Packets("9", "a_b_2_3", 3, &[(0, &[0])]),
+    Thing::Archive("10", &["metadata", "a_b_2_3"]),
+    Thing::Metadata("10", 1),
+    Thing::Packets("10", "a_b_2_3", 3, &[(1, &[1])]),
+];
+
 #[test]
 fn nothing_wrong(rt: HostRuntime) {
-    let mut room = Room::new(&rt, rt.alloc());
-    room.session(&["9", "10"]);
-    for (archive, seq) in [("9", 0), ("10", 1)] {
-        room.archive(archive, &["metadata", "a_b_2_3"]);
-        room.metadata(archive, uuid(1));
-        room.packets(archive, "a_b_2_3", 3, &[(seq, &[seq])]);
-    }
     let expected = "session s uuid 00000000-0000-0000-0000-000000000001 archives 2
 stream 3 a_b_2 packets 2 records 2 absent 0 lost 0 last 1 1
 whole
 ";
-    room.says(64, expected, 0);
+    furnished(&rt, rt.alloc(), &WHOLE).says(64, expected, 0);
 }
+
+/// An archive whose end has another offset than its begin.
+const WEST: &str = "19700101T000000+0000-19700101T000000-0130-7";
+
+static ARCHIVES: [&str; 6] = [
+    "19700101T000000+0000-19700101T000000+0000-07",
+    "19700101T000000+0000-19700101T000000+0000-",
+    "19700101T000000+0000-19700101T000000+0000-8",
+    "19700101T000000*0000-19700101T000000+0000-7",
+    "19700101T000000+0000-7",
+    WEST,
+];
+
+static FILES: [&str; 9] = [
+    "index",
+    "c_",
+    "_1",
+    "c_01",
+    "c_+1",
+    "c1",
+    "9c_1",
+    "c_18446744073709551616",
+    "c_0",
+];
 
 /// What isn't named as a session, an archive or a stream's file is passed over.
 #[test]
@@ -200,41 +265,13 @@ fn other_names(rt: HostRuntime) {
     let mut room = Room::new(&rt, rt.alloc());
     room.folder(&["d"], &["9s", "s.old", "t", "s", "r", "u"]);
     room.folder(&["d/r/archives"], &["index"]);
-    let archive = "19700101T000000+0000-19700101T000000-0130-7";
-    let names = [
-        "19700101T000000+0000-19700101T000000+0000-07",
-        "19700101T000000+0000-19700101T000000+0000-",
-        "19700101T000000+0000-19700101T000000+0000-8",
-        "19700101T000000*0000-19700101T000000+0000-7",
-        "19700101T000000+0000-7",
-        archive,
-    ];
-    room.folder(&["d/s/archives"], &names);
-    let files = [
-        "index",
-        "c_",
-        "_1",
-        "c_01",
-        "c_+1",
-        "c1",
-        "9c_1",
-        "c_18446744073709551616",
-        "c_0",
-    ];
-    room.folder(&["d/s/archives/", archive], &files);
-    for name in ["metadata", "c_0"] {
-        let bytes = match name {
-            "metadata" => text(
-                &rt,
-                rt.alloc(),
-                &["  uuid = \"00000000-0000-0000-0000-000000000001\";"],
-            )
-            .into_bytes(),
-            _ => Vec::new(rt.alloc()),
-        };
-        let path = text(&rt, rt.alloc(), &["d/s/archives/", archive, "/", name]);
-        room.add_file(path, bytes);
-    }
+    room.folder(&["d/s/archives"], &ARCHIVES);
+    room.folder(&["d/s/archives/", WEST], &FILES);
+    let path = text(&rt, rt.alloc(), &["d/s/archives/", WEST, "/metadata"]);
+    let line = "  uuid = \"00000000-0000-0000-0000-000000000001\";";
+    room.add_file(path, text(&rt, rt.alloc(), &[line]).into_bytes());
+    let path = text(&rt, rt.alloc(), &["d/s/archives/", WEST, "/c_0"]);
+    room.add_file(path, Vec::new(rt.alloc()));
     let expected = "session r uuid none archives 0
 session s uuid 00000000-0000-0000-0000-000000000001 archives 1
 stream 0 c packets 0 records 0 absent 0 lost 0 last none
@@ -243,22 +280,26 @@ whole
     room.says(64, expected, 0);
 }
 
+static METADATA: [Thing; 11] = [
+    Thing::Session(&["0", "1", "2", "3"]),
+    Thing::Archive("0", &["c_0"]),
+    Thing::Packets("0", "c_0", 0, &[]),
+    Thing::Archive("1", &["c_0"]),
+    Thing::Packets("1", "c_0", 0, &[]),
+    Thing::Archive("2", &["c_0"]),
+    Thing::Packets("2", "c_0", 0, &[]),
+    Thing::Archive("3", &["c_0"]),
+    Thing::Packets("3", "c_0", 0, &[]),
+    Thing::Metadata("2", 1),
+    Thing::Metadata("3", 2),
+];
+
 /// The first archive that names an identifier gives the session's.
 #[test]
 fn metadata_at_fault(rt: HostRuntime) {
-    let mut room = Room::new(&rt, rt.alloc());
-    room.session(&["0", "1", "2", "3"]);
-    for archive in ["0", "1", "2", "3"] {
-        room.archive(archive, &["c_0"]);
-        room.packets(archive, "c_0", 0, &[]);
-    }
-    room.file(
-        "1",
-        "metadata",
-        text(&rt, rt.alloc(), &["uuid = 1;\n"]).into_bytes(),
-    );
-    room.metadata("2", uuid(1));
-    room.metadata("3", uuid(2));
+    let mut room = furnished(&rt, rt.alloc(), &METADATA);
+    let other = text(&rt, rt.alloc(), &["uuid = 1;\n"]);
+    room.file("1", "metadata", other.into_bytes());
     let expected = "session s uuid 00000000-0000-0000-0000-000000000001 archives 4
 fault 19700101T000000+0000-19700101T000000+0000-0 no metadata
 fault 19700101T000000+0000-19700101T000000+0000-1 no uuid
@@ -269,37 +310,41 @@ faulty 3
     room.says(64, expected, 3);
 }
 
+static NO_METADATA: [Thing; 3] = [
+    Thing::Session(&["0"]),
+    Thing::Archive("0", &["c_0"]),
+    Thing::Packets("0", "c_0", 0, &[]),
+];
+
 #[test]
 fn no_identifier(rt: HostRuntime) {
-    let mut room = Room::new(&rt, rt.alloc());
-    room.session(&["0"]);
-    room.archive("0", &["c_0"]);
-    room.packets("0", "c_0", 0, &[]);
     let expected = "session s uuid none archives 1
 fault 19700101T000000+0000-19700101T000000+0000-0 no metadata
 faulty 1
 ";
-    room.says(64, expected, 1);
+    furnished(&rt, rt.alloc(), &NO_METADATA).says(64, expected, 1);
 }
+
+static AT_FAULT: [Thing; 14] = [
+    Thing::Session(&["0", "1", "2"]),
+    Thing::Metadata("0", 1),
+    Thing::Metadata("1", 1),
+    Thing::Metadata("2", 1),
+    Thing::Archive("0", &["c_0", "c_1", "c_3"]),
+    Thing::Archive("1", &["c_0", "c_3"]),
+    Thing::Archive("2", &["c_0", "c_1", "d_2"]),
+    Thing::Packets("0", "c_0", 0, &[(0, &[0])]),
+    Thing::Packets("1", "c_0", 0, &[(1, &[1]), (1, &[2])]),
+    Thing::Packets("2", "c_0", 0, &[]),
+    Thing::Packets("0", "c_1", 1, &[]),
+    Thing::Packets("2", "c_1", 1, &[]),
+    Thing::Packets("2", "d_2", 2, &[]),
+    Thing::Packets("0", "c_3", 4, &[(0, &[0])]),
+];
 
 /// Of each stream the first thing that is wrong, in order of archives.
 #[test]
 fn streams_at_fault(rt: HostRuntime) {
-    let mut room = Room::new(&rt, rt.alloc());
-    room.session(&["0", "1", "2"]);
-    for archive in ["0", "1", "2"] {
-        room.metadata(archive, uuid(1));
-    }
-    room.archive("0", &["c_0", "c_1", "c_3"]);
-    room.archive("1", &["c_0", "c_3"]);
-    room.archive("2", &["c_0", "c_1", "d_2"]);
-    room.packets("0", "c_0", 0, &[(0, &[0])]);
-    room.packets("1", "c_0", 0, &[(1, &[1]), (1, &[2])]);
-    room.packets("2", "c_0", 0, &[]);
-    room.packets("0", "c_1", 1, &[]);
-    room.packets("2", "c_1", 1, &[]);
-    room.packets("2", "d_2", 2, &[]);
-    room.packets("0", "c_3", 4, &[(0, &[0])]);
     let expected = "session s uuid 00000000-0000-0000-0000-000000000001 archives 3
 fault 0 19700101T000000+0000-19700101T000000+0000-1 154 A2 NumberRepeat
 fault 1 19700101T000000+0000-19700101T000000+0000-1 no file
@@ -307,7 +352,7 @@ fault 2 19700101T000000+0000-19700101T000000+0000-0 no file
 fault 3 19700101T000000+0000-19700101T000000+0000-0 0 A4 Foreign
 faulty 4
 ";
-    room.says(64, expected, 4);
+    furnished(&rt, rt.alloc(), &AT_FAULT).says(64, expected, 4);
 }
 
 #[test]

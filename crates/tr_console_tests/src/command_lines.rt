@@ -32,6 +32,16 @@ fn assert_asks(rt: &impl Abort, alloc: Global, line: &str, request: Option<Reque
     assert_same(rt, (line, asked), (line, request));
 }
 
+/// A line, and what it asks for.
+type Asks<'a> = (&'a str, Request<'a>);
+
+/// Asserts what each of the lines asks for.
+fn assert_each_asks(rt: &impl Abort, alloc: Global, rows: &[Asks<'_>]) {
+    for (line, request) in rows {
+        assert_asks(rt, alloc, line, Some(*request));
+    }
+}
+
 /// Asserts that each of the lines is a bad one.
 fn assert_bad(rt: &impl Abort, alloc: Global, lines: &[&str]) {
     for line in lines {

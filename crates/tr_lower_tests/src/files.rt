@@ -9,7 +9,7 @@ use crate::packing::put_in_part;
 use std::alloc::Global;
 use std::fmt::Display;
 use std::process::Abort;
-use tr_book::Parts;
+use tr_book::{Part, Parts};
 use tr_chunk::{
     AuditCause, AuditFault, StreamAudit, WriteFault, audit_stream, stream_file_name,
     write_metadata, write_part,
@@ -27,6 +27,20 @@ fn uuid() -> Uuid {
     Uuid::from_bytes(TRACE)
 }
 
+/// The longest payload is what all others are the front of.
+static PAYLOAD: [u8; 64] = [0x61; 64];
+
+/// Records with these serials, moments and lengths.
+fn records(rt: &impl Abort, alloc: Global, rows: &[(u64, u64, usize)]) -> Vec<Rec> {
+    let mut records = Vec::new(alloc);
+    for (serial, at, len) in rows {
+        let bytes = PAYLOAD.get(..*len).expect(rt, "a short payload");
+        let record = Rec::copy_of(alloc, *serial, moment(*at), 7, bytes).expect(rt, "memory");
+        records.push(record).expect(rt, "memory");
+    }
+    records
+}
+
 /// A packet of records with these serials, moments and lengths; the first is at the packet's begin.
 fn packet(
     rt: &impl Abort,
@@ -34,13 +48,6 @@ fn packet(
     (seq, begin, end, discarded): (u64, u64, u64, u64),
     rows: &[(u64, u64, usize)],
 ) -> Packet {
-    let payload = [0x61; 64];
-    let mut records = Vec::new(alloc);
-    for (serial, at, len) in rows {
-        let bytes = payload.get(..*len).expect(rt, "a short payload");
-        let record = Rec::copy_of(alloc, *serial, moment(*at), 7, bytes).expect(rt, "memory");
-        records.push(record).expect(rt, "memory");
-    }
     let head = Head {
         uuid: uuid(),
         stream: 0,
@@ -49,7 +56,7 @@ fn packet(
         seq,
         discarded,
     };
-    Packet::checked(head, records).expect(rt, "a packet")
+    Packet::checked(head, records(rt, alloc, rows)).expect(rt, "a packet")
 }
 
 /// Two packets, of 228 and of 256 bytes; one record was discarded between them.
@@ -143,26 +150,19 @@ fn assert_told(rt: &impl Abort, alloc: Global, case: usize, pieces: &[&[u8]], to
     for feeds in FEEDS {
         match audit_in(rt, alloc, (&uuid(), 0), pieces, feeds) {
             Ok(audit) => assert_audit(rt, case, &audit, told),
-            Err(fault) => panic!(rt; "case {case}: {fault:?}"),
+            Err(fault) => assert_same(rt, (case, Some(fault)), (case, None)),
         }
     }
 }
 
 /// Asserts what an audit says, in this case of a test.
 fn assert_audit(rt: &impl Abort, case: usize, audit: &StreamAudit, told: &Told<'_>) {
-    assert_same(
-        rt,
-        (case, audit.packets, audit.records),
-        (case, told.packets, told.records),
-    );
+    let counts = (audit.packets, audit.records, audit.last_discarded);
+    let wanted = (told.packets, told.records, told.last_discarded);
+    assert_same(rt, (case, counts), (case, wanted));
     assert_same(rt, (case, audit.gaps.as_slice()), (case, told.gaps));
-    assert_same(rt, (case, audit.last_seq), (case, told.last_seq));
-    assert_same(rt, (case, audit.last_serial), (case, told.last_serial));
-    assert_same(
-        rt,
-        (case, audit.last_discarded),
-        (case, told.last_discarded),
-    );
+    let last = (audit.last_seq, audit.last_serial);
+    assert_same(rt, (case, last), (case, (told.last_seq, told.last_serial)));
 }
 
 /// Asserts the fault of the audit of these pieces, as those of this stream, in this case of a test, however their bytes come.
@@ -212,11 +212,7 @@ fn the_metadata_is_written(rt: HostRuntime) {
 
 #[test]
 fn packets_are_written_one_after_another(rt: HostRuntime) {
-    let both = both(&rt, rt.alloc());
-    let mut texts = Vec::new(rt.alloc());
-    for packet in &both {
-        append(&rt, rt.alloc(), &mut texts, packet);
-    }
+    let texts = texts_of_both(&rt, rt.alloc());
     let file = file_of(&rt, rt.alloc(), &parts(&rt, rt.alloc()), 100);
     assert_same(&rt, texts.len(), 484);
     assert_same(&rt, file.as_slice(), texts.as_slice());
@@ -225,20 +221,40 @@ fn packets_are_written_one_after_another(rt: HostRuntime) {
     assert_same(&rt, none.len(), 0);
 }
 
+/// The texts of both packets, end to end.
+fn texts_of_both(rt: &impl Abort, alloc: Global) -> Vec<u8> {
+    let mut texts = Vec::new(alloc);
+    for packet in &both(rt, alloc) {
+        append(rt, alloc, &mut texts, packet);
+    }
+    texts
+}
+
+/// How many bytes a sink takes, and what writing a part of 484 bytes to it answers.
+static WRITES: [(u64, Result<(), WriteFault>); 5] = [
+    (0, Err(WriteFault::Write)),
+    (227, Err(WriteFault::Write)),
+    (228, Err(WriteFault::Write)),
+    (483, Err(WriteFault::Write)),
+    (484, Ok(())),
+];
+
+/// Asserts what writing a part answers if the sink takes this many bytes.
+fn assert_write(rt: &impl Abort, part: &Part, bytes: u64, want: Result<(), WriteFault>) {
+    let mut sink = WriterSink::new(FailsAfter::new(bytes));
+    assert_same(rt, (bytes, write_part(&mut sink, part)), (bytes, want));
+}
+
 #[test]
 fn a_sink_that_fails(rt: HostRuntime) {
     let parts = parts(&rt, rt.alloc());
-    for (bytes, want) in [
-        (0, Err(WriteFault::Write)),
-        (227, Err(WriteFault::Write)),
-        (228, Err(WriteFault::Write)),
-        (483, Err(WriteFault::Write)),
-        (484, Ok(())),
-    ] {
-        let mut sink = WriterSink::new(FailsAfter::new(bytes));
-        let answer = write_part(&mut sink, parts.current());
-        assert_same(&rt, (bytes, answer), (bytes, want));
+    for (bytes, want) in &WRITES {
+        assert_write(&rt, parts.current(), *bytes, *want);
     }
+}
+
+#[test]
+fn a_sink_that_fails_amid_the_metadata(rt: HostRuntime) {
     let mut sink = WriterSink::new(FailsAfter::new(3));
     let answer = write_metadata(rt.alloc(), &mut sink, &uuid());
     assert_same(&rt, answer, Err(WriteFault::Write));

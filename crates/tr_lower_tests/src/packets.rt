@@ -78,21 +78,6 @@ fn assert_next(rt: &impl Abort, shown: &mut Packets<'_>, count: usize, seq: u64)
     assert!(rt; packet.records().has(seq) && !packet.records().has(4));
 }
 
-#[test]
-fn packets_are_shown_one_after_another(rt: HostRuntime) {
-    let mut texts = PacketTexts::new(rt.alloc());
-    for seq in [3, 5] {
-        let mut head = head();
-        head.seq = seq;
-        let packet = packet(&rt, rt.alloc(), head, &[(seq, 1, 1)]);
-        put(&rt, rt.alloc(), &mut texts, &packet);
-    }
-    let mut shown = texts.packets();
-    assert_next(&rt, &mut shown, 2, 3);
-    assert_next(&rt, &mut shown, 1, 5);
-    assert!(rt; shown.next().is_none());
-}
-
 /// The texts of packets with these numbers, which are also the serials of their only records.
 fn texts_of(rt: &impl Abort, alloc: Global, numbers: &[u64]) -> PacketTexts {
     let mut texts = PacketTexts::new(alloc);
@@ -110,9 +95,21 @@ fn texts_of(rt: &impl Abort, alloc: Global, numbers: &[u64]) -> PacketTexts {
 }
 
 #[test]
+fn packets_are_shown_one_after_another(rt: HostRuntime) {
+    let texts = texts_of(&rt, rt.alloc(), &[3, 5]);
+    let mut shown = texts.packets();
+    assert_next(&rt, &mut shown, 2, 3);
+    assert_next(&rt, &mut shown, 1, 5);
+    assert!(rt; shown.next().is_none());
+}
+
+/// The numbers of the packets that are moved behind others in turn.
+static MOVED: [&[u64]; 3] = [&[3], &[], &[5, 6]];
+
+#[test]
 fn packets_are_moved_behind_others(rt: HostRuntime) {
     let mut texts = PacketTexts::new(rt.alloc());
-    for numbers in [[3].as_slice(), &[], &[5, 6]] {
+    for numbers in &MOVED {
         let more = texts_of(&rt, rt.alloc(), numbers);
         texts.append(more).expect(&rt, "memory");
     }
@@ -289,17 +286,24 @@ fn assert_sizes(rt: &impl Abort, bytes: &mut [u8], rows: &[(u64, u64, Option<Pac
     }
 }
 
+/// What follows a packet: more bytes than its size can tell.
+static BEHIND: [u8; 70_000] = [0; 70_000];
+
 #[test]
 fn sizes(rt: HostRuntime) {
     let mut bytes = two_records(&rt, rt.alloc());
-    append(&rt, &mut bytes, &[0; 70_000]);
+    append(&rt, &mut bytes, &BEHIND);
     assert_sizes(&rt, &mut bytes, &SIZES);
-    // the size of a packet without a byte of payload, and of the largest
+}
+
+/// The 832 bits of a packet without a byte of payload, twice: its content, and all of it.
+static LEAST: [u8; 16] = [0x40, 3, 0, 0, 0, 0, 0, 0, 0x40, 3, 0, 0, 0, 0, 0, 0];
+
+#[test]
+fn the_least_and_the_greatest_size(rt: HostRuntime) {
     let least = written(&rt, rt.alloc(), head(), &[(0, 1, 0)]);
     assert_same(&rt, least.len(), 104);
-    let bits = 832u64.to_le_bytes();
-    assert_same(&rt, least.get(48..56), Some(bits.as_slice()));
-    assert_same(&rt, least.get(56..64), Some(bits.as_slice()));
+    assert_same(&rt, least.get(48..64), Some(LEAST.as_slice()));
     assert_size(&rt, &least, 104);
     let greatest = written(&rt, rt.alloc(), head(), &[(0, 1, 65_432)]);
     assert_size(&rt, &greatest, 65_536);

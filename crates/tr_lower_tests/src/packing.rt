@@ -13,7 +13,7 @@ pub fn put(rt: &impl Abort, alloc: Global, texts: &mut PacketTexts, packet: &Pac
 {
     let bytes = encode_packet(alloc, packet).expect(rt, "memory");
     let (view, _) = decode_packet(&bytes).expect(rt, "a packet");
-    assert_eq!(rt; view.head(), packet.head());
+    assert!(rt; view.head() == packet.head());
     let put = texts.push(view.head(), view.count(), &view.records());
     put.expect(rt, "memory");
 }

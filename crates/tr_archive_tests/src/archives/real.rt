@@ -8,6 +8,7 @@ use std::os::unix::fs::symlink;
 use std::process::Abort;
 use tr_export::{ExportFault, HostFiles, SystemDisk};
 use tr_packet::metadata_text;
+use tr_session::Session;
 use tr_testing::free_path;
 
 fn exists(rt: &impl Abort, host: &HostRuntime, path: &str) -> bool {
@@ -41,17 +42,24 @@ fn assert_files(rt: &impl Abort, host: &HostRuntime, dir: &str) {
     assert_same(rt, second, Some(b"\xC1\x1F\xFC\xC1".as_slice()));
 }
 
+/// Writes the archive of `rotated`, and asserts that its files are there.
+fn assert_made(rt: &impl Abort, host: &HostRuntime, dir: &str, session: &Session) {
+    let mut disk = SystemDisk::new(HostFiles::new(host));
+    assert_written(rt, host.alloc(), &mut disk, dir, session);
+    assert_files(rt, host, dir);
+}
+
+/// More bytes than the stream's file has.
+static LONGER: [u8; 600] = [0x62; 600];
+
 #[test]
 fn files_are_written_and_replaced(rt: HostRuntime) {
     let dir = free_path(&rt, "tr_export_files").expect(&rt, "a path");
     let session = rotated(&rt, rt.alloc());
-    let mut disk = SystemDisk::new(HostFiles::new(&rt));
-    assert_written(&rt, rt.alloc(), &mut disk, dir.as_str(), &session);
-    assert_files(&rt, &rt, dir.as_str());
+    assert_made(&rt, &rt, dir.as_str(), &session);
     let path = path_in(&rt, rt.alloc(), dir.as_str(), "c_0");
-    write_file(&rt, &rt, path.as_str(), &[0x62; 600]);
-    assert_written(&rt, rt.alloc(), &mut disk, dir.as_str(), &session);
-    assert_files(&rt, &rt, dir.as_str());
+    write_file(&rt, &rt, path.as_str(), &LONGER);
+    assert_made(&rt, &rt, dir.as_str(), &session);
     remove(&rt, &rt, dir.as_str());
 }
 

@@ -1,6 +1,6 @@
 //! Surveys of folders in the file system.
 
-use super::{Room, STAMPS, WORKED, assert_same, worked};
+use super::{Room, STAMPS, Thing, WORKED, assert_same, furnished, worked};
 use crate::folders::{make_folder, remove};
 use std::alloc::Global;
 use std::fs;
@@ -53,27 +53,36 @@ fn files_are_surveyed(rt: HostRuntime) {
     remove(&rt, &rt, home.as_str());
 }
 
+/// Two archives; the second has no file of the stream.
+static PLACES: [Thing; 5] = [
+    Thing::Archive("0", &[]),
+    Thing::Packets("0", "c_0", 0, &[]),
+    Thing::Metadata("0", 1),
+    Thing::Archive("1", &[]),
+    Thing::Metadata("1", 1),
+];
+
+/// Makes an empty file at this path below a folder.
+fn write_nothing(rt: &impl Abort, host: &HostRuntime, home: &str, path: &str) {
+    let path = joined(rt, host.alloc(), home, path);
+    fs::write(host, path.as_str(), b"").expect(rt, "the file system");
+}
+
 /// A folder in a file's place is no file, and a file in a folder's place is no folder.
 #[test]
 fn what_is_no_file_is_none(rt: HostRuntime) {
     let home = free_path(&rt, "tr_survey_places").expect(&rt, "a path");
-    let mut room = Room::new(&rt, rt.alloc());
-    room.archive("0", &[]);
-    room.file("0", "c_0", Vec::new(rt.alloc()));
-    room.metadata("0", super::uuid(1));
-    room.archive("1", &[]);
-    room.metadata("1", super::uuid(1));
+    let mut room = furnished(&rt, rt.alloc(), &PLACES);
     room.folder(&["d/s/archives/", STAMPS, "1/c_0"], &[]);
     room.folder(&["d/t"], &[]);
     lay_out(&rt, &rt, home.as_str(), &room);
-    let nothing = Vec::new(rt.alloc());
-    for path in [
+    write_nothing(
+        &rt,
+        &rt,
+        home.as_str(),
         "d/s/archives/19700101T000000+0000-19700101T000000+0000-2",
-        "d/u",
-    ] {
-        let path = joined(&rt, rt.alloc(), home.as_str(), path);
-        fs::write(&rt, path.as_str(), nothing.as_slice()).expect(&rt, "the file system");
-    }
+    );
+    write_nothing(&rt, &rt, home.as_str(), "d/u");
     let text = "session s uuid 00000000-0000-0000-0000-000000000001 archives 2
 fault 0 19700101T000000+0000-19700101T000000+0000-1 no file
 faulty 1

@@ -1,78 +1,113 @@
 //! Lines that start and stop a session, and those for its streams while it runs.
 
-use super::{assert_asks, assert_bad};
+use super::{Asks, assert_bad, assert_each_asks};
 use tr_command::Request;
 
 const LAST: u64 = 9_000_000_000_000_000_000;
 
 const MOST: u64 = 18_446_744_073_709_551_615;
 
-static STOPS: [(&str, &str); 3] = [("stop s", "s"), ("stop stop", "stop"), ("stop -- -x", "-x")];
+/// A line, and the session that it stops.
+macro_rules! stop {
+    ($line:expr, $session:expr $(,)?) => {
+        (
+            $line,
+            Request::Stop {
+                session: $session,
+            },
+        )
+    };
+}
 
-static CONSUMES: [(&str, u64); 2] = [("consume s 3", 3), ("consume -- s 0", 0)];
+static STOPS: [Asks<'static>; 3] = [
+    stop!("stop s", "s"),
+    stop!("stop stop", "stop"),
+    stop!("stop -- -x", "-x"),
+];
+
+/// A line, and the stream of `s` from which it takes.
+macro_rules! consume {
+    ($line:expr, $stream:expr $(,)?) => {
+        (
+            $line,
+            Request::Consume {
+                session: "s",
+                stream: $stream,
+            },
+        )
+    };
+}
+
+static CONSUMES: [Asks<'static>; 2] = [consume!("consume s 3", 3), consume!("consume -- s 0", 0)];
+
+static STARTS: [Asks<'static>; 1] = [(
+    "start s 9000000000000000000",
+    Request::Start {
+        session: "s",
+        moment: LAST,
+    },
+)];
 
 #[test]
 fn reads_starts_stops_and_consumes(rt: HostRuntime) {
-    let start = Request::Start {
-        session: "s",
-        moment: LAST,
-    };
-    assert_asks(&rt, rt.alloc(), "start s 9000000000000000000", Some(start));
-    for &(line, session) in &STOPS {
-        assert_asks(&rt, rt.alloc(), line, Some(Request::Stop { session }));
-    }
-    for &(line, stream) in &CONSUMES {
-        let consume = Request::Consume {
-            session: "s",
-            stream,
-        };
-        assert_asks(&rt, rt.alloc(), line, Some(consume));
-    }
+    assert_each_asks(&rt, rt.alloc(), &STARTS);
+    assert_each_asks(&rt, rt.alloc(), &STOPS);
+    assert_each_asks(&rt, rt.alloc(), &CONSUMES);
 }
 
-/// Lines with the session, the text and the fill of an offer of the record 7 to stream 0 at moment 1.
-static OFFERS: [(&str, &str, &str, u32); 14] = [
-    ("offer s 0 1 7", "s", "", 0),
-    ("offer s 000 01 007 --fill 000003", "s", "", 3),
-    ("offer help 0 1 7", "help", "", 0),
-    ("offer -- -s 0 1 7", "-s", "", 0),
+/// A line, and the session, the text and the fill of an offer of the record 7 to stream 0 at moment 1.
+macro_rules! offer {
+    ($line:expr, $session:expr, $text:expr, $fill:expr $(,)?) => {
+        (
+            $line,
+            Request::Offer {
+                session: $session,
+                stream: 0,
+                moment: 1,
+                id: 7,
+                text: $text,
+                fill: $fill,
+            },
+        )
+    };
+}
+
+static OFFERS: [Asks<'static>; 14] = [
+    offer!("offer s 0 1 7", "s", "", 0),
+    offer!("offer s 000 01 007 --fill 000003", "s", "", 3),
+    offer!("offer help 0 1 7", "help", "", 0),
+    offer!("offer -- -s 0 1 7", "-s", "", 0),
     // options anywhere
-    ("offer s 0 1 7 --fill=3", "s", "", 3),
-    ("offer --fill 3 s 0 1 7", "s", "", 3),
-    ("offer s --text a 0 1 --fill=3 7", "s", "a", 3),
-    ("offer s 0 1 7 --fill 3 --text a", "s", "a", 3),
-    ("offer --text a -- s 0 1 7", "s", "a", 0),
+    offer!("offer s 0 1 7 --fill=3", "s", "", 3),
+    offer!("offer --fill 3 s 0 1 7", "s", "", 3),
+    offer!("offer s --text a 0 1 --fill=3 7", "s", "a", 3),
+    offer!("offer s 0 1 7 --fill 3 --text a", "s", "a", 3),
+    offer!("offer --text a -- s 0 1 7", "s", "a", 0),
     // odd texts
-    ("offer s 0 1 7 --text=", "s", "", 0),
-    ("offer s 0 1 7 --text=-x", "s", "-x", 0),
-    ("offer s 0 1 7 --text=--fill", "s", "--fill", 0),
-    ("offer s 0 1 7 --text -", "s", "-", 0),
-    ("offer s 0 1 7 --text #", "s", "#", 0),
+    offer!("offer s 0 1 7 --text=", "s", "", 0),
+    offer!("offer s 0 1 7 --text=-x", "s", "-x", 0),
+    offer!("offer s 0 1 7 --text=--fill", "s", "--fill", 0),
+    offer!("offer s 0 1 7 --text -", "s", "-", 0),
+    offer!("offer s 0 1 7 --text #", "s", "#", 0),
 ];
 
-#[test]
-fn reads_offers(rt: HostRuntime) {
-    let largest = Request::Offer {
+/// An offer with the largest numbers.
+static LARGEST: [Asks<'static>; 1] = [(
+    "offer s 18446744073709551615 1 4294967295 --text hello --fill 65536",
+    Request::Offer {
         session: "s",
         stream: MOST,
         moment: 1,
         id: 4_294_967_295,
         text: "hello",
         fill: 65_536,
-    };
-    let line = "offer s 18446744073709551615 1 4294967295 --text hello --fill 65536";
-    assert_asks(&rt, rt.alloc(), line, Some(largest));
-    for &(line, session, text, fill) in &OFFERS {
-        let offer = Request::Offer {
-            session,
-            stream: 0,
-            moment: 1,
-            id: 7,
-            text,
-            fill,
-        };
-        assert_asks(&rt, rt.alloc(), line, Some(offer));
-    }
+    },
+)];
+
+#[test]
+fn reads_offers(rt: HostRuntime) {
+    assert_each_asks(&rt, rt.alloc(), &LARGEST);
+    assert_each_asks(&rt, rt.alloc(), &OFFERS);
 }
 
 static BAD_STARTS_AND_STOPS: [&str; 11] = [

@@ -1,54 +1,69 @@
 //! Lines of rotations by a schedule.
 
-use super::{assert_asks, assert_bad};
+use super::{Asks, assert_bad, assert_each_asks};
 use tr_command::Request;
 
 const LAST: u64 = 9_000_000_000_000_000_000;
 
 const MOST: u64 = 18_446_744_073_709_551_615;
 
-/// Lines with the period and the size.
-static SCHEDULES: [(&str, Option<u64>, Option<u64>); 13] = [
-    ("schedule s", None, None),
-    ("schedule s --every 5", Some(5), None),
-    ("schedule s --size 7", None, Some(7)),
-    ("schedule s --every 5 --size 7", Some(5), Some(7)),
-    ("schedule s --size 7 --every 5", Some(5), Some(7)),
-    ("schedule --every=5 s --size=7", Some(5), Some(7)),
-    ("schedule --size 7 -- s", None, Some(7)),
+/// A line, and the period and the size of a schedule of `s`.
+macro_rules! schedule {
+    ($line:expr, $every:expr, $size:expr $(,)?) => {
+        (
+            $line,
+            Request::Schedule {
+                session: "s",
+                every: $every,
+                size: $size,
+            },
+        )
+    };
+}
+
+static SCHEDULES: [Asks<'static>; 13] = [
+    schedule!("schedule s", None, None),
+    schedule!("schedule s --every 5", Some(5), None),
+    schedule!("schedule s --size 7", None, Some(7)),
+    schedule!("schedule s --every 5 --size 7", Some(5), Some(7)),
+    schedule!("schedule s --size 7 --every 5", Some(5), Some(7)),
+    schedule!("schedule --every=5 s --size=7", Some(5), Some(7)),
+    schedule!("schedule --size 7 -- s", None, Some(7)),
     // numbers
-    ("schedule s --every 0", Some(0), None),
-    ("schedule s --size 0", None, Some(0)),
-    ("schedule s --every 0060", Some(60), None),
-    ("schedule s --size 007", None, Some(7)),
-    ("schedule s --every 18446744073709551615", Some(MOST), None),
-    ("schedule s --size 18446744073709551615", None, Some(MOST)),
+    schedule!("schedule s --every 0", Some(0), None),
+    schedule!("schedule s --size 0", None, Some(0)),
+    schedule!("schedule s --every 0060", Some(60), None),
+    schedule!("schedule s --size 007", None, Some(7)),
+    schedule!("schedule s --every 18446744073709551615", Some(MOST), None),
+    schedule!("schedule s --size 18446744073709551615", None, Some(MOST)),
 ];
 
-/// Lines with the session and the moment.
-static TICKS: [(&str, &str, u64); 6] = [
-    ("tick s 1", "s", 1),
-    ("tick s 0", "s", 0),
-    ("tick s 9000000000000000000", "s", LAST),
-    ("tick s 0017", "s", 17),
-    ("tick tick 5", "tick", 5),
-    ("tick -- -s 5", "-s", 5),
+/// A line, and the session and the moment of a tick.
+macro_rules! tick {
+    ($line:expr, $session:expr, $moment:expr $(,)?) => {
+        (
+            $line,
+            Request::Tick {
+                session: $session,
+                moment: $moment,
+            },
+        )
+    };
+}
+
+static TICKS: [Asks<'static>; 6] = [
+    tick!("tick s 1", "s", 1),
+    tick!("tick s 0", "s", 0),
+    tick!("tick s 9000000000000000000", "s", LAST),
+    tick!("tick s 0017", "s", 17),
+    tick!("tick tick 5", "tick", 5),
+    tick!("tick -- -s 5", "-s", 5),
 ];
 
 #[test]
 fn reads_schedules_and_ticks(rt: HostRuntime) {
-    for &(line, every, size) in &SCHEDULES {
-        let schedule = Request::Schedule {
-            session: "s",
-            every,
-            size,
-        };
-        assert_asks(&rt, rt.alloc(), line, Some(schedule));
-    }
-    for &(line, session, moment) in &TICKS {
-        let tick = Request::Tick { session, moment };
-        assert_asks(&rt, rt.alloc(), line, Some(tick));
-    }
+    assert_each_asks(&rt, rt.alloc(), &SCHEDULES);
+    assert_each_asks(&rt, rt.alloc(), &TICKS);
 }
 
 static BAD_SCHEDULES: [&str; 10] = [

@@ -96,41 +96,96 @@ fn assert_records(rt: &impl Abort, ring: &Ring, rows: &[(u64, usize)]) {
     assert_same(rt, (k, none), (k, (true, true)));
 }
 
+/// What is done to a ring, or asked of it.
+enum Step {
+    /// A record with this serial and a payload of this length, and what is answered.
+    Push(u64, usize, Pushed),
+    /// The current sub-buffer is closed at 5000.
+    Close,
+    /// The oldest closed sub-buffer goes.
+    Remove,
+    /// All records go.
+    Clear,
+    /// How many sub-buffers wait, of how many, how many records were discarded, and the current sub-buffer's number and
+    /// records.
+    Ring((usize, usize, u64, u64, usize)),
+    /// The oldest closed sub-buffer's number, its end, what was discarded until then, and how many records it has.
+    Front((u64, u64, u64, usize)),
+    /// The same of the closed sub-buffer at this place, and none after it.
+    Last(usize, (u64, u64, u64, usize)),
+    /// The record at this place of the oldest closed sub-buffer: its serial, and the length of its payload.
+    InFront(usize, u64, usize),
+    /// The serial of each record and the length of its payload.
+    Shows(&'static [(u64, usize)]),
+}
+
+/// Makes a step of a ring.
+fn make(rt: &impl Abort, ring: &mut Ring, step: &Step) {
+    match step {
+        Step::Push(k, len, want) => assert_pushed(rt, ring, *k, payload(rt, *len), *want),
+        Step::Close => close_current(rt, ring),
+        Step::Remove => remove_oldest(rt, ring),
+        Step::Clear => clear(rt, ring),
+        Step::Ring(wanted) => assert_ring(rt, ring, *wanted),
+        Step::Front(wanted) => assert_closed(rt, ring.front(), *wanted),
+        Step::Last(place, wanted) => assert_last(rt, ring, *place, *wanted),
+        Step::InFront(place, serial, len) => assert_in_front(rt, ring, *place, *serial, *len),
+        Step::Shows(rows) => assert_records(rt, ring, rows),
+    }
+}
+
+/// Asserts the last closed sub-buffer, as `assert_closed` does.
+fn assert_last(rt: &impl Abort, ring: &Ring, place: usize, wanted: (u64, u64, u64, usize)) {
+    assert_closed(rt, ring.closed(place), wanted);
+    assert!(rt; ring.closed(place.wrapping_add(1)).is_none());
+}
+
+/// Asserts the record at this place of the oldest closed sub-buffer.
+fn assert_in_front(rt: &impl Abort, ring: &Ring, place: usize, serial: u64, len: usize) {
+    let wanted = (serial, 1000 + serial % 1000, 7, payload(rt, len));
+    assert_front_record(rt, ring, place, wanted);
+}
+
+/// Makes the steps of a ring with this many sub-buffers.
+fn make_steps(rt: &impl Abort, alloc: Global, count: usize, overwrite: bool, steps: &[Step]) {
+    let mut ring = ring(rt, alloc, count, overwrite);
+    for step in steps {
+        make(rt, &mut ring, step);
+    }
+}
+
 // two records of 74 bytes fit beside the packet's 80
-static DISCARDING: [(u64, usize, Pushed); 6] = [
-    (0, 50, Pushed::Stored { seq: 0 }),
-    (1, 50, Pushed::Stored { seq: 0 }),
-    (2, 50, Pushed::Stored { seq: 1 }),
-    (3, 50, Pushed::Stored { seq: 1 }),
-    (4, 50, Pushed::Discarded),
-    (5, 0, Pushed::Stored { seq: 1 }),
+static DISCARDING: [Step; 14] = [
+    Step::Push(0, 50, Pushed::Stored { seq: 0 }),
+    Step::Push(1, 50, Pushed::Stored { seq: 0 }),
+    Step::Push(2, 50, Pushed::Stored { seq: 1 }),
+    Step::Push(3, 50, Pushed::Stored { seq: 1 }),
+    Step::Push(4, 50, Pushed::Discarded),
+    // the fifth was discarded, and a shorter one is stored after it
+    Step::Push(5, 0, Pushed::Stored { seq: 1 }),
+    Step::Shows(&[(0, 50), (1, 50), (2, 50), (3, 50), (5, 0)]),
+    Step::Push(6, 50, Pushed::Discarded),
+    Step::Ring((1, 2, 2, 1, 3)),
+    Step::Front((0, 1002, 0, 2)),
+    Step::InFront(1, 1, 50),
+    Step::Remove,
+    Step::Push(7, 50, Pushed::Stored { seq: 2 }),
+    Step::Last(0, (1, 1007, 2, 3)),
 ];
 
 #[test]
 fn a_full_ring_discards_the_newest(rt: HostRuntime) {
-    let mut ring = ring(&rt, rt.alloc(), 2, false);
-    assert_pushes(&rt, &mut ring, &DISCARDING);
-    // the fifth was discarded, and a shorter one is stored after it
-    let shown = [(0, 50), (1, 50), (2, 50), (3, 50), (5, 0)];
-    assert_records(&rt, &ring, &shown);
-    assert_pushed(&rt, &mut ring, 6, payload(&rt, 50), Pushed::Discarded);
-    assert_ring(&rt, &ring, (1, 2, 2, 1, 3));
-    assert_closed(&rt, ring.front(), (0, 1002, 0, 2));
-    assert_front_record(&rt, &ring, 1, (1, 1001, 7, payload(&rt, 50)));
-    remove_oldest(&rt, &mut ring);
-    let stored = Pushed::Stored { seq: 2 };
-    assert_pushed(&rt, &mut ring, 7, payload(&rt, 50), stored);
-    assert_closed(&rt, ring.closed(0), (1, 1007, 2, 3));
-    assert_same(&rt, ring.closed(1).is_none(), true);
+    make_steps(&rt, rt.alloc(), 2, false, &DISCARDING);
 }
 
 // two records of 88 bytes fill a sub-buffer
-static OVERWRITING: [(u64, usize, Pushed); 5] = [
-    (0, 64, Pushed::Stored { seq: 0 }),
-    (1, 64, Pushed::Stored { seq: 0 }),
-    (2, 64, Pushed::Stored { seq: 1 }),
-    (3, 64, Pushed::Stored { seq: 1 }),
-    (
+static OVERWRITING: [Step; 9] = [
+    Step::Push(0, 64, Pushed::Stored { seq: 0 }),
+    Step::Push(1, 64, Pushed::Stored { seq: 0 }),
+    Step::Push(2, 64, Pushed::Stored { seq: 1 }),
+    Step::Push(3, 64, Pushed::Stored { seq: 1 }),
+    // the fifth overwrites the first two
+    Step::Push(
         4,
         64,
         Pushed::StoredOver {
@@ -139,60 +194,54 @@ static OVERWRITING: [(u64, usize, Pushed); 5] = [
             gone_count: 2,
         },
     ),
+    Step::Shows(&[(2, 64), (3, 64), (4, 64)]),
+    Step::Push(5, 64, Pushed::Stored { seq: 2 }),
+    Step::Ring((1, 2, 0, 2, 2)),
+    Step::Front((1, 1004, 0, 2)),
 ];
 
 #[test]
 fn a_full_ring_gives_up_the_oldest(rt: HostRuntime) {
-    let mut ring = ring(&rt, rt.alloc(), 2, true);
-    assert_pushes(&rt, &mut ring, &OVERWRITING);
-    // the fifth overwrote the first two
-    assert_records(&rt, &ring, &[(2, 64), (3, 64), (4, 64)]);
-    let stored = Pushed::Stored { seq: 2 };
-    assert_pushed(&rt, &mut ring, 5, payload(&rt, 64), stored);
-    assert_ring(&rt, &ring, (1, 2, 0, 2, 2));
-    assert_closed(&rt, ring.front(), (1, 1004, 0, 2));
+    make_steps(&rt, rt.alloc(), 2, true, &OVERWRITING);
 }
+
+static CLOSING: [Step; 6] = [
+    Step::Push(0, 5, Pushed::Stored { seq: 0 }),
+    Step::Ring((0, 4, 0, 0, 1)),
+    Step::Close,
+    Step::Ring((1, 4, 0, 1, 0)),
+    Step::Front((0, 5000, 0, 1)),
+    Step::InFront(0, 0, 5),
+];
 
 #[test]
 fn a_closed_current_one_waits(rt: HostRuntime) {
-    let mut ring = ring(&rt, rt.alloc(), 4, false);
-    let stored = Pushed::Stored { seq: 0 };
-    assert_pushed(&rt, &mut ring, 0, b"hello", stored);
-    assert_ring(&rt, &ring, (0, 4, 0, 0, 1));
-    close_current(&rt, &mut ring);
-    assert_ring(&rt, &ring, (1, 4, 0, 1, 0));
-    assert_same(&rt, ring.current().is_empty(), true);
-    assert_closed(&rt, ring.front(), (0, 5000, 0, 1));
-    assert_front_record(&rt, &ring, 0, (0, 1000, 7, b"hello"));
+    make_steps(&rt, rt.alloc(), 4, false, &CLOSING);
 }
 
 // two records of 74 bytes, or one of 176, leave no room for another of 74 beside the packet's 80
-static FIVE: [(u64, usize, Pushed); 5] = [
-    (10, 50, Pushed::Stored { seq: 0 }),
-    (11, 50, Pushed::Stored { seq: 0 }),
-    (12, 152, Pushed::Stored { seq: 1 }),
-    (13, 50, Pushed::Stored { seq: 2 }),
-    (14, 5, Pushed::Stored { seq: 2 }),
+static SHOWING: [Step; 16] = [
+    Step::Shows(&[]),
+    Step::Push(10, 50, Pushed::Stored { seq: 0 }),
+    Step::Push(11, 50, Pushed::Stored { seq: 0 }),
+    // no sub-buffer is closed yet
+    Step::Shows(&[(10, 50), (11, 50)]),
+    Step::Push(12, 152, Pushed::Stored { seq: 1 }),
+    Step::Push(13, 50, Pushed::Stored { seq: 2 }),
+    Step::Push(14, 5, Pushed::Stored { seq: 2 }),
+    Step::Ring((2, 4, 0, 2, 2)),
+    Step::Shows(&[(10, 50), (11, 50), (12, 152), (13, 50), (14, 5)]),
+    Step::Close,
+    // the current one is empty
+    Step::Shows(&[(10, 50), (11, 50), (12, 152), (13, 50), (14, 5)]),
+    Step::Ring((3, 4, 0, 3, 0)),
+    Step::Remove,
+    Step::Shows(&[(12, 152), (13, 50), (14, 5)]),
+    Step::Ring((2, 4, 0, 3, 0)),
+    Step::Clear,
 ];
 
 #[test]
 fn records_are_shown_by_place(rt: HostRuntime) {
-    let mut ring = ring(&rt, rt.alloc(), 4, false);
-    assert_records(&rt, &ring, &[]);
-    assert_pushes(&rt, &mut ring, &FIVE[..2]);
-    // no sub-buffer is closed yet
-    assert_records(&rt, &ring, &[(10, 50), (11, 50)]);
-    assert_pushes(&rt, &mut ring, &FIVE[2..]);
-    assert_ring(&rt, &ring, (2, 4, 0, 2, 2));
-    let all = [(10, 50), (11, 50), (12, 152), (13, 50), (14, 5)];
-    assert_records(&rt, &ring, &all);
-    close_current(&rt, &mut ring);
-    // the current one is empty
-    assert_records(&rt, &ring, &all);
-    assert_ring(&rt, &ring, (3, 4, 0, 3, 0));
-    remove_oldest(&rt, &mut ring);
-    assert_records(&rt, &ring, &[(12, 152), (13, 50), (14, 5)]);
-    assert_ring(&rt, &ring, (2, 4, 0, 3, 0));
-    clear(&rt, &mut ring);
-    assert_records(&rt, &ring, &[]);
+    make_steps(&rt, rt.alloc(), 4, false, &SHOWING);
 }

@@ -7,7 +7,7 @@ use std::process::Abort;
 use tr_book::StreamSnap;
 use tr_chunk::WriteFault;
 use tr_packet::{PacketTexts, decode_packet};
-use tr_record::{MemorySink, WriterSink};
+use tr_record::{MemorySink, Records, WriterSink};
 use tr_snapshot::{Snapshot, oldest_serial, records_shown, write_snap};
 use tr_testing::{FailsAfter, moment};
 
@@ -32,11 +32,16 @@ fn assert_shown(rt: &impl Abort, snap: &StreamSnap, wanted: (u64, u64, Option<u6
     assert_same(rt, found, wanted);
 }
 
+/// What a session shows at moment 10 of that stream and of one without records.
+fn snapshot(rt: &impl Abort, alloc: Global) -> Snapshot {
+    let empty = StreamSnap::new(1, 0, 0, PacketTexts::new(alloc));
+    let streams = vec![in alloc; snap(rt, alloc), empty].expect(rt, "memory");
+    Snapshot::new(moment(10), streams)
+}
+
 #[test]
 fn a_session_of_two_streams(rt: HostRuntime) {
-    let empty = StreamSnap::new(1, 0, 0, PacketTexts::new(rt.alloc()));
-    let streams = vec![in rt.alloc(); snap(&rt, rt.alloc()), empty].expect(&rt, "memory");
-    let snapshot = Snapshot::new(moment(10), streams);
+    let snapshot = snapshot(&rt, rt.alloc());
     assert_same(&rt, snapshot.moment().get(), 10);
     let [first, second] = snapshot.streams() else {
         panic!(rt; "two streams")
@@ -64,13 +69,18 @@ fn assert_written(rt: &impl Abort, alloc: Global, snap: &StreamSnap, packets: &[
 fn assert_packet<'a>(rt: &impl Abort, bytes: &'a [u8], seq: u64, serial: u64) -> &'a [u8] {
     let (packet, size) = decode_packet(bytes).expect(rt, "a packet");
     assert_same(rt, (size, packet.head().seq, packet.count()), (256, seq, 2));
+    assert_records(rt, packet.records(), serial);
+    bytes.get(size..).expect(rt, "what is behind")
+}
+
+/// Asserts the serials of records, from this one on, and the lengths of their payloads.
+fn assert_records(rt: &impl Abort, records: Records<'_>, serial: u64) {
     let mut serial = serial;
-    for record in packet.records() {
+    for record in records {
         let found = (record.serial(), record.payload().len());
         assert_same(rt, found, (serial, 64));
         serial = serial.wrapping_add(1);
     }
-    bytes.get(size..).expect(rt, "what is behind")
 }
 
 /// How many bytes a sink takes, and what writing 512 bytes to it answers.
