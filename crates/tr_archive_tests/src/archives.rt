@@ -173,6 +173,7 @@ fn an_archive_is_a_folder_with_its_files(rt: HostRuntime) {
         assert_packet(&rt, bytes_at(&disk, 2), 0, 0);
         assert_packet(&rt, bytes_at(&disk, 2), 228, 1);
     }
+    drop(session);
 }
 
 /// Two archives of two streams.
@@ -196,6 +197,7 @@ fn each_archive_has_its_own_part(rt: HostRuntime) {
     rotate(&rt, &mut session, 2_000_000_000);
     let disk = written(&rt, rt.alloc(), 4096, &session);
     assert_made(&rt, &disk, &TWO_ARCHIVES);
+    drop(session);
 }
 
 /// Begins a rotation at 10 and cuts stream 0.
@@ -213,6 +215,7 @@ fn what_is_no_archive_is_not_written(rt: HostRuntime) {
     cut_one(&rt, &mut session);
     assert_written(&rt, rt.alloc(), &mut disk, "d", &session);
     assert_made(&rt, &disk, &[]);
+    drop(session);
 }
 
 #[test]
@@ -222,4 +225,5 @@ fn without_streams_there_is_the_metadata_alone(rt: HostRuntime) {
     let disk = written(&rt, rt.alloc(), 4096, &session);
     let wanted = [("folder", 0, FOLDER), ("file", 1082, METADATA)];
     assert_made(&rt, &disk, &wanted);
+    drop(session);
 }

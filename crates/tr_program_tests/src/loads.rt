@@ -67,6 +67,7 @@ fn records_that_fit_are_all_in_chunks(rt: HostRuntime) {
         let threads = *threads as u64;
         assert_same(&rt, loaded.settled.session().streams(), threads);
         assert_said(&rt, rt.alloc(), threads, &loaded.outcome, expected);
+        drop(loaded);
     }
 }
 

@@ -37,6 +37,7 @@ fn a_load_is_told_and_archived(rt: HostRuntime) {
     let mut disk = MemoryDisk::new(alloc, 4096);
     let told = tell_load(alloc, &mut out, &mut disk, Some("d"), 1, &loaded);
     assert_same(&rt, told, Ok(()));
+    drop(loaded);
     assert_same(&rt, out.into_bytes().as_slice() == TEXT, true);
     assert_archived(&rt, &disk);
 }
@@ -48,6 +49,7 @@ fn an_output_that_fails_makes_nothing(rt: HostRuntime) {
     let mut out = WriterSink::new(FailsAfter::new(5));
     let mut disk = MemoryDisk::new(alloc, 4096);
     let told = tell_load(alloc, &mut out, &mut disk, Some("d"), 1, &loaded);
+    drop(loaded);
     assert_same(&rt, told, Err(ExportFault::Write));
     assert_same(&rt, disk.made().len(), 0);
 }

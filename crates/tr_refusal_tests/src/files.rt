@@ -239,19 +239,25 @@ fn halves<'a>(rt: &impl Abort, stream: &'a Stream) -> [&'a [u8]; 2] {
     [first, second]
 }
 
+/// Makes each call with too little memory. How often.
+fn refuse_calls(rt: &impl Abort, plain: Global, pieces: [&[u8]; 2]) -> usize {
+    let heap = new_heap(rt, plain);
+    let mut tried = 0usize;
+    for asked in &CALLS {
+        let row = Row {
+            plain,
+            pieces,
+            asked: *asked,
+        };
+        tried = tried.wrapping_add(refuse_each(rt, plain, &heap, UNIT, &row));
+    }
+    tried
+}
+
 #[test]
 fn an_audit_and_a_file_without_memory_say_so(rt: HostRuntime) {
     let stream = with_gaps(&rt, rt.alloc());
-    let pieces = halves(&rt, &stream);
-    let heap = new_heap(rt.alloc()).expect(&rt, "a heap");
-    let mut tried = 0usize;
-    for asked in CALLS {
-        let row = Row {
-            plain: rt.alloc(),
-            pieces,
-            asked,
-        };
-        tried = tried.wrapping_add(refuse_each(&rt, rt.alloc(), &heap, UNIT, &row));
-    }
+    let tried = refuse_calls(&rt, rt.alloc(), halves(&rt, &stream));
+    drop(stream);
     assert!(rt; tried >= 4_000, "{tried}");
 }

@@ -112,7 +112,7 @@ impl<A: Allocator + Copy> Call<A> for Row {
 
 #[test]
 fn a_ring_and_a_stream_without_memory_are_not_made(rt: HostRuntime) {
-    let heap = new_heap(rt.alloc()).expect(&rt, "a heap");
+    let heap = new_heap(&rt, rt.alloc());
     let mut tried = 0usize;
     for count in [2, 4, 16] {
         for what in [What::Ring, What::Stream] {

@@ -59,7 +59,7 @@ enum Answered {
 /// Which lines of the script these bytes answer.
 fn lines_answered(bytes: &[u8]) -> Answered {
     let mut left = bytes;
-    for (_, answer) in LINES {
+    for (_, answer) in &LINES {
         match left.strip_prefix(answer.as_bytes()) {
             Some(rest) => left = rest,
             None if left.is_empty() => return Answered::First,
@@ -124,7 +124,7 @@ impl<'a, A: Allocator + Copy> Call<A> for Run<'a> {
 /// The lines of the script.
 fn script(rt: &impl Abort, alloc: Global) -> Vec<u8> {
     let mut script = Vec::new(alloc);
-    for (line, _) in LINES {
+    for (line, _) in &LINES {
         script
             .extend_from_slice(line.as_bytes())
             .expect(rt, "memory");
@@ -134,7 +134,7 @@ fn script(rt: &impl Abort, alloc: Global) -> Vec<u8> {
 
 #[test]
 fn a_script_without_memory_ends_behind_an_answer(rt: HostRuntime) {
-    let heap = new_heap(rt.alloc()).expect(&rt, "a heap");
+    let heap = new_heap(&rt, rt.alloc());
     let script = script(&rt, rt.alloc());
     let run = Run {
         plain: rt.alloc(),

@@ -348,7 +348,7 @@ impl Row {
 
 /// Makes the calls of some rows with too little memory. How often.
 fn refuse_rows(rt: &impl Abort, plain: Global, rows: &[Row]) -> usize {
-    let heap = new_heap(plain).expect(rt, "a heap");
+    let heap = new_heap(rt, plain);
     let mut tried = 0usize;
     for row in rows {
         tried = tried.wrapping_add(refuse_each(rt, plain, &heap, UNIT, row));

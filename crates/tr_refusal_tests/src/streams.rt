@@ -275,7 +275,7 @@ static ROWS: [Row; 7] = [
 
 #[test]
 fn a_call_of_a_stream_without_memory_changes_nothing(rt: HostRuntime) {
-    let heap = new_heap(rt.alloc()).expect(&rt, "a heap");
+    let heap = new_heap(&rt, rt.alloc());
     let mut tried = 0usize;
     for row in &ROWS {
         tried = tried.wrapping_add(refuse_each(&rt, rt.alloc(), &heap, UNIT, row));

@@ -66,7 +66,7 @@ fn make_with<'h, C: Call<&'h LocalHeap>>(
 ) -> C::Answer {
     let mut object = call.object(rt, heap);
     let mut other = call.object(rt, heap);
-    let blocks = fill_all_but(plain, heap, bytes).expect(rt, "room for blocks");
+    let blocks = fill_all_but(rt, plain, heap, bytes);
     let answer = call.make(rt, &mut object);
     drop(blocks);
     let granted = call.granted(rt);

@@ -96,6 +96,7 @@ fn assert_lists(
     for (list, steps) in lists.iter().enumerate() {
         let mut session = after(rt, alloc, mode, first);
         assert_steps(rt, &mut session, list + 1, steps);
+        drop(session);
     }
 }
 

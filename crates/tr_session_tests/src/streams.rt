@@ -93,6 +93,7 @@ fn assert_lists(rt: &impl Abort, alloc: Global, session: SessionMode, lists: &[(
     for (list, (mode, steps)) in lists.iter().enumerate() {
         let mut stream = new_stream(rt, alloc, *mode, session);
         assert_steps(rt, &mut stream, list, steps);
+        drop(stream);
     }
 }
 

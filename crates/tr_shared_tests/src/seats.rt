@@ -106,7 +106,7 @@ fn offers<N: Names>(rt: &impl Abort, plan: Plan, steps: &[Step])
     requires { plan ≡ N.plan }
 {
     let (opened, mut producers) = built::<N>(rt, plan);
-    let (_, _, mut slots, _) = opened.into_parts();
+    let (_, desk, mut slots, _) = opened.into_parts();
     let mut producer = last(rt, &mut producers);
     assert_same(rt, producer.stream(), 0);
     assert_numbers(rt, &producer, (0, 0, 0, 0));
@@ -119,6 +119,10 @@ fn offers<N: Names>(rt: &impl Abort, plan: Plan, steps: &[Step])
         assert_numbers(rt, &producer, *numbers);
         at = 2;
     }
+    drop(producer);
+    drop(slots);
+    drop(desk);
+    drop(producers);
 }
 
 static DISCARDING: [Step; 7] = [
@@ -220,6 +224,11 @@ fn takes<N: Names>(rt: &impl Abort, alloc: Global, plan: Plan)
     assert_offered(rt, &mut slots, 0, &mut second, 1, 64, misplaced);
     assert_numbers(rt, &second, (3, 0, 0, 0));
     assert_slots(rt, &mut slots);
+    drop(drainer);
+    drop(second);
+    drop(slots);
+    drop(desk);
+    drop(producers);
 }
 
 /// Asserts whether a slot gives a seat of the stream of number `i`, and how many it made then.
@@ -278,8 +287,8 @@ fn assert_stopped<N: Names>(
 fn desks<N: Names>(rt: &impl Abort, plan: Plan)
     requires { plan ≡ N.plan }
 {
-    let (opened, _) = built::<N>(rt, plan);
-    let (alloc, mut desk, _, _) = opened.into_parts();
+    let (opened, producers) = built::<N>(rt, plan);
+    let (alloc, mut desk, slots, _) = opened.into_parts();
     let not_active = Err(SessionFault::NotActive);
     assert_stopped(rt, &mut desk, (not_active, State::New));
     assert_started(rt, &mut desk, 3, Ok(()));
@@ -290,6 +299,9 @@ fn desks<N: Names>(rt: &impl Abort, plan: Plan)
         assert_same(rt, desk.begin_drainer(alloc).is_ok(), true);
     }
     assert_same(rt, desk.drainers(), 3);
+    drop(slots);
+    drop(desk);
+    drop(producers);
 }
 
 #[test]

@@ -120,6 +120,10 @@ fn starts<N: Names>(rt: &(impl Abort + Wait), plan: Plan)
     assert_stopped(rt, &shared, Ok(()));
     assert_offered(rt, &shared, &mut second, 4, 3, inactive);
     assert_same(rt, second.offered(), 1);
+    drop(drainer);
+    drop(second);
+    drop(producers);
+    drop(shared);
 }
 
 #[test]
@@ -206,6 +210,7 @@ fn settles<N: Names>(rt: &(impl Abort + Wait), alloc: Global, plan: Plan)
     let (settled, totals) = settled(rt, shared, producers, drainers);
     assert_same(rt, totals.offered, 3);
     assert_records(rt, &settled);
+    drop(settled);
 }
 
 /// Asserts what the first stream's ring has: each record as it was offered, and no moment less than the one before.

@@ -143,7 +143,9 @@ static FAILURES: [(usize, usize, usize, bool); 13] = [
 #[test]
 fn each_failed_call_and_each_file_cut_short_is_told(rt: HostRuntime) {
     let session = rotated(&rt, rt.alloc());
-    for (calls, first, later, fails) in FAILURES {
-        assert_told(&rt, rt.alloc(), &session, (calls, first, later), fails);
+    for (calls, first, later, fails) in &FAILURES {
+        let sizes = (*calls, *first, *later);
+        assert_told(&rt, rt.alloc(), &session, sizes, *fails);
     }
+    drop(session);
 }

@@ -61,6 +61,7 @@ fn files_are_written_and_replaced(rt: HostRuntime) {
     write_file(&rt, &rt, path.as_str(), &LONGER);
     assert_made(&rt, &rt, dir.as_str(), &session);
     remove(&rt, &rt, dir.as_str());
+    drop(session);
 }
 
 #[test]
@@ -70,6 +71,7 @@ fn without_an_archive_there_is_no_folder(rt: HostRuntime) {
     let mut disk = SystemDisk::new(HostFiles::new(&rt));
     assert_written(&rt, rt.alloc(), &mut disk, dir.as_str(), &session);
     assert_same(&rt, exists(&rt, &rt, dir.as_str()), false);
+    drop(session);
 }
 
 /// Asserts that writing the archive of one stream fails once, and removes the folder.
@@ -83,6 +85,7 @@ fn assert_told(rt: &impl Abort, host: &HostRuntime, dir: &str) {
         (Err(ExportFault::Write), Some(1)),
     );
     remove(rt, host, dir);
+    drop(session);
 }
 
 #[test]

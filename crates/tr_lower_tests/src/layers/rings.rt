@@ -152,6 +152,7 @@ fn make_steps(rt: &impl Abort, alloc: Global, count: usize, overwrite: bool, ste
     for step in steps {
         make(rt, &mut ring, step);
     }
+    drop(ring);
 }
 
 // two records of 74 bytes fit beside the packet's 80

@@ -58,6 +58,7 @@ fn a_book_alone_notes_snapshots(rt: HostRuntime) {
     assert_begun(&rt, &mut book, 3, Ok(moment(7)));
     assert_begun(&rt, &mut book, 10, Ok(moment(10)));
     assert_same(&rt, book.last().get(), 10);
+    drop(book);
 }
 
 /// Asserts which schedule is in force.
@@ -84,6 +85,7 @@ fn a_book_alone_keeps_a_schedule(rt: HostRuntime) {
     assert_in_force(&rt, &book, Some(schedule));
     begin_rotation(&rt, &mut book, 1);
     assert_in_force(&rt, &book, None);
+    drop(book);
 }
 
 /// Asserts the answer to the note of the first stream's cut.
@@ -104,4 +106,5 @@ fn a_book_alone_notes_a_rotation(rt: HostRuntime) {
         end: moment(2),
     };
     assert_same(&rt, book.rotate_finish(), Ok(archive));
+    drop(book);
 }

@@ -36,7 +36,7 @@ pub(super) static FREE: [(&[Step], &[Step]); 3] = [
 ];
 
 /// A session that is made, and makes the later steps, with no free byte or with memory.
-pub(super) fn freely<'h>(
+fn freely<'h>(
     rt: &impl Abort,
     plain: Global,
     heap: &'h LocalHeap,
@@ -44,22 +44,35 @@ pub(super) fn freely<'h>(
     (first, later): (&[Step], &[Step]),
 ) -> Session<&'h LocalHeap> {
     let free = if is_full { 0 } else { 32_768 };
-    let blocks = fill_all_but(plain, heap, free).expect(rt, "room for blocks");
+    let blocks = fill_all_but(rt, plain, heap, free);
     let mut session = new_session(rt, heap, SessionMode::Local);
     drop(blocks);
     make_steps(rt, &mut session, first);
-    let blocks = fill_all_but(plain, heap, free).expect(rt, "room for blocks");
+    let blocks = fill_all_but(rt, plain, heap, free);
     make_steps(rt, &mut session, later);
     drop(blocks);
     session
 }
 
+/// Asserts that nothing tells a session from one that makes the same steps with memory.
+pub(super) fn assert_as_with_memory<'h>(
+    rt: &impl Abort,
+    plain: Global,
+    heap: &'h LocalHeap,
+    steps: (&[Step], &[Step]),
+    session: &Session<&'h LocalHeap>,
+) {
+    let other = freely(rt, plain, heap, false, steps);
+    assert_same_session(rt, session, &other);
+    drop(other);
+}
+
 #[test]
 fn calls_that_take_no_memory_do_not_miss_it(rt: HostRuntime) {
-    let heap = new_heap(rt.alloc()).expect(&rt, "a heap");
-    for steps in FREE {
-        let session = freely(&rt, rt.alloc(), &heap, true, steps);
-        let other = freely(&rt, rt.alloc(), &heap, false, steps);
-        assert_same_session(&rt, &session, &other);
+    let heap = new_heap(&rt, rt.alloc());
+    for steps in &FREE {
+        let session = freely(&rt, rt.alloc(), &heap, true, *steps);
+        assert_as_with_memory(&rt, rt.alloc(), &heap, *steps, &session);
+        drop(session);
     }
 }

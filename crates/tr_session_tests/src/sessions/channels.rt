@@ -49,6 +49,7 @@ fn one_stream_from_the_start_to_a_packet(rt: HostRuntime) {
         (counts.overwritten, counts.in_ring, counts.consumed),
         (0, 3, 2),
     );
+    drop(session);
 }
 
 /// Streams that stand apart. Two records of 88 bytes fill a sub-buffer.
@@ -101,6 +102,7 @@ fn streams_stand_apart(rt: HostRuntime) {
     }
     assert_made(&rt, &session, 1, 256, 2, Mode::Overwrite);
     assert_same(&rt, session.stream(3).is_none(), true);
+    drop(session);
 }
 
 /// Fates tell where records are. Two records of 88 bytes fill a sub-buffer, and the fifth overwrites the first two.
@@ -194,6 +196,7 @@ fn channels_are_refused_in_order(rt: HostRuntime) {
     );
     assert_same(&rt, session.book().channel("i").is_none(), true);
     assert_steps(&rt, &mut session, 1, &STARTED);
+    drop(session);
 }
 
 /// Streams are refused in order.
@@ -216,6 +219,7 @@ static STREAMS: [Step; 12] = [
 fn streams_are_refused_in_order(rt: HostRuntime) {
     let session = after(&rt, rt.alloc(), SessionMode::Local, &STREAMS);
     assert_same(&rt, session.streams(), 256);
+    drop(session);
 }
 
 /// The channel that the book tells of each stream.
@@ -234,6 +238,7 @@ fn the_book_tells_each_stream_s_channel(rt: HostRuntime) {
         assert_same(&rt, (i, name.as_str()), (i, channel));
     }
     assert_same(&rt, session.book().channel_of(2).is_none(), true);
+    drop(session);
 }
 
 /// Asserts what a fault prints.

@@ -57,6 +57,7 @@ fn chunks_follow_each_other(rt: HostRuntime) {
     assert_archives(&rt, empty.book().archives(), &[(0, 0, 5), (1, 5, 7)]);
     let session = after(&rt, rt.alloc(), SessionMode::Local, &CHUNKS);
     assert_third_chunk(&rt, &session);
+    drop(session);
 }
 
 /// Refusals before a rotation, while it is pending, and after it.
@@ -148,6 +149,7 @@ fn a_new_session_has_no_chunk(rt: HostRuntime) {
     assert_same(&rt, session.book().offset().get(), -30);
     assert_same(&rt, session.book().pending(), None);
     assert_steps(&rt, &mut session, 1, &BEGINS);
+    drop(session);
 }
 
 /// Of six records of 88 bytes the first two were overwritten; two of the next four overwrite two others.

@@ -198,6 +198,7 @@ fn assert_fates(rt: &impl Abort, alloc: Global, len: usize, calls: &[Call], fate
     let calls = calls.get(..len).expect(rt, "more calls");
     let mut session = run(rt, alloc, LOCAL, 2, calls);
     assert_steps(rt, &mut session, len, fates);
+    drop(session);
 }
 
 #[test]
@@ -229,6 +230,7 @@ fn assert_pending(rt: &impl Abort, alloc: Global, len: usize, calls: &[Call]) {
     let session = run(rt, alloc, LOCAL, 2, calls);
     let pending = session.book().pending().expect(rt, "a rotation");
     assert_same(rt, pending.cut, 1);
+    drop(session);
 }
 
 #[test]
@@ -236,6 +238,7 @@ fn a_rotation_begins_and_ends(rt: HostRuntime) {
     assert_pending(&rt, rt.alloc(), 7, &ENDED);
     let session = run(&rt, rt.alloc(), LOCAL, 2, &ENDED);
     assert_archives(&rt, session.book().archives(), &[(0, 0, 10)]);
+    drop(session);
 }
 
 /// Two looks, after six offers and after a seventh.
@@ -284,6 +287,7 @@ fn looks_at_a_stream(rt: HostRuntime) {
     let session = run(&rt, rt.alloc(), SNAPSHOT, 1, &LOOKS);
     assert_same(&rt, session.book().last().get(), 0);
     let _ = run(&rt, rt.alloc(), SNAPSHOT, 1, &REFUSED);
+    drop(session);
 }
 
 #[test]
@@ -298,4 +302,5 @@ fn a_configuration_is_refused(rt: HostRuntime) {
     }
     let session = run(&rt, rt.alloc(), LOCAL, 256, &[]);
     assert_same(&rt, session.streams(), 256);
+    drop(session);
 }

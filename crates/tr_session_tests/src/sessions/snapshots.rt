@@ -77,6 +77,7 @@ pub(super) fn assert_shown<A: Allocator + Copy>(
     );
     assert_at(rt, place, oldest_serial(snap), shown.oldest);
     assert_records(rt, place, snap, shown.records);
+    drop(snapshot);
 }
 
 /// Channels of a snapshot session overwrite.
@@ -92,6 +93,7 @@ fn channels_of_a_snapshot_session_overwrite(rt: HostRuntime) {
     let session = after(&rt, rt.alloc(), SessionMode::Snapshot, &CHANNELS);
     assert_same(&rt, session.book().mode(), SessionMode::Snapshot);
     assert_same(&rt, session.book().channels(), 1);
+    drop(session);
 }
 
 /// A stream of two sub-buffers of 256 bytes.
@@ -164,8 +166,10 @@ static WITHOUT_OFFERS: [Step; 6] = [
 fn a_snapshot_shows_what_the_ring_holds(rt: HostRuntime) {
     let mut session = filled(&rt, rt.alloc());
     assert_steps(&rt, &mut session, 2, &LOOKS);
+    drop(session);
     let mut session = after(&rt, rt.alloc(), SessionMode::Snapshot, &UNSTARTED);
     assert_steps(&rt, &mut session, 3, &WITHOUT_OFFERS);
+    drop(session);
 }
 
 /// The bytes of what is shown of a stream.
@@ -181,6 +185,8 @@ fn a_snapshot_of_two_full_packets_has_512_bytes(rt: HostRuntime) {
     let snapshot = session.snapshot(moment(10)).expect(&rt, "a snapshot");
     let bytes = bytes_of(&rt, rt.alloc(), only(&rt, &snapshot));
     assert_same(&rt, bytes.len(), 512);
+    drop(snapshot);
+    drop(session);
 }
 
 /// A snapshot session has no chunks.
@@ -208,9 +214,11 @@ fn what_a_session_s_mode_refuses(rt: HostRuntime) {
     let mut session = filled(&rt, rt.alloc());
     assert_steps(&rt, &mut session, 2, &NO_CHUNKS);
     assert_same(&rt, session.book().schedule(), None);
+    drop(session);
     let session = after(&rt, rt.alloc(), SessionMode::Local, &NO_SNAPSHOTS);
     assert_same(&rt, session.snap(0, moment(5)).err(), Some(NotSnapshotMode));
     assert_same(&rt, session.book().last().get(), 0);
+    drop(session);
 }
 
 #[test]
@@ -221,4 +229,5 @@ fn a_snapshot_that_is_refused_memory(rt: HostRuntime) {
     assert_steps(&rt, &mut session, 2, &[NoShow(10, NoMemory), Last(0)]);
     drop(blocks);
     assert_steps(&rt, &mut session, 3, &[Show(10, SIX), Last(10)]);
+    drop(session);
 }

@@ -137,6 +137,7 @@ fn a_take_makes_a_packet_of_the_current_part(rt: HostRuntime) {
     let second = Offered::Stored { serial: 1, seq: 1 };
     assert_same(&rt, stream.offer(moment(2), 8, &[97; 100]), Ok(second));
     assert_steps(&rt, &mut stream, 0, &TAKE);
+    drop(stream);
 }
 
 static CUTS: [(Mode, &[Step]); 3] = [

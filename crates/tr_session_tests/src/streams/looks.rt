@@ -248,4 +248,5 @@ fn packets_of_a_look_are_read_as_they_are(rt: HostRuntime) {
         bytes = assert_read_again(&rt, bytes, &packet);
     }
     assert_same(&rt, bytes.len(), 0);
+    drop(stream);
 }

@@ -53,5 +53,6 @@ fn offers_take_no_memory(rt: HostRuntime) {
         assert_same(&rt, stream.take(), Err(TakeFault::NoMemory));
         drop(blocks);
         assert_same(&rt, stream.take().is_ok(), true);
+        drop(stream);
     }
 }

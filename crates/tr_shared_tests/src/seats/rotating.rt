@@ -111,6 +111,7 @@ fn rotates<N: Names>(rt: &impl Abort, alloc: Global, plan: Plan)
     push(rt, &mut producers, second);
     let (settled, totals) = settled(rt, opened, producers, Vec::new(alloc));
     assert_settled(rt, &settled, totals);
+    drop(settled);
 }
 
 /// The records that the rotation moved are part of the sums.

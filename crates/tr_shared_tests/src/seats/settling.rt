@@ -111,6 +111,7 @@ fn refuses<N: Names>(
     let opened = reversed(alloc, opened);
     let (settled, totals) = settled(rt, opened, producers, drainers);
     assert_settled(rt, &settled, totals);
+    drop(settled);
 }
 
 /// The same session with its streams in reverse order.

@@ -254,6 +254,8 @@ fn rotates<N: Names + Send + Sync, R: Threads + Wait + Abort + Sync>(
     } = gather(rt, alloc, given_back.expect(rt, "memory"));
     let (settled, totals) = settled(rt, shared, producers, drainers);
     assert_archives(rt, &settled, totals, archives.as_slice());
+    drop(settled);
+    drop(archives);
 }
 
 #[test]
@@ -508,6 +510,9 @@ fn holds<N: Names + Send + Sync, R: Threads + Wait + Abort + Sync>(
     assert_archives(rt, &settled, totals, archives.as_slice());
     assert_same(rt, totals.offered, 103);
     assert_same(rt, totals.discarded.wrapping_add(totals.consumed), 103);
+    drop(settled);
+    drop(archives);
+    drop(kept);
 }
 
 #[test]
@@ -554,8 +559,11 @@ fn settles<N: Names>(
     } = unsettled(rt, shared, producers, drainers, error);
     producers.append(&mut producers_back).expect(rt, "memory");
     drainers.append(&mut drainers_back).expect(rt, "memory");
-    let (_, totals) = settled(rt, shared, producers, drainers);
+    let (settled, totals) = settled(rt, shared, producers, drainers);
     assert_same(rt, totals.offered, 4);
+    drop(settled);
+    drop(producers_back);
+    drop(drainers_back);
 }
 
 /// How many producers and how many drainers are held back, and why the session isn't settled then.

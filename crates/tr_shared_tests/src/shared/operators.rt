@@ -53,6 +53,7 @@ fn run<N: Names + Send + Sync, R: Threads + Wait + Abort + Sync>(rt: &R, alloc: 
         let stream = settled.session().stream(i).expect(rt, "a stream");
         assert_audited(rt, alloc, stream, i, archives);
     }
+    drop(settled);
 }
 
 /// The totals are what the producers counted, and the records that drainers took are among the consumed ones; each rotation

@@ -117,6 +117,7 @@ fn rotates_between<N: Names>(rt: &(impl Abort + Wait), alloc: Global, plan: Plan
     push(rt, &mut drainers, drainer);
     let (settled, totals) = settled(rt, shared, producers, drainers);
     assert_fates(rt, &settled, totals);
+    drop(settled);
 }
 
 /// A stream, a serial, and what became of that record.
@@ -159,6 +160,9 @@ fn rotates_whole<N: Names>(rt: &(impl Abort + Wait), plan: Plan)
     assert_started(rt, &shared, 3, Ok(()));
     assert_rotated(rt, &shared, 4, Ok(archive(1, 1, 4)));
     assert_pending(rt, &shared);
+    drop(producer);
+    drop(producers);
+    drop(shared);
 }
 
 /// A third rotation, step by step.
@@ -221,6 +225,10 @@ fn ticks<N: Names>(rt: &(impl Abort + Wait), plan: Plan)
     assert_ticked(rt, &shared, 150, size);
     assert_same(rt, shared.set_schedule(rt, None), Ok(()));
     assert_ticked(rt, &shared, 1_000, Ticked::Idle);
+    drop(drainer);
+    drop(producer);
+    drop(producers);
+    drop(shared);
 }
 
 #[test]

@@ -97,7 +97,7 @@ type Look = (Option<usize>, u64, u64, [u64; 3]);
 
 /// Three streams, and the snapshots of them.
 struct Stage {
-    streams: [StreamShown; 3],
+    streams: &'static [StreamShown],
     looks: &'static [Look],
 }
 
@@ -106,16 +106,16 @@ fn assert_shown(
     rt: &impl Abort,
     snapshot: Result<Snapshot, SessionFault>,
     (stored, ends): (u64, [u64; 3]),
-    want: &[StreamShown; 3],
+    want: &[StreamShown],
 ) {
     let snapshot = snapshot.expect(rt, "a snapshot");
     assert_same(rt, snapshot.moment().get(), stored);
-    let [first, second, third] = snapshot.streams() else {
+    let ([first, second, third], [one, two, three]) = (snapshot.streams(), want) else {
         panic!(rt; "three streams")
     };
-    assert_stream(rt, first, (0, ends[0]), &want[0]);
-    assert_stream(rt, second, (1, ends[1]), &want[1]);
-    assert_stream(rt, third, (2, ends[2]), &want[2]);
+    assert_stream(rt, first, (0, ends[0]), one);
+    assert_stream(rt, second, (1, ends[1]), two);
+    assert_stream(rt, third, (2, ends[2]), three);
 }
 
 /// A snapshot, with the producer of the stream of this number if there is one.
@@ -144,7 +144,7 @@ fn assert_stage<N: Names>(
 ) {
     for (beside, asked, stored, ends) in stage.looks {
         let snapshot = snapshot_beside(rt, shared, producers, *beside, moment(*asked));
-        assert_shown(rt, snapshot, (*stored, *ends), &stage.streams);
+        assert_shown(rt, snapshot, (*stored, *ends), stage.streams);
     }
 }
 
@@ -209,8 +209,8 @@ static OFFERS: [Offer; 8] = [
 
 /// What is shown after these offers: a closed packet of the first stream ends with the offer that closed it, and an open one at
 /// the moment that the snapshot stores or at its stream's last one, whichever is later.
-const AFTER_OFFERS: Stage = Stage {
-    streams: [
+static AFTER_OFFERS: Stage = Stage {
+    streams: &[
         StreamShown {
             offered: 6,
             packets: &[
@@ -270,8 +270,8 @@ static LATER_OFFERS: [Offer; 2] = [
     (2, 90, 31, b"third", Offered::Stored { serial: 0, seq: 0 }),
 ];
 
-const AFTER_LATER_OFFERS: Stage = Stage {
-    streams: [
+static AFTER_LATER_OFFERS: Stage = Stage {
+    streams: &[
         StreamShown {
             offered: 7,
             packets: &[
@@ -333,6 +333,8 @@ fn shows<N: Names>(rt: &(impl Abort + Wait), plan: Plan)
     assert_stage(rt, &shared, &mut producers, &AFTER_LATER_OFFERS);
     let first = producers.first().expect(rt, "a producer");
     assert_same(rt, (first.offered(), first.overwritten()), (7, 4));
+    drop(producers);
+    drop(shared);
 }
 
 /// Asserts that a snapshot is refused for this reason.
@@ -380,6 +382,9 @@ fn holds<N: Names>(rt: &(impl Abort + Wait), plan: Plan)
         assert_offered(rt, &shared, &mut second, 1, 64, stored(0, 0))
     });
     assert_same(rt, shared.hold_stream(rt, 0, || 7_u64), 7);
+    drop(second);
+    drop(producers);
+    drop(shared);
 }
 
 #[test]

@@ -202,8 +202,9 @@ fn run<N: Names + Send + Sync, R: Threads + Wait + Abort + Sync>(rt: &R, alloc: 
     let worked = work(rt, alloc, &shared, producers, 0);
     assert_same(rt, worked.told.offered, 40_000);
     let told = worked.told;
-    let (_, totals) = settled(rt, shared, worked.producers, worked.drainers);
+    let (settled, totals) = settled(rt, shared, worked.producers, worked.drainers);
     assert_same(rt, totals, told);
+    drop(settled);
 }
 
 #[test]

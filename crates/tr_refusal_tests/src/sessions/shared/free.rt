@@ -3,8 +3,7 @@
 ghost use Rattle.std.specs.Prelude.{◌≡◌};
 
 use super::super::Step;
-use super::super::alike::assert_same_session;
-use super::super::free::{FREE, freely};
+use super::super::free::{FREE, assert_as_with_memory};
 use super::settle;
 use super::steps::{built, make_steps, planned};
 use crate::scarce::{fill_all_but, new_heap};
@@ -30,7 +29,7 @@ fn work_freely<'h, N: Names>(
     let (first, later) = steps;
     let mut seated = built::<N, &'h LocalHeap>(rt, heap, plan);
     make_steps(rt, &mut seated, first);
-    let blocks = fill_all_but(plain, heap, 0).expect(rt, "room for blocks");
+    let blocks = fill_all_but(rt, plain, heap, 0);
     make_steps(rt, &mut seated, later);
     drop(blocks);
     let (session, _) = settle(rt, plain, heap, seated);
@@ -39,11 +38,11 @@ fn work_freely<'h, N: Names>(
 
 #[test]
 fn calls_of_a_shared_session_that_take_no_memory_do_not_miss_it(rt: HostRuntime) {
-    let heap = new_heap(rt.alloc()).expect(&rt, "a heap");
-    for (first, later) in FREE {
-        let plan = planned(&rt, &heap, SessionMode::Local, first);
-        let session = work_freely::<Brand>(&rt, rt.alloc(), &heap, (first, later), plan);
-        let other = freely(&rt, rt.alloc(), &heap, false, (first, later));
-        assert_same_session(&rt, &session, &other);
+    let heap = new_heap(&rt, rt.alloc());
+    for steps in &FREE {
+        let plan = planned(&rt, &heap, SessionMode::Local, steps.0);
+        let session = work_freely::<Brand>(&rt, rt.alloc(), &heap, *steps, plan);
+        assert_as_with_memory(&rt, rt.alloc(), &heap, *steps, &session);
+        drop(session);
     }
 }

@@ -28,7 +28,7 @@ fn build<'h, N: Names>(
 ) -> Made
     requires { plan ≡ N.plan }
 {
-    let blocks = fill_all_but(plain, heap, bytes).expect(rt, "room for blocks");
+    let blocks = fill_all_but(rt, plain, heap, bytes);
     let built = Shared::<N, &'h LocalHeap>::build(plan);
     drop(blocks);
     match built {
@@ -59,7 +59,7 @@ fn make<'h>(
         Scarce::Plan => (bytes, ENOUGH),
         Scarce::Shared => (ENOUGH, bytes),
     };
-    let blocks = fill_all_but(plain, heap, for_plan).expect(rt, "room for blocks");
+    let blocks = fill_all_but(rt, plain, heap, for_plan);
     let planned = plan(heap, config);
     drop(blocks);
     match planned {
@@ -71,7 +71,7 @@ fn make<'h>(
 /// Makes a session of three streams with more and more memory until it isn't refused, and each time with enough after that.
 /// How often it was refused.
 fn refuse_making(rt: &impl Abort, plain: Global, scarce: Scarce) -> usize {
-    let heap = small_heap(plain).expect(rt, "a heap");
+    let heap = small_heap(rt, plain);
     let config = config_of(rt, &heap, SessionMode::Local, &THREE);
     let used = heap.used();
     let granted = Ok((3, 3));
