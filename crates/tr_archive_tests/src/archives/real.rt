@@ -6,7 +6,7 @@ use std::alloc::Global;
 use std::fs;
 use std::os::unix::fs::symlink;
 use std::process::Abort;
-use tr_export::{ExportFault, HostFiles, SystemDisk};
+use tr_export::{Disk, ExportFault, HostFiles, SystemDisk};
 use tr_packet::metadata_text;
 use tr_session::Session;
 use tr_testing::free_path;
@@ -43,9 +43,14 @@ fn assert_files(rt: &impl Abort, host: &HostRuntime, dir: &str) {
 }
 
 /// Writes the archive of `rotated`, and asserts that its files are there.
-fn assert_made(rt: &impl Abort, host: &HostRuntime, dir: &str, session: &Session) {
-    let mut disk = SystemDisk::new(HostFiles::new(host));
-    assert_written(rt, host.alloc(), &mut disk, dir, session);
+fn assert_made<D: Disk>(
+    rt: &impl Abort,
+    host: &HostRuntime,
+    disk: &mut D,
+    dir: &str,
+    session: &Session,
+) {
+    assert_written(rt, host.alloc(), disk, dir, session);
     assert_files(rt, host, dir);
 }
 
@@ -56,10 +61,11 @@ static LONGER: [u8; 600] = [0x62; 600];
 fn files_are_written_and_replaced(rt: HostRuntime) {
     let dir = free_path(&rt, "tr_export_files").expect(&rt, "a path");
     let session = rotated(&rt, rt.alloc());
-    assert_made(&rt, &rt, dir.as_str(), &session);
+    let mut disk = SystemDisk::new(HostFiles::new(&rt));
+    assert_made(&rt, &rt, &mut disk, dir.as_str(), &session);
     let path = path_in(&rt, rt.alloc(), dir.as_str(), "c_0");
     write_file(&rt, &rt, path.as_str(), &LONGER);
-    assert_made(&rt, &rt, dir.as_str(), &session);
+    assert_made(&rt, &rt, &mut disk, dir.as_str(), &session);
     remove(&rt, &rt, dir.as_str());
     drop(session);
 }

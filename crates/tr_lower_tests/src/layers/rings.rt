@@ -206,22 +206,22 @@ fn a_full_ring_gives_up_the_oldest(rt: HostRuntime) {
     make_steps(&rt, rt.alloc(), 2, true, &OVERWRITING);
 }
 
-static CLOSING: [Step; 6] = [
-    Step::Push(0, 5, Pushed::Stored { seq: 0 }),
-    Step::Ring((0, 4, 0, 0, 1)),
-    Step::Close,
-    Step::Ring((1, 4, 0, 1, 0)),
-    Step::Front((0, 5000, 0, 1)),
-    Step::InFront(0, 0, 5),
-];
-
 #[test]
 fn a_closed_current_one_waits(rt: HostRuntime) {
-    make_steps(&rt, rt.alloc(), 4, false, &CLOSING);
+    let mut ring = ring(&rt, rt.alloc(), 4, false);
+    let stored = Pushed::Stored { seq: 0 };
+    assert_pushed(&rt, &mut ring, 0, b"hello", stored);
+    assert_ring(&rt, &ring, (0, 4, 0, 0, 1));
+    close_current(&rt, &mut ring);
+    assert_ring(&rt, &ring, (1, 4, 0, 1, 0));
+    assert_same(&rt, ring.current().is_empty(), true);
+    assert_closed(&rt, ring.front(), (0, 5000, 0, 1));
+    assert_front_record(&rt, &ring, 0, (0, 1000, 7, b"hello"));
+    drop(ring);
 }
 
 // two records of 74 bytes, or one of 176, leave no room for another of 74 beside the packet's 80
-static SHOWING: [Step; 16] = [
+static SHOWING: [Step; 17] = [
     Step::Shows(&[]),
     Step::Push(10, 50, Pushed::Stored { seq: 0 }),
     Step::Push(11, 50, Pushed::Stored { seq: 0 }),
@@ -240,6 +240,7 @@ static SHOWING: [Step; 16] = [
     Step::Shows(&[(12, 152), (13, 50), (14, 5)]),
     Step::Ring((2, 4, 0, 3, 0)),
     Step::Clear,
+    Step::Shows(&[]),
 ];
 
 #[test]
