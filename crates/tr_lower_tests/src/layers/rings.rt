@@ -22,13 +22,6 @@ fn assert_pushed(rt: &impl Abort, ring: &mut Ring, k: u64, payload: &[u8], want:
     assert_same(rt, (k, pushed), (k, want));
 }
 
-/// Pushes such records, whose payloads have these lengths.
-fn assert_pushes(rt: &impl Abort, ring: &mut Ring, rows: &[(u64, usize, Pushed)]) {
-    for (k, len, want) in rows {
-        assert_pushed(rt, ring, *k, payload(rt, *len), *want);
-    }
-}
-
 /// Closes the current sub-buffer at 5000.
 fn close_current(rt: &impl Abort, ring: &mut Ring) {
     assert!(rt; ring.waiting() < 64 && ring.waiting() + 1 < ring.count() && ring.seq() < 1000);
