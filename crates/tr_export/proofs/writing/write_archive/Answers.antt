@@ -1,4 +1,5 @@
-use Rattle.std.proofs.Common.{◌≡◌, ◌∙◌, refl, ap}
+use Rattle.std.proofs.Common.{◌≡◌, ◌∙◌, refl, ap, arith}
+use Rattle.std.proofs.lemmas.Grind.{common_steps}
 use Rattle.std.proofs.lemmas.Result.{on_ok_weaker, on_err_weaker}
 use Rattle.tr_chunk.specs.ArchiveName.{archive_name_text}
 use Rattle.tr_export.proofs.ArchiveLemmas.{archive_whole, archive_cut}
@@ -47,3 +48,6 @@ returns-clause-err g c =
     on_err_weaker c.write_chunk.result
     (archive_cut (g.D.Disk.made c.args.disk.now) (g.D.Disk.made c.write_chunk.new.disk) c.args.dir.now c.args.name.now
     c.args.session.now a c.as_str-2.result.now folder_is) c.write_chunk.ensures.err
+
+pub returns-in_err-folder-clause-ok : goal.returns-in_err-folder-clause-ok
+returns-in_err-folder-clause-ok g c = grind (arith, common_steps)

@@ -1,4 +1,5 @@
-use Rattle.std.proofs.Common.{◌∙◌, ap, Err}
+use Rattle.std.proofs.Common.{◌∙◌, ap, Err, arith}
+use Rattle.std.proofs.lemmas.Grind.{common_steps}
 use Rattle.std.proofs.lemmas.Result.{err_from_is_err_and}
 use Rattle.tr_export.proofs.MakingLemmas.{each_more, each_cut, OnErr-always, failed_since}
 use Rattle.tr_export.specs.Archives.{archive_made}
@@ -32,3 +33,6 @@ returns-in_err-write_archive-clause-failures g c =
     rw (p.1, p.2) (failed_since (g.D.Disk.failures c.args.disk.now) (g.D.Disk.failures c.archives.disk)
     (g.D.Disk.failures c.write_archive.new.disk) (Err c.in_err-write_archive.field-0.0) c.archives.invariant.works
     c.in_err-write_archive.ensures.failures)
+
+pub returns-clause-ok : goal.returns-clause-ok
+returns-clause-ok g c = grind (arith, common_steps)

@@ -1,4 +1,5 @@
-use Rattle.std.proofs.Common.{refl}
+use Rattle.std.proofs.Common.{refl, arith}
+use Rattle.std.proofs.lemmas.Grind.{common_steps}
 use Rattle.tr_export.proofs.MakingLemmas.{front_none, OnErr-always}
 use Rattle.tr_export.specs.Archives.{stream_file}
 use Rattle.tr_export.proofs.writing.write_stream.Goals as goal
@@ -14,3 +15,6 @@ returns-in_err-path-clause-err g c =
     OnErr-always c.from_residual-in_err-path.result
     (front_none (g.D.Disk.made c.args.disk.now) (g.D.Disk.made c.args.disk.now)
     (stream_file c.args.folder.now c.args.id c.args.session.now c.args.i) refl)
+
+pub returns-in_err-name-clause-ok : goal.returns-in_err-name-clause-ok
+returns-in_err-name-clause-ok g c = grind (arith, common_steps)

@@ -1,4 +1,5 @@
-use Rattle.std.proofs.Common.{Err}
+use Rattle.std.proofs.Common.{Err, arith}
+use Rattle.std.proofs.lemmas.Grind.{common_steps}
 use Rattle.std.proofs.lemmas.Result.{err_from_is_err_and}
 use Rattle.tr_export.proofs.ArchiveLemmas.{streams_cut}
 use Rattle.tr_export.proofs.MakingLemmas.{OnErr-always, failed_since}
@@ -18,3 +19,6 @@ returns-in_err-write_stream-clause-failures g c =
     rw (p.1, p.2) (failed_since (g.D.Disk.failures c.args.disk.now) (g.D.Disk.failures c.streams.disk)
     (g.D.Disk.failures c.write_stream.new.disk) (Err c.in_err-write_stream.field-0.0) c.streams.invariant.works
     c.in_err-write_stream.ensures.failures)
+
+pub streams-preserved : goal.streams-preserved
+streams-preserved g c = grind (arith, common_steps)

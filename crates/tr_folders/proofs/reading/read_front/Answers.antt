@@ -21,3 +21,6 @@ returns-in-0-clause-front g c bytes e =
     let same : length c.loop-at.buffer ≡ length c.args.buffer.now = omega arith in
     reads_all _ _ _ c.read.new.buffer _ before.0 (g.F.Folders.left c.read.new.self) c.loop-at.invariant.within before.1
     (rw c.in-0.is at reads) ∙ ap (λ (n : ℕ). take n bytes) same
+
+pub returns-after-loop-at-clause-front : goal.returns-after-loop-at-clause-front
+returns-after-loop-at-clause-front g c = grind (arith, common_steps)

@@ -1,4 +1,5 @@
 use Rattle.std.proofs.Common.{rules, arith, Vec, Global, length, vec_len, ◌≡◌}
+use Rattle.std.proofs.lemmas.Grind.{common_steps}
 use Rattle.tr_pool.specs.declared.feeding.LoggedProducer.{LoggedProducer}
 use Rattle.tr_pool.specs.declared.items.Item.{Item}
 use Rattle.tr_pool.proofs.FeedLaws.{all_fed, producers_came}
@@ -20,3 +21,9 @@ returns-in-Err-set_to_work-clause-came g c =
     producers_came (λ (s : Seat). s.producer) (λ (s : Seat). s.work) (λ (v : Vec Item Global). v.items) (λ (s : Seat). s.log.items) (g.T.Intake.offers c.args.intake.now)
     c.in-Ok.prepared.0.items c.in-Err-set_to_work.field-0.seats.items c.args.producers.items c.given_back.result.items c.args.works.items
     made.producers made.works made.logs c.given_back.ensures c.in-Err-set_to_work.ensures.came
+
+pub returns-in-Err-clause-came : goal.returns-in-Err-clause-came
+returns-in-Err-clause-came g c = grind (arith, common_steps)
+
+pub returns-in-Ok-set_to_work-clause-len : goal.returns-in-Ok-set_to_work-clause-len
+returns-in-Ok-set_to_work-clause-len g c = grind (arith, common_steps)

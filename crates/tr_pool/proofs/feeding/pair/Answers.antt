@@ -1,4 +1,5 @@
-use Rattle.std.proofs.Common.{rules, ◌≡◌, ◌++◌, [], map, reverse, ap, sym, ◌∙◌, subst}
+use Rattle.std.proofs.Common.{rules, ◌≡◌, ◌++◌, [], map, reverse, ap, sym, ◌∙◌, subst, arith}
+use Rattle.std.proofs.lemmas.Grind.{common_steps}
 use Rattle.std.specs.List.{AllByRecursion}
 use Rattle.tr_pool.specs.declared.feeding.LoggedProducer.{LoggedProducer}
 use Rattle.tr_pool.proofs.FeedLaws.{all_reverse, empty_of, reverse-map}
@@ -24,3 +25,9 @@ returns-clause-logs g c =
     let Seat = LoggedProducer g.row.S.Denot in
     subst (λ xs. AllByRecursion (λ (s : Seat). s.log.items ≡ []) xs) (sym c.reverse.ensures.items)
     (all_reverse (λ (s : Seat). s.log.items ≡ []) c.pairs.seats.items c.pairs.invariant.6)
+
+pub returns-in_default-with_capacity-clause-back : goal.returns-in_default-with_capacity-clause-back
+returns-in_default-with_capacity-clause-back g c = grind (arith, common_steps)
+
+pub pairs-preserved : goal.pairs-preserved
+pairs-preserved g c = grind (arith, common_steps)

@@ -1,4 +1,5 @@
-use Rattle.std.proofs.Common.{rules, ◌≡◌, ◌+◌, take, Some, ap, sym, ◌∙◌, subst}
+use Rattle.std.proofs.Common.{rules, ◌≡◌, ◌+◌, take, Some, ap, sym, ◌∙◌, subst, arith}
+use Rattle.std.proofs.lemmas.Grind.{common_steps}
 use Rattle.std.specs.Prelude.{slice_get}
 use Rattle.tr_pool.specs.Logs.{Agrees, report_of}
 use Rattle.tr_pool.specs.Reports.{with_counts}
@@ -20,3 +21,6 @@ streams-preserved c =
       more ∙ total,
       subst (λ r. IsSmall (c.streams.i + 1) r) (sym more) (small-more c.streams.i c.streams.report c.counts.result c.streams.invariant.2 are),
     )
+
+pub returns-clause-report : goal.returns-clause-report
+returns-clause-report c = grind (arith, common_steps)

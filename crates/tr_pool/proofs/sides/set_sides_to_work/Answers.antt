@@ -1,4 +1,5 @@
 use Rattle.std.proofs.Common.{rules, arith, ◌≡◌, ℕ, length, vec_len, ap, sym, ◌∙◌, subst}
+use Rattle.std.proofs.lemmas.Grind.{common_steps}
 use Rattle.std.specs.Prelude.{flat_map}
 use Rattle.tr_pool.specs.Pools.{EachCame, IsKeptOr}
 use Rattle.tr_pool.specs.Sides.{as_producer, as_drainer}
@@ -49,3 +50,12 @@ returns-in-Err-clause-memory g c fault =
       c.told_apart-producers.ensures.drainers ∙ ap (λ v. flat_map as_drainer v.items) {y = c.lined_up-line.result.0} same
           ∙ ap (flat_map as_drainer) c.lined_up-line.ensures.line ∙ drainers_of_line c.args.producers.items c.args.drainers.items,
     )
+
+pub returns-in_default-clause-came : goal.returns-in_default-clause-came
+returns-in_default-clause-came g c = grind (arith, common_steps)
+
+pub lined_up-line-requires-clause-empty : goal.lined_up-line-requires-clause-empty
+lined_up-line-requires-clause-empty g c = grind (arith, common_steps)
+
+pub lined_up-line-requires-clause-room : goal.lined_up-line-requires-clause-room
+lined_up-line-requires-clause-room g c = grind (arith, common_steps)

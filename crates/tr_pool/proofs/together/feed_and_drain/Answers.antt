@@ -1,4 +1,5 @@
 use Rattle.std.proofs.Common.{rules, arith, Vec, Global, ◌≡◌, ℕ, length, vec_len, subst}
+use Rattle.std.proofs.lemmas.Grind.{common_steps}
 use Rattle.tr_pool.specs.Pools.{EachCame, IsKeptOr}
 use Rattle.tr_pool.specs.Turns.{IsWorked}
 use Rattle.tr_pool.specs.declared.feeding.LoggedProducer.{LoggedProducer}
@@ -42,3 +43,15 @@ returns-in-Err-set_sides_to_work-clause-producers g c =
     producers_came (λ (s : Seat). s.producer) (λ (s : Seat). s.work) (λ (v : Vec Item Global). v.items) (λ (s : Seat). s.log.items) (g.I.Intake.offers f.intake.now)
     c.in-Ok.prepared.0.items c.in-Err-set_sides_to_work.field-0.producers.items f.producers.items c.given_back.result.items f.works.items
     made.producers made.works made.logs c.given_back.ensures c.in-Err-set_sides_to_work.ensures.came.0
+
+pub returns-in-Err-clause-producers : goal.returns-in-Err-clause-producers
+returns-in-Err-clause-producers g c = grind (arith, common_steps)
+
+pub returns-in-Err-clause-drainers : goal.returns-in-Err-clause-drainers
+returns-in-Err-clause-drainers g c = grind (arith, common_steps)
+
+pub returns-in-Ok-set_sides_to_work-clause-len : goal.returns-in-Ok-set_sides_to_work-clause-len
+returns-in-Ok-set_sides_to_work-clause-len g c = grind (arith, common_steps)
+
+pub returns-in-Err-set_sides_to_work-clause-memory : goal.returns-in-Err-set_sides_to_work-clause-memory
+returns-in-Err-set_sides_to_work-clause-memory g c = grind (arith, common_steps)

@@ -1,4 +1,5 @@
 use Rattle.std.proofs.Common.{◌≡◌, ◌<◌, Some, length, refl, sym, arith}
+use Rattle.std.proofs.lemmas.Grind.{common_steps}
 use Rattle.std.proofs.lemmas.Option.{get_or_from_slice_get}
 use Rattle.std.specs.Prelude.{slice_get}
 use Rattle.tr_export.proofs.MakingLemmas.{OnErr-always, each_cut, each_more}
@@ -34,3 +35,6 @@ returns-in_err-write_archives-clause-err g c =
     (g.D.Disk.made c.sessions.disk) (g.D.Disk.made c.write_archives.new.disk)
     w w c.sessions.k e refl within (sym (get_or_from_slice_get w c.sessions.k e e got)) c.sessions.invariant.made c.in_err-write_archives.ensures.err
     )
+
+pub returns-clause-ok : goal.returns-clause-ok
+returns-clause-ok g c = grind (arith, common_steps)

@@ -1,4 +1,5 @@
 use Rattle.std.proofs.Common.{◌≡◌, ◌+◌, ◌<◌, ◌≤◌, List, length, map, get_or, refl, set, ap, ◌∙◌, subst, sym, arith}
+use Rattle.std.proofs.lemmas.Grind.{common_steps}
 use Rattle.std.specs.Prelude.{sum}
 use Rattle.std.proofs.lemmas.List.{get_or_default, length-drop, length-map, take_all}
 use Rattle.std.proofs.lemmas.Option.{get_or_from_slice_get}
@@ -121,3 +122,6 @@ returns-clause-amounts g c =
     let none : length c.loop-seat.seat-iterator.rest.items ≡ 0 = sym c.loop-seat.seat-iterator.rest.ok.0 ∙ c.in-None.ensures.steps.0 in
     let all : length theirs ≤ c.loop-seat.i = omega (arith, length-drop c.loop-seat.i theirs, ap length v.left, none, v.within) in
     v.amounts ∙ ap (λ (l : List SeatState). sum (amounts_of c.args.seats.now) + sum (amounts_of l)) (take_all c.loop-seat.i theirs all)
+
+pub join_at-requires-clause-there : goal.join_at-requires-clause-there
+join_at-requires-clause-there g c = grind (arith, common_steps)

@@ -1,4 +1,5 @@
 use Rattle.std.proofs.Common.{◌≡◌, ℕ, ◌+◌, ◌<◌, ◌++◌, List, ap, arith, drop, get_or, length, subst, sym, take, ◌∙◌}
+use Rattle.std.proofs.lemmas.Grind.{common_steps}
 use Rattle.std.specs.List.{sum_by}
 use Rattle.std.proofs.lemmas.List.{take_at}
 use Rattle.tr_ledger.specs.Ledgers.{SeatState}
@@ -102,3 +103,6 @@ returns-clause-places g c =
     subst (λ (l : List SlotState). totals.offered
     ≡ totals.discarded + totals.overwritten + sum_by (λ (s : StreamState). in_ring s.ring) (streams_of l) + totals.consumed)
     c.deref.ensures.value c.sums-totals.ensures.places
+
+pub join_all-requires-clause-whole : goal.join_all-requires-clause-whole
+join_all-requires-clause-whole g c = grind (arith, common_steps)

@@ -1,4 +1,5 @@
 use Rattle.std.proofs.Common.{◌∙◌, arith}
+use Rattle.std.proofs.lemmas.Grind.{common_steps}
 use Rattle.tr_session.proofs.ListLaws.{changed_before-more, changed_before-all}
 use Rattle.tr_session.proofs.streams.switch.Goals as goal
 use Rattle.tr_stream.specs.State.{StreamState}
@@ -11,3 +12,6 @@ each-preserved g c =
 
 pub returns : goal.returns
 returns g c = c.each.invariant ∙ changed_before-all (state_after_switch c.args.active) c.each.i c.args.streams.now.items (omega arith)
+
+pub switch_at-requires : goal.switch_at-requires
+switch_at-requires g c = grind (arith, common_steps)

@@ -35,3 +35,9 @@ loop-at-preserved g c =
       taken = grind (arith, common_steps);
       front = λ now front. c.loop-at.invariant.front now (front_step _ line rest _ _ now parts c.in_ok-is_faulty.ensures.ok front);
     }
+
+pub returns-in_err-is_faulty-clause-err : goal.returns-in_err-is_faulty-clause-err
+returns-in_err-is_faulty-clause-err g c = grind (arith, common_steps)
+
+pub returns-clause-ok : goal.returns-clause-ok
+returns-clause-ok g c = grind (arith, common_steps)

@@ -1,4 +1,5 @@
-use Rattle.std.proofs.Common.{◌≡◌, ℕ, List, ◌++◌, map, sym, ap, ◌∙◌}
+use Rattle.std.proofs.Common.{◌≡◌, ℕ, List, ◌++◌, map, sym, ap, ◌∙◌, arith}
+use Rattle.std.proofs.lemmas.Grind.{common_steps}
 use Rattle.std.proofs.lemmas.List.{length-map}
 use Rattle.std.proofs.lemmas.Result.{on_err_weaker}
 use Rattle.std.specs.List.{zip}
@@ -28,3 +29,6 @@ returns-clause-err g c =
     ap (λ (n : ℕ). session_text c.args.session.now uuid n ++ rest) (length-map c.args.archives.now key_of)
     ∙ ap (λ (line : List ℕ). line ++ rest) (sym (c.as_str.ensures.value ∙ c.in_ok-line.ensures)) in
     on_err_weaker c.put_archives.result (front_step _ c.as_str.result.now rest _ _ _ parts c.in_ok-put_line.ensures.ok) c.put_archives.ensures.err
+
+pub returns-clause-ok : goal.returns-clause-ok
+returns-clause-ok g c = grind (arith, common_steps)

@@ -59,3 +59,6 @@ returns-in_err-is_faulty-clause-err g c =
     (key_of c.stream-item.result) c.in_ok-finding.finding c.loop-stream.faults _ (g.K.ByteSink.taken c.loop-stream.sink) _
     (seen_at key_of c.args.streams.now c.loop-stream.stream-index c.stream-item.result c.loop-stream-test.true c.stream-item.is)
     (c.loop-stream.invariant.told t known) (c.in_ok-finding.ensures.found t (c.loop-stream.invariant.tree ∙ known)) c.in_err-is_faulty.ensures.err)
+
+pub returns-in_err-is_faulty-clause-writes : goal.returns-in_err-is_faulty-clause-writes
+returns-in_err-is_faulty-clause-writes g c = grind (arith, common_steps)

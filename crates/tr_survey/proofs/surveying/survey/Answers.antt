@@ -1,4 +1,5 @@
-use Rattle.std.proofs.Common.{ℕ, [], Option, subst}
+use Rattle.std.proofs.Common.{ℕ, [], Option, subst, arith}
+use Rattle.std.proofs.lemmas.Grind.{common_steps}
 use Rattle.std.specs.Option.{unwrap_or}
 use Rattle.tr_survey.specs.Listing.{session_names}
 use Rattle.tr_survey.specs.Sessions.{TellsAmong}
@@ -44,3 +45,12 @@ returns-in_err-put_end-clause-err g c =
     (g.K.ByteSink.taken c.survey_sessions.new.sink))
     c.in-Some.is (c.in_ok-faults.ensures.tells t known))
     c.in_err-put_end.ensures.err)
+
+pub returns-in_default-clause-reads : goal.returns-in_default-clause-reads
+returns-in_default-clause-reads g c = grind (arith, common_steps)
+
+pub returns-clause-reads : goal.returns-clause-reads
+returns-clause-reads g c = grind (arith, common_steps)
+
+pub returns-clause-writes : goal.returns-clause-writes
+returns-clause-writes g c = grind (arith, common_steps)

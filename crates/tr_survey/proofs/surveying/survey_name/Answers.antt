@@ -1,4 +1,5 @@
-use Rattle.std.proofs.Common.{◌≡◌, ◌∷◌, [], Some, None, sym, ap, ◌∙◌, subst}
+use Rattle.std.proofs.Common.{◌≡◌, ◌∷◌, [], Some, None, sym, ap, ◌∙◌, subst, arith}
+use Rattle.std.proofs.lemmas.Grind.{common_steps}
 use Rattle.tr_survey.specs.Sessions.{TellsSession, archive_names}
 use Rattle.tr_folders.specs.Tree.{by_text}
 use Rattle.tr_survey.specs.Fronts.{BeginsSession}
@@ -44,3 +45,12 @@ returns-in_err-faults-clause-err g c =
     subst (λ l. BeginsSession t c.args.name.now c.as_str-2.result.now (by_text l) told.0) c.deref.ensures.value told.1 in
     among_front_session t c.args.dir.now c.args.name.now c.as_str-2.result.now (by_text c.in-Some.names.items) _ _ has
     (c.as_str-2.ensures.value ∙ c.in_ok-folder.ensures) (told.0, begins, told.2))
+
+pub returns-in_err-names-clause-reads : goal.returns-in_err-names-clause-reads
+returns-in_err-names-clause-reads g c = grind (arith, common_steps)
+
+pub returns-in_err-faults-clause-writes : goal.returns-in_err-faults-clause-writes
+returns-in_err-faults-clause-writes g c = grind (arith, common_steps)
+
+pub returns-clause-reads : goal.returns-clause-reads
+returns-clause-reads g c = grind (arith, common_steps)

@@ -52,3 +52,12 @@ returns-in_err-more-clause-err g c =
     among_front_both t c.args.dir.now (by_text (take i names)) (c.as_str.result.now ∷ []) (by_text (drop (i + 1) names)) (by_text names)
     c.loop-name.faults _ (g.K.ByteSink.taken c.loop-name.sink) _ all (c.loop-name.invariant.told t known)
     (c.in_err-more.ensures.err t (c.loop-name.invariant.tree ∙ known)))
+
+pub returns-in_err-more-clause-tells : goal.returns-in_err-more-clause-tells
+returns-in_err-more-clause-tells g c = grind (arith, common_steps)
+
+pub returns-in_err-more-clause-reads : goal.returns-in_err-more-clause-reads
+returns-in_err-more-clause-reads g c = grind (arith, common_steps)
+
+pub returns-in_err-more-clause-writes : goal.returns-in_err-more-clause-writes
+returns-in_err-more-clause-writes g c = grind (arith, common_steps)

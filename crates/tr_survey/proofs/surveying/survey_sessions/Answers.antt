@@ -1,4 +1,5 @@
-use Rattle.std.proofs.Common.{◌≡◌, ℕ, List, [], Option, None, subst}
+use Rattle.std.proofs.Common.{◌≡◌, ℕ, List, [], Option, None, subst, arith}
+use Rattle.std.proofs.lemmas.Grind.{common_steps}
 use Rattle.std.specs.Option.{unwrap_or}
 use Rattle.tr_survey.specs.Listing.{session_names}
 use Rattle.tr_survey.specs.Sessions.{TellsAmong}
@@ -24,3 +25,12 @@ pub returns-in_err-names-2-clause-err : goal.returns-in_err-names-2-clause-err
 returns-in_err-names-2-clause-err g c =
     at_err c.from_residual-in_err-names-2.result (λ t known.
     among_front_nothing t c.args.dir.now (session_names (unwrap_or (t.names c.args.dir.now) [])) _)
+
+pub returns-in_err-names-clause-reads : goal.returns-in_err-names-clause-reads
+returns-in_err-names-clause-reads g c = grind (arith, common_steps)
+
+pub returns-in_err-names-2-clause-reads : goal.returns-in_err-names-2-clause-reads
+returns-in_err-names-2-clause-reads g c = grind (arith, common_steps)
+
+pub returns-clause-reads : goal.returns-clause-reads
+returns-clause-reads g c = grind (arith, common_steps)

@@ -1,4 +1,5 @@
-use Rattle.std.proofs.Common.{◌≡◌, ℕ, List, Option, map, ap, sym, ◌∙◌, ◌++◌}
+use Rattle.std.proofs.Common.{◌≡◌, ℕ, List, Option, map, ap, sym, ◌∙◌, ◌++◌, arith}
+use Rattle.std.proofs.lemmas.Grind.{common_steps}
 use Rattle.tr_record.specs.Bytes.{and_then_bytes}
 use Rattle.tr_record.proofs.ByteLemmas.{and_then_bytes-append}
 use Rattle.tr_survey.specs.Findings.{finding_text}
@@ -38,3 +39,9 @@ returns-in_err-put_gaps-in-Whole-clause-err g c =
     ∙ ap (λ gaps. c.as_str.result.now ++ gaps_text stream.number gaps) (sym c.as_slice.ensures) in
     at_err c.from_residual-in_err-put_gaps-in-Whole.result
     (front_step _ c.as_str.result.now rest _ _ _ parts c.in_ok-put_line-in-Whole.ensures.ok c.in_err-put_gaps-in-Whole.ensures.err)
+
+pub returns-in_err-put_line-in-NoFile-clause-writes : goal.returns-in_err-put_line-in-NoFile-clause-writes
+returns-in_err-put_line-in-NoFile-clause-writes g c = grind (arith, common_steps)
+
+pub returns-in_ok-put_gaps-in-Whole-clause-writes : goal.returns-in_ok-put_gaps-in-Whole-clause-writes
+returns-in_ok-put_gaps-in-Whole-clause-writes g c = grind (arith, common_steps)

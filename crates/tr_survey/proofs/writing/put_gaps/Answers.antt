@@ -25,3 +25,6 @@ loop-run-preserved g c =
       front = λ now front.
           c.loop-run.invariant.front now (front_step _ c.as_str.result.now rest _ _ now parts c.in_ok-put_line.ensures.ok front);
     }
+
+pub returns-clause-ok : goal.returns-clause-ok
+returns-clause-ok g c = grind (arith, common_steps)

@@ -1,4 +1,5 @@
 use Rattle.std.proofs.Common.{◌≡◌, ◌+◌, IfNone, length, rules, arith, sym, ap, subst, ◌∙◌}
+use Rattle.std.proofs.lemmas.Grind.{common_steps}
 use Rattle.tr_chunk.specs.Reading.{Reading}
 use Rattle.tr_chunk.proofs.ReadingLemmas.{fed_none, fed_more, fed_all, fed_found}
 use Rattle.tr_chunk.proofs.audit_reader.AuditReader.feed.Goals as goal
@@ -34,3 +35,6 @@ pub returns-clause-counts : goal.returns-clause-counts
 returns-clause-counts g c =
     subst (λ (r : Reading _). IfNone r.fault ((c.loop-at.self.bytes ≡ r.bytes + length c.args.bytes.now) × (c.loop-at.self.pieces ≡ r.pieces))) c.self.view_is
     (search rules)
+
+pub returns-in-Some-clause-read : goal.returns-in-Some-clause-read
+returns-in-Some-clause-read g c = grind (arith, common_steps)

@@ -1,4 +1,5 @@
 use Rattle.std.proofs.Common.{◌≡◌, ◌≤◌, ◌+◌, ◌++◌, [], ℕ, List, length, drop, rules, arith, refl, sym, ap, subst, ◌∙◌, append-nil}
+use Rattle.std.proofs.lemmas.Grind.{common_steps}
 use Rattle.tr_packet.specs.Decoding.{Begins}
 use Rattle.tr_chunk.specs.Audit.{IsCause}
 use Rattle.tr_chunk.specs.Reading.{Reading, reading, Takes, Finds, Waits}
@@ -73,3 +74,6 @@ returns-in-Err-clause-err g c =
           fault.1 c.requires.some (sym (append-nil bytes)),
       refl,
     )
+
+pub returns-in-Ok-None-clause-ok : goal.returns-in-Ok-None-clause-ok
+returns-in-Ok-None-clause-ok g c = grind (arith, common_steps)

@@ -1,4 +1,5 @@
 use Rattle.std.proofs.Common.{◌≡◌, ◌≤◌, ◌<◌, ◌+◌, ◌-◌, ◌++◌, ℕ, List, length, take, drop, rules, arith, refl, sym, ap, subst, ◌∙◌, length-append}
+use Rattle.std.proofs.lemmas.Grind.{common_steps}
 use Rattle.std.proofs.lemmas.List.{take-append-drop}
 use Rattle.tr_packet.specs.Decoding.{Begins}
 use Rattle.tr_chunk.specs.Audit.{IsCause}
@@ -132,3 +133,6 @@ returns-in-Ok-None-clause-ok g c =
     (subst (λ (t : List ℕ). Takes r (reading inside.uuid inside.stream c.judge_front.new.audit t inside.offset inside.bytes inside.pieces inside.fault) bytes c.min-count.result) (sym items)
     (subst (λ a. Takes r (reading inside.uuid inside.stream a (inside.held.items ++ front) inside.offset inside.bytes inside.pieces inside.fault) bytes c.min-count.result) (sym part.1)
     (takes_part r c.min-count.result front back bytes parts long some (subst Waits (c.deref-2.ensures.value ∙ items) part.0))))
+
+pub overflow_add-self : goal.overflow_add-self
+overflow_add-self g c = grind (arith, common_steps)

@@ -1,4 +1,5 @@
-use Rattle.std.proofs.Common.{◌≡◌, ◌∙◌, false, subst, sym, ap, refl, Ok, Err}
+use Rattle.std.proofs.Common.{◌≡◌, ◌∙◌, false, subst, sym, ap, refl, Ok, Err, arith}
+use Rattle.std.proofs.lemmas.Grind.{common_steps}
 use Rattle.tr_record.specs.Bytes.{once_more}
 use Rattle.std.proofs.lemmas.Result.{err_from_is_err_and}
 use Rattle.tr_lines.specs.Reading.{ReadsOn, Reading, TakesPart}
@@ -80,3 +81,9 @@ pieces-preserved g c =
       content = c.refill.ensures.content ∙ c.pieces.invariant.content;
       failures = c.in_ok-refill.ensures.no_failure (λ e. cc) ∙ c.pieces.invariant.failures;
     }
+
+pub returns-in_err-take_part-clause-last : goal.returns-in_err-take_part-clause-last
+returns-in_err-take_part-clause-last g c = grind (arith, common_steps)
+
+pub returns-then-not-branch-clause-read : goal.returns-then-not-branch-clause-read
+returns-then-not-branch-clause-read g c = grind (arith, common_steps)

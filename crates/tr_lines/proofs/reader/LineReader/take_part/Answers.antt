@@ -22,3 +22,6 @@ returns-in_ok-keep-in-None-clause-ok g c =
     let after : Reading = reading (take (in_it.end - in_it.end) (drop in_it.end in_it.piece.items)) in_it.total c.keep-in-None.new.self in
     subst (λ (r : Reading). TakesPart r after false) c.self.view_is
     (TakesPart-all before after (search rules) (grind (arith, common_steps)) (rw (← c.deref.ensures.value) c.in_ok-keep-in-None.ensures.ok) refl)
+
+pub returns-in_ok-keep-in-Some-clause-held : goal.returns-in_ok-keep-in-Some-clause-held
+returns-in_ok-keep-in-Some-clause-held g c = grind (arith, common_steps)

@@ -1,4 +1,5 @@
-use Rattle.std.proofs.Common.{◌≡◌, ◌++◌, rules, List, sym, ap, subst, ◌∙◌}
+use Rattle.std.proofs.Common.{◌≡◌, ◌++◌, rules, List, sym, ap, subst, ◌∙◌, arith}
+use Rattle.std.proofs.lemmas.Grind.{common_steps}
 use Rattle.tr_packet.specs.Packets.{Contents}
 use Rattle.tr_packet.specs.Texts.{AreLabelled, packets_in}
 use Rattle.tr_packet.specs.declared.packets.Label.{Label}
@@ -27,3 +28,6 @@ returns-clause-ok g c =
     ∙ both.packets
     ∙ ap (λ (ps : List Contents). ps ++ packets_in more.labels.items more.bytes.items) c.self.view_is
     ∙ ap (λ (ps : List Contents). c.args.self.now ++ ps) c.more.view_is
+
+pub returns-then-is_empty-clause-ok : goal.returns-then-is_empty-clause-ok
+returns-then-is_empty-clause-ok g c = grind (arith, common_steps)

@@ -1,4 +1,5 @@
-use Rattle.std.proofs.Common.{◌≡◌, List, ap, ◌∙◌}
+use Rattle.std.proofs.Common.{◌≡◌, List, ap, ◌∙◌, arith}
+use Rattle.std.proofs.lemmas.Grind.{common_steps}
 use Rattle.std.proofs.lemmas.List.{drop-drop}
 use Rattle.tr_ring.specs.ClosedBuffer.{ClosedBuffer}
 use Rattle.tr_ring.specs.Ring.{remove_oldest}
@@ -9,3 +10,9 @@ loop-preserved g c =
     let old = c.args.self.now in
     c.remove_oldest.ensures ∙ ap remove_oldest c.loop.invariant
     ∙ ap (λ (bs : List ClosedBuffer). record old { waiting = bs }) (drop-drop 1 c.loop.counter old.waiting)
+
+pub remove_oldest-requires : goal.remove_oldest-requires
+remove_oldest-requires g c = grind (arith, common_steps)
+
+pub returns : goal.returns
+returns g c = grind (arith, common_steps)

@@ -1,4 +1,5 @@
-use Rattle.std.proofs.Common.{rules, ◌≡◌, ◌<◌, ◌∙◌, Some, length, slice_get, ◌+◌, ◌-◌}
+use Rattle.std.proofs.Common.{rules, ◌≡◌, ◌<◌, ◌∙◌, Some, length, slice_get, ◌+◌, ◌-◌, arith}
+use Rattle.std.proofs.lemmas.Grind.{common_steps}
 use Rattle.tr_ring.proofs.RecordLaws.{found-here, found-later}
 use Rattle.tr_ring.proofs.ring.Ring.record.Goals as goal
 
@@ -17,3 +18,6 @@ loop-i-preserved g c =
     let more : c.loop-i.left ≡ length c.in-Some.buffer.records + (c.loop-i.left - c.count-count.result) = search rules in
     found-later c.args.self.now.waiting c.args.self.now.current c.loop-i.i c.loop-i.left
     (c.loop-i.left - c.count-count.result) c.in-Some.buffer got more ∙ c.loop-i.invariant
+
+pub returns : goal.returns
+returns g c = grind (arith, common_steps)

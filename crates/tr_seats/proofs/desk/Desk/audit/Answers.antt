@@ -1,4 +1,5 @@
 use Rattle.std.proofs.Common.{◌≡◌, ◌∙◌, ◌<◌, ℕ, ap, arith, length, sym}
+use Rattle.std.proofs.lemmas.Grind.{common_steps}
 use Rattle.std.proofs.lemmas.List.{length-map}
 use Rattle.std.specs.Prelude.{slice_index}
 use Rattle.tr_ledger.specs.Ledgers.{SeatState}
@@ -38,3 +39,9 @@ returns-clause-operator g c =
     amount-at cuts i seat here ∙ ap (λ (s : SeatState). s.amount) (sym c.index_mut.ensures.value) in
     sym (c.audit_cuts.ensures.whole mark) ∙ sym amount ∙ c.self.invariant.operator i lt
     ∙ (λ j. chunks_closed (c.number-i.ensures.number j) (c.self.view_is j).book)
+
+pub invariant_of-self : goal.invariant_of-self
+invariant_of-self g c = grind (arith, common_steps)
+
+pub returns-clause-same : goal.returns-clause-same
+returns-clause-same g c = grind (arith, common_steps)

@@ -1,4 +1,5 @@
-use Rattle.std.proofs.Common.{rules, ◌≡◌, ◌∙◌, ◌++◌, ◌∷◌, [], ℕ, Some, List, ap, length, subst, sym}
+use Rattle.std.proofs.Common.{rules, ◌≡◌, ◌∙◌, ◌++◌, ◌∷◌, [], ℕ, Some, List, ap, length, subst, sym, arith}
+use Rattle.std.proofs.lemmas.Grind.{common_steps}
 use Rattle.std.specs.Prelude.{slice_get}
 use Rattle.tr_ledger.specs.Ledgers.{SeatState, seat_state}
 use Rattle.tr_seats.proofs.NameLaws.{named-more}
@@ -23,3 +24,6 @@ invariant_of-result g c =
     subst (λ (x : List SlotState × List ProducerState × List SeatState × List SeatState). AreNamed plan x.0 x.1 x.2 x.3)
     (λ j. (sym e1 j, sym e2 j, sym e3 j, sym e4 j))
     (named-more plan old.slots.items old.producers.items old.consumed.items old.cuts.items c.self.invariant t b got at)
+
+pub returns : goal.returns
+returns g c = grind (arith, common_steps)

@@ -1,4 +1,5 @@
-use Rattle.std.proofs.Common.{◌≡◌, ℕ, ◌+◌, List, ap, length, subst, ◌∙◌}
+use Rattle.std.proofs.Common.{◌≡◌, ℕ, ◌+◌, List, ap, length, subst, ◌∙◌, arith}
+use Rattle.std.proofs.lemmas.Grind.{common_steps}
 use Rattle.std.specs.List.{sum_by}
 use Rattle.tr_seats.proofs.opened.Opened.settle.Goals as goal
 use Rattle.tr_seats.specs.Settling.{IsWhy, OpenedState, opened_state, streams_of, totals_of_seats}
@@ -33,3 +34,9 @@ returns-in-None-clause-places g c =
     subst (λ (o : OpenedState). totals.offered
     ≡ totals.discarded + totals.overwritten + sum_by (λ (s : StreamState). in_ring s.ring) (streams_of o.slots) + totals.consumed)
     c.self.view_is c.settle_all.ensures.places
+
+pub settle_all-requires-clause-may : goal.settle_all-requires-clause-may
+settle_all-requires-clause-may g c = grind (arith, common_steps)
+
+pub returns-in-None-clause-may : goal.returns-in-None-clause-may
+returns-in-None-clause-may g c = grind (arith, common_steps)

@@ -1,4 +1,5 @@
 use Rattle.std.proofs.Common.{rules, ◌≡◌, ◌∙◌, ◌+◌, Ok, ap, arith, subst, sym}
+use Rattle.std.proofs.lemmas.Grind.{common_steps}
 use Rattle.tr_ledger.specs.Ledgers.{LedgerState}
 use Rattle.tr_seats.proofs.CountLaws.{cut-totals, few-counted}
 use Rattle.tr_seats.proofs.SlotLaws.{books-cut}
@@ -35,3 +36,6 @@ invariant_of-self-2 g c =
           c.raise_by_one.ensures.ledger,
       planned,
     )
+
+pub returns-in_err-done-clause-consumed : goal.returns-in_err-done-clause-consumed
+returns-in_err-done-clause-consumed g c = grind (arith, common_steps)

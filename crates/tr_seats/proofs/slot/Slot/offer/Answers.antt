@@ -1,4 +1,5 @@
 use Rattle.std.proofs.Common.{rules, ◌≡◌, ◌∙◌, ◌+◌, ℕ, Ok, ap, arith, subst, sym}
+use Rattle.std.proofs.lemmas.Grind.{common_steps}
 use Rattle.tr_ledger.specs.Ledgers.{LedgerState, seat_state}
 use Rattle.tr_seats.proofs.CountLaws.{few-counted, offer-serial, offer-totals}
 use Rattle.tr_seats.proofs.SlotLaws.{books-discarded, books-stored, books-stored_over, offered-here, whole-before}
@@ -133,3 +134,6 @@ returns-in-Discarded-clause-serial g c =
     c.raise_by_one.ensures.share in
     offer-serial c.args.moment c.args.id c.args.payload.now old.stream _ answer ∙ sym whole
     ∙ ap (λ (p : ProducerState). p.offered) c.producer.view_is
+
+pub returns-in_err-offered-clause-value : goal.returns-in_err-offered-clause-value
+returns-in_err-offered-clause-value g c = grind (arith, common_steps)

@@ -1,4 +1,5 @@
 use Rattle.std.proofs.Common.{rules, ◌≡◌, ◌∙◌, ◌+◌, ◌<◌, Ok, length, ap, arith, subst, sym}
+use Rattle.std.proofs.lemmas.Grind.{common_steps}
 use Rattle.std.proofs.lemmas.List.{length-map}
 use Rattle.std.specs.Prelude.{slice_index, slice_set}
 use Rattle.tr_ledger.specs.Ledgers.{LedgerState}
@@ -93,3 +94,9 @@ pub returns-clause-some : goal.returns-clause-some
 returns-clause-some g c =
     let answer : Ok c.in_ok-taken.taken ≡ state_take_answer c.self.inside.stream = search rules in
     (take-totals c.self.inside.stream c.in_ok-taken.taken c.config.ensures.kept.sound answer).some
+
+pub returns-in_err-taken-clause-value : goal.returns-in_err-taken-clause-value
+returns-in_err-taken-clause-value g c = grind (arith, common_steps)
+
+pub returns-in_err-taken-clause-memory : goal.returns-in_err-taken-clause-memory
+returns-in_err-taken-clause-memory g c = grind (arith, common_steps)

@@ -1,4 +1,5 @@
-use Rattle.std.proofs.Common.{◌≡◌, ◌∙◌, ◌++◌, ◌∷◌, [], List, ap, length, rules, sym}
+use Rattle.std.proofs.Common.{◌≡◌, ◌∙◌, ◌++◌, ◌∷◌, [], List, ap, length, rules, sym, arith}
+use Rattle.std.proofs.lemmas.Grind.{common_steps}
 use Rattle.tr_session.proofs.CallLaws.{one-more, same-session}
 use Rattle.tr_session.proofs.SessionLaws.{thread-made, thread-wants}
 use Rattle.tr_session.proofs.session.Session.keep_stream.Goals as goal
@@ -65,3 +66,15 @@ pub returns-in-Err-clause-reason : goal.returns-in-Err-clause-reason
 returns-in-Err-clause-reason g c =
     thread-wants c.args.self.now.book c.args.name.now c.in-Err.fault c.requires.placed
     (λ other. ap (λ (s : SessionOf StreamState). book_add_thread c.args.name.now s.book) (sym c.self.view_is) ∙ c.in-Err.ensures.refused other)
+
+pub returns-in_err-stream-clause-ok : goal.returns-in_err-stream-clause-ok
+returns-in_err-stream-clause-ok g c = grind (arith, common_steps)
+
+pub returns-in_err-stream-clause-unchanged : goal.returns-in_err-stream-clause-unchanged
+returns-in_err-stream-clause-unchanged g c = grind (arith, common_steps)
+
+pub invariant_of-self : goal.invariant_of-self
+invariant_of-self g c = grind (arith, common_steps)
+
+pub returns-in-Err-clause-unchanged : goal.returns-in-Err-clause-unchanged
+returns-in-Err-clause-unchanged g c = grind (arith, common_steps)

@@ -1,4 +1,5 @@
-use Rattle.std.proofs.Common.{◌≡◌, rules, sym}
+use Rattle.std.proofs.Common.{◌≡◌, rules, sym, arith}
+use Rattle.std.proofs.lemmas.Grind.{common_steps}
 use Rattle.std.specs.Prelude.{length}
 use Rattle.tr_session.proofs.RotationLaws.{is-whole, not-refused, rotation-is}
 use Rattle.tr_session.proofs.session.Session.rotate.Goals as goal
@@ -28,3 +29,6 @@ returns-clause-whole g c =
     c.rotate_finish.ensures.answer c.rotate_finish.ensures.after in
     is-whole c.rotate_finish.result (archive_ended c.args.moment c.args.self.now.book) c.rotate_finish.new.self
     (with_rotation by_state c.args.moment c.args.self.now) is.0 is.1
+
+pub returns-in-Err-clause-value : goal.returns-in-Err-clause-value
+returns-in-Err-clause-value g c = grind (arith, common_steps)

@@ -1,4 +1,5 @@
-use Rattle.std.proofs.Common.{◌∙◌, ap, sym, None, Some, true, ◌≡◌, rules}
+use Rattle.std.proofs.Common.{◌∙◌, ap, sym, None, Some, true, ◌≡◌, rules, arith}
+use Rattle.std.proofs.lemmas.Grind.{common_steps}
 use Rattle.tr_session_book.proofs.BookLaws.{place-full, place-left, thread_place-is}
 use Rattle.tr_session_book.proofs.NameLaws.{lookup-by_name}
 use Rattle.tr_session_book.proofs.book.SessionBook.channel_at.Goals as goal
@@ -29,3 +30,6 @@ pub returns-clause-channel : goal.returns-clause-channel
 returns-clause-channel g c =
     sym (c.in-Some.ensures.value ∙ lookup-by_name c.args.name.now c.self.inside.channels.entries
     ∙ ap (λ (b : SessionBookState). channel_named c.args.name.now b) c.self.view_is)
+
+pub returns-clause-bare : goal.returns-clause-bare
+returns-clause-bare g c = grind (arith, common_steps)

@@ -1,4 +1,5 @@
-use Rattle.std.proofs.Common.{◌≡◌, ℕ, subst}
+use Rattle.std.proofs.Common.{◌≡◌, ℕ, subst, arith}
+use Rattle.std.proofs.lemmas.Grind.{common_steps}
 use Rattle.tr_seats.specs.Settling.{IsOneEach}
 use Rattle.tr_seats.specs.declared.settling.SettleError.TheVariants.{ProducerMissing}
 use Rattle.tr_shared.proofs.WhyLaws.{why-missing}
@@ -14,3 +15,12 @@ returns-in-Err-clause-missing g c =
     let producers = c.args.producers.items in
     subst (λ (n : ℕ). (error ≡ ProducerMissing → ¬ IsOneEach n producers) × ((¬ IsOneEach n producers) → error ≡ ProducerMissing))
     c.open-opened.ensures.slots (why-missing error producers _ _ c.in-Err.ensures.why)
+
+pub close-requires-clause-slots : goal.close-requires-clause-slots
+close-requires-clause-slots g c = grind (arith, common_steps)
+
+pub returns-in-Ok-clause-seats : goal.returns-in-Ok-clause-seats
+returns-in-Ok-clause-seats g c = grind (arith, common_steps)
+
+pub returns-in-Ok-clause-places : goal.returns-in-Ok-clause-places
+returns-in-Ok-clause-places g c = grind (arith, common_steps)

@@ -1,4 +1,5 @@
-use Rattle.std.proofs.Common.{rules, ◌≡◌, ◌∷◌, ◌++◌, [], ℕ, length, subst, sym}
+use Rattle.std.proofs.Common.{rules, ◌≡◌, ◌∷◌, ◌++◌, [], ℕ, length, subst, sym, arith}
+use Rattle.std.proofs.lemmas.Grind.{common_steps}
 use Rattle.tr_shared.proofs.SnapLaws.{shown-more}
 use Rattle.tr_shared.proofs.shared.Shared.snapshot.Goals as goal
 use Rattle.tr_shared.specs.Shown.{AreShown, IsShown, ShowsAll}
@@ -21,3 +22,18 @@ loop-i-preserved g c =
 
 pub returns-clause-shown : goal.returns-clause-shown
 returns-clause-shown g c = subst (ShowsAll g.N.Names.plan) (sym c.new.ensures) c.loop-i.invariant.shown
+
+pub loop-i-init : goal.loop-i-init
+loop-i-init g c = grind (arith, common_steps)
+
+pub look_at-requires-clause-plan : goal.look_at-requires-clause-plan
+look_at-requires-clause-plan g c = grind (arith, common_steps)
+
+pub returns-in_err-look_at-clause-refused : goal.returns-in_err-look_at-clause-refused
+returns-in_err-look_at-clause-refused g c = grind (arith, common_steps)
+
+pub returns-clause-moment : goal.returns-clause-moment
+returns-clause-moment g c = grind (arith, common_steps)
+
+pub returns-clause-all : goal.returns-clause-all
+returns-clause-all g c = grind (arith, common_steps)

@@ -1,4 +1,5 @@
-use Rattle.std.proofs.Common.{rules, ◌≡◌, ◌∙◌, ◌∷◌, ◌++◌, [], ℕ, length, subst, sym}
+use Rattle.std.proofs.Common.{rules, ◌≡◌, ◌∙◌, ◌∷◌, ◌++◌, [], ℕ, length, subst, sym, arith}
+use Rattle.std.proofs.lemmas.Grind.{common_steps}
 use Rattle.tr_seats.specs.Slots.{ProducerState}
 use Rattle.tr_shared.proofs.SnapLaws.{own-more, shown-more}
 use Rattle.tr_shared.proofs.shared.Shared.snapshot_with.Goals as goal
@@ -34,3 +35,15 @@ returns-clause-own g c =
     let plan = g.N.Names.plan in
     subst (λ (p : ProducerState). ShowsOwn plan p c.new.result) c.loop-i.invariant.same
     (subst (ShowsOwn plan c.loop-i.producer) (sym c.new.ensures) c.loop-i.invariant.own)
+
+pub loop-i-init : goal.loop-i-init
+loop-i-init g c = grind (arith, common_steps)
+
+pub look_beside-requires-clause-plan : goal.look_beside-requires-clause-plan
+look_beside-requires-clause-plan g c = grind (arith, common_steps)
+
+pub returns-clause-moment : goal.returns-clause-moment
+returns-clause-moment g c = grind (arith, common_steps)
+
+pub returns-clause-all : goal.returns-clause-all
+returns-clause-all g c = grind (arith, common_steps)

@@ -1,4 +1,5 @@
 use Rattle.std.proofs.Common.{rules, arith}
+use Rattle.std.proofs.lemmas.Grind.{common_steps}
 use Rattle.tr_record.specs.Records.{Entry}
 use Rattle.tr_stream.proofs.CallLaws.{kept-pushed, booked-stored, booked-over, booked-refused}
 use Rattle.tr_stream.proofs.stream.Stream.accept.Goals as goal
@@ -49,3 +50,6 @@ invariant_of-self-in-Discarded g c =
     c.self.invariant (search rules)
     (record { moment_in = omega arith; id_in = search rules }) (cc) (search rules) (search rules)
     (booked-refused _ _ _ _ (search rules) c.note_offer.ensures)
+
+pub note_overwritten-requires-clause-records : goal.note_overwritten-requires-clause-records
+note_overwritten-requires-clause-records g c = grind (arith, common_steps)

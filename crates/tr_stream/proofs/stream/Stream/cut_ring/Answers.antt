@@ -1,4 +1,5 @@
 use Rattle.std.proofs.Common.{rules, ◌≤◌, ◌∙◌, ap, arith}
+use Rattle.std.proofs.lemmas.Grind.{common_steps}
 use Rattle.tr_stream.proofs.CallLaws.{cut-fits, cut-told, cut-is, kept-cut_now}
 use Rattle.tr_stream.proofs.SoundLaws.{closing-is_packet}
 use Rattle.tr_stream.proofs.stream.Stream.cut_ring.Goals as goal
@@ -67,3 +68,6 @@ returns-clause-ok g c =
     cut-is s c.args.end c.in_ring.result c.in_ok-packets.packets c.clear.new.self c.cut.new.self
     c.note_consumed.new.self c.note_moment.new.self c.in_ok-packets.ensures.packets (search rules) (search rules)
     (search rules) (search rules) (search rules) ∙ ap (state_cut_ring c.args.end) c.self.view_is
+
+pub invariant_of-self : goal.invariant_of-self
+invariant_of-self g c = grind (arith, common_steps)

@@ -1,4 +1,5 @@
-use Rattle.std.proofs.Common.{rules, ◌∙◌, ap, sym}
+use Rattle.std.proofs.Common.{rules, ◌∙◌, ap, sym, arith}
+use Rattle.std.proofs.lemmas.Grind.{common_steps}
 use Rattle.tr_stream.proofs.CallLaws.{oldest-is_packet, oldest-fits, moved-local, kept-moved}
 use Rattle.tr_stream.proofs.stream.Stream.move_oldest.Goals as goal
 use Rattle.tr_stream.specs.State.{StreamState}
@@ -49,3 +50,9 @@ returns-clause-ok g c =
     } in
     moved-local s c.in-Some.oldest c.remove_oldest.new.self c.move_to_part.new.parts c.note_consumed.new.self (search rules)
     (search rules) (search rules) (search rules) (search rules) ∙ ap state_after_take c.self.view_is
+
+pub invariant_of-self : goal.invariant_of-self
+invariant_of-self g c = grind (arith, common_steps)
+
+pub note_consumed-requires : goal.note_consumed-requires
+note_consumed-requires g c = grind (arith, common_steps)

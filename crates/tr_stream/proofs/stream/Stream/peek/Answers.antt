@@ -1,4 +1,5 @@
 use Rattle.std.proofs.Common.{rules, ◌≤◌, arith}
+use Rattle.std.proofs.lemmas.Grind.{common_steps}
 use Rattle.tr_stream.proofs.LookLaws.{look-some, on-err}
 use Rattle.tr_stream.proofs.SoundLaws.{closing-is_packet}
 use Rattle.tr_stream.proofs.stream.Stream.peek.Goals as goal
@@ -28,3 +29,6 @@ returns-in_err-packets-clause-memory g c =
     on-err c.from_residual.result
     (look-some s c.args.self.now c.args.moment c.stored_moment-end.result c.self.view_is (search rules)
     c.in_err-packets.ensures.memory)
+
+pub new-requires : goal.new-requires
+new-requires g c = grind (arith, common_steps)
