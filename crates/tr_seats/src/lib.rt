@@ -2,6 +2,7 @@
 //! settling of all seats. Nothing here waits: each call is lent the values that it changes.
 #![tactic(auto)]
 
+mod both;
 mod desk;
 mod drainer;
 mod laws;

@@ -5,6 +5,7 @@ ghost use Rattle.tr_seats.specs.Plans.{IsOpened, opened_of, planned_state, no_to
 ghost use Rattle.tr_seats.specs.Slots.{AreNew};
 ghost use Rattle.tr_seats.specs.Sums.{totals_in};
 
+use crate::both::both;
 use crate::names::Names;
 use crate::naming::Named;
 use crate::opened::Opened;
@@ -52,11 +53,10 @@ fn three_books<A: Allocator + Copy>(
     ensures { IfOk result
         (λ b. IsOpened b.0.0 b.0.1 × IsOpened b.1.0 b.1.1 × IsOpened b.2.0 b.2.1) }
 {
-    Ok((
-        Ledger::open(alloc)?,
-        Ledger::open(alloc)?,
-        Ledger::open(alloc)?,
-    ))
+    let first = Ledger::open(alloc)?;
+    let (first, second) = both(first, Ledger::open(alloc))?;
+    let ((first, second), third) = both((first, second), Ledger::open(alloc))?;
+    Ok((first, second, third))
 }
 
 impl<A: Allocator> PlannedStream<A> {
@@ -67,8 +67,10 @@ impl<A: Allocator> PlannedStream<A> {
         requires { totals_in stream ≡ no_totals }
         ensures { IfOk result (λ p. p.stream ≡ stream) }
     {
-        let (offered, discarded, overwritten) = three_books(alloc)?;
-        let (overwritten_packets, consumed, cuts) = three_books(alloc)?;
+        let (stream, books) = both(stream, three_books(alloc))?;
+        let ((stream, books), others) = both((stream, books), three_books(alloc))?;
+        let (offered, discarded, overwritten) = books;
+        let (overwritten_packets, consumed, cuts) = others;
         Ok(PlannedStream {
             stream,
             offered,

@@ -138,13 +138,19 @@ impl<A: Allocator + Copy> Session<A> {
             channel.mode,
             self.book.mode(),
         )?;
-        self.streams.reserve(1)?;
+        if let Err(fault) = self.streams.reserve(1) {
+            drop(stream);
+            return Err(SessionFault::from(fault));
+        }
         match self.book.add_thread(name) {
             Ok(number) => {
                 self.streams.push_reserved(stream);
                 Ok(number)
             }
-            Err(fault) => Err(fault),
+            Err(fault) => {
+                drop(stream);
+                Err(fault)
+            }
         }
     }
 

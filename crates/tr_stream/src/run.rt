@@ -1,6 +1,6 @@
 //! A stream over a list of calls.
 
-ghost use Rattle.std.specs.Prelude.{◌≡◌, IfOk, OnErr};
+ghost use Rattle.std.specs.Prelude.{◌≡◌, IfOk, OnErr, OnOk};
 ghost use Rattle.tr_stream.specs.History.{History};
 ghost use Rattle.tr_stream.specs.Runs.{MayTakeMemory, history_after_event, history_answer, history_after_events, history_answers};
 ghost use Rattle.tr_stream.specs.StandsFor.{StandsFor};
@@ -60,6 +60,25 @@ fn step<A: Allocator + Copy>(
     }
 }
 
+/// What each call of a list answers on a new stream, one after another. A failed allocation ends the run.
+fn all_steps<A: Allocator + Copy>(
+    alloc: A,
+    stream: &mut Stream<A>,
+    events: &[StreamEvent<A>],
+) -> Result<Vec<StreamAnswer<A>, A>, AllocError>
+    requires { StandsFor stream.old new_history }
+    ensures config { OnOk result (stream.new.config ≡ stream.old.config) }
+    ensures stream { OnOk result
+        (StandsFor stream.new (history_after_events stream.old.config events.now new_history)) }
+    ensures answers { IfOk result (λ answers. answers.items ≡ history_answers stream.old.config events.now new_history) }
+{
+    let mut answers = Vec::new(alloc);
+    'events: for event in events {
+        answers.push(step(stream, event)?)?;
+    }
+    Ok(answers)
+}
+
 /// Runs a new stream over a list of calls: the stream, and what each call answered. A failed allocation ends the run.
 pub fn run_stream<A: Allocator + Copy>(
     alloc: A,
@@ -78,9 +97,6 @@ pub fn run_stream<A: Allocator + Copy>(
         config.mode,
         config.session,
     )?;
-    let mut answers = Vec::new(alloc);
-    'events: for event in events {
-        answers.push(step(&mut stream, event)?)?;
-    }
+    let answers = all_steps(alloc, &mut stream, events)?;
     Ok((stream, answers))
 }

@@ -41,9 +41,9 @@ invariant_of-self-in-Ok g c =
         }
     made = let uuid = c.uuid.ensures in let mode = c.mode.ensures in let len : c.len.result ≡ length c.self.inside.streams.items = search rules in cc
 
-pub invariant_of-self-in-Err-1 : goal.invariant_of-self-in-Err-1
-invariant_of-self-in-Err-1 g c =
-    same-session c.self.inside.book c.add_thread.new.self c.self.inside.streams.items _ c.in-Err.ensures.unchanged
+pub invariant_of-self-in-Err-add_thread : goal.invariant_of-self-in-Err-add_thread
+invariant_of-self-in-Err-add_thread g c =
+    same-session c.self.inside.book c.add_thread.new.self c.self.inside.streams.items _ c.in-Err-add_thread.ensures.unchanged
     c.reserve.ensures.items c.self.invariant
 
 pub returns-in-Ok-clause-number : goal.returns-in-Ok-clause-number
@@ -62,10 +62,10 @@ returns-in-Ok-clause-ok g c =
     c.self.invariant named c.uuid.ensures (search rules) c.mode.ensures c.in_ok-stream.ensures.value pushed
     c.in-Ok.ensures.ok
 
-pub returns-in-Err-clause-reason : goal.returns-in-Err-clause-reason
-returns-in-Err-clause-reason g c =
-    thread-wants c.args.self.now.book c.args.name.now c.in-Err.fault c.requires.placed
-    (λ other. ap (λ (s : SessionOf StreamState). book_add_thread c.args.name.now s.book) (sym c.self.view_is) ∙ c.in-Err.ensures.refused other)
+pub returns-in-Err-add_thread-clause-reason : goal.returns-in-Err-add_thread-clause-reason
+returns-in-Err-add_thread-clause-reason g c =
+    thread-wants c.args.self.now.book c.args.name.now c.in-Err-add_thread.fault c.requires.placed
+    (λ other. ap (λ (s : SessionOf StreamState). book_add_thread c.args.name.now s.book) (sym c.self.view_is) ∙ c.in-Err-add_thread.ensures.refused other)
 
 pub returns-in_err-stream-clause-ok : goal.returns-in_err-stream-clause-ok
 returns-in_err-stream-clause-ok g c = grind (arith, common_steps)
@@ -73,8 +73,14 @@ returns-in_err-stream-clause-ok g c = grind (arith, common_steps)
 pub returns-in_err-stream-clause-unchanged : goal.returns-in_err-stream-clause-unchanged
 returns-in_err-stream-clause-unchanged g c = grind (arith, common_steps)
 
+pub returns-in-Err-clause-unchanged : goal.returns-in-Err-clause-unchanged
+returns-in-Err-clause-unchanged g c = grind (arith, common_steps)
+
+pub returns-in-Err-clause-ok : goal.returns-in-Err-clause-ok
+returns-in-Err-clause-ok g c = grind (arith, common_steps)
+
 pub invariant_of-self : goal.invariant_of-self
 invariant_of-self g c = grind (arith, common_steps)
 
-pub returns-in-Err-clause-unchanged : goal.returns-in-Err-clause-unchanged
-returns-in-Err-clause-unchanged g c = grind (arith, common_steps)
+pub returns-in-Err-add_thread-clause-unchanged : goal.returns-in-Err-add_thread-clause-unchanged
+returns-in-Err-add_thread-clause-unchanged g c = grind (arith, common_steps)
