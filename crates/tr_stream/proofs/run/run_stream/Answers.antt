@@ -1,4 +1,4 @@
-use Rattle.std.proofs.Common.{◌≡◌, ◌∙◌, ap, subst}
+use Rattle.std.proofs.Common.{◌∙◌, ap, subst}
 use Rattle.tr_stream.proofs.run.run_stream.Goals as goal
 use Rattle.tr_stream.specs.Runs.{history_after_events, history_answers}
 use Rattle.tr_stream.specs.StandsFor.{StandsFor}
