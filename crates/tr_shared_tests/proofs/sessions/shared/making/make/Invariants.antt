@@ -1,4 +1,4 @@
-use Rattle.tr_refusal_tests.proofs.sessions.shared.making.make.Given as goal
+use Rattle.tr_shared_tests.proofs.sessions.shared.making.make.Given as goal
 
 -- the plan that is given names itself
 abbrev pub ghosts-build : goal.ghosts-build

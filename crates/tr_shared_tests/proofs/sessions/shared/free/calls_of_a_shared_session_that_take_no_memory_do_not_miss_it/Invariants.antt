@@ -1,4 +1,4 @@
-use Rattle.tr_refusal_tests.proofs.sessions.shared.free.calls_of_a_shared_session_that_take_no_memory_do_not_miss_it.Given as goal
+use Rattle.tr_shared_tests.proofs.sessions.shared.free.calls_of_a_shared_session_that_take_no_memory_do_not_miss_it.Given as goal
 
 -- the plan that is given names itself
 abbrev pub ghosts-work_freely : goal.ghosts-work_freely

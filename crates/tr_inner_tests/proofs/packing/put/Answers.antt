@@ -4,7 +4,7 @@ use Rattle.tr_packet.specs.Packets.{Contents, contents, packet_text, packet_size
 use Rattle.tr_packet.specs.declared.fault.PacketFault.{PacketFault}
 use Rattle.tr_packet.specs.declared.head.Head.{Head}
 use Rattle.tr_record.specs.Records.{Entry}
-use Rattle.tr_lower_tests.proofs.packing.put.Goals as goal
+use Rattle.tr_inner_tests.proofs.packing.put.Goals as goal
 
 read_is : (x y : Contents × ℕ) (answer : Result (Contents × ℕ) PacketFault) → answer ≡ Ok x → answer ≡ Ok y → y.0 ≡ x.0
 read_is x y answer first second = let same : y ≡ x = cc in ap (λ (z : Contents × ℕ). z.0) same
