@@ -6,9 +6,10 @@ use Rattle.std.proofs.lemmas.List.{length-map}
 use Rattle.std.proofs.lemmas.List.FromFn.{get_or-map-range_with_len, length-map-range_with_len}
 use Rattle.tr_load.specs.Loads.{AreLogs, IsLogOf, log_in}
 use Rattle.tr_load.specs.Works.{work_of}
-use Rattle.tr_pool.specs.Feeding.{IsFed, IsOffered}
+use Rattle.tr_pool.specs.Feeding.{IsFed}
+use Rattle.tr_shared.specs.Calls.{IsOffered}
 use Rattle.tr_pool.specs.declared.items.Item.{Item}
-use Rattle.tr_pool.specs.declared.items.Log.{Log}
+use Rattle.tr_reconcile.specs.declared.log.Log.{Log}
 use Rattle.tr_seats.specs.Slots.{AreNew, ProducerState, new_producer}
 
 -- what holds of each element's image holds of the image's elements

@@ -6,7 +6,8 @@ ghost use Rattle.tr_seats.specs.Settling.{IsSessionOf};
 
 use crate::loaded::{LoadFault, Loaded};
 use std::alloc::{AllocError, Global};
-use tr_pool::{Log, LoggedProducer, Mismatch, Report, reconcile};
+use tr_pool::LoggedProducer;
+use tr_reconcile::{Log, Mismatch, Report, producer_and_log, reconcile};
 use tr_shared::{Drainer, Names, Producer, Settled, Shared};
 
 /// The producers, and their logs.
@@ -19,7 +20,7 @@ pub(crate) fn parted<N: Names>(
     let mut producers = Vec::with_capacity(alloc, fed.len())?;
     let mut logs = Vec::with_capacity(alloc, fed.len())?;
     'fed: for logged in fed {
-        let (producer, log) = logged.into_parts();
+        let (producer, log) = producer_and_log(logged);
         producers.push_reserved(producer);
         logs.push_reserved(log);
     }

@@ -4,7 +4,6 @@
 
 mod ending;
 mod gate;
-mod limits;
 mod loaded;
 mod pace;
 mod plan;
@@ -15,7 +14,6 @@ mod telling;
 mod texts;
 mod works;
 
-pub use limits::{MOST_RECORDS, MOST_WORKERS};
 pub use loaded::{LoadFault, Loaded};
 pub use plan::load_plan;
 pub use running::load;

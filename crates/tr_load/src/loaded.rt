@@ -1,7 +1,7 @@
 //! What a load comes to.
 
 use std::alloc::AllocError;
-use tr_pool::{Mismatch, Report};
+use tr_reconcile::{Mismatch, Report};
 use tr_session_book::SessionFault;
 use tr_shared::Settled;
 

@@ -3,8 +3,7 @@
 ghost use Rattle.std.specs.Prelude.{◌≡◌, ◌≤◌, IfOk, Ok, vec_len};
 ghost use Rattle.tr_load.specs.Loads.{IsLoaded};
 ghost use Rattle.tr_load.specs.Plans.{load_session};
-ghost use Rattle.tr_load.specs.declared.limits.TheConstants.{MOST_RECORDS, MOST_WORKERS};
-ghost use Rattle.tr_terms.specs.declared.limits.TheConstants.{MOST_STREAMS};
+ghost use Rattle.tr_terms.specs.declared.limits.TheConstants.{MOST_RECORDS, MOST_STREAMS, MOST_WORKERS};
 
 use crate::ending::{parted, settled};
 use crate::loaded::{LoadFault, Loaded};

@@ -6,7 +6,7 @@ ghost use Rattle.tr_load.specs.Texts.{line, mismatch_text, outcome_text, report_
 
 use std::alloc::{AllocError, Global};
 use std::fmt::Write;
-use tr_pool::{Mismatch, Report};
+use tr_reconcile::{Mismatch, Report};
 
 /// Adds a line of words and a number.
 fn push_line(text: &mut String, words: &str, number: u128) -> Result<(), AllocError>

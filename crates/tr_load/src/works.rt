@@ -3,13 +3,13 @@
 ghost use Rattle.std.specs.Prelude.{◌≡◌, ◌<◌, ◌≤◌, ◌^◌, IfOk, map, vec_len};
 ghost use Rattle.std.specs.List.{range_with_len};
 ghost use Rattle.tr_load.specs.Works.{item_of, work_of};
-ghost use Rattle.tr_load.specs.declared.limits.TheConstants.{MOST_RECORDS};
+ghost use Rattle.tr_terms.specs.declared.limits.TheConstants.{MOST_RECORDS};
 
-use crate::limits::MOST_RECORDS;
 use std::alloc::{AllocError, Global};
 use tr_pool::Item;
 use tr_stream::Payload;
 use tr_terms::Moment;
+use tr_terms::limits::MOST_RECORDS;
 
 /// The item of number `k` of the feeder of number `t`: at moment `k`, with id `k`, and both numbers as its payload.
 fn load_item(alloc: Global, t: u32, k: u32) -> Result<Item, AllocError>

@@ -3,7 +3,6 @@
 mod failing;
 mod real;
 
-use crate::asserting::assert_same;
 use std::alloc::Global;
 use std::process::Abort;
 use tr_folders::MemoryFolders;
@@ -11,6 +10,7 @@ use tr_packet::{Head, Packet, encode_packet, metadata_text};
 use tr_record::{MemorySink, Rec};
 use tr_survey::survey;
 use tr_terms::Moment;
+use tr_testing::assert_same;
 use uuid::Uuid;
 
 /// The name of an archive, up to its number.

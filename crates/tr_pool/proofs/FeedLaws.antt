@@ -2,13 +2,16 @@
 use Rattle.std.proofs.Common.{◌≡◌, List, [], ◌∷◌, ◌++◌, map, reverse, ap, sym, ◌∙◌, subst, append_assoc, refl, length, arith, ℕ, zero, suc, ◌<◌, get_or, inl, inr, ⊎_elim, Result}
 use Rattle.std.specs.List.{AllByRecursion, FoldsTo}
 use Rattle.std.proofs.lemmas.List.{get_or_default, length-map, map-append, reverse-append, reverse-reverse}
-use Rattle.tr_pool.proofs.JudgeLaws.{all_append}
 use Rattle.tr_pool.proofs.StartLaws.{default_of}
 use Rattle.tr_pool.specs.Feeding.{IsFed, WasFed}
 use Rattle.tr_pool.specs.Pools.{EachCame, IsKeptOr}
 use Rattle.tr_pool.specs.declared.items.Item.{Item}
 use Rattle.tr_stream.specs.declared.answers.OfferFault.{OfferFault}
 use Rattle.tr_stream.specs.declared.answers.Offered.{Offered}
+
+pub all_append : {X : Type 0} (P : X → Type 0) (xs ys : List X) → AllByRecursion P xs → AllByRecursion P ys → AllByRecursion P (xs ++ ys)
+all_append P [] ys a b = b
+all_append P (x ∷ xs) ys a b = (a.0, all_append P xs ys a.1 b)
 
 pub folds_one : {P A : Type 0} (R : P → A → P → Type 0) (p : P) (xs : List A) (q : P) (x : A) (r : P) → FoldsTo R p xs q → R q x r → FoldsTo R p (xs ++ x ∷ []) r
 folds_one R p [] q x r done one = (r, subst (λ s. R s x r) (sym done) one, refl)

@@ -1,6 +1,4 @@
-pub mod JoinLaws
-pub mod StartLaws
-pub mod JudgeLaws
-pub mod ReportLaws
 pub mod FeedLaws
+pub mod JoinLaws
 pub mod SideLaws
+pub mod StartLaws

@@ -1,8 +1,7 @@
 -- What a feeder does with its work.
-use Rattle.std.specs.Prelude.{◌≡◌, ℕ, List, [], ◌∷◌, ◌++◌, Result, IfOk, is_ok, if◌then◌else◌}
+use Rattle.std.specs.Prelude.{◌≡◌, ℕ, List, [], ◌∷◌, ◌++◌, Result, is_ok, if◌then◌else◌}
 use Rattle.std.specs.List.{FoldsTo}
 use Rattle.tr_pool.specs.declared.items.Item.{Item}
-use Rattle.tr_seats.specs.Slots.{ProducerState, producer_after, serial_of}
 use Rattle.tr_stream.specs.declared.answers.OfferFault.{OfferFault}
 use Rattle.tr_stream.specs.declared.answers.Offered.{Offered}
 
@@ -23,8 +22,3 @@ IsFed offers before work after log = FoldsTo (OffersOne offers) (before, []) wor
 abbrev pub WasFed : {S : Type 0} → (S → ℕ → ℕ → List ℕ → Result Offered OfferFault → S → Type 0)
     → List Item → S → S → Type 0
 WasFed offers work before after = (log : List Item) × IsFed offers before work after log
-
--- an offer to a shared session: the producer moves as the answer says, and an accepted record gets the next serial
-abbrev pub IsOffered : ProducerState → ℕ → ℕ → List ℕ → Result Offered OfferFault → ProducerState → Type 0
-IsOffered before moment id payload answer after = (after ≡ producer_after answer before)
-    × IfOk answer (λ (offered : Offered). serial_of offered ≡ before.offered)

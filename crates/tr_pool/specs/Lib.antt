@@ -1,8 +1,5 @@
 pub mod Feeding
-pub mod Judging
-pub mod Logs
 pub mod Pools
-pub mod Reports
 pub mod Sides
 pub mod Threads
 pub mod Turns

@@ -6,7 +6,7 @@ ghost use Rattle.tr_pool.specs.Feeding.{IsFed, WasFed};
 ghost use Rattle.tr_pool.specs.Pools.{EachCame, IsKeptOr};
 
 use crate::intake::Intake;
-use crate::items::{Item, Items, Log};
+use crate::items::{Item, Items};
 use crate::pool_fault::{PoolError, PoolFault};
 use crate::threads::set_to_work;
 use crate::work::Work;
@@ -14,7 +14,6 @@ use std::alloc::Global;
 use std::sync::Wait;
 use std::sync::atomic::{AtomicUsize, Ordering};
 use std::thread::Threads;
-use tr_shared::{Names, Producer};
 
 /// A producer, the items that it is still to offer, and the log of those that were accepted. The producer is the seat of an
 /// intake: of a shared session it is a `Producer`.
@@ -39,19 +38,6 @@ impl<S: Drop> LoggedProducer<S> {
             log,
         } = self;
         (producer, Items::new(log))
-    }
-}
-
-impl<N: Names> LoggedProducer<Producer<N>> {
-    /// The producer, and its log. It takes no memory.
-    pub fn into_parts(self) -> (Producer<N>, Log)
-        ensures producer { result.0 ≡ self.producer }
-        ensures stream { result.1.stream ≡ self.producer.number }
-        ensures items { result.1.items ≡ self.log.items }
-    {
-        let (producer, items) = self.into_items();
-        let stream = producer.stream() as u64;
-        (producer, Log { stream, items })
     }
 }
 

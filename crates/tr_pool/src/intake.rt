@@ -1,10 +1,6 @@
 //! What feeders offer to.
 
-ghost use Rattle.std.specs.Prelude.{◌≡◌};
-ghost use Rattle.tr_pool.specs.Feeding.{IsOffered};
-
 use std::sync::Wait;
-use tr_shared::{Names, Producer, Shared};
 use tr_stream::{OfferFault, Offered};
 use tr_terms::Moment;
 
@@ -34,23 +30,4 @@ pub trait Intake {
         payload: &[u8],
     ) -> Result<Offered, OfferFault>
         ensures { offers self.now seat.old moment id payload.now result seat.new };
-}
-
-impl<N: Names> Intake for Shared<N> {
-    ghost use Rattle.tr_pool.specs.Feeding.{IsOffered};
-
-    type Seat = Producer<N>;
-
-    ghost offers = { λ _. IsOffered };
-
-    fn offer_with<R: Wait>(
-        &self,
-        rt: &R,
-        seat: &mut Producer<N>,
-        moment: Moment,
-        id: u32,
-        payload: &[u8],
-    ) -> Result<Offered, OfferFault> {
-        self.offer(rt, seat, moment, id, payload)
-    }
 }

@@ -55,13 +55,3 @@ impl Items {
         items
     }
 }
-
-/// The items that a stream accepted, in order: the one of number `k`, from 0 on, was offered as serial `k`, if nothing had been
-/// offered to the stream before.
-#[derive(Drop)]
-pub struct Log {
-    /// The number of the stream.
-    pub stream: u64,
-    /// The items.
-    pub items: Items,
-}

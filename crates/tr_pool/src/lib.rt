@@ -1,5 +1,4 @@
-//! Threads at work on a shared session: workers that take packets, feeders that offer records, and what the feeders logged
-//! beside what the settled session holds.
+//! Threads at work: workers that take packets from streams, and feeders that offer records to them and log what is accepted.
 #![tactic(auto)]
 
 mod draining;
@@ -7,11 +6,8 @@ mod feeding;
 mod gate;
 mod intake;
 mod items;
-mod judging;
 mod limits;
 mod pool_fault;
-mod reconciling;
-mod report;
 mod sides;
 mod target;
 mod threads;
@@ -24,10 +20,8 @@ pub use draining::drain_all;
 pub use feeding::{LoggedProducer, feed};
 pub use gate::Gate;
 pub use intake::Intake;
-pub use items::{Item, Items, Log};
+pub use items::{Item, Items};
 pub use pool_fault::{PoolError, PoolFault};
-pub use reconciling::reconcile;
-pub use report::{Mismatch, Report};
 pub use sides::SidesFault;
 pub use target::Target;
 pub use together::{Feeders, Workers, feed_and_drain};

@@ -1,10 +1,8 @@
 //! What workers take from.
 
-ghost use Rattle.std.specs.Prelude.{◌≡◌, ◌<◌, length};
-ghost use Rattle.tr_seats.specs.Slots.{drainer_after};
+ghost use Rattle.std.specs.Prelude.{◌≡◌, ◌<◌};
 
 use std::sync::Wait;
-use tr_shared::{Drainer, Names, Shared};
 use tr_stream::{TakeFault, Taken};
 
 /// Streams from which workers take packets, each with a seat of its own.
@@ -34,28 +32,4 @@ pub trait Target {
     fn take_at<R: Wait>(&self, rt: &R, seat: &mut Self::Seat, i: usize) -> Result<Taken, TakeFault>
         requires { i < stream_count self.now }
         ensures { takes self.now i seat.old result seat.new };
-}
-
-impl<N: Names> Target for Shared<N> {
-    ghost use Rattle.std.specs.Prelude.{◌≡◌, length};
-    ghost use Rattle.tr_seats.specs.Slots.{drainer_after};
-
-    type Seat = Drainer<N>;
-
-    ghost stream_count = { λ _. length N.plan.books };
-
-    ghost takes = { λ _ i before answer after. after ≡ drainer_after answer i before };
-
-    fn streams(&self) -> usize {
-        self.streams()
-    }
-
-    fn take_at<R: Wait>(
-        &self,
-        rt: &R,
-        seat: &mut Drainer<N>,
-        i: usize,
-    ) -> Result<Taken, TakeFault> {
-        self.take(rt, seat, i)
-    }
 }

@@ -1,5 +1,3 @@
-pub mod CommandLine
 pub mod Endings
 pub mod Exports
-pub mod Notices
 pub mod Runs

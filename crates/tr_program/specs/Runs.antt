@@ -12,8 +12,8 @@ use Rattle.tr_folders.specs.declared.folders.Folders as Folders
 use Rattle.tr_load.specs.Loads.{IsLoaded}
 use Rattle.tr_load.specs.Telling.{DiskState, TellsLoad}
 use Rattle.tr_load.specs.declared.loaded.LoadFault.{LoadFault}
-use Rattle.tr_pool.specs.declared.report.Mismatch.{Mismatch}
-use Rattle.tr_pool.specs.declared.report.Report.{Report}
+use Rattle.tr_reconcile.specs.declared.report.Mismatch.{Mismatch}
+use Rattle.tr_reconcile.specs.declared.report.Report.{Report}
 use Rattle.tr_record.specs.Bytes.{and_then_bytes, once_more}
 use Rattle.tr_record.specs.declared.bytes.ByteSink as Sink
 use Rattle.tr_record.specs.declared.bytes.ByteSource as Source
@@ -23,7 +23,7 @@ use Rattle.tr_survey.specs.Failures.{reads_after, writes_after}
 use Rattle.tr_survey.specs.Fronts.{HasToldFront}
 use Rattle.tr_survey.specs.Sessions.{TellsFolder, sessions_of}
 use Rattle.tr_survey.specs.declared.faults.SurveyFault.{SurveyFault}
-use Rattle.tr_program.specs.CommandLine.{Folder, Script, Load, Audit, Task}
+use Rattle.tr_invocation.specs.CommandLine.{Folder, Script, Load, Audit, Task}
 use Rattle.tr_program.specs.Endings.{ending_of_load, ending_of_refused, ending_of_survey, ending_of_told, message_of, status_of}
 use Rattle.tr_program.specs.Exports.{IsMadeBelow, all_made}
 use Rattle.tr_program.specs.declared.ending.Ending.{Ending}

@@ -7,7 +7,7 @@ use std::io::ErrorKind;
 use tr_console::ScriptFault;
 use tr_export::ExportFault;
 use tr_load::LoadFault;
-use tr_pool::{Mismatch, Report};
+use tr_reconcile::{Mismatch, Report};
 use tr_survey::SurveyFault;
 
 /// How a run of the program ends.

@@ -2,7 +2,6 @@
 
 ghost use Rattle.std.specs.Prelude.{◌≡◌, vec_len};
 
-use crate::asserting::assert_same;
 use std::alloc::Global;
 use std::marker::Brand;
 use std::process::Abort;
@@ -11,12 +10,13 @@ use std::sync::atomic::{AtomicU64, Ordering};
 use std::test::*;
 use std::thread;
 use std::thread::Threads;
-use tr_pool::{Gate, Item, Items, Log, Mismatch, Report, drain_all, feed, reconcile};
+use tr_pool::{Gate, Item, Items, drain_all, feed};
+use tr_reconcile::{Log, Mismatch, Report, producer_and_log, reconcile};
 use tr_session::{ChannelConfig, Config};
 use tr_shared::{Drainer, Names, Plan, Producer, Settled, Shared, plan};
 use tr_stream::Payload;
 use tr_terms::{Mode, Name, OffsetMinutes, SessionMode};
-use tr_testing::moment;
+use tr_testing::{assert_same, moment};
 use uuid::Uuid;
 
 /// A plan of this many streams, each with two sub-buffers of this many bytes, in discard mode.
@@ -97,7 +97,7 @@ fn feeds<N: Names + Send + Sync, R: Threads + Wait + Abort + Sync>(
     let mut producers = Vec::new(alloc);
     let mut logs = Vec::new(alloc);
     'fed: for logged in fed {
-        let (producer, log) = logged.into_parts();
+        let (producer, log) = producer_and_log(logged);
         producers.push(producer).expect(rt, "memory");
         logs.push(log).expect(rt, "memory");
     }

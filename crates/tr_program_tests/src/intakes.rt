@@ -1,6 +1,5 @@
 //! Feeders on an intake that is no session, and a worker beside them on a target that is none.
 
-use crate::asserting::assert_same;
 use crate::feeding::{TRIES, item, items};
 use std::alloc::Global;
 use std::process::Abort;
@@ -13,6 +12,7 @@ use tr_pool::{
 };
 use tr_stream::{OfferFault, Offered, TakeFault, Taken};
 use tr_terms::Moment;
+use tr_testing::assert_same;
 
 /// What was offered with a seat: how often, and the sums of the moments and of the lengths of the payloads.
 #[derive(Clone, Copy, PartialEq, Debug)]

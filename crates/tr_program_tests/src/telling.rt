@@ -1,6 +1,5 @@
 //! Loads that are told to an output and a disk.
 
-use crate::asserting::assert_same;
 use crate::loads::loaded;
 use std::alloc::Global;
 use std::process::Abort;
@@ -8,7 +7,7 @@ use std::test::*;
 use tr_export::{ExportFault, Made, MemoryDisk};
 use tr_load::tell_load;
 use tr_record::{MemorySink, WriterSink};
-use tr_testing::FailsAfter;
+use tr_testing::{FailsAfter, assert_same};
 
 const TEXT: &[u8] =
     b"threads 1\noffered 3\ndiscarded 0\noverwritten 0\nin ring 0\nin chunks 3\nreconciled\n";

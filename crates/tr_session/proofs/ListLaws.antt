@@ -1,6 +1,5 @@
 -- Lists in which one element is changed, or one after another.
-use Rattle.std.proofs.Common.{◌≡◌, ℕ, ◌+◌, ◌≤◌, ◌<◌, get_or, zero, suc, List, [], ◌∷◌, ◌++◌, length, map, set, take, drop, Some, None, refl, sym, ◌∙◌, ap, arith}
-use Rattle.std.proofs.lemmas.List.{map-append, take_all, take_more}
+use Rattle.std.proofs.Common.{◌≡◌, ℕ, ◌+◌, ◌<◌, zero, suc, List, [], ◌∷◌, ◌++◌, length, map, set, take, drop, Some, None, refl, sym, ◌∙◌, ap, arith}
 use Rattle.std.proofs.lemmas.Option.{slice_get_past, slice_get_read}
 use Rattle.std.specs.Borrow.{MutBor}
 use Rattle.std.specs.List.{IsItemAtMut}
@@ -54,14 +53,3 @@ module _ {X : Type 0} where
       go : (ys : List X) → changed_before (length ys) f ys ≡ map f ys
       go [] = refl
       go (y ∷ ys) = ap (λ (zs : List X). f y ∷ zs) (go ys)
-
--- the first elements of a list, mapped, and one more
-pub mapped-more : {X Y : Type 0} (f : X → Y) (xs : List X) (i : ℕ) (x : X) (y : Y) (seen more : List Y) → i < length xs
-    → x ≡ get_or xs i x → y ≡ f x → seen ≡ map f (take i xs) → more ≡ seen ++ y ∷ [] → more ≡ map f (take (i + 1) xs)
-mapped-more f xs i x y seen more within item is so pushed =
-    pushed ∙ ap (λ ys. ys ++ y ∷ []) so ∙ ap (λ z. map f (take i xs) ++ z ∷ []) is
-    ∙ sym (map-append f (take i xs) (x ∷ []))
-    ∙ ap (map f) (ap (λ z. take i xs ++ z ∷ []) item ∙ sym (take_more xs i x within))
-
-pub mapped-all : {X Y : Type 0} (f : X → Y) (xs : List X) (i : ℕ) (seen : List Y) → length xs ≤ i → seen ≡ map f (take i xs) → seen ≡ map f xs
-mapped-all f xs i seen past so = so ∙ ap (map f) (take_all i xs past)

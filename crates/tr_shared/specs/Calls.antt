@@ -1,10 +1,12 @@
 -- What the calls of a shared session answer, as far as those who hold no lock can tell.
-use Rattle.std.specs.Prelude.{◌≡◌, ◌≤◌, ◌⊎◌, ℕ, List, sum}
+use Rattle.std.specs.Prelude.{◌≡◌, ◌≤◌, ◌⊎◌, ℕ, List, Result, IfOk, sum}
 use Rattle.std.specs.List.{sum_by}
-use Rattle.tr_seats.specs.Slots.{ProducerState}
+use Rattle.tr_seats.specs.Slots.{ProducerState, producer_after, serial_of}
 use Rattle.tr_seats.specs.declared.totals.Totals.{Totals}
 use Rattle.tr_session_book.specs.declared.faults.SessionFault.{SessionFault}
 use Rattle.tr_session_book.specs.declared.faults.SessionFault.TheVariants.{AlreadyActive, Misplaced, NoMemory, NotActive, RotationPending, TooMany}
+use Rattle.tr_stream.specs.declared.answers.OfferFault.{OfferFault}
+use Rattle.tr_stream.specs.declared.answers.Offered.{Offered}
 
 -- the totals have just what the producers offered, and what the drainers consumed is within them: the rest is the desk's
 pub record AreOffersOf (producers : List ProducerState) (drainers : List (List ℕ)) (t : Totals) : Type 0 where
@@ -22,3 +24,8 @@ IsStartFault fault = (fault ≡ RotationPending) ⊎ (fault ≡ AlreadyActive) �
 
 abbrev pub IsStopFault : SessionFault → Type 0
 IsStopFault fault = (fault ≡ RotationPending) ⊎ (fault ≡ NotActive) ⊎ (fault ≡ Misplaced)
+
+-- an offer to a shared session: the producer moves as the answer says, and an accepted record gets the next serial
+abbrev pub IsOffered : ProducerState → ℕ → ℕ → List ℕ → Result Offered OfferFault → ProducerState → Type 0
+IsOffered before moment id payload answer after = (after ≡ producer_after answer before)
+    × IfOk answer (λ (offered : Offered). serial_of offered ≡ before.offered)

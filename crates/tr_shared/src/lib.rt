@@ -6,6 +6,7 @@
 mod laws;
 mod looking;
 mod operating;
+mod pooled;
 mod rotating;
 mod settle_fault;
 mod shared;

@@ -1,30 +1,15 @@
 //! The tests of tr_seats and of tr_shared (`seats`, `shared`): offers and takes that move seats, drainers, desks, sessions that
-//! are settled, and the threads that share one.
-//!
-//! All other modules have the tests in which a call is made with no memory, with 16 bytes, with 32, and so on until it has
-//! enough: so each of its allocations is refused that wants more than those before it. The answer names the refusal, what stands
-//! after it is what the call's documentation says, and the same call made again with memory gives the ordinary answer.
+//! are settled, and the threads that share one. And calls of a session, one thread's or shared, with too little memory
+//! (`sessions`), by `refuse_each` of tr_testing.
 //!
 //! Some functions drop by name what they hold at their end, which is proved in less time.
 #![tactic(auto)]
 
 #[cfg(test)]
-mod files;
-#[cfg(test)]
 mod plans;
-#[cfg(test)]
-mod rings;
-#[cfg(test)]
-mod scarce;
-#[cfg(test)]
-mod scripts;
 #[cfg(test)]
 mod seats;
 #[cfg(test)]
 mod sessions;
 #[cfg(test)]
 mod shared;
-#[cfg(test)]
-mod streams;
-#[cfg(test)]
-mod turns;

@@ -6,8 +6,6 @@ mod rotations;
 mod shared;
 mod single;
 
-use crate::scarce::{UNIT, new_heap};
-use crate::turns::{Call, assert_same, refuse_each};
 use alike::assert_same_session;
 use std::alloc::{Allocator, Global};
 use std::process::Abort;
@@ -17,7 +15,7 @@ use tr_session_book::{Archive, SessionFault};
 use tr_snapshot::Snapshot;
 use tr_stream::{CutDone, Taken};
 use tr_terms::{Mode, Moment, Name, OffsetMinutes, SessionMode};
-use tr_testing::moment;
+use tr_testing::{Call, UNIT, assert_same, moment, new_heap, refuse_each};
 use uuid::Uuid;
 
 /// What a session is set up by.

@@ -53,3 +53,9 @@ pub const LONGEST_PIECE: usize = 65_536;
 
 /// The most bytes that the line `offer` fills a payload with.
 pub const MOST_FILL: u32 = 65_536;
+
+/// The most records that each thread of a load offers.
+pub const MOST_RECORDS: u64 = 1_000_000;
+
+/// The most workers of a load.
+pub const MOST_WORKERS: usize = 64;

@@ -7,7 +7,8 @@ use std::process::ExitCode;
 use std::{env, io};
 use tr_export::{HostFiles, SystemDisk};
 use tr_folders::HostFolders;
-use tr_program::{notice_given, run_given};
+use tr_invocation::notice_given;
+use tr_program::run_given;
 use tr_record::{ReaderSource, WriterSink, put_all};
 
 fn main(rt: HostRuntime) -> ExitCode {

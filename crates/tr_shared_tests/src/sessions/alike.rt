@@ -1,11 +1,10 @@
 //! What can be seen of sessions.
 
-use crate::streams::assert_same_stream;
-use crate::turns::assert_same;
 use std::alloc::Allocator;
 use std::process::Abort;
 use tr_session::Session;
 use tr_session_book::SessionBook;
+use tr_testing::{assert_same, assert_same_stream};
 
 /// Asserts that two books can't be told apart by what they show.
 fn assert_same_book<A: Allocator>(rt: &impl Abort, one: &SessionBook<A>, other: &SessionBook<A>) {

@@ -2,12 +2,12 @@
 
 use super::alike::assert_same_session;
 use super::{Step, make_steps, new_session};
-use crate::scarce::{fill_all_but, new_heap};
 use linked_list_allocator::LocalHeap;
 use std::alloc::Global;
 use std::process::Abort;
 use tr_session::Session;
 use tr_terms::SessionMode;
+use tr_testing::{fill_all_but, new_heap};
 
 /// Steps with memory, and then some that take none.
 pub(super) static FREE: [(&[Step], &[Step]); 3] = [

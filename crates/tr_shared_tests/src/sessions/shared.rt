@@ -10,8 +10,6 @@ mod steps;
 
 use super::alike::assert_same_session;
 use super::{Row, Told, ask, cuts_made, held_after};
-use crate::scarce::{UNIT, fill_all_but, small_heap};
-use crate::turns::{Call, MOST, Turns, assert_same};
 use linked_list_allocator::LocalHeap;
 use std::alloc::{Allocator, Global};
 use std::marker::Brand;
@@ -20,7 +18,7 @@ use std::sync::Wait;
 use steps::{Seated, again_with, asked_of, built, make_steps, planned};
 use tr_session::Session;
 use tr_shared::{Names, Plan, Totals};
-use tr_testing::moment;
+use tr_testing::{Call, Turns, MOST, UNIT, assert_same, fill_all_but, moment, small_heap};
 
 /// What a session is settled with: how many records were offered and how many are in chunks, over all streams, and how many
 /// parts of each stream are closed.

@@ -1,6 +1,6 @@
 use Rattle.std.proofs.Common.{rules, ap}
 use Rattle.tr_book.specs.declared.counts.Counts.{Counts}
-use Rattle.tr_session.proofs.ListLaws.{mapped-all, mapped-more}
+use Rattle.tr_terms.proofs.ListLemmas.{mapped-all, mapped-more}
 use Rattle.tr_session.proofs.streams.sizes_of.Goals as goal
 use Rattle.tr_stream.specs.State.{StreamState}
 use Rattle.tr_stream.specs.StateSteps.{state_counts}

@@ -1,5 +1,5 @@
 use Rattle.std.proofs.Common.{rules}
-use Rattle.tr_session.proofs.ListLaws.{mapped-all, mapped-more}
+use Rattle.tr_terms.proofs.ListLemmas.{mapped-all, mapped-more}
 use Rattle.tr_session.proofs.streams.snap_all.Goals as goal
 use Rattle.tr_stream.specs.StateSteps.{state_snap}
 

@@ -6,7 +6,6 @@ use super::super::Step;
 use super::super::free::{FREE, assert_as_with_memory};
 use super::settle;
 use super::steps::{built, make_steps, planned};
-use crate::scarce::{fill_all_but, new_heap};
 use linked_list_allocator::LocalHeap;
 use std::alloc::Global;
 use std::marker::Brand;
@@ -15,6 +14,7 @@ use std::sync::Wait;
 use tr_session::Session;
 use tr_shared::{Names, Plan};
 use tr_terms::SessionMode;
+use tr_testing::{fill_all_but, new_heap};
 
 /// Makes the first steps with memory and the later ones without a free byte, and settles the session.
 fn work_freely<'h, N: Names>(

@@ -4,8 +4,6 @@ ghost use Rattle.std.specs.Prelude.{◌≡◌};
 
 use super::super::{NO_MEMORY, THREE};
 use super::steps::config_of;
-use crate::scarce::{UNIT, fill_all_but, small_heap};
-use crate::turns::{MOST, Turns, assert_same, only};
 use linked_list_allocator::LocalHeap;
 use std::alloc::Global;
 use std::marker::Brand;
@@ -14,6 +12,7 @@ use tr_session::Config;
 use tr_session_book::SessionFault;
 use tr_shared::{Names, Plan, Shared, plan};
 use tr_terms::SessionMode;
+use tr_testing::{Turns, MOST, UNIT, assert_same, fill_all_but, only, small_heap};
 
 /// How many streams and how many producers a session has that was made.
 type Made = Result<(usize, usize), SessionFault>;

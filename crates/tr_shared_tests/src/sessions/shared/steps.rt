@@ -5,7 +5,6 @@ ghost use Rattle.std.specs.Prelude.{◌≡◌};
 use super::super::{
     Asked, Chunk, Row, Step, Told, held_after, numbers, ring_mode, sized, snapshot_shown,
 };
-use crate::turns::assert_same;
 use std::alloc::Allocator;
 use std::process::Abort;
 use std::sync::Wait;
@@ -16,7 +15,7 @@ use tr_shared::{Drainer, Names, Plan, Producer, Shared, plan};
 use tr_snapshot::Snapshot;
 use tr_stream::{TakeFault, Taken};
 use tr_terms::{Moment, Name, OffsetMinutes, SessionMode};
-use tr_testing::moment;
+use tr_testing::{assert_same, moment};
 use uuid::Uuid;
 
 /// A session that threads share, with all its producers and drainers.

@@ -1,0 +1,55 @@
+//! What the threads of a pool do with a shared session: feeders offer to it, and workers take from it.
+
+ghost use Rattle.std.specs.Prelude.{◌≡◌, length};
+ghost use Rattle.tr_seats.specs.Slots.{drainer_after};
+ghost use Rattle.tr_shared.specs.Calls.{IsOffered};
+
+use crate::shared::Shared;
+use std::sync::Wait;
+use tr_pool::{Intake, Target};
+use tr_seats::{Drainer, Names, Producer};
+use tr_stream::{OfferFault, Offered, TakeFault, Taken};
+use tr_terms::Moment;
+
+impl<N: Names> Intake for Shared<N> {
+    ghost use Rattle.tr_shared.specs.Calls.{IsOffered};
+
+    type Seat = Producer<N>;
+
+    ghost offers = { λ _. IsOffered };
+
+    fn offer_with<R: Wait>(
+        &self,
+        rt: &R,
+        seat: &mut Producer<N>,
+        moment: Moment,
+        id: u32,
+        payload: &[u8],
+    ) -> Result<Offered, OfferFault> {
+        self.offer(rt, seat, moment, id, payload)
+    }
+}
+
+impl<N: Names> Target for Shared<N> {
+    ghost use Rattle.std.specs.Prelude.{◌≡◌, length};
+    ghost use Rattle.tr_seats.specs.Slots.{drainer_after};
+
+    type Seat = Drainer<N>;
+
+    ghost stream_count = { λ _. length N.plan.books };
+
+    ghost takes = { λ _ i before answer after. after ≡ drainer_after answer i before };
+
+    fn streams(&self) -> usize {
+        self.streams()
+    }
+
+    fn take_at<R: Wait>(
+        &self,
+        rt: &R,
+        seat: &mut Drainer<N>,
+        i: usize,
+    ) -> Result<Taken, TakeFault> {
+        self.take(rt, seat, i)
+    }
+}
