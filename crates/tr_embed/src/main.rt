@@ -87,6 +87,27 @@ fn record<N: Names + Send + Sync, R: Threads + Wait + Sync>(
     }
 }
 
+/// Prints the totals, and writes the archive below the folder that the arguments name, if they name one.
+fn report(
+    rt: &HostRuntime,
+    alloc: Global,
+    settled: &Settled,
+    totals: &Totals,
+) -> io::Result<ExitCode> {
+    println!(rt;
+        "offered {} discarded {} consumed {}",
+        totals.offered, totals.discarded, totals.consumed
+    )?;
+    let Some(dir) = env::args(rt)?.nth(1) else {
+        return Ok(ExitCode::SUCCESS);
+    };
+    let mut disk = SystemDisk::new(HostFiles::new(rt));
+    match write_archives(alloc, &mut disk, dir.as_str(), &name(), settled.session()) {
+        Ok(()) => Ok(ExitCode::SUCCESS),
+        Err(_) => Ok(ExitCode::FAILURE),
+    }
+}
+
 fn main(rt: HostRuntime) -> io::Result<ExitCode> {
     let alloc: Global = rt.alloc();
     let Ok(plan) = session_plan(alloc) else {
@@ -95,15 +116,7 @@ fn main(rt: HostRuntime) -> io::Result<ExitCode> {
     let Ok((settled, totals)) = record::<Brand, HostRuntime>(&rt, alloc, plan) else {
         return Ok(ExitCode::FAILURE);
     };
-    println!(&rt;
-        "offered {} discarded {} consumed {}",
-        totals.offered, totals.discarded, totals.consumed
-    )?;
-    if let Some(dir) = env::args(&rt)?.nth(1) {
-        let mut disk = SystemDisk::new(HostFiles::new(&rt));
-        if write_archives(alloc, &mut disk, dir.as_str(), &name(), settled.session()).is_err() {
-            return Ok(ExitCode::FAILURE);
-        }
-    }
-    Ok(ExitCode::SUCCESS)
+    let reported = report(&rt, alloc, &settled, &totals);
+    drop(settled);
+    reported
 }

@@ -7,7 +7,7 @@ use std::process::Abort;
 use tr_record::Moment;
 use tr_stream::{CutDone, CutFault, SessionMode, Stream, TakeFault, Taken};
 use tr_terms::{Geometry, Mode};
-use tr_testing::{Call, UNIT, assert_same, moment, new_heap, only, refuse_each};
+use tr_testing::{Call, UNIT, assert_same_stream, moment, new_heap, only, refuse_each};
 use uuid::Uuid;
 
 /// A call of a stream, and what it answers with memory.
