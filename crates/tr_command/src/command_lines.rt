@@ -1,10 +1,10 @@
 //! The command line of each command, and of all of them.
 
 ghost use Rattle.std.specs.Prelude.{◌≡◌, IfOk, Ok, false};
-ghost use Rattle.clap.specs.Words.{app_of, with_subcommand};
+ghost use Rattle.clap.specs.Words.{app_of, with_rule, with_subcommand};
 ghost use Rattle.clap.specs.declared.builder.command.Command.{Command};
 ghost use Rattle.clap.specs.declared.builder.command.Command.TheViews.{out-Command as fields_of};
-ghost use Rattle.tr_command.specs.CommandLine.{activity_app, archives_app, channel_app, channel_head, channel_sizes, consume_app, create_app, create_head, create_offset, fate_app, layout_app, moment_app, offer_app, offer_head, rotate_app, rotate_begin_app, rotate_finish_app, rotate_next_app, rotation_app, rotation_steps_app, running_app, schedule_app, schedules_app, script_app, session_app, snapshot_app, snapshots_app, start_app, status_app, stop_app, stream_app, thread_app, tick_app};
+ghost use Rattle.tr_command.specs.CommandLine.{activity_app, archives_app, channel_app, channel_head, channel_sizes, consume_app, create_app, create_head, create_offset, fate_app, layout_app, moment_app, offer_app, offer_head, option, place, rotate_app, rotate_begin_app, rotate_finish_app, rotate_next_app, rotation_app, rotation_steps_app, running_app, schedule_app, schedules_app, script_app, session_app, snapshot_app, snapshots_app, start_app, status_app, stop_app, stream_app, thread_app, tick_app};
 
 use crate::arguments::{flag, option, place};
 use clap::Command;
@@ -18,12 +18,56 @@ fn of_session<'a>(alloc: Global, name: &'a str) -> Result<Command<'a>, AllocErro
     Command::new(alloc, name).arg(place(alloc, "session"))
 }
 
+/// `NAME SESSION ID ..`.
+fn with_place<'a>(alloc: Global, name: &'a str, id: &'a str) -> Result<Command<'a>, AllocError>
+    ensures shape { IfOk result (λ c. app_of c ≡ with_rule (session_app name.entry.now) (place id.entry.now)) }
+    ensures local { IfOk result (λ c. (fields_of c).has_globals ≡ false) }
+{
+    of_session(alloc, name)?.arg(place(alloc, id))
+}
+
+/// A command with two more texts by their places.
+fn with_places<'a>(
+    alloc: Global,
+    command: Command<'a>,
+    first: &'a str,
+    second: &'a str,
+) -> Result<Command<'a>, AllocError>
+    requires { (fields_of command).has_globals ≡ false }
+    ensures shape { IfOk result
+        (λ c. app_of c ≡ with_rule (with_rule (app_of command.entry) (place first.entry.now)) (place second.entry.now)) }
+    ensures local { IfOk result (λ c. (fields_of c).has_globals ≡ false) }
+{
+    command.arg(place(alloc, first))?.arg(place(alloc, second))
+}
+
+/// A command with two more options.
+///
+/// # Errors
+///
+/// Out of memory.
+pub fn with_options<'a>(
+    alloc: Global,
+    command: Command<'a>,
+    first: &'a str,
+    second: &'a str,
+) -> Result<Command<'a>, AllocError>
+    requires { (fields_of command).has_globals ≡ false }
+    ensures shape { IfOk result
+        (λ c. app_of c ≡ with_rule (with_rule (app_of command.entry) (option first.entry.now)) (option second.entry.now)) }
+    ensures local { IfOk result (λ c. (fields_of c).has_globals ≡ false) }
+{
+    command
+        .arg(option(alloc, first))?
+        .arg(option(alloc, second))
+}
+
 /// `NAME SESSION MOMENT`.
 fn at_moment<'a>(alloc: Global, name: &'a str) -> Result<Command<'a>, AllocError>
     ensures shape { IfOk result (λ c. app_of c ≡ moment_app name.entry.now) }
     ensures local { IfOk result (λ c. (fields_of c).has_globals ≡ false) }
 {
-    of_session(alloc, name)?.arg(place(alloc, "moment"))
+    with_place(alloc, name, "moment")
 }
 
 /// `NAME SESSION STREAM ..`.
@@ -31,7 +75,7 @@ fn of_stream<'a>(alloc: Global, name: &'a str) -> Result<Command<'a>, AllocError
     ensures shape { IfOk result (λ c. app_of c ≡ stream_app name.entry.now) }
     ensures local { IfOk result (λ c. (fields_of c).has_globals ≡ false) }
 {
-    of_session(alloc, name)?.arg(place(alloc, "stream"))
+    with_place(alloc, name, "stream")
 }
 
 /// `create SESSION UUID ..`.
@@ -39,7 +83,7 @@ fn create_head_command<'a>(alloc: Global) -> Result<Command<'a>, AllocError>
     ensures shape { IfOk result (λ c. app_of c ≡ create_head) }
     ensures local { IfOk result (λ c. (fields_of c).has_globals ≡ false) }
 {
-    of_session(alloc, "create")?.arg(place(alloc, "uuid"))
+    with_place(alloc, "create", "uuid")
 }
 
 /// `create SESSION UUID [--east MIN] [--west MIN] ..`.
@@ -47,9 +91,7 @@ fn create_offset_command<'a>(alloc: Global) -> Result<Command<'a>, AllocError>
     ensures shape { IfOk result (λ c. app_of c ≡ create_offset) }
     ensures local { IfOk result (λ c. (fields_of c).has_globals ≡ false) }
 {
-    create_head_command(alloc)?
-        .arg(option(alloc, "east"))?
-        .arg(option(alloc, "west"))
+    with_options(alloc, create_head_command(alloc)?, "east", "west")
 }
 
 /// `create SESSION UUID [--east MIN] [--west MIN] [--snapshot]`.
@@ -65,7 +107,7 @@ fn channel_head_command<'a>(alloc: Global) -> Result<Command<'a>, AllocError>
     ensures shape { IfOk result (λ c. app_of c ≡ channel_head) }
     ensures local { IfOk result (λ c. (fields_of c).has_globals ≡ false) }
 {
-    of_session(alloc, "channel")?.arg(place(alloc, "channel"))
+    with_place(alloc, "channel", "channel")
 }
 
 /// `channel SESSION CHANNEL SIZE COUNT ..`.
@@ -73,9 +115,7 @@ fn channel_sizes_command<'a>(alloc: Global) -> Result<Command<'a>, AllocError>
     ensures shape { IfOk result (λ c. app_of c ≡ channel_sizes) }
     ensures local { IfOk result (λ c. (fields_of c).has_globals ≡ false) }
 {
-    channel_head_command(alloc)?
-        .arg(place(alloc, "size"))?
-        .arg(place(alloc, "count"))
+    with_places(alloc, channel_head_command(alloc)?, "size", "count")
 }
 
 /// `channel SESSION CHANNEL SIZE COUNT MODE`.
@@ -91,7 +131,7 @@ pub fn thread_command<'a>(alloc: Global) -> Result<Command<'a>, AllocError>
     ensures shape { IfOk result (λ c. app_of c ≡ thread_app) }
     ensures local { IfOk result (λ c. (fields_of c).has_globals ≡ false) }
 {
-    of_session(alloc, "thread")?.arg(place(alloc, "channel"))
+    with_place(alloc, "thread", "channel")
 }
 
 /// `start SESSION MOMENT`.
@@ -115,9 +155,7 @@ fn offer_head_command<'a>(alloc: Global) -> Result<Command<'a>, AllocError>
     ensures shape { IfOk result (λ c. app_of c ≡ offer_head) }
     ensures local { IfOk result (λ c. (fields_of c).has_globals ≡ false) }
 {
-    of_stream(alloc, "offer")?
-        .arg(place(alloc, "moment"))?
-        .arg(place(alloc, "id"))
+    with_places(alloc, of_stream(alloc, "offer")?, "moment", "id")
 }
 
 /// `offer SESSION STREAM MOMENT ID [--text TEXT] [--fill LEN]`.
@@ -125,9 +163,7 @@ pub fn offer_command<'a>(alloc: Global) -> Result<Command<'a>, AllocError>
     ensures shape { IfOk result (λ c. app_of c ≡ offer_app) }
     ensures local { IfOk result (λ c. (fields_of c).has_globals ≡ false) }
 {
-    offer_head_command(alloc)?
-        .arg(option(alloc, "text"))?
-        .arg(option(alloc, "fill"))
+    with_options(alloc, offer_head_command(alloc)?, "text", "fill")
 }
 
 /// `consume SESSION STREAM`.
@@ -191,9 +227,7 @@ pub fn schedule_command<'a>(alloc: Global) -> Result<Command<'a>, AllocError>
     ensures shape { IfOk result (λ c. app_of c ≡ schedule_app) }
     ensures local { IfOk result (λ c. (fields_of c).has_globals ≡ false) }
 {
-    of_session(alloc, "schedule")?
-        .arg(option(alloc, "every"))?
-        .arg(option(alloc, "size"))
+    with_options(alloc, of_session(alloc, "schedule")?, "every", "size")
 }
 
 /// `tick SESSION MOMENT`.
@@ -220,15 +254,33 @@ pub fn archives_command<'a>(alloc: Global) -> Result<Command<'a>, AllocError>
     of_session(alloc, "archives")
 }
 
+/// Both of two values that were to be made.
+fn both<C: Drop, B: Drop>(
+    one: Result<C, AllocError>,
+    other: Result<B, AllocError>,
+) -> Result<(C, B), AllocError>
+    ensures { IfOk result (λ b. (one ≡ Ok b.0) × (other ≡ Ok b.1)) }
+{
+    match (one, other) {
+        (Ok(one), Ok(other)) => Ok((one, other)),
+        _ => Err(AllocError),
+    }
+}
+
 /// A command with one more below it, if both were made.
-fn joined<'a>(
+///
+/// # Errors
+///
+/// Out of memory, also if that is why one of them wasn't made.
+pub fn joined<'a>(
     command: Result<Command<'a>, AllocError>,
     below: Result<Command<'a>, AllocError>,
 ) -> Result<Command<'a>, AllocError>
     ensures { IfOk result (λ r. (c : Command) × (b : Command) × (command.entry ≡ Ok c) × (below.entry ≡ Ok b)
         × ((fields_of b).has_globals ≡ false → app_of r ≡ with_subcommand (app_of c) (app_of b).top)) }
 {
-    command?.subcommand(below?)
+    let (command, below) = both(command, below)?;
+    command.subcommand(below)
 }
 
 /// The commands that lay a session out.

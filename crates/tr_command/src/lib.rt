@@ -14,6 +14,7 @@ mod requests;
 mod values;
 
 pub use arguments::{option, place};
+pub use command_lines::{joined, with_options};
 pub use numbers::number;
 pub use parsing::parse;
 pub use requests::Request;

@@ -10,7 +10,7 @@ use clap::error::ErrorKind;
 use clap::{ArgMatches, Command};
 use std::alloc::{AllocError, Global};
 use std::env::Args;
-use tr_command::{number_given, option, place, text_given};
+use tr_command::{joined, number_given, option, place, text_given, with_options};
 use tr_terms::limits::{MOST_RECORDS, MOST_STREAMS, MOST_WORKERS};
 
 /// What the program is asked to do.
@@ -52,9 +52,7 @@ fn load_counts_command<'a>(alloc: Global) -> Result<Command<'a>, AllocError>
     ensures shape { IfOk result (λ c. app_of c ≡ load_counts) }
     ensures local { IfOk result (λ c. (fields_of c).has_globals ≡ false) }
 {
-    Command::new(alloc, "load")
-        .arg(option(alloc, "threads"))?
-        .arg(option(alloc, "records"))
+    with_options(alloc, Command::new(alloc, "load"), "threads", "records")
 }
 
 /// `load --threads T --records R --workers W [--out DIR]`.
@@ -62,9 +60,7 @@ fn load_command<'a>(alloc: Global) -> Result<Command<'a>, AllocError>
     ensures shape { IfOk result (λ c. app_of c ≡ load_app) }
     ensures local { IfOk result (λ c. (fields_of c).has_globals ≡ false) }
 {
-    load_counts_command(alloc)?
-        .arg(option(alloc, "workers"))?
-        .arg(option(alloc, "out"))
+    with_options(alloc, load_counts_command(alloc)?, "workers", "out")
 }
 
 /// `audit DIR`.
@@ -79,16 +75,15 @@ fn audit_command<'a>(alloc: Global) -> Result<Command<'a>, AllocError>
 fn running_command<'a>(alloc: Global) -> Result<Command<'a>, AllocError>
     ensures { IfOk result (λ c. app_of c ≡ running_app) }
 {
-    Command::new(alloc, "tracerd")
-        .subcommand(script_command(alloc)?)?
-        .subcommand(load_command(alloc)?)
+    let command = joined(Ok(Command::new(alloc, "tracerd")), script_command(alloc));
+    joined(command, load_command(alloc))
 }
 
 /// The whole command line: `tracerd script ..`, `tracerd load ..` and `tracerd audit ..`.
 fn command_line<'a>(alloc: Global) -> Result<Command<'a>, AllocError>
     ensures { IfOk result (λ c. app_of c ≡ program_app) }
 {
-    running_command(alloc)?.subcommand(audit_command(alloc)?)
+    joined(running_command(alloc), audit_command(alloc))
 }
 
 /// The arguments as a list.

@@ -16,7 +16,7 @@ use tr_session::{ChannelConfig, Config};
 use tr_shared::{Drainer, Names, Plan, Producer, Settled, Shared, plan};
 use tr_stream::Payload;
 use tr_terms::{Mode, Name, OffsetMinutes, SessionMode};
-use tr_testing::{assert_same, moment};
+use tr_testing::{assert_same, granted, moment};
 use uuid::Uuid;
 
 /// A plan of this many streams, each with two sub-buffers of this many bytes, in discard mode.
@@ -91,9 +91,7 @@ fn feeds<N: Names + Send + Sync, R: Threads + Wait + Abort + Sync>(
     assert_same(rt, shared.start(rt, moment(0)), Ok(()));
     let works = vec![in alloc; items(rt, alloc, 153)].expect(rt, "memory");
     assert!(rt; works.len() == producers.len());
-    let Ok(fed) = feed(rt, alloc, &shared, producers, works) else {
-        panic!(rt; "not fed")
-    };
+    let fed = granted(rt, feed(rt, alloc, &shared, producers, works), "feeders");
     let mut producers = Vec::new(alloc);
     let mut logs = Vec::new(alloc);
     'fed: for logged in fed {
@@ -101,11 +99,11 @@ fn feeds<N: Names + Send + Sync, R: Threads + Wait + Abort + Sync>(
         producers.push(producer).expect(rt, "memory");
         logs.push(log).expect(rt, "memory");
     }
-    let Ok((settled, _)) = shared.settle(producers, Vec::new(alloc)) else {
-        panic!(rt; "not settled")
-    };
+    let answer = shared.settle(producers, Vec::new(alloc));
+    let (settled, _) = granted(rt, answer, "settled session");
     assert_in_ring(rt, alloc, &settled, 153);
     reconciles(rt, &settled, logs);
+    drop(settled);
 }
 
 /// Reconciles with the log of 153 items, with one that was changed, and with none.
@@ -196,17 +194,18 @@ fn meets<N: Names + Send + Sync, R: Threads + Wait + Abort + Sync>(
         rt,
         come: AtomicU64::new(0),
     };
-    let Ok(drainers) = drain_all(rt, alloc, &shared, drainers, &gate) else {
-        panic!(rt; "not drained")
-    };
-    let Ok((settled, totals)) = shared.settle(producers, drainers) else {
-        panic!(rt; "not settled")
-    };
+    let drainers = granted(
+        rt,
+        drain_all(rt, alloc, &shared, drainers, &gate),
+        "workers",
+    );
+    let (settled, totals) = granted(rt, shared.settle(producers, drainers), "settled session");
     assert_same(rt, totals.consumed, 2);
     'streams: for i in 0..2 {
         let stream = settled.session().stream(i).expect(rt, "a stream");
         assert_same(rt, stream.counts().consumed, 1);
     }
+    drop(settled);
 }
 
 #[test]

@@ -12,7 +12,7 @@ use tr_pool::{
 };
 use tr_stream::{OfferFault, Offered, TakeFault, Taken};
 use tr_terms::Moment;
-use tr_testing::assert_same;
+use tr_testing::{assert_same, granted};
 
 /// What was offered with a seat: how often, and the sums of the moments and of the lengths of the payloads.
 #[derive(Clone, Copy, PartialEq, Debug)]
@@ -117,9 +117,7 @@ fn a_log_has_what_was_accepted(rt: HostRuntime) {
     let producers = producers(&rt, alloc);
     let works = works(&rt, alloc);
     assert!(&rt; works.len() == producers.len());
-    let Ok(fed) = feed(&rt, alloc, &Picky, producers, works) else {
-        panic!(&rt; "not fed")
-    };
+    let fed = granted(&rt, feed(&rt, alloc, &Picky, producers, works), "feeders");
     assert_both_fed(&rt, alloc, fed);
 }
 
@@ -194,9 +192,8 @@ fn a_worker_waits_for_the_feeders_beside_it(rt: HostRuntime) {
         drainers: vec![in alloc; 0].expect(&rt, "memory"),
     };
     assert!(&rt; feeders.works.len() == feeders.producers.len());
-    let Ok((fed, takes)) = feed_and_drain(&rt, alloc, feeders, workers) else {
-        panic!(&rt; "not fed and drained")
-    };
+    let answer = feed_and_drain(&rt, alloc, feeders, workers);
+    let (fed, takes) = granted(&rt, answer, "feeders and workers");
     assert_same(&rt, takes.as_slice() == [1].as_slice(), true);
     assert_same(&rt, left.load(Ordering::SeqCst), 0);
     assert_both_fed(&rt, alloc, fed);

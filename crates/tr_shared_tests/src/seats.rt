@@ -14,7 +14,7 @@ use tr_seats::{Desk, Drainer, Names, Opened, Plan, Producer, Settled, Slot, Tota
 use tr_session_book::{SessionFault, State};
 use tr_stream::{OfferFault, Offered, TakeFault, Taken};
 use tr_terms::{Mode, SessionMode};
-use tr_testing::{assert_same, moment};
+use tr_testing::{assert_same, granted, moment};
 
 /// Lets the stream of number `i` take offers.
 fn activate<N: Names>(rt: &impl Abort, slots: &mut Vec<Slot<N>>, i: usize)
@@ -77,10 +77,7 @@ fn settled<N: Names>(
     producers: Vec<Producer<N>>,
     drainers: Vec<Drainer<N>>,
 ) -> (Settled, Totals) {
-    match opened.settle(producers, drainers) {
-        Ok(settled) => settled,
-        Err(_) => panic!(rt; "not settled"),
-    }
+    granted(rt, opened.settle(producers, drainers), "settled session")
 }
 
 /// Asserts the numbers of a producer: offered, discarded, overwritten, overwritten packets.

@@ -21,7 +21,7 @@ use tr_shared::{
 };
 use tr_stream::{OfferFault, Offered, TakeFault, Taken};
 use tr_terms::Mode;
-use tr_testing::{assert_same, moment};
+use tr_testing::{assert_same, granted, moment};
 
 /// The session that was planned, and its producers.
 fn built<N: Names>(rt: &impl Abort, plan: Plan) -> (Shared<N>, Vec<Producer<N>>)
@@ -92,10 +92,7 @@ fn settled<N: Names>(
     producers: Vec<Producer<N>>,
     drainers: Vec<Drainer<N>>,
 ) -> (Settled, Totals) {
-    match shared.settle(producers, drainers) {
-        Ok(settled) => settled,
-        Err(_) => panic!(rt; "not settled"),
-    }
+    granted(rt, shared.settle(producers, drainers), "settled session")
 }
 
 /// Starts and stops, with what is refused before, between and after.

@@ -7,3 +7,12 @@ use std::process::Abort;
 pub fn assert_same<T: PartialEq + Debug + Drop>(rt: &impl Abort, found: T, expected: T) {
     assert_eq!(rt; found, expected);
 }
+
+/// What was granted, where a refusal can't be printed. As a call of any types it lets go what a refusal holds in one step,
+/// which keeps the proofs of the tests short.
+pub fn granted<T: Drop, E: Drop>(rt: &impl Abort, answer: Result<T, E>, wanted: &str) -> T {
+    match answer {
+        Ok(value) => value,
+        Err(_) => panic!(rt; "no {wanted}"),
+    }
+}

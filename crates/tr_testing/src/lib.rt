@@ -9,7 +9,7 @@ mod scarce;
 mod streams;
 mod turns;
 
-pub use asserting::assert_same;
+pub use asserting::{assert_same, granted};
 pub use failing::FailsAfter;
 pub use folders::free_path;
 pub use full::fill;

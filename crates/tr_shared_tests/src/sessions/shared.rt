@@ -18,7 +18,7 @@ use std::sync::Wait;
 use steps::{Seated, again_with, asked_of, built, make_steps, planned};
 use tr_session::Session;
 use tr_shared::{Names, Plan, Totals};
-use tr_testing::{Call, Turns, MOST, UNIT, assert_same, fill_all_but, moment, small_heap};
+use tr_testing::{Call, MOST, Turns, UNIT, assert_same, fill_all_but, granted, moment, small_heap};
 
 /// What a session is settled with: how many records were offered and how many are in chunks, over all streams, and how many
 /// parts of each stream are closed.
@@ -54,10 +54,8 @@ fn settle<'h, N: Names>(
     let blocks = fill_all_but(rt, plain, heap, 0);
     let answer = shared.settle(producers, drainers);
     drop(blocks);
-    match answer {
-        Ok((settled, totals)) => (settled.into_session(), totals),
-        Err(_) => panic!(rt; "not settled"),
-    }
+    let (settled, totals) = granted(rt, answer, "settled session");
+    (settled.into_session(), totals)
 }
 
 /// How many free bytes a call has, and the refusal after which it is made again with memory, if it is.

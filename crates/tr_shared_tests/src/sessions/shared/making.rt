@@ -12,7 +12,7 @@ use tr_session::Config;
 use tr_session_book::SessionFault;
 use tr_shared::{Names, Plan, Shared, plan};
 use tr_terms::SessionMode;
-use tr_testing::{Turns, MOST, UNIT, assert_same, fill_all_but, only, small_heap};
+use tr_testing::{MOST, Turns, UNIT, assert_same, fill_all_but, only, small_heap};
 
 /// How many streams and how many producers a session has that was made.
 type Made = Result<(usize, usize), SessionFault>;
