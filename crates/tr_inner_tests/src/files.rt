@@ -4,6 +4,7 @@ mod archive_names;
 mod damage;
 mod readers;
 
+use crate::asserting::assert_same;
 use crate::packing::put_in_part;
 use std::alloc::Global;
 use std::fmt::Display;
@@ -16,7 +17,7 @@ use tr_chunk::{
 use tr_packet::{Head, Packet, PacketFault, encode_packet, metadata_text};
 use tr_record::{MemorySink, Rec, WriterSink};
 use tr_terms::Name;
-use tr_testing::{FailsAfter, assert_same, moment};
+use tr_testing::{FailsAfter, moment};
 use uuid::Uuid;
 
 /// The identifier 1.

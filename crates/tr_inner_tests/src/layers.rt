@@ -15,11 +15,12 @@ mod streams;
 mod sub_buffers;
 mod words;
 
+use crate::asserting::assert_same;
 use std::alloc::Global;
 use std::process::Abort;
 use tr_packet::{Head, Packet, Packets};
 use tr_record::{Rec, RecView};
-use tr_testing::{assert_same, moment};
+use tr_testing::moment;
 use uuid::Uuid;
 
 /// Asserts a record's serial, its moment, its id and its payload.

@@ -1,7 +1,7 @@
 //! The tests of what stands inside a session of one thread. A module for each of the crates below streams, and of others that
 //! are cheap to prove, in `layers` (names, records, sub-buffers, rings, parts of streams, schedules, snapshots, books of
 //! sessions, ledgers, and lines); packets, the metadata, and the files of trace chunks; worked examples of a stream's calls, and
-//! of sessions, their rotations, snapshots, ticks, runs and audits; and calls with too little memory (`refusals`).
+//! of sessions, their rotations, snapshots, ticks, runs and audits.
 #![tactic(auto)]
 
 #[cfg(test)]
@@ -16,8 +16,6 @@ mod metadata;
 mod packets;
 #[cfg(test)]
 mod packing;
-#[cfg(test)]
-mod refusals;
 #[cfg(test)]
 mod sessions;
 #[cfg(test)]

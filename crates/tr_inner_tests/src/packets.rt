@@ -1,5 +1,6 @@
 //! Worked examples of the packet format, what makes no packet, and damaged bytes.
 
+use crate::asserting::assert_same;
 use crate::packing::put;
 use std::alloc::Global;
 use std::process::Abort;
@@ -7,7 +8,7 @@ use tr_packet::{
     Head, Packet, PacketFault, PacketTexts, PacketView, Packets, decode_packet, encode_packet,
 };
 use tr_record::Rec;
-use tr_testing::{assert_same, moment};
+use tr_testing::moment;
 use uuid::Uuid;
 
 /// A packet of one record, as it is written: the trace 1, stream 0, closed at moment 9, number 0, nothing discarded, and the

@@ -7,7 +7,7 @@ mod runs;
 mod snapshots;
 mod ticks;
 
-use crate::asserting::{Place, assert_at};
+use crate::asserting::{Place, assert_at, assert_same};
 use snapshots::{Shown, assert_shown};
 use std::alloc::{Allocator, Global};
 use std::process::Abort;
@@ -16,7 +16,7 @@ use tr_session::{Next, Session, StepFault, Ticked};
 use tr_session_book::{Archive, SessionFault, State};
 use tr_stream::{CutDone, Fate, Offered, Taken};
 use tr_terms::{Mode, Name, OffsetMinutes, SessionMode};
-use tr_testing::{assert_same, moment};
+use tr_testing::moment;
 use uuid::Uuid;
 
 /// An archive's number, its begin and its end.

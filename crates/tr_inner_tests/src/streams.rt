@@ -6,7 +6,7 @@ mod memory;
 mod rings;
 mod runs;
 
-use crate::asserting::{Place, assert_at};
+use crate::asserting::{Place, assert_at, assert_same};
 use std::alloc::{Allocator, Global};
 use std::process::Abort;
 use tr_book::{Counts, Geometry, Mode, StreamSnap};
@@ -16,7 +16,7 @@ use tr_stream::{
     CutDone, CutFault, Fate, OfferFault, Offered, SessionMode, Stream, StreamConfig, TakeFault,
     Taken,
 };
-use tr_testing::{assert_same, moment};
+use tr_testing::moment;
 use uuid::Uuid;
 
 /// The serial, the moment and the length of a record.

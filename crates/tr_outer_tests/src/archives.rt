@@ -5,13 +5,14 @@ mod flushes;
 mod full;
 mod real;
 
+use crate::asserting::assert_same;
 use std::alloc::Global;
 use std::process::Abort;
 use tr_export::{Disk, ExportFault, Made, MemoryDisk, write_archives};
 use tr_packet::metadata_text;
 use tr_session::Session;
 use tr_terms::{Mode, Name, OffsetMinutes, SessionMode};
-use tr_testing::{assert_same, moment};
+use tr_testing::moment;
 use uuid::Uuid;
 
 /// The paths in the archive of a chunk that begins at 0 and ends at 10.

@@ -8,10 +8,10 @@ mod rotation;
 mod running;
 mod schedules;
 
+use crate::asserting::assert_same;
 use std::alloc::Global;
 use std::process::Abort;
 use tr_command::{Request, parse};
-use tr_testing::assert_same;
 
 /// The program's name and the words of the line, and how many they are.
 fn words_of<'a>(rt: &impl Abort, line: &'a str) -> ([&'a str; 16], usize) {

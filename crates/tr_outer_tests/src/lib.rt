@@ -6,6 +6,8 @@
 #[cfg(test)]
 mod archives;
 #[cfg(test)]
+mod asserting;
+#[cfg(test)]
 mod command_lines;
 #[cfg(test)]
 mod folders;

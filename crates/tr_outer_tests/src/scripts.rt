@@ -2,18 +2,17 @@
 
 mod fates;
 mod lines;
-mod refusals;
 mod rotations;
 mod runs;
 mod schedules;
 mod sessions;
 mod snapshots;
 
+use crate::asserting::assert_same;
 use std::alloc::{Allocator, Global};
 use std::process::Abort;
 use tr_console::{ScriptFault, run_script, run_text};
 use tr_record::{ByteSink, ByteSource, MemorySink, MemorySource};
-use tr_testing::assert_same;
 
 /// A session with one stream, started.
 const OPENING: &str = "create s 00000000-0000-0000-0000-000000000001

@@ -3,6 +3,7 @@
 mod failing;
 mod real;
 
+use crate::asserting::assert_same;
 use std::alloc::Global;
 use std::process::Abort;
 use tr_folders::MemoryFolders;
@@ -10,7 +11,6 @@ use tr_packet::{Head, Packet, encode_packet, metadata_text};
 use tr_record::{MemorySink, Rec};
 use tr_survey::survey;
 use tr_terms::Moment;
-use tr_testing::assert_same;
 use uuid::Uuid;
 
 /// The name of an archive, up to its number.

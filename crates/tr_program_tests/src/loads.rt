@@ -1,5 +1,6 @@
 //! Loads, and what is said of them.
 
+use crate::asserting::assert_same;
 use std::alloc::Global;
 use std::process::Abort;
 use std::sync::Wait;
@@ -9,7 +10,6 @@ use std::time::Clock;
 use tr_load::{Loaded, load, outcome_text};
 use tr_reconcile::{Mismatch, Report};
 use tr_terms::limits::{MOST_RECORDS, MOST_WORKERS};
-use tr_testing::assert_same;
 
 /// A load of so many threads with so many records each, and so many workers.
 pub(crate) fn loaded<R: Threads + Wait + Clock + Abort + Sync>(

@@ -5,6 +5,7 @@ mod exporting;
 mod failing;
 mod loads;
 
+use crate::asserting::assert_same;
 use std::alloc::Global;
 use std::io;
 use std::sync::Wait;
@@ -14,7 +15,6 @@ use tr_export::MemoryDisk;
 use tr_folders::MemoryFolders;
 use tr_program::{run, run_given};
 use tr_record::{MemorySink, MemorySource};
-use tr_testing::assert_same;
 
 /// Folders in which nothing stands.
 fn no_folders(alloc: Global) -> MemoryFolders {

@@ -1,5 +1,6 @@
 //! Loads that are told to an output and a disk.
 
+use crate::asserting::assert_same;
 use crate::loads::loaded;
 use std::alloc::Global;
 use std::process::Abort;
@@ -7,7 +8,7 @@ use std::test::*;
 use tr_export::{ExportFault, Made, MemoryDisk};
 use tr_load::tell_load;
 use tr_record::{MemorySink, WriterSink};
-use tr_testing::{FailsAfter, assert_same};
+use tr_testing::FailsAfter;
 
 const TEXT: &[u8] =
     b"threads 1\noffered 3\ndiscarded 0\noverwritten 0\nin ring 0\nin chunks 3\nreconciled\n";

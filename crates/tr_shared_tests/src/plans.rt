@@ -1,6 +1,7 @@
 //! Plans that tests begin with, and what all modules of these tests share.
 
 use std::alloc::Global;
+use std::fmt::Debug;
 use std::process::Abort;
 use std::test::*;
 use tr_seats::{Plan, plan};
@@ -8,6 +9,20 @@ use tr_session::{ChannelConfig, Config};
 use tr_session_book::SessionFault;
 use tr_terms::{Mode, Name, OffsetMinutes, SessionMode};
 use uuid::Uuid;
+
+/// Compares what a test found with what it expects. As a call without clauses it keeps the proofs of the tests short.
+pub(crate) fn assert_same<T: PartialEq + Debug + Drop>(rt: &impl Abort, found: T, expected: T) {
+    assert_eq!(rt; found, expected);
+}
+
+/// What was granted, where a refusal can't be printed. As a call of any types it lets go what a refusal holds in one step,
+/// which keeps the proofs of the tests short.
+pub(crate) fn granted<T: Drop, E: Drop>(rt: &impl Abort, answer: Result<T, E>, wanted: &str) -> T {
+    match answer {
+        Ok(value) => value,
+        Err(_) => panic!(rt; "no {wanted}"),
+    }
+}
 
 /// Appends.
 pub(crate) fn push<T: Drop>(rt: &impl Abort, items: &mut Vec<T>, item: T) {

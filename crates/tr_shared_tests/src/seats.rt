@@ -5,7 +5,7 @@ ghost use Rattle.std.specs.Prelude.{◌≡◌, length};
 mod rotating;
 mod settling;
 
-use crate::plans::{PAYLOAD, last, plan_of, plan_with};
+use crate::plans::{PAYLOAD, assert_same, granted, last, plan_of, plan_with};
 use std::alloc::Global;
 use std::marker::Brand;
 use std::process::Abort;
@@ -14,7 +14,7 @@ use tr_seats::{Desk, Drainer, Names, Opened, Plan, Producer, Settled, Slot, Tota
 use tr_session_book::{SessionFault, State};
 use tr_stream::{OfferFault, Offered, TakeFault, Taken};
 use tr_terms::{Mode, SessionMode};
-use tr_testing::{assert_same, granted, moment};
+use tr_testing::moment;
 
 /// Lets the stream of number `i` take offers.
 fn activate<N: Names>(rt: &impl Abort, slots: &mut Vec<Slot<N>>, i: usize)

@@ -8,7 +8,7 @@ mod rotating;
 mod snapshots;
 mod threads;
 
-use crate::plans::{PAYLOAD, last, plan_of, push};
+use crate::plans::{PAYLOAD, assert_same, granted, last, plan_of, push};
 use std::alloc::Global;
 use std::marker::Brand;
 use std::process::Abort;
@@ -21,7 +21,7 @@ use tr_shared::{
 };
 use tr_stream::{OfferFault, Offered, TakeFault, Taken};
 use tr_terms::Mode;
-use tr_testing::{assert_same, granted, moment};
+use tr_testing::moment;
 
 /// The session that was planned, and its producers.
 fn built<N: Names>(rt: &impl Abort, plan: Plan) -> (Shared<N>, Vec<Producer<N>>)

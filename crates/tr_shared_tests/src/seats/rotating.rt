@@ -3,7 +3,7 @@
 ghost use Rattle.std.specs.Prelude.{◌≡◌, length};
 
 use super::{activate, assert_offered, assert_started, built, settled, stored};
-use crate::plans::{last, plan_of, push};
+use crate::plans::{assert_same, last, plan_of, push};
 use std::alloc::Global;
 use std::marker::Brand;
 use std::process::Abort;
@@ -14,7 +14,7 @@ use tr_session::StepFault;
 use tr_session_book::{Archive, SessionFault};
 use tr_stream::CutDone;
 use tr_terms::Mode;
-use tr_testing::{assert_same, moment};
+use tr_testing::moment;
 
 /// Asserts what the cut of the slot at a place, as of the stream of number `i`, answers: how many records the stream had.
 fn assert_cut<N: Names>(

@@ -3,7 +3,7 @@
 ghost use Rattle.std.specs.Prelude.{◌≡◌, length};
 
 use super::{activate, assert_offered, assert_taken, built, drainer_of, settled, stored};
-use crate::plans::{last, plan_of, push};
+use crate::plans::{assert_same, last, plan_of, push};
 use std::alloc::Global;
 use std::marker::Brand;
 use std::process::Abort;
@@ -13,7 +13,6 @@ use tr_seats::{
 };
 use tr_stream::{Offered, Taken};
 use tr_terms::Mode;
-use tr_testing::assert_same;
 
 /// Asserts that a session isn't settled for this reason, and gives back all that came back.
 fn unsettled<N: Names>(

@@ -3,7 +3,7 @@
 ghost use Rattle.std.specs.Prelude.{◌≡◌};
 
 use super::{assert_started, built, drainer_of, settled, unsettled};
-use crate::plans::{PAYLOAD, last, plan_of, push};
+use crate::plans::{PAYLOAD, assert_same, last, plan_of, push};
 use std::alloc::Global;
 use std::marker::Brand;
 use std::process::Abort;
@@ -19,7 +19,7 @@ use tr_shared::{
 };
 use tr_stream::TakeFault;
 use tr_terms::Mode;
-use tr_testing::{assert_same, moment};
+use tr_testing::moment;
 
 /// How many turns a thread waits for others at most.
 const TURNS: u64 = 20_000_000;

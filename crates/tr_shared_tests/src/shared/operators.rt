@@ -4,7 +4,7 @@ ghost use Rattle.std.specs.Prelude.{◌≡◌};
 
 use super::threads::{ROTATIONS, Worked, work};
 use super::{assert_started, built, settled};
-use crate::plans::plan_of;
+use crate::plans::{assert_same, plan_of};
 use std::alloc::Global;
 use std::marker::Brand;
 use std::process::Abort;
@@ -18,7 +18,7 @@ use tr_session::Session;
 use tr_shared::{Names, Plan, Shared, Totals};
 use tr_stream::Stream;
 use tr_terms::Mode;
-use tr_testing::{assert_same, moment};
+use tr_testing::moment;
 use uuid::Uuid;
 
 /// Ends a rotation that an operator left pending, if there is one, and rotates once more: how many archives this made.

@@ -6,7 +6,7 @@ use super::{
     assert_offered, assert_started, assert_stopped, assert_taken, built, drainer_of, settled,
     stored,
 };
-use crate::plans::{last, plan_of, push};
+use crate::plans::{assert_same, last, plan_of, push};
 use std::alloc::Global;
 use std::marker::Brand;
 use std::process::Abort;
@@ -18,7 +18,7 @@ use tr_session_book::{Archive, SessionFault};
 use tr_shared::{Drainer, Names, Plan, Producer, Settled, Shared, Totals};
 use tr_stream::{Fate, OfferFault, TakeFault, Taken};
 use tr_terms::Mode;
-use tr_testing::{assert_same, moment};
+use tr_testing::moment;
 
 /// What a take answers: the number of the packet, how many records it has, and its chunk.
 fn taken(seq: u64, count: u64, chunk: u64) -> Result<Taken, TakeFault> {

@@ -4,7 +4,7 @@ ghost use Rattle.std.specs.Prelude.{◌≡◌};
 
 use super::rotating::{assert_begun, assert_rotated, assert_ticked};
 use super::{assert_offered, assert_started, built, stored};
-use crate::plans::{last, plan_of, plan_with};
+use crate::plans::{assert_same, last, plan_of, plan_with};
 use std::alloc::Global;
 use std::marker::Brand;
 use std::process::Abort;
@@ -19,7 +19,7 @@ use tr_shared::{Names, Plan, Producer, Shared};
 use tr_snapshot::Snapshot;
 use tr_stream::Offered;
 use tr_terms::{Mode, Moment, SessionMode};
-use tr_testing::{assert_same, moment};
+use tr_testing::moment;
 use uuid::Uuid;
 
 /// A plan of three streams with two sub-buffers of 256 bytes each, of a snapshot session: a packet's records have 176 bytes,

@@ -3,7 +3,7 @@
 ghost use Rattle.std.specs.Prelude.{◌≡◌};
 
 use super::{assert_started, built, drainer_of, settled};
-use crate::plans::{PAYLOAD, last, plan_of, push};
+use crate::plans::{PAYLOAD, assert_same, last, plan_of, push};
 use std::alloc::Global;
 use std::marker::Brand;
 use std::process::Abort;
@@ -15,7 +15,7 @@ use tr_session::Ticked;
 use tr_shared::{Drainer, Names, Plan, Producer, Shared, Totals};
 use tr_stream::{OfferFault, Offered};
 use tr_terms::Mode;
-use tr_testing::{assert_same, moment};
+use tr_testing::moment;
 
 /// How many offers a producer's thread makes, and how often a drainer's thread goes through all streams.
 const OFFERS: u64 = 10_000;

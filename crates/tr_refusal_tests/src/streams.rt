@@ -1,0 +1,284 @@
+//! Calls of a stream.
+
+use crate::scarce::{UNIT, new_heap};
+use crate::turns::{Call, assert_same, only, refuse_each};
+use Asked::{Cut, Peek, Take};
+use linked_list_allocator::LocalHeap;
+use std::alloc::{AllocError, Allocator, Global};
+use std::process::Abort;
+use tr_book::Part;
+use tr_record::{Moment, RecView};
+use tr_stream::{CutDone, CutFault, SessionMode, Stream, TakeFault, Taken};
+use tr_terms::{Geometry, Mode};
+use tr_testing::moment;
+use uuid::Uuid;
+
+/// A record's serial, its moment, its id and its payload.
+fn shown<'a>(record: &RecView<'a>) -> (u64, u64, u32, &'a [u8]) {
+    (
+        record.serial(),
+        record.moment().get(),
+        record.id(),
+        record.payload(),
+    )
+}
+
+/// Asserts that two streams hold the same records in their rings, and that these have the same fates.
+fn assert_same_records<A: Allocator>(rt: &impl Abort, one: &Stream<A>, other: &Stream<A>) {
+    let counts = one.counts();
+    for k in 0..=counts.in_ring {
+        let (found, expected) = (one.ring_at(k), other.ring_at(k));
+        assert_same(rt, found.as_ref().map(shown), expected.as_ref().map(shown));
+    }
+    for serial in 0..=counts.offered {
+        assert_same(rt, one.fate_of(serial), other.fate_of(serial));
+    }
+}
+
+/// A part's number, its records, its packets, its bytes and their text.
+fn part_shown<A: Allocator>(part: &Part<A>) -> (u64, u64, usize, u128, &[u8]) {
+    (
+        part.id(),
+        part.records(),
+        part.packets().len(),
+        part.bytes(),
+        part.text(),
+    )
+}
+
+/// Asserts that two streams have the same parts.
+fn assert_same_parts<A: Allocator>(rt: &impl Abort, one: &Stream<A>, other: &Stream<A>) {
+    for k in 0..=one.counts().cuts.saturating_add(1) {
+        assert_same(
+            rt,
+            one.part(k).map(part_shown),
+            other.part(k).map(part_shown),
+        );
+    }
+}
+
+/// Asserts that two streams show the same to a look.
+fn assert_same_look<A: Allocator + Copy>(rt: &impl Abort, one: &Stream<A>, other: &Stream<A>) {
+    let found = one.peek(Moment::zero()).expect(rt, "memory");
+    let expected = other.peek(Moment::zero()).expect(rt, "memory");
+    assert_same(rt, found.offered(), expected.offered());
+    assert_same(rt, found.discarded(), expected.discarded());
+    assert_same(rt, found.text(), expected.text());
+}
+
+/// Asserts that two streams can't be told apart by what they show.
+pub(crate) fn assert_same_stream<A: Allocator + Copy>(
+    rt: &impl Abort,
+    one: &Stream<A>,
+    other: &Stream<A>,
+) {
+    assert_same(rt, one.counts(), other.counts());
+    assert_same_records(rt, one, other);
+    assert_same_parts(rt, one, other);
+    assert_same_look(rt, one, other);
+}
+
+/// A call of a stream, and what it answers with memory.
+#[derive(Clone, Copy, Debug, PartialEq, Eq)]
+enum Asked {
+    Take(Taken),
+    /// A cut at moment 100.
+    Cut(CutDone),
+    /// A look, and how many bytes it shows.
+    Peek(usize),
+}
+
+/// What such a call answers.
+#[derive(Clone, Copy, Debug, PartialEq, Eq, Drop)]
+enum Told {
+    Taken(Result<Taken, TakeFault>),
+    Cut(Result<CutDone, CutFault>),
+    /// The bytes that a look shows. None without memory.
+    Peeked(Option<usize>),
+}
+
+/// A call of a stream of sub-buffers of 256 bytes, after offers of 50 bytes each, takes and cuts. Two such records fill a
+/// sub-buffer.
+#[derive(Clone, Copy)]
+struct Row {
+    /// How many sub-buffers there are, and what a full ring does.
+    ring: (u64, Mode),
+    /// Cuts, each of a ring of one record.
+    cuts: u64,
+    /// Offers after that.
+    offers: u64,
+    /// Takes after that.
+    takes: u64,
+    asked: Asked,
+}
+
+/// Offers records of 50 bytes at the moments from 1 on.
+pub(crate) fn offer_many<A: Allocator + Copy>(stream: &mut Stream<A>, count: u64) {
+    for at in 1..=count {
+        let _ = stream.offer(moment(at), 7, &[0x61; 50]);
+    }
+}
+
+/// Takes so many packets.
+fn take_many<A: Allocator + Copy>(rt: &impl Abort, stream: &mut Stream<A>, count: u64) {
+    for _ in 0..count {
+        stream.take().expect(rt, "a packet");
+    }
+}
+
+/// Makes a stream whose ring has so many sub-buffers of 256 bytes.
+pub(crate) fn try_stream<A: Allocator + Copy>(
+    rt: &impl Abort,
+    alloc: A,
+    (count, mode): (u64, Mode),
+) -> Result<Stream<A>, AllocError> {
+    let geometry = Geometry::new(256, count).expect(rt, "a geometry");
+    let session = SessionMode::Local;
+    Stream::new(alloc, Uuid::from_u128(1), 0, geometry, mode, session)
+}
+
+/// The same, with memory.
+pub(crate) fn new_stream<A: Allocator + Copy>(
+    rt: &impl Abort,
+    alloc: A,
+    ring: (u64, Mode),
+) -> Stream<A> {
+    try_stream(rt, alloc, ring).expect(rt, "memory")
+}
+
+impl<A: Allocator + Copy> Call<A> for Row {
+    type Object = Stream<A>;
+
+    type Answer = Told;
+
+    fn object(&self, rt: &impl Abort, alloc: A) -> Stream<A> {
+        let mut stream = new_stream(rt, alloc, self.ring);
+        stream.set_active(true);
+        for _ in 0..self.cuts {
+            offer_many(&mut stream, 1);
+            stream.cut(moment(0)).expect(rt, "a cut");
+        }
+        offer_many(&mut stream, self.offers);
+        take_many(rt, &mut stream, self.takes);
+        stream
+    }
+
+    fn make(&self, _rt: &impl Abort, object: &mut Stream<A>) -> Told {
+        match self.asked {
+            Take(_) => Told::Taken(object.take()),
+            Cut(_) => Told::Cut(object.cut(Moment::within_limit(100))),
+            Peek(_) => Told::Peeked(match object.peek(Moment::within_limit(100)) {
+                Ok(snap) => Some(snap.text().len()),
+                Err(_) => None,
+            }),
+        }
+    }
+
+    fn granted(&self, _rt: &impl Abort) -> Told {
+        match self.asked {
+            Take(taken) => Told::Taken(Ok(taken)),
+            Cut(done) => Told::Cut(Ok(done)),
+            Peek(bytes) => Told::Peeked(Some(bytes)),
+        }
+    }
+
+    fn refusal(&self, number: usize) -> Option<Told> {
+        match self.asked {
+            Take(_) => only(number, Told::Taken(Err(TakeFault::NoMemory))),
+            Cut(_) => only(number, Told::Cut(Err(CutFault::NoMemory))),
+            Peek(0) => None,
+            Peek(_) => only(number, Told::Peeked(None)),
+        }
+    }
+
+    fn assert_alike(&self, rt: &impl Abort, one: &Stream<A>, other: &Stream<A>) {
+        assert_same_stream(rt, one, other);
+    }
+}
+
+/// Packets have a list, with room for four at first, and their bytes, whose room doubles when they grow.
+static ROWS: [Row; 7] = [
+    Row {
+        ring: (2, Mode::Discard),
+        cuts: 0,
+        offers: 3,
+        takes: 0,
+        asked: Take(Taken {
+            seq: 0,
+            count: 2,
+            chunk: 0,
+        }),
+    },
+    Row {
+        ring: (4, Mode::Discard),
+        cuts: 0,
+        offers: 7,
+        takes: 1,
+        asked: Take(Taken {
+            seq: 1,
+            count: 2,
+            chunk: 0,
+        }),
+    },
+    // three packets, room for a closed part, and these packets behind another one
+    Row {
+        ring: (4, Mode::Discard),
+        cuts: 0,
+        offers: 7,
+        takes: 1,
+        asked: Cut(CutDone {
+            chunk: 0,
+            packets: 3,
+            records: 5,
+        }),
+    },
+    // an empty ring: room for a closed part
+    Row {
+        ring: (4, Mode::Discard),
+        cuts: 0,
+        offers: 0,
+        takes: 0,
+        asked: Cut(CutDone {
+            chunk: 0,
+            packets: 0,
+            records: 0,
+        }),
+    },
+    // one packet, and room for a fifth closed part
+    Row {
+        ring: (4, Mode::Overwrite),
+        cuts: 4,
+        offers: 1,
+        takes: 0,
+        asked: Cut(CutDone {
+            chunk: 4,
+            packets: 1,
+            records: 1,
+        }),
+    },
+    Row {
+        ring: (4, Mode::Overwrite),
+        cuts: 1,
+        offers: 20,
+        takes: 1,
+        asked: Peek(684),
+    },
+    // an empty ring has nothing to copy
+    Row {
+        ring: (4, Mode::Discard),
+        cuts: 1,
+        offers: 0,
+        takes: 0,
+        asked: Peek(0),
+    },
+];
+
+#[test]
+fn a_call_of_a_stream_without_memory_changes_nothing(rt: HostRuntime) {
+    let heap = new_heap(&rt, rt.alloc());
+    let mut tried = 0usize;
+    for row in &ROWS {
+        tried = tried.wrapping_add(refuse_each(&rt, rt.alloc(), &heap, UNIT, row));
+    }
+    assert!(rt; tried >= 400, "{tried}");
+}

@@ -1,0 +1,197 @@
+//! Feeders, workers, and the logs beside the records.
+
+ghost use Rattle.std.specs.Prelude.{◌≡◌, vec_len};
+
+use crate::plans::{assert_same, granted, plan_with};
+use std::alloc::Global;
+use std::marker::Brand;
+use std::process::Abort;
+use std::sync::Wait;
+use std::sync::atomic::{AtomicU64, Ordering};
+use std::test::*;
+use std::thread;
+use std::thread::Threads;
+use tr_pool::{Gate, Item, Items, drain_all, feed};
+use tr_reconcile::{Log, Mismatch, Report, producer_and_log, reconcile};
+use tr_shared::{Drainer, Names, Plan, Producer, Settled, Shared};
+use tr_stream::Payload;
+use tr_terms::{Mode, SessionMode};
+use tr_testing::moment;
+
+/// A plan of this many streams, each with two sub-buffers of this many bytes, in discard mode.
+fn plan_of(rt: &impl Abort, alloc: Global, size: u64, threads: u64) -> Plan {
+    plan_with(rt, alloc, SessionMode::Local, Mode::Discard, size, threads).expect(rt, "a plan")
+}
+
+/// The item of number `k`: `k` bytes of value `k` at moment `2k`, with an id that falls.
+pub(crate) fn item(rt: &impl Abort, alloc: Global, k: u8) -> Item {
+    let payload = vec![in alloc; k; usize::from(k)].expect(rt, "memory");
+    Item {
+        moment: moment(2 * u64::from(k)),
+        id: u32::MAX - u32::from(k),
+        payload: Payload::new(payload),
+    }
+}
+
+/// The items of the first numbers.
+pub(crate) fn items(rt: &impl Abort, alloc: Global, count: u8) -> Vec<Item> {
+    let mut items = Vec::new(alloc);
+    for k in 0..count {
+        items.push(item(rt, alloc, k)).expect(rt, "memory");
+    }
+    items
+}
+
+/// Asserts that the ring of the first stream has exactly these items.
+fn assert_in_ring(rt: &impl Abort, alloc: Global, settled: &Settled, count: u8) {
+    let stream = settled.session().stream(0).expect(rt, "a stream");
+    'records: for k in 0..count {
+        let record = stream.ring_at(u64::from(k)).expect(rt, "a record");
+        let item = item(rt, alloc, k);
+        assert_same(rt, record.moment().get(), item.moment.get());
+        assert_same(rt, record.id(), item.id);
+        assert_same(rt, record.payload() == item.payload.as_slice(), true);
+    }
+    assert_same(rt, stream.ring_at(u64::from(count)).is_none(), true);
+}
+
+/// The items of a log, of which the second has another id.
+fn with_another_id(rt: &impl Abort, log: Log) -> Log {
+    let mut items = log.items.into_vec();
+    items.get_mut(1).expect(rt, "an item").id = 7;
+    Log {
+        stream: log.stream,
+        items: Items::new(items),
+    }
+}
+
+/// Feeds one stream, settles, and reconciles with the log, with a log that was changed, and with none.
+fn feeds<N: Names + Send + Sync, R: Threads + Wait + Abort + Sync>(
+    rt: &R,
+    alloc: Global,
+    plan: Plan,
+)
+    requires { plan ≡ N.plan }
+{
+    let (shared, producers) = Shared::<N>::build(plan).expect(rt, "memory");
+    assert_same(rt, shared.start(rt, moment(0)), Ok(()));
+    let works = vec![in alloc; items(rt, alloc, 153)].expect(rt, "memory");
+    assert!(rt; works.len() == producers.len());
+    let fed = granted(rt, feed(rt, alloc, &shared, producers, works), "feeders");
+    let mut producers = Vec::new(alloc);
+    let mut logs = Vec::new(alloc);
+    'fed: for logged in fed {
+        let (producer, log) = producer_and_log(logged);
+        producers.push(producer).expect(rt, "memory");
+        logs.push(log).expect(rt, "memory");
+    }
+    let answer = shared.settle(producers, Vec::new(alloc));
+    let (settled, _) = granted(rt, answer, "settled session");
+    assert_in_ring(rt, alloc, &settled, 153);
+    reconciles(rt, &settled, logs);
+    drop(settled);
+}
+
+/// Reconciles with the log of 153 items, with one that was changed, and with none.
+fn reconciles(rt: &impl Abort, settled: &Settled, mut logs: Vec<Log>) {
+    let report = Report {
+        offered: 153,
+        discarded: 0,
+        overwritten: 0,
+        in_ring: 153,
+        in_chunks: 0,
+    };
+    assert_same(rt, reconcile(settled, logs.as_slice()), Ok(report));
+    let log = with_another_id(rt, logs.pop().expect(rt, "a log"));
+    logs.push(log).expect(rt, "memory");
+    let wrong = Mismatch::WrongRecord {
+        stream: 0,
+        serial: 1,
+    };
+    assert_same(rt, reconcile(settled, logs.as_slice()), Err(wrong));
+    logs.clear();
+    let none = Mismatch::LogLength { stream: 0 };
+    assert_same(rt, reconcile(settled, logs.as_slice()), Err(none));
+}
+
+#[test]
+fn records_of_all_lengths_come_through(rt: HostRuntime) {
+    feeds::<Brand, HostRuntime>(&rt, rt.alloc(), plan_of(&rt, rt.alloc(), 65_536, 1));
+}
+
+/// How often a worker looks whether what it waits for has come.
+pub(crate) const TRIES: u64 = 1_000_000;
+
+/// A gate that holds each worker at its first turn until both have come.
+#[derive(Drop)]
+struct Meeting<'a, R: Wait + Abort> {
+    rt: &'a R,
+    come: AtomicU64,
+}
+
+impl<'a, R: Wait + Abort> Gate for Meeting<'a, R> {
+    ghost use Rattle.std.specs.Prelude.{⊤};
+
+    ghost lets = { λ _ _ _ _. ⊤ };
+
+    fn before(&self, _worker: usize, turn: u64) -> bool {
+        if turn > 0 {
+            return false;
+        }
+        self.come.fetch_add(1, Ordering::SeqCst);
+        'tries: for _ in 0..TRIES {
+            if self.come.load(Ordering::SeqCst) == 2 {
+                return true;
+            }
+            thread::yield_now();
+        }
+        panic!(self.rt; "the workers don't run at once")
+    }
+
+    fn after(&self, _worker: usize, _turn: u64) {}
+}
+
+/// Puts a waiting packet into the producer's stream, which has one record a sub-buffer.
+fn fill<N: Names>(rt: &(impl Abort + Wait), shared: &Shared<N>, producer: &mut Producer<N>) {
+    let payload = [0x61; 150];
+    for k in 0..2 {
+        let offered = shared.offer(rt, producer, moment(k), 1, &payload);
+        assert_same(rt, offered.is_ok(), true);
+    }
+}
+
+/// Two workers, each held at its first turn until both have come, take the packets that wait in two streams.
+fn meets<N: Names + Send + Sync, R: Threads + Wait + Abort + Sync>(
+    rt: &R,
+    alloc: Global,
+    plan: Plan,
+)
+    requires { plan ≡ N.plan }
+{
+    let (shared, mut producers) = Shared::<N>::build(plan).expect(rt, "memory");
+    assert_same(rt, shared.start(rt, moment(0)), Ok(()));
+    'producers: for producer in &mut producers {
+        fill(rt, &shared, producer);
+    }
+    let first = shared.drainer(rt).expect(rt, "a drainer");
+    let second = shared.drainer(rt).expect(rt, "a drainer");
+    let drainers: Vec<Drainer<N>> = vec![in alloc; first, second].expect(rt, "memory");
+    let gate = Meeting {
+        rt,
+        come: AtomicU64::new(0),
+    };
+    let answer = drain_all(rt, alloc, &shared, drainers, &gate);
+    let drainers = granted(rt, answer, "workers");
+    let (settled, totals) = granted(rt, shared.settle(producers, drainers), "settled session");
+    assert_same(rt, totals.consumed, 2);
+    'streams: for i in 0..2 {
+        let stream = settled.session().stream(i).expect(rt, "a stream");
+        assert_same(rt, stream.counts().consumed, 1);
+    }
+    drop(settled);
+}
+
+#[test]
+fn two_workers_run_at_once(rt: HostRuntime) {
+    meets::<Brand, HostRuntime>(&rt, rt.alloc(), plan_of(&rt, rt.alloc(), 256, 2));
+}
