@@ -3,8 +3,8 @@
 ghost use Rattle.std.specs.Prelude.{◌≡◌, IfOk, IfErr, IsOk, OnOk, length, option_copied};
 ghost use Rattle.tr_reconcile.specs.Logs.{AgreeBelow, Agrees, HasLog, IsFirstWrong, IsWrong, log_of, report_of, stream_of_mismatch};
 
-use crate::log::Log;
 use crate::judging::least_wrong;
+use crate::log::Log;
 use crate::report::{Mismatch, Report};
 use tr_seats::Settled;
 use tr_stream::Stream;
