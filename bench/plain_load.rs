@@ -4,9 +4,8 @@
 //!
 //! Each feeder is given its records beforehand, each with a payload of its own, offers them in order, and keeps those that
 //! were accepted as its log. The workers take meanwhile, each from every WORKERS-th stream, and make one more round after
-//! the feeders ended; after a round that took nothing a worker yields, and after a second one in a row it sleeps for 10
-//! microseconds. Then every stream is cut, and each record of its part is compared with the log. It prints what `tracerd
-//! load` prints.
+//! the feeders ended; after a second round in a row that took nothing a worker sleeps for 10 microseconds. Then every stream
+//! is cut, and each record of its part is compared with the log. It prints what `tracerd load` prints.
 #![forbid(unsafe_code)]
 
 mod plain_ring;
@@ -69,10 +68,8 @@ fn drain(shared: &Shared, worker: usize, workers: usize, ended: &AtomicBool) {
             return;
         }
         idle = if took { 0 } else { idle + 1 };
-        match idle {
-            0 => {}
-            1 => thread::yield_now(),
-            _ => thread::sleep(REST),
+        if idle > 1 {
+            thread::sleep(REST);
         }
     }
 }

@@ -5,4 +5,4 @@ mod command_line;
 mod notice;
 
 pub use command_line::{Job, collected, job_of, with_program, words_behind};
-pub use notice::{MANY_RECORDS, notice_given};
+pub use notice::notice_given;

@@ -10,7 +10,7 @@ use std::alloc::{AllocError, Global};
 use std::env::Args;
 
 /// How many records a load has at least that takes a second or more.
-pub const MANY_RECORDS: u64 = 2_000_000;
+const MANY_RECORDS: u64 = 2_000_000;
 
 /// The line that says what a load of these numbers does.
 fn load_notice(

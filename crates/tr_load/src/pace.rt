@@ -3,7 +3,7 @@
 ghost use Rattle.std.specs.Prelude.{◌≡◌, IfOk, vec_len};
 
 use std::alloc::{AllocError, Global};
-use std::sync::atomic::{AtomicBool, AtomicU64, Ordering};
+use std::sync::atomic::{AtomicBool, Ordering};
 use std::thread;
 use std::time::{Clock, Duration};
 
@@ -15,8 +15,8 @@ const REST: u64 = 10;
 pub(crate) struct Pace {
     /// Whether a packet was taken since the worker's last round began.
     took: AtomicBool,
-    /// How many rounds in a row had none.
-    idle: AtomicU64,
+    /// Whether the round before had none.
+    is_idle: AtomicBool,
     /// Whether the feeders had ended when its last round began.
     is_last: AtomicBool,
 }
@@ -26,7 +26,7 @@ impl Pace {
     fn new() -> Pace {
         Pace {
             took: AtomicBool::new(false),
-            idle: AtomicU64::new(0),
+            is_idle: AtomicBool::new(false),
             is_last: AtomicBool::new(false),
         }
     }
@@ -46,13 +46,13 @@ impl Pace {
         self.is_last.load(Ordering::SeqCst)
     }
 
-    /// Waits after a round: not at all if a packet was taken, and else first until other threads ran, and then for a while.
+    /// Waits for a while after a second round in a row in which no packet was taken. It doesn't yield after the first: where
+    /// all processors are busy, a worker that yields waits until a feeder's time is up, and that feeder fills its ring long
+    /// before.
     pub(crate) fn rest(&self, clock: &impl Clock) {
-        if self.took.swap(false, Ordering::SeqCst) {
-            self.idle.store(0, Ordering::SeqCst);
-        } else if self.idle.swap(1, Ordering::SeqCst) == 0 {
-            thread::yield_now();
-        } else {
+        let took = self.took.swap(false, Ordering::SeqCst);
+        let was_idle = self.is_idle.swap(!took, Ordering::SeqCst);
+        if was_idle && !took {
             thread::sleep(clock, Duration::from_micros(REST));
         }
     }

@@ -13,23 +13,21 @@ use std::alloc::Global;
 use std::process::Abort;
 use tr_command::{Request, parse};
 
-/// The program's name and the words of the line, and how many they are.
-fn words_of<'a>(rt: &impl Abort, line: &'a str) -> ([&'a str; 16], usize) {
-    let mut words = ["tracerd"; 16];
-    let mut count = 1;
+/// The program's name and the words of the line.
+fn words_of<'a>(rt: &impl Abort, alloc: Global, line: &'a str) -> Vec<&'a str> {
+    let mut words = Vec::new(alloc);
+    words.push("tracerd").expect(rt, "memory");
     for word in line.split(' ') {
-        *words.get_mut(count).expect(rt, "room for a word") = word;
-        count = count.wrapping_add(1);
+        words.push(word).expect(rt, "memory");
     }
-    (words, count)
+    words
 }
 
 /// Asserts what the line asks for. A bad line asks for nothing.
-fn assert_asks(rt: &impl Abort, alloc: Global, line: &str, request: Option<Request<'_>>) {
-    let (words, count) = words_of(rt, line);
-    let words = words.get(..count).expect(rt, "words");
-    let asked = parse(alloc, words).expect(rt, "memory");
-    assert_same(rt, (line, asked), (line, request));
+fn assert_asks(rt: &impl Abort, alloc: Global, line: &str, request: Option<&Request<'_>>) {
+    let words = words_of(rt, alloc, line);
+    let asked = parse(alloc, words.as_slice()).expect(rt, "memory");
+    assert_same(rt, (line, asked.as_ref()), (line, request));
 }
 
 /// A line, and what it asks for.
@@ -38,7 +36,7 @@ type Asks<'a> = (&'a str, Request<'a>);
 /// Asserts what each of the lines asks for.
 fn assert_each_asks(rt: &impl Abort, alloc: Global, rows: &[Asks<'_>]) {
     for (line, request) in rows {
-        assert_asks(rt, alloc, line, Some(*request));
+        assert_asks(rt, alloc, line, Some(request));
     }
 }
 

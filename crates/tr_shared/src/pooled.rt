@@ -1,9 +1,5 @@
 //! What the threads of a pool do with a shared session: feeders offer to it, and workers take from it.
 
-ghost use Rattle.std.specs.Prelude.{◌≡◌, length};
-ghost use Rattle.tr_seats.specs.Slots.{drainer_after};
-ghost use Rattle.tr_shared.specs.Calls.{IsOffered};
-
 use crate::shared::Shared;
 use std::sync::Wait;
 use tr_pool::{Intake, Target};

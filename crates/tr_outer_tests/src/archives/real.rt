@@ -1,12 +1,12 @@
 //! Archives in the file system.
 
-use super::{assert_same, assert_written, rotated, session_of, uuid, write};
+use super::{assert_same, rotated, session_of, uuid, write};
 use crate::folders::{make_folder, remove};
 use std::alloc::Global;
 use std::fs;
 use std::os::unix::fs::symlink;
 use std::process::Abort;
-use tr_export::{Disk, ExportFault, HostFiles, SystemDisk};
+use tr_export::{ExportFault, HostFiles, SystemDisk};
 use tr_packet::metadata_text;
 use tr_session::Session;
 use tr_testing::free_path;
@@ -42,15 +42,42 @@ fn assert_files(rt: &impl Abort, host: &HostRuntime, dir: &str) {
     assert_same(rt, second, Some(b"\xC1\x1F\xFC\xC1".as_slice()));
 }
 
-/// Writes the archive of `rotated`, and asserts that its files are there.
-fn assert_made<D: Disk>(
+/// The program's disk.
+type RealDisk<'a> = SystemDisk<HostFiles<'a, HostRuntime>>;
+
+/// Writes the archives of a session under the name s. As a call for the program's disk alone it keeps the proofs of the tests
+/// short.
+fn write_files(
     rt: &impl Abort,
     host: &HostRuntime,
-    disk: &mut D,
+    disk: &mut RealDisk<'_>,
+    dir: &str,
+    session: &Session,
+) -> Result<(), ExportFault> {
+    write(rt, host.alloc(), disk, dir, session)
+}
+
+/// What writing them to a disk of its own answers, and how often that disk failed.
+fn written_once(
+    rt: &impl Abort,
+    host: &HostRuntime,
+    dir: &str,
+    session: &Session,
+) -> (Result<(), ExportFault>, Option<u64>) {
+    let mut disk = SystemDisk::new(HostFiles::new(host));
+    let answer = write_files(rt, host, &mut disk, dir, session);
+    (answer, disk.failures())
+}
+
+/// Writes the archive of `rotated`, and asserts that its files are there.
+fn assert_made(
+    rt: &impl Abort,
+    host: &HostRuntime,
+    disk: &mut RealDisk<'_>,
     dir: &str,
     session: &Session,
 ) {
-    assert_written(rt, host.alloc(), disk, dir, session);
+    assert_same(rt, write_files(rt, host, disk, dir, session), Ok(()));
     assert_files(rt, host, dir);
 }
 
@@ -74,8 +101,8 @@ fn files_are_written_and_replaced(rt: HostRuntime) {
 fn without_an_archive_there_is_no_folder(rt: HostRuntime) {
     let dir = free_path(&rt, "tr_export_nothing").expect(&rt, "a path");
     let session = session_of(&rt, rt.alloc());
-    let mut disk = SystemDisk::new(HostFiles::new(&rt));
-    assert_written(&rt, rt.alloc(), &mut disk, dir.as_str(), &session);
+    let told = written_once(&rt, &rt, dir.as_str(), &session);
+    assert_same(&rt, told, (Ok(()), Some(0)));
     assert_same(&rt, exists(&rt, &rt, dir.as_str()), false);
     drop(session);
 }
@@ -83,13 +110,8 @@ fn without_an_archive_there_is_no_folder(rt: HostRuntime) {
 /// Asserts that writing the archive of one stream fails once, and removes the folder.
 fn assert_told(rt: &impl Abort, host: &HostRuntime, dir: &str) {
     let session = rotated(rt, host.alloc());
-    let mut disk = SystemDisk::new(HostFiles::new(host));
-    let answer = write(rt, host.alloc(), &mut disk, dir, &session);
-    assert_same(
-        rt,
-        (answer, disk.failures()),
-        (Err(ExportFault::Write), Some(1)),
-    );
+    let told = written_once(rt, host, dir, &session);
+    assert_same(rt, told, (Err(ExportFault::Write), Some(1)));
     remove(rt, host, dir);
     drop(session);
 }
