@@ -47,7 +47,7 @@ impl Pace {
     }
 
     /// Waits for a while after a second round in a row in which no packet was taken. It doesn't yield after the first: where
-    /// all processors are busy, a worker that yields waits until a feeder's time is up, and that feeder fills its ring long
+    /// all processors are busy, a worker that yields may wait until a feeder's time is up, and that feeder fills its ring long
     /// before.
     pub(crate) fn rest(&self, clock: &impl Clock) {
         let took = self.took.swap(false, Ordering::SeqCst);
