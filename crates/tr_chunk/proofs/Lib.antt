@@ -5,4 +5,5 @@ pub mod FileLemmas
 pub mod GapLemmas
 pub mod OnlyLemmas
 pub mod ReadingLemmas
+pub mod ShownLemmas
 pub mod WaitingLemmas

@@ -1,6 +1,8 @@
-pub mod Number
-pub mod CommandLine
 pub mod Asked
-pub mod Reading
-pub mod Language
+pub mod CommandLine
 pub mod Dispatch
+pub mod Invocation
+pub mod Language
+pub mod Notices
+pub mod Number
+pub mod Reading

@@ -1,3 +1,4 @@
+pub mod AddedLaws
 pub mod AnswerLaws
 pub mod FaultLemmas
 pub mod LineSteps

@@ -1,2 +1,3 @@
 pub mod PageLaws
 pub mod RecordLaws
+pub mod SubBufferLaws

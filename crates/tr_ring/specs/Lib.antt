@@ -1,3 +1,5 @@
 pub mod ClosedBuffer
+pub mod Page
 pub mod Pages
 pub mod Ring
+pub mod SubBuffer

@@ -8,8 +8,7 @@ ghost use Rattle.tr_stream.specs.Rules.{by_state};
 use crate::session::Session;
 use std::alloc::Allocator;
 use tr_record::Moment;
-use tr_schedule::Cause;
-use tr_session_book::{Archive, SessionFault};
+use tr_session_book::{Archive, Cause, SessionFault};
 
 /// What a tick did.
 #[derive(Clone, Copy, Debug, PartialEq, Eq)]

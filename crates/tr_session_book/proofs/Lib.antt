@@ -1,3 +1,4 @@
 pub mod BookLaws
 pub mod ListLaws
 pub mod NameLaws
+pub mod TotalLemmas

@@ -12,7 +12,7 @@ use Rattle.tr_ring.specs.ClosedBuffer.{ClosedBuffer}
 use Rattle.tr_ring.specs.Ring.{IsClosedWithin, RingState, ring_records, seq_after}
 use Rattle.tr_seats.specs.Books.{IsPlan, IsPlanned, PlanState}
 use Rattle.tr_shared.specs.Shown.{IsShownFrom}
-use Rattle.tr_snapshot.specs.Snapshots.{entries_shown}
+use Rattle.tr_chunk.specs.Snapshots.{entries_shown}
 use Rattle.tr_stream.specs.Chunks.{closed_if_any, packet_of, ring_buffers}
 use Rattle.tr_stream.specs.Consistent.{CountUp, GapsAgree, IsConsistent, SerialsFollow, buffers_in, first_in, held_buffers}
 use Rattle.tr_stream.specs.Fates.{all_parts}

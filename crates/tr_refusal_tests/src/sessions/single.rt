@@ -9,7 +9,7 @@ const NO_TAKE: Told = Told::Taken(Err(StepFault::Take(TakeFault::NoMemory)));
 
 const NO_CUT: StepFault = StepFault::Cut(CutFault::NoMemory);
 
-static ADDING: [Row; 4] = [
+static ADDING: [Row; 5] = [
     Row {
         mode: SessionMode::Local,
         steps: &[],
@@ -29,6 +29,13 @@ static ADDING: [Row; 4] = [
         steps: &[Step::Channel("c")],
         asked: Asked::Thread,
         granted: Told::Number(Ok(0)),
+        refused: &[Told::Number(Err(NO_MEMORY))],
+    },
+    Row {
+        mode: SessionMode::Local,
+        steps: &[Step::Channel("c"), Step::Threads("c", 4)],
+        asked: Asked::Thread,
+        granted: Told::Number(Ok(4)),
         refused: &[Told::Number(Err(NO_MEMORY))],
     },
     Row {

@@ -2,7 +2,7 @@
 
 ghost use Rattle.std.specs.Prelude.{◌≡◌};
 
-use super::super::{NO_MEMORY, THREE};
+use super::super::{NO_MEMORY, Step};
 use super::steps::config_of;
 use crate::scarce::{UNIT, fill_all_but, small_heap};
 use crate::turns::{MOST, Turns, assert_same, only};
@@ -68,13 +68,16 @@ fn make<'h>(
     }
 }
 
-/// Makes a session of three streams with more and more memory until it isn't refused, and each time with enough after that.
+/// A channel and four streams.
+const FOUR: [Step; 2] = [Step::Channel("c"), Step::Threads("c", 4)];
+
+/// Makes a session of four streams with more and more memory until it isn't refused, and each time with enough after that.
 /// How often it was refused.
 fn refuse_making(rt: &impl Abort, plain: Global, scarce: Scarce) -> usize {
     let heap = small_heap(rt, plain);
-    let config = config_of(rt, &heap, SessionMode::Local, &THREE);
+    let config = config_of(rt, &heap, SessionMode::Local, &FOUR);
     let used = heap.used();
-    let granted = Ok((3, 3));
+    let granted = Ok((4, 4));
     let mut turns = Turns::new();
     for times in 0..MOST {
         let bytes = times.wrapping_mul(UNIT);

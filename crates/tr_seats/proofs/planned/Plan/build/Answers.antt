@@ -1,5 +1,4 @@
 use Rattle.std.proofs.Common.{rules, ◌≡◌, ◌∙◌, ◌+◌, ◌≤◌, ℕ, ap, arith, drop, length, subst, sym, vec_len}
-use Rattle.std.proofs.lemmas.Grind.{common_steps}
 use Rattle.std.proofs.lemmas.List.{length-map}
 use Rattle.tr_seats.proofs.NameLaws.{drop-none}
 use Rattle.tr_seats.proofs.Rows.{drop-front}
@@ -87,12 +86,3 @@ returns-clause-opened g c = c.finish.ensures.opened ∙ ap opened_of (sym c.requ
 pub returns-clause-producers : goal.returns-clause-producers
 returns-clause-producers g c =
     subst (λ (p : PlanState). AreNew (length p.books) c.finish.result.1.items) (sym c.requires) c.finish.ensures.producers
-
-pub returns-in_err-named-clause-opened : goal.returns-in_err-named-clause-opened
-returns-in_err-named-clause-opened g c = grind (arith, common_steps)
-
-pub returns-in_err-named-clause-producers : goal.returns-in_err-named-clause-producers
-returns-in_err-named-clause-producers g c = grind (arith, common_steps)
-
-pub returns-in_err-named-clause-memory : goal.returns-in_err-named-clause-memory
-returns-in_err-named-clause-memory g c = grind (arith, common_steps)

@@ -1,0 +1,111 @@
+-- The program's command line, as clap sees it, and what its words ask for.
+use Rattle.std.specs.Prelude.{ℕ, List, [], ◌∷◌, ◌≤◌, Option, Some, None, String, map, nat_le, option_map, option_and_then, codes, string_bytes, if◌then◌else◌}
+use Rattle.std.specs.Borrow.{Bor}
+use Rattle.std.specs.Str.{bytes_eq}
+use Rattle.clap.specs.Words.{App, Row, Text, fault_of, first_of, new_app, subcommand_of, with_rule, with_subcommand}
+use Rattle.tr_command.specs.CommandLine.{option, place}
+use Rattle.tr_command.specs.Language.{is_free_of_faults}
+use Rattle.tr_command.specs.Reading.{and_last, and_then, number_given}
+use Rattle.tr_terms.specs.declared.limits.TheConstants.{MOST_RECORDS, MOST_STREAMS, MOST_WORKERS}
+use Rattle.tr_command.specs.declared.invocation.Job.{Job}
+use Rattle.tr_command.specs.declared.invocation.Job.TheVariants as job
+
+-- the folder below which the archives of a run go, if one is named
+abbrev pub Folder : Type 0
+Folder = Option Text
+
+-- a job with its text in place of a reference to it
+pub data Task : Type 0 where
+  Script : (out : Folder) → Task
+  Load : (threads records workers : ℕ) (out : Folder) → Task
+  Audit : (dir : Text) → Task
+
+-- a folder by its text
+abbrev pub folder_named : Option (Bor Text) → Folder
+folder_named out = option_map (λ d. d.now) out
+
+abbrev pub task_of : Job → Task
+task_of (job.Script out) = Script (folder_named out)
+task_of (job.Load threads records workers out) = Load threads records workers (folder_named out)
+task_of (job.Audit dir) = Audit dir.now
+
+-- the numbers of a load lie within their limits
+abbrev pub IsWithinLimits : Job → Type 0
+IsWithinLimits (job.Script out) = Unit
+IsWithinLimits (job.Load threads records workers out) =
+    ((1 ≤ threads) × (threads ≤ MOST_STREAMS)) × (records ≤ MOST_RECORDS) × ((1 ≤ workers) × (workers ≤ MOST_WORKERS))
+IsWithinLimits (job.Audit dir) = Unit
+
+-- `script [--out DIR]`
+abbrev pub script_run_app : App
+script_run_app = with_rule (new_app (codes "script")) (option (codes "out"))
+
+-- `load --threads T --records R ..`
+abbrev pub load_counts : App
+load_counts = with_rule (with_rule (new_app (codes "load")) (option (codes "threads"))) (option (codes "records"))
+
+-- `load --threads T --records R --workers W [--out DIR]`
+abbrev pub load_app : App
+load_app = with_rule (with_rule load_counts (option (codes "workers"))) (option (codes "out"))
+
+-- `audit DIR`
+abbrev pub audit_app : App
+audit_app = with_rule (new_app (codes "audit")) (place (codes "dir"))
+
+-- `tracerd script ..` and `tracerd load ..`
+abbrev pub runs_app : App
+runs_app = with_subcommand (with_subcommand (new_app (codes "tracerd")) script_run_app.top) load_app.top
+
+-- `tracerd script ..`, `tracerd load ..` and `tracerd audit ..`
+abbrev pub program_app : App
+program_app = with_subcommand runs_app audit_app.top
+
+-- a named folder has a name that isn't empty
+abbrev pub folder_given : Option Text → Option Folder
+folder_given None = Some None
+folder_given (Some []) = None
+folder_given (Some (byte ∷ bytes)) = Some (Some (byte ∷ bytes))
+
+-- the number of an option, if one is given and lies within these limits
+abbrev pub count_given : Text → (least most : ℕ) → List Row → Option ℕ
+count_given id least most rows =
+    and_then (number_given id most rows) (λ n. if nat_le least n then Some n else None)
+
+abbrev pub script_given : List Row → Option Task
+script_given rows = and_last (folder_given (first_of (codes "out") rows)) (λ out. Script out)
+
+abbrev pub load_given : List Row → Option Task
+load_given rows =
+    and_then (count_given (codes "threads") 1 MOST_STREAMS rows) (λ threads.
+    and_then (count_given (codes "records") 0 MOST_RECORDS rows) (λ records.
+    and_then (count_given (codes "workers") 1 MOST_WORKERS rows) (λ workers.
+    and_last (folder_given (first_of (codes "out") rows)) (λ out. Load threads records workers out))))
+
+-- the folder to audit, if its name isn't empty
+abbrev pub audit_given : List Row → Option Task
+audit_given rows =
+    and_then (folder_given (first_of (codes "dir") rows)) (λ named. and_last named (λ dir. Audit dir))
+
+-- what the command that was entered asks for
+abbrev pub job_named : Text → List Row → Option Task
+job_named name rows =
+    if bytes_eq name (codes "script") then script_given rows else
+    (if bytes_eq name (codes "load") then load_given rows else
+    (if bytes_eq name (codes "audit") then audit_given rows else None))
+
+-- what these words ask for, the program's name before them: a run of a script, a load, or an audit; none is a bad command line
+unfoldable pub job_of : List Text → Option Task
+job_of words = if is_free_of_faults (fault_of program_app words)
+    then option_and_then (λ entered. job_named entered.0 entered.1) (subcommand_of program_app words) else None
+
+-- what the words after the program's name ask for
+abbrev pub job_asked : List Text → Option Task
+job_asked words = job_of (codes "tracerd" ∷ words)
+
+abbrev pub after_first : {A : Type 0} → List A → List A
+after_first [] = []
+after_first (x ∷ xs) = xs
+
+-- the words of arguments, without the first one, the program's name
+abbrev pub words_of : {Z : Type 0} → List (String Z) → List Text
+words_of arguments = map string_bytes (after_first arguments)

@@ -1,0 +1,221 @@
+//! The program's own command line: what its words ask for.
+
+ghost use Rattle.std.specs.Prelude.{◌≡◌, ◌≤◌, ◌∷◌, IfOk, IfSome, codes, false, map, option_map, string_bytes};
+ghost use Rattle.std.specs.Vec.Iter.{into_iter_items};
+ghost use Rattle.clap.specs.Words.{app_of, first_of, found_of, rows_of};
+ghost use Rattle.clap.specs.declared.builder.command.Command.TheViews.{out-Command as fields_of};
+ghost use Rattle.tr_command.specs.Invocation.{IsWithinLimits, audit_app, audit_given, count_given, folder_given, folder_named, job_named, job_of, load_app, load_counts, load_given, program_app, runs_app, script_given, script_run_app, task_of, words_of};
+
+use crate::arguments::{option, place};
+use crate::command_lines::{joined, with_options};
+use crate::values::{number_given, text_given};
+use clap::error::ErrorKind;
+use clap::{ArgMatches, Command};
+use std::alloc::{AllocError, Global};
+use std::env::Args;
+use tr_terms::limits::{MOST_RECORDS, MOST_STREAMS, MOST_WORKERS};
+
+/// What the program is asked to do.
+#[derive(Clone, Copy, Debug, PartialEq, Eq)]
+pub enum Job<'a> {
+    /// Runs the script from standard input, and then writes its archives below a folder, if one is named.
+    Script {
+        /// The folder for the archives, if one is named.
+        out: Option<&'a str>,
+    },
+    /// Runs a load, says what it came to, and then writes its archives below a folder, if one is named.
+    Load {
+        /// How many feeders there are, each in a thread of its own: 1 to 256.
+        threads: u64,
+        /// How many records each of them offers: at most 1,000,000.
+        records: u64,
+        /// How many workers drain them meanwhile: 1 to 64.
+        workers: u64,
+        /// The folder for the archives, if one is named.
+        out: Option<&'a str>,
+    },
+    /// Audits the archives of the sessions below a folder.
+    Audit {
+        /// The folder.
+        dir: &'a str,
+    },
+}
+
+/// `script [--out DIR]`.
+fn script_run_command<'a>(alloc: Global) -> Result<Command<'a>, AllocError>
+    ensures shape { IfOk result (λ c. app_of c ≡ script_run_app) }
+    ensures local { IfOk result (λ c. (fields_of c).has_globals ≡ false) }
+{
+    Command::new(alloc, "script").arg(option(alloc, "out"))
+}
+
+/// `load --threads T --records R ..`.
+fn load_counts_command<'a>(alloc: Global) -> Result<Command<'a>, AllocError>
+    ensures shape { IfOk result (λ c. app_of c ≡ load_counts) }
+    ensures local { IfOk result (λ c. (fields_of c).has_globals ≡ false) }
+{
+    with_options(alloc, Command::new(alloc, "load"), "threads", "records")
+}
+
+/// `load --threads T --records R --workers W [--out DIR]`.
+fn load_command<'a>(alloc: Global) -> Result<Command<'a>, AllocError>
+    ensures shape { IfOk result (λ c. app_of c ≡ load_app) }
+    ensures local { IfOk result (λ c. (fields_of c).has_globals ≡ false) }
+{
+    with_options(alloc, load_counts_command(alloc)?, "workers", "out")
+}
+
+/// `audit DIR`.
+fn audit_command<'a>(alloc: Global) -> Result<Command<'a>, AllocError>
+    ensures shape { IfOk result (λ c. app_of c ≡ audit_app) }
+    ensures local { IfOk result (λ c. (fields_of c).has_globals ≡ false) }
+{
+    Command::new(alloc, "audit").arg(place(alloc, "dir"))
+}
+
+/// `tracerd script ..` and `tracerd load ..`.
+fn runs_command<'a>(alloc: Global) -> Result<Command<'a>, AllocError>
+    ensures { IfOk result (λ c. app_of c ≡ runs_app) }
+{
+    let command = joined(
+        Ok(Command::new(alloc, "tracerd")),
+        script_run_command(alloc),
+    );
+    joined(command, load_command(alloc))
+}
+
+/// The whole command line: `tracerd script ..`, `tracerd load ..` and `tracerd audit ..`.
+fn command_line<'a>(alloc: Global) -> Result<Command<'a>, AllocError>
+    ensures { IfOk result (λ c. app_of c ≡ program_app) }
+{
+    joined(runs_command(alloc), audit_command(alloc))
+}
+
+/// The arguments as a list.
+pub fn collected(alloc: Global, given: Args) -> Result<Vec<String>, AllocError>
+    ensures { IfOk result (λ all. all.items ≡ into_iter_items given) }
+{
+    let mut left = given;
+    let mut all = Vec::new(alloc);
+    'arguments: while let Some(word) = left.next() {
+        all.push(word)?;
+    }
+    Ok(all)
+}
+
+/// The texts of these strings.
+fn texts_of<'a>(alloc: Global, strings: &'a [String]) -> Result<Vec<&'a str>, AllocError>
+    ensures { IfOk result (λ texts. map (λ t. t.now) texts.items ≡ map string_bytes strings.now) }
+{
+    let mut texts = Vec::with_capacity(alloc, strings.len())?;
+    'strings: for string in strings {
+        texts.push(string.as_str())?;
+    }
+    Ok(texts)
+}
+
+/// The words after the program's name, which comes first.
+pub fn words_behind<'a>(alloc: Global, given: &'a [String]) -> Result<Vec<&'a str>, AllocError>
+    ensures { IfOk result (λ words. map (λ w. w.now) words.items ≡ words_of given.now) }
+{
+    match given {
+        [_, behind @ ..] => texts_of(alloc, behind),
+        [] => Ok(Vec::new(alloc)),
+    }
+}
+
+/// The program's name, and then these words.
+pub fn with_program<'a>(alloc: Global, words: &[&'a str]) -> Result<Vec<&'a str>, AllocError>
+    ensures { IfOk result (λ all. map (λ w. w.now) all.items ≡ codes "tracerd" ∷ map (λ w. w.now) words.now) }
+{
+    let mut all = Vec::new(alloc);
+    all.push("tracerd")?;
+    all.extend_from_slice(words)?;
+    Ok(all)
+}
+
+/// What the words ask for, the program's name first. None: they are no command line of this program. Neither is help, a
+/// folder with an empty name, or a load with a number that is missing, not a number, or not within its limits.
+pub fn job_of<'a>(alloc: Global, words: &'a [&'a str]) -> Result<Option<Job<'a>>, AllocError>
+    ensures value { IfOk result (λ job. option_map task_of job ≡ job_of (map (λ w. w.now) words.entry.now)) }
+    ensures within { IfOk result (λ job. IfSome job IsWithinLimits) }
+{
+    let command = command_line(alloc)?;
+    match command.try_get_matches_from(words) {
+        Ok(matches) => match matches.subcommand() {
+            Some((name, inner)) => Ok(job_named(name, inner)),
+            None => Ok(None),
+        },
+        Err(error) if error.kind() == ErrorKind::OutOfMemory => Err(AllocError),
+        Err(_) => Ok(None),
+    }
+}
+
+/// What the command of this name asks for, if there is one.
+fn job_named<'a>(name: &str, matches: &ArgMatches<'a>) -> Option<Job<'a>>
+    ensures value { option_map task_of result ≡ job_named name.now (rows_of (found_of matches.now)) }
+    ensures within { IfSome result IsWithinLimits }
+{
+    match name {
+        "script" => script_given(matches),
+        "load" => load_given(matches),
+        "audit" => audit_given(matches),
+        _ => None,
+    }
+}
+
+/// A run of a script, with its archives below a folder, if one is named.
+fn script_given<'a>(matches: &ArgMatches<'a>) -> Option<Job<'a>>
+    ensures value { option_map task_of result ≡ script_given (rows_of (found_of matches.now)) }
+    ensures within { IfSome result IsWithinLimits }
+{
+    let out = folder_given(matches, "out")?;
+    Some(Job::Script { out })
+}
+
+/// A load of these numbers, with its archives below a folder, if one is named.
+fn load_given<'a>(matches: &ArgMatches<'a>) -> Option<Job<'a>>
+    ensures value { option_map task_of result ≡ load_given (rows_of (found_of matches.now)) }
+    ensures within { IfSome result IsWithinLimits }
+{
+    let threads = count_given(matches, "threads", 1, MOST_STREAMS as u64)?;
+    let records = count_given(matches, "records", 0, MOST_RECORDS)?;
+    let workers = count_given(matches, "workers", 1, MOST_WORKERS as u64)?;
+    let out = folder_given(matches, "out")?;
+    Some(Job::Load {
+        threads,
+        records,
+        workers,
+        out,
+    })
+}
+
+/// An audit of a folder, if its name isn't empty.
+fn audit_given<'a>(matches: &ArgMatches<'a>) -> Option<Job<'a>>
+    ensures value { option_map task_of result ≡ audit_given (rows_of (found_of matches.now)) }
+    ensures within { IfSome result IsWithinLimits }
+{
+    let dir = folder_given(matches, "dir")??;
+    Some(Job::Audit { dir })
+}
+
+/// The number of an option, if one is given and lies within these limits.
+fn count_given(matches: &ArgMatches<'_>, id: &str, least: u64, most: u64) -> Option<u64>
+    ensures value { result ≡ count_given id.now least most (rows_of (found_of matches.now)) }
+    ensures within { IfSome result (λ n. (least ≤ n) × (n ≤ most)) }
+{
+    match number_given(matches, id, most) {
+        Some(n) if n >= least => Some(n),
+        _ => None,
+    }
+}
+
+/// The folder that is named, if one is; none if its name is empty.
+fn folder_given<'a>(matches: &ArgMatches<'a>, id: &str) -> Option<Option<&'a str>>
+    ensures { option_map folder_named result ≡ folder_given (first_of id.now (rows_of (found_of matches.now))) }
+{
+    match text_given(matches, id) {
+        Some("") => None,
+        dir => Some(dir),
+    }
+}
