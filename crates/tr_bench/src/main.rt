@@ -32,6 +32,12 @@ use std::{env, io};
 use tr_command::number;
 use tr_record::ReaderSource;
 
+/// Tells why the rounds stopped.
+fn stopped(rt: &impl Print, fault: impl Debug + Drop) -> io::Result<ExitCode> {
+    println!(rt; "stopped {fault:?}")?;
+    Ok(ExitCode::FAILURE)
+}
+
 fn parse(rt: &impl Print, alloc: Global, input: impl io::Read + Drop) -> io::Result<ExitCode> {
     match lines::parse_all(alloc, &mut ReaderSource::new(input)) {
         Ok(parsed) => {
@@ -41,10 +47,7 @@ fn parse(rt: &impl Print, alloc: Global, input: impl io::Read + Drop) -> io::Res
             )?;
             Ok(ExitCode::SUCCESS)
         }
-        Err(fault) => {
-            println!(rt; "stopped {fault:?}")?;
-            Ok(ExitCode::FAILURE)
-        }
+        Err(fault) => stopped(rt, fault),
     }
 }
 
@@ -58,10 +61,7 @@ fn report<F: Debug + Drop>(rt: &impl Print, offered: Result<Total, F>) -> io::Re
             )?;
             Ok(ExitCode::SUCCESS)
         }
-        Err(fault) => {
-            println!(rt; "stopped {fault:?}")?;
-            Ok(ExitCode::FAILURE)
-        }
+        Err(fault) => stopped(rt, fault),
     }
 }
 
@@ -92,10 +92,7 @@ fn decode(rt: &impl Print, bytes: &[u8], rounds: u64) -> io::Result<ExitCode> {
             println!(rt; "packets {} records {} sum {}", t.packets, t.records, t.sum)?;
             Ok(ExitCode::SUCCESS)
         }
-        Err(fault) => {
-            println!(rt; "stopped {fault:?}")?;
-            Ok(ExitCode::FAILURE)
-        }
+        Err(fault) => stopped(rt, fault),
     }
 }
 
@@ -114,10 +111,7 @@ fn audit(
             )?;
             Ok(ExitCode::SUCCESS)
         }
-        Err(fault) => {
-            println!(rt; "stopped {fault:?}")?;
-            Ok(ExitCode::FAILURE)
-        }
+        Err(fault) => stopped(rt, fault),
     }
 }
 
@@ -137,10 +131,7 @@ fn rotate(
             println!(rt; "quickest {quickest}")?;
             Ok(ExitCode::SUCCESS)
         }
-        Err(fault) => {
-            println!(rt; "stopped {fault:?}")?;
-            Ok(ExitCode::FAILURE)
-        }
+        Err(fault) => stopped(rt, fault),
     }
 }
 
@@ -151,10 +142,7 @@ fn fill(rt: &impl Print, alloc: Global, length: u64, rounds: u64) -> io::Result<
             println!(rt; "records {records}")?;
             Ok(ExitCode::SUCCESS)
         }
-        Err(fault) => {
-            println!(rt; "stopped {fault:?}")?;
-            Ok(ExitCode::FAILURE)
-        }
+        Err(fault) => stopped(rt, fault),
     }
 }
 
@@ -174,6 +162,39 @@ fn read(
     }
 }
 
+/// The most rounds.
+const MOST_ROUNDS: u64 = 1_000_000;
+
+/// Does what two words ask for, which is to read packets from the input.
+fn run_two(
+    rt: &impl Print,
+    alloc: Global,
+    input: impl io::Read + Drop,
+    (what, rounds): (&str, &str),
+) -> io::Result<ExitCode> {
+    match (what, number(rounds, MOST_ROUNDS)) {
+        ("decode" | "audit" | "feed", Some(rounds)) => read(rt, alloc, input, what, rounds),
+        _ => Ok(ExitCode::from(2)),
+    }
+}
+
+/// Does what three words ask for, which is to make offers or to fill rings.
+fn run_three(
+    rt: &(impl Print + Wait + CpuClock),
+    alloc: Global,
+    (what, detail, rounds): (&str, &str, &str),
+) -> io::Result<ExitCode> {
+    let Some(rounds) = number(rounds, MOST_ROUNDS) else {
+        return Ok(ExitCode::from(2));
+    };
+    match (what, Case::named(detail), number(detail, 4_000)) {
+        ("offers" | "shared", Some(case), _) => offer(rt, alloc, what, &case, rounds),
+        ("fill", _, Some(length)) => fill(rt, alloc, length, rounds),
+        ("rotate", _, Some(length)) => rotate(rt, alloc, length, rounds),
+        _ => Ok(ExitCode::from(2)),
+    }
+}
+
 /// Does what the words behind the program's name ask for.
 fn run(
     rt: &(impl Print + Wait + CpuClock),
@@ -183,23 +204,8 @@ fn run(
 ) -> io::Result<ExitCode> {
     match words {
         ["parse"] => parse(rt, alloc, input),
-        [what @ ("offers" | "shared"), case, rounds] => {
-            match (Case::named(case), number(rounds, 1_000_000)) {
-                (Some(case), Some(rounds)) => offer(rt, alloc, what, &case, rounds),
-                _ => Ok(ExitCode::from(2)),
-            }
-        }
-        [what @ ("fill" | "rotate"), length, rounds] => {
-            match (*what, number(length, 4_000), number(rounds, 1_000_000)) {
-                ("fill", Some(length), Some(rounds)) => fill(rt, alloc, length, rounds),
-                ("rotate", Some(length), Some(rounds)) => rotate(rt, alloc, length, rounds),
-                _ => Ok(ExitCode::from(2)),
-            }
-        }
-        [what @ ("decode" | "audit" | "feed"), rounds] => match number(rounds, 1_000_000) {
-            Some(rounds) => read(rt, alloc, input, what, rounds),
-            None => Ok(ExitCode::from(2)),
-        },
+        [what, rounds] => run_two(rt, alloc, input, (what, rounds)),
+        [what, detail, rounds] => run_three(rt, alloc, (what, detail, rounds)),
         _ => Ok(ExitCode::from(2)),
     }
 }
