@@ -27,29 +27,15 @@ moment_app name = with_rule (session_app name) (place (codes "moment"))
 abbrev pub stream_app : Text → App
 stream_app name = with_rule (session_app name) (place (codes "stream"))
 
--- `create SESSION UUID ..`
-abbrev pub create_head : App
-create_head = with_rule (session_app (codes "create")) (place (codes "uuid"))
-
--- `create SESSION UUID [--east MIN] [--west MIN] ..`
-abbrev pub create_offset : App
-create_offset = with_rule (with_rule create_head (option (codes "east"))) (option (codes "west"))
-
 -- `create SESSION UUID [--east MIN] [--west MIN] [--snapshot]`
 abbrev pub create_app : App
-create_app = with_rule create_offset (flag (codes "snapshot"))
-
--- `channel SESSION CHANNEL ..`
-abbrev pub channel_head : App
-channel_head = with_rule (session_app (codes "channel")) (place (codes "channel"))
-
--- `channel SESSION CHANNEL SIZE COUNT ..`
-abbrev pub channel_sizes : App
-channel_sizes = with_rule (with_rule channel_head (place (codes "size"))) (place (codes "count"))
+create_app = with_rule (with_rule (with_rule (with_rule (session_app (codes "create")) (place (codes "uuid")))
+    (option (codes "east"))) (option (codes "west"))) (flag (codes "snapshot"))
 
 -- `channel SESSION CHANNEL SIZE COUNT MODE`
 abbrev pub channel_app : App
-channel_app = with_rule channel_sizes (place (codes "mode"))
+channel_app = with_rule (with_rule (with_rule (with_rule (session_app (codes "channel")) (place (codes "channel")))
+    (place (codes "size"))) (place (codes "count"))) (place (codes "mode"))
 
 -- `thread SESSION CHANNEL`
 abbrev pub thread_app : App
@@ -63,13 +49,10 @@ start_app = moment_app (codes "start")
 abbrev pub stop_app : App
 stop_app = session_app (codes "stop")
 
--- `offer SESSION STREAM MOMENT ID ..`
-abbrev pub offer_head : App
-offer_head = with_rule (with_rule (stream_app (codes "offer")) (place (codes "moment"))) (place (codes "id"))
-
 -- `offer SESSION STREAM MOMENT ID [--text TEXT] [--fill LEN]`
 abbrev pub offer_app : App
-offer_app = with_rule (with_rule offer_head (option (codes "text"))) (option (codes "fill"))
+offer_app = with_rule (with_rule (with_rule (with_rule (stream_app (codes "offer")) (place (codes "moment")))
+    (place (codes "id"))) (option (codes "text"))) (option (codes "fill"))
 
 -- `consume SESSION STREAM`
 abbrev pub consume_app : App
@@ -121,30 +104,20 @@ layout_app = with_subcommand
     (with_subcommand (with_subcommand (new_app (codes "tracerd")) create_app.top) channel_app.top)
     thread_app.top
 
--- and those that start and stop it
-abbrev pub activity_app : App
-activity_app = with_subcommand (with_subcommand layout_app start_app.top) stop_app.top
-
--- and those for its streams while it runs
+-- and those that start and stop it, and for its streams while it runs
 abbrev pub running_app : App
-running_app = with_subcommand (with_subcommand activity_app offer_app.top) consume_app.top
+running_app = with_subcommand (with_subcommand (with_subcommand (with_subcommand layout_app start_app.top) stop_app.top)
+    offer_app.top) consume_app.top
 
--- and the steps of a rotation
-abbrev pub rotation_steps_app : App
-rotation_steps_app = with_subcommand (with_subcommand (with_subcommand running_app rotate_begin_app.top)
-    rotate_next_app.top) rotate_finish_app.top
-
--- and a rotation in all its steps at once
+-- and those that rotate it, step by step and in all steps at once
 abbrev pub rotation_app : App
-rotation_app = with_subcommand rotation_steps_app rotate_app.top
+rotation_app = with_subcommand (with_subcommand (with_subcommand (with_subcommand running_app rotate_begin_app.top)
+    rotate_next_app.top) rotate_finish_app.top) rotate_app.top
 
--- and snapshots
-abbrev pub snapshots_app : App
-snapshots_app = with_subcommand rotation_app snapshot_app.top
-
--- and rotations by a schedule
+-- and snapshots, and rotations by a schedule
 abbrev pub schedules_app : App
-schedules_app = with_subcommand (with_subcommand snapshots_app schedule_app.top) tick_app.top
+schedules_app = with_subcommand (with_subcommand (with_subcommand rotation_app snapshot_app.top) schedule_app.top)
+    tick_app.top
 
 -- the whole command line of a script's line: all these, and the commands that ask
 abbrev pub script_app : App

@@ -40,25 +40,19 @@ IsWithinLimits (job.Audit dir) = Unit
 abbrev pub script_run_app : App
 script_run_app = with_rule (new_app (codes "script")) (option (codes "out"))
 
--- `load --threads T --records R ..`
-abbrev pub load_counts : App
-load_counts = with_rule (with_rule (new_app (codes "load")) (option (codes "threads"))) (option (codes "records"))
-
 -- `load --threads T --records R --workers W [--out DIR]`
 abbrev pub load_app : App
-load_app = with_rule (with_rule load_counts (option (codes "workers"))) (option (codes "out"))
+load_app = with_rule (with_rule (with_rule (with_rule (new_app (codes "load")) (option (codes "threads")))
+    (option (codes "records"))) (option (codes "workers"))) (option (codes "out"))
 
 -- `audit DIR`
 abbrev pub audit_app : App
 audit_app = with_rule (new_app (codes "audit")) (place (codes "dir"))
 
--- `tracerd script ..` and `tracerd load ..`
-abbrev pub runs_app : App
-runs_app = with_subcommand (with_subcommand (new_app (codes "tracerd")) script_run_app.top) load_app.top
-
 -- `tracerd script ..`, `tracerd load ..` and `tracerd audit ..`
 abbrev pub program_app : App
-program_app = with_subcommand runs_app audit_app.top
+program_app = with_subcommand (with_subcommand (with_subcommand (new_app (codes "tracerd")) script_run_app.top)
+    load_app.top) audit_app.top
 
 -- a named folder has a name that isn't empty
 abbrev pub folder_given : Option Text → Option Folder

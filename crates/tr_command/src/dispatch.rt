@@ -9,10 +9,8 @@ ghost use Rattle.clap.specs.declared.builder.command.Command.TheViews.{out-Comma
 ghost use Rattle.tr_command.specs.Dispatch.{IsBuilt, alone, app_for, command_of, command_word};
 
 use crate::command_lines::{
-    archives_command, channel_command, consume_command, create_command, fate_command,
-    offer_command, rotate_begin_command, rotate_command, rotate_finish_command,
-    rotate_next_command, schedule_command, script_command, snapshot_command, start_command,
-    status_command, stop_command, thread_command, tick_command,
+    at_moment, channel_command, create_command, fate_command, of_session, of_stream, offer_command,
+    schedule_command, script_command, with_place,
 };
 use clap::Command;
 use std::alloc::{AllocError, Global};
@@ -42,21 +40,21 @@ fn command_named<'a>(alloc: Global, name: &str) -> Option<Result<Command<'a>, Al
     match name {
         "create" => Some(create_command(alloc)),
         "channel" => Some(channel_command(alloc)),
-        "thread" => Some(thread_command(alloc)),
-        "start" => Some(start_command(alloc)),
-        "stop" => Some(stop_command(alloc)),
+        "thread" => Some(with_place(alloc, "thread", "channel")),
+        "start" => Some(at_moment(alloc, "start")),
+        "stop" => Some(of_session(alloc, "stop")),
         "offer" => Some(offer_command(alloc)),
-        "consume" => Some(consume_command(alloc)),
-        "rotate-begin" => Some(rotate_begin_command(alloc)),
-        "rotate-next" => Some(rotate_next_command(alloc)),
-        "rotate-finish" => Some(rotate_finish_command(alloc)),
-        "rotate" => Some(rotate_command(alloc)),
-        "snapshot" => Some(snapshot_command(alloc)),
+        "consume" => Some(of_stream(alloc, "consume")),
+        "rotate-begin" => Some(at_moment(alloc, "rotate-begin")),
+        "rotate-next" => Some(of_session(alloc, "rotate-next")),
+        "rotate-finish" => Some(of_session(alloc, "rotate-finish")),
+        "rotate" => Some(at_moment(alloc, "rotate")),
+        "snapshot" => Some(at_moment(alloc, "snapshot")),
         "fate" => Some(fate_command(alloc)),
         "schedule" => Some(schedule_command(alloc)),
-        "tick" => Some(tick_command(alloc)),
-        "status" => Some(status_command(alloc)),
-        "archives" => Some(archives_command(alloc)),
+        "tick" => Some(at_moment(alloc, "tick")),
+        "status" => Some(of_session(alloc, "status")),
+        "archives" => Some(of_session(alloc, "archives")),
         _ => None,
     }
 }

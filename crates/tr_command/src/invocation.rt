@@ -4,7 +4,7 @@ ghost use Rattle.std.specs.Prelude.{◌≡◌, ◌≤◌, ◌∷◌, IfOk, IfSom
 ghost use Rattle.std.specs.Vec.Iter.{into_iter_items};
 ghost use Rattle.clap.specs.Words.{app_of, first_of, found_of, rows_of};
 ghost use Rattle.clap.specs.declared.builder.command.Command.TheViews.{out-Command as fields_of};
-ghost use Rattle.tr_command.specs.Invocation.{IsWithinLimits, audit_app, audit_given, count_given, folder_given, folder_named, job_named, job_of, load_app, load_counts, load_given, program_app, runs_app, script_given, script_run_app, task_of, words_of};
+ghost use Rattle.tr_command.specs.Invocation.{IsWithinLimits, audit_app, audit_given, count_given, folder_given, folder_named, job_named, job_of, load_app, load_given, program_app, script_given, script_run_app, task_of, words_of};
 
 use crate::arguments::{option, place};
 use crate::command_lines::{joined, with_options};
@@ -49,20 +49,13 @@ fn script_run_command<'a>(alloc: Global) -> Result<Command<'a>, AllocError>
     Command::new(alloc, "script").arg(option(alloc, "out"))
 }
 
-/// `load --threads T --records R ..`.
-fn load_counts_command<'a>(alloc: Global) -> Result<Command<'a>, AllocError>
-    ensures shape { IfOk result (λ c. app_of c ≡ load_counts) }
-    ensures local { IfOk result (λ c. (fields_of c).has_globals ≡ false) }
-{
-    with_options(alloc, Command::new(alloc, "load"), "threads", "records")
-}
-
 /// `load --threads T --records R --workers W [--out DIR]`.
 fn load_command<'a>(alloc: Global) -> Result<Command<'a>, AllocError>
     ensures shape { IfOk result (λ c. app_of c ≡ load_app) }
     ensures local { IfOk result (λ c. (fields_of c).has_globals ≡ false) }
 {
-    with_options(alloc, load_counts_command(alloc)?, "workers", "out")
+    let command = with_options(alloc, Command::new(alloc, "load"), "threads", "records")?;
+    with_options(alloc, command, "workers", "out")
 }
 
 /// `audit DIR`.
@@ -73,22 +66,16 @@ fn audit_command<'a>(alloc: Global) -> Result<Command<'a>, AllocError>
     Command::new(alloc, "audit").arg(place(alloc, "dir"))
 }
 
-/// `tracerd script ..` and `tracerd load ..`.
-fn runs_command<'a>(alloc: Global) -> Result<Command<'a>, AllocError>
-    ensures { IfOk result (λ c. app_of c ≡ runs_app) }
+/// The whole command line: `tracerd script ..`, `tracerd load ..` and `tracerd audit ..`.
+fn command_line<'a>(alloc: Global) -> Result<Command<'a>, AllocError>
+    ensures { IfOk result (λ c. app_of c ≡ program_app) }
 {
     let command = joined(
         Ok(Command::new(alloc, "tracerd")),
         script_run_command(alloc),
     );
-    joined(command, load_command(alloc))
-}
-
-/// The whole command line: `tracerd script ..`, `tracerd load ..` and `tracerd audit ..`.
-fn command_line<'a>(alloc: Global) -> Result<Command<'a>, AllocError>
-    ensures { IfOk result (λ c. app_of c ≡ program_app) }
-{
-    joined(runs_command(alloc), audit_command(alloc))
+    let command = joined(command, load_command(alloc));
+    joined(command, audit_command(alloc))
 }
 
 /// The arguments as a list.

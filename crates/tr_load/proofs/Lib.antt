@@ -1,2 +1,4 @@
+pub mod JudgeLaws
 pub mod LoadLaws
+pub mod ReportLaws
 pub mod TellLaws

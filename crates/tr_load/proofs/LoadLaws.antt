@@ -9,7 +9,7 @@ use Rattle.tr_load.specs.Works.{work_of}
 use Rattle.tr_pool.specs.Feeding.{IsFed}
 use Rattle.tr_shared.specs.Calls.{IsOffered}
 use Rattle.tr_pool.specs.declared.items.Item.{Item}
-use Rattle.tr_reconcile.specs.declared.log.Log.{Log}
+use Rattle.tr_load.specs.declared.log.Log.{Log}
 use Rattle.tr_seats.specs.Slots.{AreNew, ProducerState, new_producer}
 
 -- what holds of each element's image holds of the image's elements

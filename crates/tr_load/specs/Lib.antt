@@ -1,5 +1,8 @@
+pub mod Judging
 pub mod Loads
+pub mod Logs
 pub mod Plans
+pub mod Reports
 pub mod Rounds
 pub mod Telling
 pub mod Texts

@@ -4,11 +4,11 @@ use Rattle.tr_load.specs.Plans.{load_session}
 use Rattle.tr_load.specs.Works.{work_of}
 use Rattle.tr_pool.specs.Feeding.{IsFed}
 use Rattle.tr_shared.specs.Calls.{IsOffered}
-use Rattle.tr_reconcile.specs.Logs.{AgreeBelow, IsFirstWrong, report_of}
+use Rattle.tr_load.specs.Logs.{AgreeBelow, IsFirstWrong, report_of}
 use Rattle.tr_pool.specs.declared.items.Item.{Item}
-use Rattle.tr_reconcile.specs.declared.log.Log.{Log}
-use Rattle.tr_reconcile.specs.declared.report.Mismatch.{Mismatch}
-use Rattle.tr_reconcile.specs.declared.report.Report.{Report}
+use Rattle.tr_load.specs.declared.log.Log.{Log}
+use Rattle.tr_load.specs.declared.report.Mismatch.{Mismatch}
+use Rattle.tr_load.specs.declared.report.Report.{Report}
 use Rattle.tr_seats.specs.Books.{PlanState}
 use Rattle.tr_seats.specs.Settling.{IsSessionOf}
 use Rattle.tr_seats.specs.Slots.{ProducerState, new_producer}

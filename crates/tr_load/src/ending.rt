@@ -5,9 +5,11 @@ ghost use Rattle.tr_load.specs.Loads.{IsJudged, log_in};
 ghost use Rattle.tr_seats.specs.Settling.{IsSessionOf};
 
 use crate::loaded::{LoadFault, Loaded};
+use crate::log::{Log, producer_and_log};
+use crate::reconciling::reconcile;
+use crate::report::{Mismatch, Report};
 use std::alloc::{AllocError, Global};
 use tr_pool::LoggedProducer;
-use tr_reconcile::{Log, Mismatch, Report, producer_and_log, reconcile};
 use tr_shared::{Drainer, Names, Producer, Settled, Shared};
 
 /// The producers, and their logs.

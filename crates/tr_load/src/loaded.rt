@@ -1,7 +1,7 @@
 //! What a load comes to.
 
+use crate::report::{Mismatch, Report};
 use std::alloc::AllocError;
-use tr_reconcile::{Mismatch, Report};
 use tr_session_book::SessionFault;
 use tr_shared::Settled;
 

@@ -1,9 +1,8 @@
-//! Archives in memory and in files.
+//! Archives in memory.
 
 mod failing;
 mod flushes;
 mod full;
-mod real;
 
 use crate::asserting::assert_same;
 use std::alloc::Global;

@@ -1,10 +1,7 @@
-//! Whole scripts, with the answers that the command language gives.
+//! Runs of scripts, however these are cut, and what is left of them. More scripts, with their answers, are in `examples`.
 
-mod fates;
 mod lines;
-mod rotations;
 mod runs;
-mod schedules;
 mod sessions;
 mod snapshots;
 
@@ -48,42 +45,6 @@ taken 0 records 2 chunk 0
 session s local active channels 1 streams 1 archives 0
 stream     offered   discarded overwritten     in-ring   in-chunks
      0           6           1           0           3           2
-";
-
-/// A session with one stream in overwrite mode, started, and six offers; the fifth overwrites two records.
-const OVERWRITING: &str = "create s 00000000-0000-0000-0000-000000000001
-channel s c 256 2 overwrite
-thread s c
-start s 0
-offer s 0 1 7 --fill 64
-offer s 0 2 7 --fill 64
-offer s 0 3 7 --fill 64
-offer s 0 4 7 --fill 64
-offer s 0 5 7 --fill 64
-offer s 0 6 7 --fill 64
-";
-
-const OVERWRITTEN: &str = "created s
-channel c
-stream 0
-started
-stored 0 in 0
-stored 1 in 0
-stored 2 in 1
-stored 3 in 1
-stored 4 in 2 over 0 2
-stored 5 in 2
-";
-
-/// A snapshot session with one stream, not started.
-const SHOWN: &str = "create z 00000000-0000-0000-0000-000000000001 --snapshot
-channel z c 256 2 overwrite
-thread z c
-";
-
-const SHOWN_ANSWERS: &str = "created z
-channel c
-stream 0
 ";
 
 /// The texts, one after another.

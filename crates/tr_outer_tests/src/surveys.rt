@@ -1,7 +1,6 @@
 //! Surveys of folders in memory: a worked example, and what can be wrong.
 
 mod failing;
-mod real;
 
 use crate::asserting::assert_same;
 use std::alloc::Global;

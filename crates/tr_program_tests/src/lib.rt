@@ -1,5 +1,5 @@
-//! The tests of tr_load and tr_program: loads, what is said of them, and runs of the program over memory, their statuses and
-//! lines, and runs in which reading or writing fails.
+//! The tests of tr_load and tr_program: loads, what is said of them, their logs, and runs of the program over memory in which
+//! reading or writing fails.
 #![tactic(auto)]
 
 #[cfg(test)]
@@ -8,5 +8,3 @@ mod asserting;
 mod loads;
 #[cfg(test)]
 mod runs;
-#[cfg(test)]
-mod telling;

@@ -1,4 +1,4 @@
-//! Loads, and what is said of them.
+//! Loads, what is said of them, and their logs beside what their sessions hold.
 
 use crate::asserting::assert_same;
 use std::alloc::Global;
@@ -7,12 +7,12 @@ use std::sync::Wait;
 use std::test::*;
 use std::thread::Threads;
 use std::time::Clock;
-use tr_load::{Loaded, load, outcome_text};
-use tr_reconcile::{Mismatch, Report};
+use tr_load::{Loaded, Log, Mismatch, Report, load, load_work, outcome_text, reconcile};
+use tr_pool::Items;
 use tr_terms::limits::{MOST_RECORDS, MOST_WORKERS};
 
 /// A load of so many threads with so many records each, and so many workers.
-pub(crate) fn loaded<R: Threads + Wait + Clock + Abort + Sync>(
+fn loaded<R: Threads + Wait + Clock + Abort + Sync>(
     rt: &R,
     alloc: Global,
     threads: usize,
@@ -24,54 +24,6 @@ pub(crate) fn loaded<R: Threads + Wait + Clock + Abort + Sync>(
     load(rt, alloc, threads, records, workers).expect(rt, "a load")
 }
 
-/// Asserts what is said of a load's outcome.
-fn assert_said(
-    rt: &impl Abort,
-    alloc: Global,
-    threads: u64,
-    outcome: &Result<Report, Mismatch>,
-    expected: &str,
-) {
-    let text = outcome_text(alloc, threads, outcome).expect(rt, "memory");
-    assert_same(rt, text.as_str(), expected);
-}
-
-/// Threads, the records of each, workers, and what is said of such a load.
-static LOADS: [(usize, u64, usize, &str); 3] = [
-    // records that fit are all in chunks
-    (
-        4,
-        1_000,
-        2,
-        "threads 4\noffered 4000\ndiscarded 0\noverwritten 0\nin ring 0\nin chunks 4000\nreconciled\n",
-    ),
-    // no records are nowhere
-    (
-        1,
-        0,
-        1,
-        "threads 1\noffered 0\ndiscarded 0\noverwritten 0\nin ring 0\nin chunks 0\nreconciled\n",
-    ),
-    // workers without streams end
-    (
-        2,
-        100,
-        5,
-        "threads 2\noffered 200\ndiscarded 0\noverwritten 0\nin ring 0\nin chunks 200\nreconciled\n",
-    ),
-];
-
-#[test]
-fn records_that_fit_are_all_in_chunks(rt: HostRuntime) {
-    for (threads, records, workers, expected) in &LOADS {
-        let loaded = loaded(&rt, rt.alloc(), *threads, *records, *workers);
-        let threads = *threads as u64;
-        assert_same(&rt, loaded.settled.session().streams(), threads);
-        assert_said(&rt, rt.alloc(), threads, &loaded.outcome, expected);
-        drop(loaded);
-    }
-}
-
 #[test]
 fn a_full_ring_discards_and_agrees(rt: HostRuntime) {
     let loaded = loaded(&rt, rt.alloc(), 1, 20_000, 1);
@@ -79,6 +31,43 @@ fn a_full_ring_discards_and_agrees(rt: HostRuntime) {
     assert_same(&rt, report.offered, 20_000);
     let told = report.discarded.checked_add(report.in_chunks);
     assert_same(&rt, told, Some(20_000));
+}
+
+/// The log of a feeder that offered so many records of a load, the second of them with this id.
+fn log_with(rt: &impl Abort, alloc: Global, records: u64, id: u32) -> Vec<Log> {
+    assert!(rt; records <= MOST_RECORDS);
+    let mut items = load_work(alloc, 0, records).expect(rt, "memory");
+    items.get_mut(1).expect(rt, "an item").id = id;
+    let log = Log {
+        stream: 0,
+        items: Items::new(items),
+    };
+    vec![in alloc; log].expect(rt, "memory")
+}
+
+/// The second record of a load has the id 1. All three fit the ring.
+#[test]
+fn logs_are_reconciled(rt: HostRuntime) {
+    let loaded = loaded(&rt, rt.alloc(), 1, 3, 1);
+    let report = Report {
+        offered: 3,
+        discarded: 0,
+        overwritten: 0,
+        in_ring: 0,
+        in_chunks: 3,
+    };
+    let wrong = Mismatch::WrongRecord {
+        stream: 0,
+        serial: 1,
+    };
+    let none = Mismatch::LogLength { stream: 0 };
+    for (records, id, wanted) in [(3, 1, Ok(report)), (3, 7, Err(wrong)), (2, 1, Err(none))] {
+        let logs = log_with(&rt, rt.alloc(), records, id);
+        assert_same(&rt, reconcile(&loaded.settled, logs.as_slice()), wanted);
+        drop(logs);
+    }
+    assert_same(&rt, reconcile(&loaded.settled, &[]), Err(none));
+    drop(loaded);
 }
 
 /// Numbers of threads, mismatches, and what is said of them.
@@ -101,6 +90,7 @@ static MISMATCHES: [(u64, Result<Report, Mismatch>, &str); 2] = [
 #[test]
 fn mismatches_are_told_in_a_line(rt: HostRuntime) {
     for (threads, outcome, expected) in &MISMATCHES {
-        assert_said(&rt, rt.alloc(), *threads, outcome, expected);
+        let text = outcome_text(rt.alloc(), *threads, outcome).expect(&rt, "memory");
+        assert_same(&rt, text.as_str(), expected);
     }
 }

@@ -1,4 +1,4 @@
-//! Feeders, workers, and the logs beside the records.
+//! Feeders and workers in threads.
 
 ghost use Rattle.std.specs.Prelude.{◌≡◌, vec_len};
 
@@ -11,8 +11,7 @@ use std::sync::atomic::{AtomicU64, Ordering};
 use std::test::*;
 use std::thread;
 use std::thread::Threads;
-use tr_pool::{Gate, Item, Items, drain_all, feed};
-use tr_reconcile::{Log, Mismatch, Report, producer_and_log, reconcile};
+use tr_pool::{Gate, Item, drain_all, feed};
 use tr_shared::{Drainer, Names, Plan, Producer, Settled, Shared};
 use tr_stream::Payload;
 use tr_terms::{Mode, SessionMode};
@@ -55,17 +54,7 @@ fn assert_in_ring(rt: &impl Abort, alloc: Global, settled: &Settled, count: u8) 
     assert_same(rt, stream.ring_at(u64::from(count)).is_none(), true);
 }
 
-/// The items of a log, of which the second has another id.
-fn with_another_id(rt: &impl Abort, log: Log) -> Log {
-    let mut items = log.items.into_vec();
-    items.get_mut(1).expect(rt, "an item").id = 7;
-    Log {
-        stream: log.stream,
-        items: Items::new(items),
-    }
-}
-
-/// Feeds one stream, settles, and reconciles with the log, with a log that was changed, and with none.
+/// Feeds one stream, and settles: the log and the ring have all items.
 fn feeds<N: Names + Send + Sync, R: Threads + Wait + Abort + Sync>(
     rt: &R,
     alloc: Global,
@@ -79,39 +68,15 @@ fn feeds<N: Names + Send + Sync, R: Threads + Wait + Abort + Sync>(
     assert!(rt; works.len() == producers.len());
     let fed = granted(rt, feed(rt, alloc, &shared, producers, works), "feeders");
     let mut producers = Vec::new(alloc);
-    let mut logs = Vec::new(alloc);
     'fed: for logged in fed {
-        let (producer, log) = producer_and_log(logged);
+        let (producer, log) = logged.into_items();
+        assert_same(rt, log.as_slice().len(), 153);
         producers.push(producer).expect(rt, "memory");
-        logs.push(log).expect(rt, "memory");
     }
     let answer = shared.settle(producers, Vec::new(alloc));
     let (settled, _) = granted(rt, answer, "settled session");
     assert_in_ring(rt, alloc, &settled, 153);
-    reconciles(rt, &settled, logs);
     drop(settled);
-}
-
-/// Reconciles with the log of 153 items, with one that was changed, and with none.
-fn reconciles(rt: &impl Abort, settled: &Settled, mut logs: Vec<Log>) {
-    let report = Report {
-        offered: 153,
-        discarded: 0,
-        overwritten: 0,
-        in_ring: 153,
-        in_chunks: 0,
-    };
-    assert_same(rt, reconcile(settled, logs.as_slice()), Ok(report));
-    let log = with_another_id(rt, logs.pop().expect(rt, "a log"));
-    logs.push(log).expect(rt, "memory");
-    let wrong = Mismatch::WrongRecord {
-        stream: 0,
-        serial: 1,
-    };
-    assert_same(rt, reconcile(settled, logs.as_slice()), Err(wrong));
-    logs.clear();
-    let none = Mismatch::LogLength { stream: 0 };
-    assert_same(rt, reconcile(settled, logs.as_slice()), Err(none));
 }
 
 #[test]

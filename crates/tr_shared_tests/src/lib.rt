@@ -1,6 +1,5 @@
-//! The tests of tr_seats, of tr_shared, and of tr_pool and tr_reconcile on it (`seats`, `shared`, `feeding`, `intakes`): offers
-//! and takes that move seats, drainers, desks, sessions that are settled, the threads that share one, feeders and workers in
-//! threads, and what is reconciled.
+//! The tests of tr_seats, of tr_shared, and of tr_pool on it (`seats`, `shared`, `feeding`, `intakes`): offers and takes that
+//! move seats, drainers, desks, sessions that are settled, the threads that share one, and feeders and workers in threads.
 //!
 //! Some functions drop by name what they hold at their end, which is proved in less time.
 #![tactic(auto)]

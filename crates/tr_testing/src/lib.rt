@@ -2,11 +2,9 @@
 #![tactic(auto)]
 
 mod failing;
-mod folders;
 mod full;
 
 pub use failing::FailsAfter;
-pub use folders::free_path;
 pub use full::fill;
 use tr_terms::Moment;
 

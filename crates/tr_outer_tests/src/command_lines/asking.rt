@@ -1,6 +1,6 @@
 //! Lines that ask.
 
-use super::{Asks, assert_bad, assert_each_asks};
+use super::{Asks, assert_each_asks};
 use tr_command::Request;
 
 const LAST: u64 = 9_000_000_000_000_000_000;
@@ -97,64 +97,4 @@ fn reads_fates_statuses_archives_and_snapshots(rt: HostRuntime) {
     assert_each_asks(&rt, rt.alloc(), &STATUSES);
     assert_each_asks(&rt, rt.alloc(), &ARCHIVES);
     assert_each_asks(&rt, rt.alloc(), &SNAPSHOTS);
-}
-
-/// The last six are of bad numbers.
-static BAD_FATES: [&str; 16] = [
-    "fate",
-    "fate s",
-    "fate s 0",
-    "fate s 0 1 2",
-    "fate s 0 -1",
-    "fate s -1 0",
-    "fate -x 0 1",
-    "fate -h",
-    "fate s 0 1 --help",
-    "fate s 0 --serial 1",
-    "fate s 18446744073709551616 0",
-    "fate s 0 18446744073709551616",
-    "fate s 0 +1",
-    "fate s 0 x",
-    "fate s x 0",
-    "fate s 0 ",
-];
-
-static BAD_STATUSES: [&str; 4] = ["status", "status -x", "status s t", "status -- s t"];
-
-static BAD_ARCHIVES: [&str; 7] = [
-    "archives",
-    "archives s t",
-    "archives s 0",
-    "archives -x",
-    "archives -h",
-    "archives s --help",
-    "Archives s",
-];
-
-/// The last six are of bad moments.
-static BAD_SNAPSHOTS: [&str; 16] = [
-    "snapshot",
-    "snapshot s",
-    "snapshot s 1 2",
-    "snapshot -x 1",
-    "snapshot s --moment 1",
-    "snapshot -h",
-    "snapshot s 1 --help",
-    "snapsho s 1",
-    "Snapshot s 1",
-    "--snapshot s 1",
-    "snapshot s 9000000000000000001",
-    "snapshot s -1",
-    "snapshot s +1",
-    "snapshot s x",
-    "snapshot s ",
-    "snapshot s 1.5",
-];
-
-#[test]
-fn refuses_fates_statuses_archives_and_snapshots(rt: HostRuntime) {
-    assert_bad(&rt, rt.alloc(), &BAD_FATES);
-    assert_bad(&rt, rt.alloc(), &BAD_STATUSES);
-    assert_bad(&rt, rt.alloc(), &BAD_ARCHIVES);
-    assert_bad(&rt, rt.alloc(), &BAD_SNAPSHOTS);
 }

@@ -1,6 +1,6 @@
 //! Lines that lay a session out.
 
-use super::{Asks, assert_bad, assert_each_asks};
+use super::{Asks, assert_each_asks};
 use tr_command::Request;
 use tr_terms::Mode;
 
@@ -103,77 +103,4 @@ fn reads_sessions_channels_and_threads(rt: HostRuntime) {
     assert_each_asks(&rt, rt.alloc(), &SESSIONS);
     assert_each_asks(&rt, rt.alloc(), &CHANNELS);
     assert_each_asks(&rt, rt.alloc(), &THREADS);
-}
-
-static BAD_SNAPSHOT_FLAGS: [&str; 17] = [
-    "create s u --snapshot=x",
-    "create s u --snapshot=true",
-    "create s u --snapshot=",
-    "create s u --snapshot 3",
-    "create s u --snapshot --snapshot",
-    "create --snapshot s u --snapshot",
-    "create s u --snap",
-    "create s u --snapshots",
-    "create s u --Snapshot",
-    "create s u -s",
-    // misplaced ones
-    "create s --snapshot",
-    "create --snapshot s",
-    "create s u -- --snapshot",
-    "create s u snapshot",
-    "create s u --east --snapshot",
-    "channel s c 256 2 discard --snapshot",
-    "--snapshot create s u",
-];
-
-static BAD_SESSIONS: [&str; 6] = [
-    "create",
-    "create s",
-    "create s u t",
-    "create -x 00000000-0000-0000-0000-000000000001",
-    "create s u --help",
-    "create -h",
-];
-
-static BAD_OFFSETS: [&str; 18] = [
-    "create s u --west 1440",
-    "create s u --east 1440",
-    "create s u --east -5",
-    "create s u --east=-5",
-    "create s u --east +5",
-    "create s u --east 1.5",
-    "create s u --west x",
-    "create s u --west=",
-    "create s u --east 99999999999999999999",
-    // bad options
-    "create s u --east",
-    "create s u --west --east 3",
-    "create s u --east 3 --east 4",
-    "create s u --east 3 --east=3",
-    "create s u --west 3 --west 4",
-    "create s u --eas 3",
-    "create s u -e 3",
-    "create s u -- --east 3",
-    "create s --east 3",
-];
-
-static BAD_CHANNELS_AND_THREADS: [&str; 10] = [
-    "channel s c 4294967296 2 discard",
-    "channel s c 256 4294967296 discard",
-    "channel s c 256 2 overwrite2",
-    "channel s c 256 2 Overwrite",
-    "channel s c 256 2 over",
-    "channel s c 256 2 discard,overwrite",
-    "channel s c 256 2 Discard",
-    "channel s c 256 2 disc",
-    "channel s c 256 discard 2",
-    "thread s c d",
-];
-
-#[test]
-fn refuses_sessions_channels_and_threads(rt: HostRuntime) {
-    assert_bad(&rt, rt.alloc(), &BAD_SNAPSHOT_FLAGS);
-    assert_bad(&rt, rt.alloc(), &BAD_SESSIONS);
-    assert_bad(&rt, rt.alloc(), &BAD_OFFSETS);
-    assert_bad(&rt, rt.alloc(), &BAD_CHANNELS_AND_THREADS);
 }

@@ -1,31 +1,12 @@
-//! Lines of no command.
+//! Words that no line has, and none. Bad lines are in `examples`.
 
 use super::assert_bad;
 use std::alloc::Global;
 use std::process::Abort;
 use tr_command::parse;
 
-/// The last six are calls for help.
-static BAD: [&str; 18] = [
-    "nope s",
-    "statu s",
-    "Status s",
-    "fat s 0 1",
-    "Fate s 0 1",
-    "fates s 0 1",
-    "sto s",
-    "stops s",
-    "archive s",
-    "tracerd status s",
-    "-- status s",
-    "--",
-    "help",
-    "help status",
-    "help rotate",
-    "-h",
-    "--help",
-    "--version",
-];
+/// An empty word is no number.
+static BAD: [&str; 4] = ["fate s 0 ", "snapshot s ", "consume s ", "tick s "];
 
 /// Asserts that these words ask for nothing.
 fn assert_none(rt: &impl Abort, alloc: Global, words: &[&str]) {
@@ -34,7 +15,7 @@ fn assert_none(rt: &impl Abort, alloc: Global, words: &[&str]) {
 }
 
 #[test]
-fn refuses_other_words_and_none(rt: HostRuntime) {
+fn refuses_empty_words_and_none(rt: HostRuntime) {
     assert_bad(&rt, rt.alloc(), &BAD);
     assert_none(&rt, rt.alloc(), &["tracerd"]);
     assert_none(&rt, rt.alloc(), &[]);

@@ -1,6 +1,6 @@
 //! Lines that rotate a session, at once, step by step or by a schedule.
 
-use super::{Asks, assert_bad, assert_each_asks};
+use super::{Asks, assert_each_asks};
 use tr_command::Request;
 
 const LAST: u64 = 9_000_000_000_000_000_000;
@@ -86,56 +86,4 @@ fn reads_rotations_and_their_steps(rt: HostRuntime) {
     assert_each_asks(&rt, rt.alloc(), &BEGINS);
     assert_each_asks(&rt, rt.alloc(), &NEXTS);
     assert_each_asks(&rt, rt.alloc(), &FINISHES);
-}
-
-static BAD_ROTATIONS: [&str; 8] = [
-    "rotate",
-    "rotate s",
-    "rotate s 1 2",
-    "rotate begin s 1",
-    "rotate s 9000000000000000001",
-    "rotate s -1",
-    "rotate s +1",
-    "rotate s 1 --help",
-];
-
-static BAD_STEPS: [&str; 18] = [
-    "rotate-begin",
-    "rotate-begin s",
-    "rotate-begin s 1 2",
-    "rotate-begin s 9000000000000000001",
-    "rotate-begin s -1",
-    "rotate-begin s x",
-    "rotate-begin s --moment 1",
-    "rotate-begin -h",
-    "rotate-next",
-    "rotate-next s t",
-    "rotate-next s 1",
-    "rotate-next -x",
-    "rotate-next s --help",
-    "rotate-finish",
-    "rotate-finish s t",
-    "rotate-finish s 1",
-    "rotate-finish -x",
-    "rotate-finish -h",
-];
-
-static PARTS_OF_THE_WORDS: [&str; 10] = [
-    "rotate-b s 1",
-    "rotate-begi s 1",
-    "rotate-begins s 1",
-    "rotate-n s",
-    "rotate-f s",
-    "rotate- s 1",
-    "rotat s 1",
-    "rotate_begin s 1",
-    "Rotate s 1",
-    "-rotate s 1",
-];
-
-#[test]
-fn refuses_rotations_and_their_steps(rt: HostRuntime) {
-    assert_bad(&rt, rt.alloc(), &BAD_ROTATIONS);
-    assert_bad(&rt, rt.alloc(), &BAD_STEPS);
-    assert_bad(&rt, rt.alloc(), &PARTS_OF_THE_WORDS);
 }

@@ -1,6 +1,6 @@
 //! Lines that start and stop a session, and those for its streams while it runs.
 
-use super::{Asks, assert_bad, assert_each_asks};
+use super::{Asks, assert_each_asks};
 use tr_command::Request;
 
 const LAST: u64 = 9_000_000_000_000_000_000;
@@ -108,64 +108,4 @@ static LARGEST: [Asks<'static>; 1] = [(
 fn reads_offers(rt: HostRuntime) {
     assert_each_asks(&rt, rt.alloc(), &LARGEST);
     assert_each_asks(&rt, rt.alloc(), &OFFERS);
-}
-
-static BAD_STARTS_AND_STOPS: [&str; 11] = [
-    "start s",
-    "start s 1 2",
-    "start s 9000000000000000001",
-    "start s 1_000",
-    "start s 0x1",
-    "stop",
-    "stop s t",
-    "stop s 1",
-    "stop -x",
-    "stop -h",
-    "stop s --help",
-];
-
-static BAD_OFFERS: [&str; 7] = [
-    "offer s 0 1",
-    "offer s 0 1 7 8",
-    "offer -h",
-    "offer s 0 1 7 --help",
-    "offer s 0 1 4294967296",
-    "offer s 0 9000000000000000001 7",
-    "offer s 18446744073709551616 1 7",
-];
-
-static BAD_OPTIONS: [&str; 16] = [
-    "offer s 0 1 7 --nope",
-    "offer s 0 1 7 -t a",
-    "offer s 0 1 7 --te a",
-    "offer s 0 1 7 --text",
-    "offer s 0 1 7 --text -x",
-    "offer s 0 1 7 --text --fill",
-    "offer s 0 1 7 --text -- a",
-    "offer s 0 1 7 -- --text a",
-    "offer s 0 1 7 --text a --text b",
-    // fills
-    "offer s 0 1 7 --fill 3 --fill 4",
-    "offer s 0 1 7 --fill -3",
-    "offer s 0 1 7 --fill=",
-    "offer s 0 1 7 --fill=-3",
-    "offer s 0 1 7 --fill +3",
-    "offer s 0 1 7 --fill 65537",
-    "offer s 0 1 7 --fill x",
-];
-
-static BAD_CONSUMES: [&str; 5] = [
-    "consume s",
-    "consume s -1",
-    "consume s 18446744073709551616",
-    "consume s +0",
-    "consume s ",
-];
-
-#[test]
-fn refuses_starts_stops_offers_and_consumes(rt: HostRuntime) {
-    assert_bad(&rt, rt.alloc(), &BAD_STARTS_AND_STOPS);
-    assert_bad(&rt, rt.alloc(), &BAD_OFFERS);
-    assert_bad(&rt, rt.alloc(), &BAD_OPTIONS);
-    assert_bad(&rt, rt.alloc(), &BAD_CONSUMES);
 }

@@ -1,6 +1,6 @@
 //! Lines of rotations by a schedule.
 
-use super::{Asks, assert_bad, assert_each_asks};
+use super::{Asks, assert_each_asks};
 use tr_command::Request;
 
 const LAST: u64 = 9_000_000_000_000_000_000;
@@ -64,66 +64,4 @@ static TICKS: [Asks<'static>; 6] = [
 fn reads_schedules_and_ticks(rt: HostRuntime) {
     assert_each_asks(&rt, rt.alloc(), &SCHEDULES);
     assert_each_asks(&rt, rt.alloc(), &TICKS);
-}
-
-static BAD_SCHEDULES: [&str; 10] = [
-    "schedule",
-    "schedule --every 5",
-    "schedule s t",
-    "schedule s 5 7",
-    "schedule s --every 5 7",
-    "schedule -x",
-    "schedule -h",
-    "schedule s --help",
-    "schedul s",
-    "Schedule s",
-];
-
-static BAD_SCHEDULE_OPTIONS: [&str; 18] = [
-    "schedule s --every",
-    "schedule s --size",
-    "schedule s --every --size 7",
-    "schedule s --every 5 --every 6",
-    "schedule s --size 7 --size=7",
-    "schedule s --ever 5",
-    "schedule s --siz 7",
-    "schedule s -e 5",
-    "schedule s -- --every 5",
-    // numbers
-    "schedule s --every 18446744073709551616",
-    "schedule s --size 18446744073709551616",
-    "schedule s --every -1",
-    "schedule s --every=-1",
-    "schedule s --every +1",
-    "schedule s --size +1",
-    "schedule s --every=",
-    "schedule s --size x",
-    "schedule s --size 1.5",
-];
-
-/// The last six are of bad moments.
-static BAD_TICKS: [&str; 16] = [
-    "tick",
-    "tick s",
-    "tick s 1 2",
-    "tick -x 1",
-    "tick s --moment 1",
-    "tick s 1 --every 5",
-    "tick -h",
-    "tick s 1 --help",
-    "tic s 1",
-    "Tick s 1",
-    "tick s 9000000000000000001",
-    "tick s -1",
-    "tick s +1",
-    "tick s x",
-    "tick s ",
-    "tick s 1_000",
-];
-
-#[test]
-fn refuses_schedules_and_ticks(rt: HostRuntime) {
-    assert_bad(&rt, rt.alloc(), &BAD_SCHEDULES);
-    assert_bad(&rt, rt.alloc(), &BAD_SCHEDULE_OPTIONS);
-    assert_bad(&rt, rt.alloc(), &BAD_TICKS);
 }

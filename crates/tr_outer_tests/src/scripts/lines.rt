@@ -1,49 +1,13 @@
-//! Lines one by one: what is answered, refused, bad and skipped.
+//! Lines, however a script is cut, and which are skipped.
 
 use super::{Case, OPENED, OPENING, SIX_ANSWERS, SIX_OFFERS, assert_all, assert_answered};
 
-/// A record that fills a sub-buffer, one that fits none, and an empty one.
-const SIZES: &str = "offer s 0 1 7 --fill 152
-offer s 0 2 7 --fill 153
-offer s 0 3 7
-";
-
-const SIZES_ANSWERS: &str = "stored 0 in 0
-refused O2 TooBig
-stored 1 in 1
-";
-
-/// Moments that go back, and the last one.
-const MOMENTS: &str = "offer s 0 9 1
-offer s 0 5 1
-offer s 0 9000000000000000001 1
-offer s 0 9000000000000000000 1
-";
-
-const MOMENTS_ANSWERS: &str = "stored 0 in 0
-stored 1 in 0
-bad line
-stored 2 in 0
-";
-
-static CASES: [Case; 6] = [
+static CASES: [Case; 4] = [
     (
         "offers, a take and a status",
         &[OPENING, SIX_OFFERS],
         &[OPENED, SIX_ANSWERS],
         0,
-    ),
-    (
-        "what fits no sub-buffer",
-        &[OPENING, SIZES],
-        &[OPENED, SIZES_ANSWERS],
-        1,
-    ),
-    (
-        "moments up to the last",
-        &[OPENING, MOMENTS],
-        &[OPENED, MOMENTS_ANSWERS],
-        1,
     ),
     (
         "a refused last line",

@@ -1,0 +1,99 @@
+//! Audits of folders that can't be read.
+
+ghost use Rattle.std.specs.Prelude.{◌≡◌};
+ghost use Rattle.tr_folders.specs.Failures.{read_failures};
+
+use super::assert_same;
+use std::alloc::Global;
+use std::sync::Wait;
+use std::thread::Threads;
+use std::time::Clock;
+use tr_export::MemoryDisk;
+use tr_folders::{Folders, ReadFault};
+use tr_program::run;
+use tr_record::{MemorySink, MemorySource};
+
+/// Folders that can't be read.
+#[derive(Drop)]
+struct Unreadable {
+    fault: ReadFault,
+    failures: u64,
+}
+
+impl Unreadable {
+    fn fail(&mut self) -> ReadFault
+        ensures { self.new.failures ≡ read_failures result self.old.failures }
+    {
+        match self.fault {
+            ReadFault::Read => {
+                self.failures = self.failures.wrapping_add(1);
+                ReadFault::Read
+            }
+            ReadFault::NoMemory => ReadFault::NoMemory,
+        }
+    }
+}
+
+impl Folders for Unreadable {
+    ghost use Rattle.std.specs.Prelude.{None};
+
+    ghost tree = { λ _. None };
+
+    ghost left = { λ _. None };
+
+    ghost given = { λ _. 0 };
+
+    ghost failures = { λ s. s.failures };
+
+    fn names_in(&mut self, _alloc: Global, _path: &str) -> Result<Option<Vec<String>>, ReadFault> {
+        Err(self.fail())
+    }
+
+    fn open(&mut self, _path: &str) -> Result<bool, ReadFault> {
+        Err(self.fail())
+    }
+
+    fn read(&mut self, _buffer: &mut [u8]) -> Result<usize, ReadFault> {
+        Err(self.fail())
+    }
+}
+
+/// The status of `audit d` where folders fail so, whether nothing went out and no file was made, and whether this line went to
+/// standard error.
+fn audited<R: Threads + Wait + Clock + Sync>(
+    rt: &R,
+    alloc: Global,
+    fault: ReadFault,
+    line: &str,
+) -> (u8, bool, bool) {
+    let mut out = MemorySink::new(alloc, 4096);
+    let mut err = MemorySink::new(alloc, 4096);
+    let mut disk = MemoryDisk::new(alloc, 4096);
+    let status = run(
+        rt,
+        alloc,
+        &["audit", "d"],
+        &mut MemorySource::new(b"", 4096),
+        &mut out,
+        &mut err,
+        &mut disk,
+        &mut Unreadable { fault, failures: 0 },
+    );
+    let untouched = disk.made().is_empty() && out.into_bytes().is_empty();
+    (
+        status,
+        untouched,
+        err.into_bytes().as_slice() == line.as_bytes(),
+    )
+}
+
+#[test]
+fn folders_that_cannot_be_read_are_told(rt: HostRuntime) {
+    for (fault, status, line) in [
+        (ReadFault::Read, 3, "tracerd: read or write fault\n"),
+        (ReadFault::NoMemory, 4, "tracerd: no memory\n"),
+    ] {
+        let found = audited(&rt, rt.alloc(), fault, line);
+        assert_same(&rt, found, (status, true, true));
+    }
+}
