@@ -1,47 +1,18 @@
 //! Sources and sinks that fail, scripts of the greatest length, and how the faults print.
 
 use super::{OPENED, OPENING, SIX_ANSWERS, SIX_OFFERS, assert_same, joined, run};
+use crate::breaking::{Breaking, Filling};
 use std::alloc::Global;
 use std::cell::Cell;
 use std::process::Abort;
 use tr_console::{ScriptFault, run_text};
 use tr_record::{ByteSink, ByteSource, Failed, MemorySink, MemorySource};
 
-/// Gives bytes one at a time, and then fails.
-#[derive(Drop)]
-struct Breaking<'a> {
-    bytes: &'a [u8],
-    failures: u64,
-}
-
-impl ByteSource for Breaking<'_> {
-    ghost use Rattle.std.specs.Prelude.{None};
-
-    ghost given = { λ _. None };
-
-    ghost content = { λ _. None };
-
-    ghost failures = { λ s. s.failures };
-
-    fn get(&mut self, b: &mut [u8]) -> Result<usize, Failed> {
-        match self.bytes {
-            [first, rest @ ..] => {
-                b[0] = *first;
-                self.bytes = rest;
-                Ok(1)
-            }
-            [] => {
-                self.failures = self.failures.wrapping_add(1);
-                Err(Failed)
-            }
-        }
-    }
-}
-
 /// Asserts the answer to the first bytes of a script, where the source fails after that.
 fn assert_broken(rt: &impl Abort, alloc: Global, given: usize, answer: &[u8]) {
     let mut source = Breaking {
         bytes: OPENING.as_bytes().get(..given).expect(rt, "bytes"),
+        line: 0,
         failures: 0,
     };
     let mut sink = MemorySink::new(alloc, 1);
@@ -130,30 +101,6 @@ fn answers_a_line_before_it_asks_for_the_next(rt: HostRuntime) {
     let found = run(alloc, alloc, &mut source, &mut Counting(&answered));
     assert_same(&rt, found, Ok(2));
     assert_same(&rt, (source.given, source.is_late), (4, false));
-}
-
-/// Takes bytes one at a time while it has room, and then fails.
-#[derive(Drop)]
-struct Filling {
-    taken: Vec<u8>,
-    room: usize,
-    failures: u64,
-}
-
-impl ByteSink for Filling {
-    ghost use Rattle.std.specs.Prelude.{None};
-
-    ghost taken = { λ _. None };
-
-    ghost failures = { λ s. s.failures };
-
-    fn put(&mut self, b: &[u8]) -> Result<usize, Failed> {
-        if self.taken.len() < self.room && self.taken.push(b[0]).is_ok() {
-            return Ok(1);
-        }
-        self.failures = self.failures.wrapping_add(1);
-        Err(Failed)
-    }
 }
 
 /// Asserts that a script breaks off where the sink has taken this many bytes of its answer.

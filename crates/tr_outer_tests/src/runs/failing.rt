@@ -4,6 +4,7 @@ ghost use Rattle.std.specs.Prelude.{◌≡◌, OnOk, OnErr, option_map};
 ghost use Rattle.tr_record.specs.Bytes.{once_more};
 
 use super::{assert_same, no_folders};
+use crate::breaking::{Breaking, Filling};
 use std::alloc::Global;
 use std::sync::Wait;
 use std::thread::Threads;
@@ -63,64 +64,6 @@ static LOAD: [&str; 9] = [
 
 const REPORT: &[u8] =
     b"threads 1\noffered 3\ndiscarded 0\noverwritten 0\nin ring 0\nin chunks 3\nreconciled\n";
-
-/// Gives bytes one at a time, then a line of this many bytes, and then fails.
-#[derive(Drop)]
-struct Breaking<'a> {
-    bytes: &'a [u8],
-    line: usize,
-    failures: u64,
-}
-
-impl ByteSource for Breaking<'_> {
-    ghost use Rattle.std.specs.Prelude.{None};
-
-    ghost given = { λ _. None };
-
-    ghost content = { λ _. None };
-
-    ghost failures = { λ s. s.failures };
-
-    fn get(&mut self, b: &mut [u8]) -> Result<usize, Failed> {
-        if let [first, rest @ ..] = self.bytes {
-            b[0] = *first;
-            self.bytes = rest;
-            return Ok(1);
-        }
-        let count = self.line.min(b.len());
-        if count == 0 {
-            self.failures = self.failures.wrapping_add(1);
-            return Err(Failed);
-        }
-        b[..count].fill(b'a');
-        self.line -= count;
-        Ok(count)
-    }
-}
-
-/// Takes bytes one at a time while it has room, and then fails.
-#[derive(Drop)]
-struct Filling {
-    taken: Vec<u8>,
-    room: usize,
-    failures: u64,
-}
-
-impl ByteSink for Filling {
-    ghost use Rattle.std.specs.Prelude.{None};
-
-    ghost taken = { λ _. None };
-
-    ghost failures = { λ s. s.failures };
-
-    fn put(&mut self, b: &[u8]) -> Result<usize, Failed> {
-        if self.taken.len() < self.room && self.taken.push(b[0]).is_ok() {
-            return Ok(1);
-        }
-        self.failures = self.failures.wrapping_add(1);
-        Err(Failed)
-    }
-}
 
 /// A file that takes all, and keeps nothing.
 #[derive(Drop)]
