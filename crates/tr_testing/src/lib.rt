@@ -1,9 +1,11 @@
 //! What the tests of several crates share. No crate of the program stands on it.
 #![tactic(auto)]
 
+mod breaking;
 mod failing;
 mod full;
 
+pub use breaking::{Breaking, Filling};
 pub use failing::FailsAfter;
 pub use full::fill;
 use tr_terms::Moment;

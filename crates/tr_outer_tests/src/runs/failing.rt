@@ -4,7 +4,6 @@ ghost use Rattle.std.specs.Prelude.{◌≡◌, OnOk, OnErr, option_map};
 ghost use Rattle.tr_record.specs.Bytes.{once_more};
 
 use super::{assert_same, no_folders};
-use crate::breaking::{Breaking, Filling};
 use std::alloc::Global;
 use std::sync::Wait;
 use std::thread::Threads;
@@ -12,6 +11,7 @@ use std::time::Clock;
 use tr_export::Disk;
 use tr_program::run;
 use tr_record::{ByteSink, ByteSource, Failed, MemorySink, MemorySource};
+use tr_testing::{Breaking, Filling};
 
 /// A session with one stream and an archive without records: a folder and two files.
 const SCRIPT: &[u8] = b"create s 00000000-0000-0000-0000-000000000001

@@ -1,12 +1,12 @@
 //! Sources and sinks that fail, scripts of the greatest length, and how the faults print.
 
 use super::{OPENED, OPENING, SIX_ANSWERS, SIX_OFFERS, assert_same, joined, run};
-use crate::breaking::{Breaking, Filling};
 use std::alloc::Global;
 use std::cell::Cell;
 use std::process::Abort;
 use tr_console::{ScriptFault, run_text};
 use tr_record::{ByteSink, ByteSource, Failed, MemorySink, MemorySource};
+use tr_testing::{Breaking, Filling};
 
 /// Asserts the answer to the first bytes of a script, where the source fails after that.
 fn assert_broken(rt: &impl Abort, alloc: Global, given: usize, answer: &[u8]) {

@@ -4,10 +4,13 @@ use tr_record::{ByteSink, ByteSource, Failed};
 
 /// Gives bytes one at a time, then a line of this many bytes, and then fails.
 #[derive(Drop)]
-pub(crate) struct Breaking<'a> {
-    pub(crate) bytes: &'a [u8],
-    pub(crate) line: usize,
-    pub(crate) failures: u64,
+pub struct Breaking<'a> {
+    /// The bytes that are left.
+    pub bytes: &'a [u8],
+    /// How long the line still is.
+    pub line: usize,
+    /// How often it failed.
+    pub failures: u64,
 }
 
 impl ByteSource for Breaking<'_> {
@@ -38,10 +41,13 @@ impl ByteSource for Breaking<'_> {
 
 /// Takes bytes one at a time while it has room, and then fails.
 #[derive(Drop)]
-pub(crate) struct Filling {
-    pub(crate) taken: Vec<u8>,
-    pub(crate) room: usize,
-    pub(crate) failures: u64,
+pub struct Filling {
+    /// The bytes that it took.
+    pub taken: Vec<u8>,
+    /// How many it has room for.
+    pub room: usize,
+    /// How often it failed.
+    pub failures: u64,
 }
 
 impl ByteSink for Filling {
