@@ -1,6 +1,6 @@
-//! The tests of what is read and written outside a session: archives in memory, disks that fail, and surveys of folders in
-//! memory (tr_folders, tr_export, tr_survey); loads and their logs (tr_load), and runs of the program in which its surroundings
-//! fail it (tr_program). Whole runs, and archives in the file system, are in `examples`.
+//! The tests of what goes into sessions and out of them: the command language, with what each line asks for and runs of scripts
+//! in which reading, writing or memory fails (tr_command, tr_console); archives in memory, disks that fail, and surveys of
+//! folders in memory (tr_folders, tr_export, tr_survey). Whole scripts, and archives in the file system, are in `examples`.
 #![tactic(auto)]
 
 #[cfg(test)]
@@ -8,8 +8,8 @@ mod archives;
 #[cfg(test)]
 mod asserting;
 #[cfg(test)]
-mod loads;
+mod command_lines;
 #[cfg(test)]
-mod runs;
+mod scripts;
 #[cfg(test)]
 mod surveys;

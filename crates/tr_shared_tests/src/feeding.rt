@@ -41,6 +41,18 @@ pub(crate) fn items(rt: &impl Abort, alloc: Global, count: u8) -> Vec<Item> {
     items
 }
 
+/// Asserts that this is the item of number `k`.
+pub(crate) fn assert_item(rt: &impl Abort, alloc: Global, found: &Item, k: u8) {
+    let item = item(rt, alloc, k);
+    assert_same(rt, found.moment.get(), item.moment.get());
+    assert_same(rt, found.id, item.id);
+    assert_same(
+        rt,
+        found.payload.as_slice() == item.payload.as_slice(),
+        true,
+    );
+}
+
 /// Asserts that the ring of the first stream has exactly these items.
 fn assert_in_ring(rt: &impl Abort, alloc: Global, settled: &Settled, count: u8) {
     let stream = settled.session().stream(0).expect(rt, "a stream");
@@ -70,7 +82,11 @@ fn feeds<N: Names + Send + Sync, R: Threads + Wait + Abort + Sync>(
     let mut producers = Vec::new(alloc);
     'fed: for logged in fed {
         let (producer, log) = logged.into_items();
-        assert_same(rt, log.as_slice().len(), 153);
+        let log = log.into_vec();
+        assert_same(rt, log.len(), 153);
+        'items: for (found, k) in log.iter().zip(0..153) {
+            assert_item(rt, alloc, found, k);
+        }
         producers.push(producer).expect(rt, "memory");
     }
     let answer = shared.settle(producers, Vec::new(alloc));

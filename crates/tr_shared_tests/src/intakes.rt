@@ -1,6 +1,6 @@
 //! Feeders on an intake that is no session, and a worker beside them on a target that is none.
 
-use crate::feeding::{TRIES, item, items};
+use crate::feeding::{TRIES, assert_item, items};
 use crate::plans::{assert_same, granted};
 use std::alloc::Global;
 use std::process::Abort;
@@ -64,14 +64,7 @@ fn assert_fed(
     let log = log.into_vec();
     assert_same(rt, log.len(), logged.len());
     'items: for (found, k) in log.iter().zip(logged) {
-        let item = item(rt, alloc, *k);
-        assert_same(rt, found.moment.get(), item.moment.get());
-        assert_same(rt, found.id, item.id);
-        assert_same(
-            rt,
-            found.payload.as_slice() == item.payload.as_slice(),
-            true,
-        );
+        assert_item(rt, alloc, found, *k);
     }
 }
 

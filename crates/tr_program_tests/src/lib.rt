@@ -1,0 +1,10 @@
+//! The tests of what stands on everything else: loads and their logs (tr_load), and runs of the program in which its
+//! surroundings fail it (tr_program). Whole runs are in `examples`.
+#![tactic(auto)]
+
+#[cfg(test)]
+mod asserting;
+#[cfg(test)]
+mod loads;
+#[cfg(test)]
+mod runs;
