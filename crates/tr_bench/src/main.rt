@@ -146,7 +146,7 @@ fn fill(rt: &impl Print, alloc: Global, length: u64, rounds: u64) -> io::Result<
     }
 }
 
-/// Reads packets from the input, and reads them again in so many rounds.
+/// Reads packets from the input, and reads them again in this many rounds.
 fn read(
     rt: &impl Print,
     alloc: Global,

@@ -134,7 +134,7 @@ fn feed(stream: &mut Stream, numbers: Range<u64>, before: u64) -> Result<u64, Of
     Ok(sum)
 }
 
-/// The sum with the answers to all offers of a round, and to a take after each so many of them.
+/// The sum with the answers to all offers of a round, and to a take after each batch of them.
 fn feed_and_take(stream: &mut Stream, before: u64) -> Result<u64, OfferFault> {
     let mut sum = before;
     for turn in 0..OFFERS / OFFERS_A_TAKE {

@@ -1,11 +1,10 @@
 //! The audit of a stream's files.
 
-ghost use Rattle.std.specs.Prelude.{◌≡◌, ◌++◌, ◌<◌, ◌≤◌, ℕ, length, List, map, drop, take, Option, Some, None, IfOk, IfErr, MatchResult, OnErr};
-ghost use Rattle.std.specs.List.{flat_map};
+ghost use Rattle.std.specs.Prelude.{◌≡◌, ◌++◌, ◌<◌, ◌≤◌, length, List, map, drop, Option, Some, None, IfOk, IfErr, MatchResult, OnErr};
 ghost use Rattle.tr_packet.specs.Decoding.{Begins};
 ghost use Rattle.tr_packet.specs.Order.{follows};
 ghost use Rattle.tr_packet.specs.Packets.{Contents, packet_size};
-ghost use Rattle.tr_chunk.specs.Audit.{audit_of, after_packet, packet_cause, starts_above, last_number, last_serial, IsCause, StopsIn, StopsAt, AreAudited, Tells, all_of};
+ghost use Rattle.tr_chunk.specs.Audit.{audit_of, after_packet, packet_cause, starts_above, last_serial, IsCause, StopsIn, StopsAt, AreAudited, Tells, all_of};
 ghost use Rattle.tr_chunk.specs.Files.{packets_text};
 ghost use Rattle.tr_chunk.specs.declared.audit_fault.AuditCause.TheVariants.{NoMemory};
 

@@ -1,6 +1,6 @@
 //! The audit of a stream's files as their bytes come.
 
-ghost use Rattle.std.specs.Prelude.{◌≡◌, ◌≢◌, ◌+◌, ◌-◌, ◌++◌, ◌<◌, ◌≤◌, ◌^◌, ◌∷◌, [], ℕ, List, length, take, drop, Ok, Some, None, IfOk, IfErr, IfNone, IfSome, MatchResult, Err};
+ghost use Rattle.std.specs.Prelude.{◌≡◌, ◌≢◌, ◌+◌, ◌-◌, ◌++◌, ◌<◌, ◌≤◌, ◌^◌, ◌∷◌, [], ℕ, List, length, drop, Ok, Some, None, IfOk, IfErr, IfNone, IfSome, MatchResult, Err};
 ghost use Rattle.tr_packet.specs.Decoding.{Begins};
 ghost use Rattle.tr_packet.specs.Packets.{Contents, packet_size};
 ghost use Rattle.tr_packet.specs.declared.fault.PacketFault.TheVariants.{Short};

@@ -1,6 +1,6 @@
 //! Laws of audits.
 
-ghost use Rattle.std.specs.Prelude.{◌≡◌, ◌&&◌, ℕ, List, Option, Some, None, nat_lt, not, IsTrue};
+ghost use Rattle.std.specs.Prelude.{◌≡◌, ◌&&◌, ℕ, List, Some, None, nat_lt, not, IsTrue};
 ghost use Rattle.std.specs.List.{AllByRecursion, last_or};
 ghost use Rattle.tr_chunk.specs.Audit.{gaps_behind, numbers_rise_after, is_in_runs, is_one_of, IsLongest};
 

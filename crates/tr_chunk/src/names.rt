@@ -7,7 +7,7 @@ ghost use Rattle.tr_chunk.specs.Files.{file_name};
 use std::alloc::{AllocError, Allocator};
 use tr_terms::Name;
 
-/// The name of a stream's file: its channel's, an underscore and its number.
+/// The name of a stream's file: its channel's, an underscore and its number. Fails if an allocation fails.
 pub fn stream_file_name<A: Allocator>(
     alloc: A,
     channel: &Name<'_>,

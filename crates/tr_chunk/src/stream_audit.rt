@@ -22,25 +22,11 @@ impl<A: Allocator> Model for Gaps<A> {
 }
 
 impl<A: Allocator> Gaps<A> {
-    /// Gaps with these runs. It takes no memory.
-    pub fn new(runs: Vec<(u64, u64), A>) -> Gaps<A>
-        ensures { result ≡ runs.items }
-    {
-        Gaps { runs }
-    }
-
     /// The runs, each as its first number and its length.
     pub fn as_slice(&self) -> &[(u64, u64)]
         ensures { result.now ≡ self.now }
     {
         self.runs.as_slice()
-    }
-
-    /// The runs, moved out.
-    pub fn into_runs(self) -> Vec<(u64, u64), A>
-        ensures { result.items ≡ self }
-    {
-        self.runs
     }
 
     /// Adds the numbers that are absent between two numbers, or below the first one. It takes memory if there are some.
@@ -86,7 +72,9 @@ impl<A: Allocator> StreamAudit<A> {
         StreamAudit {
             packets: 0,
             records: 0,
-            gaps: Gaps::new(Vec::new(alloc)),
+            gaps: Gaps {
+                runs: Vec::new(alloc),
+            },
             last_seq: None,
             last_serial: None,
             last_discarded: 0,

@@ -121,8 +121,8 @@ pub fn with_program<'a>(alloc: Global, words: &[&'a str]) -> Result<Vec<&'a str>
     Ok(all)
 }
 
-/// What the words ask for, the program's name first. None: they are no command line of this program. Neither is help, a
-/// folder with an empty name, or a load with a number that is missing, not a number, or not within its limits.
+/// What the words ask for, the program's name first. None if they are no command line of this program; that includes help,
+/// a folder with an empty name, and a load with a number that is missing, not a number, or not within its limits.
 pub fn job_of<'a>(alloc: Global, words: &'a [&'a str]) -> Result<Option<Job<'a>>, AllocError>
     ensures value { IfOk result (λ job. option_map task_of job ≡ job_of (map (λ w. w.now) words.entry.now)) }
     ensures within { IfOk result (λ job. IfSome job IsWithinLimits) }

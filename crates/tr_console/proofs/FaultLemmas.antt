@@ -1,5 +1,5 @@
 -- Which fault of a run came from where.
-use Rattle.std.proofs.Common.{◌≡◌, ◌≤◌, Bool, true, false, refl, arith, Result, Ok, Err}
+use Rattle.std.proofs.Common.{◌≡◌, Bool, true, false, refl, Result, Ok, Err}
 use Rattle.std.specs.Result.{IsErrAnd}
 use Rattle.tr_console.proofs.LineSteps.{one_if}
 use Rattle.tr_console.specs.ScriptFaults.{reading_fault}
@@ -36,10 +36,6 @@ ok_is_no_err x y e = cc
 pub byte-one : (b : Bool) → bool_byte b ≡ one_if b
 byte-one true = refl
 byte-one false = refl
-
-pub byte-le : (b : Bool) → bool_byte b ≤ 1
-byte-le true = omega arith
-byte-le false = omega arith
 
 -- a reader never fails to write
 pub reading_fault-Write : (f : ReadFault) → reading_fault f ≡ script.Write → ⊥

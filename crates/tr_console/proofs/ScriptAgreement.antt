@@ -7,7 +7,7 @@ use Rattle.tr_command.specs.Language.{asked_of}
 use Rattle.tr_console.proofs.WorldAgreement.{StepsAgree, answers-agree}
 use Rattle.tr_console.specs.Agreement.{WorldsAgree}
 use Rattle.tr_console.specs.Answers.{request_step}
-use Rattle.tr_console.specs.Script.{words_step, text_step, line_step, answers, world_after, refused_in}
+use Rattle.tr_console.specs.Script.{words_step, text_step, line_step, answers, world_after}
 use Rattle.tr_console.specs.Steps.{bad_line_step, skipped_step}
 use Rattle.tr_lines.specs.Lines.{text_of_line}
 use Rattle.tr_lines.specs.Words.{words_of, is_skipped}
@@ -57,12 +57,3 @@ pub agree-after : (lines : List (List ℕ)) (v : World StreamState) (w : World T
 agree-after [] v w is = is
 agree-after (line ∷ lines) v w is =
     agree-after lines (line_step by_state v line).world (line_step by_history w line).world (line-agree line v w is).world
-
-pub same-refused : (lines : List (List ℕ)) (v : World StreamState) (w : World Traced) → WorldsAgree v w
-    → refused_in by_state v lines ≡ refused_in by_history w lines
-same-refused [] v w is = refl
-same-refused (line ∷ lines) v w is =
-    let step = line-agree line v w is in
-    let rest = same-refused lines (line_step by_state v line).world (line_step by_history w line).world step.world in
-    let flag = step.is_refused in
-    cc

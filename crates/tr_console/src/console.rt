@@ -67,7 +67,7 @@ fn payload<A: Allocator + Copy>(alloc: A, text: &str, fill: u32) -> Result<Vec<u
 
 impl<A: Allocator + Copy> Console<A> {
     /// A console without sessions. It takes no memory.
-    pub fn new(alloc: A) -> Console<A>
+    pub(crate) fn new(alloc: A) -> Console<A>
         ensures { result ≡ [] }
     {
         Console {

@@ -1,6 +1,6 @@
 //! Where folders and files are read, for code that must not know whether it is a file system.
 
-ghost use Rattle.std.specs.Prelude.{◌≡◌, ◌+◌, ◌<◌, ◌≤◌, ◌++◌, [], ℕ, List, Option, Some, None, Ok, IfOk, OnOk, OnErr, length, take};
+ghost use Rattle.std.specs.Prelude.{◌≡◌, ◌+◌, ◌<◌, ◌≤◌, ℕ, List, Option, Some, None, IfOk, OnOk, OnErr, length, take};
 ghost use Rattle.std.specs.Option.{option_map};
 ghost use Rattle.tr_folders.specs.Failures.{after_reading};
 ghost use Rattle.tr_folders.specs.Tree.{Opens, Reads, Tree, by_text};
@@ -31,7 +31,8 @@ pub trait Folders {
         ensures given { given self.new ≡ given self.old }
         ensures failures { failures self.new ≡ after_reading result (failures self.old) };
 
-    /// Opens a file for reading, in place of the one that was open. False if no file stands there.
+    /// Opens a file for reading, in place of the one that was open. False if no file stands there: then, and after a fault,
+    /// nothing is said of which file is open.
     fn open(&mut self, path: &str) -> Result<bool, ReadFault>
         ensures opens { IfOk result (λ is_file. (t : Tree) → tree self.old ≡ Some t
             → Opens (t.bytes path.now) is_file (left self.new)) }

@@ -6,7 +6,11 @@ ghost use Rattle.tr_folders.specs.Failures.{after_reading};
 use crate::faults::ReadFault;
 use crate::folders::Folders;
 
-/// Reads the open file until the buffer is full or the file ends. How many bytes are there.
+/// Reads the open file until the buffer is full or the file ends, and returns how many bytes are there.
+///
+/// # Errors
+///
+/// Those of `Folders::read`: what was read before is lost.
 pub fn read_front<F: Folders>(folders: &mut F, buffer: &mut [u8]) -> Result<usize, ReadFault>
     ensures count { IfOk result (λ n. n ≤ length buffer.new) }
     ensures front { IfOk result (λ n. (bytes : List ℕ) → F.left folders.old ≡ Some bytes

@@ -18,7 +18,7 @@ use tr_terms::{Mode, Name, OffsetMinutes, SessionMode};
 use tr_testing::moment;
 use uuid::Uuid;
 
-/// An archive's number, its begin and its end.
+/// An archive's number, its beginning and its end.
 type Row = (u64, u64, u64);
 
 /// A call of a session and what it answers, or something that can be seen of the session.
@@ -35,9 +35,9 @@ enum Step {
     Stop(Result<(), SessionFault>),
     /// A schedule's period and size.
     Schedule(Option<(u64, Option<u64>)>, Result<(), SessionFault>),
-    /// An offer to a stream, at this moment, of a payload of so many bytes.
+    /// An offer to a stream, at this moment, of a payload of this many bytes.
     Offer((u64, u64, usize), Result<Offered, StepFault>),
-    /// Offers to stream 0 that are accepted, at the moments from the first up to the second, of so many bytes.
+    /// Offers to stream 0 that are accepted, at the moments from the first up to the second, of this many bytes.
     Offers(u64, u64, usize),
     Take(u64, Result<Taken, StepFault>),
     /// A whole rotation at this moment.

@@ -38,9 +38,9 @@ enum Step {
     /// From now on the stream takes offers.
     Start,
     Stop,
-    /// An offer at this moment of so many bytes, all 97.
+    /// An offer at this moment of this many bytes, all 97.
     Offer(u64, usize, Result<Offered, OfferFault>),
-    /// Offers at the moments from the first up to the second of so many bytes, whatever the answers.
+    /// Offers at the moments from the first up to the second of this many bytes, whatever the answers.
     Offers(u64, u64, usize),
     Take(Result<Taken, TakeFault>),
     /// A cut at this moment.

@@ -2,3 +2,4 @@ pub mod JudgeLaws
 pub mod LoadLaws
 pub mod ReportLaws
 pub mod TellLaws
+pub mod WorkLaws

@@ -1,7 +1,7 @@
 //! What is done with a load when its threads have ended.
 
-ghost use Rattle.std.specs.Prelude.{◌≡◌, IfOk, length, map};
-ghost use Rattle.tr_load.specs.Loads.{IsJudged, log_in};
+ghost use Rattle.std.specs.Prelude.{◌≡◌, IfOk, IsTrue, map};
+ghost use Rattle.tr_load.specs.Loads.{AllHave, IsEnded, IsJudged, log_in};
 ghost use Rattle.tr_seats.specs.Settling.{IsSessionOf};
 
 use crate::loaded::{LoadFault, Loaded};
@@ -10,6 +10,8 @@ use crate::reconciling::reconcile;
 use crate::report::{Mismatch, Report};
 use std::alloc::{AllocError, Global};
 use tr_pool::LoggedProducer;
+use tr_session::Session;
+use tr_session_book::State;
 use tr_shared::{Drainer, Names, Producer, Settled, Shared};
 
 /// The producers, and their logs.
@@ -29,6 +31,32 @@ pub(crate) fn parted<N: Names>(
     Ok((producers, logs))
 }
 
+/// Whether each log has as many items as its feeder had records to offer: no offer was refused.
+fn are_whole(logs: &[Log], records: u64) -> bool
+    ensures { IsTrue result → AllHave records logs.now }
+{
+    for i in 0..logs.len() {
+        if logs[i].items.as_slice().len() as u64 != records {
+            return false;
+        }
+    }
+    true
+}
+
+/// Whether the session was stopped, and rotated once, at the moment of this number.
+fn has_ended(session: &Session, moment: u64) -> bool
+    ensures { IsTrue result → IsEnded moment session.now.book }
+{
+    let book = session.book();
+    let [archive] = book.archives() else {
+        return false;
+    };
+    if book.state() != State::Inactive || archive.id != 0 {
+        return false;
+    }
+    archive.begin.get() == 0 && archive.end.get() == moment
+}
+
 /// Whether the logs and the session agree.
 fn judged(settled: &Settled, logs: &[Log]) -> Result<Report, Mismatch>
     ensures { IsJudged logs.now settled.now.streams result }
@@ -37,19 +65,26 @@ fn judged(settled: &Settled, logs: &[Log]) -> Result<Report, Mismatch>
 }
 
 /// Settles the session, and compares it with the logs.
+///
+/// # Errors
+///
+/// `Misplaced` if it isn't settled, wasn't stopped and rotated, or an offer was refused.
 pub(crate) fn settled<N: Names>(
     shared: Shared<N>,
     producers: Vec<Producer<N>>,
     drainers: Vec<Drainer<N>>,
     logs: &[Log],
+    records: u64,
 ) -> Result<Loaded, LoadFault>
-    ensures { IfOk result (λ l. IsJudged logs.now l.settled.streams l.outcome × IsSessionOf N.plan l.settled) }
+    ensures { IfOk result (λ l. IsJudged logs.now l.settled.streams l.outcome × IsSessionOf N.plan l.settled
+        × IsEnded records l.settled.book × AllHave records logs.now) }
 {
-    match shared.settle(producers, drainers) {
-        Ok((settled, _)) => {
-            let outcome = judged(&settled, logs);
-            Ok(Loaded { settled, outcome })
-        }
-        Err(_) => Err(LoadFault::Misplaced),
+    let Ok((settled, _)) = shared.settle(producers, drainers) else {
+        return Err(LoadFault::Misplaced);
+    };
+    if !are_whole(logs, records) || !has_ended(settled.session(), records) {
+        return Err(LoadFault::Misplaced);
     }
+    let outcome = judged(&settled, logs);
+    Ok(Loaded { settled, outcome })
 }

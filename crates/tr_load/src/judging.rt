@@ -1,6 +1,6 @@
 //! Records, each judged by the item at its serial.
 
-ghost use Rattle.std.specs.Prelude.{◌≡◌, ◌↔◌, ◌∷◌, [], IsTrue, length};
+ghost use Rattle.std.specs.Prelude.{◌≡◌, ◌↔◌, ◌∷◌, [], IsTrue};
 ghost use Rattle.tr_book.specs.Parts.{PartState, part_at};
 ghost use Rattle.tr_load.specs.Judging.{Judges};
 ghost use Rattle.tr_load.specs.Logs.{IsLeastWrong, IsLogged, IsRecordOf, held_records, packet_records, part_records};

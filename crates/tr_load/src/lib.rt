@@ -19,11 +19,11 @@ mod texts;
 mod works;
 
 pub use loaded::{LoadFault, Loaded};
-pub use log::{Log, producer_and_log};
+pub use log::Log;
 pub use plan::load_plan;
 pub use reconciling::reconcile;
 pub use report::{Mismatch, Report};
 pub use running::load;
 pub use telling::tell_load;
 pub use texts::outcome_text;
-pub use works::{load_work, load_works};
+pub use works::load_work;

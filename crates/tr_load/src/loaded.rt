@@ -24,6 +24,12 @@ pub enum LoadFault {
 }
 
 impl From<SessionFault> for LoadFault {
+    ghost use Rattle.std.specs.Prelude.{◌≡◌, ◌↔◌};
+    ghost use Rattle.tr_load.specs.declared.loaded.LoadFault.TheVariants.{NoMemory};
+    ghost use Rattle.tr_session_book.specs.declared.faults.SessionFault.TheVariants as session_fault;
+
+    ghost from_gives = { λ given fault. fault ≡ NoMemory ↔ given ≡ session_fault.NoMemory };
+
     fn from(fault: SessionFault) -> LoadFault {
         match fault {
             SessionFault::NoMemory => LoadFault::NoMemory,
@@ -33,6 +39,11 @@ impl From<SessionFault> for LoadFault {
 }
 
 impl From<AllocError> for LoadFault {
+    ghost use Rattle.std.specs.Prelude.{◌≡◌};
+    ghost use Rattle.tr_load.specs.declared.loaded.LoadFault.TheVariants.{NoMemory};
+
+    ghost from_gives = { λ _ fault. fault ≡ NoMemory };
+
     fn from(_: AllocError) -> LoadFault {
         LoadFault::NoMemory
     }

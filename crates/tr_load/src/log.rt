@@ -16,7 +16,7 @@ pub struct Log {
 }
 
 /// A producer without its log, and the log. It takes no memory.
-pub fn producer_and_log<N: Names>(logged: LoggedProducer<Producer<N>>) -> (Producer<N>, Log)
+pub(crate) fn producer_and_log<N: Names>(logged: LoggedProducer<Producer<N>>) -> (Producer<N>, Log)
     ensures producer { result.0 ≡ logged.producer }
     ensures stream { result.1.stream ≡ logged.producer.number }
     ensures items { result.1.items ≡ logged.log.items }

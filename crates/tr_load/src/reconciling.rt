@@ -1,7 +1,7 @@
 //! What was logged beside what a settled session holds.
 
-ghost use Rattle.std.specs.Prelude.{◌≡◌, IfOk, IfErr, IsOk, OnOk, length, option_copied};
-ghost use Rattle.tr_load.specs.Logs.{AgreeBelow, Agrees, HasLog, IsFirstWrong, IsWrong, log_of, report_of, stream_of_mismatch};
+ghost use Rattle.std.specs.Prelude.{◌≡◌, IfOk, IfErr, OnOk, length, option_copied};
+ghost use Rattle.tr_load.specs.Logs.{AgreeBelow, Agrees, IsFirstWrong, IsWrong, log_of, report_of, stream_of_mismatch};
 
 use crate::judging::least_wrong;
 use crate::log::Log;

@@ -39,14 +39,14 @@ impl Report {
 /// What a log and its stream don't agree on.
 #[derive(Clone, Copy, PartialEq, Eq, Debug)]
 pub enum Mismatch {
-    /// A record isn't that of the item at its serial: another id or payload, or a lesser moment.
+    /// M1: a record isn't that of the item at its serial: another id or payload, or a lesser moment.
     WrongRecord {
         /// The number of its stream.
         stream: u64,
         /// Its serial.
         serial: u64,
     },
-    /// A stream has no log, or its first log hasn't as many items as the stream has offers.
+    /// M2: a stream has no log, or its first log hasn't as many items as the stream has offers.
     LogLength {
         /// The number of the stream.
         stream: u64,

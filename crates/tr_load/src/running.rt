@@ -1,4 +1,4 @@
-//! A load from its begin to its end.
+//! A load from its beginning to its end.
 
 ghost use Rattle.std.specs.Prelude.{◌≡◌, ◌≤◌, IfOk, Ok, vec_len};
 ghost use Rattle.tr_load.specs.Loads.{IsLoaded};
@@ -20,7 +20,7 @@ use tr_session_book::SessionFault;
 use tr_shared::{Drainer, Names, Plan, Shared};
 use tr_terms::Moment;
 
-/// So many drainers of a session.
+/// This many drainers of a session.
 fn drainers<N: Names>(
     rt: &impl Wait,
     alloc: Global,
@@ -71,21 +71,21 @@ fn run<N: Names + Send + Sync, R: Threads + Wait + Clock + Sync>(
     shared.stop(rt)?;
     shared.rotate(rt, Moment::within_limit(records))?;
     let (producers, logs) = parted(alloc, fed)?;
-    settled(shared, producers, drainers, logs.as_slice())
+    settled(shared, producers, drainers, logs.as_slice(), records)
 }
 
 /// A load: on a session of its own, started at moment 0, as many feeders as there are `threads` offer `records` records each,
-/// in threads of their own, and so many workers drain them meanwhile, until each has made one more round since the feeders
+/// in threads of their own, and this many workers drain them meanwhile, until each has made one more round since the feeders
 /// ended. Then the session is stopped, rotated at the moment that is the number of records, settled, and compared with what
 /// the feeders logged.
 ///
-/// The feeder of number `t` offers the items of `load_work`. Where the logs and the session don't agree, the session comes
-/// back all the same.
+/// The feeder of number `t` offers the items of `load_work`, and each of them is accepted. Where the logs and the session
+/// don't agree, the session comes back all the same.
 ///
 /// # Errors
 ///
-/// `NoMemory`: memory or a thread was missing. `Misplaced`: a call was refused for another reason. All that was made is gone
-/// then.
+/// `NoMemory`: memory or a thread was missing. `Misplaced`: a call was refused for another reason, be it one offer. All that
+/// was made is gone then.
 pub fn load<R: Threads + Wait + Clock + Sync>(
     rt: &R,
     alloc: Global,

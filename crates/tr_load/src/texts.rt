@@ -1,6 +1,6 @@
 //! What is said of a load.
 
-ghost use Rattle.std.specs.Prelude.{◌≡◌, ◌∷◌, ◌++◌, IfOk, OnOk};
+ghost use Rattle.std.specs.Prelude.{◌≡◌, ◌++◌, IfOk, OnOk};
 ghost use Rattle.std.specs.String.{string_bytes};
 ghost use Rattle.tr_load.specs.Texts.{line, mismatch_text, outcome_text, report_text};
 
@@ -46,7 +46,7 @@ fn mismatch_text(alloc: Global, mismatch: Mismatch) -> Result<String, AllocError
     Ok(text)
 }
 
-/// What is said of a load of so many threads, each line with its line feed: how many threads there were and where the records
+/// What is said of a load of this many threads, each line with its line feed: how many threads there were and where the records
 /// are, a line for each number, and `reconciled`; or one line with the mismatch.
 ///
 /// # Errors

@@ -25,7 +25,7 @@ fn load_item(alloc: Global, t: u32, k: u32) -> Result<Item, AllocError>
     })
 }
 
-/// The work of the feeder of number `t`: so many items, each with 8 bytes of payload.
+/// The work of the feeder of number `t`: this many items, each with 8 bytes of payload.
 ///
 /// # Errors
 ///
@@ -41,12 +41,12 @@ pub fn load_work(alloc: Global, t: u32, records: u64) -> Result<Vec<Item>, Alloc
     Ok(items)
 }
 
-/// The work of each feeder, in order of number: so many items each.
-///
-/// # Errors
-///
-/// Out of memory.
-pub fn load_works(alloc: Global, threads: usize, records: u64) -> Result<Vec<Vec<Item>>, AllocError>
+/// The work of each feeder, in order of number: this many items each.
+pub(crate) fn load_works(
+    alloc: Global,
+    threads: usize,
+    records: u64,
+) -> Result<Vec<Vec<Item>>, AllocError>
     requires threads { threads < 2 ^ 32 }
     requires records { records ≤ MOST_RECORDS }
     ensures len { IfOk result (λ works. vec_len works ≡ threads) }

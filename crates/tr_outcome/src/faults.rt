@@ -71,25 +71,3 @@ impl LineFault {
         }
     }
 }
-
-impl From<SessionFault> for LineFault {
-    ghost use Rattle.std.specs.Prelude.{◌≡◌};
-    ghost use Rattle.tr_outcome.specs.declared.faults.LineFault.TheVariants.{Session};
-
-    ghost from_gives = { λ fault e. e ≡ Session fault };
-
-    fn from(fault: SessionFault) -> LineFault {
-        LineFault::Session(fault)
-    }
-}
-
-impl From<StepFault> for LineFault {
-    ghost use Rattle.std.specs.Prelude.{◌≡◌};
-    ghost use Rattle.tr_outcome.specs.declared.faults.LineFault.TheVariants.{Step};
-
-    ghost from_gives = { λ fault e. e ≡ Step fault };
-
-    fn from(fault: StepFault) -> LineFault {
-        LineFault::Step(fault)
-    }
-}

@@ -234,7 +234,7 @@ whole
     furnished(&rt, rt.alloc(), &WHOLE).says(64, expected, 0);
 }
 
-/// An archive whose end has another offset than its begin.
+/// An archive whose end has another offset than its beginning.
 const WEST: &str = "19700101T000000+0000-19700101T000000-0130-7";
 
 static ARCHIVES: [&str; 6] = [

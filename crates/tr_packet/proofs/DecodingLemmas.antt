@@ -139,12 +139,6 @@ counted n = Ok n
 err_is_ok : (n : ℕ × ℕ) (f : PacketFault) → failed f ≡ counted n → ⊥
 err_is_ok n f e = cc
 
-ok_is_err : (n : ℕ × ℕ) (f : PacketFault) → counted n ≡ failed f → ⊥
-ok_is_err n f e = cc
-
-same_fault : (f g : PacketFault) → failed f ≡ failed g → f ≡ g
-same_fault f g e = cc
-
 same_count : (n m : ℕ × ℕ) → counted n ≡ counted m → n ≡ m
 same_count n m e = cc
 

@@ -122,7 +122,7 @@ fn push_classes<A: Allocator>(text: &mut String<A>) -> Result<(), AllocError>
 }
 
 /// The text that describes to readers of a trace how its packets are laid out, with the trace's identifier in lower-case
-/// hyphenated form.
+/// hyphenated form. Fails if an allocation fails.
 pub fn metadata_text<A: Allocator>(alloc: A, uuid: &Uuid) -> Result<String<A>, AllocError>
     ensures { IfOk result (λ s. string_bytes s ≡ metadata_of uuid.now) }
 {

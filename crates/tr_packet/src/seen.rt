@@ -1,6 +1,6 @@
 //! The order of a packet's records, as they are read.
 
-ghost use Rattle.std.specs.Prelude.{◌≡◌, ◌+◌, ◌<◌, ◌^◌, ◌≤◌, [], Some, length};
+ghost use Rattle.std.specs.Prelude.{◌≡◌, ◌+◌, ◌<◌, ◌^◌, [], Some, length};
 ghost use Rattle.tr_record.specs.Raw.{entry_of};
 ghost use Rattle.tr_record.specs.Whole.{entries_at};
 ghost use Rattle.tr_packet.specs.Seen.{seen_first, seen_next, verdict_after, verdict_on};

@@ -1,7 +1,7 @@
 -- Offers one after another.
-use Rattle.std.proofs.Common.{◌≡◌, List, [], ◌∷◌, ◌++◌, map, reverse, ap, sym, ◌∙◌, subst, append_assoc, refl, length, arith, ℕ, zero, suc, ◌<◌, get_or, inl, inr, ⊎_elim, Result}
+use Rattle.std.proofs.Common.{◌≡◌, List, [], ◌∷◌, ◌++◌, map, reverse, ap, sym, ◌∙◌, subst, refl, length, arith, ℕ, zero, suc, ◌<◌, get_or, inl, inr, ⊎_elim, Result}
 use Rattle.std.specs.List.{AllByRecursion, FoldsTo}
-use Rattle.std.proofs.lemmas.List.{get_or_default, length-map, map-append, reverse-append, reverse-reverse}
+use Rattle.std.proofs.lemmas.List.{length-map, map-append, reverse-append, reverse-reverse}
 use Rattle.tr_pool.proofs.StartLaws.{default_of}
 use Rattle.tr_pool.specs.Feeding.{IsFed, WasFed}
 use Rattle.tr_pool.specs.Pools.{EachCame, IsKeptOr}
@@ -16,14 +16,6 @@ all_append P (x ∷ xs) ys a b = (a.0, all_append P xs ys a.1 b)
 pub folds_one : {P A : Type 0} (R : P → A → P → Type 0) (p : P) (xs : List A) (q : P) (x : A) (r : P) → FoldsTo R p xs q → R q x r → FoldsTo R p (xs ++ x ∷ []) r
 folds_one R p [] q x r done one = (r, subst (λ s. R s x r) (sym done) one, refl)
 folds_one R p (y ∷ ys) q x r done one = (done.0, done.1, folds_one R done.0 ys q x r done.2 one)
-
--- the last of those that are left is taken, and what was made of it is put behind the others
-pub moves_one : {A B : Type 0} (f : B → A) (all left rest : List A) (made : List B) (x : A) (y : B)
-    → all ≡ left ++ reverse (map f made) → left ≡ rest ++ x ∷ [] → f y ≡ x → all ≡ rest ++ reverse (map f (made ++ y ∷ []))
-moves_one f all left rest made x y is last same =
-    is ∙ ap (λ xs. xs ++ reverse (map f made)) last ∙ append_assoc rest (x ∷ []) (reverse (map f made))
-    ∙ ap (λ zs. rest ++ zs)
-    (ap (λ z. z ∷ reverse (map f made)) (sym same) ∙ sym (reverse-append (map f made) (f y ∷ [])) ∙ ap reverse (sym (map-append f made (y ∷ []))))
 
 pub reverse-map : {A B : Type 0} (f : A → B) (xs : List A) → map f (reverse xs) ≡ reverse (map f xs)
 reverse-map f [] = refl
@@ -54,22 +46,11 @@ map_twice : {A B C : Type 0} (f : A → B) (g : B → C) (xs : List A) → map (
 map_twice f g [] = refl
 map_twice f g (x ∷ xs) = ap (λ ys. g (f x) ∷ ys) (map_twice f g xs)
 
--- the last of those that are left gives its own back, behind the others
-pub gives_one : {A B : Type 0} (f : B → A) (all given : List A) (left rest : List B) (x : B)
-    → all ≡ given ++ reverse (map f left) → left ≡ rest ++ x ∷ [] → all ≡ (given ++ f x ∷ []) ++ reverse (map f rest)
-gives_one f all given left rest x is last =
-    is ∙ ap (λ xs. given ++ reverse (map f xs)) last ∙ ap (λ xs. given ++ reverse xs) (map-append f rest (x ∷ []))
-    ∙ ap (λ xs. given ++ xs) (reverse-append (map f rest) (f x ∷ [])) ∙ sym (append_assoc given (f x ∷ []) (reverse (map f rest)))
-
 -- all were given back behind none, and turned round
 pub turned_back : {A B : Type 0} (f : B → A) (given back seats : List A) (all : List B)
     → given ≡ [] → back ≡ given ++ reverse (map f all) → seats ≡ reverse back → seats ≡ map f all
 turned_back f given back seats all none is turned =
     turned ∙ ap reverse (is ∙ ap (λ xs. xs ++ reverse (map f all)) none) ∙ reverse-reverse (map f all)
-
--- all came back as they were
-pub all_kept : {S : Type 0} (did : ℕ → S → S → Type 0) (given back : List S) → back ≡ given → EachCame (λ (i : ℕ). IsKeptOr (did i)) given back
-all_kept did given back same = (ap length same, λ i s u low. inl (ap (λ xs. get_or xs i u) same ∙ get_or_default given i u s low))
 
 -- each feeder that comes back was made of the producer and the work at its place
 pub all_fed : {B S W : Type 0} (producer : B → S) (work : B → W) (items : W → List Item) (log : B → List Item)

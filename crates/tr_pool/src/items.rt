@@ -1,6 +1,6 @@
 //! What feeders offer, and what they log.
 
-ghost use Rattle.std.specs.Prelude.{◌≡◌, length};
+ghost use Rattle.std.specs.Prelude.{◌≡◌};
 
 use std::marker::Model;
 use tr_stream::Payload;
@@ -9,7 +9,7 @@ use tr_terms::Moment;
 /// An offer that a feeder is to make.
 #[derive(Drop)]
 pub struct Item {
-    /// When it is made.
+    /// When its event happened.
     pub moment: Moment,
     /// The kind of event that it records.
     pub id: u32,

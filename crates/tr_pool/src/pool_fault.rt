@@ -3,9 +3,9 @@
 /// What was missing.
 #[derive(Clone, Copy, PartialEq, Eq, Debug)]
 pub enum PoolError {
-    /// A thread: the system gave fewer than were asked for.
+    /// U1: the system gave fewer threads than were asked for.
     NoThread,
-    /// Memory.
+    /// U2: an allocation failed.
     NoMemory,
 }
 

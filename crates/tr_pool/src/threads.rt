@@ -1,6 +1,6 @@
 //! Work in threads, which begin together: if one of them can't be started, none does anything.
 
-ghost use Rattle.std.specs.Prelude.{◌≡◌, ◌+◌, ◌-◌, ◌<◌, ◌≤◌, ℕ, Bool, true, length, slice_index_or, vec_len, vec_capacity, IfOk, IfErr};
+ghost use Rattle.std.specs.Prelude.{◌≡◌, ◌+◌, ◌-◌, ◌<◌, ◌≤◌, ℕ, true, slice_index_or, vec_len, vec_capacity, IfOk, IfErr};
 ghost use Rattle.tr_pool.specs.Pools.{EachCame, IsKeptOr};
 ghost use Rattle.std.specs.Thread.{IsSend, IsSync};
 ghost use Rattle.tr_pool.specs.Threads.{DidIfBegun};

@@ -1,6 +1,6 @@
 //! What one worker does.
 
-ghost use Rattle.std.specs.Prelude.{◌≡◌, ◌<◌};
+ghost use Rattle.std.specs.Prelude.{◌<◌};
 ghost use Rattle.tr_pool.specs.Turns.{HasWorked, IsWorked};
 
 use crate::gate::Gate;

@@ -68,7 +68,7 @@ abbrev pub ending_of_told : Result Report Mismatch → Result (Unit {0}) ExportF
 ending_of_told outcome (Ok done) = ending_of_outcome outcome
 ending_of_told outcome (Err fault) = ending_of_export fault
 
--- an audit that came to its end: there is no session, or so many faults
+-- an audit that came to its end: there is no session, or this many faults
 abbrev pub ending_of_audit : Option ℕ → Ending
 ending_of_audit None = NoSession
 ending_of_audit (Some zero) = Done

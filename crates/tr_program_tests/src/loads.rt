@@ -11,7 +11,7 @@ use tr_load::{Loaded, Log, Mismatch, Report, load, load_work, outcome_text, reco
 use tr_pool::Items;
 use tr_terms::limits::{MOST_RECORDS, MOST_WORKERS};
 
-/// A load of so many threads with so many records each, and so many workers.
+/// A load of this many threads with this many records each, and this many workers.
 fn loaded<R: Threads + Wait + Clock + Abort + Sync>(
     rt: &R,
     alloc: Global,
@@ -33,7 +33,7 @@ fn a_full_ring_discards_and_agrees(rt: HostRuntime) {
     assert_same(&rt, told, Some(20_000));
 }
 
-/// The log of a feeder that offered so many records of a load, the second of them with this id.
+/// The log of a feeder that offered this many records of a load, the second of them with this id.
 fn log_with(rt: &impl Abort, alloc: Global, records: u64, id: u32) -> Vec<Log> {
     assert!(rt; records <= MOST_RECORDS);
     let mut items = load_work(alloc, 0, records).expect(rt, "memory");

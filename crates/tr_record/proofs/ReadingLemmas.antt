@@ -34,11 +34,6 @@ stands_begins bytes e n s = record {
   parts = sym (take-append-drop n bytes) ∙ ap (λ (t : List ℕ). t ++ drop n bytes) s.text;
 }
 
--- the bytes start with what is read
-pub read_stands : (bytes : List ℕ) (e : Entry) (rest : List ℕ) → AreBytes bytes → entry_at bytes ≡ Some (e, rest)
-    → e.moment ≤ LAST_MOMENT → Stands e (24 + length e.payload) bytes
-read_stands bytes e rest small read in_time = begins_stands bytes e rest (read_begins bytes e rest small read) in_time
-
 -- if there are fewer bytes than come before a payload, no record is read
 pub short_reads_none : (bytes : List ℕ) (found : Option (Entry × List ℕ)) → AreBytes bytes → length bytes < 24
     → entry_at bytes ≡ found → entry_at bytes ≡ None

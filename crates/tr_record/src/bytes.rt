@@ -1,6 +1,6 @@
 //! Sources and sinks of bytes, for code that must not know whether they are files.
 
-ghost use Rattle.std.specs.Prelude.{◌≡◌, ◌+◌, ◌<◌, ◌≤◌, ℕ, List, Option, Some, None, Ok, IfOk, OnOk, OnErr, take, length};
+ghost use Rattle.std.specs.Prelude.{◌≡◌, ◌+◌, ◌<◌, ◌≤◌, ℕ, List, Option, Ok, IfOk, OnOk, OnErr, take, length};
 ghost use Rattle.tr_record.specs.Bytes.{and_then_bytes, once_more};
 
 /// A source or a sink failed.

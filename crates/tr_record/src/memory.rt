@@ -1,6 +1,6 @@
 //! A source and a sink over memory.
 
-ghost use Rattle.std.specs.Prelude.{◌≡◌, ◌%◌, ◌^◌, ◌≤◌, ◌<◌, [], Some, IfOk, length, max, take};
+ghost use Rattle.std.specs.Prelude.{◌≡◌, ◌≤◌, ◌<◌, [], Some, IfOk, length, max, take};
 
 use crate::bytes::{ByteSink, ByteSource, Failed};
 use std::alloc::{Allocator, Global};
@@ -32,7 +32,7 @@ impl<'a> MemorySource<'a> {
 }
 
 impl<'a> ByteSource for MemorySource<'a> {
-    ghost use Rattle.std.specs.Prelude.{None, Ok, OnOk, OnErr};
+    ghost use Rattle.std.specs.Prelude.{Ok, OnOk, OnErr};
     ghost use Rattle.tr_record.specs.Bytes.{and_then_bytes, once_more};
     ghost use Rattle.tr_record.specs.Pieces.{piece_given};
 

@@ -70,7 +70,7 @@ impl<A: Allocator> Rec<A> {
         self.serial
     }
 
-    /// When it was accepted.
+    /// The moment with which its stream stored it: the later of the offered one and the stream's last.
     pub fn moment(&self) -> Moment
         ensures value { result ≡ self.now.moment }
         ensures fits { Fits self.now }

@@ -78,6 +78,10 @@ impl<W: Write + Drop> WriterSink<W> {
     }
 
     /// Flushes the writer, which may hold bytes back.
+    ///
+    /// # Errors
+    ///
+    /// `Failed` if the writer fails, which is counted.
     pub fn flush(&mut self) -> Result<(), Failed>
         ensures ok { OnOk result
             (⟦<WriterSink<W> as ByteSink>⟧.failures self.new ≡ ⟦<WriterSink<W> as ByteSink>⟧.failures self.old) }

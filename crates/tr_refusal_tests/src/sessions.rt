@@ -24,12 +24,12 @@ use uuid::Uuid;
 enum Step {
     /// A new channel, whose rings have four sub-buffers of 256 bytes.
     Channel(&'static str),
-    /// So many threads of a channel.
+    /// This many threads of a channel.
     Threads(&'static str, u64),
     /// A start at moment 0.
     Start,
     Stop,
-    /// So many offers of 50 bytes to a stream, at the moments from 1 on. Two of them fill a sub-buffer.
+    /// This many offers of 50 bytes to a stream, at the moments from 1 on. Two of them fill a sub-buffer.
     Offers(u64, u64),
     Take(u64),
     /// A schedule with this size.
@@ -72,7 +72,7 @@ enum Asked {
     Drainer,
 }
 
-/// An archive's number, its begin and its end.
+/// An archive's number, its beginning and its end.
 type Chunk = (u64, u64, u64);
 
 /// What such a call answers.
@@ -121,7 +121,7 @@ fn add_channel<A: Allocator + Copy>(
     session.add_channel(&name, 256, 4, mode)
 }
 
-/// Adds so many threads.
+/// Adds this many threads.
 fn add_threads<A: Allocator + Copy>(
     rt: &impl Abort,
     session: &mut Session<A>,
@@ -133,7 +133,7 @@ fn add_threads<A: Allocator + Copy>(
     }
 }
 
-/// Offers so many records.
+/// Offers this many records.
 fn make_offers<A: Allocator + Copy>(rt: &impl Abort, session: &mut Session<A>, i: u64, count: u64) {
     for at in 1..=count {
         session
@@ -218,7 +218,7 @@ fn look<A: Allocator + Copy>(
     }
 }
 
-/// An archive's number, its begin and its end.
+/// An archive's number, its beginning and its end.
 fn numbers(archive: Archive) -> Chunk {
     (archive.id, archive.begin.get(), archive.end.get())
 }

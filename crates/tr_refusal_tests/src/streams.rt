@@ -119,14 +119,14 @@ pub(crate) fn offer_many<A: Allocator + Copy>(stream: &mut Stream<A>, count: u64
     }
 }
 
-/// Takes so many packets.
+/// Takes this many packets.
 fn take_many<A: Allocator + Copy>(rt: &impl Abort, stream: &mut Stream<A>, count: u64) {
     for _ in 0..count {
         stream.take().expect(rt, "a packet");
     }
 }
 
-/// Makes a stream whose ring has so many sub-buffers of 256 bytes.
+/// Makes a stream whose ring has this many sub-buffers of 256 bytes.
 pub(crate) fn try_stream<A: Allocator + Copy>(
     rt: &impl Abort,
     alloc: A,

@@ -11,7 +11,7 @@ use tr_chunk::archive_name;
 use tr_outcome::{LineFault, NamedArchive};
 use tr_session::Next;
 
-/// The answer to the begin of a rotation. If an allocation failed there is none.
+/// The answer to the beginning of a rotation. If an allocation failed there is none.
 pub fn rotating_reply<A: Allocator + Copy>(
     alloc: A,
     answer: Result<u64, LineFault>,

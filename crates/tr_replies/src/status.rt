@@ -1,8 +1,8 @@
 //! The answer to `status`.
 
-ghost use Rattle.std.specs.Prelude.{◌≡◌, ◌∷◌, ◌++◌, [], OnOk, IfOk, codes};
+ghost use Rattle.std.specs.Prelude.{◌≡◌, ◌∷◌, ◌++◌, OnOk, IfOk, codes};
 ghost use Rattle.std.specs.String.{string_bytes};
-ghost use Rattle.tr_replies.specs.Texts.{mode_text, pending_text, right_aligned, sizes_text, state_text, status_head, status_line, status_row, status_rows, status_text};
+ghost use Rattle.tr_replies.specs.Texts.{mode_text, pending_text, right_aligned, sizes_text, state_text, status_line, status_row, status_text};
 ghost use Rattle.tr_stream.specs.Rules.{by_state};
 
 use std::alloc::{AllocError, Allocator};

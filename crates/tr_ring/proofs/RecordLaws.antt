@@ -1,5 +1,5 @@
 -- The records of a ring, one sub-buffer after another.
-use Rattle.std.proofs.Common.{◌≡◌, ap, arith, sym, subst, ◌∙◌, ℕ, ◌+◌, ◌-◌, ◌<◌, ◌≤◌, zero, suc, List, [], ◌∷◌, ◌++◌, length, drop, Some, refl, slice_get}
+use Rattle.std.proofs.Common.{◌≡◌, ap, arith, sym, ◌∙◌, ℕ, ◌+◌, ◌-◌, ◌<◌, zero, suc, List, [], ◌∷◌, ◌++◌, length, drop, Some, refl, slice_get}
 use Rattle.std.proofs.lemmas.Grind.{common_steps}
 use Rattle.std.specs.List.{flat_map}
 use Rattle.tr_record.specs.Records.{Entry}

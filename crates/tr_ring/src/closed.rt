@@ -1,7 +1,6 @@
 //! A sub-buffer that takes no more records.
 
 ghost use Rattle.std.specs.Prelude.{◌≡◌, length, slice_get};
-ghost use Rattle.tr_record.specs.Records.{has_serial};
 ghost use Rattle.tr_ring.specs.ClosedBuffer.{closed_buffer};
 
 use crate::SubBuf;
@@ -83,12 +82,5 @@ impl<'a, A: Allocator> ClosedSubBuf<'a, A> {
         ensures { result ≡ slice_get self.now.records i }
     {
         self.buffer.at(i)
-    }
-
-    /// Whether one of its records has this serial. It looks at each until then.
-    pub fn has(&self, serial: u64) -> bool
-        ensures { result ≡ has_serial serial self.now.records }
-    {
-        self.buffer.has(serial)
     }
 }

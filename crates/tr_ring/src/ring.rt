@@ -66,7 +66,7 @@ fn close<A: Allocator>(
     let _ = waiting.push_back(Sealed::new(buffer, seq, end, discarded));
 }
 
-/// So many empty pages of this size.
+/// This many empty pages of this size.
 fn free_pages<A: Allocator + Copy>(
     alloc: A,
     size: usize,
@@ -193,7 +193,7 @@ impl<A: Allocator> Ring<A> {
         }
     }
 
-    /// Removes all records. The next sub-buffer gets the first number that none with a record has had. It takes no memory.
+    /// Removes all records. The next sub-buffer gets the lowest number that no sub-buffer with a record has used. It takes no memory.
     pub fn clear(&mut self)
         requires { self.old.seq + 1 < 2 ^ 64 }
         ensures { self.new ≡ clear_ring self.old }

@@ -5,26 +5,19 @@ use Rattle.std.proofs.lemmas.Bool.Decides.{eqb_tells}
 use Rattle.atomic_table.specs.Seated.{TableId}
 use Rattle.tr_ledger.specs.Ledgers.{IsSeatOf, LedgerState, SeatState, ledger_state, seat_state}
 use Rattle.tr_seats.specs.Books.{AreBooksOf, Books}
-use Rattle.tr_seats.specs.Slots.{SlotState, slot_after_offer, slot_after_take, slot_offer_answer, slot_take_answer}
+use Rattle.tr_seats.specs.Slots.{SlotState, slot_after_offer, slot_offer_answer}
 use Rattle.tr_seats.specs.Sums.{totals_after_offer, totals_in}
 use Rattle.tr_seats.specs.declared.totals.Totals.{Totals}
 use Rattle.tr_stream.specs.State.{StreamState}
-use Rattle.tr_stream.specs.StateSteps.{state_after_offer, state_after_take, state_offer_answer, state_take_answer}
+use Rattle.tr_stream.specs.StateSteps.{state_after_offer, state_offer_answer}
 use Rattle.tr_stream.specs.declared.answers.OfferFault.{OfferFault}
 use Rattle.tr_stream.specs.declared.answers.Offered.{Offered}
 use Rattle.tr_stream.specs.declared.answers.Offered.TheVariants.{Stored, StoredOver, Discarded}
-use Rattle.tr_stream.specs.declared.answers.TakeFault.{TakeFault}
-use Rattle.tr_stream.specs.declared.answers.Taken.{Taken}
 
 pub if-same : {X : Type 0} (i j : ℕ) (x y : X) → i ≡ j → (if i == j then x else y) ≡ x
 if-same i j x y same =
     ⊎_elim (λ (t : (eqb i j ≡ true) × (i ≡ j)). ap (λ (b : Bool). if b then x else y) t.0)
     (λ (t : (eqb i j ≡ false) × (i ≢ j)). absurd (t.1 same)) (eqb_tells i j)
-
-pub if-other : {X : Type 0} (i j : ℕ) (x y : X) → i ≢ j → (if i == j then x else y) ≡ y
-if-other i j x y other =
-    ⊎_elim (λ (t : (eqb i j ≡ true) × (i ≡ j)). absurd (other t.1))
-    (λ (t : (eqb i j ≡ false) × (i ≢ j)). ap (λ (b : Bool). if b then x else y) t.0) (eqb_tells i j)
 
 -- the producer's number is the slot's
 pub offered-here : (number moment id : ℕ) (payload : List ℕ) (slot new : SlotState) (result : Result Offered OfferFault)
@@ -131,15 +124,6 @@ module _ (books : Books) (s t : StreamState) (made : ℕ) (o d v p k c : LedgerS
             ∙ ap (λ (m : ℕ). ledger_state books.consumed (totals_in t).consumed m) (sym same);
         cuts_is = rise (λ (b : Books). b.cuts) (λ (x : Totals). x.cuts) c c' 1 0 was.cuts_is ec (ap (λ (x : Totals). x.cuts) more);
       }
-
--- the stream is that of this number
-pub taken-here : (i : ℕ) (slot new : SlotState) (result : Result Taken TakeFault) → i ≡ slot.number
-    → result ≡ state_take_answer slot.stream → new ≡ record slot { stream = state_after_take slot.stream }
-    → (result ≡ slot_take_answer i slot) × (new ≡ slot_after_take i slot)
-taken-here i slot new result same answer after = (
-  answer ∙ sym (if-same i slot.number (state_take_answer slot.stream) (Err TakeFault.Misplaced) same),
-  after ∙ sym (if-same i slot.number (record slot { stream = state_after_take slot.stream }) slot same),
-)
 
 -- a whole seat that was raised by one had the whole total before
 pub whole-before : (ledger raised : LedgerState) (seat risen : SeatState) (table : TableId) (total : ℕ)

@@ -1,6 +1,6 @@
 //! The seats of what one worker consumes.
 
-ghost use Rattle.std.specs.Prelude.{◌≡◌, ◌+◌, ◌<◌, Ok, Err, IfOk, IfErr, OnOk, length, replicate, slice_index};
+ghost use Rattle.std.specs.Prelude.{◌≡◌, ◌+◌, ◌<◌, Ok, Err, IfOk, IfErr, length, replicate, slice_index};
 ghost use Rattle.tr_seats.specs.Slots.{slot_after_split, slot_split_answer};
 
 use crate::names::Names;

@@ -11,11 +11,13 @@ use tr_session::{Config, configure};
 use tr_session_book::SessionFault;
 use tr_stream::Stream;
 
-/// The session of a configuration, as `run_session` makes it, with the books of its streams.
+/// The session of a configuration, as `run_session` makes it, with the books of its streams. The memory of all
+/// rings is taken here, and no offer takes any.
 ///
 /// # Errors
 ///
 /// Those of `add_channel` and `add_thread` for the first channel or thread of the configuration that is refused; `NoMemory`.
+/// What was taken is given back.
 pub fn plan<A: Allocator + Copy>(alloc: A, config: &Config<'_, A>) -> Result<Plan<A>, SessionFault>
     ensures session { IfOk result (λ p. session_of_config by_state config.now ≡ Ok p.session) }
     ensures books { IfOk result (λ p. length p.books ≡ length p.session.streams) }

@@ -2,8 +2,8 @@
 
 use std::marker::Brand;
 
-/// Names a plan for contracts: the session that it made, and the tables of its books. It has no code. Work with a shared
-/// session stands in functions over a `Names`, which are called with `Brand`.
+/// Names a plan for contracts: the session that it made, and the tables of its books. It has no code. Write
+/// what uses a shared session as functions that are generic over a `Names`, and call them with `Brand`.
 pub trait Names {
     ghost use Rattle.tr_seats.specs.Books.{PlanState};
 

@@ -1,6 +1,6 @@
 //! Streams get the names of their plan, one after another.
 
-ghost use Rattle.std.specs.Prelude.{◌≡◌, ◌+◌, ◌≤◌, Some, IfOk, length, replicate, slice_get, vec_capacity, vec_len};
+ghost use Rattle.std.specs.Prelude.{◌≡◌, ◌+◌, ◌≤◌, Some, IfOk, length, slice_get, vec_capacity, vec_len};
 ghost use Rattle.tr_seats.specs.Books.{IsPlan};
 ghost use Rattle.tr_seats.specs.Plans.{AreUnused, opened_of};
 ghost use Rattle.tr_ledger.specs.Ledgers.{seat_state};

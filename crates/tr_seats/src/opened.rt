@@ -1,6 +1,6 @@
 //! A session out of its locks.
 
-ghost use Rattle.std.specs.Prelude.{◌≡◌, ◌≢◌, ◌+◌, ◌≤◌, IfErr, IfOk, length, sum_by, vec_capacity, vec_len};
+ghost use Rattle.std.specs.Prelude.{◌≡◌, ◌+◌, ◌≤◌, IfErr, IfOk, length, sum_by, vec_capacity, vec_len};
 ghost use Rattle.tr_seats.specs.Settling.{CanSettle, IsSessionOf, IsWhy, opened_state, streams_of, totals_of_seats};
 ghost use Rattle.tr_seats.specs.Sums.{totals_of};
 ghost use Rattle.tr_session.specs.Session.{session_of};

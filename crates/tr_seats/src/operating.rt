@@ -1,4 +1,4 @@
-//! What an operator does at a desk: schedules, rotations with their cuts, and the begin of snapshots.
+//! What an operator does at a desk: schedules, rotations with their cuts, and the beginning of snapshots.
 
 ghost use Rattle.std.specs.Prelude.{◌≡◌, ◌≢◌, ◌+◌, ◌<◌, ◌^◌, Ok, Err, IsOk, length};
 ghost use Rattle.tr_seats.specs.Cuts.{desk_after_cut, desk_cut_answer, slot_after_cut};
@@ -14,7 +14,7 @@ use std::alloc::Allocator;
 use tr_session::StepFault;
 use tr_session_book::{Archive, Schedule, SessionFault};
 use tr_stream::{CutDone, CutFault};
-use tr_terms::Moment;
+use tr_terms::{Moment, SessionMode};
 
 impl<N: Names, A: Allocator> Desk<N, A> {
     /// Sets when rotations are due, as the session's book does.
@@ -48,6 +48,7 @@ impl<N: Names, A: Allocator> Desk<N, A> {
     /// `NotPending`, `CutMissing`: nothing changed.
     pub fn rotate_finish(&mut self) -> Result<Archive, SessionFault>
         ensures answer { result ≡ book_rotate_finish_answer self.old.book }
+        ensures mode { self.old.book.mode ≡ SessionMode.Snapshot → result ≡ Err SessionFault.NotPending }
         ensures after { self.new ≡ record self.old { book = book_after_rotate_finish self.old.book } }
     {
         self.book.rotate_finish()

@@ -1,6 +1,6 @@
 //! A session before its first call, with the books of its streams.
 
-ghost use Rattle.std.specs.Prelude.{◌≡◌, ◌≤◌, ℕ, Some, IfErr, IfOk, length, slice_get, vec_capacity, vec_len};
+ghost use Rattle.std.specs.Prelude.{◌≡◌, IfErr, IfOk, length};
 ghost use Rattle.tr_seats.specs.Plans.{IsOpened, opened_of, planned_state, no_totals};
 ghost use Rattle.tr_seats.specs.Slots.{AreNew};
 ghost use Rattle.tr_seats.specs.Sums.{totals_in};
@@ -92,7 +92,6 @@ pub struct Plan<A: Allocator = Global> {
 }
 
 impl<A: Allocator> Model for Plan<A> {
-    ghost use Rattle.std.specs.Prelude.{map};
     ghost use Rattle.tr_seats.specs.Books.{IsPlan, PlanState, plan_state};
     ghost use Rattle.tr_seats.specs.Plans.{AreUnused, PlannedState, books_in, streams_in};
     ghost use Rattle.tr_session.specs.Session.{session_of};

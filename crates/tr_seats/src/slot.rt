@@ -6,7 +6,6 @@ ghost use Rattle.tr_seats.specs.Slots.{IsOwn, drainer_after, producer_after, slo
 ghost use Rattle.tr_ledger.specs.Ledgers.{seat_state};
 ghost use Rattle.tr_seats.specs.Books.{IsPlanned, IsTooBig, books_at};
 ghost use Rattle.tr_seats.specs.Sums.{totals_in};
-ghost use Rattle.tr_stream.specs.Kept.{IsKept};
 ghost use Rattle.tr_stream.specs.StateSteps.{state_after_cut, state_after_switch, state_counts, state_cut_answer, state_snap};
 
 use crate::drainer::Drainer;

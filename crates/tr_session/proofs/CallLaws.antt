@@ -16,7 +16,6 @@ use Rattle.tr_session_book.specs.declared.faults.SessionFault.TheVariants.{Alrea
 use Rattle.tr_session_book.specs.declared.faults.SessionFault.{SessionFault}
 use Rattle.tr_stream.specs.State.{StreamState}
 use Rattle.tr_stream.specs.StateSteps.{new_state, state_after_offer, state_after_take}
-use Rattle.tr_stream.specs.declared.answers.Offered.{Offered}
 use Rattle.tr_stream.specs.declared.answers.TakeFault.TheVariants as take_fault
 use Rattle.tr_stream.specs.declared.answers.Taken.{Taken}
 use Rattle.tr_terms.specs.Geometry.{GeometryState, geometry_of}

@@ -1,19 +1,17 @@
 -- What the steps of a session leave.
-use Rattle.std.proofs.Common.{◌≡◌, ◌≢◌, ◌∙◌, ℕ, max, ◌+◌, ◌≤◌, ◌<◌, zero, suc, Bool, true, false, length, arith, List, [], ◌∷◌, ◌++◌, ◌⊎◌, ⊎_elim, Option, Some, None, Result, Ok, Err, ap, refl, subst, sym}
-use Rattle.std.proofs.lemmas.Bool.Decides.{nat_tests}
+use Rattle.std.proofs.Common.{◌≡◌, ◌≢◌, ◌∙◌, ℕ, max, ◌+◌, ◌<◌, zero, suc, length, arith, List, [], ◌∷◌, ◌++◌, ◌⊎◌, ⊎_elim, Option, Some, None, Result, Ok, Err, ap, refl, subst, sym}
 use Rattle.std.specs.Option.{option_map_or}
-use Rattle.std.specs.Prelude.{IsOk, if◌then◌else◌, nat_lt, option_map, slice_get}
+use Rattle.std.specs.Prelude.{IsOk, option_map, slice_get}
 use Rattle.tr_session_book.proofs.BookLaws.{due-within}
 use Rattle.tr_session.proofs.CallLaws.{noted-is, wants-memory}
 use Rattle.tr_session.proofs.StreamLaws.{mode-at}
 use Rattle.tr_session_book.specs.Book.{SessionBookState}
 use Rattle.tr_session_book.specs.BookSteps.{channel_named, with_thread_at, book_add_thread, thread_place, unless_refused, cut_moment, with_cut, book_after_note_cut}
 use Rattle.tr_session.specs.Session.{SessionOf, HasItsStreams}
-use Rattle.tr_session.specs.Steps.{with_book, next_config, session_add_stream, session_add_thread, change_at, cut_as_step, session_cut_answer, session_after_cut, cut_first, as_next, next_in, session_next_answer, session_after_next}
-use Rattle.tr_session_book.specs.declared.archive.Pending.{Pending}
+use Rattle.tr_session.specs.Steps.{with_book, next_config, session_add_stream, session_add_thread, change_at, cut_as_step, session_cut_answer, session_after_cut, cut_first}
 use Rattle.tr_session_book.specs.declared.channel.Channel.{Channel}
 use Rattle.tr_session_book.specs.declared.faults.SessionFault.{SessionFault}
-use Rattle.tr_session_book.specs.declared.faults.SessionFault.TheVariants.{SnapshotMode, NotSnapshotMode, NeverStarted, RotationPending, AlreadyRotated, AlreadyActive, NotActive, NoStream, DiscardInSnapshot, AlreadyStarted, BadGeometry, TooMany, NotPending, CutMissing, NameTaken, NoMemory, NoChannel}
+use Rattle.tr_session_book.specs.declared.faults.SessionFault.TheVariants.{SnapshotMode, NoMemory}
 use Rattle.tr_session.specs.declared.faults.StepFault.{StepFault}
 use Rattle.tr_session.specs.declared.rotation.Next.{Next}
 use Rattle.tr_session.specs.declared.rotation.Next.TheVariants as next
@@ -74,26 +72,6 @@ pub cut_first-more : {S : Type 0} (rules : StreamRules S) (i : ℕ) (s now next 
 cut_first-more rules i s now next so is =
     let one : suc i ≡ i + 1 = omega arith in
     is ∙ ap (session_after_cut rules i) so ∙ ap (λ (n : ℕ). cut_first rules n s) one
-
--- the next stream of a pending rotation
-pub next-cut : (s t : SessionOf StreamState) (p : Pending) (r : Result CutDone StepFault) → s.book.pending ≡ Some p
-    → p.cut < length s.book.threads → r ≡ session_cut_answer by_state p.cut s
-    → t ≡ session_after_cut by_state p.cut s → (as_next p.cut r ≡ session_next_answer by_state s) × (t ≡ session_after_next by_state s)
-next-cut s t p r pending within is after =
-    let left : nat_lt p.cut (length s.book.threads) ≡ true = grind (arith, nat_tests, within) in
-    let cuts : (if nat_lt p.cut (length s.book.threads) then as_next p.cut (session_cut_answer by_state p.cut s)
-    else Ok next.AllCut) ≡ as_next p.cut (session_cut_answer by_state p.cut s) =
-    ap (λ (b : Bool). if b then as_next p.cut (session_cut_answer by_state p.cut s) else Ok next.AllCut) left in (
-      ap (as_next p.cut) is ∙ sym cuts ∙ sym (ap (λ (o : Option Pending). next_in by_state o s) pending),
-      after ∙ sym (ap (λ (o : Option Pending). option_map_or (λ (q : Pending). session_after_cut by_state q.cut s) o s) pending),
-    )
-
--- there is no next stream
-pub next-none : (s : SessionOf StreamState) (p : Pending) → s.book.pending ≡ Some p → length s.book.threads ≤ p.cut
-    → ((let r : Result Next StepFault = Ok next.AllCut in r) ≡ session_next_answer by_state s) × (s ≡ session_after_next by_state s)
-next-none s p pending past =
-    let left : nat_lt p.cut (length s.book.threads) ≡ false = grind (arith, nat_tests, past) in
-    (rw (pending, left) refl, rw (pending, left) refl)
 
 -- ---- threads
 

@@ -54,7 +54,7 @@ pub enum Answer<A: Allocator = Global> {
     SessionStart(Result<(), SessionFault>),
     /// The answer to the stop of the session.
     SessionStop(Result<(), SessionFault>),
-    /// The answer to the begin of a rotation: the number of the chunk that it archives.
+    /// The answer to the beginning of a rotation: the number of the chunk that it archives.
     RotateBegin(Result<u64, SessionFault>),
     /// The answer to the end of a rotation.
     RotateFinish(Result<Archive, SessionFault>),

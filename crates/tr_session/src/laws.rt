@@ -6,9 +6,9 @@ ghost use Rattle.tr_session.specs.Laws.{AreAudited, all_of, audit_of, is_in_runs
 use std::alloc::Allocator;
 
 /// The files of every stream pass their audit; they hold the packets of the blocks that were kept, in order; and in every
-/// well-formed history, and so in every run, the gaps that the audit finds are exactly the blocks that were dropped below
-/// the last kept one. The same holds for the files of its first chunks alone, as a session's archives are: their gaps are
-/// the blocks that were dropped below one that is kept in these chunks. Does nothing.
+/// well-formed history, and so in every run, the gaps that the audit finds are exactly the blocks that were overwritten
+/// below the last kept one. The same holds for the files of its first chunks alone, as a session's archives are: their gaps are
+/// the blocks that were overwritten below one that is kept in these chunks. Does nothing.
 pub fn every_audit<A: Allocator>()
     ensures passes { (s : StreamState) (h : History) → IsSound s → StandsFor s h
         → AreAudited s.config.uuid s.config.number (files_of s) (packets_by_part s) }

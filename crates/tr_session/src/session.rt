@@ -100,7 +100,8 @@ impl<A: Allocator + Copy> Session<A> {
         self.book.add_channel(name, size, count, mode)
     }
 
-    /// Adds a thread to a channel, and answers with the number of its stream.
+    /// Adds a thread to a channel, and answers with the number of its stream. Its ring takes all its memory here: for each
+    /// sub-buffer its size less 80 bytes.
     ///
     /// # Errors
     ///

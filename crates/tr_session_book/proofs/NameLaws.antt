@@ -1,5 +1,5 @@
 -- What calls do to a map by name, in terms of the names' texts.
-use Rattle.std.proofs.Common.{◌≡◌, ◌≤◌, ◌∙◌, arith, ℕ, zero, suc, Bool, cond, not, true, false, true≢false, List, [], ◌∷◌, ◌++◌, length, Option, Some, None, is_some, map, ◌+◌, refl, sym, ap}
+use Rattle.std.proofs.Common.{◌≡◌, ◌≤◌, ◌∙◌, arith, ℕ, zero, suc, Bool, cond, not, true, false, List, [], ◌∷◌, ◌++◌, length, Option, Some, None, is_some, map, ◌+◌, refl, sym, ap}
 use Rattle.std.proofs.lemmas.Bool.Decides.{nat_tests}
 use Rattle.std.proofs.lemmas.List.{length-map}
 use Rattle.std.proofs.lemmas.List.Folds.{list_all-append}
@@ -7,7 +7,7 @@ use Rattle.std.specs.List.{list_all, position_or_len}
 use Rattle.std.specs.Map.{lookup, set_value}
 use Rattle.std.specs.Prelude.{IfSome, IsSome, String, nat_lt, position, slice_get}
 use Rattle.std.specs.Str.{bytes_eq}
-use Rattle.std.specs.String.{string_bytes, string_eq}
+use Rattle.std.specs.String.{string_bytes}
 use Rattle.tr_session_book.specs.Names.{AreNamed, by_name}
 use Rattle.tr_terms.proofs.BoolLemmas.{both}
 use Rattle.tr_terms.specs.Names.{is_name}

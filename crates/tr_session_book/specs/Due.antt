@@ -4,7 +4,7 @@ use Rattle.tr_session_book.specs.Schedules.{ScheduleState}
 use Rattle.tr_session_book.specs.declared.cause.Cause.{Cause}
 use Rattle.tr_session_book.specs.declared.cause.Cause.TheVariants.{Timer, Size}
 
--- now isn't earlier than the begin, and their difference is at least the period
+-- now isn't earlier than the beginning, and their difference is at least the period
 abbrev pub is_elapsed : Option ℕ → ℕ → ℕ → Bool
 is_elapsed (Some period) begin now = nat_le begin now && nat_le period (now - begin)
 is_elapsed None begin now = false

@@ -2,7 +2,7 @@
 
 use tr_terms::Moment;
 
-/// An archived trace chunk: its number, its begin and its end.
+/// An archived trace chunk: its number, its beginning and its end.
 #[derive(Clone, Copy, Debug, PartialEq, Eq)]
 pub struct Archive {
     /// How many chunks were archived before it.

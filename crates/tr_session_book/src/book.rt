@@ -447,6 +447,7 @@ impl<A: Allocator> SessionBook<A> {
     /// `NotPending`, `CutMissing`: nothing changed.
     pub fn rotate_finish(&mut self) -> Result<Archive, SessionFault>
         ensures answer { result ≡ book_rotate_finish_answer self.old }
+        ensures local { self.old.mode ≡ SessionMode.Snapshot → result ≡ Err SessionFault.NotPending }
         ensures after { self.new ≡ book_after_rotate_finish self.old }
         ensures streams { self.new.threads ≡ self.old.threads }
         ensures mode { self.new.mode ≡ self.old.mode }

@@ -6,7 +6,8 @@ ghost use Rattle.tr_session_book.specs.Faults.{session_fault_code, session_fault
 use std::alloc::AllocError;
 use thiserror::Error;
 
-/// Why a call was refused. The session is as it was, except that a whole rotation may be pending after `NoMemory`.
+/// Why a call was refused. The book and a `Session` are as they were, except that `rotate` and `tick` may leave a rotation
+/// pending after `NoMemory`. What a call of a shared session leaves stands at that call.
 #[derive(Clone, Copy, Debug, PartialEq, Eq, Error)]
 pub enum SessionFault {
     /// A snapshot session isn't rotated.

@@ -1,12 +1,18 @@
 -- What the calls of a shared session answer, as far as those who hold no lock can tell.
-use Rattle.std.specs.Prelude.{◌≡◌, ◌≤◌, ◌⊎◌, ℕ, List, Result, IfOk, sum}
+use Rattle.std.specs.Prelude.{◌≡◌, ◌≢◌, ◌≤◌, ◌⊎◌, ℕ, List, Result, Err, IfOk, sum}
 use Rattle.std.specs.List.{sum_by}
-use Rattle.tr_seats.specs.Slots.{ProducerState, producer_after, serial_of}
+use Rattle.tr_seats.specs.Slots.{ProducerState, drainer_after, producer_after, serial_of}
 use Rattle.tr_seats.specs.declared.totals.Totals.{Totals}
 use Rattle.tr_session_book.specs.declared.faults.SessionFault.{SessionFault}
 use Rattle.tr_session_book.specs.declared.faults.SessionFault.TheVariants.{AlreadyActive, Misplaced, NoMemory, NotActive, RotationPending, TooMany}
 use Rattle.tr_stream.specs.declared.answers.OfferFault.{OfferFault}
 use Rattle.tr_stream.specs.declared.answers.Offered.{Offered}
+use Rattle.tr_stream.specs.declared.answers.TakeFault.{TakeFault}
+use Rattle.tr_stream.specs.declared.answers.TakeFault.TheVariants.{SnapshotMode}
+use Rattle.tr_stream.specs.declared.answers.TakeFault.TheVariants as take_fault
+use Rattle.tr_stream.specs.declared.answers.Taken.{Taken}
+use Rattle.tr_terms.specs.declared.session_mode.SessionMode.{SessionMode}
+use Rattle.tr_terms.specs.declared.session_mode.SessionMode.TheVariants.{Local, Snapshot}
 
 -- the totals have just what the producers offered, and what the drainers consumed is within them: the rest is the desk's
 pub record AreOffersOf (producers : List ProducerState) (drainers : List (List ℕ)) (t : Totals) : Type 0 where
@@ -24,6 +30,15 @@ IsStartFault fault = (fault ≡ RotationPending) ⊎ (fault ≡ AlreadyActive) �
 
 abbrev pub IsStopFault : SessionFault → Type 0
 IsStopFault fault = (fault ≡ RotationPending) ⊎ (fault ≡ NotActive) ⊎ (fault ≡ Misplaced)
+
+-- a take from a stream of a shared session: the drainer moves as the answer says, and a packet has a record
+abbrev pub IsTaken : ℕ → List ℕ → Result Taken TakeFault → List ℕ → Type 0
+IsTaken i before answer after = (after ≡ drainer_after answer i before) × IfOk answer (λ (taken : Taken). 1 ≤ taken.count)
+
+-- the mode of a session decides what a take may answer: in a snapshot session nothing is consumed
+abbrev pub IsTakeOf : SessionMode → Result Taken TakeFault → Type 0
+IsTakeOf Local answer = answer ≢ Err SnapshotMode
+IsTakeOf Snapshot answer = (answer ≡ Err SnapshotMode) ⊎ (answer ≡ Err take_fault.Misplaced)
 
 -- an offer to a shared session: the producer moves as the answer says, and an accepted record gets the next serial
 abbrev pub IsOffered : ProducerState → ℕ → ℕ → List ℕ → Result Offered OfferFault → ProducerState → Type 0

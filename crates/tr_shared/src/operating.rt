@@ -1,6 +1,6 @@
 //! Schedules, rotations and ticks of a shared session.
 
-ghost use Rattle.std.specs.Prelude.{◌≡◌, ◌↔◌, Err, IfErr, IfOk, length};
+ghost use Rattle.std.specs.Prelude.{◌≡◌, ◌↔◌, Ok, Err, None, IfErr, IfOk, length};
 ghost use Rattle.tr_session_book.specs.BookSteps.{book_schedule_answer};
 ghost use Rattle.tr_shared.specs.Operating.{IsBeginFault, IsCutOf, IsEndFault, IsFinishFault, IsLookFault, IsNextFault, IsRotateFault};
 
@@ -38,9 +38,11 @@ impl<N: Names, A: Allocator> Shared<N, A> {
     ///
     /// `NotPending`, `CutMissing`: nothing changed.
     pub fn rotate_finish(&self, rt: &impl Wait) -> Result<Archive, SessionFault>
-        ensures { IfErr result IsFinishFault }
+        ensures refused { IfErr result IsFinishFault }
+        ensures mode { N.plan.session.book.mode ≡ SessionMode.Snapshot → result ≡ Err SessionFault.NotPending }
     {
         let mut desk = self.desk.lock(rt);
+        let _ = desk.book();
         desk.rotate_finish()
     }
 }
@@ -68,6 +70,7 @@ impl<N: Names, A: Allocator + Copy> Shared<N, A> {
     pub fn rotate_next(&self, rt: &impl Wait) -> Result<Next, SessionFault>
         ensures cut { IfOk result (IsCutOf (length N.plan.books)) }
         ensures refused { IfErr result IsNextFault }
+        ensures mode { N.plan.session.book.mode ≡ SessionMode.Snapshot → result ≡ Err SessionFault.NotPending }
     {
         let mut desk = self.desk.lock(rt);
         let Some(i) = next_of(&desk)? else {
@@ -93,14 +96,15 @@ impl<N: Names, A: Allocator + Copy> Shared<N, A> {
     }
 
     /// Rotates the session, as `rotate` does, if its schedule says that a rotation is due at this moment. The desk's lock is
-    /// held from the question to the begin. An idle tick stores no moment.
+    /// held from the question to the beginning. An idle tick stores no moment.
     ///
     /// # Errors
     ///
     /// `NoMemory`, `Misplaced`: nothing changed, or a rotation was due and is pending with the cuts that were made.
     /// `NotPending` or `CutMissing` if another operator's steps came between.
     pub fn tick(&self, rt: &impl Wait, now: Moment) -> Result<Ticked, SessionFault>
-        ensures { IfErr result IsEndFault }
+        ensures refused { IfErr result IsEndFault }
+        ensures mode { N.plan.session.book.mode ≡ SessionMode.Snapshot → result ≡ Ok Ticked.Idle }
     {
         let Some(cause) = self.begin_due(rt, now)? else {
             return Ok(Ticked::Idle);
@@ -123,7 +127,8 @@ impl<N: Names, A: Allocator + Copy> Shared<N, A> {
 
     /// Begins a rotation if one is due, and says why it is.
     fn begin_due(&self, rt: &impl Wait, now: Moment) -> Result<Option<Cause>, SessionFault>
-        ensures { IfErr result IsLookFault }
+        ensures refused { IfErr result IsLookFault }
+        ensures mode { N.plan.session.book.mode ≡ SessionMode.Snapshot → result ≡ Ok None }
     {
         let mut desk = self.desk.lock(rt);
         if desk.book().schedule_in_force().is_none() {

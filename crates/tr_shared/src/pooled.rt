@@ -27,14 +27,14 @@ impl<N: Names> Intake for Shared<N> {
 }
 
 impl<N: Names> Target for Shared<N> {
-    ghost use Rattle.std.specs.Prelude.{◌≡◌, length};
-    ghost use Rattle.tr_seats.specs.Slots.{drainer_after};
+    ghost use Rattle.std.specs.Prelude.{length};
+    ghost use Rattle.tr_shared.specs.Calls.{IsTaken};
 
     type Seat = Drainer<N>;
 
     ghost stream_count = { λ _. length N.plan.books };
 
-    ghost takes = { λ _ i before answer after. after ≡ drainer_after answer i before };
+    ghost takes = { λ _. IsTaken };
 
     fn streams(&self) -> usize {
         self.streams()

@@ -9,7 +9,7 @@ use std::alloc::Allocator;
 use tr_seats::{Desk, Names, Slot};
 use tr_session::{Next, StepFault};
 use tr_session_book::{Cause, SessionFault};
-use tr_terms::Moment;
+use tr_terms::{Moment, SessionMode};
 
 /// The stream that the pending rotation cuts next; none if it has cut every stream.
 ///
@@ -21,6 +21,7 @@ pub(crate) fn next_of<N: Names, A: Allocator>(
 ) -> Result<Option<usize>, SessionFault>
     ensures value { result ≡ next_stream desk.now.book }
     ensures there { IfOk result (λ next. IfSome next (λ i. i < length N.plan.books)) }
+    ensures mode { N.plan.session.book.mode ≡ SessionMode.Snapshot → result ≡ Err SessionFault.NotPending }
     ensures refused { IfErr result (λ fault. fault ≡ SessionFault.NotPending) }
 {
     let book = desk.book();

@@ -3,10 +3,11 @@
 ghost use Rattle.std.specs.Prelude.{◌≡◌, ◌+◌, ◌<◌, ◌≤◌, ◌↔◌, IfErr, IfOk, length, replicate, sum_by, vec_capacity, vec_len};
 ghost use Rattle.tr_seats.specs.Settling.{IsOneEach, IsSessionOf};
 ghost use Rattle.tr_seats.specs.Slots.{AreNew, drainer_after, producer_after, serial_of};
-ghost use Rattle.tr_seats.specs.Books.{IsTooBig};
+ghost use Rattle.tr_seats.specs.Books.{IsPlanned, IsTooBig};
 ghost use Rattle.tr_seats.specs.Sums.{totals_of};
-ghost use Rattle.tr_shared.specs.Calls.{AreOffersOf, IsDrainerFault, IsStartFault, IsStopFault};
+ghost use Rattle.tr_shared.specs.Calls.{AreOffersOf, IsDrainerFault, IsStartFault, IsStopFault, IsTakeOf};
 ghost use Rattle.tr_stream.specs.State.{StreamState, in_ring};
+ghost use Rattle.tr_stream.specs.declared.config.StreamConfig.{StreamConfig};
 
 use crate::settle_fault::SettleFault;
 use std::alloc::{Allocator, Global};
@@ -115,8 +116,11 @@ impl<N: Names, A: Allocator + Copy> Shared<N, A> {
         requires { i < length N.plan.books }
         ensures seats { drainer.new ≡ drainer_after result i drainer.old }
         ensures some { IfOk result (λ taken. 1 ≤ taken.count) }
+        ensures mode { (config : StreamConfig) → IsPlanned N.plan i config → IsTakeOf config.session result }
     {
         let mut slot = self.slots[i].lock(rt);
+        // it is the stream that was planned for its number
+        let _ = slot.stream();
         slot.take(drainer, i)
     }
 }

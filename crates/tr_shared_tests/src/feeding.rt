@@ -1,6 +1,6 @@
 //! Feeders and workers in threads.
 
-ghost use Rattle.std.specs.Prelude.{◌≡◌, vec_len};
+ghost use Rattle.std.specs.Prelude.{◌≡◌};
 
 use crate::plans::{assert_same, granted, plan_with};
 use std::alloc::Global;

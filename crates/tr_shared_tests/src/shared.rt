@@ -1,6 +1,6 @@
 //! Sessions under their locks.
 
-ghost use Rattle.std.specs.Prelude.{◌≡◌, ◌<◌, length};
+ghost use Rattle.std.specs.Prelude.{◌≡◌, ◌<◌};
 
 mod contention;
 mod operators;
@@ -54,7 +54,7 @@ fn assert_stopped<N: Names>(
     assert_same(rt, shared.stop(rt), want);
 }
 
-/// Asserts what an offer of so many bytes at a moment answers.
+/// Asserts what an offer of this many bytes at a moment answers.
 fn assert_offered<N: Names>(
     rt: &(impl Abort + Wait),
     shared: &Shared<N>,

@@ -8,8 +8,6 @@ use Rattle.tr_stream.specs.State.{StreamState}
 use Rattle.tr_terms.specs.SessionModes.{by_session_mode}
 use Rattle.tr_stream.specs.declared.answers.CutDone.{CutDone}
 use Rattle.tr_stream.specs.declared.answers.CutFault.{CutFault}
-use Rattle.tr_stream.specs.declared.answers.OfferFault.{OfferFault}
-use Rattle.tr_stream.specs.declared.answers.Offered.{Offered}
 use Rattle.tr_terms.specs.declared.session_mode.SessionMode.{SessionMode}
 use Rattle.tr_terms.specs.declared.session_mode.SessionMode.TheVariants.{Local, Snapshot}
 use Rattle.tr_stream.specs.declared.config.StreamConfig.{StreamConfig}
@@ -25,9 +23,6 @@ cut-let Local a b fault is = is
 cut-let Snapshot a b fault is = is
 
 module _ {A : Type 0} where
-  pub offer-answered : (a b : Result Offered OfferFault) → a ≡ b → (let r : StreamAnswer A = answer.Offer a in r) ≡ answer.Offer b
-  offer-answered a b e = ap (λ (x : Result Offered OfferFault). (let r : StreamAnswer A = answer.Offer x in r)) e
-
   pub cut-answered : (a b : Result CutDone CutFault) → a ≡ b → (let r : StreamAnswer A = answer.Cut a in r) ≡ answer.Cut b
   cut-answered a b e = ap (λ (x : Result CutDone CutFault). (let r : StreamAnswer A = answer.Cut x in r)) e
 

@@ -6,7 +6,7 @@ ghost use Rattle.tr_stream.specs.Laws.{chunk_of, consumed_of, Rising, Closed, is
 use std::alloc::Allocator;
 
 /// Every list of calls leads to a history in which each accepted offer is in one place, what was consumed has rising
-/// numbers and serials, every block before a consumed one was consumed or dropped, and a trace chunk has what was kept
+/// numbers and serials, every block before a consumed one was consumed or overwritten, and a trace chunk has what was kept
 /// between its cuts; in a snapshot session nothing is consumed, and nothing is cut. Does nothing.
 pub fn every_run<A: Allocator>()
     ensures well_formed { (c : StreamConfig) (events : List (StreamEvent A)) → IsUsable c

@@ -133,9 +133,6 @@ pub record FedSoFar {A : Type 0} (before now : Option (List ℕ)) (first r : Rea
   pub left : (bytes : List ℕ) → before ≡ Some bytes → (rest : List ℕ) × (bytes ≡ fed ++ rest) × (now ≡ Some rest)
   pub has : (uuid : List ℕ) (stream : ℕ) (done : List (List ℕ)) → HasRead uuid stream done [] first → HasRead uuid stream done fed r
 
-pub fed_nothing : {A : Type 0} (before : Option (List ℕ)) (r : Reading A) → FedSoFar before before r r
-fed_nothing before r = record { fed = []; left = λ bytes is. (bytes, refl, is); has = λ uuid stream done has. has }
-
 pub fed_more : {A : Type 0} (before now after : Option (List ℕ)) (first r s : Reading A) (given : List ℕ) → FedSoFar before now first r
     → ((bytes : List ℕ) → now ≡ Some bytes → Reads bytes given after)
     → ((uuid : List ℕ) (stream : ℕ) (done : List (List ℕ)) (piece : List ℕ) → HasRead uuid stream done piece r → HasRead uuid stream done (piece ++ given) s)

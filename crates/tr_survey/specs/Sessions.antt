@@ -101,7 +101,7 @@ pub record TellsSessions (t : Tree) (dir : List ℕ) (sessions : List (List ℕ)
 abbrev pub sessions_of : Tree → List ℕ → List (List ℕ)
 sessions_of t dir = filter (is_session t dir) (session_names (unwrap_or (t.names dir) []))
 
--- the survey of a folder that has a session: this text, and so many faults
+-- the survey of a folder that has a session: this text, and this many faults
 pub record IsSurvey (t : Tree) (dir text : List ℕ) (n : ℕ) : Type 0 where
   pub sessions_text : List ℕ
   pub faults : ℕ

@@ -1,8 +1,8 @@
 //! The lines of a survey, each with its newline.
 
-ghost use Rattle.std.specs.Prelude.{◌≡◌, ◌∷◌, ◌++◌, [], Some, IfOk, option_copied};
+ghost use Rattle.std.specs.Prelude.{◌≡◌, Some, IfOk, option_copied};
 ghost use Rattle.std.specs.String.{string_bytes};
-ghost use Rattle.tr_survey.specs.Lines.{absent_of, archive_text, cause_text, end_text, fault_text, gap_text, last_text, no_file_text, session_text, stream_text, wrong_with};
+ghost use Rattle.tr_survey.specs.Lines.{absent_of, archive_text, cause_text, end_text, fault_text, gap_text, last_text, no_file_text, session_text, stream_text};
 ghost use Rattle.tr_survey.specs.Listing.{key_of};
 
 use crate::names::Numbered;

@@ -1,6 +1,6 @@
 //! Which sessions, archives and streams there are.
 
-ghost use Rattle.std.specs.Prelude.{◌≡◌, ◌++◌, ℕ, List, Some, None, IfOk, OnOk, map};
+ghost use Rattle.std.specs.Prelude.{◌≡◌, List, Some, None, IfOk, OnOk, map};
 ghost use Rattle.std.specs.BTreeSet.{insert_key};
 ghost use Rattle.std.specs.List.{filter_map};
 ghost use Rattle.std.specs.Option.{option_map};

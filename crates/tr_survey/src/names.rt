@@ -1,6 +1,6 @@
 //! The names of archives' folders and of streams' files.
 
-ghost use Rattle.std.specs.Prelude.{◌≡◌, ℕ, List, length};
+ghost use Rattle.std.specs.Prelude.{◌≡◌, List, length};
 ghost use Rattle.std.specs.List.{list_all, zip};
 ghost use Rattle.std.specs.Option.{option_map};
 ghost use Rattle.tr_survey.specs.Names.{archive_number, fits, form_of_stamps, of_parts, stream_named};

@@ -1,6 +1,6 @@
 //! The survey of one session.
 
-ghost use Rattle.std.specs.Prelude.{◌≡◌, ◌+◌, ◌++◌, ℕ, List, Option, Some, IfOk, OnOk, OnErr, is_some, length, map, option_copied, if◌then◌else◌};
+ghost use Rattle.std.specs.Prelude.{◌≡◌, ◌+◌, ℕ, List, Option, Some, IfOk, OnOk, OnErr, is_some, length, map, option_copied, if◌then◌else◌};
 ghost use Rattle.std.specs.List.{zip};
 ghost use Rattle.std.specs.Option.{option_map};
 ghost use Rattle.tr_chunk.specs.Audit.{capped_count};

@@ -1,6 +1,6 @@
 //! The audit of one stream over the archives.
 
-ghost use Rattle.std.specs.Prelude.{◌≡◌, ◌≢◌, ◌+◌, ◌<◌, ◌≤◌, ◌^◌, ◌∷◌, ◌++◌, [], ℕ, List, Some, None, Ok, IfOk, OnErr, IfErr, length, map};
+ghost use Rattle.std.specs.Prelude.{◌≡◌, ◌≢◌, ◌+◌, ◌<◌, ◌≤◌, ◌^◌, [], ℕ, List, Some, None, Ok, IfOk, OnErr, IfErr, length, map};
 ghost use Rattle.std.specs.String.{string_bytes};
 ghost use Rattle.tr_chunk.specs.Files.{file_name};
 ghost use Rattle.tr_chunk.specs.Reading.{HasRead};

@@ -1,6 +1,6 @@
 //! Writing the lines of a survey.
 
-ghost use Rattle.std.specs.Prelude.{◌≡◌, ◌++◌, ℕ, List, IfOk, OnOk, OnErr, length, map, slice_get};
+ghost use Rattle.std.specs.Prelude.{◌≡◌, ℕ, IfOk, OnOk, OnErr, map, slice_get};
 ghost use Rattle.tr_record.specs.Bytes.{and_then_bytes};
 ghost use Rattle.tr_survey.specs.Failures.{reads_after, writes_after};
 ghost use Rattle.tr_survey.specs.Findings.{finding_text, is_faulty, name_of};

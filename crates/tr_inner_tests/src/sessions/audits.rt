@@ -11,7 +11,7 @@ use tr_stream::{SessionMode, Stream};
 use tr_testing::moment;
 use uuid::Uuid;
 
-/// Offers are made at the moments from the first number up to the second, each of so many bytes.
+/// Offers are made at the moments from the first number up to the second, each of this many bytes.
 type Offers = (u64, u64, usize);
 
 /// Makes an offer to a stream, whatever the answer.

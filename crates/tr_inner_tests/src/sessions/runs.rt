@@ -193,7 +193,7 @@ static BEHIND: [Step; 3] = [
     Step::Fate(1, 2, Ok(Some(Fate::InChunk { chunk: 0, seq: 1 }))),
 ];
 
-/// Runs so many calls of that rotation, and asserts the fates.
+/// Runs this many calls of that rotation, and asserts the fates.
 fn assert_fates(rt: &impl Abort, alloc: Global, len: usize, calls: &[Call], fates: &[Step]) {
     let calls = calls.get(..len).expect(rt, "more calls");
     let mut session = run(rt, alloc, LOCAL, 2, calls);
@@ -224,7 +224,7 @@ static ENDED: [Call; 13] = [
     Stop(1, Ok(())),
 ];
 
-/// Runs so many calls of that, and asserts that one stream is cut.
+/// Runs this many calls of that, and asserts that one stream is cut.
 fn assert_pending(rt: &impl Abort, alloc: Global, len: usize, calls: &[Call]) {
     let calls = calls.get(..len).expect(rt, "more calls");
     let session = run(rt, alloc, LOCAL, 2, calls);

@@ -37,7 +37,7 @@ static DUE: [&[Step]; 3] = [
         Take(0, Ok(TAKEN)),
         Tick(150, Some((Size, (1, 100, 150)))),
     ],
-    // a tick before the last moment: the timer isn't over before its begin, but the size is reached
+    // a tick before the last moment: the timer isn't over before its beginning, but the size is reached
     &[
         Tick(100, Some((Timer, (0, 0, 100)))),
         Offers(101, 104, 50),

@@ -121,7 +121,7 @@ fn assert_told(
 }
 
 /// After how many calls the disk fails, how many bytes its first file has room for and each later one, and whether that is
-/// told. There are five calls: a folder, and the begin and the end of two files. The metadata has 1,082 bytes, the stream's
+/// told. There are five calls: a folder, and the beginning and the end of two files. The metadata has 1,082 bytes, the stream's
 /// file 484.
 static FAILURES: [(usize, usize, usize, bool); 13] = [
     (0, 4096, 4096, true),

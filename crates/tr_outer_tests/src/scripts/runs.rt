@@ -155,7 +155,7 @@ impl ByteSource for Feeds {
     }
 }
 
-/// Asserts what a script of so many newlines comes to, and after how many calls of its source.
+/// Asserts what a script of this many newlines comes to, and after how many calls of its source.
 fn assert_fed(
     rt: &impl Abort,
     alloc: Global,

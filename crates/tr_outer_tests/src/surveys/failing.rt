@@ -10,7 +10,7 @@ use tr_folders::{Folders, MemoryFolders, ReadFault};
 use tr_record::{ByteSink, Failed, MemorySink};
 use tr_survey::{SurveyFault, survey};
 
-/// Folders that fail after so many calls.
+/// Folders that fail after this many calls.
 #[derive(Drop)]
 struct FailingFolders {
     folders: MemoryFolders,

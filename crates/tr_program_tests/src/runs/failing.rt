@@ -229,7 +229,7 @@ fn after_a_sink_that_failed_nothing_is_made(rt: HostRuntime) {
     }
 }
 
-// five calls: a folder, and the begin and the end of two files
+// five calls: a folder, and the beginning and the end of two files
 #[test]
 fn a_disk_that_failed_is_told(rt: HostRuntime) {
     for calls in 0..5 {

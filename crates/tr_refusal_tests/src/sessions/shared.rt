@@ -65,7 +65,7 @@ fn settle<'h, N: Names>(
 /// How many free bytes a call has, and the refusal after which it is made again with memory, if it is.
 type Memory = (usize, Option<Told>);
 
-/// Makes the steps of a row, then its call with so many free bytes, and settles the session.
+/// Makes the steps of a row, then its call with this many free bytes, and settles the session.
 fn work<'h, N: Names>(
     rt: &(impl Abort + Wait),
     plain: Global,

@@ -1,6 +1,6 @@
 //! Reading a session's book.
 
-ghost use Rattle.std.specs.Prelude.{◌≡◌, ◌≤◌, ℕ, Some, IfSome, length, option_copied, slice_get};
+ghost use Rattle.std.specs.Prelude.{◌≡◌, ◌≤◌, ℕ, Some, None, IfSome, length, option_copied, slice_get};
 ghost use Rattle.tr_session_book.specs.declared.archive.Archive as value;
 ghost use Rattle.tr_session_book.specs.BookSteps.{channel_named, channel_of};
 ghost use Rattle.tr_terms.specs.declared.limits.TheConstants.{MOST_CHANNELS, MOST_STREAMS};
@@ -101,6 +101,7 @@ impl<A: Allocator> SessionBook<A> {
     /// The rotation that has begun and isn't finished. Its archive's number is the number of archives.
     pub fn pending(&self) -> Option<Pending>
         ensures value { result ≡ self.now.pending }
+        ensures local { self.now.mode ≡ SessionMode.Snapshot → result ≡ None }
         ensures numbered { IfSome result (λ pending. pending.archive.id ≡ length self.now.archives) }
     {
         self.pending

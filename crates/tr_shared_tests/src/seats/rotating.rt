@@ -36,7 +36,7 @@ fn assert_cut<N: Names>(
     assert_same(rt, (place, i, found), (place, i, want));
 }
 
-/// Asserts what the begin of a rotation at a moment answers.
+/// Asserts what the beginning of a rotation at a moment answers.
 fn assert_begun<N: Names>(
     rt: &impl Abort,
     desk: &mut Desk<N>,

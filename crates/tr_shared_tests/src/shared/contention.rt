@@ -42,7 +42,7 @@ const SHARED_ROTATIONS: u64 = 100;
 /// How many offers, and how many takes, are made while another stream is held.
 const CALLS: u64 = 100;
 
-/// Waits for others to raise a count, so many turns at most, and says whether they did.
+/// Waits for others to raise a count, this many turns at most, and says whether they did.
 fn reached(count: &AtomicU64, wanted: u64, turns: u64) -> bool {
     for _ in 0..turns {
         if count.load(Ordering::SeqCst) >= wanted {
@@ -58,7 +58,7 @@ fn raise(count: &AtomicU64) {
     count.fetch_add(1, Ordering::SeqCst);
 }
 
-/// Comes to a meeting of so many threads, and waits for the others.
+/// Comes to a meeting of this many threads, and waits for the others.
 fn meet(rt: &impl Abort, come: &AtomicU64, threads: u64) {
     raise(come);
     assert!(rt;
@@ -521,7 +521,7 @@ fn a_held_stream_stops_a_rotation_and_no_other_stream(rt: HostRuntime) {
     holds::<Brand, HostRuntime>(&rt, rt.alloc(), plan);
 }
 
-/// Takes so many away, and gives them back.
+/// Takes this many away, and gives them back.
 fn hold_back<T: Drop>(rt: &impl Abort, alloc: Global, items: &mut Vec<T>, count: usize) -> Vec<T> {
     let mut held = Vec::new(alloc);
     for _ in 0..count {
@@ -530,7 +530,7 @@ fn hold_back<T: Drop>(rt: &impl Abort, alloc: Global, items: &mut Vec<T>, count:
     held
 }
 
-/// A session of four producers and two drainers isn't settled while so many of each are held back, and is settled with all.
+/// A session of four producers and two drainers isn't settled while this many of each are held back, and is settled with all.
 fn settles<N: Names>(
     rt: &(impl Abort + Wait),
     alloc: Global,

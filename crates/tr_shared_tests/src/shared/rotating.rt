@@ -47,7 +47,7 @@ pub(super) fn assert_rotated<N: Names>(
     assert_same(rt, (at, shared.rotate(rt, moment(at))), (at, want));
 }
 
-/// Asserts what the begin of a rotation at a moment answers.
+/// Asserts what the beginning of a rotation at a moment answers.
 pub(super) fn assert_begun<N: Names>(
     rt: &(impl Abort + Wait),
     shared: &Shared<N>,

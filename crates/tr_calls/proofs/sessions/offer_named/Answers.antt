@@ -1,6 +1,6 @@
 use Rattle.std.proofs.Common.{◌≡◌, Ok, Err, ap, sym, None, Some}
 use Rattle.std.specs.Map.{lookup}
-use Rattle.tr_calls.proofs.CallLaws.{is_named, named-is, names-kept, set-is, call-none, call-some, unchanged-is}
+use Rattle.tr_calls.proofs.CallLaws.{is_named, named-is, names-kept, set-is, call-none, call-some}
 use Rattle.tr_calls.proofs.sessions.offer_named.Goals as goal
 use Rattle.tr_calls.specs.Calls.{from_step}
 use Rattle.tr_outcome.specs.declared.faults.LineFault.TheVariants.{Step}

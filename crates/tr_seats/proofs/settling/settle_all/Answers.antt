@@ -10,7 +10,7 @@ use Rattle.tr_seats.specs.Desks.{DeskState}
 use Rattle.tr_seats.specs.Settling.{IsOneEach, IsSessionOf, streams_of, totals_of_seats}
 use Rattle.tr_seats.specs.Slots.{AreSeatsOf, ProducerState, SlotState, amounts_of}
 use Rattle.tr_seats.specs.Sums.{totals_in, totals_of}
-use Rattle.tr_session.specs.Session.{HasItsStreams, SessionOf, session_of}
+use Rattle.tr_session.specs.Session.{HasItsStreams, session_of}
 use Rattle.tr_stream.specs.State.{StreamState, in_ring}
 
 -- what is written back over a list

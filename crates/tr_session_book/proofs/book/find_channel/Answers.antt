@@ -1,4 +1,4 @@
-use Rattle.std.proofs.Common.{◌∙◌, ◌≡◌, Some, None, ap, rules, sym}
+use Rattle.std.proofs.Common.{◌∙◌, ◌≡◌, Some, ap, rules, sym}
 use Rattle.std.specs.Prelude.{option_copied, slice_get}
 use Rattle.tr_session_book.proofs.ListLaws.{copied-item}
 use Rattle.tr_session_book.proofs.NameLaws.{lookup-no_place, lookup-place, position-by_name}

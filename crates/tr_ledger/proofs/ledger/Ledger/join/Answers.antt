@@ -1,4 +1,4 @@
-use Rattle.std.proofs.Common.{◌≡◌, ◌∙◌, ap, refl}
+use Rattle.std.proofs.Common.{◌∙◌, ap, refl}
 use Rattle.atomic_table.specs.Table.{keeps}
 use Rattle.tr_ledger.specs.Ledgers.{view_of}
 use Rattle.tr_ledger.proofs.Steps.{learns, has_book}

@@ -1,4 +1,4 @@
-use Rattle.std.proofs.Common.{◌≡◌, ◌<◌, ◌∙◌, ap, refl, arith}
+use Rattle.std.proofs.Common.{◌<◌, ◌∙◌, ap, refl, arith}
 use Rattle.atomic_table.specs.Table.{keeps}
 use Rattle.tr_ledger.specs.Ledgers.{view_of}
 use Rattle.tr_ledger.specs.Views.{raised}

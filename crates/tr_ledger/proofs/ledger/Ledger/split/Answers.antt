@@ -1,4 +1,4 @@
-use Rattle.std.proofs.Common.{◌≡◌, ap}
+use Rattle.std.proofs.Common.{ap}
 use Rattle.tr_ledger.proofs.Steps.{makes}
 use Rattle.tr_ledger.proofs.ledger.Ledger.split.Goals as goal
 

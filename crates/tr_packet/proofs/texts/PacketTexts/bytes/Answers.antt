@@ -1,4 +1,4 @@
-use Rattle.std.proofs.Common.{◌≡◌, List, sum_by, length, ap, subst, ◌∙◌}
+use Rattle.std.proofs.Common.{List, sum_by, length, ap, ◌∙◌}
 use Rattle.tr_packet.specs.Packets.{Contents, packet_size}
 use Rattle.tr_packet.specs.Texts.{packets_text, packets_in}
 use Rattle.tr_packet.proofs.LabelLemmas.{texts_are, packets_are, size_is}

@@ -1,7 +1,7 @@
-use Rattle.std.proofs.Common.{◌≡◌, ◌+◌, ◌<◌, ◌≤◌, ℕ, List, Bool, length, arith, sym, ap, subst, ◌∙◌, ◌++◌, ◌∷◌, []}
+use Rattle.std.proofs.Common.{◌≡◌, ◌+◌, ℕ, List, Bool, length, arith, sym, ap, subst, ◌∙◌, ◌++◌, ◌∷◌, []}
 use Rattle.std.specs.Prelude.{IsTrue, vec_capacity}
 use Rattle.std.proofs.lemmas.Bool.{leb-true}
-use Rattle.tr_record.specs.Records.{Entry, record_text}
+use Rattle.tr_record.specs.Records.{Entry}
 use Rattle.tr_record.specs.Weight.{weight_of}
 use Rattle.tr_record.specs.Whole.{entries_of}
 use Rattle.tr_ring.specs.Page.{IsPage}

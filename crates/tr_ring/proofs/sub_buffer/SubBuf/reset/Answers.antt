@@ -1,4 +1,4 @@
-use Rattle.std.proofs.Common.{◌≡◌, ℕ, List, arith, sym, ap, subst, ◌∙◌}
+use Rattle.std.proofs.Common.{ℕ, List, arith, sym, ap, subst, ◌∙◌}
 use Rattle.std.specs.Prelude.{vec_capacity}
 use Rattle.tr_record.specs.Records.{Entry}
 use Rattle.tr_record.specs.Whole.{entries_of}

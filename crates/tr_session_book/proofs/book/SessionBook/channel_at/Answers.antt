@@ -5,7 +5,7 @@ use Rattle.std.specs.Str.{bytes_eq}
 use Rattle.tr_session_book.proofs.BookLaws.{place-full, place-left, thread_place-is}
 use Rattle.tr_session_book.proofs.book.SessionBook.channel_at.Goals as goal
 use Rattle.tr_session_book.specs.Book.{SessionBookState}
-use Rattle.tr_session_book.specs.BookSteps.{is_new, channel_named}
+use Rattle.tr_session_book.specs.BookSteps.{is_new}
 use Rattle.tr_session_book.specs.Names.{by_name}
 
 pub returns-in_default-clause-err : goal.returns-in_default-clause-err
