@@ -1,7 +1,7 @@
 -- What a run of the program does.
 use Rattle.std.specs.Prelude.{◌≡◌, ◌⊎◌, ℕ, [], List, Option, Some, None, Result, Ok, Err}
 use Rattle.tr_calls.specs.World.{World}
-use Rattle.tr_chunk.specs.Files.{Sunk}
+use Rattle.tr_chunk.specs.Files.{Sunk, WentOut}
 use Rattle.tr_console.specs.Runs.{AnsweredSome, BrokeOff, Ran, WentTooFar, WroteSome}
 use Rattle.tr_export.specs.Failures.{HasFailed, HasNotFailed}
 use Rattle.tr_export.specs.Making.{MadeFront, Makings}
@@ -28,11 +28,6 @@ use Rattle.tr_program.specs.Endings.{ending_of_load, ending_of_refused, ending_o
 use Rattle.tr_program.specs.Exports.{IsMadeBelow, all_made}
 use Rattle.tr_program.specs.declared.ending.Ending.{Ending}
 use Rattle.tr_program.specs.declared.ending.Ending.TheVariants.{Done, Refused, Faulty, BadCommandLine, ReadOrWrite, NoSession, NoMemory}
-
--- the line went out, if there is one
-abbrev pub GotLine : Option (List ℕ) → Option (List ℕ) → Option (List ℕ) → Type 0
-GotLine before after None = after ≡ before
-GotLine before after (Some line) = after ≡ and_then_bytes before line
 
 -- what is known of an input, an output and a disk at one step: all that the input holds and what it gave, what the output took,
 -- what was made on the disk, and how often each of them failed
@@ -204,9 +199,15 @@ module _ (old new : Host) where
   HasNoFault = (new.input_failures ≡ old.input_failures) × (new.output_failures ≡ old.output_failures)
       × HasNotFailed old.disk_failures new.disk_failures
 
--- standard error before and after: it got the ending's line, if it didn't fail
+-- a line was put to standard error, if there is one: all of it went out; or one failure came, and a prefix of it went out
+abbrev pub IsPut : Option (List ℕ) → Sunk → Sunk → Type 0
+IsPut None old new = (new.taken ≡ old.taken) × (new.failures ≡ old.failures)
+IsPut (Some line) old new = ((new.taken ≡ and_then_bytes old.taken line) × (new.failures ≡ old.failures))
+    ⊎ (WentOut old.taken new.taken line × (new.failures ≡ once_more old.failures))
+
+-- standard error before and after: the ending's line was put to it
 abbrev pub IsTold : Ending → Sunk → Sunk → Type 0
-IsTold ending old new = GotLine old.taken new.taken (message_of ending) ⊎ (new.failures ≡ once_more old.failures)
+IsTold ending old new = IsPut (message_of ending) old new
 
 -- the run ended as what was asked for does
 abbrev pub EndsSo : Outside → Outside → Option Task → Ending → Type 0
