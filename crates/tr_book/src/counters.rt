@@ -1,12 +1,13 @@
 //! A stream's counters and its last moment.
 
 ghost use Rattle.std.specs.Prelude.{◌≡◌, ◌+◌, ◌<◌, ◌^◌, max};
-ghost use Rattle.tr_book.specs.Counters.{new_counters, with_offer, with_overwritten, with_consumed, at_moment};
+ghost use Rattle.tr_book.specs.Counters.{new_counters, with_offer, with_overwritten, with_consumed, with_cleared, at_moment};
 
 use std::marker::Model;
 use tr_record::Moment;
 
-/// How many offers a stream accepted, how many of their records were overwritten or consumed, and its last stored moment.
+/// How many offers a stream accepted, how many of their records were overwritten, consumed or cleared, and its last stored
+/// moment.
 /// Contracts see a `CountersState`.
 #[derive(Clone, Copy, Debug, PartialEq, Eq)]
 pub struct Counters {
@@ -14,6 +15,8 @@ pub struct Counters {
     overwritten: u64,
     overwritten_packets: u64,
     consumed: u64,
+    cleared: u64,
+    withdrawn: u64,
     last: Moment,
 }
 
@@ -22,13 +25,16 @@ impl Model for Counters {
 
     ghost Value = { CountersState };
 
-    ghost view = { λ b. counters_state b.offered b.overwritten b.overwritten_packets b.consumed b.last };
+    ghost view = { λ b. counters_state b.offered b.overwritten b.overwritten_packets b.consumed b.cleared
+        b.withdrawn b.last };
 
     ghost inverse = { λ s. record {
       offered = s.offered;
       overwritten = s.overwritten;
       overwritten_packets = s.overwritten_packets;
       consumed = s.consumed;
+      cleared = s.cleared;
+      withdrawn = s.withdrawn;
       last = s.last;
     } };
 }
@@ -43,6 +49,8 @@ impl Counters {
             overwritten: 0,
             overwritten_packets: 0,
             consumed: 0,
+            cleared: 0,
+            withdrawn: 0,
             last: Moment::zero(),
         }
     }
@@ -73,6 +81,20 @@ impl Counters {
         ensures { result ≡ self.now.consumed }
     {
         self.consumed
+    }
+
+    /// How many records were cleared.
+    pub fn cleared(&self) -> u64
+        ensures { result ≡ self.now.cleared }
+    {
+        self.cleared
+    }
+
+    /// How many records were cleared after they had been consumed.
+    pub fn withdrawn(&self) -> u64
+        ensures { result ≡ self.now.withdrawn }
+    {
+        self.withdrawn
     }
 
     /// The last stored moment.
@@ -114,6 +136,16 @@ impl Counters {
         ensures { self.new ≡ with_consumed count self.old }
     {
         self.consumed += count;
+    }
+
+    /// Notes that `count` records were cleared, of which `consumed` had been consumed.
+    pub fn note_cleared(&mut self, count: u64, consumed: u64)
+        requires cleared { self.old.cleared + count < 2 ^ 64 }
+        requires withdrawn { self.old.withdrawn + consumed < 2 ^ 64 }
+        ensures { self.new ≡ with_cleared count consumed self.old }
+    {
+        self.cleared += count;
+        self.withdrawn += consumed;
     }
 
     /// Notes that something was done at this moment.

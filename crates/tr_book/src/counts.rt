@@ -1,7 +1,7 @@
 //! A stream's counts.
 
-/// How many records were offered, and where they are: `offered` is the sum of `discarded`, `overwritten`, `in_ring` and
-/// `consumed`.
+/// How many records were offered, and where they are: `offered` is the sum of `discarded`, `overwritten`, `cleared`,
+/// `in_ring` and `in_chunks`, and `consumed` is that of `in_chunks` and `withdrawn`.
 #[derive(Clone, Copy, Debug, PartialEq, Eq)]
 pub struct Counts {
     /// How many offers were accepted.
@@ -14,8 +14,14 @@ pub struct Counts {
     pub overwritten_packets: u64,
     /// How many records the ring has.
     pub in_ring: u64,
-    /// How many records the parts have.
+    /// How many records were consumed, cleared ones too.
     pub consumed: u64,
+    /// How many records the parts have.
+    pub in_chunks: u64,
+    /// How many records were cleared.
+    pub cleared: u64,
+    /// How many records were cleared after they had been consumed.
+    pub withdrawn: u64,
     /// How many parts are closed.
     pub cuts: u64,
     /// The bytes of the packets in the current part, or 2^64 - 1 if they are more.

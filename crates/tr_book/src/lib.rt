@@ -5,11 +5,13 @@ mod counters;
 mod counts;
 mod part;
 mod parts;
+mod runs;
 mod snap;
 
 pub use counters::Counters;
 pub use counts::Counts;
 pub use part::{Part, records_in};
 pub use parts::Parts;
+pub use runs::{Run, Runs};
 pub use snap::StreamSnap;
 pub use tr_terms::{Geometry, GeometryFault, Mode};

@@ -1,7 +1,7 @@
 //! A part: what a stream's ring gave to one trace chunk.
 
 ghost use Rattle.std.specs.Prelude.{◌≡◌, ◌≤◌, ◌+◌, ◌*◌, ◌<◌, ◌^◌, ◌∷◌, [], ◌++◌, OnOk, OnErr, length};
-ghost use Rattle.tr_book.specs.Parts.{bytes_of, records_of, empty_part, seq_among};
+ghost use Rattle.tr_book.specs.Parts.{records_of, empty_part, part_bytes, part_records, seq_in_part};
 ghost use Rattle.tr_packet.specs.Packets.{IsPacket, contents};
 ghost use Rattle.tr_packet.specs.Texts.{packets_text};
 ghost use Rattle.tr_terms.specs.declared.limits.TheConstants.{LARGEST_PACKET};
@@ -79,8 +79,8 @@ impl<A: Allocator> Part<A> {
 
     /// The bytes of all its packets.
     pub fn bytes(&self) -> u128
-        ensures value { result ≡ bytes_of self.now.packets }
-        ensures small { result ≤ LARGEST_PACKET * records_of self.now.packets }
+        ensures value { result ≡ part_bytes self.now }
+        ensures small { result ≤ LARGEST_PACKET * part_records self.now }
     {
         // Its packets are packets.
         let _ = self.texts.packets();
@@ -89,14 +89,14 @@ impl<A: Allocator> Part<A> {
 
     /// How many records its packets have.
     pub fn records(&self) -> u64
-        ensures { result ≡ records_of self.now.packets }
+        ensures { result ≡ part_records self.now }
     {
         self.records
     }
 
     /// The number of its packet that has the record of this serial.
     pub fn seq_of(&self, serial: u64) -> Option<u64>
-        ensures { result ≡ seq_among serial self.now.packets }
+        ensures { result ≡ seq_in_part serial self.now }
     {
         for packet in self.texts.packets() {
             if packet.records().has(serial) {

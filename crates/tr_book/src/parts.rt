@@ -2,21 +2,24 @@
 
 ghost use Rattle.std.specs.Prelude.{◌≡◌, ◌+◌, ◌<◌, ◌^◌, OnOk, OnErr, length, option_copied};
 ghost use Rattle.tr_packet.specs.Packets.{IsPacket, contents};
-ghost use Rattle.tr_book.specs.Parts.{IsNumbered, records_of, no_parts, with_packet, with_packets, close_part, part_at};
+ghost use Rattle.tr_book.specs.Parts.{IsNumbered, records_of, no_parts, with_packet, with_packets, close_part, clear_part, part_at};
+ghost use Rattle.tr_book.specs.Runs.{seq_in_runs};
 
 use crate::part::Part;
+use crate::runs::Runs;
 use std::alloc::{AllocError, Allocator, Global};
 use std::marker::Model;
 use std::mem;
 use tr_packet::{Head, PacketTexts};
 use tr_record::Records;
 
-/// The closed parts of a stream in order, and the current one. Contracts see a `PartsState`.
+/// The closed parts of a stream in order, the current one, and which records were cleared. Contracts see a `PartsState`.
 #[derive(Drop)]
 pub struct Parts<A: Allocator = Global> {
     alloc: A,
     closed: Vec<Part<A>, A>,
     current: Part<A>,
+    cleared: Runs<A>,
 }
 
 impl<A: Allocator> Model for Parts<A> {
@@ -24,9 +27,9 @@ impl<A: Allocator> Model for Parts<A> {
 
     ghost Value = { PartsState };
 
-    ghost view = { λ s. parts_state s.closed.items s.current };
+    ghost view = { λ s. parts_state s.closed.items s.current s.cleared };
 
-    ghost invariant = { λ s. IsNumbered (parts_state s.closed.items s.current) };
+    ghost invariant = { λ s. IsNumbered (parts_state s.closed.items s.current s.cleared) };
 }
 
 impl<A: Allocator> Parts<A> {
@@ -53,6 +56,13 @@ impl<A: Allocator> Parts<A> {
         ensures { result.now ≡ self.now.closed }
     {
         self.closed.as_slice()
+    }
+
+    /// The number of the cleared packet that had the record of this serial.
+    pub fn seq_cleared(&self, serial: u64) -> Option<u64>
+        ensures { result ≡ seq_in_runs serial self.now.cleared }
+    {
+        self.cleared.seq_of(serial)
     }
 
     /// How many parts are closed.
@@ -90,6 +100,7 @@ impl<A: Allocator + Copy> Parts<A> {
             alloc,
             closed: Vec::new(alloc),
             current: Part::new(alloc, 0),
+            cleared: Runs::new(alloc),
         }
     }
 
@@ -105,6 +116,19 @@ impl<A: Allocator + Copy> Parts<A> {
         self.current.append(packets)?;
         self.closed
             .push_reserved(mem::replace(&mut self.current, next));
+        Ok(())
+    }
+
+    /// Removes the packets of the current part, and keeps their runs, and then these. If an allocation fails, nothing changes.
+    pub fn clear(&mut self, more: Runs<A>) -> Result<(), AllocError>
+        ensures ok { OnOk result (self.new ≡ clear_part more self.old) }
+        ensures err { OnErr result (self.new ≡ self.old) }
+    {
+        let mut gone = Runs::new(self.alloc);
+        gone.push_packets(self.current.packets())?;
+        gone.append(more)?;
+        self.cleared.append(gone)?;
+        self.current = Part::new(self.alloc, self.current.id());
         Ok(())
     }
 }

@@ -13,8 +13,8 @@ use tr_book::{Counts, Geometry, Mode, StreamSnap};
 use tr_packet::{Head, PacketView, Packets};
 use tr_record::RecView;
 use tr_stream::{
-    CutDone, CutFault, Fate, OfferFault, Offered, SessionMode, Stream, StreamConfig, TakeFault,
-    Taken,
+    ClearFault, Cleared, CutDone, CutFault, Fate, OfferFault, Offered, SessionMode, Stream,
+    StreamConfig, TakeFault, Taken,
 };
 use tr_testing::moment;
 use uuid::Uuid;
@@ -45,6 +45,7 @@ enum Step {
     Take(Result<Taken, TakeFault>),
     /// A cut at this moment.
     Cut(u64, Result<CutDone, CutFault>),
+    Clear(Result<Cleared, ClearFault>),
     /// A peek at this moment. It shows the offers, the discarded records and the packets.
     Peek(u64, (u64, u64), &'static [PacketRow]),
     /// The fate of the record with this serial.
@@ -115,6 +116,7 @@ fn assert_step(rt: &impl Abort, stream: &mut Stream, place: Place, step: &Step) 
         Step::Offers(from, to, len) => make_offers(rt, stream, from, to, len),
         Step::Take(want) => assert_at(rt, place, stream.take(), want),
         Step::Cut(at, want) => assert_at(rt, place, stream.cut(moment(at)), want),
+        Step::Clear(want) => assert_at(rt, place, stream.clear(), want),
         Step::Peek(at, counts, rows) => {
             let snap = stream.peek(moment(at)).expect(rt, "a look");
             assert_look(rt, place, &snap, counts, rows);

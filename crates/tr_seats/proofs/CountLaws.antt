@@ -13,7 +13,7 @@ use Rattle.tr_seats.specs.Sums.{totals_after_offer, totals_in}
 use Rattle.tr_seats.specs.declared.totals.Totals.{Totals}
 use Rattle.tr_stream.specs.Sound.{IsSound}
 use Rattle.tr_stream.specs.State.{StreamState, in_ring}
-use Rattle.tr_stream.specs.StateSteps.{counters_after_push, cut_done, move_oldest, offered_as, refusal_of, state_after_cut, state_after_offer, state_after_take, state_cut_answer, state_cut_ring, state_entry, state_offer_answer, state_take_answer, state_with_offer}
+use Rattle.tr_stream.specs.StateSteps.{counters_after_push, cut_done, move_oldest, offered_as, refusal_of, state_after_cut, state_after_offer, state_after_take, state_cut_answer, state_cut_ring, state_entry, state_offer_answer, state_take_answer, state_unless, state_with_offer}
 use Rattle.tr_stream.proofs.CutLaws.{records_in-ring}
 use Rattle.tr_stream.specs.declared.answers.CutDone.{CutDone}
 use Rattle.tr_stream.specs.declared.answers.OfferFault.{OfferFault}
@@ -21,6 +21,7 @@ use Rattle.tr_stream.specs.declared.answers.Offered.{Offered}
 use Rattle.tr_stream.specs.declared.answers.TakeFault.{TakeFault}
 use Rattle.tr_stream.specs.declared.answers.TakeFault.TheVariants as take_fault
 use Rattle.tr_stream.specs.declared.answers.Taken.{Taken}
+use Rattle.tr_terms.specs.SessionModes.{by_session_mode}
 use Rattle.tr_terms.specs.declared.session_mode.SessionMode.{SessionMode}
 use Rattle.tr_terms.specs.declared.session_mode.SessionMode.TheVariants.{Local, Snapshot}
 
@@ -73,10 +74,37 @@ few-counted s is = record {
   discarded = omega (arith, is.few, is.total);
   overwritten = omega (arith, is.few, is.total);
   overwritten_packets = omega (arith, is.few, is.dropped, is.numbers);
-  consumed = omega (arith, is.few, is.total);
+  consumed = omega (arith, is.few, is.total, is.consumed, is.withdrawn);
 }
 
+-- an offer clears nothing
+pub offer-uncleared : (moment id : ℕ) (payload : List ℕ) (s : StreamState)
+    → (state_after_offer moment id payload s).counters.cleared ≡ s.counters.cleared
+offer-uncleared moment id payload s = go (refusal_of (length payload) s)
+  where
+    e : Entry
+    e = state_entry moment id payload s
+
+    pushed-same : (p : Pushed) → (counters_after_push p e.moment s.counters).cleared ≡ s.counters.cleared
+    pushed-same (pushed.Stored seq) = refl
+    pushed-same (pushed.StoredOver seq gone_seq gone_count) = refl
+    pushed-same pushed.Discarded = refl
+
+    go : (refusal : Option OfferFault) → (state_unless refusal e s).counters.cleared ≡ s.counters.cleared
+    go (Some fault) = refl
+    go None = pushed-same (push_answer e s.ring)
+
 -- ---- takes
+
+-- a take clears nothing
+pub take-uncleared : (s : StreamState) → (state_after_take s).counters.cleared ≡ s.counters.cleared
+take-uncleared s = go s.config.session s.ring.waiting
+  where
+    go : (mode : SessionMode) (waiting : List ClosedBuffer)
+        → (by_session_mode mode (move_oldest waiting s) s).counters.cleared ≡ s.counters.cleared
+    go Snapshot waiting = refl
+    go Local [] = refl
+    go Local (b ∷ bs) = refl
 
 -- what is taken is counted as consumed, and it has a record
 pub record IsTakenFrom (s : StreamState) (taken : Taken) : Type 0 where
@@ -118,6 +146,15 @@ refused-take s new take_fault.SnapshotMode value none = take-unchanged s new tak
 refused-take s new take_fault.Misplaced value none = take-unchanged s new take_fault.Misplaced (value (λ e. cc))
 
 -- ---- cuts
+
+-- a cut clears nothing
+pub cut-uncleared : (moment : ℕ) (s : StreamState) → (state_after_cut moment s).counters.cleared ≡ s.counters.cleared
+cut-uncleared moment s = go s.config.session
+  where
+    go : (mode : SessionMode)
+        → (by_session_mode mode (state_cut_ring (max moment s.counters.last) s) s).counters.cleared ≡ s.counters.cleared
+    go Snapshot = refl
+    go Local = refl
 
 -- what a cut moves is counted as consumed, and one more chunk is closed
 pub cut-totals : (moment : ℕ) (s : StreamState) (done : CutDone) → Ok done ≡ state_cut_answer moment s

@@ -10,7 +10,7 @@ use Rattle.tr_ledger.specs.Ledgers.{LedgerState, SeatState, ledger_state, seat_s
 use Rattle.tr_seats.proofs.Rows.{amounts-grown, consumed-at, cuts-at, new-grown, row-grown}
 use Rattle.tr_seats.specs.Books.{AreBooksOf, Books, IsPlan, IsPlanned, PlanState, books_of, consumed_books, cut_books, no_books, no_table}
 use Rattle.tr_seats.specs.Desks.{IsDesk, desk_state}
-use Rattle.tr_seats.specs.Plans.{AreNamed, AreUnused, IsOpened, no_totals, opened_of, slots_from}
+use Rattle.tr_seats.specs.Plans.{AreNamed, AreUnused, IsOpened, IsUnused, opened_of, slots_from}
 use Rattle.tr_seats.specs.Seats.{AreSeatsOfProducer}
 use Rattle.tr_seats.specs.Settling.{opened_state}
 use Rattle.tr_seats.specs.Slots.{AreNew, AreSeatsOf, ProducerState, SlotState, amounts_of, new_producer, slot_state}
@@ -21,10 +21,11 @@ use Rattle.tr_stream.specs.State.{StreamState}
 
 -- the books of a stream on which nothing was done, as they were opened
 pub books-opened : (books : Books) (stream : StreamState) (o d v p k c : LedgerState) (os ds vs ps ks cs : SeatState)
-    → books_of o.table d.table v.table p.table k.table c.table ≡ books → totals_in stream ≡ no_totals
+    → books_of o.table d.table v.table p.table k.table c.table ≡ books → IsUnused stream
     → IsOpened o os → IsOpened d ds → IsOpened v vs → IsOpened p ps → IsOpened k ks → IsOpened c cs
     → AreBooksOf books stream k.made o d v p k c
-books-opened books stream o d v p k c os ds vs ps ks cs is none io id iv ip ik ic =
+books-opened books stream o d v p k c os ds vs ps ks cs is unused io id iv ip ik ic =
+    let none = unused.0 in
     let made : k.made ≡ 0 = ap (λ (l : LedgerState). l.made) ik.0 in
     record {
       offered_is = io.0 ∙ (λ j. ledger_state (is j).offered (sym none j).offered 0);
@@ -33,6 +34,7 @@ books-opened books stream o d v p k c os ds vs ps ks cs is none io id iv ip ik i
       packets_is = ip.0 ∙ (λ j. ledger_state (is j).overwritten_packets (sym none j).overwritten_packets 0);
       consumed_is = ik.0 ∙ (λ j. ledger_state (is j).consumed (sym none j).consumed (sym made j));
       cuts_is = ic.0 ∙ (λ j. ledger_state (is j).cuts (sym none j).cuts 0);
+      uncleared = unused.1;
     }
 
 -- and their whole seats
@@ -139,7 +141,7 @@ module _ (plan : PlanState) (slots : List SlotState) (producers : List ProducerS
       operator = λ i lt.
           let here = there-within plan.session.streams i (omega (arith, lt, planned.books)) in
           let closed : length here.0.parts.closed ≡ chunks_closed i plan.session.book = (planned.session.are i here.0 here.1).closed in
-          let none : length here.0.parts.closed ≡ 0 = ap (λ (x : Totals). x.cuts) (unused i here.0 here.1) in
+          let none : length here.0.parts.closed ≡ 0 = ap (λ (x : Totals). x.cuts) (unused i here.0 here.1).0 in
           ap (λ (xs : List ℕ). slice_index xs i) is.cuts_none ∙ nothing-at (length slots) i (omega (arith, lt, all))
           ∙ sym none ∙ closed;
     }

@@ -29,7 +29,8 @@ offered-here number moment id payload slot new result same answer after = (
   after ∙ sym (if-same number slot.number (record slot { stream = state_after_offer moment id payload slot.stream }) slot same),
 )
 
-module _ (books : Books) (s t : StreamState) (made : ℕ) (o d v p k c : LedgerState) (was : AreBooksOf books s made o d v p k c) where
+module _ (books : Books) (s t : StreamState) (made : ℕ) (o d v p k c : LedgerState) (was : AreBooksOf books s made o d v p k c)
+    (still : t.counters.cleared ≡ s.counters.cleared) where
   -- the ledgers of the stream after its step, where their totals are given
   rise : (table : Books → TableId) (total : Totals → ℕ) (old new : LedgerState) (n made : ℕ)
       → old ≡ ledger_state (table books) (total (totals_in s)) made → new ≡ ledger_state old.table (old.total + n) old.made
@@ -55,6 +56,7 @@ module _ (books : Books) (s t : StreamState) (made : ℕ) (o d v p k c : LedgerS
         (ap (λ (x : Totals). x.overwritten_packets) more);
     consumed_is = stay (λ (b : Books). b.consumed) (λ (x : Totals). x.consumed) k made was.consumed_is (ap (λ (x : Totals). x.consumed) more);
     cuts_is = stay (λ (b : Books). b.cuts) (λ (x : Totals). x.cuts) c 0 was.cuts_is (ap (λ (x : Totals). x.cuts) more);
+    uncleared = still ∙ was.uncleared;
   }
 
   pub books-stored_over : (o' v' p' : LedgerState) (serial seq gone_seq gone_count : ℕ)
@@ -70,6 +72,7 @@ module _ (books : Books) (s t : StreamState) (made : ℕ) (o d v p k c : LedgerS
         (ap (λ (x : Totals). x.overwritten_packets) more);
     consumed_is = stay (λ (b : Books). b.consumed) (λ (x : Totals). x.consumed) k made was.consumed_is (ap (λ (x : Totals). x.consumed) more);
     cuts_is = stay (λ (b : Books). b.cuts) (λ (x : Totals). x.cuts) c 0 was.cuts_is (ap (λ (x : Totals). x.cuts) more);
+    uncleared = still ∙ was.uncleared;
   }
 
   pub books-discarded : (o' d' : LedgerState) (serial : ℕ) → totals_in t ≡ totals_after_offer (Discarded serial) (totals_in s)
@@ -85,6 +88,7 @@ module _ (books : Books) (s t : StreamState) (made : ℕ) (o d v p k c : LedgerS
         (ap (λ (x : Totals). x.overwritten_packets) more);
     consumed_is = stay (λ (b : Books). b.consumed) (λ (x : Totals). x.consumed) k made was.consumed_is (ap (λ (x : Totals). x.consumed) more);
     cuts_is = stay (λ (b : Books). b.cuts) (λ (x : Totals). x.cuts) c 0 was.cuts_is (ap (λ (x : Totals). x.cuts) more);
+    uncleared = still ∙ was.uncleared;
   }
 
   pub books-taken : (k' : LedgerState) (n : ℕ) → totals_in t ≡ record (totals_in s) { consumed = (totals_in s).consumed + n }
@@ -103,6 +107,7 @@ module _ (books : Books) (s t : StreamState) (made : ℕ) (o d v p k c : LedgerS
             (ap (λ (x : Totals). x.consumed) more)
             ∙ ap (λ (m : ℕ). ledger_state books.consumed (totals_in t).consumed m) (sym same);
         cuts_is = stay (λ (b : Books). b.cuts) (λ (x : Totals). x.cuts) c 0 was.cuts_is (ap (λ (x : Totals). x.cuts) more);
+        uncleared = still ∙ was.uncleared;
       }
 
   pub books-cut : (k' c' : LedgerState) (n : ℕ)
@@ -123,6 +128,7 @@ module _ (books : Books) (s t : StreamState) (made : ℕ) (o d v p k c : LedgerS
             (ap (λ (x : Totals). x.consumed) more)
             ∙ ap (λ (m : ℕ). ledger_state books.consumed (totals_in t).consumed m) (sym same);
         cuts_is = rise (λ (b : Books). b.cuts) (λ (x : Totals). x.cuts) c c' 1 0 was.cuts_is ec (ap (λ (x : Totals). x.cuts) more);
+        uncleared = still ∙ was.uncleared;
       }
 
 -- a whole seat that was raised by one had the whole total before

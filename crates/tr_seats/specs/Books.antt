@@ -60,7 +60,8 @@ abbrev pub IsTooBig : PlanState → ℕ → ℕ → Type 0
 IsTooBig plan i len =
     (config : StreamConfig) → IsPlanned plan i config → config.geometry.size < SMALLEST_PACKET + len
 
--- a stream's books: their totals are its counts, and only that of the consumed records has made seats
+-- a stream's books: their totals are its counts, and only that of the consumed records has made seats; nothing of the stream
+-- was cleared, since no call here does that
 pub record AreBooksOf (books : Books) (stream : StreamState) (made : ℕ)
     (offered discarded overwritten overwritten_packets consumed cuts : LedgerState) : Type 0 where
   pub offered_is : offered ≡ ledger_state books.offered (totals_in stream).offered 0
@@ -70,6 +71,7 @@ pub record AreBooksOf (books : Books) (stream : StreamState) (made : ℕ)
       ≡ ledger_state books.overwritten_packets (totals_in stream).overwritten_packets 0
   pub consumed_is : consumed ≡ ledger_state books.consumed (totals_in stream).consumed made
   pub cuts_is : cuts ≡ ledger_state books.cuts (totals_in stream).cuts 0
+  pub uncleared : stream.counters.cleared ≡ 0
 
 -- the books of what the streams consumed, and those of their cuts
 abbrev pub consumed_books : List Books → List TableId

@@ -27,9 +27,13 @@ no_totals = record {
   cuts = 0;
 }
 
+-- nothing was done on a stream
+abbrev pub IsUnused : StreamState → Type 0
+IsUnused t = (totals_in t ≡ no_totals) × (t.counters.cleared ≡ 0)
+
 -- nothing was done on these streams
 abbrev pub AreUnused : List StreamState → Type 0
-AreUnused streams = (i : ℕ) (t : StreamState) → slice_get streams i ≡ Some t → totals_in t ≡ no_totals
+AreUnused streams = (i : ℕ) (t : StreamState) → slice_get streams i ≡ Some t → IsUnused t
 
 -- a ledger with total 0, and its whole seat
 abbrev pub IsOpened : LedgerState → SeatState → Type 0

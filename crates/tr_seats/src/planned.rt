@@ -1,9 +1,8 @@
 //! A session before its first call, with the books of its streams.
 
 ghost use Rattle.std.specs.Prelude.{◌≡◌, IfErr, IfOk, length};
-ghost use Rattle.tr_seats.specs.Plans.{IsOpened, opened_of, planned_state, no_totals};
+ghost use Rattle.tr_seats.specs.Plans.{IsOpened, IsUnused, opened_of, planned_state};
 ghost use Rattle.tr_seats.specs.Slots.{AreNew};
-ghost use Rattle.tr_seats.specs.Sums.{totals_in};
 
 use crate::both::both;
 use crate::names::Names;
@@ -30,17 +29,15 @@ pub(crate) struct PlannedStream<A: Allocator = Global> {
 }
 
 impl<A: Allocator> Model for PlannedStream<A> {
-    ghost use Rattle.std.specs.Prelude.{◌≡◌};
     ghost use Rattle.tr_seats.specs.Books.{books_of};
-    ghost use Rattle.tr_seats.specs.Plans.{IsOpened, PlannedState, no_totals, planned_state};
-    ghost use Rattle.tr_seats.specs.Sums.{totals_in};
+    ghost use Rattle.tr_seats.specs.Plans.{IsOpened, IsUnused, PlannedState, planned_state};
 
     ghost Value = { PlannedState };
 
     ghost view = { λ p. planned_state p.stream (books_of p.offered.0.table p.discarded.0.table p.overwritten.0.table
         p.overwritten_packets.0.table p.consumed.0.table p.cuts.0.table) };
 
-    ghost invariant = { λ p. (totals_in p.stream ≡ no_totals) × IsOpened p.offered.0 p.offered.1
+    ghost invariant = { λ p. IsUnused p.stream × IsOpened p.offered.0 p.offered.1
         × IsOpened p.discarded.0 p.discarded.1 × IsOpened p.overwritten.0 p.overwritten.1
         × IsOpened p.overwritten_packets.0 p.overwritten_packets.1 × IsOpened p.consumed.0 p.consumed.1
         × IsOpened p.cuts.0 p.cuts.1 };
@@ -64,7 +61,7 @@ impl<A: Allocator> PlannedStream<A> {
     pub(crate) fn open(alloc: A, stream: Stream<A>) -> Result<PlannedStream<A>, AllocError>
     where
         A: Copy,
-        requires { totals_in stream ≡ no_totals }
+        requires { IsUnused stream }
         ensures { IfOk result (λ p. p.stream ≡ stream) }
     {
         let (stream, books) = both(stream, three_books(alloc))?;

@@ -14,11 +14,11 @@ use Rattle.tr_record.proofs.RecordLemmas.{all_append}
 use Rattle.tr_record.specs.Records.{Entry}
 use Rattle.tr_ring.specs.ClosedBuffer.{ClosedBuffer}
 use Rattle.tr_session.proofs.GapLaws.{low, gaps-are, numbers-packets}
-use Rattle.tr_session.specs.Audits.{packets_by_part, packets_in, files_of, LastIs, was_dropped, kept_above}
+use Rattle.tr_session.specs.Audits.{packets_by_part, packets_in, files_of, LastIs, was_removed, kept_above}
 use Rattle.tr_stream.proofs.Consistency.{rising-where}
 use Rattle.tr_stream.proofs.FateLaws.{parts-are}
 use Rattle.tr_stream.proofs.ModelLaws.{well_run}
-use Rattle.tr_stream.specs.Chunks.{chunk_of, consumed_of, packet_of, part_of, parts_below}
+use Rattle.tr_stream.specs.Chunks.{chunk_of, kept_of, packet_of, part_of, parts_below}
 use Rattle.tr_stream.specs.Consistent.{Rising}
 use Rattle.tr_stream.specs.Fates.{all_parts}
 use Rattle.tr_stream.specs.History.{History, is_kept, offered_of}
@@ -65,7 +65,7 @@ packets-below c (suc k) h =
     both : {xs ys zs ws : List Contents} → xs ≡ ys → zs ≡ ws → xs ++ zs ≡ ys ++ ws
     both e f = cc
 
-pub packets-are : (s : StreamState) (h : History) → StandsFor s h → packets_in s ≡ map (packet_of s.config) (consumed_of h)
+pub packets-are : (s : StreamState) (h : History) → StandsFor s h → packets_in s ≡ map (packet_of s.config) (kept_of h)
 packets-are s h is =
     ap (λ (parts : List PartState). all_of (map (λ (p : PartState). p.packets) parts)) (parts-are s h is)
     ∙ packets-below s.config (suc h.cuts) h
@@ -101,7 +101,7 @@ rise-records before seq serial (b ∷ bs) next_seq next le rise =
     rise-entries before serial b.records (records_behind bs) le rise.1
     (λ after more. rise-records after (b.seq + 1) (next_serial serial b.records) bs next_seq next more rise.2)
 
-pub kept-rise : (h : History) → IsWellFormed h → Rising 0 0 (consumed_of h) h.filling.number (offered_of h)
+pub kept-rise : (h : History) → IsWellFormed h → Rising 0 0 (kept_of h) h.filling.number (offered_of h)
 kept-rise h well = rising-where is_kept 0 0 0 0 0 h.closed h.filling.number (offered_of h) well.numbers well.covers
     (omega arith) (omega arith) (omega (arith, well.filling)) (omega arith)
 
@@ -132,29 +132,29 @@ passes s h sound is =
         packets = all-sent (all_parts s.parts)
             (all_append CanBeSent s.parts.closed (s.parts.current ∷ []) sound.closed_sent (sound.current_sent, tt));
         belong = subst (λ (ps : List Contents). AllByRecursion (BelongsTo s.config.uuid s.config.number) ps) (sym same)
-            (all-own s.config (consumed_of h));
+            (all-own s.config (kept_of h));
         numbers = subst (λ (ps : List Contents). IsTrue (numbers_rise_after None (numbers_of ps))) (sym same)
-            (subst (λ (ns : List ℕ). IsTrue (numbers_rise_after None ns)) (sym (numbers-packets s.config (consumed_of h)))
-            (rise-numbers None 0 0 (consumed_of h) h.filling.number (offered_of h) (omega arith) rise));
+            (subst (λ (ns : List ℕ). IsTrue (numbers_rise_after None ns)) (sym (numbers-packets s.config (kept_of h)))
+            (rise-numbers None 0 0 (kept_of h) h.filling.number (offered_of h) (omega arith) rise));
         serials = subst (λ (ps : List Contents). IsTrue (serials_rise_after None (records_of_packets ps))) (sym same)
             (subst (λ (es : List Entry). IsTrue (serials_rise_after None es))
-            (sym (records-packets s.config (consumed_of h)))
-            (rise-records None 0 0 (consumed_of h) h.filling.number (offered_of h) (omega arith) rise));
+            (sym (records-packets s.config (kept_of h)))
+            (rise-records None 0 0 (kept_of h) h.filling.number (offered_of h) (omega arith) rise));
       };
     }
 
--- the gaps are what was dropped below the last kept block
+-- the gaps are what was dropped or cleared below the last kept block
 pub gaps-within : (A : Type 0) (c : StreamConfig) (h : History) (n : ℕ) → IsWellFormed h
-    → is_in_runs n (audit_of {A = A} (map (packet_of c) (consumed_of h))).gaps
-    ≡ (was_dropped n h.closed && kept_above n h.closed)
+    → is_in_runs n (audit_of {A = A} (map (packet_of c) (kept_of h))).gaps
+    ≡ (was_removed n h.closed && kept_above n h.closed)
 gaps-within A c h n well = gaps-are c n h.closed well.numbers well.order
 
 module _ {A : Type 0} where
   -- in every run
-  pub gaps-dropped : (c : StreamConfig) (events : List (StreamEvent A)) (n : ℕ) → IsUsable c
+  pub gaps-removed : (c : StreamConfig) (events : List (StreamEvent A)) (n : ℕ) → IsUsable c
       → (let h = history_after_events c events new_history
-      in is_in_runs n (audit_of {A = A} (map (packet_of c) (consumed_of h))).gaps
-      ≡ (was_dropped n h.closed && kept_above n h.closed))
-  gaps-dropped c events n usable =
+      in is_in_runs n (audit_of {A = A} (map (packet_of c) (kept_of h))).gaps
+      ≡ (was_removed n h.closed && kept_above n h.closed))
+  gaps-removed c events n usable =
       let h = history_after_events c events new_history in
       gaps-within A c h n (well_run c events usable)

@@ -18,12 +18,12 @@ use Rattle.tr_record.specs.Records.{Entry}
 use Rattle.tr_ring.specs.ClosedBuffer.{ClosedBuffer}
 use Rattle.tr_session.proofs.AuditLaws.{gaps-within, kept-rise, packets-below, passes, rise-numbers}
 use Rattle.tr_session.proofs.GapLaws.{in_gap, low, numbers-packets, seqs}
-use Rattle.tr_session.specs.Audits.{files_of, is_below_one, kept_above, packets_by_part, was_dropped}
+use Rattle.tr_session.specs.Audits.{files_of, is_below_one, kept_above, packets_by_part, was_removed}
 use Rattle.tr_stream.proofs.FateLaws.{parts-are}
 use Rattle.tr_stream.proofs.TakeLaws.{length-parts_below}
-use Rattle.tr_stream.specs.Chunks.{buffers_where, chunk_of, consumed_of, packet_of, part_of, parts_below}
+use Rattle.tr_stream.specs.Chunks.{buffers_where, chunk_of, kept_of, packet_of, part_of, parts_below}
 use Rattle.tr_stream.specs.Fates.{all_parts}
-use Rattle.tr_stream.specs.History.{Closed, Dropped, History, Kept, Status, Waiting, is_kept}
+use Rattle.tr_stream.specs.History.{Cleared, Closed, Dropped, History, Kept, Status, Waiting, is_kept}
 use Rattle.tr_stream.specs.Sound.{IsSound}
 use Rattle.tr_stream.specs.StandsFor.{StandsFor}
 use Rattle.tr_stream.specs.State.{StreamState}
@@ -171,26 +171,27 @@ below-kept n discarded (c ∷ cs) = go c.status refl (below-kept n (discarded + 
     go Waiting e rest = rw e (grind (arith, nat_tests, rest))
     go Dropped e rest = rw e (grind (arith, nat_tests, rest))
     go (Kept k) e rest = rw e (grind (arith, nat_tests, rest))
+    go (Cleared t) e rest = rw e (grind (arith, nat_tests, rest))
 
 bool_both : (dropped some rest above : Bool) → above ≡ (some || rest) → ((dropped && above) && some) ≡ (dropped && some)
 bool_both dropped some rest above is = grind (arith, nat_tests, is)
 
--- the gaps of the first chunks are the dropped blocks below one that is kept in them
+-- the gaps of the first chunks are the blocks below one kept in them that were dropped or cleared
 pub front-gaps : (A : Type 0) (c : StreamConfig) (h : History) (k n : ℕ) → IsWellFormed h → k ≤ h.cuts + 1
-    → is_in_runs n (audit_of {A = A} (map (packet_of c) (chunks_below k h))).gaps ≡ (was_dropped n h.closed && is_below_one n (chunks_below k h))
+    → is_in_runs n (audit_of {A = A} (map (packet_of c) (chunks_below k h))).gaps ≡ (was_removed n h.closed && is_below_one n (chunks_below k h))
 front-gaps A c h k n well within =
     let front = chunks_below k h in
     let split = chunks-front k (suc h.cuts) h (omega (arith, within)) in
-    let all : consumed_of h ≡ front ++ split.0 = sym well.chunks ∙ split.1 in
-    let numbers : seqs (consumed_of h) ≡ seqs front ++ seqs split.0 = ap seqs all ∙ map-append (λ (b : ClosedBuffer). b.seq) front split.0 in
+    let all : kept_of h ≡ front ++ split.0 = sym well.chunks ∙ split.1 in
+    let numbers : seqs (kept_of h) ≡ seqs front ++ seqs split.0 = ap seqs all ∙ map-append (λ (b : ClosedBuffer). b.seq) front split.0 in
     let rise : numbers_rise_after None (seqs front ++ seqs split.0) ≡ true =
-    ap (numbers_rise_after None) (sym numbers) ∙ rise-numbers None 0 0 (consumed_of h) _ _ (omega arith) (kept-rise h well) in
-    let gaps : is_in_runs n (gaps_behind None (seqs front ++ seqs split.0)) ≡ (was_dropped n h.closed && kept_above n h.closed) =
-    ap (λ (ns : List ℕ). is_in_runs n (gaps_behind None ns)) (sym numbers ∙ sym (numbers-packets c (consumed_of h))) ∙ gaps-within A c h n well in
+    ap (numbers_rise_after None) (sym numbers) ∙ rise-numbers None 0 0 (kept_of h) _ _ (omega arith) (kept-rise h well) in
+    let gaps : is_in_runs n (gaps_behind None (seqs front ++ seqs split.0)) ≡ (was_removed n h.closed && kept_above n h.closed) =
+    ap (λ (ns : List ℕ). is_in_runs n (gaps_behind None ns)) (sym numbers ∙ sym (numbers-packets c (kept_of h))) ∙ gaps-within A c h n well in
     let above : kept_above n h.closed ≡ (is_below_one n front || is_below_one n split.0) =
     sym (below-kept n 0 h.closed) ∙ ap (is_below_one n) all ∙ list_any-append (λ (b : ClosedBuffer). nat_lt n b.seq) front split.0 in
     ap (λ (ns : List ℕ). is_in_runs n (gaps_behind None ns)) (numbers-packets c front)
     ∙ gaps-front None n (seqs front) (seqs split.0) rise
     ∙ ap (λ (g : Bool). g && list_any (nat_lt n) (seqs front)) gaps
-    ∙ ap (λ (t : Bool). (was_dropped n h.closed && kept_above n h.closed) && t) (below-seqs n front)
-    ∙ bool_both (was_dropped n h.closed) (is_below_one n front) (is_below_one n split.0) (kept_above n h.closed) above
+    ∙ ap (λ (t : Bool). (was_removed n h.closed && kept_above n h.closed) && t) (below-seqs n front)
+    ∙ bool_both (was_removed n h.closed) (is_below_one n front) (is_below_one n split.0) (kept_above n h.closed) above

@@ -3,10 +3,10 @@ use Rattle.std.proofs.Common.{◌≡◌, ℕ, ◌+◌, ◌*◌, ◌^◌, ◌≤�
 use Rattle.std.proofs.lemmas.Grind.{common_steps}
 use Rattle.std.specs.Borrow.{Bor}
 use Rattle.std.specs.List.{sum_by}
+use Rattle.std.specs.Option.{option_map_or}
 use Rattle.std.specs.Prelude.{◌==◌, IfSome, IsSome, if◌then◌else◌, slice_get}
-use Rattle.tr_book.specs.Parts.{PartsState, part_at}
+use Rattle.tr_book.specs.Parts.{PartsState, part_at, part_bytes, part_packets, part_records}
 use Rattle.tr_session.specs.Session.{HasArchivedParts, IsStreamOf, SessionOf}
-use Rattle.tr_session.specs.Sizes.{part_packets, part_records, part_bytes}
 use Rattle.tr_session.specs.declared.archive_size.ArchiveSize.{ArchiveSize}
 use Rattle.tr_session_book.specs.Book.{SessionBookState}
 use Rattle.tr_session_book.specs.BookSteps.{is_cut}
@@ -21,15 +21,15 @@ sum-more f (suc n) (y ∷ ys) x at = let rest = sum-more f n ys x at in let one 
 
 -- the sizes of the first streams, at most these
 pub record TalliesSo (n id : ℕ) (s : SessionOf StreamState) (size : ArchiveSize) : Type 0 where
-  pub packets : size.packets ≡ sum_by (λ t. part_packets (by_state.part id t)) (take n s.streams)
-  pub records : size.records ≡ sum_by (λ t. part_records (by_state.part id t)) (take n s.streams)
-  pub bytes : size.bytes ≡ sum_by (λ t. part_bytes (by_state.part id t)) (take n s.streams)
+  pub packets : size.packets ≡ sum_by (λ t. option_map_or part_packets (by_state.part id t) 0) (take n s.streams)
+  pub records : size.records ≡ sum_by (λ t. option_map_or part_records (by_state.part id t) 0) (take n s.streams)
+  pub bytes : size.bytes ≡ sum_by (λ t. option_map_or part_bytes (by_state.part id t) 0) (take n s.streams)
   pub few : (size.packets ≤ n * 2 ^ 64) × (size.records ≤ n * 2 ^ 64) × (size.bytes ≤ n * 2 ^ 80)
 
 pub tallies-more : (n id : ℕ) (s : SessionOf StreamState) (size part : ArchiveSize) (t : StreamState)
     → TalliesSo n id s size → slice_get s.streams n ≡ Some t
-    → part.packets ≡ part_packets (by_state.part id t) → part.records ≡ part_records (by_state.part id t)
-    → part.bytes ≡ part_bytes (by_state.part id t)
+    → part.packets ≡ option_map_or part_packets (by_state.part id t) 0 → part.records ≡ option_map_or part_records (by_state.part id t) 0
+    → part.bytes ≡ option_map_or part_bytes (by_state.part id t) 0
     → (part.packets < 2 ^ 64) × (part.records < 2 ^ 64) × (part.bytes < 2 ^ 80)
     → TalliesSo (n + 1) id s (record {
       packets = size.packets + part.packets;
@@ -37,9 +37,9 @@ pub tallies-more : (n id : ℕ) (s : SessionOf StreamState) (size part : Archive
       bytes = size.bytes + part.bytes;
     })
 tallies-more n id s size part t so at packets records bytes few = record {
-  packets = let more = sum-more (λ u. part_packets (by_state.part id u)) n s.streams t at in rw (so.packets, packets) (sym more);
-  records = let more = sum-more (λ u. part_records (by_state.part id u)) n s.streams t at in rw (so.records, records) (sym more);
-  bytes = let more = sum-more (λ u. part_bytes (by_state.part id u)) n s.streams t at in rw (so.bytes, bytes) (sym more);
+  packets = let more = sum-more (λ u. option_map_or part_packets (by_state.part id u) 0) n s.streams t at in rw (so.packets, packets) (sym more);
+  records = let more = sum-more (λ u. option_map_or part_records (by_state.part id u) 0) n s.streams t at in rw (so.records, records) (sym more);
+  bytes = let more = sum-more (λ u. option_map_or part_bytes (by_state.part id u) 0) n s.streams t at in rw (so.bytes, bytes) (sym more);
   few = (omega (arith, so.few.0, few.0), omega (arith, so.few.1, few.1), omega (arith, so.few.2, few.2));
 }
 

@@ -1,5 +1,5 @@
 -- What an audit of a stream's files says of its history.
-use Rattle.std.specs.Prelude.{◌≡◌, ℕ, Bool, ◌&&◌, nat_eq, nat_lt, List, map, None, unwrap_or}
+use Rattle.std.specs.Prelude.{◌≡◌, ℕ, Bool, ◌&&◌, ◌||◌, nat_eq, nat_lt, List, map, None, unwrap_or}
 use Rattle.std.specs.List.{flat_map, last_or, list_any}
 use Rattle.tr_book.specs.Parts.{PartState}
 use Rattle.tr_chunk.specs.Audit.{all_of}
@@ -9,7 +9,7 @@ use Rattle.tr_packet.specs.Packets.{Contents}
 use Rattle.tr_record.specs.Records.{Entry}
 use Rattle.tr_ring.specs.ClosedBuffer.{ClosedBuffer}
 use Rattle.tr_stream.specs.Fates.{all_parts}
-use Rattle.tr_stream.specs.History.{Closed, is_dropped, is_kept}
+use Rattle.tr_stream.specs.History.{Closed, is_cleared, is_dropped, is_kept}
 use Rattle.tr_stream.specs.State.{StreamState}
 
 -- the packets of each part, and of all parts, in order
@@ -30,9 +30,9 @@ pub record LastIs {A : Type 0} (a : StreamAudit A) (bs : List ClosedBuffer) : Ty
       ≡ last_or None (map (λ (e : Entry). e.serial) (flat_map (λ (b : ClosedBuffer). b.records) bs))
   pub discarded : a.last_discarded ≡ unwrap_or (last_or None (map (λ (b : ClosedBuffer). b.discarded) bs)) 0
 
--- the block of this number was dropped
-abbrev pub was_dropped : ℕ → List Closed → Bool
-was_dropped n cs = list_any (λ (c : Closed). nat_eq c.block.number n && is_dropped c.status) cs
+-- the block of this number was overwritten or cleared
+abbrev pub was_removed : ℕ → List Closed → Bool
+was_removed n cs = list_any (λ (c : Closed). nat_eq c.block.number n && (is_dropped c.status || is_cleared c.status)) cs
 
 -- a block of a higher number was kept
 abbrev pub kept_above : ℕ → List Closed → Bool

@@ -1,8 +1,8 @@
 -- What the laws about audits cite.
 pub use Rattle.tr_chunk.specs.Audit.{AreAudited, all_of, audit_of, is_in_runs}
 pub use Rattle.tr_ring.specs.ClosedBuffer.{ClosedBuffer}
-pub use Rattle.tr_session.specs.Audits.{LastIs, files_of, is_below_one, kept_above, packets_by_part, packets_in, was_dropped}
-pub use Rattle.tr_stream.specs.Chunks.{consumed_of, packet_of}
+pub use Rattle.tr_session.specs.Audits.{LastIs, files_of, is_below_one, kept_above, packets_by_part, packets_in, was_removed}
+pub use Rattle.tr_stream.specs.Chunks.{kept_of, packet_of}
 pub use Rattle.tr_stream.specs.History.{History}
 pub use Rattle.tr_stream.specs.Runs.{history_after_events}
 pub use Rattle.tr_stream.specs.Sound.{IsSound, IsUsable}

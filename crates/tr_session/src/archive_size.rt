@@ -1,7 +1,9 @@
 //! How much an archive holds.
 
 ghost use Rattle.std.specs.Prelude.{◌≡◌, ◌<◌, ◌^◌};
-ghost use Rattle.tr_session.specs.Sizes.{part_packets, part_records, part_bytes, archive_packets, archive_records, archive_bytes};
+ghost use Rattle.std.specs.Option.{option_map_or};
+ghost use Rattle.tr_book.specs.Parts.{part_packets, part_records, part_bytes};
+ghost use Rattle.tr_session.specs.Sizes.{archive_packets, archive_records, archive_bytes};
 ghost use Rattle.tr_stream.specs.Rules.{by_state};
 
 use crate::session::Session;
@@ -21,9 +23,9 @@ pub struct ArchiveSize {
 
 /// How much a stream's part of a chunk holds.
 fn part_size<A: Allocator>(stream: &Stream<A>, id: u64) -> ArchiveSize
-    ensures packets { result.packets ≡ part_packets (by_state.part id stream.now) }
-    ensures records { result.records ≡ part_records (by_state.part id stream.now) }
-    ensures bytes { result.bytes ≡ part_bytes (by_state.part id stream.now) }
+    ensures packets { result.packets ≡ option_map_or part_packets (by_state.part id stream.now) 0 }
+    ensures records { result.records ≡ option_map_or part_records (by_state.part id stream.now) 0 }
+    ensures bytes { result.bytes ≡ option_map_or part_bytes (by_state.part id stream.now) 0 }
     ensures few { (result.packets < 2 ^ 64) × (result.records < 2 ^ 64) × (result.bytes < 2 ^ 80) }
 {
     match stream.part(id) {

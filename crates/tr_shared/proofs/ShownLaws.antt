@@ -1,11 +1,12 @@
 -- What is shown of a sound stream of a snapshot session.
 use Rattle.std.proofs.Common.{◌≡◌, ◌∙◌, ℕ, ◌+◌, ◌≤◌, List, [], ◌∷◌, ◌++◌, Option, Some, None, length, map, max, ap, arith, refl, subst, sym}
-use Rattle.std.specs.Prelude.{option_map, slice_get}
+use Rattle.std.specs.Prelude.{option_map, slice_get, sum_by}
 use Rattle.std.specs.List.{AllByRecursion, flat_map}
 use Rattle.std.proofs.lemmas.Grind.{common_steps, flat_map-append}
 use Rattle.std.proofs.lemmas.List.{append-nil, length-append}
 use Rattle.std.proofs.lemmas.List.Concat.{length-flat_map}
 use Rattle.tr_book.specs.Parts.{PartsState, no_parts}
+use Rattle.tr_book.specs.declared.runs.Run.{Run}
 use Rattle.tr_packet.specs.Packets.{Contents}
 use Rattle.tr_record.specs.Records.{Entry}
 use Rattle.tr_ring.specs.ClosedBuffer.{ClosedBuffer}
@@ -14,7 +15,8 @@ use Rattle.tr_seats.specs.Books.{IsPlan, IsPlanned, PlanState}
 use Rattle.tr_shared.specs.Shown.{IsShownFrom}
 use Rattle.tr_chunk.specs.Snapshots.{entries_shown}
 use Rattle.tr_stream.specs.Chunks.{closed_if_any, packet_of, ring_buffers}
-use Rattle.tr_stream.specs.Consistent.{CountUp, GapsAgree, IsConsistent, SerialsFollow, buffers_in, first_in, held_buffers}
+use Rattle.tr_stream.specs.Consistent.{CountUp, GapsAgree, IsConsistent, SerialsFollow, buffers_of, first_in}
+use Rattle.tr_stream.proofs.PieceLaws.{buffers_in, none-cleared}
 use Rattle.tr_stream.specs.Fates.{all_parts}
 use Rattle.tr_stream.specs.Sound.{IsSound}
 use Rattle.tr_stream.specs.State.{StreamState, in_parts, in_ring}
@@ -121,8 +123,9 @@ module _ (moment : ℕ) (s : StreamState) (sound : IsSound s) (is : IsConsistent
   none : s.parts ≡ no_parts
   none = sound.unconsumed session
 
-  held : held_buffers s ≡ ring_buffers s.counters.last s.ring
-  held = ap (λ (p : PartsState). buffers_in (all_parts p) ++ ring_buffers s.counters.last s.ring) none
+  held : buffers_of is.pieces ≡ ring_buffers s.counters.last s.ring
+  held = none-cleared s is (ap (λ (p : PartsState). p.cleared) none)
+      ∙ ap (λ (p : PartsState). buffers_in (all_parts p) ++ ring_buffers s.counters.last s.ring) none
 
   shown : entries_shown (state_snap moment s) ≡ ring_records s.ring
   shown = records-packed s.config (ring_buffers (max moment s.counters.last) s.ring) ∙ records-ring (max moment s.counters.last) s.ring
@@ -145,9 +148,11 @@ module _ (moment : ℕ) (s : StreamState) (sound : IsSound s) (is : IsConsistent
   from : there.0 ≡ s.counters.overwritten
   from =
       let discarded : s.ring.discarded ≡ 0 = sound.losses.overwriting over in
-      let consumed : s.counters.consumed ≡ 0 = sound.consumed ∙ ap in_parts none in
+      let consumed : in_parts s.parts ≡ 0 = ap in_parts none in
+      let cleared : s.counters.cleared ≡ 0 =
+      sym is.gone ∙ ap (λ (p : PartsState). sum_by (λ (r : Run). r.count) p.cleared) none in
       let total = sound.total in
-      omega (arith, discarded, consumed, total, in-ring, there.1.1)
+      omega (arith, discarded, consumed, cleared, total, in-ring, there.1.1)
 
   pub shows-last : IsShownFrom s.counters.overwritten (state_snap moment s)
   shows-last =

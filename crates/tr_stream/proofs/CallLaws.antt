@@ -1,33 +1,43 @@
 -- What is to be proved for the bodies of a stream's calls, from what the ring, the parts and the counters did.
-use Rattle.std.proofs.Common.{◌≡◌, ◌≢◌, ℕ, ◌+◌, ◌^◌, ◌≤◌, ◌<◌, zero, suc, Bool, false, List, [], ◌∷◌, ◌++◌, length, map, max, take, Option, Some, None, Result, Ok, Err, refl, sym, ◌∙◌, ap, subst, arith}
-use Rattle.std.proofs.lemmas.Grind.{common_steps}
-use Rattle.std.proofs.lemmas.List.{append-nil, map-append, length-map, take_more}
+use Rattle.std.proofs.Common.{◌≡◌, ◌≢◌, ℕ, ◌+◌, ◌^◌, ◌≤◌, ◌<◌, zero, suc, Bool, false, List, [], ◌∷◌, ◌++◌, length, map, max, min, take, IsTrue, length-append, Option, Some, None, Result, Ok, Err, refl, sym, ◌∙◌, ap, subst, arith}
+use Rattle.std.proofs.lemmas.Grind.{common_steps, flat_map-append}
+use Rattle.std.proofs.lemmas.List.{append-nil, map-append, length-map, nil_from_length, take_more}
 use Rattle.std.proofs.lemmas.List.Sums.{sum_by-cons}
 use Rattle.std.proofs.lemmas.Option.{slice_get_within, get_or_from_slice_get}
 use Rattle.std.specs.Prelude.{slice_get}
-use Rattle.tr_book.specs.Counters.{CountersState, at_moment, new_counters, with_consumed, with_offer, with_overwritten}
-use Rattle.tr_book.specs.Parts.{PartsState, records_of, no_parts, with_packet, with_packets, close_part}
+use Rattle.std.specs.List.{AllByRecursion}
+use Rattle.std.proofs.lemmas.Bool.{false≢true}
+use Rattle.tr_book.specs.Runs.{packet_runs, runs_of}
+use Rattle.tr_book.specs.declared.runs.Run.{Run}
+use Rattle.tr_packet.proofs.OrderLemmas.{moments_hold_says}
+use Rattle.tr_packet.specs.Order.{moments_hold}
+use Rattle.tr_book.specs.Counters.{CountersState, at_moment, new_counters, with_cleared, with_consumed, with_offer, with_overwritten}
+use Rattle.tr_book.specs.Parts.{PartsState, empty_part, part_records, records_of, no_parts, with_packet, with_packets, close_part, clear_part}
 use Rattle.tr_packet.specs.Packets.{Contents, IsPacket}
 use Rattle.tr_record.specs.Records.{Entry}
 use Rattle.tr_ring.specs.ClosedBuffer.{ClosedBuffer}
-use Rattle.tr_ring.specs.Ring.{RingState, after_push, closed_current, clear_ring, empty_ring, push_answer, remove_oldest}
+use Rattle.tr_ring.specs.Ring.{RingState, after_push, closed_current, clear_ring, empty_ring, push_answer, remove_oldest, seq_after}
 use Rattle.tr_ring.specs.declared.pushed.Pushed.{Pushed}
 use Rattle.tr_ring.specs.declared.pushed.Pushed.TheVariants as pushed
+use Rattle.tr_stream.proofs.ClearLaws.{clears}
 use Rattle.tr_stream.proofs.CutLaws.{cuts, records_in-ring}
-use Rattle.tr_stream.proofs.KeptLaws.{IsOffer, kept-offered, kept-oldest, kept-cut}
+use Rattle.tr_stream.proofs.KeptLaws.{IsOffer, kept-offered, kept-oldest, kept-cut, kept-clear}
 use Rattle.tr_stream.proofs.OfferLaws.{offers}
 use Rattle.tr_stream.proofs.Refinement.{with_moved}
 use Rattle.tr_stream.proofs.SessionLaws.{in-local}
 use Rattle.tr_stream.proofs.SoundLaws.{records_of-packets}
 use Rattle.tr_stream.proofs.TakeLaws.{takes}
-use Rattle.tr_stream.specs.Chunks.{packet_of, closed_if_any, ring_buffers}
+use Rattle.tr_stream.specs.Chunks.{packet_of, buffer_runs, closed_if_any, ring_buffers}
 use Rattle.tr_stream.specs.History.{History}
 use Rattle.tr_stream.specs.Kept.{IsKept}
 use Rattle.tr_stream.specs.Sound.{IsMade, ArePackets}
 use Rattle.tr_stream.specs.StandsFor.{StandsFor}
 use Rattle.tr_stream.specs.State.{StreamState, in_ring, records_in}
-use Rattle.tr_stream.specs.StateSteps.{new_state, overwrites, counters_after_push, state_entry, refusal_of, state_answer_unless, state_unless, state_with_offer, offered_as, state_offer_answer, state_after_offer, move_oldest, state_take_answer, state_after_take, state_cut_ring, cut_done, state_cut_answer, state_after_cut}
-use Rattle.tr_stream.specs.Steps.{history_offer_answer, history_after_offer, history_take_answer, history_after_take, history_cut_answer, history_after_cut, taken_from}
+use Rattle.tr_stream.specs.StateSteps.{new_state, overwrites, counters_after_push, state_entry, refusal_of, state_answer_unless, state_unless, state_with_offer, offered_as, state_offer_answer, state_after_offer, move_oldest, state_take_answer, state_after_take, state_cut_ring, cut_done, state_cut_answer, state_after_cut, state_cleared, state_clear_answer, state_clear_ring, state_after_clear}
+use Rattle.tr_stream.specs.Steps.{history_offer_answer, history_after_offer, history_take_answer, history_after_take, history_cut_answer, history_after_cut, history_clear_answer, history_after_clear, taken_from}
+use Rattle.tr_stream.specs.declared.answers.ClearFault.{ClearFault}
+use Rattle.tr_stream.specs.declared.answers.ClearFault.TheVariants as clear_fault
+use Rattle.tr_stream.specs.declared.answers.Cleared.{Cleared}
 use Rattle.tr_stream.specs.declared.answers.CutDone.{CutDone}
 use Rattle.tr_stream.specs.declared.answers.CutFault.{CutFault}
 use Rattle.tr_stream.specs.declared.answers.CutFault.TheVariants as cut_fault
@@ -301,3 +311,157 @@ cut-local s new moment end done local at told moved =
           local),
       moved ∙ ap (λ (m : ℕ). state_cut_ring m s) at ∙ sym (in-local s.config.session (state_cut_ring (max moment s.counters.last) s) s local),
     )
+
+-- the rest of a clear, once the parts have the runs
+pub clear-is : (s : StreamState) (runs : List Run) (count consumed : ℕ) (ring : RingState) (parts : PartsState)
+    (counters : CountersState) → ((end : ℕ) → runs ≡ buffer_runs (ring_buffers end s.ring)) → ring ≡ clear_ring s.ring
+    → parts ≡ clear_part runs s.parts → consumed ≡ records_of s.parts.current.packets → count ≡ consumed + in_ring s.ring
+    → counters ≡ with_cleared count consumed s.counters
+    → (let t : StreamState = record {
+      config = s.config;
+      ring = ring;
+      parts = parts;
+      counters = counters;
+      active = s.active;
+    } in t) ≡ state_clear_ring s
+clear-is s runs count consumed ring parts counters runs_are ring_is parts_is consumed_is count_is counters_are =
+    let e = runs_are s.counters.last in cc
+
+pub kept-clear_now : (s : StreamState) (runs : List Run) (count consumed : ℕ) (ring : RingState) (parts : PartsState)
+    (counters : CountersState) → s.config.session ≡ Local → IsKept s
+    → ((end : ℕ) → runs ≡ buffer_runs (ring_buffers end s.ring)) → ring ≡ clear_ring s.ring
+    → parts ≡ clear_part runs s.parts → consumed ≡ records_of s.parts.current.packets → count ≡ consumed + in_ring s.ring
+    → counters ≡ with_cleared count consumed s.counters
+    → IsKept (record { config = s.config; ring = ring; parts = parts; counters = counters; active = s.active })
+kept-clear_now s runs count consumed ring parts counters local is runs_are ring_is parts_is consumed_is count_is counters_are =
+    subst (λ (t : StreamState). IsKept t)
+    (sym (clear-is s runs count consumed ring parts counters runs_are ring_is parts_is consumed_is count_is counters_are))
+    (kept-clear s local is)
+
+-- what a clear answers
+pub clear-told : (s : StreamState) (len used consumed count : ℕ) → len ≡ length s.parts.current.packets
+    → ((end : ℕ) → used ≡ length (ring_buffers end s.ring)) → consumed ≡ records_of s.parts.current.packets
+    → count ≡ in_ring s.ring
+    → (let d : Cleared = record { packets = len + used; records = consumed + count } in d) ≡ state_cleared s
+clear-told s len used consumed count len_is used_is consumed_is count_is = let e = used_is s.counters.last in cc
+
+-- counters have room for what a clear takes away
+pub clear-fits : (s : StreamState) → IsKept s
+    → (records_of s.parts.current.packets + in_ring s.ring < 2 ^ 62 + 1)
+    × (s.counters.cleared + (records_of s.parts.current.packets + in_ring s.ring) < 2 ^ 64)
+    × (s.counters.withdrawn + records_of s.parts.current.packets < 2 ^ 64)
+clear-fits s is =
+    let sound = is.sound in (
+      omega (arith, sound.total, sound.few),
+      omega (arith, sound.total, sound.few),
+      omega (arith, sound.total, sound.few, sound.withdrawn),
+    )
+
+has-record : (p : Contents) → IsPacket p → 1 ≤ length p.records
+has-record p is = some p.records is.records.moments
+  where
+    some : (es : List Entry) → IsTrue (moments_hold p.head.begin p.head.end es) → 1 ≤ length es
+    some [] holds = absurd (false≢true (moments_hold_says p.head.begin p.head.end [] holds).starts)
+    some (e ∷ es) holds = omega arith
+
+packets-few : (ps : List Contents) → AllByRecursion IsPacket ps → length ps ≤ records_of ps
+packets-few [] are = omega arith
+packets-few (p ∷ ps) are =
+    let a : length (p ∷ ps) ≡ length ps + 1 = grind (arith, common_steps) in
+    omega (arith, a, has-record p are.0, packets-few ps are.1, sum_by-cons (λ (q : Contents). length q.records) p ps)
+
+pub clear-packets : (s : StreamState) (used : ℕ) → IsKept s → used ≤ s.ring.count
+    → length s.parts.current.packets + used < 2 ^ 64
+clear-packets s used is few =
+    let sound = is.sound in
+    omega (arith, few, packets-few s.parts.current.packets sound.current_sent, sound.total, sound.few, sound.made.count, sound.config.count_high)
+
+-- a clear is the history's clear
+pub step-clear : (s new : StreamState) (h : History) (answer : Result Cleared ClearFault) → StandsFor s h
+    → answer ≡ state_clear_answer s → new ≡ state_after_clear s
+    → (answer ≡ history_clear_answer s.config h) × StandsFor new (history_after_clear s.config h)
+step-clear s new h answer is told moved = (
+  told ∙ (clears s h is).0,
+  subst (λ (t : StreamState). StandsFor t (history_after_clear s.config h)) (sym moved) (clears s h is).1,
+)
+
+-- in a local session a clear is done
+pub clear-local : (s new : StreamState) (done : Cleared) → s.config.session ≡ Local → done ≡ state_cleared s
+    → new ≡ state_clear_ring s
+    → ((let r : Result Cleared ClearFault = Ok done in r) ≡ state_clear_answer s) × (new ≡ state_after_clear s)
+clear-local s new done local told moved = (
+  ap (λ (d : Cleared). (let r : Result Cleared ClearFault = Ok d in r)) told
+      ∙ sym (in-local s.config.session (Ok (state_cleared s)) (Err clear_fault.SnapshotMode) local),
+  moved ∙ sym (in-local s.config.session (state_clear_ring s) s local),
+)
+
+-- the runs of a ring
+pub runs-more : (waiting : List ClosedBuffer) (runs more : List Run) (i : ℕ) (b : ClosedBuffer) → slice_get waiting i ≡ Some b
+    → runs ≡ buffer_runs (take i waiting) → more ≡ runs ++ runs_of b.seq b.records
+    → more ≡ buffer_runs (take (i + 1) waiting)
+runs-more waiting runs more i b got so pushed =
+    let next : take (i + 1) waiting ≡ take i waiting ++ b ∷ [] =
+    take_more waiting i b (slice_get_within waiting i b got)
+    ∙ ap (λ (x : ClosedBuffer). take i waiting ++ x ∷ []) (get_or_from_slice_get waiting i b b got) in
+    let joined = flat_map-append (λ (x : ClosedBuffer). runs_of x.seq x.records) (take i waiting) (b ∷ []) in
+    let last = append-nil (runs_of b.seq b.records) in
+    cc
+
+pub runs-all : (ring : RingState) (end : ℕ) (runs all : List Run) → runs ≡ buffer_runs ring.waiting
+    → all ≡ runs ++ runs_of ring.seq ring.current → all ≡ buffer_runs (ring_buffers end ring)
+runs-all ring end runs all are pushed =
+    let joined = flat_map-append (λ (x : ClosedBuffer). runs_of x.seq x.records) ring.waiting
+    (closed_if_any ring.seq end ring.discarded ring.current) in
+    let last = closing-runs ring.current in
+    cc
+  where
+    closing-runs : (es : List Entry) → buffer_runs (closed_if_any ring.seq end ring.discarded es) ≡ runs_of ring.seq es
+    closing-runs [] = refl
+    closing-runs (e ∷ es) = append-nil (runs_of ring.seq (e ∷ es))
+
+-- how many sub-buffers have a record
+pub used-is : (ring : RingState) (end : ℕ)
+    → length (ring_buffers end ring) ≡ length ring.waiting + min 1 (length ring.current)
+used-is ring end =
+    length-append ring.waiting (closed_if_any ring.seq end ring.discarded ring.current)
+    ∙ ap (λ (n : ℕ). length ring.waiting + n) (last_one ring.current)
+  where
+    last_one : (es : List Entry) → length (closed_if_any ring.seq end ring.discarded es) ≡ min 1 (length es)
+    last_one [] = refl
+    last_one (e ∷ es) = grind (arith, common_steps)
+
+-- a clear that finds nothing changes nothing
+pub clear-nothing : (s : StreamState) → (state_cleared s).packets ≡ 0 → s ≡ state_clear_ring s
+clear-nothing s none =
+    let used = used-is s.ring s.counters.last in
+    let buffers = ring_buffers s.counters.last s.ring in
+    let here : s.parts.current.packets ≡ [] = nil_from_length s.parts.current.packets (omega (arith, none)) in
+    let waits : s.ring.waiting ≡ [] = nil_from_length s.ring.waiting (omega (arith, none, used)) in
+    let fills : s.ring.current ≡ [] = nil_from_length s.ring.current (omega (arith, none, used)) in
+    let there : buffers ≡ [] = nil_from_length buffers (omega (arith, none)) in
+    let kept : part_records s.parts.current ≡ 0 = ap records_of here in
+    let held : in_ring s.ring ≡ 0 = grind (arith, common_steps, waits, fills) in
+    ap (λ (r : RingState). record s { ring = r }) (same-ring s.ring waits fills)
+    ∙ ap (λ (p : PartsState). record s { ring = clear_ring s.ring; parts = p })
+    (same-parts s.parts here (buffer_runs buffers) (ap buffer_runs there))
+    ∙ ap (λ (b : CountersState). record s { ring = clear_ring s.ring; parts = clear_part (buffer_runs buffers) s.parts; counters = b })
+    (same-counters s.counters (part_records s.parts.current + in_ring s.ring) (part_records s.parts.current)
+    (omega (arith, kept, held)) kept)
+  where
+    same-ring : (r : RingState) → r.waiting ≡ [] → r.current ≡ [] → r ≡ clear_ring r
+    same-ring r waits fills =
+        ap (λ (w : List ClosedBuffer). record r { waiting = w }) waits
+        ∙ ap (λ (es : List Entry). record r { waiting = []; current = es }) fills
+        ∙ ap (λ (n : ℕ). record r { waiting = []; current = []; seq = n }) (sym (ap (seq_after r.seq) fills))
+
+    same-parts : (p : PartsState) → p.current.packets ≡ [] → (runs : List Run) → runs ≡ [] → p ≡ clear_part runs p
+    same-parts p here runs none =
+        let more : packet_runs p.current.packets ++ runs ≡ [] = ap (λ (rs : List Run). rs ++ runs) (ap packet_runs here) ∙ none in
+        ap (λ (ps : List Contents). record p { current = record p.current { packets = ps } }) here
+        ∙ ap (λ (rs : List Run). record p { current = empty_part p.current.id; cleared = rs })
+        (sym (append-nil p.cleared) ∙ ap (λ (rs : List Run). p.cleared ++ rs) (sym more))
+
+    same-counters : (b : CountersState) (count consumed : ℕ) → count ≡ 0 → consumed ≡ 0 → b ≡ with_cleared count consumed b
+    same-counters b count consumed none none' =
+        ap (λ (n : ℕ). record b { cleared = n }) (omega (arith, none))
+        ∙ ap (λ (n : ℕ). record b { cleared = b.cleared + count; withdrawn = n }) (omega (arith, none'))

@@ -83,6 +83,19 @@ records_in-cons p ps = sum_by-cons (λ (p : ClosedBuffer). length p.records) p p
 pub records_in-append : (ps qs : List ClosedBuffer) → records_in (ps ++ qs) ≡ records_in ps + records_in qs
 records_in-append ps qs = sum_by-append (λ (p : ClosedBuffer). length p.records) ps qs
 
+-- blocks' records are those of their sub-buffers
+pub records-of_buffers : (wanted : Status → Bool) (discarded : ℕ) (cs : List Closed)
+    → records_where wanted cs ≡ records_in (buffers_where wanted discarded cs)
+records-of_buffers wanted discarded [] = refl
+records-of_buffers wanted discarded (c ∷ cs) =
+    grind (
+      arith,
+      common_steps,
+      records_where-cons wanted c cs,
+      records-of_buffers wanted (discarded + length c.block.discarded) cs,
+      records_in-cons (buffer_of discarded c) (buffers_where wanted (discarded + length c.block.discarded) cs),
+    )
+
 -- the records of a block that waited count under its new status
 pub records-settle_first : (wanted : Status → Bool) (status : Status) (discarded : ℕ) (cs : List Closed)
     → wanted status ≡ true → wanted Waiting ≡ false

@@ -1,47 +1,61 @@
 -- A chunk has what was kept between its cuts.
-use Rattle.std.proofs.Common.{◌≡◌, ℕ, ◌+◌, max, Bool, true, false, cond, eqb, List, [], ◌∷◌, ◌++◌, length, take, refl, sym, ◌∙◌, ap, subst, append_assoc, arith}
+use Rattle.std.proofs.Common.{◌≡◌, ℕ, ◌+◌, max, Bool, true, false, cond, eqb, List, [], ◌∷◌, ◌++◌, length, take, refl, sym, ◌∙◌, ap, subst, arith}
 use Rattle.std.proofs.lemmas.Bool.Decides.{nat_tests}
 use Rattle.std.proofs.lemmas.Grind.{common_steps}
 use Rattle.std.proofs.lemmas.List.{append-nil}
 use Rattle.tr_record.specs.Records.{Entry}
 use Rattle.tr_ring.specs.ClosedBuffer.{ClosedBuffer}
 use Rattle.tr_stream.proofs.ChunkLaws.{buffers_where-push, other-settle_first, new-settle_first, other-keep_waiting, new-keep_waiting}
+use Rattle.tr_stream.proofs.ClearLaws.{buffers-cleared, current-cleared, other-cleared, never, none_ever}
 use Rattle.tr_stream.proofs.FormLaws.{WaitLast-push}
 use Rattle.tr_stream.proofs.ModelLaws.{well_event, well_run}
 use Rattle.tr_stream.proofs.SessionLaws.{in-local, in-snapshot}
 use Rattle.tr_stream.proofs.TakeLaws.{starts}
-use Rattle.tr_stream.specs.Chunks.{chunk_of, consumed_of, waiting_of, ring_of, closed_if_any}
-use Rattle.tr_stream.specs.History.{is_waiting, Waiting, Dropped, Kept, Closed, History, is_kept_in, discarded_of}
-use Rattle.tr_stream.specs.Runs.{history_after_event, history_after_events, kept_by, kept_after_cuts, cuts_among, cuts_made}
+use Rattle.tr_stream.specs.Chunks.{buffer_of, buffers_where, chunk_of, cleared_of, kept_of, waiting_of, ring_of, closed_if_any}
+use Rattle.tr_stream.specs.History.{Status, is_waiting, Waiting, Dropped, Kept, Closed, History, is_cleared, is_kept_in, discarded_in, discarded_of}
+use Rattle.tr_stream.specs.Runs.{history_after_event, history_after_events, kept_by, kept_after, kept_after_cuts, cuts_among, cuts_made}
 use Rattle.tr_stream.specs.Sound.{IsUsable}
-use Rattle.tr_stream.specs.Steps.{Course, Refuse, Join, Follow, DiscardNewest, Replace, course_of, after_course, history_entry, settle_first, keep_oldest, history_cut_ring, history_after_cut, close_filling, keep_all, new_history}
+use Rattle.tr_stream.specs.Steps.{Course, Refuse, Join, Follow, DiscardNewest, Replace, course_of, after_course, history_entry, settle_first, follow_filling, keep_oldest, history_cut_ring, history_after_cut, close_filling, keep_all, clear_all, history_clear_ring, new_history}
 use Rattle.tr_stream.specs.WellFormed.{IsWellFormed, WaitLast, chunks_below}
 use Rattle.tr_terms.specs.declared.session_mode.SessionMode.{SessionMode}
 use Rattle.tr_terms.specs.declared.session_mode.SessionMode.TheVariants.{Local, Snapshot}
 use Rattle.tr_stream.specs.declared.config.StreamConfig.{StreamConfig}
 use Rattle.tr_stream.specs.declared.events.StreamEvent.{StreamEvent}
-use Rattle.tr_stream.specs.declared.events.StreamEvent.TheVariants.{Offer, Take, Cut, Peek, Start, Stop}
+use Rattle.tr_stream.specs.declared.events.StreamEvent.TheVariants.{Offer, Take, Cut, Clear, Peek, Start, Stop}
 use Rattle.tr_terms.specs.SessionModes.{by_session_mode}
 
--- an offer keeps nothing
+-- a block that is closed waits
+followed : (wanted : Status → Bool) (e : Entry) (h : History) → wanted Waiting ≡ false
+    → buffers_where wanted 0 (follow_filling e h).closed ≡ buffers_where wanted 0 h.closed
+followed wanted e h waits =
+    let b : Closed = record { block = h.filling; end = e.moment; status = Waiting } in
+    let there = buffers_where-push wanted 0 h.closed b in
+    let none = append-nil (buffers_where wanted 0 h.closed) in
+    there
+    ∙ ap (λ (w : Bool). buffers_where wanted 0 h.closed ++ cond w (buffer_of (0 + discarded_in h.closed) b ∷ []) []) waits
+    ∙ none
+
+-- an offer keeps nothing and clears nothing
+same-course : (wanted : Status → Bool) (course : Course) (e : Entry) (h : History) → wanted Waiting ≡ false → wanted Dropped ≡ false
+    → buffers_where wanted 0 (after_course course e h).closed ≡ buffers_where wanted 0 h.closed
+same-course wanted (Refuse fault) e h waits drops = refl
+same-course wanted Join e h waits drops = refl
+same-course wanted Follow e h waits drops = followed wanted e h waits
+same-course wanted DiscardNewest e h waits drops = refl
+same-course wanted Replace e h waits drops =
+    followed wanted e (record h { closed = settle_first Dropped h.closed }) waits
+    ∙ other-settle_first wanted Dropped 0 h.closed drops waits
+
 chunk-course : (k : ℕ) (course : Course) (e : Entry) (h : History) → chunk_of k (after_course course e h) ≡ chunk_of k h
-chunk-course k (Refuse fault) e h = refl
-chunk-course k Join e h = refl
-chunk-course k Follow e h = buffers_where-push (is_kept_in k) 0 h.closed
-    (record { block = h.filling; end = e.moment; status = Waiting }) ∙ append-nil (chunk_of k h)
-chunk-course k DiscardNewest e h = refl
-chunk-course k Replace e h =
-    let g = record h { closed = settle_first Dropped h.closed } in
-    buffers_where-push (is_kept_in k) 0 g.closed (record { block = h.filling; end = e.moment; status = Waiting })
-    ∙ append-nil (chunk_of k g) ∙ other-settle_first (is_kept_in k) Dropped 0 h.closed refl refl
+chunk-course k course e h = same-course (is_kept_in k) course e h refl refl
 
-nothing-before : (b : Bool) (bs : List ClosedBuffer) → cond b [] [] ++ bs ≡ bs
-nothing-before true bs = refl
-nothing-before false bs = refl
+nothing-kept : (b : Bool) (bs : List ClosedBuffer) → bs ≡ cond b bs bs
+nothing-kept true bs = refl
+nothing-kept false bs = refl
 
-nothing-kept : (b : Bool) (bs : List ClosedBuffer) → bs ++ cond b [] [] ≡ bs
-nothing-kept true bs = append-nil bs
-nothing-kept false bs = append-nil bs
+if-kept : (b : Bool) (bs ds : List ClosedBuffer) → bs ++ cond b ds [] ≡ cond b (bs ++ ds) bs
+if-kept true bs ds = refl
+if-kept false bs ds = append-nil bs
 
 -- a take keeps the oldest
 chunk-taken : (k : ℕ) (h : History) (b : Bool) → eqb k h.cuts ≡ b → WaitLast h.closed
@@ -95,17 +109,41 @@ chunk-cut k h end b same order =
     let e = is.waiting in
     cc
 
+-- a clear takes all of the current chunk away
+chunk-emptied : (k : ℕ) (h : History) (b : Bool) → eqb k h.cuts ≡ b → chunk_of k (clear_all h) ≡ cond b [] (chunk_of k h)
+chunk-emptied k h true same =
+    let e : k ≡ h.cuts = grind (arith, nat_tests, same) in
+    ap (λ (n : ℕ). chunk_of n (clear_all h)) e
+    ∙ buffers-cleared (is_kept_in h.cuts) never h.cuts 0 h.closed (current-cleared h.cuts) ∙ none_ever 0 h.closed
+chunk-emptied k h false other = buffers-cleared (is_kept_in k) (is_kept_in k) h.cuts 0 h.closed (other-cleared k h.cuts other)
+
+chunk-clear : (k : ℕ) (h : History) (b : Bool) → eqb k h.cuts ≡ b → WaitLast h.closed
+    → chunk_of k (history_clear_ring h) ≡ cond b [] (chunk_of k h)
+chunk-clear k h b same order =
+    let is = flushed h h.last h.filling.records refl order in
+    let g = close_filling h.filling.records h.last h in
+    let at : eqb k g.cuts ≡ b = ap (eqb k) is.cuts ∙ same in
+    chunk-emptied k g b at ∙ ap (λ (bs : List ClosedBuffer). cond b [] bs) (is.chunks k)
+
 chunk-take : (k : ℕ) (m : SessionMode) (h : History) → WaitLast h.closed
     → chunk_of k (by_session_mode m (keep_oldest h) h)
-    ≡ chunk_of k h ++ cond (eqb k h.cuts) (by_session_mode m (take 1 (waiting_of h)) []) []
-chunk-take k Local h order = chunk-taken k h (eqb k h.cuts) refl order
-chunk-take k Snapshot h order = sym (nothing-kept (eqb k h.cuts) (chunk_of k h))
+    ≡ cond (eqb k h.cuts) (by_session_mode m (chunk_of k h ++ take 1 (waiting_of h)) (chunk_of k h)) (chunk_of k h)
+chunk-take k Local h order =
+    chunk-taken k h (eqb k h.cuts) refl order ∙ if-kept (eqb k h.cuts) (chunk_of k h) (take 1 (waiting_of h))
+chunk-take k Snapshot h order = nothing-kept (eqb k h.cuts) (chunk_of k h)
 
 chunk-cuts : (k : ℕ) (m : SessionMode) (h : History) (end : ℕ) → WaitLast h.closed
     → chunk_of k (by_session_mode m (history_cut_ring end h) h)
-    ≡ chunk_of k h ++ cond (eqb k h.cuts) (by_session_mode m (ring_of end h) []) []
-chunk-cuts k Local h end order = chunk-cut k h end (eqb k h.cuts) refl order
-chunk-cuts k Snapshot h end order = sym (nothing-kept (eqb k h.cuts) (chunk_of k h))
+    ≡ cond (eqb k h.cuts) (by_session_mode m (chunk_of k h ++ ring_of end h) (chunk_of k h)) (chunk_of k h)
+chunk-cuts k Local h end order =
+    chunk-cut k h end (eqb k h.cuts) refl order ∙ if-kept (eqb k h.cuts) (chunk_of k h) (ring_of end h)
+chunk-cuts k Snapshot h end order = nothing-kept (eqb k h.cuts) (chunk_of k h)
+
+chunk-clears : (k : ℕ) (m : SessionMode) (h : History) → WaitLast h.closed
+    → chunk_of k (by_session_mode m (history_clear_ring h) h)
+    ≡ cond (eqb k h.cuts) (by_session_mode m [] (chunk_of k h)) (chunk_of k h)
+chunk-clears k Local h order = chunk-clear k h (eqb k h.cuts) refl order
+chunk-clears k Snapshot h order = nothing-kept (eqb k h.cuts) (chunk_of k h)
 
 -- a take cuts nothing
 cuts-taken : (m : SessionMode) (h : History) → (by_session_mode m (keep_oldest h) h).cuts ≡ h.cuts
@@ -123,25 +161,30 @@ cuts-flushed : (es : List Entry) (end : ℕ) (h : History) → (close_filling es
 cuts-flushed [] end h = refl
 cuts-flushed (e ∷ es) end h = refl
 
+-- nor does a clear
+cuts-cleared : (m : SessionMode) (h : History) → (by_session_mode m (history_clear_ring h) h).cuts ≡ h.cuts
+cuts-cleared Local h = cuts-flushed h.filling.records h.last h
+cuts-cleared Snapshot h = refl
+
 module _ {A : Type 0} where
   chunk-event : (k : ℕ) (c : StreamConfig) (e : StreamEvent A) (h : History) → WaitLast h.closed
-      → chunk_of k (history_after_event c e h) ≡ chunk_of k h ++ cond (eqb k h.cuts) (kept_by c e h) []
+      → chunk_of k (history_after_event c e h) ≡ cond (eqb k h.cuts) (kept_by c e h (chunk_of k h)) (chunk_of k h)
   chunk-event k c (Offer moment id payload) h order =
       chunk-course k (course_of c h (length payload)) (history_entry h moment id payload) h
-      ∙ sym (nothing-kept (eqb k h.cuts) (chunk_of k h))
+      ∙ nothing-kept (eqb k h.cuts) (chunk_of k h)
   chunk-event k c Take h order = chunk-take k c.session h order
   chunk-event k c (Cut moment) h order = chunk-cuts k c.session h (max moment h.last) order
-  chunk-event k c (Peek moment) h order = sym (nothing-kept (eqb k h.cuts) (chunk_of k h))
-  chunk-event k c Start h order = sym (nothing-kept (eqb k h.cuts) (chunk_of k h))
-  chunk-event k c Stop h order = sym (nothing-kept (eqb k h.cuts) (chunk_of k h))
+  chunk-event k c Clear h order = chunk-clears k c.session h order
+  chunk-event k c (Peek moment) h order = nothing-kept (eqb k h.cuts) (chunk_of k h)
+  chunk-event k c Start h order = nothing-kept (eqb k h.cuts) (chunk_of k h)
+  chunk-event k c Stop h order = nothing-kept (eqb k h.cuts) (chunk_of k h)
 
   chunk-events : (k : ℕ) (c : StreamConfig) (es : List (StreamEvent A)) (h : History) → IsUsable c → IsWellFormed h
-      → chunk_of k (history_after_events c es h) ≡ chunk_of k h ++ kept_after_cuts k c es h
-  chunk-events k c [] h usable well = sym (append-nil (chunk_of k h))
+      → chunk_of k (history_after_events c es h) ≡ kept_after k c es h (chunk_of k h)
+  chunk-events k c [] h usable well = refl
   chunk-events k c (e ∷ es) h usable well =
       chunk-events k c es (history_after_event c e h) usable (well_event c e h usable well)
-      ∙ ap (λ (bs : List ClosedBuffer). bs ++ kept_after_cuts k c es (history_after_event c e h)) (chunk-event k c e h well.order)
-      ∙ append_assoc (chunk_of k h) (cond (eqb k h.cuts) (kept_by c e h) []) (kept_after_cuts k c es (history_after_event c e h))
+      ∙ ap (λ (bs : List ClosedBuffer). kept_after k c es (history_after_event c e h) bs) (chunk-event k c e h well.order)
 
   -- a chunk has what was kept between its cuts
   pub chunk_between_cuts : (c : StreamConfig) (es : List (StreamEvent A)) (k : ℕ) → IsUsable c
@@ -164,6 +207,9 @@ module _ {A : Type 0} where
       let g : (history_after_cut c moment h).cuts ≡ (history_cut_ring (max moment h.last) h).cuts =
       ap (λ (g : History). g.cuts) (in-local c.session (history_cut_ring (max moment h.last) h) h local) in
       omega (arith, e, f, g)
+  cuts-events c (Clear ∷ es) h local =
+      cuts-events c es (history_after_event {A = A} c Clear h) local
+      ∙ ap (λ (n : ℕ). n + cuts_among es) (cuts-cleared c.session h)
   cuts-events c (Peek moment ∷ es) h local = cuts-events c es h local
   cuts-events c (Start ∷ es) h local = cuts-events c es (history_after_event {A = A} c Start h) local
   cuts-events c (Stop ∷ es) h local = cuts-events c es (history_after_event {A = A} c Stop h) local
@@ -173,6 +219,7 @@ module _ {A : Type 0} where
   uncut-event c (Offer moment id payload) h snapshot = cuts-course (course_of c h (length payload)) (history_entry h moment id payload) h
   uncut-event c Take h snapshot = cuts-taken c.session h
   uncut-event c (Cut moment) h snapshot = ap (λ (g : History). g.cuts) (in-snapshot c.session (history_cut_ring (max moment h.last) h) h snapshot)
+  uncut-event c Clear h snapshot = cuts-cleared c.session h
   uncut-event c (Peek moment) h snapshot = refl
   uncut-event c Start h snapshot = refl
   uncut-event c Stop h snapshot = refl
@@ -190,28 +237,49 @@ module _ {A : Type 0} where
   counted_cuts c es = made-cuts c es c.session refl
 
   -- and none keeps anything
-  kept-none : (c : StreamConfig) (e : StreamEvent A) (h : History) → c.session ≡ Snapshot → kept_by c e h ≡ []
-  kept-none c (Offer moment id payload) h snapshot = refl
-  kept-none c Take h snapshot = in-snapshot c.session (take 1 (waiting_of h)) [] snapshot
-  kept-none c (Cut moment) h snapshot = in-snapshot c.session (ring_of (max moment h.last) h) [] snapshot
-  kept-none c (Peek moment) h snapshot = refl
-  kept-none c Start h snapshot = refl
-  kept-none c Stop h snapshot = refl
+  kept-none : (c : StreamConfig) (e : StreamEvent A) (h : History) (kept : List ClosedBuffer) → c.session ≡ Snapshot
+      → kept_by c e h kept ≡ kept
+  kept-none c (Offer moment id payload) h kept snapshot = refl
+  kept-none c Take h kept snapshot = in-snapshot c.session (kept ++ take 1 (waiting_of h)) kept snapshot
+  kept-none c (Cut moment) h kept snapshot = in-snapshot c.session (kept ++ ring_of (max moment h.last) h) kept snapshot
+  kept-none c Clear h kept snapshot = in-snapshot c.session [] kept snapshot
+  kept-none c (Peek moment) h kept snapshot = refl
+  kept-none c Start h kept snapshot = refl
+  kept-none c Stop h kept snapshot = refl
 
-  none-kept : (k : ℕ) (c : StreamConfig) (es : List (StreamEvent A)) (h : History) → c.session ≡ Snapshot → kept_after_cuts k c es h ≡ []
-  none-kept k c [] h snapshot = refl
-  none-kept k c (e ∷ es) h snapshot =
-      ap (λ (bs : List ClosedBuffer). cond (eqb k h.cuts) bs [] ++ kept_after_cuts k c es (history_after_event c e h)) (kept-none c e h snapshot)
-      ∙ nothing-before (eqb k h.cuts) (kept_after_cuts k c es (history_after_event c e h))
-      ∙ none-kept k c es (history_after_event c e h) snapshot
+  none-kept : (k : ℕ) (c : StreamConfig) (es : List (StreamEvent A)) (h : History) (kept : List ClosedBuffer)
+      → c.session ≡ Snapshot → kept_after k c es h kept ≡ kept
+  none-kept k c [] h kept snapshot = refl
+  none-kept k c (e ∷ es) h kept snapshot =
+      ap (λ (bs : List ClosedBuffer). kept_after k c es (history_after_event c e h) (cond (eqb k h.cuts) bs kept))
+      (kept-none c e h kept snapshot)
+      ∙ ap (λ (bs : List ClosedBuffer). kept_after k c es (history_after_event c e h) bs) (sym (nothing-kept (eqb k h.cuts) kept))
+      ∙ none-kept k c es (history_after_event c e h) kept snapshot
 
-  -- in a snapshot session nothing is consumed
+  -- and none clears anything
+  uncleared : (c : StreamConfig) (e : StreamEvent A) (h : History) → c.session ≡ Snapshot
+      → cleared_of (history_after_event c e h) ≡ cleared_of h
+  uncleared c (Offer moment id payload) h snapshot =
+      same-course is_cleared (course_of c h (length payload)) (history_entry h moment id payload) h refl refl
+  uncleared c Take h snapshot = ap cleared_of (in-snapshot c.session (keep_oldest h) h snapshot)
+  uncleared c (Cut moment) h snapshot = ap cleared_of (in-snapshot c.session (history_cut_ring (max moment h.last) h) h snapshot)
+  uncleared c Clear h snapshot = ap cleared_of (in-snapshot c.session (history_clear_ring h) h snapshot)
+  uncleared c (Peek moment) h snapshot = refl
+  uncleared c Start h snapshot = refl
+  uncleared c Stop h snapshot = refl
+
+  none-cleared : (c : StreamConfig) (es : List (StreamEvent A)) (h : History) → c.session ≡ Snapshot
+      → cleared_of (history_after_events c es h) ≡ cleared_of h
+  none-cleared c [] h snapshot = refl
+  none-cleared c (e ∷ es) h snapshot = none-cleared c es (history_after_event c e h) snapshot ∙ uncleared c e h snapshot
+
+  -- in a snapshot session nothing is consumed, nothing is cleared, and nothing is cut
   pub never-consumed : (c : StreamConfig) (es : List (StreamEvent A)) → IsUsable c → c.session ≡ Snapshot
-      → (let h = history_after_events c es new_history in (consumed_of h ≡ []) × (h.cuts ≡ 0))
+      → (let h = history_after_events c es new_history in (kept_of h ≡ []) × (cleared_of h ≡ []) × (h.cuts ≡ 0))
   never-consumed c es usable snapshot =
       let h = history_after_events c es new_history in
       let uncut : h.cuts ≡ 0 = uncut-events c es new_history snapshot in
-      let none : chunk_of 0 h ≡ [] = chunk_between_cuts c es 0 usable ∙ none-kept 0 c es new_history snapshot in
-      let all : chunks_below 0 h ++ chunk_of 0 h ≡ consumed_of h =
-      subst (λ (k : ℕ). chunks_below k h ++ chunk_of k h ≡ consumed_of h) uncut (well_run c es usable).chunks in
-      (sym all ∙ none, uncut)
+      let none : chunk_of 0 h ≡ [] = chunk_between_cuts c es 0 usable ∙ none-kept 0 c es new_history [] snapshot in
+      let all : chunks_below 0 h ++ chunk_of 0 h ≡ kept_of h =
+      subst (λ (k : ℕ). chunks_below k h ++ chunk_of k h ≡ kept_of h) uncut (well_run c es usable).chunks in
+      (sym all ∙ none, none-cleared c es new_history snapshot, uncut)

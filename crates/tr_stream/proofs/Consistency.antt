@@ -1,71 +1,30 @@
 -- A stream that stands for a history is consistent.
-use Rattle.std.proofs.Common.{◌≡◌, ◌≢◌, ℕ, ◌+◌, ◌≤◌, ◌<◌, zero, suc, Bool, true, false, cond, List, [], ◌∷◌, ◌++◌, length, map, refl, sym, ◌∙◌, ap, subst, append_assoc, arith, length-append}
+use Rattle.std.proofs.Common.{◌≡◌, ◌≢◌, ℕ, ◌+◌, ◌≤◌, ◌<◌, zero, suc, Bool, true, false, cond, eqb, List, [], ◌∷◌, ◌++◌, length, map, refl, sym, ◌∙◌, ap, subst, append_assoc, arith, length-append}
 use Rattle.std.proofs.lemmas.Grind.{common_steps, flat_map-append}
-use Rattle.std.proofs.lemmas.List.{append-nil}
+use Rattle.std.proofs.lemmas.List.{append-nil, length-map}
 use Rattle.std.proofs.lemmas.List.Sums.{sum_by-cons}
+use Rattle.std.specs.List.{AllByRecursion}
+use Rattle.std.specs.Prelude.{sum_by}
 use Rattle.tr_book.specs.Parts.{PartState}
 use Rattle.tr_record.specs.Records.{Entry}
 use Rattle.tr_ring.specs.ClosedBuffer.{ClosedBuffer}
-use Rattle.tr_stream.proofs.ChunkLaws.{none_wait, discarded_in-cons, blocks_where-cons}
+use Rattle.tr_book.specs.declared.runs.Run.{Run}
+use Rattle.tr_stream.proofs.GoneLaws.{runs-count}
+use Rattle.tr_stream.proofs.ChunkLaws.{records-of_buffers, none_wait, discarded_in-cons, blocks_where-cons}
 use Rattle.tr_stream.proofs.FateLaws.{parts-are}
+use Rattle.tr_stream.proofs.PieceLaws.{here, is_undropped, parts-left, held-is, pieces-buffers, pieces-cleared, pieces-held, pieces-used, pieces_of, undropped_of}
 use Rattle.tr_stream.proofs.TakeLaws.{length-parts_below}
 use Rattle.tr_ring.specs.Ring.{seq_after}
-use Rattle.tr_stream.specs.Chunks.{closed_if_any, buffer_of, buffers_where, waiting_of, chunk_of, consumed_of, packet_of, part_of, parts_below}
-use Rattle.tr_stream.specs.Consistent.{buffer_in, buffers_in, held_buffers, Rising, CountUp, PartsFrom, first_in, first_serial, DiscardsAgree, SerialsFollow, GapsAgree, IsConsistent}
+use Rattle.tr_stream.specs.Chunks.{buffer_runs, cleared_of, closed_if_any, buffer_of, buffers_where, waiting_of, chunk_of, kept_of, packet_of, part_of, parts_below}
+use Rattle.tr_stream.specs.Consistent.{HasRecord, Piece, buffers_of, Rising, CountUp, PartsFrom, first_in, first_serial, DiscardsAgree, SerialsFollow, GapsAgree, IsConsistent}
 use Rattle.tr_stream.specs.Fates.{all_parts}
-use Rattle.tr_stream.specs.History.{Status, Waiting, Dropped, Kept, Closed, History, is_waiting, is_dropped, is_kept, offers_in, offers_before, offered_of, discarded_in, discarded_of, blocks_where}
+use Rattle.tr_stream.specs.History.{Status, Waiting, Dropped, Kept, Cleared, Closed, History, is_waiting, is_dropped, is_kept, is_cleared, offers_in, offers_before, offered_of, discarded_in, discarded_of, blocks_where}
 use Rattle.tr_stream.specs.Kept.{IsKept}
 use Rattle.tr_stream.specs.Sound.{LosesByMode}
 use Rattle.tr_stream.specs.StandsFor.{StandsFor}
 use Rattle.tr_stream.specs.State.{StreamState}
 use Rattle.tr_stream.specs.WellFormed.{IsWellFormed, NumberedFrom, AllWait, WaitLast, RecordsRise, next_serial, StartsAt, Covers, CoversFrom, AllUsed, LastHeld, chunks_below}
 use Rattle.tr_stream.specs.declared.config.StreamConfig.{StreamConfig}
-
--- a block that wasn't dropped
-abbrev pub is_held : Status → Bool
-is_held Waiting = true
-is_held Dropped = false
-is_held (Kept k) = true
-
--- the kept blocks, and then those that wait
-pub held-split : (discarded : ℕ) (cs : List Closed) → WaitLast cs
-    → buffers_where is_held discarded cs ≡ buffers_where is_kept discarded cs ++ buffers_where is_waiting discarded cs
-held-split discarded [] order = refl
-held-split discarded (c ∷ cs) order =
-    grind (
-      arith,
-      common_steps,
-      held-split (discarded + length c.block.discarded) cs order.1,
-      none_wait is_kept (discarded + length c.block.discarded) cs refl,
-    )
-
--- all that a history holds, in order
-abbrev pub held_of : ℕ → History → List ClosedBuffer
-held_of end h = buffers_where is_held 0 h.closed ++ closed_if_any h.filling.number end (discarded_of h) h.filling.records
-
--- packets give back their sub-buffers
-buffer_in-packets : (c : StreamConfig) (bs : List ClosedBuffer) → map buffer_in (map (packet_of c) bs) ≡ bs
-buffer_in-packets c [] = refl
-buffer_in-packets c (b ∷ bs) = ap (λ (more : List ClosedBuffer). b ∷ more) (buffer_in-packets c bs)
-
--- the packets of the chunks below a number give back their sub-buffers
-buffers_in-chunks : (c : StreamConfig) (k : ℕ) (h : History) → buffers_in (parts_below c k h) ≡ chunks_below k h
-buffers_in-chunks c zero h = refl
-buffers_in-chunks c (suc k) h =
-    flat_map-append (λ (p : PartState). map buffer_in p.packets) (parts_below c k h) (part_of c k (chunk_of k h) ∷ [])
-    ∙ append-both (buffers_in-chunks c k h) (append-nil (map buffer_in (map (packet_of c) (chunk_of k h))) ∙ buffer_in-packets c (chunk_of k h))
-  where
-    append-both : {xs ys zs ws : List ClosedBuffer} → xs ≡ ys → zs ≡ ws → xs ++ zs ≡ ys ++ ws
-    append-both e f = cc
-
-pub held-is : (s : StreamState) (h : History) → StandsFor s h → held_buffers s ≡ held_of s.counters.last h
-held-is s h is =
-    let parts : buffers_in (all_parts s.parts) ≡ consumed_of h =
-    ap buffers_in (parts-are s h is) ∙ buffers_in-chunks s.config (suc h.cuts) h ∙ is.model.chunks in
-    let c = is.waiting in let d = is.number in let e = is.discarded in let f = is.filling in
-    let k = held-split 0 h.closed is.model.order in
-    let l = append_assoc (consumed_of h) (waiting_of h) (closed_if_any h.filling.number s.counters.last (discarded_of h) h.filling.records) in
-    cc
 
 -- parts have the numbers of their chunks
 parts_from : (c : StreamConfig) (k : ℕ) (h : History) → PartsFrom 0 (parts_below c k h)
@@ -136,12 +95,12 @@ rising-last number serial place end discarded low next (r ∷ rs) le le' rise fe
   (omega arith, omega (arith, next_serial-lower low serial (r ∷ rs) le')),
 )
 
-rising-held : (h : History) (end : ℕ) → IsWellFormed h → Rising 0 0 (held_of end h) (seq_after h.filling.number h.filling.records) (offered_of h)
+rising-held : (h : History) (end : ℕ) → IsWellFormed h → Rising 0 0 (undropped_of end h) (seq_after h.filling.number h.filling.records) (offered_of h)
 rising-held h end is =
-    rising-append 0 0 (buffers_where is_held 0 h.closed)
+    rising-append 0 0 (buffers_where is_undropped 0 h.closed)
     (closed_if_any h.filling.number end (discarded_of h) h.filling.records) (length h.closed) (offers_before h.closed)
     (seq_after h.filling.number h.filling.records) (offered_of h)
-    (rising-where is_held 0 0 0 0 0 h.closed (length h.closed) (offers_before h.closed) is.numbers is.covers (omega arith)
+    (rising-where is_undropped 0 0 0 0 0 h.closed (length h.closed) (offers_before h.closed) is.numbers is.covers (omega arith)
     (omega arith) (omega arith) (omega arith))
     (λ n m a b. rising-last n m h.filling.number end (discarded_of h) (offers_before h.closed) (offered_of h)
     h.filling.records (omega (arith, is.filling)) b is.covers_filling.rise is.covers_filling.within)
@@ -177,7 +136,7 @@ waiting_count_up place discarded (c ∷ cs) numbers order =
     refl
 
 -- blocks are held or dropped
-pub held_or_dropped : (discarded : ℕ) (cs : List Closed) → length (buffers_where is_held discarded cs) + blocks_where is_dropped cs ≡ length cs
+pub held_or_dropped : (discarded : ℕ) (cs : List Closed) → length (buffers_where is_undropped discarded cs) + blocks_where is_dropped cs ≡ length cs
 held_or_dropped discarded [] = refl
 held_or_dropped discarded (c ∷ cs) =
     grind (
@@ -189,7 +148,7 @@ held_or_dropped discarded (c ∷ cs) =
 
 -- numbers go on if none was dropped
 count_up_held : (place discarded : ℕ) (cs : List Closed) (qs : List ClosedBuffer) → blocks_where is_dropped cs ≡ 0
-    → NumberedFrom place cs → CountUp (place + length cs) qs → CountUp place (buffers_where is_held discarded cs ++ qs)
+    → NumberedFrom place cs → CountUp (place + length cs) qs → CountUp place (buffers_where is_undropped discarded cs ++ qs)
 count_up_held place discarded [] qs none numbers rest = subst (λ (n : ℕ). CountUp n qs) (omega arith) rest
 count_up_held place discarded (c ∷ cs) qs none numbers rest =
     let more = λ (r : CountUp (place + 1 + length cs) qs). count_up_held (place + 1) (discarded + length c.block.discarded)
@@ -205,7 +164,7 @@ first-starts low next (r ∷ rs) discarded used starts = starts
 -- the first serial, if none was dropped
 first_held : (low discarded next : ℕ) (cs : List Closed) (qs : List ClosedBuffer) → blocks_where is_dropped cs ≡ 0
     → AllUsed cs → CoversFrom low cs → first_serial qs next ≡ low + offers_before cs
-    → first_serial (buffers_where is_held discarded cs ++ qs) next ≡ low
+    → first_serial (buffers_where is_undropped discarded cs ++ qs) next ≡ low
 first_held low discarded next [] qs none used covers rest = omega (arith, rest)
 first_held low discarded next (c ∷ cs) qs none used covers rest =
     grind (
@@ -221,16 +180,17 @@ discards_step : (wanted : Bool) (seen next : ℕ) (p : ClosedBuffer) (ps : List 
 discards_step true seen next p ps e a b = (a, b)
 discards_step false seen next p ps e a b = cc
 
-held-undropped : (st : Status) → is_dropped st ≡ false → is_held st ≡ true
+held-undropped : (st : Status) → is_dropped st ≡ false → is_undropped st ≡ true
 held-undropped Waiting e = refl
 held-undropped Dropped e = cc
 held-undropped (Kept k) e = refl
+held-undropped (Cleared c) e = refl
 
 -- what is discarded, if none was dropped
 discards_held : (low discarded seen next : ℕ) (cs : List Closed) (qs : List ClosedBuffer) → blocks_where is_dropped cs ≡ 0
     → AllUsed cs → CoversFrom low cs → seen + discarded ≡ low → first_serial qs next ≡ low + offers_before cs
     → ((m : ℕ) → m + (discarded + discarded_in cs) ≡ low + offers_before cs → DiscardsAgree m qs next)
-    → DiscardsAgree seen (buffers_where is_held discarded cs ++ qs) next
+    → DiscardsAgree seen (buffers_where is_undropped discarded cs ++ qs) next
 discards_held low discarded seen next [] qs none used covers sum first rest = rest seen (omega (arith, sum))
 discards_held low discarded seen next (c ∷ cs) qs none used covers sum first rest =
     let low' = low + offers_in c.block in
@@ -244,12 +204,12 @@ discards_held low discarded seen next (c ∷ cs) qs none used covers sum first r
     let later = discards_held low' discarded' (seen + length c.block.records) next cs qs none' used.1 covers.1
     (omega (arith, sum)) first' (λ m e. rest m (omega (arith, e, offers, discards))) in
     let held = held-undropped c.status undropped in
-    let whole = discards_step true seen next (buffer_of discarded c) (buffers_where is_held discarded' cs ++ qs) refl
+    let whole = discards_step true seen next (buffer_of discarded c) (buffers_where is_undropped discarded' cs ++ qs) refl
     (omega (arith, sum, starts)) later in
     grind (arith, held, whole)
 
 discard-held : (h : History) (end : ℕ) → IsWellFormed h → blocks_where is_dropped h.closed ≡ 0
-    → CountUp 0 (held_of end h) × DiscardsAgree 0 (held_of end h) (offered_of h)
+    → CountUp 0 (undropped_of end h) × DiscardsAgree 0 (undropped_of end h) (offered_of h)
 discard-held h end is none = (
   count_up_held 0 0 h.closed last none is.numbers (last_counts h.filling.records),
   discards_held 0 0 0 (offered_of h) h.closed last none is.used is.covers refl
@@ -337,7 +297,7 @@ no_discarded (x ∷ xs) e = absurd (let f : length (x ∷ xs) ≡ length xs + 1 
 gaps_held : (number serial place low : ℕ) (cs : List Closed) (qs : List ClosedBuffer) (next_seq next : ℕ)
     → discarded_in cs ≡ 0 → NumberedFrom place cs → AllUsed cs → CoversFrom low cs → Behind number serial place low
     → ((n m : ℕ) → Behind n m (place + length cs) (low + offers_before cs) → GapsAgree n m qs next_seq next)
-    → GapsAgree number serial (buffers_where is_held 0 cs ++ qs) next_seq next
+    → GapsAgree number serial (buffers_where is_undropped 0 cs ++ qs) next_seq next
 gaps_held number serial place low [] qs next_seq next never numbers used covers behind rest =
     rest number serial (subst (λ (p : ℕ × ℕ). Behind number serial p.0 p.1) (pair (omega arith) (omega arith)) behind)
   where
@@ -354,22 +314,23 @@ gaps_held number serial place low (c ∷ cs) qs next_seq next never numbers used
     (subst (λ (k : ℕ). Behind n m (place + 1 + length cs) k) (sym sum) b)) in
     let more = λ (n m : ℕ) (b : Behind n m (place + 1) (low + offers_in c.block)). gaps_held n m (place + 1)
     (low + offers_in c.block) cs qs next_seq next (omega (arith, never, discards)) numbers.1 used.1 covers.1 b rest' in
-    let step = gap_step (is_held c.status) number serial place low c (buffers_where is_held 0 cs ++ qs) next_seq next
+    let step = gap_step (is_undropped c.status) number serial place low c (buffers_where is_undropped 0 cs ++ qs) next_seq next
     numbers.0 covers.0 never' used.0 behind
     (more (place + 1) (low + offers_in c.block) (omega arith, omega arith, (λ e. refl), (λ e. refl)))
     (λ e b. more number serial b) in
     grind (arith, none, step)
 
-held-not_dropped : (st : Status) → is_held st ≡ false → is_dropped st ≡ true
+held-not_dropped : (st : Status) → is_undropped st ≡ false → is_dropped st ≡ true
 held-not_dropped Waiting e = cc
 held-not_dropped Dropped e = refl
 held-not_dropped (Kept k) e = cc
+held-not_dropped (Cleared c) e = cc
 
 -- if nothing is filling, nothing is absent after the last
 gaps_ended : (number serial place low : ℕ) (cs : List Closed) (next_seq next : ℕ) → discarded_in cs ≡ 0
     → NumberedFrom place cs → AllUsed cs → CoversFrom low cs → LastHeld cs → Behind number serial place low
     → (cs ≡ [] → serial ≡ low) → next_seq ≡ place + length cs → next ≡ low + offers_before cs
-    → GapsAgree number serial (buffers_where is_held 0 cs) next_seq next
+    → GapsAgree number serial (buffers_where is_undropped 0 cs) next_seq next
 gaps_ended number serial place low [] next_seq next never numbers used covers ends behind at places sum =
     (omega (arith, behind.3 (sym (at refl)), places), at refl ∙ omega (arith, sum))
 gaps_ended number serial place low (c ∷ cs) next_seq next never numbers used covers ends behind at places sum =
@@ -381,7 +342,7 @@ gaps_ended number serial place low (c ∷ cs) next_seq next never numbers used c
     let more = λ (n m : ℕ) (b : Behind n m (place + 1) (low + offers_in c.block)) (at' : cs ≡ [] → m ≡ low + offers_in c.block).
     gaps_ended n m (place + 1) (low + offers_in c.block) cs next_seq next (omega (arith, never, discards)) numbers.1
     used.1 covers.1 (tail_held c cs ends) b at' (places ∙ count) sum' in
-    let step = gap_step (is_held c.status) number serial place low c (buffers_where is_held 0 cs) next_seq next numbers.0
+    let step = gap_step (is_undropped c.status) number serial place low c (buffers_where is_undropped 0 cs) next_seq next numbers.0
     covers.0 never' used.0 behind
     (more (place + 1) (low + offers_in c.block) (omega arith, omega arith, (λ e. refl), (λ e. refl)) (λ e. refl))
     (λ e b. more number serial b (λ f. absurd (only_held c cs f ends (held-not_dropped c.status e)))) in
@@ -399,7 +360,7 @@ not_nil : {X : Type 0} (x : X) (xs : List X) → x ∷ xs ≢ []
 not_nil x xs f = cc
 
 overwrite-held : (h : History) (end : ℕ) → IsWellFormed h → discarded_of h ≡ 0
-    → GapsAgree 0 0 (held_of end h) (seq_after h.filling.number h.filling.records) (offered_of h)
+    → GapsAgree 0 0 (undropped_of end h) (seq_after h.filling.number h.filling.records) (offered_of h)
 overwrite-held h end is never = last_gaps h.filling.records refl
   where
     start : Behind 0 0 0 0
@@ -426,12 +387,12 @@ overwrite-held h end is never = last_gaps h.filling.records refl
         )
 
     last_gaps : (rs : List Entry) → h.filling.records ≡ rs
-        → GapsAgree 0 0 (buffers_where is_held 0 h.closed ++ closed_if_any h.filling.number end (discarded_of h) rs)
+        → GapsAgree 0 0 (buffers_where is_undropped 0 h.closed ++ closed_if_any h.filling.number end (discarded_of h) rs)
         (seq_after h.filling.number rs) (offered_of h)
     last_gaps [] e =
         let none : length h.filling.records ≡ 0 = ap length e in
         subst (λ (ps : List ClosedBuffer). GapsAgree 0 0 ps (seq_after h.filling.number []) (offered_of h))
-        (sym (append-nil (buffers_where is_held 0 h.closed)))
+        (sym (append-nil (buffers_where is_undropped 0 h.closed)))
         (gaps_ended 0 0 0 0 h.closed (seq_after h.filling.number []) (offered_of h) (omega (arith, never)) is.numbers
         is.used is.covers (is.room e) start (λ f. refl) (omega (arith, is.filling)) (omega (arith, none, never)))
     last_gaps (r ∷ rs) e = gaps_held 0 0 0 0 h.closed (closed_if_any h.filling.number end (discarded_of h) (r ∷ rs))
@@ -441,6 +402,16 @@ overwrite-held h end is never = last_gaps h.filling.records refl
 -- a stream that stands for a history is consistent
 pub consistent : (s : StreamState) (h : History) → LosesByMode s → StandsFor s h → IsConsistent s
 consistent s h losses is = record {
+  pieces = pieces_of s.counters.last h;
+  are = record {
+    kept = kept_of h;
+    left = parts-left s h is;
+    held = pieces-held 0 h.closed last_one ∙ sym (held-is s h is);
+    cleared = ap buffer_runs (pieces-cleared 0 h.closed last_one) ∙ sym is.runs;
+    used = pieces-used 0 h.closed (map here last_one) is.model.used (last-used h.filling.records);
+  };
+  gone = ap (sum_by (λ (r : Run). r.count)) is.runs ∙ runs-count (cleared_of h)
+      ∙ sym (is.cleared ∙ records-of_buffers is_cleared 0 h.closed);
   rising = subst (λ (ps : List ClosedBuffer). Rising 0 0 ps (seq_after s.ring.seq s.ring.current) s.counters.offered)
       (sym same) (rw (is.number, is.filling, is.offered) (rising-held h s.counters.last is.model));
   parts = subst (λ (ps : List PartState). PartsFrom 0 ps) (sym (parts-are s h is)) (parts_from s.config (suc h.cuts) h);
@@ -451,7 +422,7 @@ consistent s h losses is = record {
   );
   absent = omega (arith, lengths, is.overwritten_packets, held_or_dropped 0 h.closed, last, is.number, is.model.filling);
   discards = λ e. subst (λ (ps : List ClosedBuffer). CountUp 0 ps × DiscardsAgree 0 ps s.counters.offered) (sym same)
-      (subst (λ (n : ℕ). CountUp 0 (held_of s.counters.last h) × DiscardsAgree 0 (held_of s.counters.last h) n)
+      (subst (λ (n : ℕ). CountUp 0 (undropped_of s.counters.last h) × DiscardsAgree 0 (undropped_of s.counters.last h) n)
       (sym is.offered) (discard-held h s.counters.last is.model (sym is.overwritten_packets ∙ (losses.discarding e).1)));
   overwrites = λ e. subst (λ (ps : List ClosedBuffer). GapsAgree 0 0 ps (seq_after s.ring.seq s.ring.current)
       s.counters.offered) (sym same)
@@ -459,24 +430,29 @@ consistent s h losses is = record {
       (overwrite-held h s.counters.last is.model (sym is.discarded ∙ losses.overwriting e)));
 }
   where
-    same : held_buffers s ≡ held_of s.counters.last h
-    same = held-is s h is
+    last_one : List ClosedBuffer
+    last_one = closed_if_any h.filling.number s.counters.last (discarded_of h) h.filling.records
+
+    last-used : (rs : List Entry)
+        → AllByRecursion HasRecord (map here (closed_if_any h.filling.number s.counters.last (discarded_of h) rs))
+    last-used [] = tt
+    last-used (r ∷ rs) = (not_nil r rs, tt)
+
+    same : buffers_of (pieces_of s.counters.last h) ≡ undropped_of s.counters.last h
+    same = pieces-buffers 0 h.closed last_one
 
     ends : EndsAt (buffers_where is_waiting 0 h.closed) (0 + length h.closed)
     ends = waiting_count_up 0 0 h.closed is.model.numbers is.model.order
 
-    lengths : length (held_buffers s)
-        ≡ length (buffers_where is_held 0 h.closed)
-        + length (closed_if_any h.filling.number s.counters.last (discarded_of h) h.filling.records)
-    lengths = ap length same ∙ length-append (buffers_where is_held 0 h.closed)
-        (closed_if_any h.filling.number s.counters.last (discarded_of h) h.filling.records)
+    lengths : length (pieces_of s.counters.last h) ≡ length (buffers_where is_undropped 0 h.closed) + length last_one
+    lengths = sym (length-map (pieces_of s.counters.last h) (λ (p : Piece). p.buffer)) ∙ ap length same
+        ∙ length-append (buffers_where is_undropped 0 h.closed) last_one
 
     one_more : (number end discarded : ℕ) (rs : List Entry) → number + length (closed_if_any number end discarded rs) ≡ seq_after number rs
     one_more number end discarded [] = omega arith
     one_more number end discarded (r ∷ rs) = grind (arith, common_steps)
 
-    last : h.filling.number + length (closed_if_any h.filling.number s.counters.last (discarded_of h) h.filling.records)
-        ≡ seq_after s.ring.seq s.ring.current
+    last : h.filling.number + length last_one ≡ seq_after s.ring.seq s.ring.current
     last = one_more h.filling.number s.counters.last (discarded_of h) h.filling.records ∙ (let a = is.number in let b = is.filling in cc)
 
 -- a kept value is consistent

@@ -3,7 +3,7 @@ use Rattle.std.proofs.Common.{◌≡◌, ℕ, ◌+◌, ◌≤◌, ◌<◌, false
 use Rattle.std.proofs.lemmas.Bool.Decides.{nat_tests}
 use Rattle.std.proofs.lemmas.Grind.{common_steps}
 use Rattle.tr_stream.specs.Chunks.{buffers_where}
-use Rattle.tr_stream.specs.History.{Status, Waiting, Dropped, Kept, Closed, is_dropped, is_kept_in, offers_in}
+use Rattle.tr_stream.specs.History.{Status, Waiting, Dropped, Kept, Cleared, Closed, is_dropped, is_kept_in, offers_in}
 use Rattle.tr_stream.specs.Steps.{keep_waiting}
 use Rattle.tr_stream.specs.WellFormed.{NumberedFrom, WaitLast, IsWithin, AllWithinCuts, Covers, CoversFrom, AllUsed, LastHeld}
 
@@ -28,6 +28,7 @@ within_more : (cuts more : ℕ) (status : Status) → cuts ≤ more → IsWithin
 within_more cuts more Waiting le old = tt
 within_more cuts more Dropped le old = tt
 within_more cuts more (Kept k) le old = omega arith
+within_more cuts more (Cleared c) le old = tt
 
 pub AllWithinCuts-more : (cuts more : ℕ) (cs : List Closed) → cuts ≤ more → AllWithinCuts cuts cs → AllWithinCuts more cs
 AllWithinCuts-more cuts more [] le old = tt
@@ -37,6 +38,7 @@ not_kept_above : (cuts k : ℕ) (status : Status) → cuts < k → IsWithin cuts
 not_kept_above cuts k Waiting le old = refl
 not_kept_above cuts k Dropped le old = refl
 not_kept_above cuts k (Kept j) le old = grind (arith, nat_tests)
+not_kept_above cuts k (Cleared c) le old = refl
 
 -- a chunk that wasn't begun is empty
 pub none_above : (cuts k discarded : ℕ) (cs : List Closed) → cuts < k → AllWithinCuts cuts cs → buffers_where (is_kept_in k) discarded cs ≡ []

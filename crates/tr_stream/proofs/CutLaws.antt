@@ -11,10 +11,10 @@ use Rattle.tr_ring.specs.ClosedBuffer.{ClosedBuffer}
 use Rattle.tr_ring.specs.Ring.{seq_after}
 use Rattle.tr_stream.proofs.ChunkLaws.{buffers_where-push, records_where-push, blocks_where-push, records_in-append, waiting-keep_waiting, other-keep_waiting, new-keep_waiting, records-keep_waiting, other_records-keep_waiting, other_blocks-keep_waiting, sum-keep_waiting}
 use Rattle.tr_stream.proofs.CutForms.{NumberedFrom-keep_waiting, length-keep_waiting, WaitLast-keep_waiting, AllWithinCuts-keep_waiting, AllWithinCuts-more, none_above, AllUsed-keep_waiting, LastHeld-push, LastHeld-keep_waiting, CoversFrom-keep_waiting, Covers-none}
-use Rattle.tr_stream.proofs.FormLaws.{NumberedFrom-push, WaitLast-push, AllWithinCuts-push, serials_same, AllUsed-push, CoversFrom-push}
+use Rattle.tr_stream.proofs.FormLaws.{NumberedFrom-push, WaitLast-push, AllWithinCuts-push, RecentLast-push, RecentLast-new, serials_same, AllUsed-push, CoversFrom-push}
 use Rattle.tr_stream.proofs.Refinement.{chunks_same, chunks_below-same, parts_below-same, kept_in, kept_in-same}
-use Rattle.tr_stream.specs.Chunks.{chunk_of, waiting_of, consumed_of, packet_of, part_of, parts_below, closed_if_any, ring_of, ring_buffers}
-use Rattle.tr_stream.specs.History.{Waiting, Block, Closed, History, is_waiting, is_dropped, is_kept, is_kept_in, offers_in, offers_before, offered_of, times_in, times}
+use Rattle.tr_stream.specs.Chunks.{chunk_of, waiting_of, kept_of, cleared_of, buffer_runs, packet_of, part_of, parts_below, closed_if_any, ring_of, ring_buffers}
+use Rattle.tr_stream.specs.History.{Waiting, Block, Closed, History, is_waiting, is_dropped, is_kept, is_kept_in, is_cleared, is_consumed, is_withdrawn, offers_in, offers_before, offered_of, times_in, times}
 use Rattle.tr_stream.specs.StandsFor.{StandsFor}
 use Rattle.tr_stream.specs.State.{StreamState, records_in, in_ring}
 use Rattle.tr_stream.specs.StateSteps.{cut_done, state_cut_ring, state_cut_answer, state_after_cut, state_snap}
@@ -65,6 +65,8 @@ stands-kept_all s h is =
         order = WaitLast-keep_waiting h.cuts h.closed;
         kept = AllWithinCuts-more h.cuts (h.cuts + 1) (keep_waiting h.cuts h.closed) (omega arith)
             (AllWithinCuts-keep_waiting h.cuts h.cuts h.closed (omega arith) is.model.kept);
+        recent = RecentLast-new h.cuts (h.cuts + 1) (keep_waiting h.cuts h.closed) (omega arith)
+            (AllWithinCuts-keep_waiting h.cuts h.cuts h.closed (omega arith) is.model.kept);
         used = AllUsed-keep_waiting h.cuts h.closed is.model.used;
         room = λ e. LastHeld-keep_waiting h.cuts h.closed (is.model.room e);
         covers = CoversFrom-keep_waiting 0 h.cuts h.closed is.model.covers;
@@ -85,6 +87,7 @@ stands-kept_all s h is =
           (is.closed ∙ sym (parts_below-same s.config h.cuts h g others))
           ∙ sym (parts_below-more s.config h.cuts g);
       current = let e = is.current in let a = above in cc;
+      runs = is.runs ∙ ap buffer_runs (sym (other-keep_waiting is_cleared h.cuts 0 h.closed refl refl));
       waiting = sym (waiting-keep_waiting h.cuts 0 h.closed);
       filling = is.filling;
       number = is.number;
@@ -92,13 +95,15 @@ stands-kept_all s h is =
       offered = grind (arith, is.offered, sum-keep_waiting offers_in h.cuts h.closed);
       overwritten = grind (arith, is.overwritten, other_records-keep_waiting is_dropped h.cuts h.closed refl refl);
       overwritten_packets = grind (arith, is.overwritten_packets, other_blocks-keep_waiting is_dropped h.cuts h.closed refl refl);
-      consumed = grind (arith, is.consumed, is.waiting, records-keep_waiting is_kept h.cuts 0 h.closed refl refl);
+      consumed = grind (arith, is.consumed, is.waiting, records-keep_waiting is_consumed h.cuts 0 h.closed refl refl);
+      cleared = grind (arith, is.cleared, other_records-keep_waiting is_cleared h.cuts h.closed refl refl);
+      withdrawn = grind (arith, is.withdrawn, other_records-keep_waiting is_withdrawn h.cuts h.closed refl refl);
       last = is.last;
       active = is.active;
     }
 
 -- the current sub-buffer with these records is closed
-abbrev flushed : List Entry → ℕ → StreamState → StreamState
+abbrev pub flushed : List Entry → ℕ → StreamState → StreamState
 flushed rs end s = record s {
   ring = record s.ring { waiting = s.ring.waiting ++ closed_if_any s.ring.seq end s.ring.discarded rs; current = []; seq = seq_after s.ring.seq rs };
   counters = at_moment end s.counters;
@@ -107,7 +112,7 @@ flushed rs end s = record s {
 not_nil : {X : Type 0} {x : X} {xs : List X} → x ∷ xs ≢ []
 not_nil e = cc
 
-stands-flushed : (s : StreamState) (h : History) (rs : List Entry) (end : ℕ) → s.ring.current ≡ rs → StandsFor s h
+pub stands-flushed : (s : StreamState) (h : History) (rs : List Entry) (end : ℕ) → s.ring.current ≡ rs → StandsFor s h
     → StandsFor (flushed rs end s) (close_filling rs end h)
 stands-flushed s h [] end e is = record {
   model = record {
@@ -115,6 +120,7 @@ stands-flushed s h [] end e is = record {
     filling = is.model.filling;
     order = is.model.order;
     kept = is.model.kept;
+    recent = is.model.recent;
     used = is.model.used;
     room = is.model.room;
     covers = is.model.covers;
@@ -124,6 +130,7 @@ stands-flushed s h [] end e is = record {
   };
   closed = is.closed ∙ parts_below-same s.config h.cuts (record h { last = end }) h (λ j l. refl);
   current = is.current;
+  runs = is.runs;
   waiting = append-nil s.ring.waiting ∙ is.waiting;
   filling = sym e ∙ is.filling;
   number = is.number;
@@ -132,6 +139,8 @@ stands-flushed s h [] end e is = record {
   overwritten = is.overwritten;
   overwritten_packets = is.overwritten_packets;
   consumed = is.consumed;
+  cleared = is.cleared;
+  withdrawn = is.withdrawn;
   last = refl;
   active = is.active;
 }
@@ -147,17 +156,19 @@ stands-flushed s h (r ∷ rs) end e is =
         filling = grind (arith, common_steps, is.model.filling);
         order = WaitLast-push h.closed b is.model.order refl;
         kept = AllWithinCuts-push h.cuts h.closed b is.model.kept tt;
+        recent = RecentLast-push h.cuts h.closed b is.model.recent tt;
         used = AllUsed-push h.closed b is.model.used (λ empty. not_nil (sym (sym is.filling ∙ e) ∙ empty));
         room = λ e. LastHeld-push h.closed b refl;
         covers = CoversFrom-push 0 h.closed b is.model.covers (subst (λ (n : ℕ). Covers n h.filling) (omega arith) is.model.covers_filling);
         covers_filling = Covers-none (offers_before (h.closed ++ b ∷ [])) (h.filling.number + 1);
-        chunks = chunks_same h g (λ j. same j) (buffers_where-push is_kept 0 h.closed b ∙ append-nil (consumed_of h)) is.model.chunks;
+        chunks = chunks_same h g (λ j. same j) (buffers_where-push is_kept 0 h.closed b ∙ append-nil (kept_of h)) is.model.chunks;
         serials = λ n. serials_same n (offered_of h) (offered_of g) (times n h) (times n g)
             (grind (arith, common_steps, offers)) (is.model.serials n)
             (omega (arith, sum_by_push (λ (c : Closed). times_in n c.block) h.closed b));
       };
       closed = is.closed ∙ sym (parts_below-same s.config h.cuts h g (λ j l. same j));
       current = is.current ∙ ap (part_of s.config h.cuts) (sym (same h.cuts));
+      runs = is.runs ∙ ap buffer_runs (sym (buffers_where-push is_cleared 0 h.closed b ∙ append-nil (cleared_of h)));
       waiting = grind (arith, common_steps, is.waiting, is.discarded, is.number, is.filling, buffers_where-push is_waiting 0 h.closed b);
       filling = refl;
       number = ap (λ (n : ℕ). n + 1) is.number;
@@ -165,7 +176,9 @@ stands-flushed s h (r ∷ rs) end e is =
       offered = grind (arith, common_steps, is.offered, offers);
       overwritten = grind (arith, is.overwritten, records_where-push is_dropped h.closed b);
       overwritten_packets = grind (arith, is.overwritten_packets, blocks_where-push is_dropped h.closed b);
-      consumed = grind (arith, is.consumed, records_where-push is_kept h.closed b);
+      consumed = grind (arith, is.consumed, records_where-push is_consumed h.closed b);
+      cleared = grind (arith, is.cleared, records_where-push is_cleared h.closed b);
+      withdrawn = grind (arith, is.withdrawn, records_where-push is_withdrawn h.closed b);
       last = refl;
       active = is.active;
     }
@@ -191,7 +204,7 @@ stands-cut s h end is =
     subst (λ (n : ℕ). StandsFor (record (state_cut_ring end s) { counters = at_moment end (with_consumed n s.counters) })
     (history_cut_ring end h)) (records_in-ring s end) there
 
-ring-same : (s : StreamState) (h : History) (end : ℕ) → StandsFor s h → ring_buffers end s.ring ≡ ring_of end h
+pub ring-same : (s : StreamState) (h : History) (end : ℕ) → StandsFor s h → ring_buffers end s.ring ≡ ring_of end h
 ring-same s h end is = let a = is.waiting in let b = is.number in let c = is.discarded in let d = is.filling in cc
 
 -- a cut is the history's cut

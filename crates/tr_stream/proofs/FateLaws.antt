@@ -8,15 +8,17 @@ use Rattle.std.specs.List.{list_any}
 use Rattle.std.specs.Option.{option_map, option_or, unwrap_or}
 use Rattle.std.specs.Prelude.{sum_by, count_by, nat_lt}
 use Rattle.tr_book.specs.Parts.{PartState, seq_among}
+use Rattle.tr_book.specs.Runs.{seq_in_runs}
 use Rattle.tr_terms.specs.declared.mode.Mode.{Mode}
 use Rattle.tr_terms.specs.declared.mode.Mode.TheVariants as mode
 use Rattle.tr_record.specs.Records.{Entry, has_serial}
 use Rattle.tr_ring.specs.ClosedBuffer.{ClosedBuffer}
 use Rattle.tr_ring.specs.Ring.{seq_waiting, seq_of}
 use Rattle.tr_stream.proofs.ChunkLaws.{records_where-cons, discarded_in-cons}
-use Rattle.tr_stream.specs.Chunks.{buffers_where, chunk_of, waiting_of, packet_of, part_of, parts_below}
-use Rattle.tr_stream.specs.Fates.{is_discarded_in, holder, status_fate, holder_fate, history_fate, all_parts, fate_in_parts, fate_in_ring, held_fate, loss_of, state_fate}
-use Rattle.tr_stream.specs.History.{Status, Waiting, Dropped, Kept, Block, Closed, History, is_waiting, is_dropped, is_kept_in, discarded_in, records_where, discarded_of, times_in}
+use Rattle.tr_stream.proofs.GoneLaws.{runs-have}
+use Rattle.tr_stream.specs.Chunks.{buffers_where, chunk_of, cleared_of, waiting_of, packet_of, part_of, parts_below}
+use Rattle.tr_stream.specs.Fates.{is_discarded_in, holder, status_fate, holder_fate, history_fate, all_parts, fate_in_parts, fate_in_runs, fate_in_ring, held_fate, loss_of, state_fate}
+use Rattle.tr_stream.specs.History.{Status, Waiting, Dropped, Kept, Cleared, Block, Closed, History, is_waiting, is_dropped, is_kept_in, is_cleared, discarded_in, records_where, discarded_of, times_in}
 use Rattle.tr_stream.specs.Kept.{IsKept}
 use Rattle.tr_stream.specs.Sound.{LosesByMode}
 use Rattle.tr_stream.specs.StandsFor.{StandsFor}
@@ -25,6 +27,7 @@ use Rattle.tr_stream.specs.WellFormed.{IsWithin, AllWithinCuts}
 use Rattle.tr_stream.specs.declared.config.StreamConfig.{StreamConfig}
 use Rattle.tr_stream.specs.declared.fate.Fate.{Fate}
 use Rattle.tr_stream.specs.declared.fate.Fate.TheVariants.{Discarded, Overwritten, InRing, InChunk}
+use Rattle.tr_stream.specs.declared.fate.Fate.TheVariants as fate
 
 counts_any : {X : Type 0} (p : X → Bool) (xs : List X) → list_any p xs ≡ true → 0 < count_by p xs
 counts_any p [] any = cc
@@ -101,16 +104,18 @@ tail_none : (wanted : Status → Bool) (n discarded : ℕ) (c : Closed) (cs : Li
     × (wanted c.status ≡ true → has_serial n c.block.records ≡ false)
 tail_none wanted n discarded c cs none = grind (arith, common_steps)
 
--- a block that is neither waiting nor kept was dropped
-dropped_else : (cuts : ℕ) (st : Status) → IsWithin cuts st → is_waiting st ≡ false → ((k : ℕ) → k ≤ cuts → is_kept_in k st ≡ false) → st ≡ Dropped
-dropped_else cuts Waiting within waits kept = cc
-dropped_else cuts Dropped within waits kept = refl
-dropped_else cuts (Kept k) within waits kept = let e = kept k within in grind (arith, nat_tests)
+-- a block that is neither waiting nor kept nor cleared was dropped
+dropped_else : (cuts : ℕ) (st : Status) → IsWithin cuts st → is_waiting st ≡ false → is_cleared st ≡ false → ((k : ℕ) → k ≤ cuts → is_kept_in k st ≡ false) → st ≡ Dropped
+dropped_else cuts Waiting within waits gone kept = cc
+dropped_else cuts Dropped within waits gone kept = refl
+dropped_else cuts (Cleared c) within waits gone kept = cc
+dropped_else cuts (Kept k) within waits gone kept = let e = kept k within in grind (arith, nat_tests)
 
--- no packet that is held has it
+-- no packet that is held has it, and none that was cleared had it
 pub record NotFound (n cuts discarded : ℕ) (cs : List Closed) : Type 0 where
   pub within : AllWithinCuts cuts cs
   pub waiting : seq_waiting n (buffers_where is_waiting discarded cs) ≡ None
+  pub cleared : seq_waiting n (buffers_where is_cleared discarded cs) ≡ None
   pub kept : (k : ℕ) → k ≤ cuts → seq_waiting n (buffers_where (is_kept_in k) discarded cs) ≡ None
 
 not_found_more : (n cuts discarded : ℕ) (c : Closed) (cs : List Closed) → NotFound n cuts discarded (c ∷ cs)
@@ -118,14 +123,18 @@ not_found_more : (n cuts discarded : ℕ) (c : Closed) (cs : List Closed) → No
 not_found_more n cuts discarded c cs not = record {
   within = not.within.1;
   waiting = (tail_none is_waiting n discarded c cs not.waiting).0;
+  cleared = (tail_none is_cleared n discarded c cs not.cleared).0;
   kept = λ k le. (tail_none (is_kept_in k) n discarded c cs (not.kept k le)).0;
 }
 
 -- then the block that has it was dropped
 has_dropped : (n cuts discarded : ℕ) (c : Closed) (cs : List Closed) → NotFound n cuts discarded (c ∷ cs)
     → has_serial n c.block.records ≡ true → c.status ≡ Dropped
-has_dropped n cuts discarded c cs not has = dropped_else cuts c.status not.within.0 waits kept
+has_dropped n cuts discarded c cs not has = dropped_else cuts c.status not.within.0 waits gone kept
   where
+    gone : is_cleared c.status ≡ false
+    gone = let t = (tail_none is_cleared n discarded c cs not.cleared).1 in grind (arith, t)
+
     waits : is_waiting c.status ≡ false
     waits = let t = (tail_none is_waiting n discarded c cs not.waiting).1 in grind (arith, t)
 
@@ -292,6 +301,7 @@ chunk_fate s h n k q is below there =
     kept_tells k Waiting q e = cc
     kept_tells k Dropped q e = cc
     kept_tells k (Kept j) q e = grind (arith, nat_tests)
+    kept_tells k (Cleared c) q e = cc
 
 -- found in the ring
 waiting_fate : (s : StreamState) (h : History) (n q : ℕ) → StandsFor s h → n < s.counters.offered
@@ -306,6 +316,22 @@ waiting_fate s h n q is below there =
     tells Waiting q e = refl
     tells Dropped q e = cc
     tells (Kept j) q e = cc
+    tells (Cleared c) q e = cc
+
+-- found among the runs
+cleared_fate : (s : StreamState) (h : History) (n q : ℕ) → StandsFor s h → n < s.counters.offered
+    → seq_waiting n (cleared_of h) ≡ Some q → history_fate n h ≡ Some (fate.Cleared q)
+cleared_fate s h n q is below there =
+    let some = found_counts is_cleared n 0 h.closed q there in
+    record_fate s h n is below (omega (arith, some))
+    ∙ ap (λ (f : Fate). Some f)
+    (found is_cleared fate.Cleared tells n 0 h.closed h.filling q (omega (arith, in_one_place s h n is below)) there)
+  where
+    tells : (st : Status) (q : ℕ) → is_cleared st ≡ true → status_fate st q ≡ fate.Cleared q
+    tells Waiting q e = cc
+    tells Dropped q e = cc
+    tells (Kept j) q e = cc
+    tells (Cleared c) q e = refl
 
 filling_fate : (s : StreamState) (h : History) (n : ℕ) → StandsFor s h → n < s.counters.offered
     → has_serial n h.filling.records ≡ true → history_fate n h ≡ Some (InRing h.filling.number)
@@ -347,27 +373,36 @@ pub parts-are : (s : StreamState) (h : History) → StandsFor s h → all_parts 
 parts-are s h is = let a = is.closed in let b = is.current in cc
 
 -- by where the record is found
-by_place : (s : StreamState) (h : History) (n : ℕ) (part : Option Fate) (waits : Option ℕ) (fills : Bool) → StandsFor s h
+by_place : (s : StreamState) (h : History) (n : ℕ) (part : Option Fate) (gone waits : Option ℕ) (fills : Bool) → StandsFor s h
     → LosesByMode s → n < s.counters.offered → fate_in_parts n (parts_below s.config (suc h.cuts) h) ≡ part
-    → seq_waiting n (waiting_of h) ≡ waits → has_serial n h.filling.records ≡ fills
-    → Some (unwrap_or (option_or part (option_map InRing (option_or waits (cond fills (Some h.filling.number) None))))
+    → seq_waiting n (cleared_of h) ≡ gone → seq_waiting n (waiting_of h) ≡ waits → has_serial n h.filling.records ≡ fills
+    → Some (unwrap_or (option_or part (option_or (option_map fate.Cleared gone)
+    (option_map InRing (option_or waits (cond fills (Some h.filling.number) None)))))
     (loss_of s.config.mode)) ≡ history_fate n h
-by_place s h n (Some fate) waits fills is losses below a b c =
-    let at = parts_found n (suc h.cuts) s.config h fate a in
+by_place s h n (Some found_at) cleared waits fills is losses below a g b c =
+    let at = parts_found n (suc h.cuts) s.config h found_at a in
     sym (chunk_fate s h n at.0 at.1 is below at.2 ∙ ap (λ (f : Fate). Some f) (sym at.3))
-by_place s h n None (Some q) fills is losses below a b c = sym (waiting_fate s h n q is below b)
-by_place s h n None None true is losses below a b c = sym (filling_fate s h n is below c)
-by_place s h n None None false is losses below a b c = sym (loss_fate s h n s.config.mode refl is losses below (record {
-  discarded = record { within = is.model.kept; waiting = b; kept = λ k le. parts_none n (suc h.cuts) s.config h a k (omega arith) };
+by_place s h n None (Some q) waits fills is losses below a g b c = sym (cleared_fate s h n q is below g)
+by_place s h n None None (Some q) fills is losses below a g b c = sym (waiting_fate s h n q is below b)
+by_place s h n None None None true is losses below a g b c = sym (filling_fate s h n is below c)
+by_place s h n None None None false is losses below a g b c = sym (loss_fate s h n s.config.mode refl is losses below (record {
+  discarded = record {
+    within = is.model.kept;
+    waiting = b;
+    cleared = g;
+    kept = λ k le. parts_none n (suc h.cuts) s.config h a k (omega arith);
+  };
   filling = c;
 }))
 
 accepted_fate : (s : StreamState) (h : History) (n : ℕ) → StandsFor s h → LosesByMode s → n < s.counters.offered
     → Some (unwrap_or (held_fate n s) (loss_of s.config.mode)) ≡ history_fate n h
 accepted_fate s h n is losses below =
-    rw (parts-are s h is, is.waiting, is.filling, is.number)
-    (by_place s h n (fate_in_parts n (parts_below s.config (suc h.cuts) h)) (seq_waiting n (waiting_of h))
-    (has_serial n h.filling.records) is losses below refl refl refl)
+    let gone : seq_in_runs n s.parts.cleared ≡ seq_waiting n (cleared_of h) =
+    ap (seq_in_runs n) is.runs ∙ runs-have n (cleared_of h) in
+    rw (parts-are s h is, gone, is.waiting, is.filling, is.number)
+    (by_place s h n (fate_in_parts n (parts_below s.config (suc h.cuts) h)) (seq_waiting n (cleared_of h))
+    (seq_waiting n (waiting_of h)) (has_serial n h.filling.records) is losses below refl refl refl refl)
 
 -- a serial's fate is the history's
 pub fates : (s : StreamState) (h : History) (n : ℕ) → StandsFor s h → LosesByMode s → state_fate n s ≡ history_fate n h
@@ -377,25 +412,34 @@ fates s h n is losses = by_test (nat_lt n s.counters.offered) refl
     by_test true below = rw below (accepted_fate s h n is losses (grind (arith, nat_tests, below)))
     by_test false above = grind (arith, nat_tests, is.offered, above)
 
+-- what is behind the parts
+abbrev behind_parts : ℕ → StreamState → Option Fate
+behind_parts n s = option_or (fate_in_runs n s.parts) (fate_in_ring n s.ring)
+
 -- what the search does
 in_all_parts : (n : ℕ) (s : StreamState)
     → held_fate n s ≡ option_or (option_or (fate_in_parts n s.parts.closed)
-    (option_map (InChunk s.parts.current.id) (seq_among n s.parts.current.packets))) (fate_in_ring n s.ring)
-in_all_parts n s = ap (λ (f : Option Fate). option_or f (fate_in_ring n s.ring)) (fate_in_parts-push n s.parts.closed s.parts.current)
+    (option_map (InChunk s.parts.current.id) (seq_among n s.parts.current.packets))) (behind_parts n s)
+in_all_parts n s = ap (λ (f : Option Fate). option_or f (behind_parts n s)) (fate_in_parts-push n s.parts.closed s.parts.current)
 
 pub held-closed : (n : ℕ) (s : StreamState) (fate : Fate) → fate_in_parts n s.parts.closed ≡ Some fate → Some fate ≡ held_fate n s
 held-closed n s fate there =
     sym (in_all_parts n s ∙ ap (λ (f : Option Fate). option_or
-    (option_or f (option_map (InChunk s.parts.current.id) (seq_among n s.parts.current.packets))) (fate_in_ring n s.ring))
+    (option_or f (option_map (InChunk s.parts.current.id) (seq_among n s.parts.current.packets))) (behind_parts n s))
     there)
 
 pub held-current : (n : ℕ) (s : StreamState) (k q : ℕ) → fate_in_parts n s.parts.closed ≡ None
     → seq_among n s.parts.current.packets ≡ Some q → k ≡ s.parts.current.id → Some (InChunk k q) ≡ held_fate n s
 held-current n s k q none there at = sym (in_all_parts n s ∙ (let a = none in let b = there in let c = at in cc))
 
+pub held-gone : (n : ℕ) (s : StreamState) (q : ℕ) → fate_in_parts n s.parts.closed ≡ None
+    → seq_among n s.parts.current.packets ≡ None → seq_in_runs n s.parts.cleared ≡ Some q → Some (fate.Cleared q) ≡ held_fate n s
+held-gone n s q none not there = sym (in_all_parts n s ∙ (let a = none in let b = not in let c = there in cc))
+
 pub held-ring : (n : ℕ) (s : StreamState) (q : Option ℕ) → fate_in_parts n s.parts.closed ≡ None
-    → seq_among n s.parts.current.packets ≡ None → seq_of n s.ring ≡ q → option_map InRing q ≡ held_fate n s
-held-ring n s q none not there = sym (in_all_parts n s ∙ (let a = none in let b = not in let c = there in cc))
+    → seq_among n s.parts.current.packets ≡ None → seq_in_runs n s.parts.cleared ≡ None → seq_of n s.ring ≡ q
+    → option_map InRing q ≡ held_fate n s
+held-ring n s q none not gone there = sym (in_all_parts n s ∙ (let a = none in let b = not in let d = gone in let c = there in cc))
 
 -- a kept value loses records as its mode says
 pub losses-of : (s t : StreamState) → t ≡ s → IsKept t → LosesByMode s

@@ -1,10 +1,10 @@
 -- What steps keep of a well-formed model.
-use Rattle.std.proofs.Common.{◌≡◌, ◌≢◌, ℕ, ◌+◌, ◌≤◌, true, false, cond, eqb, ltb, List, [], ◌∷◌, ◌++◌, length, refl, sym, ap, subst, ◌∙◌, arith}
+use Rattle.std.proofs.Common.{◌≡◌, ◌≢◌, ℕ, ◌+◌, ◌≤◌, ◌<◌, Bool, true, false, cond, eqb, ltb, List, [], ◌∷◌, ◌++◌, length, refl, sym, ap, subst, ◌∙◌, arith}
 use Rattle.std.proofs.lemmas.Bool.Decides.{nat_tests}
 use Rattle.std.proofs.lemmas.Grind.{common_steps}
 use Rattle.std.proofs.lemmas.List.Sums.{sum_by-cons, sum_by_push}
-use Rattle.tr_stream.specs.History.{Status, Kept, Block, Closed, is_waiting, offers_in, offers_before}
-use Rattle.tr_stream.specs.WellFormed.{NumberedFrom, AllWait, WaitLast, IsWithin, AllWithinCuts, RecordsRise, next_serial, StartsAt, Covers, CoversFrom, AllUsed, LastHeld}
+use Rattle.tr_stream.specs.History.{Status, Waiting, Dropped, Kept, Cleared, Block, Closed, is_waiting, is_kept_in, offers_in, offers_before}
+use Rattle.tr_stream.specs.WellFormed.{NumberedFrom, AllWait, WaitLast, IsWithin, AllWithinCuts, IsRecent, AllRecent, RecentLast, RecordsRise, next_serial, StartsAt, Covers, CoversFrom, AllUsed, LastHeld}
 use Rattle.tr_record.specs.Records.{Entry}
 use Rattle.tr_stream.specs.Steps.{settle_first}
 
@@ -41,6 +41,54 @@ pub AllWithinCuts-settle_first : (cuts : ℕ) (status : Status) (cs : List Close
     → AllWithinCuts cuts cs → AllWithinCuts cuts (settle_first status cs)
 AllWithinCuts-settle_first cuts status [] new old = tt
 AllWithinCuts-settle_first cuts status (c ∷ cs) new old = grind (arith, common_steps, AllWithinCuts-settle_first cuts status cs new old.1)
+
+-- after a block kept in the current chunk
+pub AllRecent-push : (k : ℕ) (cs : List Closed) (c : Closed) → AllRecent k cs → IsRecent k c.status → AllRecent k (cs ++ c ∷ [])
+AllRecent-push k [] c old new = (new, tt)
+AllRecent-push k (d ∷ cs) c old new = (old.0, AllRecent-push k cs c old.1 new)
+
+pub RecentLast-push : (k : ℕ) (cs : List Closed) (c : Closed) → RecentLast k cs → IsRecent k c.status → RecentLast k (cs ++ c ∷ [])
+RecentLast-push k [] c old new = (λ _. tt, tt)
+RecentLast-push k (d ∷ cs) c old new = (λ e. AllRecent-push k cs c (old.0 e) new, RecentLast-push k cs c old.1 new)
+
+AllRecent-settle_first : (k : ℕ) (status : Status) (cs : List Closed) → IsRecent k status → AllRecent k cs → AllRecent k (settle_first status cs)
+AllRecent-settle_first k status [] new old = tt
+AllRecent-settle_first k status (c ∷ cs) new old = grind (arith, common_steps, AllRecent-settle_first k status cs new old.1)
+
+waits_recent : (k : ℕ) (st : Status) → is_waiting st ≡ true → IsRecent k st
+waits_recent k Waiting e = tt
+waits_recent k Dropped e = tt
+waits_recent k (Kept j) e = cc
+waits_recent k (Cleared c) e = cc
+
+AllWait-recent : (k : ℕ) (cs : List Closed) → AllWait cs → AllRecent k cs
+AllWait-recent k [] wait = tt
+AllWait-recent k (c ∷ cs) wait = (waits_recent k c.status wait.0, AllWait-recent k cs wait.1)
+
+pub RecentLast-settle_first : (k : ℕ) (status : Status) (cs : List Closed) → IsRecent k status → WaitLast cs → RecentLast k cs
+    → RecentLast k (settle_first status cs)
+RecentLast-settle_first k status [] new order old = tt
+RecentLast-settle_first k status (c ∷ cs) new order old =
+    by_test (RecentLast-settle_first k status cs new order.1 old.1) (is_waiting c.status) refl
+  where
+    by_test : RecentLast k (settle_first status cs) → (w : Bool) → is_waiting c.status ≡ w
+        → RecentLast k (settle_first status (c ∷ cs))
+    by_test rest true e = subst (λ (w : Bool). RecentLast k (cond w (record c { status = status } ∷ cs) (c ∷ settle_first status cs)))
+        (sym e) ((λ _. AllWait-recent k cs (order.0 e)), old.1)
+    by_test rest false e = subst (λ (w : Bool). RecentLast k (cond w (record c { status = status } ∷ cs) (c ∷ settle_first status cs)))
+        (sym e)
+        ((λ kept. AllRecent-settle_first k status cs new (old.0 kept)), rest)
+
+-- no block is kept in a chunk that wasn't begun
+never_kept : (cuts k : ℕ) (st : Status) → cuts < k → IsWithin cuts st → is_kept_in k st ≡ true → ⊥
+never_kept cuts k Waiting lt within e = cc
+never_kept cuts k Dropped lt within e = cc
+never_kept cuts k (Kept j) lt within e = let f : j ≡ k = grind (arith, nat_tests, e) in omega (arith, f)
+never_kept cuts k (Cleared c) lt within e = cc
+
+pub RecentLast-new : (cuts k : ℕ) (cs : List Closed) → cuts < k → AllWithinCuts cuts cs → RecentLast k cs
+RecentLast-new cuts k [] lt within = tt
+RecentLast-new cuts k (c ∷ cs) lt within = ((λ e. absurd (never_kept cuts k c.status lt within.0 e)), RecentLast-new cuts k cs lt within.1)
 
 -- one more serial
 pub serials_more : (n serial offered offered' before after : ℕ) → serial ≡ offered → offered' ≡ offered + 1

@@ -8,17 +8,18 @@ use Rattle.tr_terms.specs.declared.mode.Mode.TheVariants.{Discard, Overwrite}
 use Rattle.tr_terms.specs.declared.limits.TheConstants.{LAST_MOMENT}
 use Rattle.tr_ring.specs.Ring.{current_buffer}
 use Rattle.tr_ring.specs.ClosedBuffer.{ClosedBuffer}
+use Rattle.tr_stream.proofs.ClearLaws.{stands-clear}
 use Rattle.tr_stream.proofs.CutLaws.{stands-cut}
 use Rattle.tr_stream.proofs.OfferLaws.{IsAccepted, accepted, not_empty, joins, follows, discards, replaces, offers}
 use Rattle.tr_stream.proofs.OpenLaws.{open-none}
 use Rattle.tr_stream.proofs.Refinement.{without_oldest, stands-switched}
-use Rattle.tr_stream.proofs.SoundLaws.{sound-cut, IsNext, sound-joined, sound-discarded, sound-followed, sound-without_oldest, sound-moved, sound-switched}
+use Rattle.tr_stream.proofs.SoundLaws.{sound-clear, sound-cut, IsNext, sound-joined, sound-discarded, sound-followed, sound-without_oldest, sound-moved, sound-switched}
 use Rattle.tr_stream.proofs.TakeLaws.{starts, taken}
 use Rattle.tr_stream.specs.Kept.{IsKept}
 use Rattle.tr_stream.specs.Sound.{IsSound, IsConfig}
 use Rattle.tr_stream.specs.State.{StreamState}
-use Rattle.tr_stream.specs.StateSteps.{state_cut_ring, state_entry, refusal_of, state_unless, state_with_offer, state_after_offer, move_oldest, state_after_switch, new_state, overwrites}
-use Rattle.tr_stream.specs.Steps.{history_cut_ring, history_after_offer, keep_oldest, new_history, history_after_switch}
+use Rattle.tr_stream.specs.StateSteps.{state_clear_ring, state_cut_ring, state_entry, refusal_of, state_unless, state_with_offer, state_after_offer, move_oldest, state_after_switch, new_state, overwrites}
+use Rattle.tr_stream.specs.Steps.{history_clear_ring, history_cut_ring, history_after_offer, keep_oldest, new_history, history_after_switch}
 use Rattle.tr_stream.specs.declared.answers.OfferFault.{OfferFault}
 use Rattle.tr_terms.specs.declared.session_mode.SessionMode.TheVariants.{Local}
 use Rattle.tr_stream.specs.declared.config.StreamConfig.{StreamConfig}
@@ -119,6 +120,12 @@ kept-cut s end local later in_time is =
       history = (history_cut_ring end is.history.0, stands-cut s is.history.0 end is.history.1);
     }
 
+pub kept-clear : (s : StreamState) → s.config.session ≡ Local → IsKept s → IsKept (state_clear_ring s)
+kept-clear s local is = record {
+  sound = sound-clear s local is.sound;
+  history = (history_clear_ring is.history.0, stands-clear s is.history.0 is.history.1);
+}
+
 pub kept-switched : (s : StreamState) (active : Bool) → IsKept s → IsKept (state_after_switch active s)
 kept-switched s active is = record {
   sound = sound-switched s active is.sound;
@@ -135,6 +142,7 @@ kept-new c config size count = record {
     in_time = omega arith;
     total = refl;
     consumed = refl;
+    withdrawn = omega arith;
     numbers = omega arith;
     dropped = omega arith;
     room = omega arith;

@@ -4,13 +4,14 @@ use Rattle.std.proofs.lemmas.Bool.Decides.{nat_tests}
 use Rattle.std.proofs.lemmas.Grind.{common_steps}
 use Rattle.std.specs.Prelude.{slice_get}
 use Rattle.tr_stream.proofs.Consistency.{rising-where}
+use Rattle.tr_stream.proofs.ClearLaws.{clears}
 use Rattle.tr_stream.proofs.CutLaws.{cuts}
 use Rattle.tr_stream.proofs.OfferLaws.{offers}
 use Rattle.tr_stream.proofs.Refinement.{stands-switched}
 use Rattle.tr_stream.proofs.TakeLaws.{starts, takes}
-use Rattle.tr_stream.specs.Chunks.{chunk_of, part_of, parts_below, waiting_of, consumed_of}
+use Rattle.tr_stream.specs.Chunks.{chunk_of, part_of, parts_below, waiting_of, kept_of, cleared_of, buffer_runs}
 use Rattle.tr_stream.specs.Consistent.{Rising}
-use Rattle.tr_stream.specs.History.{Status, Waiting, Dropped, Kept, Closed, History, is_waiting, is_dropped, is_kept, offered_of, discarded_of, records_where, blocks_where, times}
+use Rattle.tr_stream.specs.History.{Status, Waiting, Dropped, Kept, Cleared, Closed, History, is_waiting, is_dropped, is_kept, is_cleared, is_consumed, is_withdrawn, offered_of, discarded_of, records_where, blocks_where, times}
 use Rattle.tr_stream.specs.Runs.{history_after_event, history_after_events}
 use Rattle.tr_stream.specs.Sound.{IsMade, IsUsable}
 use Rattle.tr_stream.specs.StandsFor.{StandsFor}
@@ -20,7 +21,7 @@ use Rattle.tr_stream.specs.Steps.{new_history}
 use Rattle.tr_stream.specs.WellFormed.{IsWellFormed, NumberedFrom, AllWait, WaitLast}
 use Rattle.tr_stream.specs.declared.config.StreamConfig.{StreamConfig}
 use Rattle.tr_stream.specs.declared.events.StreamEvent.{StreamEvent}
-use Rattle.tr_stream.specs.declared.events.StreamEvent.TheVariants.{Offer, Take, Cut, Peek, Start, Stop}
+use Rattle.tr_stream.specs.declared.events.StreamEvent.TheVariants.{Offer, Take, Cut, Clear, Peek, Start, Stop}
 
 -- what a stream that stands for a history would hold
 abbrev held_by : StreamConfig → History → StreamState
@@ -35,12 +36,18 @@ held_by c h = record {
     count = c.geometry.count;
     overwrite = overwrites c.mode;
   };
-  parts = record { closed = parts_below c h.cuts h; current = part_of c h.cuts (chunk_of h.cuts h) };
+  parts = record {
+    closed = parts_below c h.cuts h;
+    current = part_of c h.cuts (chunk_of h.cuts h);
+    cleared = buffer_runs (cleared_of h);
+  };
   counters = record {
     offered = offered_of h;
     overwritten = records_where is_dropped h.closed;
     overwritten_packets = blocks_where is_dropped h.closed;
-    consumed = records_where is_kept h.closed;
+    consumed = records_where is_consumed h.closed;
+    cleared = records_where is_cleared h.closed;
+    withdrawn = records_where is_withdrawn h.closed;
     last = h.last;
   };
   active = h.active;
@@ -51,6 +58,7 @@ stands c h well = record {
   model = well;
   closed = refl;
   current = refl;
+  runs = refl;
   waiting = refl;
   filling = refl;
   number = refl;
@@ -59,6 +67,8 @@ stands c h well = record {
   overwritten = refl;
   overwritten_packets = refl;
   consumed = refl;
+  cleared = refl;
+  withdrawn = refl;
   last = refl;
   active = refl;
 }
@@ -83,6 +93,7 @@ kept-waits b kept waits = by_status b.status kept waits
     by_status Waiting kept waits = cc
     by_status Dropped kept waits = cc
     by_status (Kept k) kept waits = cc
+    by_status (Cleared c) kept waits = cc
 
 none-waits : (cs : List Closed) (i j : ℕ) (b d : Closed) → WaitLast cs → slice_get cs i ≡ Some b → slice_get cs j ≡ Some d
     → is_kept d.status ≡ true → i < j → is_waiting b.status ≡ false
@@ -100,6 +111,7 @@ module _ {A : Type 0} where
   well_event c (Offer moment id payload) h usable well = (offers (held_by c h) h moment id payload (made c h usable) (stands c h well)).1.model
   well_event c Take h usable well = (takes (held_by c h) h (stands c h well)).1.model
   well_event c (Cut moment) h usable well = (cuts (held_by c h) h moment (stands c h well)).1.model
+  well_event c Clear h usable well = (clears (held_by c h) h (stands c h well)).1.model
   well_event c (Peek moment) h usable well = well
   well_event c Start h usable well = (stands-switched (held_by c h) h true (stands c h well)).model
   well_event c Stop h usable well = (stands-switched (held_by c h) h false (stands c h well)).model
@@ -117,16 +129,16 @@ module _ {A : Type 0} where
       → n < offered_of (history_after_events c es new_history) → times n (history_after_events c es new_history) ≡ 1
   in_one_place c es n usable below = let e = (well_run c es usable).serials n in grind (arith, nat_tests, e, below)
 
-  -- the numbers and serials of what was consumed rise
-  pub consumed_rise : (c : StreamConfig) (es : List (StreamEvent A)) → IsUsable c
-      → (let h = history_after_events c es new_history in Rising 0 0 (consumed_of h) h.filling.number (offered_of h))
-  consumed_rise c es usable =
+  -- the numbers and serials of what is kept rise
+  pub kept_rise : (c : StreamConfig) (es : List (StreamEvent A)) → IsUsable c
+      → (let h = history_after_events c es new_history in Rising 0 0 (kept_of h) h.filling.number (offered_of h))
+  kept_rise c es usable =
       let h = history_after_events c es new_history in
       let well = well_run c es usable in
       rising-where is_kept 0 0 0 0 0 h.closed h.filling.number (offered_of h) well.numbers well.covers (omega arith)
       (omega arith) (omega (arith, well.filling)) (omega arith)
 
-  -- below what was consumed, all was consumed or dropped
+  -- below what is kept, all is kept, was dropped or was cleared
   pub settled_below : (c : StreamConfig) (es : List (StreamEvent A)) (i j : ℕ) (b d : Closed) → IsUsable c
       → (let h = history_after_events c es new_history in slice_get h.closed i ≡ Some b → slice_get h.closed j ≡ Some d
       → is_kept d.status ≡ true → i < j → (b.block.number ≡ i) × (is_waiting b.status ≡ false))

@@ -10,14 +10,14 @@ use Rattle.tr_record.specs.Records.{Entry}
 use Rattle.tr_ring.specs.Ring.{join_current, follow_current, discard_newest, remove_oldest}
 use Rattle.tr_ring.specs.ClosedBuffer.{ClosedBuffer}
 use Rattle.tr_stream.proofs.ChunkLaws.{buffers_where-push, waiting-settle_first, other-settle_first, new-settle_first, records_where-push, blocks_where-push, records-settle_first, other_records-settle_first, blocks-settle_first, other_blocks-settle_first, sum-settle_first}
-use Rattle.tr_stream.proofs.FormLaws.{NumberedFrom-push, NumberedFrom-settle_first, length-settle_first, WaitLast-push, WaitLast-settle_first, AllWithinCuts-push, AllWithinCuts-settle_first, serials_more, serials_same, AllUsed-push, AllUsed-settle_first, LastHeld-settle_first, nil-push, Covers-join, Covers-discard, Covers-one, CoversFrom-push, CoversFrom-settle_first, offers_before-push}
-use Rattle.tr_stream.specs.Chunks.{chunk_of, waiting_of, consumed_of, packet_of, part_of, parts_below}
-use Rattle.tr_stream.specs.History.{Status, Waiting, Dropped, Kept, Block, Closed, History, is_waiting, is_dropped, is_kept, is_kept_in, offers_in, offers_before, offered_of, times_in, times}
+use Rattle.tr_stream.proofs.FormLaws.{NumberedFrom-push, NumberedFrom-settle_first, length-settle_first, WaitLast-push, WaitLast-settle_first, AllWithinCuts-push, AllWithinCuts-settle_first, RecentLast-push, RecentLast-settle_first, serials_more, serials_same, AllUsed-push, AllUsed-settle_first, LastHeld-settle_first, nil-push, Covers-join, Covers-discard, Covers-one, CoversFrom-push, CoversFrom-settle_first, offers_before-push}
+use Rattle.tr_stream.specs.Chunks.{chunk_of, waiting_of, kept_of, cleared_of, buffer_runs, packet_of, part_of, parts_below}
+use Rattle.tr_stream.specs.History.{Status, Waiting, Dropped, Kept, Block, Closed, History, is_waiting, is_dropped, is_kept, is_kept_in, is_cleared, is_consumed, is_withdrawn, offers_in, offers_before, offered_of, times_in, times}
 use Rattle.tr_stream.specs.StandsFor.{StandsFor}
 use Rattle.tr_stream.specs.State.{StreamState, records_in}
 use Rattle.tr_stream.specs.StateSteps.{state_after_switch}
 use Rattle.tr_stream.specs.Steps.{follow_filling, settle_first, after_course, Join, DiscardNewest, history_after_switch}
-use Rattle.tr_stream.specs.WellFormed.{IsWellFormed, IsWithin, Covers, LastHeld, chunks_below}
+use Rattle.tr_stream.specs.WellFormed.{IsWellFormed, IsWithin, IsRecent, Covers, LastHeld, chunks_below}
 use Rattle.tr_stream.specs.declared.config.StreamConfig.{StreamConfig}
 
 -- a record is in the ring, and counted
@@ -63,9 +63,9 @@ times-discarded : (n : ℕ) (h : History) (e : Entry) → times n (after_course 
 times-discarded n h e = omega (arith, sum_by_push (λ (m : ℕ). cond (eqb m n) 1 0) h.filling.discarded e.serial)
 
 -- the chunks in order stay the kept blocks
-pub chunks_same : (h g : History) → ((j : ℕ) → chunk_of j g ≡ chunk_of j h) → consumed_of g ≡ consumed_of h
-    → chunks_below h.cuts h ++ chunk_of h.cuts h ≡ consumed_of h
-    → chunks_below h.cuts g ++ chunk_of h.cuts g ≡ consumed_of g
+pub chunks_same : (h g : History) → ((j : ℕ) → chunk_of j g ≡ chunk_of j h) → kept_of g ≡ kept_of h
+    → chunks_below h.cuts h ++ chunk_of h.cuts h ≡ kept_of h
+    → chunks_below h.cuts g ++ chunk_of h.cuts g ≡ kept_of g
 chunks_same h g same consumed old =
     let a = chunks_below-same h.cuts h g (λ j l. same j) in
     let b = same h.cuts in
@@ -79,6 +79,7 @@ stands-joined s h e next is = record {
     filling = is.model.filling;
     order = is.model.order;
     kept = is.model.kept;
+    recent = is.model.recent;
     used = is.model.used;
     room = λ none. absurd (nil-push h.filling.records e none);
     covers = is.model.covers;
@@ -90,6 +91,7 @@ stands-joined s h e next is = record {
   };
   closed = is.closed ∙ parts_below-same s.config h.cuts (after_course Join e h) h (λ j l. refl);
   current = is.current;
+  runs = is.runs;
   waiting = is.waiting;
   filling = ap (λ (es : List Entry). es ++ e ∷ []) is.filling;
   number = is.number;
@@ -98,6 +100,8 @@ stands-joined s h e next is = record {
   overwritten = is.overwritten;
   overwritten_packets = is.overwritten_packets;
   consumed = is.consumed;
+  cleared = is.cleared;
+  withdrawn = is.withdrawn;
   last = refl;
   active = is.active;
 }
@@ -110,6 +114,7 @@ stands-discarded s h e used next is = record {
     filling = is.model.filling;
     order = is.model.order;
     kept = is.model.kept;
+    recent = is.model.recent;
     used = is.model.used;
     room = is.model.room;
     covers = is.model.covers;
@@ -123,6 +128,7 @@ stands-discarded s h e used next is = record {
   };
   closed = is.closed ∙ parts_below-same s.config h.cuts (after_course DiscardNewest e h) h (λ j l. refl);
   current = is.current;
+  runs = is.runs;
   waiting = is.waiting;
   filling = is.filling;
   number = is.number;
@@ -131,6 +137,8 @@ stands-discarded s h e used next is = record {
   overwritten = is.overwritten;
   overwritten_packets = is.overwritten_packets;
   consumed = is.consumed;
+  cleared = is.cleared;
+  withdrawn = is.withdrawn;
   last = refl;
   active = is.active;
 }
@@ -154,6 +162,7 @@ stands-followed s h e used next is =
         filling = grind (arith, common_steps, is.model.filling);
         order = WaitLast-push h.closed (closed_now e h) is.model.order refl;
         kept = AllWithinCuts-push h.cuts h.closed (closed_now e h) is.model.kept tt;
+        recent = RecentLast-push h.cuts h.closed (closed_now e h) is.model.recent tt;
         used = AllUsed-push h.closed (closed_now e h) is.model.used used;
         room = λ none. absurd (nil-push [] e none);
         covers = CoversFrom-push 0 h.closed (closed_now e h) is.model.covers
@@ -161,13 +170,14 @@ stands-followed s h e used next is =
         covers_filling = Covers-one (offers_before (h.closed ++ closed_now e h ∷ [])) (h.filling.number + 1) e
             (next ∙ sym (offers_before-push h.closed (closed_now e h)));
         chunks = chunks_same h (follow_filling e h) (λ j. chunk_of-followed_by j e h)
-            (buffers_where-push is_kept 0 h.closed (closed_now e h) ∙ append-nil (consumed_of h)) is.model.chunks;
+            (buffers_where-push is_kept 0 h.closed (closed_now e h) ∙ append-nil (kept_of h)) is.model.chunks;
         serials = λ n. serials_more n e.serial (offered_of h) (offered_of (follow_filling e h)) (times n h)
             (times n (follow_filling e h)) next (grind (arith, common_steps, offers)) (is.model.serials n)
             (omega (arith, sum_by_push (λ (c : Closed). times_in n c.block) h.closed (closed_now e h)));
       };
       closed = is.closed ∙ sym (parts_below-same s.config h.cuts h (follow_filling e h) (λ j l. chunk_of-followed_by j e h));
       current = is.current ∙ ap (part_of s.config h.cuts) (sym (chunk_of-followed_by h.cuts e h));
+      runs = is.runs ∙ ap buffer_runs (sym (buffers_where-push is_cleared 0 h.closed (closed_now e h) ∙ append-nil (cleared_of h)));
       waiting = grind (
         arith,
         common_steps,
@@ -183,7 +193,9 @@ stands-followed s h e used next is =
       offered = grind (arith, common_steps, is.offered, offers);
       overwritten = grind (arith, is.overwritten, records_where-push is_dropped h.closed (closed_now e h));
       overwritten_packets = grind (arith, is.overwritten_packets, blocks_where-push is_dropped h.closed (closed_now e h));
-      consumed = grind (arith, is.consumed, records_where-push is_kept h.closed (closed_now e h));
+      consumed = grind (arith, is.consumed, records_where-push is_consumed h.closed (closed_now e h));
+      cleared = grind (arith, is.cleared, records_where-push is_cleared h.closed (closed_now e h));
+      withdrawn = grind (arith, is.withdrawn, records_where-push is_withdrawn h.closed (closed_now e h));
       last = refl;
       active = is.active;
     }
@@ -193,14 +205,15 @@ abbrev pub settled : Status → History → History
 settled status h = record h { closed = settle_first status h.closed }
 
 settled_well : (status : Status) (h : History) → (h.filling.records ≡ [] → LastHeld (settle_first status h.closed))
-    → is_waiting status ≡ false → IsWithin h.cuts status
-    → chunks_below h.cuts (settled status h) ++ chunk_of h.cuts (settled status h) ≡ consumed_of (settled status h)
+    → is_waiting status ≡ false → IsWithin h.cuts status → IsRecent h.cuts status
+    → chunks_below h.cuts (settled status h) ++ chunk_of h.cuts (settled status h) ≡ kept_of (settled status h)
     → IsWellFormed h → IsWellFormed (settled status h)
-settled_well status h room stops within chunks is = record {
+settled_well status h room stops within recent chunks is = record {
   numbers = NumberedFrom-settle_first 0 status h.closed is.numbers;
   filling = is.filling ∙ sym (length-settle_first status h.closed);
   order = WaitLast-settle_first status h.closed stops is.order;
   kept = AllWithinCuts-settle_first h.cuts status h.closed within is.kept;
+  recent = RecentLast-settle_first h.cuts status h.closed recent is.order is.recent;
   used = AllUsed-settle_first status h.closed is.used;
   room = room;
   covers = CoversFrom-settle_first 0 status h.closed is.covers;
@@ -238,7 +251,7 @@ stands-moved s h b bs oldest is =
     new-settle_first (is_kept_in h.cuts) (Kept h.cuts) 0 h.closed (kept_in-same h.cuts) refl is.model.order in
     let waiting : waiting_of h ≡ b ∷ bs = sym is.waiting ∙ oldest in
     record {
-      model = settled_well (Kept h.cuts) h (λ none. LastHeld-settle_first h.cuts h.closed (is.model.room none)) refl (grind arith)
+      model = settled_well (Kept h.cuts) h (λ none. LastHeld-settle_first h.cuts h.closed (is.model.room none)) refl (grind arith) refl
           (let a = chunks_below-same h.cuts h g (λ j l. other-settle_first (is_kept_in j) (Kept h.cuts) 0 h.closed (kept_in j h.cuts l) refl) in
           let b = grown in
           let c = new-settle_first is_kept (Kept h.cuts) 0 h.closed refl refl is.model.order in
@@ -254,6 +267,7 @@ stands-moved s h b bs oldest is =
           ∙ map-first s.config (chunk_of h.cuts h) bs b in
           let q = is.current in
           cc;
+      runs = is.runs ∙ ap buffer_runs (sym (other-settle_first is_cleared (Kept h.cuts) 0 h.closed refl refl));
       waiting = grind (arith, is.waiting, waiting-settle_first (Kept h.cuts) 0 h.closed refl);
       filling = is.filling;
       number = is.number;
@@ -264,7 +278,9 @@ stands-moved s h b bs oldest is =
       consumed =
           let count : records_in (take 1 (waiting_of h)) ≡ length b.records =
           ap (λ (ws : List ClosedBuffer). records_in (take 1 ws)) waiting ∙ one b bs in
-          omega (arith, is.consumed, count, records-settle_first is_kept (Kept h.cuts) 0 h.closed refl refl);
+          omega (arith, is.consumed, count, records-settle_first is_consumed (Kept h.cuts) 0 h.closed refl refl);
+      cleared = grind (arith, is.cleared, other_records-settle_first is_cleared (Kept h.cuts) h.closed refl refl);
+      withdrawn = grind (arith, is.withdrawn, other_records-settle_first is_withdrawn (Kept h.cuts) h.closed refl refl);
       last = is.last;
       active = is.active;
     }
@@ -277,11 +293,12 @@ pub stands-without_oldest : (s : StreamState) (h : History) → s.ring.current �
 stands-without_oldest s h used is some =
     let g = settled Dropped h in
     record {
-      model = settled_well Dropped h (λ none. absurd (used (is.filling ∙ none))) refl tt
+      model = settled_well Dropped h (λ none. absurd (used (is.filling ∙ none))) refl tt tt
           (chunks_same h g (λ j. other-settle_first (is_kept_in j) Dropped 0 h.closed refl refl)
           (other-settle_first is_kept Dropped 0 h.closed refl refl) is.model.chunks) is.model;
       closed = is.closed ∙ sym (parts_below-same s.config h.cuts h g (λ j l. other-settle_first (is_kept_in j) Dropped 0 h.closed refl refl));
       current = is.current ∙ ap (part_of s.config h.cuts) (sym (other-settle_first (is_kept_in h.cuts) Dropped 0 h.closed refl refl));
+      runs = is.runs ∙ ap buffer_runs (sym (other-settle_first is_cleared Dropped 0 h.closed refl refl));
       waiting = grind (arith, is.waiting, waiting-settle_first Dropped 0 h.closed refl);
       filling = is.filling;
       number = is.number;
@@ -296,7 +313,9 @@ stands-without_oldest s h used is some =
         is.overwritten_packets,
         blocks-settle_first is_dropped Dropped 0 h.closed refl refl,
       );
-      consumed = grind (arith, is.consumed, other_records-settle_first is_kept Dropped h.closed refl refl);
+      consumed = grind (arith, is.consumed, other_records-settle_first is_consumed Dropped h.closed refl refl);
+      cleared = grind (arith, is.cleared, other_records-settle_first is_cleared Dropped h.closed refl refl);
+      withdrawn = grind (arith, is.withdrawn, other_records-settle_first is_withdrawn Dropped h.closed refl refl);
       last = is.last;
       active = is.active;
     }
@@ -309,6 +328,7 @@ stands-switched s h active is = record {
     filling = is.model.filling;
     order = is.model.order;
     kept = is.model.kept;
+    recent = is.model.recent;
     used = is.model.used;
     room = is.model.room;
     covers = is.model.covers;
@@ -318,6 +338,7 @@ stands-switched s h active is = record {
   };
   closed = is.closed ∙ parts_below-same s.config h.cuts (history_after_switch active h) h (λ j l. refl);
   current = is.current;
+  runs = is.runs;
   waiting = is.waiting;
   filling = is.filling;
   number = is.number;
@@ -326,6 +347,8 @@ stands-switched s h active is = record {
   overwritten = is.overwritten;
   overwritten_packets = is.overwritten_packets;
   consumed = is.consumed;
+  cleared = is.cleared;
+  withdrawn = is.withdrawn;
   last = is.last;
   active = refl;
 }

@@ -5,6 +5,7 @@ use Rattle.std.specs.Prelude.{nat_lt}
 use Rattle.tr_record.specs.Records.{Entry}
 use Rattle.tr_ring.specs.ClosedBuffer.{ClosedBuffer}
 use Rattle.tr_ring.specs.Ring.{RingState, current_buffer, after_push, join_current, follow_current, discard_newest, remove_oldest}
+use Rattle.tr_stream.proofs.ClearLaws.{clears, stands-clear}
 use Rattle.tr_stream.proofs.CutLaws.{cuts, snaps, stands-cut}
 use Rattle.tr_stream.proofs.FateLaws.{fates}
 use Rattle.tr_stream.proofs.KeptLaws.{overwrites-is, overwrites-not}
@@ -18,8 +19,8 @@ use Rattle.tr_stream.specs.Rules.{Traced, Agrees, by_state, by_history}
 use Rattle.tr_stream.specs.Sound.{IsMade, LosesByMode}
 use Rattle.tr_stream.specs.StandsFor.{StandsFor}
 use Rattle.tr_stream.specs.State.{StreamState}
-use Rattle.tr_stream.specs.StateSteps.{state_entry, refusal_of, state_unless, state_after_offer, move_oldest, state_cut_ring, overwrites, state_with_offer}
-use Rattle.tr_stream.specs.Steps.{history_after_offer, keep_oldest, history_after_take, history_cut_ring, history_after_cut}
+use Rattle.tr_stream.specs.StateSteps.{state_entry, refusal_of, state_unless, state_after_offer, move_oldest, state_cut_ring, state_clear_ring, overwrites, state_with_offer}
+use Rattle.tr_stream.specs.Steps.{history_after_offer, keep_oldest, history_after_take, history_cut_ring, history_after_cut, history_clear_ring, history_after_clear}
 use Rattle.tr_stream.specs.declared.answers.OfferFault.{OfferFault}
 use Rattle.tr_terms.specs.declared.session_mode.SessionMode.{SessionMode}
 use Rattle.tr_terms.specs.declared.session_mode.SessionMode.TheVariants.{Local, Snapshot}
@@ -165,6 +166,24 @@ agree-cut_ring Local s t moment is = record {
 pub agree-cut : (s : StreamState) (t : Traced) (moment : ℕ) → Agrees s t → Agrees (by_state.after_cut moment s) (by_history.after_cut moment t)
 agree-cut s t moment is = subst (λ (c : StreamConfig). Agrees (by_state.after_cut moment s)
     (record t { history = history_after_cut c moment t.history })) is.config (agree-cut_ring s.config.session s t moment is)
+
+-- a clear
+pub same-cleared : (s : StreamState) (t : Traced) → Agrees s t → by_state.clear_answer s ≡ by_history.clear_answer t
+same-cleared s t is = rw (← is.config) ((clears s t.history is.stands).0)
+
+agree-clear_ring : (m : SessionMode) (s : StreamState) (t : Traced) → Agrees s t
+    → Agrees (by_session_mode m (state_clear_ring s) s) (record t { history = by_session_mode m (history_clear_ring t.history) t.history })
+agree-clear_ring Snapshot s t is = record { config = is.config; made = is.made; losses = is.losses; stands = is.stands }
+agree-clear_ring Local s t is = record {
+  config = is.config;
+  made = record { size = is.made.size; count = is.made.count; mode = is.made.mode; size_low = is.made.size_low; count_low = is.made.count_low };
+  losses = record { discarding = is.losses.discarding; overwriting = is.losses.overwriting };
+  stands = stands-clear s t.history is.stands;
+}
+
+pub agree-cleared : (s : StreamState) (t : Traced) → Agrees s t → Agrees (by_state.after_clear s) (by_history.after_clear t)
+agree-cleared s t is = subst (λ (c : StreamConfig). Agrees (by_state.after_clear s)
+    (record t { history = history_after_clear c t.history })) is.config (agree-clear_ring s.config.session s t is)
 
 -- a peek
 pub same-snapped : (s : StreamState) (t : Traced) (moment : ℕ) → Agrees s t → by_state.snap moment s ≡ by_history.snap moment t

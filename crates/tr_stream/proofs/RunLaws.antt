@@ -6,6 +6,8 @@ use Rattle.tr_stream.specs.Runs.{history_after_event, history_answer, history_af
 use Rattle.tr_stream.specs.StandsFor.{StandsFor}
 use Rattle.tr_stream.specs.State.{StreamState}
 use Rattle.tr_terms.specs.SessionModes.{by_session_mode}
+use Rattle.tr_stream.specs.declared.answers.ClearFault.{ClearFault}
+use Rattle.tr_stream.specs.declared.answers.Cleared.{Cleared}
 use Rattle.tr_stream.specs.declared.answers.CutDone.{CutDone}
 use Rattle.tr_stream.specs.declared.answers.CutFault.{CutFault}
 use Rattle.tr_terms.specs.declared.session_mode.SessionMode.{SessionMode}
@@ -23,6 +25,9 @@ cut-let Local a b fault is = is
 cut-let Snapshot a b fault is = is
 
 module _ {A : Type 0} where
+  pub clear-answered : (a b : Result Cleared ClearFault) → a ≡ b → (let r : StreamAnswer A = answer.Clear a in r) ≡ answer.Clear b
+  clear-answered a b e = ap (λ (x : Result Cleared ClearFault). (let r : StreamAnswer A = answer.Clear x in r)) e
+
   pub cut-answered : (a b : Result CutDone CutFault) → a ≡ b → (let r : StreamAnswer A = answer.Cut a in r) ≡ answer.Cut b
   cut-answered a b e = ap (λ (x : Result CutDone CutFault). (let r : StreamAnswer A = answer.Cut x in r)) e
 

@@ -21,8 +21,8 @@ use Rattle.tr_packet.proofs.OrderLemmas.{MakePacket-later}
 use Rattle.tr_stream.proofs.Refinement.{with_joined, with_followed, with_discarded, without_oldest, with_moved}
 use Rattle.tr_stream.specs.Chunks.{packet_of, begin_of, closed_if_any, ring_buffers}
 use Rattle.tr_stream.specs.Sound.{IsSound, ArePackets, CanBeSent, LosesByMode}
-use Rattle.tr_stream.specs.State.{StreamState, records_in}
-use Rattle.tr_stream.specs.StateSteps.{state_after_switch, state_cut_ring}
+use Rattle.tr_stream.specs.State.{StreamState, records_in, in_ring, in_parts}
+use Rattle.tr_stream.specs.StateSteps.{state_after_switch, state_cut_ring, state_clear_ring}
 use Rattle.tr_terms.specs.declared.session_mode.SessionMode.TheVariants.{Local}
 use Rattle.tr_stream.specs.declared.config.StreamConfig.{StreamConfig}
 use Rattle.tr_terms.specs.declared.limits.TheConstants.{LAST_MOMENT}
@@ -73,6 +73,7 @@ sound-joined s e is next room = record {
   in_time = next.fits.moment;
   total = grind (arith, common_steps, is.total);
   consumed = is.consumed;
+  withdrawn = is.withdrawn;
   numbers = grind (arith, common_steps, is.numbers);
   dropped = is.dropped;
   room = is.room;
@@ -105,6 +106,7 @@ sound-discarded s moment is left le in_time mode = record {
   in_time = in_time;
   total = grind (arith, is.total);
   consumed = is.consumed;
+  withdrawn = is.withdrawn;
   numbers = grind (arith, is.numbers);
   dropped = is.dropped;
   room = is.room;
@@ -134,6 +136,7 @@ sound-followed s e is next used small room = record {
     records_in-cons (closed_current e.moment s.ring) [],
   );
   consumed = is.consumed;
+  withdrawn = is.withdrawn;
   numbers = grind (arith, common_steps, is.numbers, used_some s.ring.current used);
   dropped = grind (arith, common_steps, is.dropped);
   room = grind (arith, common_steps, room);
@@ -161,6 +164,7 @@ sound-without_oldest s is some mode = record {
   in_time = is.in_time;
   total = grind (arith, is.total, first-split s.ring.waiting);
   consumed = is.consumed;
+  withdrawn = is.withdrawn;
   numbers = is.numbers;
   dropped = grind (arith, common_steps, is.dropped, length-drop 1 s.ring.waiting);
   room = grind (arith, common_steps, is.room, length-drop 1 s.ring.waiting);
@@ -187,8 +191,11 @@ sound-moved s b bs oldest local is = record {
   made = record { size = is.made.size; count = is.made.count; mode = is.made.mode; size_low = is.made.size_low; count_low = is.made.count_low };
   few = is.few;
   in_time = is.in_time;
-  total = grind (arith, is.total, one b bs s.ring.waiting oldest);
+  total =
+      let more = sum_by_push (λ (p : Contents). length p.records) s.parts.current.packets (packet_of s.config b) in
+      grind (arith, is.total, one b bs s.ring.waiting oldest, more);
   consumed = omega (arith, is.consumed, sum_by_push (λ (p : Contents). length p.records) s.parts.current.packets (packet_of s.config b));
+  withdrawn = is.withdrawn;
   numbers = is.numbers;
   dropped = grind (arith, common_steps, is.dropped, length-drop 1 s.ring.waiting);
   room = grind (arith, common_steps, is.room, length-drop 1 s.ring.waiting);
@@ -212,6 +219,7 @@ sound-switched s active is =
       in_time = is.in_time;
       total = is.total;
       consumed = is.consumed;
+      withdrawn = is.withdrawn;
       numbers = is.numbers;
       dropped = is.dropped;
       room = is.room;
@@ -278,14 +286,9 @@ sound-cut s end local is later in_time = record {
   made = record { size = is.made.size; count = is.made.count; mode = is.made.mode; size_low = is.made.size_low; count_low = is.made.count_low };
   few = is.few;
   in_time = in_time;
-  total = omega (arith, is.total);
-  consumed =
-      let ps = map (packet_of s.config) (ring_buffers end s.ring) in
-      let part = sum_by-append (λ (p : Contents). length p.records) s.parts.current.packets ps in
-      let count = records_of-packets s.config (ring_buffers end s.ring) ∙ records_in-ring s end in
-      let closed = sum_by_push (λ (part : PartState). records_of part.packets) s.parts.closed
-      (record s.parts.current { packets = s.parts.current.packets ++ ps }) in
-      omega (arith, is.consumed, part, count, closed);
+  total = omega (arith, is.total, in_parts-cut);
+  consumed = omega (arith, is.consumed, in_parts-cut);
+  withdrawn = is.withdrawn;
   numbers = seq-after s.ring.seq s.counters.offered s.ring.current is.numbers;
   dropped = grind (arith, common_steps, seq-grows s.counters.overwritten_packets s.ring.seq s.ring.current (omega (arith, is.dropped)));
   room = omega (arith, is.made.count_low);
@@ -299,5 +302,37 @@ sound-cut s end local is later in_time = record {
       { packets = s.parts.current.packets ++ map (packet_of s.config) (ring_buffers end s.ring) }) is.closed_sent
       (all_append IsPacket s.parts.current.packets (map (packet_of s.config) (ring_buffers end s.ring)) is.current_sent
       (all-packets s.config (ring_buffers end s.ring) (are-ring s end is later in_time)));
+  current_sent = tt;
+}
+  where
+    in_parts-cut : in_parts (state_cut_ring end s).parts ≡ in_parts s.parts + in_ring s.ring
+    in_parts-cut =
+        let ps = map (packet_of s.config) (ring_buffers end s.ring) in
+        let part = sum_by-append (λ (p : Contents). length p.records) s.parts.current.packets ps in
+        let count = records_of-packets s.config (ring_buffers end s.ring) ∙ records_in-ring s end in
+        let closed = sum_by_push (λ (part : PartState). records_of part.packets) s.parts.closed
+        (record s.parts.current { packets = s.parts.current.packets ++ ps }) in
+        omega (arith, part, count, closed)
+
+-- a clear
+pub sound-clear : (s : StreamState) → s.config.session ≡ Local → IsSound s → IsSound (state_clear_ring s)
+sound-clear s local is = record {
+  config = is.config;
+  made = record { size = is.made.size; count = is.made.count; mode = is.made.mode; size_low = is.made.size_low; count_low = is.made.count_low };
+  few = is.few;
+  in_time = is.in_time;
+  total = omega (arith, is.total);
+  consumed = omega (arith, is.consumed);
+  withdrawn = omega (arith, is.withdrawn);
+  numbers = seq-after s.ring.seq s.counters.offered s.ring.current is.numbers;
+  dropped = grind (arith, common_steps, seq-grows s.counters.overwritten_packets s.ring.seq s.ring.current (omega (arith, is.dropped)));
+  room = omega (arith, is.made.count_low);
+  fits = omega (arith, is.made.size_low);
+  waiting_fit = tt;
+  losses = record { discarding = is.losses.discarding; overwriting = is.losses.overwriting };
+  packets = tt;
+  filling = open-none s.counters.offered s.counters.last;
+  unconsumed = λ e. absurd (not-both s.config.session local e);
+  closed_sent = is.closed_sent;
   current_sent = tt;
 }

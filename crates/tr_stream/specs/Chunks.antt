@@ -2,11 +2,13 @@
 use Rattle.std.specs.Prelude.{ℕ, ◌+◌, zero, suc, Bool, List, [], ◌∷◌, ◌++◌, length, map, nat_le, Option, Some, None, if◌then◌else◌}
 use Rattle.std.specs.List.{flat_map}
 use Rattle.tr_book.specs.Parts.{PartState, part_state}
+use Rattle.tr_book.specs.Runs.{runs_of}
+use Rattle.tr_book.specs.declared.runs.Run.{Run}
 use Rattle.tr_packet.specs.Packets.{Contents}
 use Rattle.tr_record.specs.Records.{Entry}
 use Rattle.tr_ring.specs.ClosedBuffer.{ClosedBuffer, closed_buffer}
 use Rattle.tr_ring.specs.Ring.{RingState}
-use Rattle.tr_stream.specs.History.{Status, Closed, History, is_waiting, is_kept, is_kept_in, discarded_of}
+use Rattle.tr_stream.specs.History.{Status, Closed, History, is_waiting, is_kept, is_kept_in, is_cleared, discarded_of}
 use Rattle.tr_stream.specs.declared.config.StreamConfig.{StreamConfig}
 
 -- the sub-buffer of a closed block, with the number of records discarded before the block
@@ -41,13 +43,21 @@ ring_buffers end r = r.waiting ++ closed_if_any r.seq end r.discarded r.current
 abbrev pub history_ring : History → List Entry
 history_ring h = flat_map (λ (b : ClosedBuffer). b.records) (waiting_of h) ++ h.filling.records
 
--- what was consumed into a chunk
+-- what a chunk keeps
 abbrev pub chunk_of : ℕ → History → List ClosedBuffer
 chunk_of k h = buffers_where (is_kept_in k) 0 h.closed
 
--- what was consumed into any chunk
-abbrev pub consumed_of : History → List ClosedBuffer
-consumed_of h = buffers_where is_kept 0 h.closed
+-- what any chunk keeps
+abbrev pub kept_of : History → List ClosedBuffer
+kept_of h = buffers_where is_kept 0 h.closed
+
+-- what was cleared
+abbrev pub cleared_of : History → List ClosedBuffer
+cleared_of h = buffers_where is_cleared 0 h.closed
+
+-- the runs of sub-buffers, in order
+abbrev pub buffer_runs : List ClosedBuffer → List Run
+buffer_runs buffers = flat_map (λ (b : ClosedBuffer). runs_of b.seq b.records) buffers
 
 -- the moment of the first record
 abbrev pub begin_of : List Entry → ℕ
@@ -72,10 +82,14 @@ packet_of c b = record {
 abbrev pub part_of : StreamConfig → ℕ → List ClosedBuffer → PartState
 part_of c k buffers = part_state k (map (packet_of c) buffers)
 
+-- the part of a closed chunk
+abbrev pub closed_part : StreamConfig → ℕ → History → PartState
+closed_part c k h = part_of c k (chunk_of k h)
+
 -- the parts of the chunks below a number, in order
 abbrev pub parts_below : StreamConfig → ℕ → History → List PartState
 parts_below c zero h = []
-parts_below c (suc k) h = parts_below c k h ++ part_of c k (chunk_of k h) ∷ []
+parts_below c (suc k) h = parts_below c k h ++ closed_part c k h ∷ []
 
 -- the part of a chunk, if it was begun
 abbrev pub part_in : StreamConfig → ℕ → History → Option PartState

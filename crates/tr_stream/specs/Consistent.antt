@@ -1,13 +1,14 @@
 -- What a stream value shows by itself: each offer is in one place, and what is absent is what was lost.
-use Rattle.std.specs.Prelude.{◌≡◌, ℕ, ◌+◌, ◌≤◌, ◌↔◌, List, [], ◌∷◌, ◌++◌, length, map}
-use Rattle.std.specs.List.{flat_map}
+use Rattle.std.specs.Prelude.{◌≡◌, ◌≢◌, ℕ, ◌+◌, ◌≤◌, ◌↔◌, Bool, List, [], ◌∷◌, ◌++◌, length, map, sum_by, if◌then◌else◌}
+use Rattle.std.specs.List.{AllByRecursion}
 use Rattle.tr_book.specs.Parts.{PartState}
+use Rattle.tr_book.specs.declared.runs.Run.{Run}
 use Rattle.tr_terms.specs.declared.mode.Mode.TheVariants.{Discard, Overwrite}
 use Rattle.tr_packet.specs.Packets.{Contents}
 use Rattle.tr_record.specs.Records.{Entry}
 use Rattle.tr_ring.specs.ClosedBuffer.{ClosedBuffer, closed_buffer}
 use Rattle.tr_ring.specs.Ring.{seq_after}
-use Rattle.tr_stream.specs.Chunks.{ring_buffers}
+use Rattle.tr_stream.specs.Chunks.{ring_buffers, buffer_runs}
 use Rattle.tr_stream.specs.Fates.{all_parts}
 use Rattle.tr_stream.specs.State.{StreamState}
 use Rattle.tr_stream.specs.WellFormed.{RecordsRise, next_serial}
@@ -16,12 +17,46 @@ use Rattle.tr_stream.specs.WellFormed.{RecordsRise, next_serial}
 abbrev pub buffer_in : Contents → ClosedBuffer
 buffer_in p = closed_buffer p.head.seq p.head.end p.head.discarded p.records
 
-abbrev pub buffers_in : List PartState → List ClosedBuffer
-buffers_in parts = flat_map (λ (p : PartState). map buffer_in p.packets) parts
+-- a part is what is left of these sub-buffers: its packets give them back
+abbrev pub IsLeftOf : PartState → List ClosedBuffer → Type 0
+IsLeftOf p buffers = map buffer_in p.packets ≡ buffers
 
--- all that is held: the packets of the parts in order, and then the ring
-abbrev pub held_buffers : StreamState → List ClosedBuffer
-held_buffers s = buffers_in (all_parts s.parts) ++ ring_buffers s.counters.last s.ring
+-- parts are what is left of these, one part after another
+abbrev pub PartsLeft : List PartState → List ClosedBuffer → Type 0
+PartsLeft [] buffers = buffers ≡ []
+PartsLeft (p ∷ ps) buffers =
+    (own : List ClosedBuffer) × (rest : List ClosedBuffer) × (buffers ≡ own ++ rest) × IsLeftOf p own × PartsLeft ps rest
+
+-- the sub-buffer of a packet that is held, or that was cleared
+pub record Piece : Type 0 where
+  pub buffer : ClosedBuffer
+  pub cleared : Bool
+
+abbrev pub buffers_of : List Piece → List ClosedBuffer
+buffers_of pieces = map (λ (p : Piece). p.buffer) pieces
+
+-- those that are held
+abbrev pub held_among : List Piece → List ClosedBuffer
+held_among [] = []
+held_among (p ∷ ps) = if p.cleared then held_among ps else p.buffer ∷ held_among ps
+
+-- those that were cleared
+abbrev pub cleared_among : List Piece → List ClosedBuffer
+cleared_among [] = []
+cleared_among (p ∷ ps) = if p.cleared then p.buffer ∷ cleared_among ps else cleared_among ps
+
+-- a packet has a record: so one that was cleared has a run, and none can be put where a number is absent
+abbrev pub HasRecord : Piece → Type 0
+HasRecord p = p.buffer.records ≢ []
+
+-- what the parts keep and the ring holds, in order, with the cleared packets put back between: what is known of these are
+-- their runs
+pub record ArePieces (s : StreamState) (pieces : List Piece) : Type 0 where
+  pub kept : List ClosedBuffer
+  pub left : PartsLeft (all_parts s.parts) kept
+  pub held : held_among pieces ≡ kept ++ ring_buffers s.counters.last s.ring
+  pub cleared : buffer_runs (cleared_among pieces) ≡ s.parts.cleared
+  pub used : AllByRecursion HasRecord pieces
 
 -- numbers and serials rise from the first two, and stay below the last two
 abbrev pub Rising : ℕ → ℕ → List ClosedBuffer → ℕ → ℕ → Type 0
@@ -67,17 +102,22 @@ GapsAgree seq serial (b ∷ bs) next_seq next =
     × ((b.seq ≡ seq) ↔ (first_in b.records next ≡ serial))
     × GapsAgree (b.seq + 1) (next_serial serial b.records) bs next_seq next
 
+-- the cleared packets can be put back between those that are held (in one way only, as numbers rise), and then
 pub record IsConsistent (s : StreamState) : Type 0 where
+  pub pieces : List Piece
+  pub are : ArePieces s pieces
+  -- the runs have as many records as were cleared
+  pub gone : sum_by (λ (r : Run). r.count) s.parts.cleared ≡ s.counters.cleared
   -- numbers and serials rise strictly, below the next of each
-  pub rising : Rising 0 0 (held_buffers s) (seq_after s.ring.seq s.ring.current) s.counters.offered
+  pub rising : Rising 0 0 (buffers_of pieces) (seq_after s.ring.seq s.ring.current) s.counters.offered
   pub parts : PartsFrom 0 (all_parts s.parts)
   -- the numbers of the ring follow each other up to the current one
   pub ring : (first : ℕ) × (first + length s.ring.waiting ≡ s.ring.seq) × CountUp first s.ring.waiting
   -- as many numbers are absent as sub-buffers were overwritten
-  pub absent : length (held_buffers s) + s.counters.overwritten_packets ≡ seq_after s.ring.seq s.ring.current
+  pub absent : length pieces + s.counters.overwritten_packets ≡ seq_after s.ring.seq s.ring.current
   -- in discard mode no number is absent, and each `discarded` says how many serials are
   pub discards : s.config.mode ≡ Discard
-      → CountUp 0 (held_buffers s) × DiscardsAgree 0 (held_buffers s) s.counters.offered
+      → CountUp 0 (buffers_of pieces) × DiscardsAgree 0 (buffers_of pieces) s.counters.offered
   -- in overwrite mode serials are absent only between sub-buffers, exactly where numbers are
   pub overwrites : s.config.mode ≡ Overwrite
-      → GapsAgree 0 0 (held_buffers s) (seq_after s.ring.seq s.ring.current) s.counters.offered
+      → GapsAgree 0 0 (buffers_of pieces) (seq_after s.ring.seq s.ring.current) s.counters.offered

@@ -2,15 +2,17 @@
 use Rattle.std.specs.Prelude.{ℕ, Bool, ◌==◌, ◌||◌, nat_lt, List, [], ◌∷◌, ◌++◌, Option, Some, None, find, if◌then◌else◌}
 use Rattle.std.specs.List.{list_any}
 use Rattle.std.specs.Option.{option_map, option_or, unwrap_or}
-use Rattle.tr_book.specs.Parts.{PartState, PartsState, seq_among}
+use Rattle.tr_book.specs.Parts.{PartState, PartsState, seq_in_part}
+use Rattle.tr_book.specs.Runs.{seq_in_runs}
 use Rattle.tr_terms.specs.declared.mode.Mode.{Mode}
 use Rattle.tr_terms.specs.declared.mode.Mode.TheVariants as mode
 use Rattle.tr_record.specs.Records.{has_serial}
 use Rattle.tr_ring.specs.Ring.{RingState, seq_of}
-use Rattle.tr_stream.specs.History.{Status, Waiting, Dropped, Kept, Block, Closed, History, offered_of}
+use Rattle.tr_stream.specs.History.{Status, Waiting, Dropped, Kept, Cleared, Block, Closed, History, offered_of}
 use Rattle.tr_stream.specs.State.{StreamState}
 use Rattle.tr_stream.specs.declared.fate.Fate.{Fate}
 use Rattle.tr_stream.specs.declared.fate.Fate.TheVariants.{Discarded, Overwritten, InRing, InChunk}
+use Rattle.tr_stream.specs.declared.fate.Fate.TheVariants as fate
 
 -- it was discarded while the block was filling
 abbrev pub is_discarded_in : ℕ → Block → Bool
@@ -28,6 +30,7 @@ abbrev pub status_fate : Status → ℕ → Fate
 status_fate Waiting number = InRing number
 status_fate Dropped number = Overwritten
 status_fate (Kept k) number = InChunk k number
+status_fate (Cleared consumed) number = fate.Cleared number
 
 -- by the block that has its record: a closed one, or else the one that is filling
 abbrev pub holder_fate : Option Closed → Block → Fate
@@ -48,14 +51,18 @@ all_parts p = p.closed ++ p.current ∷ []
 -- by the first of these parts that has its record
 abbrev pub fate_in_parts : ℕ → List PartState → Option Fate
 fate_in_parts n [] = None
-fate_in_parts n (p ∷ ps) = option_or (option_map (InChunk p.id) (seq_among n p.packets)) (fate_in_parts n ps)
+fate_in_parts n (p ∷ ps) = option_or (option_map (InChunk p.id) (seq_in_part n p)) (fate_in_parts n ps)
 
 abbrev pub fate_in_ring : ℕ → RingState → Option Fate
 fate_in_ring n r = option_map InRing (seq_of n r)
 
--- where its record is held
+abbrev pub fate_in_runs : ℕ → PartsState → Option Fate
+fate_in_runs n p = option_map fate.Cleared (seq_in_runs n p.cleared)
+
+-- where its record is held, or that it was cleared
 abbrev pub held_fate : ℕ → StreamState → Option Fate
-held_fate n s = option_or (fate_in_parts n (all_parts s.parts)) (fate_in_ring n s.ring)
+held_fate n s =
+    option_or (fate_in_parts n (all_parts s.parts)) (option_or (fate_in_runs n s.parts) (fate_in_ring n s.ring))
 
 -- the fate of a record that is no longer held
 abbrev pub loss_of : Mode → Fate

@@ -1,5 +1,7 @@
 -- Why calls are refused, as answers print it.
 use Rattle.std.specs.Prelude.{ℕ, List, codes}
+use Rattle.tr_stream.specs.declared.answers.ClearFault.{ClearFault}
+use Rattle.tr_stream.specs.declared.answers.ClearFault.TheVariants as clear
 use Rattle.tr_stream.specs.declared.answers.CutFault.{CutFault}
 use Rattle.tr_stream.specs.declared.answers.CutFault.TheVariants as cut
 use Rattle.tr_stream.specs.declared.answers.OfferFault.{OfferFault}
@@ -38,3 +40,11 @@ cut_fault_code cut.NoMemory = codes "C2"
 abbrev pub cut_fault_name : CutFault → List ℕ
 cut_fault_name cut.SnapshotMode = codes "SnapshotMode"
 cut_fault_name cut.NoMemory = codes "NoMemory"
+
+abbrev pub clear_fault_code : ClearFault → List ℕ
+clear_fault_code clear.SnapshotMode = codes "X1"
+clear_fault_code clear.NoMemory = codes "X2"
+
+abbrev pub clear_fault_name : ClearFault → List ℕ
+clear_fault_name clear.SnapshotMode = codes "SnapshotMode"
+clear_fault_name clear.NoMemory = codes "NoMemory"

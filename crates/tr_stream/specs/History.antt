@@ -2,11 +2,13 @@
 use Rattle.std.specs.Prelude.{ℕ, ◌+◌, Bool, true, false, ◌==◌, List, length, sum_by, count_by, if◌then◌else◌}
 use Rattle.tr_record.specs.Records.{Entry}
 
--- what became of a closed block
+-- what became of a closed block: it waits, it was overwritten, it is kept in a chunk, or it was cleared, before or after it
+-- was consumed
 pub data Status : Type 0 where
   Waiting : Status
   Dropped : Status
   Kept : (chunk : ℕ) → Status
+  Cleared : (consumed : Bool) → Status
 
 -- the records stored in one sub-buffer, and the serials discarded while it was the current one
 pub record Block : Type 0 where
@@ -32,21 +34,45 @@ abbrev pub is_waiting : Status → Bool
 is_waiting Waiting = true
 is_waiting Dropped = false
 is_waiting (Kept k) = false
+is_waiting (Cleared consumed) = false
 
 abbrev pub is_dropped : Status → Bool
 is_dropped Waiting = false
 is_dropped Dropped = true
 is_dropped (Kept k) = false
+is_dropped (Cleared consumed) = false
 
 abbrev pub is_kept : Status → Bool
 is_kept Waiting = false
 is_kept Dropped = false
 is_kept (Kept k) = true
+is_kept (Cleared consumed) = false
 
 abbrev pub is_kept_in : ℕ → Status → Bool
 is_kept_in k Waiting = false
 is_kept_in k Dropped = false
 is_kept_in k (Kept j) = j == k
+is_kept_in k (Cleared consumed) = false
+
+abbrev pub is_cleared : Status → Bool
+is_cleared Waiting = false
+is_cleared Dropped = false
+is_cleared (Kept k) = false
+is_cleared (Cleared consumed) = true
+
+-- it was consumed, and is kept or was cleared since
+abbrev pub is_consumed : Status → Bool
+is_consumed Waiting = false
+is_consumed Dropped = false
+is_consumed (Kept k) = true
+is_consumed (Cleared consumed) = consumed
+
+-- it was cleared after it had been consumed
+abbrev pub is_withdrawn : Status → Bool
+is_withdrawn Waiting = false
+is_withdrawn Dropped = false
+is_withdrawn (Kept k) = false
+is_withdrawn (Cleared consumed) = consumed
 
 -- how many offers a block accounts for
 abbrev pub offers_in : Block → ℕ

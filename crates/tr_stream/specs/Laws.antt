@@ -1,5 +1,5 @@
 -- What the laws about histories cite.
-pub use Rattle.tr_stream.specs.Chunks.{chunk_of, consumed_of}
+pub use Rattle.tr_stream.specs.Chunks.{chunk_of, cleared_of, kept_of}
 pub use Rattle.tr_stream.specs.Consistent.{Rising}
 pub use Rattle.tr_stream.specs.History.{Closed, is_kept, is_waiting, offered_of, times}
 pub use Rattle.tr_stream.specs.Runs.{history_after_events, kept_after_cuts, cuts_made}

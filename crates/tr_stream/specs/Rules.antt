@@ -9,8 +9,10 @@ use Rattle.tr_stream.specs.History.{History}
 use Rattle.tr_stream.specs.Sound.{IsMade, LosesByMode}
 use Rattle.tr_stream.specs.StandsFor.{StandsFor}
 use Rattle.tr_stream.specs.State.{StreamState}
-use Rattle.tr_stream.specs.StateSteps.{new_state, state_offer_answer, state_after_offer, state_take_answer, state_after_take, state_cut_answer, state_after_cut, state_after_switch, state_snap, state_counts}
-use Rattle.tr_stream.specs.Steps.{new_history, history_offer_answer, history_after_offer, history_take_answer, history_after_take, history_cut_answer, history_after_cut, history_after_switch, history_snap, history_counts}
+use Rattle.tr_stream.specs.StateSteps.{new_state, state_offer_answer, state_after_offer, state_take_answer, state_after_take, state_cut_answer, state_after_cut, state_clear_answer, state_after_clear, state_after_switch, state_snap, state_counts}
+use Rattle.tr_stream.specs.Steps.{new_history, history_offer_answer, history_after_offer, history_take_answer, history_after_take, history_cut_answer, history_after_cut, history_clear_answer, history_after_clear, history_after_switch, history_snap, history_counts}
+use Rattle.tr_stream.specs.declared.answers.ClearFault.{ClearFault}
+use Rattle.tr_stream.specs.declared.answers.Cleared.{Cleared}
 use Rattle.tr_stream.specs.declared.answers.CutDone.{CutDone}
 use Rattle.tr_stream.specs.declared.answers.CutFault.{CutFault}
 use Rattle.tr_stream.specs.declared.answers.OfferFault.{OfferFault}
@@ -28,6 +30,8 @@ pub record StreamRules (S : Type 0) : Type 0 where
   pub after_take : S → S
   pub cut_answer : ℕ → S → Result CutDone CutFault
   pub after_cut : ℕ → S → S
+  pub clear_answer : S → Result Cleared ClearFault
+  pub after_clear : S → S
   pub after_switch : Bool → S → S
   pub snap : ℕ → S → SnapState
   pub counts : S → Counts
@@ -49,6 +53,8 @@ by_state = record {
   after_take = state_after_take;
   cut_answer = state_cut_answer;
   after_cut = state_after_cut;
+  clear_answer = state_clear_answer;
+  after_clear = state_after_clear;
   after_switch = state_after_switch;
   snap = state_snap;
   counts = state_counts;
@@ -66,6 +72,8 @@ by_history = record {
   after_take = λ t. record t { history = history_after_take t.config t.history };
   cut_answer = λ moment t. history_cut_answer t.config moment t.history;
   after_cut = λ moment t. record t { history = history_after_cut t.config moment t.history };
+  clear_answer = λ t. history_clear_answer t.config t.history;
+  after_clear = λ t. record t { history = history_after_clear t.config t.history };
   after_switch = λ active t. record t { history = history_after_switch active t.history };
   snap = λ moment t. history_snap t.config moment t.history;
   counts = λ t. history_counts t.config t.history;

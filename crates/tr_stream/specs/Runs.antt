@@ -3,12 +3,12 @@ use Rattle.std.specs.Prelude.{◌≢◌, ℕ, ◌+◌, max, true, false, ◌==�
 use Rattle.tr_ring.specs.ClosedBuffer.{ClosedBuffer}
 use Rattle.tr_stream.specs.Chunks.{waiting_of, ring_of}
 use Rattle.tr_stream.specs.History.{History}
-use Rattle.tr_stream.specs.Steps.{history_after_offer, history_offer_answer, history_after_take, history_take_answer, history_after_cut, history_cut_answer, history_snap, history_after_switch}
+use Rattle.tr_stream.specs.Steps.{ClearsSome, history_after_offer, history_offer_answer, history_after_take, history_take_answer, history_after_cut, history_cut_answer, history_after_clear, history_clear_answer, history_snap, history_after_switch}
 use Rattle.tr_stream.specs.declared.config.StreamConfig.{StreamConfig}
 use Rattle.tr_stream.specs.declared.events.StreamAnswer.{StreamAnswer}
 use Rattle.tr_stream.specs.declared.events.StreamAnswer.TheVariants as answer
 use Rattle.tr_stream.specs.declared.events.StreamEvent.{StreamEvent}
-use Rattle.tr_stream.specs.declared.events.StreamEvent.TheVariants.{Offer, Take, Cut, Peek, Start, Stop}
+use Rattle.tr_stream.specs.declared.events.StreamEvent.TheVariants.{Offer, Take, Cut, Clear, Peek, Start, Stop}
 use Rattle.tr_terms.specs.SessionModes.{by_session_mode}
 
 -- the history after a call
@@ -16,6 +16,7 @@ abbrev pub history_after_event : {A : Type 0} → StreamConfig → StreamEvent A
 history_after_event c (Offer moment id payload) h = history_after_offer c moment id payload h
 history_after_event c Take h = history_after_take c h
 history_after_event c (Cut moment) h = history_after_cut c moment h
+history_after_event c Clear h = history_after_clear c h
 history_after_event c (Peek moment) h = h
 history_after_event c Start h = history_after_switch true h
 history_after_event c Stop h = history_after_switch false h
@@ -25,15 +26,18 @@ abbrev pub history_answer : {A : Type 0} → StreamConfig → StreamEvent A → 
 history_answer c (Offer moment id payload) h = answer.Offer (history_offer_answer c payload h)
 history_answer c Take h = answer.Take (history_take_answer c h)
 history_answer c (Cut moment) h = answer.Cut (history_cut_answer c moment h)
+history_answer c Clear h = answer.Clear (history_clear_answer c h)
 history_answer c (Peek moment) h = answer.Peek (Ok (history_snap c moment h))
 history_answer c Start h = answer.Start
 history_answer c Stop h = answer.Stop
 
--- the answers before which an allocation may fail: of a take or a cut that isn't refused, and of a peek that shows packets
+-- the answers before which an allocation may fail: of a take or a cut that isn't refused, of a clear that finds packets, and
+-- of a peek that shows some
 abbrev pub MayTakeMemory : {A : Type 0} → StreamAnswer A → Type 0
 MayTakeMemory (answer.Offer told) = ⊥
 MayTakeMemory (answer.Take told) = IsOk told
 MayTakeMemory (answer.Cut told) = IsOk told
+MayTakeMemory (answer.Clear told) = ClearsSome told
 MayTakeMemory (answer.Peek (Ok snap)) = snap.packets ≢ []
 MayTakeMemory (answer.Peek (Err fault)) = ⊥
 MayTakeMemory answer.Start = ⊥
@@ -49,20 +53,25 @@ abbrev pub history_answers : {A : Type 0} → StreamConfig → List (StreamEvent
 history_answers c [] h = []
 history_answers c (e ∷ es) h = history_answer c e h ∷ history_answers c es (history_after_event c e h)
 
--- what a call keeps in the current chunk
-abbrev pub kept_by : {A : Type 0} → StreamConfig → StreamEvent A → History → List ClosedBuffer
-kept_by c (Offer moment id payload) h = []
-kept_by c Take h = by_session_mode c.session (take 1 (waiting_of h)) []
-kept_by c (Cut moment) h = by_session_mode c.session (ring_of (max moment h.last) h) []
-kept_by c (Peek moment) h = []
-kept_by c Start h = []
-kept_by c Stop h = []
+-- what the current chunk keeps after a call, if it kept these before
+abbrev pub kept_by : {A : Type 0} → StreamConfig → StreamEvent A → History → List ClosedBuffer → List ClosedBuffer
+kept_by c (Offer moment id payload) h kept = kept
+kept_by c Take h kept = by_session_mode c.session (kept ++ take 1 (waiting_of h)) kept
+kept_by c (Cut moment) h kept = by_session_mode c.session (kept ++ ring_of (max moment h.last) h) kept
+kept_by c Clear h kept = by_session_mode c.session [] kept
+kept_by c (Peek moment) h kept = kept
+kept_by c Start h kept = kept
+kept_by c Stop h kept = kept
 
--- what calls keep while the stream has k cuts, in order
+-- what a chunk keeps after calls, if it kept these before: what calls do to it while the stream has k cuts
+abbrev pub kept_after : {A : Type 0} → ℕ → StreamConfig → List (StreamEvent A) → History → List ClosedBuffer → List ClosedBuffer
+kept_after k c [] h kept = kept
+kept_after k c (e ∷ es) h kept =
+    kept_after k c es (history_after_event c e h) (if k == h.cuts then kept_by c e h kept else kept)
+
+-- what calls keep while the stream has k cuts, and no later one of them clears
 abbrev pub kept_after_cuts : {A : Type 0} → ℕ → StreamConfig → List (StreamEvent A) → History → List ClosedBuffer
-kept_after_cuts k c [] h = []
-kept_after_cuts k c (e ∷ es) h =
-    (if k == h.cuts then kept_by c e h else []) ++ kept_after_cuts k c es (history_after_event c e h)
+kept_after_cuts k c es h = kept_after k c es h []
 
 -- how many cuts there are among calls
 abbrev pub cuts_among : {A : Type 0} → List (StreamEvent A) → ℕ

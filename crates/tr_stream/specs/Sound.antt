@@ -61,8 +61,9 @@ pub record IsSound (s : StreamState) : Type 0 where
   pub few : s.counters.offered ≤ MOST_OFFERS
   pub in_time : s.counters.last ≤ LAST_MOMENT
   -- each offer is in one place
-  pub total : s.ring.discarded + s.counters.overwritten + in_ring s.ring + s.counters.consumed ≡ s.counters.offered
-  pub consumed : s.counters.consumed ≡ in_parts s.parts
+  pub total : s.ring.discarded + s.counters.overwritten + s.counters.cleared + in_ring s.ring + in_parts s.parts ≡ s.counters.offered
+  pub consumed : s.counters.consumed ≡ in_parts s.parts + s.counters.withdrawn
+  pub withdrawn : s.counters.withdrawn ≤ s.counters.cleared
   -- no more numbers are used than offers were accepted, and none is both overwritten and in the ring
   pub numbers : s.ring.seq + min 1 (length s.ring.current) ≤ s.counters.offered
   pub dropped : s.counters.overwritten_packets + length s.ring.waiting ≤ s.ring.seq
@@ -73,7 +74,7 @@ pub record IsSound (s : StreamState) : Type 0 where
   -- what waits can be sent, and what is filling can be closed
   pub packets : ArePackets s.config s.ring.waiting
   pub filling : IsOpen s.counters.offered s.counters.last s.ring.current
-  -- in a snapshot session nothing was consumed, and nothing was cut
+  -- in a snapshot session nothing was consumed, nothing was cut, and nothing was cleared
   pub unconsumed : s.config.session ≡ Snapshot → s.parts ≡ no_parts
   -- what was consumed can be sent
   pub closed_sent : AllByRecursion CanBeSent s.parts.closed

@@ -1,7 +1,7 @@
 -- What a stream holds.
 use Rattle.std.specs.Prelude.{ℕ, ◌+◌, Bool, List, length, sum_by}
 use Rattle.tr_book.specs.Counters.{CountersState}
-use Rattle.tr_book.specs.Parts.{PartState, PartsState, records_of}
+use Rattle.tr_book.specs.Parts.{PartState, PartsState, part_records}
 use Rattle.tr_ring.specs.Ring.{RingState}
 use Rattle.tr_ring.specs.ClosedBuffer.{ClosedBuffer}
 use Rattle.tr_stream.specs.declared.config.StreamConfig.{StreamConfig}
@@ -28,4 +28,4 @@ in_ring r = records_in r.waiting + length r.current
 
 -- how many records the parts hold
 abbrev pub in_parts : PartsState → ℕ
-in_parts p = sum_by (λ (part : PartState). records_of part.packets) p.closed + records_of p.current.packets
+in_parts p = sum_by part_records p.closed + part_records p.current

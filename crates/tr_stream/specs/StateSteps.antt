@@ -1,7 +1,7 @@
 -- What each call does to what a stream holds, and what it answers.
 use Rattle.std.specs.Prelude.{ℕ, ◌+◌, ◌-◌, ◌^◌, max, min, Bool, true, false, nat_lt, nat_le, not, List, [], ◌∷◌, length, map, Option, Some, None, Result, Ok, Err, if◌then◌else◌}
-use Rattle.tr_book.specs.Counters.{CountersState, new_counters, with_consumed, at_moment}
-use Rattle.tr_book.specs.Parts.{bytes_of, no_parts, with_packet, with_packets, close_part}
+use Rattle.tr_book.specs.Counters.{CountersState, new_counters, with_consumed, with_cleared, at_moment}
+use Rattle.tr_book.specs.Parts.{no_parts, part_bytes, part_packets, part_records, with_packet, with_packets, close_part, clear_part}
 use Rattle.tr_book.specs.Snaps.{SnapState, snap_state}
 use Rattle.tr_book.specs.declared.counts.Counts.{Counts}
 use Rattle.tr_record.specs.Records.{Entry, entry}
@@ -11,8 +11,11 @@ use Rattle.tr_ring.specs.declared.pushed.Pushed.{Pushed}
 use Rattle.tr_ring.specs.declared.pushed.Pushed.TheVariants as pushed
 use Rattle.tr_terms.specs.declared.mode.Mode.{Mode}
 use Rattle.tr_terms.specs.declared.mode.Mode.TheVariants.{Discard, Overwrite}
-use Rattle.tr_stream.specs.Chunks.{packet_of, ring_buffers}
-use Rattle.tr_stream.specs.State.{StreamState, in_ring, stream_state}
+use Rattle.tr_stream.specs.Chunks.{packet_of, ring_buffers, buffer_runs}
+use Rattle.tr_stream.specs.State.{StreamState, in_ring, in_parts, stream_state}
+use Rattle.tr_stream.specs.declared.answers.ClearFault.{ClearFault}
+use Rattle.tr_stream.specs.declared.answers.ClearFault.TheVariants as clear_fault
+use Rattle.tr_stream.specs.declared.answers.Cleared.{Cleared}
 use Rattle.tr_stream.specs.Steps.{taken_from, done_with}
 use Rattle.tr_stream.specs.declared.answers.CutDone.{CutDone}
 use Rattle.tr_stream.specs.declared.answers.CutFault.{CutFault}
@@ -116,6 +119,27 @@ state_cut_answer moment s = by_session_mode s.config.session (Ok (cut_done (max 
 abbrev pub state_after_cut : ℕ → StreamState → StreamState
 state_after_cut moment s = by_session_mode s.config.session (state_cut_ring (max moment s.counters.last) s) s
 
+-- all that the ring and the current part hold is gone, but for its runs
+abbrev pub state_clear_ring : StreamState → StreamState
+state_clear_ring s = record s {
+  ring = clear_ring s.ring;
+  parts = clear_part (buffer_runs (ring_buffers s.counters.last s.ring)) s.parts;
+  counters = with_cleared (part_records s.parts.current + in_ring s.ring) (part_records s.parts.current) s.counters;
+}
+
+-- a clear: it takes no moment, so what is filling is closed at the last stored one, which nothing shows
+abbrev pub state_cleared : StreamState → Cleared
+state_cleared s = record {
+  packets = part_packets s.parts.current + length (ring_buffers s.counters.last s.ring);
+  records = part_records s.parts.current + in_ring s.ring;
+}
+
+abbrev pub state_clear_answer : StreamState → Result Cleared ClearFault
+state_clear_answer s = by_session_mode s.config.session (Ok (state_cleared s)) (Err clear_fault.SnapshotMode)
+
+abbrev pub state_after_clear : StreamState → StreamState
+state_after_clear s = by_session_mode s.config.session (state_clear_ring s) s
+
 -- what a peek shows of the stream at a moment
 abbrev pub state_snap : ℕ → StreamState → SnapState
 state_snap moment s = snap_state s.config.number s.counters.offered s.ring.discarded
@@ -132,8 +156,11 @@ state_counts s = record {
   overwritten_packets = s.counters.overwritten_packets;
   in_ring = in_ring s.ring;
   consumed = s.counters.consumed;
+  in_chunks = in_parts s.parts;
+  cleared = s.counters.cleared;
+  withdrawn = s.counters.withdrawn;
   cuts = length s.parts.closed;
-  current_bytes = min (bytes_of s.parts.current.packets) (2 ^ 64 - 1);
+  current_bytes = min (part_bytes s.parts.current) (2 ^ 64 - 1);
 }
 
 -- whether the oldest sub-buffer is overwritten

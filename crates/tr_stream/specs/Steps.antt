@@ -1,5 +1,5 @@
 -- What each call does to the history, and what it answers.
-use Rattle.std.specs.Prelude.{ℕ, ◌+◌, ◌-◌, ◌^◌, max, min, Bool, false, nat_lt, nat_le, not, List, [], ◌∷◌, ◌++◌, length, map, Result, Ok, Err, if◌then◌else◌}
+use Rattle.std.specs.Prelude.{◌≢◌, ℕ, ◌+◌, ◌-◌, ◌^◌, ◌==◌, max, min, Bool, true, false, nat_lt, nat_le, not, List, [], ◌∷◌, ◌++◌, length, map, Result, Ok, Err, if◌then◌else◌}
 use Rattle.tr_book.specs.Parts.{bytes_of}
 use Rattle.tr_book.specs.Snaps.{SnapState, snap_state}
 use Rattle.tr_book.specs.declared.counts.Counts.{Counts}
@@ -9,8 +9,11 @@ use Rattle.tr_record.specs.Records.{Entry, entry}
 use Rattle.tr_record.specs.Weight.{weight_of}
 use Rattle.tr_ring.specs.ClosedBuffer.{ClosedBuffer}
 use Rattle.tr_stream.specs.Chunks.{waiting_of, ring_of, chunk_of, packet_of}
-use Rattle.tr_stream.specs.History.{Status, Waiting, Dropped, Kept, Closed, History, is_waiting, is_dropped, is_kept, offered_of, discarded_of, records_where, blocks_where}
+use Rattle.tr_stream.specs.History.{Status, Waiting, Dropped, Kept, Cleared, Closed, History, is_waiting, is_dropped, is_kept, is_cleared, is_consumed, is_withdrawn, offered_of, discarded_of, records_where, blocks_where}
 use Rattle.tr_stream.specs.State.{records_in}
+use Rattle.tr_stream.specs.declared.answers.ClearFault.{ClearFault}
+use Rattle.tr_stream.specs.declared.answers.ClearFault.TheVariants as clear_fault
+use Rattle.tr_stream.specs.declared.answers.Cleared.{Cleared as ClearedCounts}
 use Rattle.tr_stream.specs.declared.answers.CutDone.{CutDone}
 use Rattle.tr_stream.specs.declared.answers.CutFault.{CutFault}
 use Rattle.tr_stream.specs.declared.answers.CutFault.TheVariants as cut_fault
@@ -155,6 +158,42 @@ abbrev pub history_cut_answer : StreamConfig → ℕ → History → Result CutD
 history_cut_answer c moment h =
     by_session_mode c.session (Ok (done_with h.cuts (ring_of (max moment h.last) h))) (Err cut_fault.SnapshotMode)
 
+-- what waits, or is kept in this chunk, is cleared
+abbrev pub cleared_status : ℕ → Status → Status
+cleared_status k Waiting = Cleared false
+cleared_status k Dropped = Dropped
+cleared_status k (Kept j) = if j == k then Cleared true else Kept j
+cleared_status k (Cleared consumed) = Cleared consumed
+
+abbrev pub clear_blocks : ℕ → List Closed → List Closed
+clear_blocks k [] = []
+clear_blocks k (c ∷ cs) = record c { status = cleared_status k c.status } ∷ clear_blocks k cs
+
+abbrev pub clear_all : History → History
+clear_all h = record h { closed = clear_blocks h.cuts h.closed }
+
+-- the filling block, if it has a record, is closed; it, all that waits and all that is kept in the current chunk is cleared.
+-- No moment is stored
+abbrev pub history_clear_ring : History → History
+history_clear_ring h = clear_all (close_filling h.filling.records h.last h)
+
+-- in a snapshot session nothing is cleared
+abbrev pub history_after_clear : StreamConfig → History → History
+history_after_clear c h = by_session_mode c.session (history_clear_ring h) h
+
+-- how many blocks and records a clear takes away
+abbrev pub cleared_with : List ClosedBuffer → ClearedCounts
+cleared_with buffers = record { packets = length buffers; records = records_in buffers }
+
+abbrev pub history_clear_answer : StreamConfig → History → Result ClearedCounts ClearFault
+history_clear_answer c h =
+    by_session_mode c.session (Ok (cleared_with (chunk_of h.cuts h ++ ring_of h.last h))) (Err clear_fault.SnapshotMode)
+
+-- the answer of a clear that finds packets
+abbrev pub ClearsSome : Result ClearedCounts ClearFault → Type 0
+ClearsSome (Ok cleared) = cleared.packets ≢ 0
+ClearsSome (Err fault) = ⊥
+
 -- what a peek shows of the stream at a moment: the filling block, if it has a record, as if it were closed
 abbrev pub history_snap : StreamConfig → ℕ → History → SnapState
 history_snap c moment h = snap_state c.number (offered_of h) (discarded_of h)
@@ -170,7 +209,10 @@ history_counts c h = record {
   overwritten = records_where is_dropped h.closed;
   overwritten_packets = blocks_where is_dropped h.closed;
   in_ring = records_in (waiting_of h) + length h.filling.records;
-  consumed = records_where is_kept h.closed;
+  consumed = records_where is_consumed h.closed;
+  in_chunks = records_where is_kept h.closed;
+  cleared = records_where is_cleared h.closed;
+  withdrawn = records_where is_withdrawn h.closed;
   cuts = h.cuts;
   current_bytes = min (bytes_of (map (packet_of c) (chunk_of h.cuts h))) (2 ^ 64 - 1);
 }

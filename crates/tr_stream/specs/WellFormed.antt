@@ -2,8 +2,8 @@
 use Rattle.std.specs.Prelude.{◌≡◌, ◌≢◌, ℕ, ◌+◌, ◌≤◌, zero, suc, nat_lt, true, false, List, [], ◌∷◌, ◌++◌, length, if◌then◌else◌}
 use Rattle.tr_record.specs.Records.{Entry}
 use Rattle.tr_ring.specs.ClosedBuffer.{ClosedBuffer}
-use Rattle.tr_stream.specs.Chunks.{chunk_of, consumed_of}
-use Rattle.tr_stream.specs.History.{Status, Waiting, Dropped, Kept, Block, Closed, History, is_waiting, is_dropped, offers_in, offers_before, offered_of, times}
+use Rattle.tr_stream.specs.Chunks.{chunk_of, kept_of}
+use Rattle.tr_stream.specs.History.{Status, Waiting, Dropped, Kept, Cleared, Block, Closed, History, is_waiting, is_dropped, is_kept_in, offers_in, offers_before, offered_of, times}
 
 -- blocks are numbered by their place
 abbrev pub NumberedFrom : ℕ → List Closed → Type 0
@@ -24,10 +24,27 @@ abbrev pub IsWithin : ℕ → Status → Type 0
 IsWithin cuts Waiting = Unit {0}
 IsWithin cuts Dropped = Unit {0}
 IsWithin cuts (Kept k) = k ≤ cuts
+IsWithin cuts (Cleared consumed) = Unit {0}
 
 abbrev pub AllWithinCuts : ℕ → List Closed → Type 0
 AllWithinCuts cuts [] = Unit {0}
 AllWithinCuts cuts (c ∷ cs) = IsWithin cuts c.status × AllWithinCuts cuts cs
+
+-- a block that may stand behind one kept in this chunk
+abbrev pub IsRecent : ℕ → Status → Type 0
+IsRecent k Waiting = Unit {0}
+IsRecent k Dropped = Unit {0}
+IsRecent k (Kept j) = j ≡ k
+IsRecent k (Cleared consumed) = ⊥
+
+abbrev pub AllRecent : ℕ → List Closed → Type 0
+AllRecent k [] = Unit {0}
+AllRecent k (c ∷ cs) = IsRecent k c.status × AllRecent k cs
+
+-- after a block kept in this chunk, none is kept in another, and none was cleared
+abbrev pub RecentLast : ℕ → List Closed → Type 0
+RecentLast k [] = Unit {0}
+RecentLast k (c ∷ cs) = (is_kept_in k c.status ≡ true → AllRecent k cs) × RecentLast k cs
 
 -- serials from this one on, each above the one before
 abbrev pub RecordsRise : ℕ → List Entry → Type 0
@@ -76,6 +93,7 @@ pub record IsWellFormed (h : History) : Type 0 where
   pub filling : h.filling.number ≡ length h.closed
   pub order : WaitLast h.closed
   pub kept : AllWithinCuts h.cuts h.closed
+  pub recent : RecentLast h.cuts h.closed
   pub used : AllUsed h.closed
   -- what was dropped made room for a record
   pub room : h.filling.records ≡ [] → LastHeld h.closed
@@ -83,6 +101,6 @@ pub record IsWellFormed (h : History) : Type 0 where
   pub covers : CoversFrom 0 h.closed
   pub covers_filling : Covers (offers_before h.closed) h.filling
   -- the chunks in order have the kept blocks in order
-  pub chunks : chunks_below h.cuts h ++ chunk_of h.cuts h ≡ consumed_of h
+  pub chunks : chunks_below h.cuts h ++ chunk_of h.cuts h ≡ kept_of h
   -- each serial below the next is in one place
   pub serials : (n : ℕ) → times n h ≡ (if nat_lt n (offered_of h) then 1 else 0)

@@ -1,7 +1,7 @@
 //! What a stream's calls answer.
 
 ghost use Rattle.std.specs.Prelude.{◌≡◌};
-ghost use Rattle.tr_stream.specs.Faults.{cut_fault_code, cut_fault_name, offer_fault_code, offer_fault_name, take_fault_code, take_fault_name};
+ghost use Rattle.tr_stream.specs.Faults.{clear_fault_code, clear_fault_name, cut_fault_code, cut_fault_name, offer_fault_code, offer_fault_name, take_fault_code, take_fault_name};
 
 use std::alloc::AllocError;
 use thiserror::Error;
@@ -195,5 +195,58 @@ impl From<AllocError> for CutFault {
 
     fn from(_error: AllocError) -> CutFault {
         CutFault::NoMemory
+    }
+}
+
+/// What a clear took away.
+#[derive(Clone, Copy, Debug, PartialEq, Eq)]
+pub struct Cleared {
+    /// How many packets, those that sub-buffers would have become among them.
+    pub packets: u64,
+    /// How many records they had.
+    pub records: u64,
+}
+
+/// Why a clear was refused. The stream is as it was.
+#[derive(Clone, Copy, Debug, PartialEq, Eq, Error)]
+pub enum ClearFault {
+    /// In a snapshot session nothing is cleared.
+    #[error("X1 SnapshotMode")]
+    SnapshotMode,
+    /// An allocation failed.
+    #[error("X2 NoMemory")]
+    NoMemory,
+}
+
+impl ClearFault {
+    /// The code that answers and documents call it by.
+    pub fn code(&self) -> &'static str
+        ensures { result.now ≡ clear_fault_code self.now }
+    {
+        match self {
+            ClearFault::SnapshotMode => "X1",
+            ClearFault::NoMemory => "X2",
+        }
+    }
+
+    /// Its name, as answers print it.
+    pub fn name(&self) -> &'static str
+        ensures { result.now ≡ clear_fault_name self.now }
+    {
+        match self {
+            ClearFault::SnapshotMode => "SnapshotMode",
+            ClearFault::NoMemory => "NoMemory",
+        }
+    }
+}
+
+impl From<AllocError> for ClearFault {
+    ghost use Rattle.std.specs.Prelude.{◌≡◌};
+    ghost use Rattle.tr_stream.specs.declared.answers.ClearFault.TheVariants.{NoMemory};
+
+    ghost from_gives = { λ _ fault. fault ≡ NoMemory };
+
+    fn from(_error: AllocError) -> ClearFault {
+        ClearFault::NoMemory
     }
 }

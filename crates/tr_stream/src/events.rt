@@ -1,6 +1,8 @@
 //! A stream's calls as values.
 
-use crate::answers::{CutDone, CutFault, OfferFault, Offered, TakeFault, Taken};
+use crate::answers::{
+    ClearFault, Cleared, CutDone, CutFault, OfferFault, Offered, TakeFault, Taken,
+};
 use crate::payload::Payload;
 use std::alloc::{AllocError, Allocator, Global};
 use tr_book::StreamSnap;
@@ -15,6 +17,8 @@ pub enum StreamEvent<A: Allocator = Global> {
     Take,
     /// A cut at a moment.
     Cut(Moment),
+    /// A clear of the ring and of the current part.
+    Clear,
     /// A peek at a moment.
     Peek(Moment),
     /// The stream takes offers from now on.
@@ -32,6 +36,8 @@ pub enum StreamAnswer<A: Allocator = Global> {
     Take(Result<Taken, TakeFault>),
     /// The answer to a cut.
     Cut(Result<CutDone, CutFault>),
+    /// The answer to a clear.
+    Clear(Result<Cleared, ClearFault>),
     /// The answer to a peek.
     Peek(Result<StreamSnap<A>, AllocError>),
     /// The answer to a start, which is never refused.

@@ -18,6 +18,11 @@ pub enum Fate {
         /// The number of its sub-buffer.
         seq: u64,
     },
+    /// Its record was stored, and later cleared with its packet.
+    Cleared {
+        /// The number of its packet.
+        seq: u64,
+    },
     /// Its record was consumed.
     InChunk {
         /// The trace chunk that it is in.

@@ -1,22 +1,23 @@
 //! What is true of every run, whether or not there is memory for it.
 
 ghost use Rattle.std.specs.Prelude.{◌≡◌, ◌<◌, ℕ, List, [], Some, true, false, slice_get};
-ghost use Rattle.tr_stream.specs.Laws.{chunk_of, consumed_of, Rising, Closed, is_kept, is_waiting, offered_of, times, history_after_events, kept_after_cuts, cuts_made, IsUsable, new_history, IsWellFormed, Snapshot, StreamConfig, StreamEvent};
+ghost use Rattle.tr_stream.specs.Laws.{chunk_of, cleared_of, kept_of, Rising, Closed, is_kept, is_waiting, offered_of, times, history_after_events, kept_after_cuts, cuts_made, IsUsable, new_history, IsWellFormed, Snapshot, StreamConfig, StreamEvent};
 
 use std::alloc::Allocator;
 
-/// Every list of calls leads to a history in which each accepted offer is in one place, what was consumed has rising
-/// numbers and serials, every block before a consumed one was consumed or overwritten, and a trace chunk has what was kept
-/// between its cuts; in a snapshot session nothing is consumed, and nothing is cut. Does nothing.
+/// Every list of calls leads to a history in which each accepted offer is in one place, what is kept has rising numbers and
+/// serials, every block before a kept one is kept, was overwritten or was cleared, and a trace chunk keeps what came to it
+/// between its cuts and wasn't cleared since; in a snapshot session nothing is consumed, nothing is cleared, and nothing is
+/// cut. Does nothing.
 pub fn every_run<A: Allocator>()
     ensures well_formed { (c : StreamConfig) (events : List (StreamEvent A)) → IsUsable c
         → IsWellFormed (history_after_events c events new_history) }
     ensures one_place { (c : StreamConfig) (events : List (StreamEvent A)) (n : ℕ) → IsUsable c
         → n < offered_of (history_after_events c events new_history)
         → times n (history_after_events c events new_history) ≡ 1 }
-    ensures consumed { (c : StreamConfig) (events : List (StreamEvent A)) → IsUsable c
+    ensures kept { (c : StreamConfig) (events : List (StreamEvent A)) → IsUsable c
         → (let h = history_after_events c events new_history
-        in Rising 0 0 (consumed_of h) h.filling.number (offered_of h)) }
+        in Rising 0 0 (kept_of h) h.filling.number (offered_of h)) }
     ensures settled { (c : StreamConfig) (events : List (StreamEvent A)) (i j : ℕ) (b d : Closed) → IsUsable c
         → (let h = history_after_events c events new_history in slice_get h.closed i ≡ Some b
         → slice_get h.closed j ≡ Some d
@@ -27,5 +28,6 @@ pub fn every_run<A: Allocator>()
         → (history_after_events c events new_history).cuts ≡ cuts_made c events }
     ensures snapshot_session { (c : StreamConfig) (events : List (StreamEvent A)) → IsUsable c
         → c.session ≡ Snapshot
-        → (let h = history_after_events c events new_history in (consumed_of h ≡ []) × (h.cuts ≡ 0)) }
+        → (let h = history_after_events c events new_history in (kept_of h ≡ []) × (cleared_of h ≡ [])
+        × (h.cuts ≡ 0)) }
 {}

@@ -12,7 +12,7 @@ mod payload;
 mod run;
 mod stream;
 
-pub use answers::{CutDone, CutFault, OfferFault, Offered, TakeFault, Taken};
+pub use answers::{ClearFault, Cleared, CutDone, CutFault, OfferFault, Offered, TakeFault, Taken};
 pub use config::StreamConfig;
 pub use events::{StreamAnswer, StreamEvent};
 pub use fate::Fate;

@@ -1,15 +1,16 @@
 //! The packets that sub-buffers become.
 
-ghost use Rattle.std.specs.Prelude.{◌≡◌, ◌≢◌, ◌∷◌, [], ◌++◌, ◌+◌, ◌<◌, ◌^◌, map, length, IfOk, OnOk, OnErr};
+ghost use Rattle.std.specs.Prelude.{◌≡◌, ◌≢◌, ◌∷◌, [], ◌++◌, ◌+◌, ◌<◌, ◌≤◌, ◌^◌, ℕ, map, length, IfOk, OnOk, OnErr};
 ghost use Rattle.tr_book.specs.Parts.{records_of, with_packet};
 ghost use Rattle.tr_packet.specs.Packets.{IsPacket};
 ghost use Rattle.tr_ring.specs.Ring.{closed_current};
-ghost use Rattle.tr_stream.specs.Chunks.{begin_of, packet_of, ring_buffers};
+ghost use Rattle.tr_stream.specs.Chunks.{begin_of, buffer_runs, packet_of, ring_buffers};
 ghost use Rattle.tr_stream.specs.Sound.{ArePackets};
+ghost use Rattle.tr_terms.specs.declared.limits.TheConstants.{MOST_SUB_BUFFERS};
 
 use crate::config::StreamConfig;
 use std::alloc::{AllocError, Allocator};
-use tr_book::Parts;
+use tr_book::{Parts, Runs};
 use tr_packet::{Head, PacketTexts};
 use tr_record::{Moment, Records};
 use tr_ring::{ClosedSubBuf, Ring};
@@ -129,4 +130,37 @@ pub fn ring_packets<A: Allocator + Copy>(
     }
     put_current(&mut packets, &config, ring, end)?;
     Ok(packets)
+}
+
+/// The runs of the sub-buffers that wait, the oldest first.
+fn waiting_runs<A: Allocator + Copy>(alloc: A, ring: &Ring<A>) -> Result<Runs<A>, AllocError>
+    ensures { IfOk result (λ r. r ≡ buffer_runs ring.now.waiting) }
+{
+    let mut runs = Runs::new(alloc);
+    for i in 0..ring.waiting() {
+        let Some(buffer) = ring.closed(i) else {
+            unreachable!()
+        };
+        runs.push_records(buffer.seq(), buffer.count(), buffer.records())?;
+    }
+    Ok(runs)
+}
+
+/// The runs of a ring, the oldest first: those of the sub-buffers that wait, and those of the current one.
+pub fn ring_runs<A: Allocator + Copy>(alloc: A, ring: &Ring<A>) -> Result<Runs<A>, AllocError>
+    ensures { IfOk result (λ r. (end : ℕ) → r ≡ buffer_runs (ring_buffers end ring.now)) }
+{
+    let mut runs = waiting_runs(alloc, ring)?;
+    let current = ring.current();
+    runs.push_records(ring.seq(), current.count(), current.records())?;
+    Ok(runs)
+}
+
+/// How many sub-buffers have a record.
+pub fn used<A: Allocator>(ring: &Ring<A>) -> u64
+    requires { ring.now.count ≤ MOST_SUB_BUFFERS }
+    ensures value { (end : ℕ) → result ≡ length (ring_buffers end ring.now) }
+    ensures few { result ≤ ring.now.count }
+{
+    ring.waiting() as u64 + u64::from(!ring.current().is_empty())
 }

@@ -6,14 +6,14 @@ ghost use Rattle.tr_stream.specs.Runs.{MayTakeMemory, history_after_event, histo
 ghost use Rattle.tr_stream.specs.StandsFor.{StandsFor};
 ghost use Rattle.tr_stream.specs.Steps.{new_history};
 
-use crate::answers::{CutFault, TakeFault};
+use crate::answers::{ClearFault, CutFault, TakeFault};
 use crate::config::StreamConfig;
 use crate::events::{StreamAnswer, StreamEvent};
 use crate::stream::Stream;
 use std::alloc::{AllocError, Allocator};
 
-/// One call. A failed allocation ends it and leaves the stream as it was. It ends a take or a cut that isn't refused, or a
-/// peek that finds packets, and no other call.
+/// One call. A failed allocation ends it and leaves the stream as it was. It ends a take or a cut that isn't refused, a clear
+/// or a peek that finds packets, and no other call.
 fn step<A: Allocator + Copy>(
     stream: &mut Stream<A>,
     event: &StreamEvent<A>,
@@ -44,6 +44,13 @@ fn step<A: Allocator + Copy>(
                 return Err(AllocError);
             }
             Ok(StreamAnswer::Cut(answer))
+        }
+        StreamEvent::Clear => {
+            let answer = stream.clear();
+            if answer == Err(ClearFault::NoMemory) {
+                return Err(AllocError);
+            }
+            Ok(StreamAnswer::Clear(answer))
         }
         StreamEvent::Peek(moment) => {
             let snap = stream.peek(*moment)?;

@@ -1,12 +1,14 @@
 //! One stream: a ring of sub-buffers, and the parts that it is consumed into.
 
 ghost use Rattle.std.specs.Prelude.{◌≡◌, ◌≢◌, ◌+◌, ◌-◌, ◌≤◌, ◌<◌, [], Some, Ok, Err, IsOk, IfOk, OnOk, OnErr, length, option_copied, slice_get};
-ghost use Rattle.tr_stream.specs.Calls.{part_in, IsConsistent, history_fate, state_fate, held_fate, History, IsKept, IsSound, StandsFor, in_ring, new_state, overwrites, refusal_of, state_entry, state_with_offer, offered_as, state_offer_answer, state_after_offer, state_take_answer, state_after_take, cut_done, state_cut_answer, state_cut_ring, state_after_cut, state_after_switch, state_snap, state_counts, new_history, history_offer_answer, history_after_offer, history_take_answer, history_after_take, history_cut_answer, history_after_cut, history_after_switch, history_snap, history_counts, part_at, push_answer, ring_records, history_ring};
+ghost use Rattle.tr_stream.specs.Calls.{part_in, IsConsistent, history_fate, state_fate, held_fate, History, IsKept, IsSound, StandsFor, in_ring, in_parts, new_state, overwrites, refusal_of, state_entry, state_with_offer, offered_as, state_offer_answer, state_after_offer, state_take_answer, state_after_take, cut_done, state_cut_answer, state_cut_ring, state_after_cut, ClearsSome, state_cleared, state_clear_answer, state_clear_ring, state_after_clear, state_after_switch, state_snap, state_counts, new_history, history_offer_answer, history_after_offer, history_take_answer, history_after_take, history_cut_answer, history_after_cut, history_clear_answer, history_after_clear, history_after_switch, history_snap, history_counts, part_at, push_answer, ring_records, history_ring};
 
-use crate::answers::{CutDone, CutFault, OfferFault, Offered, TakeFault, Taken};
+use crate::answers::{
+    ClearFault, Cleared, CutDone, CutFault, OfferFault, Offered, TakeFault, Taken,
+};
 use crate::config::StreamConfig;
 use crate::fate::{Fate, fate_in_parts, loss};
-use crate::packing::{move_to_part, ring_packets};
+use crate::packing::{move_to_part, ring_packets, ring_runs, used};
 use std::alloc::{AllocError, Allocator, Global};
 use std::marker::Model;
 use tr_book::{Counters, Counts, Geometry, Mode, Part, Parts, StreamSnap};
@@ -222,6 +224,51 @@ impl<A: Allocator + Copy> Stream<A> {
         Ok(done)
     }
 
+    /// Removes all records that the ring and the current part hold, and keeps the numbers and serials of their packets. What
+    /// was discarded stays discarded, closed parts stay as they are, and no moment is stored. It takes memory only if there
+    /// are packets. A clear that is refused, also because an allocation failed, changes nothing. In a snapshot session every
+    /// clear is refused.
+    pub fn clear(&mut self) -> Result<Cleared, ClearFault>
+        ensures value { result ≢ Err ClearFault.NoMemory
+            → (result ≡ state_clear_answer self.old) × (self.new ≡ state_after_clear self.old) }
+        ensures step { (h : History) → StandsFor self.old h → result ≢ Err ClearFault.NoMemory →
+            (result ≡ history_clear_answer self.old.config h)
+            × StandsFor self.new (history_after_clear self.old.config h) }
+        ensures no_memory { result ≡ Err ClearFault.NoMemory → self.new ≡ self.old }
+        ensures config { self.new.config ≡ self.old.config }
+        ensures memory { result ≡ Err ClearFault.NoMemory → ClearsSome (state_clear_answer self.old) }
+    {
+        match self.config.session {
+            SessionMode::Snapshot => return Err(ClearFault::SnapshotMode),
+            SessionMode::Local => {}
+        }
+        Ok(self.clear_ring()?)
+    }
+
+    /// Removes all that the ring and the current part hold. All memory is taken before anything moves, and none if there is
+    /// nothing to remove.
+    fn clear_ring(&mut self) -> Result<Cleared, AllocError>
+        requires local { self.old.config.session ≡ SessionMode.Local }
+        ensures answer { IfOk result (λ c. c ≡ state_cleared self.old) }
+        ensures ok { OnOk result (self.new ≡ state_clear_ring self.old) }
+        ensures err { OnErr result (self.new ≡ self.old) }
+        ensures memory { OnErr result ((state_cleared self.old).packets ≢ 0) }
+    {
+        let consumed = self.parts.current().records();
+        let cleared = Cleared {
+            packets: self.parts.current().packets().len() as u64 + used(&self.ring),
+            records: consumed + self.in_ring(),
+        };
+        if cleared.packets == 0 {
+            return Ok(cleared);
+        }
+        let runs = ring_runs(self.alloc, &self.ring)?;
+        self.parts.clear(runs)?;
+        self.ring.clear();
+        self.counters.note_cleared(cleared.records, consumed);
+        Ok(cleared)
+    }
+
     /// What the stream has now: how many offers it accepted, how many records it discarded, and copies of the packets that
     /// its ring holds, with the current sub-buffer's, as if it were closed at this moment, or at the last one if that is
     /// later. Nothing changes. It takes memory only if there are packets.
@@ -251,7 +298,15 @@ impl<A: Allocator> Stream<A> {
         self.counters.offered()
             - self.ring.discarded()
             - self.counters.overwritten()
-            - self.counters.consumed()
+            - self.counters.cleared()
+            - self.in_chunks()
+    }
+
+    /// How many records the parts hold.
+    fn in_chunks(&self) -> u64
+        ensures { result ≡ in_parts self.now.parts }
+    {
+        self.counters.consumed() - self.counters.withdrawn()
     }
 
     /// Why an offer of `len` bytes is refused, if it is.
@@ -283,7 +338,9 @@ impl<A: Allocator> Stream<A> {
     pub fn counts(&self) -> Counts
         ensures value { result ≡ state_counts self.now }
         ensures step { (h : History) → StandsFor self.now h → result ≡ history_counts self.now.config h }
-        ensures total { result.discarded + result.overwritten + result.in_ring + result.consumed ≡ result.offered }
+        ensures total { result.discarded + result.overwritten + result.cleared + result.in_ring + result.in_chunks ≡ result.offered }
+        ensures consumed { result.in_chunks + result.withdrawn ≡ result.consumed }
+        ensures withdrawn { result.withdrawn ≤ result.cleared }
         ensures consistent { IsConsistent self.now }
     {
         Counts {
@@ -293,6 +350,9 @@ impl<A: Allocator> Stream<A> {
             overwritten_packets: self.counters.overwritten_packets(),
             in_ring: self.in_ring(),
             consumed: self.counters.consumed(),
+            in_chunks: self.in_chunks(),
+            cleared: self.counters.cleared(),
+            withdrawn: self.counters.withdrawn(),
             cuts: self.parts.cuts(),
             current_bytes: u64::try_from(self.parts.current().bytes()).unwrap_or(u64::MAX),
         }
@@ -320,7 +380,7 @@ impl<A: Allocator> Stream<A> {
         }
     }
 
-    /// Where the record with this serial is held, if anywhere.
+    /// Where the record with this serial is held, or was cleared, if anywhere.
     fn held_fate(&self, serial: u64) -> Option<Fate>
         ensures { result ≡ held_fate serial self.now }
     {
@@ -330,6 +390,9 @@ impl<A: Allocator> Stream<A> {
         if let Some(seq) = self.parts.current().seq_of(serial) {
             let chunk = self.parts.current().id();
             return Some(Fate::InChunk { chunk, seq });
+        }
+        if let Some(seq) = self.parts.seq_cleared(serial) {
+            return Some(Fate::Cleared { seq });
         }
         match self.ring.seq_of(serial) {
             Some(seq) => Some(Fate::InRing { seq }),

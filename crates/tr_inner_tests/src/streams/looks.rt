@@ -18,6 +18,9 @@ const SIX_OFFERED: Counts = Counts {
     overwritten_packets: 1,
     in_ring: 4,
     consumed: 0,
+    in_chunks: 0,
+    cleared: 0,
+    withdrawn: 0,
     cuts: 0,
     current_bytes: 0,
 };

@@ -1,6 +1,6 @@
 //! A list of calls and its answers, worked by hand: sub-buffers of 256 bytes, two to a ring, in discard mode.
 
-use super::Step::{self, Cut, Offer, Peek, Start, Stop, Take};
+use super::Step::{self, Clear, Cut, Offer, Peek, Start, Stop, Take};
 use super::{PAYLOAD, PacketRow, Place, assert_at, assert_look, assert_same, small};
 use std::alloc::Global;
 use std::process::Abort;
@@ -70,6 +70,7 @@ fn event(rt: &impl Abort, alloc: Global, call: &Step) -> StreamEvent {
         }
         Take(_) => StreamEvent::Take,
         Cut(at, _) => StreamEvent::Cut(moment(at)),
+        Clear(_) => StreamEvent::Clear,
         Peek(at, _, _) => StreamEvent::Peek(moment(at)),
         _ => panic!(rt; "a step that is no call"),
     }
@@ -81,6 +82,7 @@ fn assert_answer(rt: &impl Abort, place: Place, answer: &StreamAnswer, call: &St
         (StreamAnswer::Offer(found), Offer(_, _, want)) => assert_at(rt, place, *found, want),
         (StreamAnswer::Take(found), Take(want)) => assert_at(rt, place, *found, want),
         (StreamAnswer::Cut(found), Cut(_, want)) => assert_at(rt, place, *found, want),
+        (StreamAnswer::Clear(found), Clear(want)) => assert_at(rt, place, *found, want),
         (StreamAnswer::Peek(Ok(snap)), Peek(_, counts, rows)) => {
             assert_look(rt, place, snap, counts, rows);
         }

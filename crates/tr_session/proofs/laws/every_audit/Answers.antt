@@ -1,4 +1,4 @@
-use Rattle.tr_session.proofs.AuditLaws.{passes, packets-are, last-is, gaps-dropped, gaps-within}
+use Rattle.tr_session.proofs.AuditLaws.{passes, packets-are, last-is, gaps-removed, gaps-within}
 use Rattle.tr_session.proofs.FrontLaws.{front-gaps, front-packets, front-passes}
 use Rattle.tr_session.proofs.laws.every_audit.Goals as goal
 
@@ -8,7 +8,7 @@ returns g c = record {
   packets = packets-are;
   last = last-is _;
   gaps_of_histories = gaps-within g.row.A.Denot;
-  gaps = gaps-dropped;
+  gaps = gaps-removed;
   first_pass = front-passes;
   first_packets = front-packets;
   first_gaps = front-gaps g.row.A.Denot;

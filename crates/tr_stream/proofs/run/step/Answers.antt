@@ -1,6 +1,7 @@
 use Rattle.std.proofs.Common.{rules, ◌≡◌, ◌≢◌, Err}
-use Rattle.tr_stream.proofs.RunLaws.{cut-answered, cut-let}
+use Rattle.tr_stream.proofs.RunLaws.{clear-answered, cut-answered, cut-let}
 use Rattle.tr_stream.proofs.run.step.Goals as goal
+use Rattle.tr_stream.specs.declared.answers.ClearFault.TheVariants as clear
 use Rattle.tr_stream.specs.declared.answers.CutFault.TheVariants as cut
 
 pub returns-else-eq-2-clause-step : goal.returns-else-eq-2-clause-step
@@ -13,3 +14,9 @@ pub returns-then-eq-2-clause-memory : goal.returns-then-eq-2-clause-memory
 returns-then-eq-2-clause-memory g c = λ h _.
     let refused : c.cut-answer.result ≡ Err cut.NoMemory = search rules in
     rw c.in-Cut.is (cut-let _ _ _ _ (c.cut-answer.ensures.memory refused))
+
+pub returns-else-eq-3-clause-step : goal.returns-else-eq-3-clause-step
+returns-else-eq-3-clause-step g c = λ h is.
+    let ne : c.clear-answer.result ≢ Err clear.NoMemory = search rules in
+    let step = c.clear-answer.ensures.step h is ne in
+    rw c.in-Clear.is (clear-answered _ _ step.0, step.1)

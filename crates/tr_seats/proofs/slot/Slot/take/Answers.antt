@@ -3,7 +3,7 @@ use Rattle.std.proofs.lemmas.Grind.{common_steps}
 use Rattle.std.proofs.lemmas.List.{length-map}
 use Rattle.std.specs.Prelude.{slice_index, slice_set}
 use Rattle.tr_ledger.specs.Ledgers.{LedgerState}
-use Rattle.tr_seats.proofs.CountLaws.{few-counted, refused-take, take-totals}
+use Rattle.tr_seats.proofs.CountLaws.{few-counted, refused-take, take-totals, take-uncleared}
 use Rattle.tr_seats.proofs.Rows.{amounts-raised, consumed-at, length-seats, row-raised, table-there}
 use Rattle.tr_seats.proofs.SlotLaws.{books-taken}
 use Rattle.tr_seats.proofs.slot.Slot.take.Goals as goal
@@ -64,6 +64,7 @@ invariant_of-self-2 g c =
       c.self.invariant.0,
       books-taken (books_at g.N.Names.plan.books old.number) old.stream c.take.new.self old.consumed.made old.offered
           old.discarded old.overwritten old.overwritten_packets old.consumed old.cuts c.self.invariant.1
+          (ap (λ (t : StreamState). t.counters.cleared) after ∙ take-uncleared old.stream)
           c.raise.new.self c.in_ok-taken.taken.count (ap totals_in after ∙ is.totals) c.raise.ensures.ledger,
       planned,
     )

@@ -1,10 +1,11 @@
 use Rattle.std.proofs.Common.{◌≡◌, ◌≤◌, ◌∙◌, ℕ, List, Some, ap, arith, length, refl, sym, subst}
 use Rattle.std.proofs.lemmas.List.{take_all}
 use Rattle.std.specs.List.{sum_by}
+use Rattle.std.specs.Option.{option_map_or}
 use Rattle.std.specs.Prelude.{slice_get}
+use Rattle.tr_book.specs.Parts.{part_bytes, part_packets, part_records}
 use Rattle.tr_session.proofs.SizeLaws.{fits-bytes, fits-count, tallies-more}
 use Rattle.tr_session.proofs.session.Session.archive_size.Goals as goal
-use Rattle.tr_session.specs.Sizes.{part_packets, part_records, part_bytes}
 use Rattle.tr_stream.specs.Rules.{by_state}
 use Rattle.tr_stream.specs.State.{StreamState}
 
@@ -36,18 +37,18 @@ pub returns-clause-packets : goal.returns-clause-packets
 returns-clause-packets g c =
     let past : length c.args.self.now.streams ≤ c.streams.i = subst (λ (n : ℕ). n ≤ c.streams.i) c.streams-i-end.ensures.value c.streams-test.false in
     c.streams.invariant.packets
-    ∙ ap (λ (ts : List StreamState). sum_by (λ t. part_packets (by_state.part c.args.id t)) ts)
+    ∙ ap (λ (ts : List StreamState). sum_by (λ t. option_map_or part_packets (by_state.part c.args.id t) 0) ts)
     (take_all c.streams.i c.args.self.now.streams past)
 
 pub returns-clause-records : goal.returns-clause-records
 returns-clause-records g c =
     let past : length c.args.self.now.streams ≤ c.streams.i = subst (λ (n : ℕ). n ≤ c.streams.i) c.streams-i-end.ensures.value c.streams-test.false in
     c.streams.invariant.records
-    ∙ ap (λ (ts : List StreamState). sum_by (λ t. part_records (by_state.part c.args.id t)) ts)
+    ∙ ap (λ (ts : List StreamState). sum_by (λ t. option_map_or part_records (by_state.part c.args.id t) 0) ts)
     (take_all c.streams.i c.args.self.now.streams past)
 
 pub returns-clause-bytes : goal.returns-clause-bytes
 returns-clause-bytes g c =
     let past : length c.args.self.now.streams ≤ c.streams.i = subst (λ (n : ℕ). n ≤ c.streams.i) c.streams-i-end.ensures.value c.streams-test.false in
-    c.streams.invariant.bytes ∙ ap (λ (ts : List StreamState). sum_by (λ t. part_bytes (by_state.part c.args.id t)) ts)
+    c.streams.invariant.bytes ∙ ap (λ (ts : List StreamState). sum_by (λ t. option_map_or part_bytes (by_state.part c.args.id t) 0) ts)
     (take_all c.streams.i c.args.self.now.streams past)

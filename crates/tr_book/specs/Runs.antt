@@ -1,0 +1,34 @@
+-- What is kept of packets whose records are gone: which serials each had.
+use Rattle.std.specs.Prelude.{ℕ, ◌+◌, ◌-◌, Bool, ◌==◌, ◌&&◌, nat_le, nat_lt, List, [], ◌∷◌, Option, find, if◌then◌else◌}
+use Rattle.std.specs.List.{flat_map}
+use Rattle.std.specs.Option.{option_map}
+use Rattle.tr_book.specs.declared.runs.Run.{Run}
+use Rattle.tr_packet.specs.Packets.{Contents}
+use Rattle.tr_record.specs.Records.{Entry}
+
+abbrev pub run_of : ℕ → ℕ → ℕ → Run
+run_of seq first count = record { seq = seq; first = first; count = count }
+
+-- a run that goes on as long as serials follow each other, and then the runs of the records that are left
+abbrev pub runs_on : ℕ → ℕ → ℕ → List Entry → List Run
+runs_on seq first count [] = run_of seq first count ∷ []
+runs_on seq first count (e ∷ es) =
+    if e.serial == first + count then runs_on seq first (count + 1) es
+    else run_of seq first count ∷ runs_on seq e.serial 1 es
+
+-- the runs of a packet of this number, each as long as it can be
+abbrev pub runs_of : ℕ → List Entry → List Run
+runs_of seq [] = []
+runs_of seq (e ∷ es) = runs_on seq e.serial 1 es
+
+-- the runs of packets, in order
+abbrev pub packet_runs : List Contents → List Run
+packet_runs packets = flat_map (λ (p : Contents). runs_of p.head.seq p.records) packets
+
+-- one of its records has the serial
+abbrev pub is_in_run : ℕ → Run → Bool
+is_in_run n r = nat_le r.first n && nat_lt (n - r.first) r.count
+
+-- the number of the packet that had the record of a serial
+abbrev pub seq_in_runs : ℕ → List Run → Option ℕ
+seq_in_runs n runs = option_map (λ (r : Run). r.seq) (find (λ (r : Run). is_in_run n r) runs)

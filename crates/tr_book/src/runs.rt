@@ -1,0 +1,127 @@
+//! Runs: what is kept of packets whose records are gone.
+
+ghost use Rattle.std.specs.Prelude.{◌≡◌, [], ◌++◌, OnOk, OnErr, length};
+ghost use Rattle.tr_book.specs.Runs.{is_in_run, runs_of, seq_in_runs, packet_runs};
+
+use std::alloc::{AllocError, Allocator, Global};
+use std::marker::Model;
+use tr_packet::Packets;
+use tr_record::Records;
+
+/// Serials that follow each other, of records of one packet.
+#[derive(Clone, Copy, Debug, PartialEq, Eq)]
+pub struct Run {
+    /// The number of the packet.
+    pub seq: u64,
+    /// The first of the serials.
+    pub first: u64,
+    /// How many there are.
+    pub count: u64,
+}
+
+impl Run {
+    /// Whether one of its records has this serial.
+    pub fn has(&self, serial: u64) -> bool
+        ensures { result ≡ is_in_run serial self.now }
+    {
+        self.first <= serial && serial - self.first < self.count
+    }
+}
+
+/// The runs of cleared packets, in order. Contracts see their list.
+#[derive(Drop)]
+pub struct Runs<A: Allocator = Global> {
+    list: Vec<Run, A>,
+}
+
+impl<A: Allocator> Model for Runs<A> {
+    ghost use Rattle.std.specs.Prelude.{List};
+    ghost use Rattle.tr_book.specs.declared.runs.Run.{Run};
+
+    ghost Value = { List Run };
+
+    ghost view = { λ r. r.list.items };
+}
+
+impl<A: Allocator> Runs<A> {
+    /// No runs. It takes no memory.
+    pub fn new(alloc: A) -> Runs<A>
+    where
+        A: Copy,
+        ensures { result ≡ [] }
+    {
+        Runs {
+            list: Vec::new(alloc),
+        }
+    }
+
+    /// The runs, in order.
+    pub fn as_slice(&self) -> &[Run]
+        ensures { result.now ≡ self.now }
+    {
+        self.list.as_slice()
+    }
+
+    /// The number of the packet that had the record of this serial. It looks at each run until then.
+    pub fn seq_of(&self, serial: u64) -> Option<u64>
+        ensures { result ≡ seq_in_runs serial self.now }
+    {
+        self.list
+            .iter()
+            .find(|run| run.has(serial))
+            .map(|run| run.seq)
+    }
+
+    /// Adds the runs of the records of a packet with this number, of which there are `count`, at the end.
+    pub fn push_records(
+        &mut self,
+        seq: u64,
+        count: usize,
+        mut records: Records<'_>,
+    ) -> Result<(), AllocError>
+        requires { count ≡ length records }
+        ensures { OnOk result (self.new ≡ self.old ++ runs_of seq records.entry) }
+    {
+        let Some(first) = records.next() else {
+            return Ok(());
+        };
+        let mut open = Run {
+            seq,
+            first: first.serial(),
+            count: 1,
+        };
+        for record in records {
+            let serial = record.serial();
+            if serial >= open.first && serial - open.first == open.count {
+                open.count += 1;
+            } else {
+                self.list.push(open)?;
+                open = Run {
+                    seq,
+                    first: serial,
+                    count: 1,
+                };
+            }
+        }
+        self.list.push(open)?;
+        Ok(())
+    }
+
+    /// Adds the runs of packets at the end, in order.
+    pub fn push_packets(&mut self, packets: Packets<'_>) -> Result<(), AllocError>
+        ensures { OnOk result (self.new ≡ self.old ++ packet_runs packets.entry) }
+    {
+        for packet in packets {
+            self.push_records(packet.head().seq, packet.count(), packet.records())?;
+        }
+        Ok(())
+    }
+
+    /// Moves these runs behind the others. If an allocation fails, all is as it was.
+    pub fn append(&mut self, mut more: Runs<A>) -> Result<(), AllocError>
+        ensures ok { OnOk result (self.new ≡ self.old ++ more) }
+        ensures err { OnErr result (self.new ≡ self.old) }
+    {
+        self.list.append(&mut more.list)
+    }
+}

@@ -1,0 +1,56 @@
+use Rattle.std.proofs.Common.{rules, ◌≡◌, ◌+◌, ◌∙◌, length, ap, arith}
+use Rattle.tr_stream.proofs.CallLaws.{clear-is, clear-packets, clear-told, kept-clear_now}
+use Rattle.tr_stream.proofs.stream.Stream.clear_ring.Goals as goal
+use Rattle.tr_stream.specs.State.{StreamState}
+use Rattle.tr_stream.specs.StateSteps.{state_cleared, state_clear_ring}
+
+pub overflow_add-cleared : goal.overflow_add-cleared
+overflow_add-cleared g c =
+    let s : StreamState = record {
+      config = c.self.inside.config;
+      ring = c.self.inside.ring;
+      parts = c.self.inside.parts;
+      counters = c.self.inside.counters;
+      active = c.self.inside.active;
+    } in
+    let len_is : c.len.result ≡ length s.parts.current.packets = search rules in
+    omega (arith, len_is, clear-packets s c.used.result c.self.invariant c.used.ensures.few)
+
+pub invariant_of-self-2 : goal.invariant_of-self-2
+invariant_of-self-2 g c =
+    let s : StreamState = record {
+      config = c.self.inside.config;
+      ring = c.self.inside.ring;
+      parts = c.self.inside.parts;
+      counters = c.self.inside.counters;
+      active = c.self.inside.active;
+    } in
+    kept-clear_now s c.in_ok-runs.runs (c.records-consumed.result + c.in_ring.result) c.records-consumed.result
+    c.clear-2.new.self c.clear.new.self c.note_cleared.new.self (search rules) c.self.invariant c.in_ok-runs.ensures
+    (search rules) (search rules) (search rules) (search rules) (search rules)
+
+pub returns-clause-answer : goal.returns-clause-answer
+returns-clause-answer g c =
+    let s : StreamState = record {
+      config = c.self.inside.config;
+      ring = c.self.inside.ring;
+      parts = c.self.inside.parts;
+      counters = c.self.inside.counters;
+      active = c.self.inside.active;
+    } in
+    clear-told s c.len.result c.used.result c.records-consumed.result c.in_ring.result (search rules)
+    c.used.ensures.value (search rules) (search rules)
+    ∙ ap state_cleared c.self.view_is
+
+pub returns-clause-ok : goal.returns-clause-ok
+returns-clause-ok g c =
+    let s : StreamState = record {
+      config = c.self.inside.config;
+      ring = c.self.inside.ring;
+      parts = c.self.inside.parts;
+      counters = c.self.inside.counters;
+      active = c.self.inside.active;
+    } in
+    clear-is s c.in_ok-runs.runs (c.records-consumed.result + c.in_ring.result) c.records-consumed.result
+    c.clear-2.new.self c.clear.new.self c.note_cleared.new.self c.in_ok-runs.ensures (search rules) (search rules)
+    (search rules) (search rules) (search rules) ∙ ap state_clear_ring c.self.view_is
