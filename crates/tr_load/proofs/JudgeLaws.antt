@@ -9,7 +9,7 @@ use Rattle.tr_stream.specs.Fates.{all_parts}
 use Rattle.std.proofs.lemmas.Grind.{common_steps}
 use Rattle.tr_pool.proofs.FeedLaws.{all_append}
 use Rattle.tr_load.specs.Judging.{Judges}
-use Rattle.tr_load.specs.Logs.{HasWrong, IsLeastWrong, IsLogged, packet_records, part_records}
+use Rattle.tr_load.specs.Logs.{HasWrong, IsLeastWrong, IsLogged, packet_records, parts_records}
 use Rattle.tr_pool.specs.declared.items.Item.{Item}
 use Rattle.tr_record.specs.Records.{Entry}
 use Rattle.tr_ring.specs.ClosedBuffer.{ClosedBuffer}
@@ -111,9 +111,9 @@ pub part_last : (ps : PartsState) → part_at (length ps.closed) ps ≡ Some ps.
 part_last ps = ap (λ (b : Bool). if b then Some ps.current else slice_get ps.closed (length ps.closed)) (eq-eqb (length ps.closed) (length ps.closed) refl)
 
 -- the current part comes after the closed ones
-pub judges_parts : (items : List Item) (ps : PartsState) (a b c : Option ℕ) → Judges items (part_records ps.closed) a b
-    → Judges items (packet_records ps.current.packets) b c → Judges items (part_records (all_parts ps)) a c
+pub judges_parts : (items : List Item) (ps : PartsState) (a b c : Option ℕ) → Judges items (parts_records ps.closed) a b
+    → Judges items (packet_records ps.current.packets) b c → Judges items (parts_records (all_parts ps)) a c
 judges_parts items ps a b c first second =
     subst (λ es. Judges items es a c)
     (flat_map_more (λ (p : PartState). packet_records p.packets) [] ps.closed ps.current)
-    (judges_then items (part_records ps.closed) (packet_records ps.current.packets) a b c first second)
+    (judges_then items (parts_records ps.closed) (packet_records ps.current.packets) a b c first second)

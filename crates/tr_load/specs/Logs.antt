@@ -17,12 +17,12 @@ use Rattle.tr_stream.specs.State.{StreamState, in_ring}
 abbrev pub packet_records : List Contents → List Entry
 packet_records packets = flat_map (λ (p : Contents). p.records) packets
 
-abbrev pub part_records : List PartState → List Entry
-part_records parts = flat_map (λ (p : PartState). packet_records p.packets) parts
+abbrev pub parts_records : List PartState → List Entry
+parts_records parts = flat_map (λ (p : PartState). packet_records p.packets) parts
 
 -- the records that a stream holds: its parts', and its ring's
 abbrev pub held_records : StreamState → List Entry
-held_records s = part_records (all_parts s.parts) ++ ring_records s.ring
+held_records s = parts_records (all_parts s.parts) ++ ring_records s.ring
 
 -- a record is that of an item: the same id and payload, and no lesser moment
 abbrev pub IsRecordOf : Item → Entry → Type 0

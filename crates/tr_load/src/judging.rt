@@ -3,7 +3,7 @@
 ghost use Rattle.std.specs.Prelude.{◌≡◌, ◌↔◌, ◌∷◌, [], IsTrue};
 ghost use Rattle.tr_book.specs.Parts.{PartState, part_at};
 ghost use Rattle.tr_load.specs.Judging.{Judges};
-ghost use Rattle.tr_load.specs.Logs.{IsLeastWrong, IsLogged, IsRecordOf, held_records, packet_records, part_records};
+ghost use Rattle.tr_load.specs.Logs.{IsLeastWrong, IsLogged, IsRecordOf, held_records, packet_records, parts_records};
 ghost use Rattle.tr_stream.specs.Calls.{ring_records};
 ghost use Rattle.tr_stream.specs.Fates.{all_parts};
 
@@ -84,7 +84,7 @@ fn judge_part(items: &[Item], stream: &Stream, k: u64, least: Option<u64>) -> Op
 
 /// The least wrong serial of the records in a stream's parts.
 fn judge_parts(items: &[Item], stream: &Stream) -> Option<u64>
-    ensures { Judges items.now (part_records (all_parts stream.now.parts)) None result }
+    ensures { Judges items.now (parts_records (all_parts stream.now.parts)) None result }
 {
     let cuts = stream.counts().cuts;
     let mut least = None;

@@ -67,6 +67,7 @@ fate_text None = codes "not offered"
 fate_text (Some fate.Discarded) = codes "discarded"
 fate_text (Some fate.Overwritten) = codes "overwritten"
 fate_text (Some (fate.InRing seq)) = codes "in ring " ++ decimal seq
+fate_text (Some (fate.Cleared seq)) = codes "cleared " ++ decimal seq
 fate_text (Some (fate.InChunk chunk seq)) = codes "in chunk " ++ (decimal chunk ++ (32 ∷ decimal seq))
 
 -- the number of the chunk that a rotation archives
@@ -142,7 +143,7 @@ abbrev pub status_row : ℕ → Counts → Text
 status_row i counts =
     right_aligned 6 i ++ (32 ∷ (right_aligned 11 counts.offered
     ++ (32 ∷ (right_aligned 11 counts.discarded ++ (32 ∷ (right_aligned 11 counts.overwritten
-    ++ (32 ∷ (right_aligned 11 counts.in_ring ++ (32 ∷ right_aligned 11 counts.consumed)))))))))
+    ++ (32 ∷ (right_aligned 11 counts.in_ring ++ (32 ∷ right_aligned 11 counts.in_chunks)))))))))
 
 -- the lines of streams, numbered from here on, a newline before each
 abbrev pub status_rows : {S : Type 0} → StreamRules S → ℕ → List S → Text

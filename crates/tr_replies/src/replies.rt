@@ -156,6 +156,7 @@ fn fate_words<A: Allocator + Copy>(alloc: A, fate: Fate) -> Result<String<A>, Al
         Fate::Discarded => String::from_str(alloc, "discarded\n")?,
         Fate::Overwritten => String::from_str(alloc, "overwritten\n")?,
         Fate::InRing { seq } => format!(in alloc; "in ring {seq}\n")?,
+        Fate::Cleared { seq } => format!(in alloc; "cleared {seq}\n")?,
         Fate::InChunk { chunk, seq } => format!(in alloc; "in chunk {chunk} {seq}\n")?,
     };
     Ok(text)

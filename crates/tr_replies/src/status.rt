@@ -117,12 +117,12 @@ fn push_first<A: Allocator>(text: &mut String<A>, i: u64, counts: &Counts) -> Re
 fn push_last<A: Allocator>(text: &mut String<A>, counts: &Counts) -> Result<(), AllocError>
     ensures { OnOk result (string_bytes text.new ≡ string_bytes text.old
         ++ (32 ∷ (right_aligned 11 counts.now.overwritten
-        ++ (32 ∷ (right_aligned 11 counts.now.in_ring ++ (32 ∷ right_aligned 11 counts.now.consumed)))))) }
+        ++ (32 ∷ (right_aligned 11 counts.now.in_ring ++ (32 ∷ right_aligned 11 counts.now.in_chunks)))))) }
 {
     let overwritten = counts.overwritten;
     let in_ring = counts.in_ring;
-    let consumed = counts.consumed;
-    match write!(text, " {overwritten:>11} {in_ring:>11} {consumed:>11}") {
+    let in_chunks = counts.in_chunks;
+    match write!(text, " {overwritten:>11} {in_ring:>11} {in_chunks:>11}") {
         Ok(()) => Ok(()),
         Err(_) => Err(AllocError),
     }

@@ -2,7 +2,7 @@ use Rattle.std.proofs.Common.{rules, arith, ◌≡◌, ◌<◌, length, None, ap
 use Rattle.std.proofs.lemmas.List.{take_all}
 use Rattle.tr_book.specs.Parts.{PartState, part_at}
 use Rattle.tr_load.specs.Judging.{Judges}
-use Rattle.tr_load.specs.Logs.{packet_records, part_records}
+use Rattle.tr_load.specs.Logs.{packet_records, parts_records}
 use Rattle.tr_load.proofs.JudgeLaws.{judges_more, judges_parts, item_at, part_below, part_last}
 use Rattle.tr_load.proofs.judging.judge_parts.Goals as goal
 
@@ -20,5 +20,5 @@ returns c =
     let ps = c.args.stream.now.parts in
     let cuts : c.counts-cuts.result.cuts ≡ length ps.closed = search rules in
     judges_parts c.args.items.now ps None c.parts.least c.judge_part.result
-    (subst (λ xs. Judges c.args.items.now (part_records xs) None c.parts.least) (take_all c.parts.k ps.closed (omega (arith, cuts))) c.parts.invariant)
+    (subst (λ xs. Judges c.args.items.now (parts_records xs) None c.parts.least) (take_all c.parts.k ps.closed (omega (arith, cuts))) c.parts.invariant)
     (c.judge_part.ensures ps.current (ap (λ k. part_at k ps) cuts ∙ part_last ps))
