@@ -148,6 +148,7 @@ impl<N: Names, A: Allocator> Slot<N, A> {
     pub fn counts(&self) -> Counts
         ensures value { result ≡ state_counts self.now.stream }
         ensures total { result.discarded + result.overwritten + result.in_ring + result.consumed ≡ result.offered }
+        ensures uncleared { result.cleared ≡ 0 }
     {
         self.stream.counts()
     }

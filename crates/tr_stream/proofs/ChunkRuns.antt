@@ -13,7 +13,7 @@ use Rattle.tr_stream.proofs.SessionLaws.{in-local, in-snapshot}
 use Rattle.tr_stream.proofs.TakeLaws.{starts}
 use Rattle.tr_stream.specs.Chunks.{buffer_of, buffers_where, chunk_of, cleared_of, kept_of, waiting_of, ring_of, closed_if_any}
 use Rattle.tr_stream.specs.History.{Status, is_waiting, Waiting, Dropped, Kept, Closed, History, is_cleared, is_kept_in, discarded_in, discarded_of}
-use Rattle.tr_stream.specs.Runs.{history_after_event, history_after_events, kept_by, kept_after, kept_after_cuts, cuts_among, cuts_made}
+use Rattle.tr_stream.specs.Runs.{history_after_event, history_after_events, kept_by, kept_after, kept_after_cuts, clears_among, cuts_among, cuts_made}
 use Rattle.tr_stream.specs.Sound.{IsUsable}
 use Rattle.tr_stream.specs.Steps.{Course, Refuse, Join, Follow, DiscardNewest, Replace, course_of, after_course, history_entry, settle_first, follow_filling, keep_oldest, history_cut_ring, history_after_cut, close_filling, keep_all, clear_all, history_clear_ring, new_history}
 use Rattle.tr_stream.specs.WellFormed.{IsWellFormed, WaitLast, chunks_below}
@@ -166,6 +166,22 @@ cuts-cleared : (m : SessionMode) (h : History) → (by_session_mode m (history_c
 cuts-cleared Local h = cuts-flushed h.filling.records h.last h
 cuts-cleared Snapshot h = refl
 
+-- a take and a cut clear nothing
+cleared-taken : (m : SessionMode) (h : History) → cleared_of (by_session_mode m (keep_oldest h) h) ≡ cleared_of h
+cleared-taken Local h = other-settle_first is_cleared (Kept h.cuts) 0 h.closed refl refl
+cleared-taken Snapshot h = refl
+
+cleared-flushed : (es : List Entry) (end : ℕ) (h : History) → cleared_of (close_filling es end h) ≡ cleared_of h
+cleared-flushed [] end h = refl
+cleared-flushed (e ∷ es) end h =
+    buffers_where-push is_cleared 0 h.closed (record { block = h.filling; end = end; status = Waiting }) ∙ append-nil (cleared_of h)
+
+cleared-cut : (m : SessionMode) (h : History) (end : ℕ) → cleared_of (by_session_mode m (history_cut_ring end h) h) ≡ cleared_of h
+cleared-cut Local h end =
+    let g = close_filling h.filling.records end h in
+    other-keep_waiting is_cleared g.cuts 0 g.closed refl refl ∙ cleared-flushed h.filling.records end h
+cleared-cut Snapshot h end = refl
+
 module _ {A : Type 0} where
   chunk-event : (k : ℕ) (c : StreamConfig) (e : StreamEvent A) (h : History) → WaitLast h.closed
       → chunk_of k (history_after_event c e h) ≡ cond (eqb k h.cuts) (kept_by c e h (chunk_of k h)) (chunk_of k h)
@@ -256,7 +272,31 @@ module _ {A : Type 0} where
       ∙ ap (λ (bs : List ClosedBuffer). kept_after k c es (history_after_event c e h) bs) (sym (nothing-kept (eqb k h.cuts) kept))
       ∙ none-kept k c es (history_after_event c e h) kept snapshot
 
-  -- and none clears anything
+  -- but for a clear, no call clears anything
+  same-cleared : (c : StreamConfig) (e : StreamEvent A) (es : List (StreamEvent A)) (h : History) → clears_among (e ∷ es) ≡ 0
+      → (cleared_of (history_after_event c e h) ≡ cleared_of h) × (clears_among es ≡ 0)
+  same-cleared c (Offer moment id payload) es h none = (
+    same-course is_cleared (course_of c h (length payload)) (history_entry h moment id payload) h refl refl,
+    none,
+  )
+  same-cleared c Take es h none = (cleared-taken c.session h, none)
+  same-cleared c (Cut moment) es h none = (cleared-cut c.session h (max moment h.last), none)
+  same-cleared c Clear es h none = absurd (omega (arith, none))
+  same-cleared c (Peek moment) es h none = (refl, none)
+  same-cleared c Start es h none = (refl, none)
+  same-cleared c Stop es h none = (refl, none)
+
+  cleared-only : (c : StreamConfig) (es : List (StreamEvent A)) (h : History) → clears_among es ≡ 0
+      → cleared_of (history_after_events c es h) ≡ cleared_of h
+  cleared-only c [] h none = refl
+  cleared-only c (e ∷ es) h none =
+      let same = same-cleared c e es h none in cleared-only c es (history_after_event c e h) same.1 ∙ same.0
+
+  pub only-cleared : (c : StreamConfig) (es : List (StreamEvent A)) → clears_among es ≡ 0
+      → cleared_of (history_after_events c es new_history) ≡ []
+  only-cleared c es none = cleared-only c es new_history none
+
+  -- in a snapshot session a clear doesn't either
   uncleared : (c : StreamConfig) (e : StreamEvent A) (h : History) → c.session ≡ Snapshot
       → cleared_of (history_after_event c e h) ≡ cleared_of h
   uncleared c (Offer moment id payload) h snapshot =

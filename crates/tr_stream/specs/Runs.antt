@@ -79,6 +79,12 @@ cuts_among [] = 0
 cuts_among (Cut moment ∷ es) = cuts_among es + 1
 cuts_among (e ∷ es) = cuts_among es
 
+-- how many clears
+abbrev pub clears_among : {A : Type 0} → List (StreamEvent A) → ℕ
+clears_among [] = 0
+clears_among (Clear ∷ es) = clears_among es + 1
+clears_among (e ∷ es) = clears_among es
+
 -- how many of them cut the stream
 abbrev pub cuts_made : {A : Type 0} → StreamConfig → List (StreamEvent A) → ℕ
 cuts_made c events = by_session_mode c.session (cuts_among events) 0

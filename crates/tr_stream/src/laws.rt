@@ -1,14 +1,14 @@
 //! What is true of every run, whether or not there is memory for it.
 
 ghost use Rattle.std.specs.Prelude.{◌≡◌, ◌<◌, ℕ, List, [], Some, true, false, slice_get};
-ghost use Rattle.tr_stream.specs.Laws.{chunk_of, cleared_of, kept_of, Rising, Closed, is_kept, is_waiting, offered_of, times, history_after_events, kept_after_cuts, cuts_made, IsUsable, new_history, IsWellFormed, Snapshot, StreamConfig, StreamEvent};
+ghost use Rattle.tr_stream.specs.Laws.{chunk_of, cleared_of, kept_of, Rising, Closed, is_kept, is_waiting, offered_of, times, history_after_events, kept_after_cuts, clears_among, cuts_made, IsUsable, new_history, IsWellFormed, Snapshot, StreamConfig, StreamEvent};
 
 use std::alloc::Allocator;
 
 /// Every list of calls leads to a history in which each accepted offer is in one place, what is kept has rising numbers and
 /// serials, every block before a kept one is kept, was overwritten or was cleared, and a trace chunk keeps what came to it
-/// between its cuts and wasn't cleared since; in a snapshot session nothing is consumed, nothing is cleared, and nothing is
-/// cut. Does nothing.
+/// between its cuts and wasn't cleared since; without a clear nothing is cleared; and in a snapshot session nothing is
+/// consumed, nothing is cleared, and nothing is cut. Does nothing.
 pub fn every_run<A: Allocator>()
     ensures well_formed { (c : StreamConfig) (events : List (StreamEvent A)) → IsUsable c
         → IsWellFormed (history_after_events c events new_history) }
@@ -26,6 +26,8 @@ pub fn every_run<A: Allocator>()
         → chunk_of k (history_after_events c events new_history) ≡ kept_after_cuts k c events new_history }
     ensures cuts { (c : StreamConfig) (events : List (StreamEvent A))
         → (history_after_events c events new_history).cuts ≡ cuts_made c events }
+    ensures uncleared { (c : StreamConfig) (events : List (StreamEvent A)) → clears_among events ≡ 0
+        → cleared_of (history_after_events c events new_history) ≡ [] }
     ensures snapshot_session { (c : StreamConfig) (events : List (StreamEvent A)) → IsUsable c
         → c.session ≡ Snapshot
         → (let h = history_after_events c events new_history in (kept_of h ≡ []) × (cleared_of h ≡ [])

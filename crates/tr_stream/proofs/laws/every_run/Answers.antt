@@ -1,4 +1,4 @@
-use Rattle.tr_stream.proofs.ChunkRuns.{chunk_between_cuts, counted_cuts, never-consumed}
+use Rattle.tr_stream.proofs.ChunkRuns.{chunk_between_cuts, counted_cuts, never-consumed, only-cleared}
 use Rattle.tr_stream.proofs.ModelLaws.{well_run, in_one_place, kept_rise, settled_below}
 use Rattle.tr_stream.proofs.laws.every_run.Goals as goal
 
@@ -10,5 +10,6 @@ returns g c = record {
   settled = settled_below;
   chunks = chunk_between_cuts;
   cuts = counted_cuts;
+  uncleared = only-cleared;
   snapshot_session = never-consumed;
 }
