@@ -15,7 +15,6 @@ use Rattle.tr_seats.specs.Seats.{AreSeatsOfProducer}
 use Rattle.tr_seats.specs.Settling.{opened_state}
 use Rattle.tr_seats.specs.Slots.{AreNew, AreSeatsOf, ProducerState, SlotState, amounts_of, new_producer, slot_state}
 use Rattle.tr_session_book.specs.BookSteps.{chunks_closed}
-use Rattle.tr_seats.specs.Sums.{totals_in}
 use Rattle.tr_seats.specs.declared.totals.Totals.{Totals}
 use Rattle.tr_stream.specs.State.{StreamState}
 

@@ -12,7 +12,7 @@ use Rattle.tr_session.specs.declared.faults.StepFault.{StepFault}
 use Rattle.tr_session_book.specs.Book.{SessionBookState}
 use Rattle.tr_session_book.specs.BookSteps.{book_after_rotate_begin, channel_of_geometry, book_add_channel, channel_named, is_allowed, is_new, with_thread_at, place_free, book_add_thread, thread_place, with_channel, with_thread}
 use Rattle.tr_session_book.specs.declared.channel.Channel.{Channel}
-use Rattle.tr_session_book.specs.declared.faults.SessionFault.TheVariants.{AlreadyStarted, CutMissing, DiscardInSnapshot, NameTaken, NeverStarted, NoStream, NotPending, RotationPending, SnapshotMode, TooMany}
+use Rattle.tr_session_book.specs.declared.faults.SessionFault.TheVariants.{AlreadyStarted, DiscardInSnapshot, NameTaken, TooMany}
 use Rattle.tr_session_book.specs.declared.faults.SessionFault.{SessionFault}
 use Rattle.tr_stream.specs.State.{StreamState}
 use Rattle.tr_stream.specs.StateSteps.{new_state, state_after_offer, state_after_take}

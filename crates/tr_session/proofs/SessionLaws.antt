@@ -1,5 +1,5 @@
 -- What the steps of a session leave.
-use Rattle.std.proofs.Common.{◌≡◌, ◌≢◌, ◌∙◌, ℕ, max, ◌+◌, ◌<◌, zero, suc, length, arith, List, [], ◌∷◌, ◌++◌, ◌⊎◌, ⊎_elim, Option, Some, None, Result, Ok, Err, ap, refl, subst, sym}
+use Rattle.std.proofs.Common.{◌≡◌, ◌≢◌, ◌∙◌, ℕ, max, ◌+◌, ◌<◌, zero, suc, length, arith, List, [], ◌∷◌, ◌++◌, ⊎_elim, Option, Some, None, Result, Ok, Err, ap, refl, subst, sym}
 use Rattle.std.specs.Option.{option_map_or}
 use Rattle.std.specs.Prelude.{IsOk, option_map, slice_get}
 use Rattle.tr_session_book.proofs.BookLaws.{due-within}
@@ -11,10 +11,8 @@ use Rattle.tr_session.specs.Session.{SessionOf, HasItsStreams}
 use Rattle.tr_session.specs.Steps.{with_book, next_config, session_add_stream, session_add_thread, change_at, cut_as_step, session_cut_answer, session_after_cut, cut_first}
 use Rattle.tr_session_book.specs.declared.channel.Channel.{Channel}
 use Rattle.tr_session_book.specs.declared.faults.SessionFault.{SessionFault}
-use Rattle.tr_session_book.specs.declared.faults.SessionFault.TheVariants.{SnapshotMode, NoMemory}
+use Rattle.tr_session_book.specs.declared.faults.SessionFault.TheVariants.{NoMemory}
 use Rattle.tr_session.specs.declared.faults.StepFault.{StepFault}
-use Rattle.tr_session.specs.declared.rotation.Next.{Next}
-use Rattle.tr_session.specs.declared.rotation.Next.TheVariants as next
 use Rattle.tr_stream.proofs.SessionLaws.{in-local}
 use Rattle.tr_stream.specs.Rules.{StreamRules, by_state}
 use Rattle.tr_stream.specs.State.{StreamState}

@@ -1,5 +1,5 @@
 -- What the mode of a planned session says of its operators' answers.
-use Rattle.std.proofs.Common.{◌≡◌, ◌≢◌, ◌∙◌, ℕ, ◌==◌, Bool, true, false, List, [], ◌∷◌, Option, Some, Result, Ok, Err, cond, eqb, if◌then◌else◌, inl, inr, ⊎_elim, ◌⊎◌, ap, refl, subst, sym}
+use Rattle.std.proofs.Common.{◌≡◌, ◌≢◌, ◌∙◌, ℕ, ◌==◌, Bool, true, false, List, [], ◌∷◌, Option, Some, Result, Ok, Err, cond, eqb, if◌then◌else◌, inl, inr, ⊎_elim, ap, refl, subst, sym}
 use Rattle.std.proofs.lemmas.Bool.Decides.{eqb_tells}
 use Rattle.std.specs.Prelude.{◌↔◌, IsOk}
 use Rattle.tr_ring.specs.ClosedBuffer.{ClosedBuffer}

@@ -1,6 +1,6 @@
 -- A stream that stands for a history is consistent.
-use Rattle.std.proofs.Common.{◌≡◌, ◌≢◌, ℕ, ◌+◌, ◌≤◌, ◌<◌, zero, suc, Bool, true, false, cond, eqb, List, [], ◌∷◌, ◌++◌, length, map, refl, sym, ◌∙◌, ap, subst, append_assoc, arith, length-append}
-use Rattle.std.proofs.lemmas.Grind.{common_steps, flat_map-append}
+use Rattle.std.proofs.Common.{◌≡◌, ◌≢◌, ℕ, ◌+◌, ◌≤◌, ◌<◌, zero, suc, Bool, true, false, cond, List, [], ◌∷◌, ◌++◌, length, map, refl, sym, ◌∙◌, ap, subst, arith, length-append}
+use Rattle.std.proofs.lemmas.Grind.{common_steps}
 use Rattle.std.proofs.lemmas.List.{append-nil, length-map}
 use Rattle.std.proofs.lemmas.List.Sums.{sum_by-cons}
 use Rattle.std.specs.List.{AllByRecursion}
@@ -10,20 +10,19 @@ use Rattle.tr_record.specs.Records.{Entry}
 use Rattle.tr_ring.specs.ClosedBuffer.{ClosedBuffer}
 use Rattle.tr_book.specs.declared.runs.Run.{Run}
 use Rattle.tr_stream.proofs.GoneLaws.{runs-count}
-use Rattle.tr_stream.proofs.ChunkLaws.{records-of_buffers, none_wait, discarded_in-cons, blocks_where-cons}
+use Rattle.tr_stream.proofs.ChunkLaws.{records-of_buffers, discarded_in-cons, blocks_where-cons}
 use Rattle.tr_stream.proofs.FateLaws.{parts-are}
 use Rattle.tr_stream.proofs.PieceLaws.{here, is_undropped, parts-left, held-is, pieces-buffers, pieces-cleared, pieces-held, pieces-used, pieces_of, undropped_of}
 use Rattle.tr_stream.proofs.TakeLaws.{length-parts_below}
 use Rattle.tr_ring.specs.Ring.{seq_after}
-use Rattle.tr_stream.specs.Chunks.{buffer_runs, cleared_of, closed_if_any, buffer_of, buffers_where, waiting_of, chunk_of, kept_of, packet_of, part_of, parts_below}
+use Rattle.tr_stream.specs.Chunks.{buffer_runs, cleared_of, closed_if_any, buffer_of, buffers_where, chunk_of, kept_of, part_of, parts_below}
 use Rattle.tr_stream.specs.Consistent.{HasRecord, Piece, buffers_of, Rising, CountUp, PartsFrom, first_in, first_serial, DiscardsAgree, SerialsFollow, GapsAgree, IsConsistent}
-use Rattle.tr_stream.specs.Fates.{all_parts}
-use Rattle.tr_stream.specs.History.{Status, Waiting, Dropped, Kept, Cleared, Closed, History, is_waiting, is_dropped, is_kept, is_cleared, offers_in, offers_before, offered_of, discarded_in, discarded_of, blocks_where}
+use Rattle.tr_stream.specs.History.{Status, Waiting, Dropped, Kept, Cleared, Closed, History, is_waiting, is_dropped, is_cleared, offers_in, offers_before, offered_of, discarded_in, discarded_of, blocks_where}
 use Rattle.tr_stream.specs.Kept.{IsKept}
 use Rattle.tr_stream.specs.Sound.{LosesByMode}
 use Rattle.tr_stream.specs.StandsFor.{StandsFor}
 use Rattle.tr_stream.specs.State.{StreamState}
-use Rattle.tr_stream.specs.WellFormed.{IsWellFormed, NumberedFrom, AllWait, WaitLast, RecordsRise, next_serial, StartsAt, Covers, CoversFrom, AllUsed, LastHeld, chunks_below}
+use Rattle.tr_stream.specs.WellFormed.{IsWellFormed, NumberedFrom, AllWait, WaitLast, RecordsRise, next_serial, StartsAt, Covers, CoversFrom, AllUsed, LastHeld}
 use Rattle.tr_stream.specs.declared.config.StreamConfig.{StreamConfig}
 
 -- parts have the numbers of their chunks

@@ -10,7 +10,7 @@ use Rattle.tr_record.specs.Records.{Entry}
 use Rattle.tr_ring.specs.ClosedBuffer.{ClosedBuffer}
 use Rattle.tr_stream.proofs.ChunkLaws.{none_wait}
 use Rattle.tr_stream.proofs.FateLaws.{parts-are}
-use Rattle.tr_stream.specs.Chunks.{buffer_runs, cleared_of, closed_if_any, closed_part, buffer_of, buffers_where, waiting_of, chunk_of, kept_of, packet_of, parts_below, ring_buffers}
+use Rattle.tr_stream.specs.Chunks.{buffer_runs, closed_if_any, closed_part, buffer_of, buffers_where, waiting_of, chunk_of, kept_of, packet_of, parts_below, ring_buffers}
 use Rattle.tr_stream.specs.Consistent.{HasRecord, IsConsistent, IsLeftOf, PartsLeft, Piece, buffers_of, held_among, cleared_among, buffer_in}
 use Rattle.tr_stream.specs.Fates.{all_parts}
 use Rattle.tr_stream.specs.History.{Status, Waiting, Dropped, Kept, Cleared, Closed, History, is_waiting, is_kept, is_cleared, discarded_of}

@@ -1,7 +1,7 @@
 -- What a stream holds.
 use Rattle.std.specs.Prelude.{ℕ, ◌+◌, Bool, List, length, sum_by}
 use Rattle.tr_book.specs.Counters.{CountersState}
-use Rattle.tr_book.specs.Parts.{PartState, PartsState, part_records}
+use Rattle.tr_book.specs.Parts.{PartsState, part_records}
 use Rattle.tr_ring.specs.Ring.{RingState}
 use Rattle.tr_ring.specs.ClosedBuffer.{ClosedBuffer}
 use Rattle.tr_stream.specs.declared.config.StreamConfig.{StreamConfig}
