@@ -1,6 +1,7 @@
 //! What the worked examples share: streams of sub-buffers of 256 bytes, two to a ring, as lists of steps.
 
 mod calls;
+mod clears;
 mod looks;
 mod memory;
 mod rings;

@@ -2,13 +2,14 @@
 
 use crate::scarce::{UNIT, new_heap};
 use crate::turns::{Call, assert_same, only, refuse_each};
-use Asked::{Cut, Peek, Take};
+use Asked::{Clear, Cut, Peek, Take};
+use Before::{Clears, Cuts, Offers, Pairs, Takes};
 use linked_list_allocator::LocalHeap;
 use std::alloc::{AllocError, Allocator, Global};
 use std::process::Abort;
 use tr_book::Part;
 use tr_record::{Moment, RecView};
-use tr_stream::{CutDone, CutFault, SessionMode, Stream, TakeFault, Taken};
+use tr_stream::{ClearFault, Cleared, CutDone, CutFault, SessionMode, Stream, TakeFault, Taken};
 use tr_terms::{Geometry, Mode};
 use tr_testing::moment;
 use uuid::Uuid;
@@ -84,6 +85,7 @@ enum Asked {
     Take(Taken),
     /// A cut at moment 100.
     Cut(CutDone),
+    Clear(Cleared),
     /// A look, and how many bytes it shows.
     Peek(usize),
 }
@@ -93,22 +95,31 @@ enum Asked {
 enum Told {
     Taken(Result<Taken, TakeFault>),
     Cut(Result<CutDone, CutFault>),
+    Cleared(Result<Cleared, ClearFault>),
     /// The bytes that a look shows. None without memory.
     Peeked(Option<usize>),
 }
 
-/// A call of a stream of sub-buffers of 256 bytes, after offers of 50 bytes each, takes and cuts. Two such records fill a
-/// sub-buffer.
+/// What is done before a call to a stream of sub-buffers of 256 bytes.
+#[derive(Clone, Copy)]
+enum Before {
+    /// Offers of 50 bytes each. Two such records fill a sub-buffer.
+    Offers(u64),
+    /// Pairs of offers, of 152 bytes, whose record fills a sub-buffer, and of none.
+    Pairs(u64),
+    Takes(u64),
+    /// Cuts, each of a ring of one record.
+    Cuts(u64),
+    /// Clears, each of a ring of one record.
+    Clears(u64),
+}
+
+/// A call of a stream after others.
 #[derive(Clone, Copy)]
 struct Row {
     /// How many sub-buffers there are, and what a full ring does.
     ring: (u64, Mode),
-    /// Cuts, each of a ring of one record.
-    cuts: u64,
-    /// Offers after that.
-    offers: u64,
-    /// Takes after that.
-    takes: u64,
+    before: &'static [Before],
     asked: Asked,
 }
 
@@ -119,10 +130,45 @@ pub(crate) fn offer_many<A: Allocator + Copy>(stream: &mut Stream<A>, count: u64
     }
 }
 
+/// Makes this many pairs of offers.
+fn offer_pairs<A: Allocator + Copy>(stream: &mut Stream<A>, count: u64) {
+    for at in 1..=count {
+        let _ = stream.offer(moment(at), 7, &[0x61; 152]);
+        let _ = stream.offer(moment(at), 7, &[]);
+    }
+}
+
 /// Takes this many packets.
 fn take_many<A: Allocator + Copy>(rt: &impl Abort, stream: &mut Stream<A>, count: u64) {
     for _ in 0..count {
         stream.take().expect(rt, "a packet");
+    }
+}
+
+/// Makes this many cuts, each of a ring of one record.
+fn cut_many<A: Allocator + Copy>(rt: &impl Abort, stream: &mut Stream<A>, count: u64) {
+    for _ in 0..count {
+        offer_many(stream, 1);
+        stream.cut(moment(0)).expect(rt, "a cut");
+    }
+}
+
+/// Makes this many clears, each of a ring of one record.
+fn clear_many<A: Allocator + Copy>(rt: &impl Abort, stream: &mut Stream<A>, count: u64) {
+    for _ in 0..count {
+        offer_many(stream, 1);
+        stream.clear().expect(rt, "a clear");
+    }
+}
+
+/// Does what is done before a call.
+fn prepare<A: Allocator + Copy>(rt: &impl Abort, stream: &mut Stream<A>, before: Before) {
+    match before {
+        Offers(count) => offer_many(stream, count),
+        Pairs(count) => offer_pairs(stream, count),
+        Takes(count) => take_many(rt, stream, count),
+        Cuts(count) => cut_many(rt, stream, count),
+        Clears(count) => clear_many(rt, stream, count),
     }
 }
 
@@ -154,12 +200,9 @@ impl<A: Allocator + Copy> Call<A> for Row {
     fn object(&self, rt: &impl Abort, alloc: A) -> Stream<A> {
         let mut stream = new_stream(rt, alloc, self.ring);
         stream.set_active(true);
-        for _ in 0..self.cuts {
-            offer_many(&mut stream, 1);
-            stream.cut(moment(0)).expect(rt, "a cut");
+        for before in self.before {
+            prepare(rt, &mut stream, *before);
         }
-        offer_many(&mut stream, self.offers);
-        take_many(rt, &mut stream, self.takes);
         stream
     }
 
@@ -167,6 +210,7 @@ impl<A: Allocator + Copy> Call<A> for Row {
         match self.asked {
             Take(_) => Told::Taken(object.take()),
             Cut(_) => Told::Cut(object.cut(Moment::within_limit(100))),
+            Clear(_) => Told::Cleared(object.clear()),
             Peek(_) => Told::Peeked(match object.peek(Moment::within_limit(100)) {
                 Ok(snap) => Some(snap.text().len()),
                 Err(_) => None,
@@ -178,6 +222,7 @@ impl<A: Allocator + Copy> Call<A> for Row {
         match self.asked {
             Take(taken) => Told::Taken(Ok(taken)),
             Cut(done) => Told::Cut(Ok(done)),
+            Clear(cleared) => Told::Cleared(Ok(cleared)),
             Peek(bytes) => Told::Peeked(Some(bytes)),
         }
     }
@@ -186,6 +231,8 @@ impl<A: Allocator + Copy> Call<A> for Row {
         match self.asked {
             Take(_) => only(number, Told::Taken(Err(TakeFault::NoMemory))),
             Cut(_) => only(number, Told::Cut(Err(CutFault::NoMemory))),
+            Clear(Cleared { packets: 0, .. }) => None,
+            Clear(_) => only(number, Told::Cleared(Err(ClearFault::NoMemory))),
             Peek(0) => None,
             Peek(_) => only(number, Told::Peeked(None)),
         }
@@ -196,13 +243,11 @@ impl<A: Allocator + Copy> Call<A> for Row {
     }
 }
 
-/// Packets have a list, with room for four at first, and their bytes, whose room doubles when they grow.
-static ROWS: [Row; 7] = [
+/// Packets have a list, with room for four at first, and their bytes, whose room doubles when they grow. Runs have a list too.
+static ROWS: [Row; 15] = [
     Row {
         ring: (2, Mode::Discard),
-        cuts: 0,
-        offers: 3,
-        takes: 0,
+        before: &[Offers(3)],
         asked: Take(Taken {
             seq: 0,
             count: 2,
@@ -211,9 +256,7 @@ static ROWS: [Row; 7] = [
     },
     Row {
         ring: (4, Mode::Discard),
-        cuts: 0,
-        offers: 7,
-        takes: 1,
+        before: &[Offers(7), Takes(1)],
         asked: Take(Taken {
             seq: 1,
             count: 2,
@@ -223,9 +266,7 @@ static ROWS: [Row; 7] = [
     // three packets, room for a closed part, and these packets behind another one
     Row {
         ring: (4, Mode::Discard),
-        cuts: 0,
-        offers: 7,
-        takes: 1,
+        before: &[Offers(7), Takes(1)],
         asked: Cut(CutDone {
             chunk: 0,
             packets: 3,
@@ -235,9 +276,7 @@ static ROWS: [Row; 7] = [
     // an empty ring: room for a closed part
     Row {
         ring: (4, Mode::Discard),
-        cuts: 0,
-        offers: 0,
-        takes: 0,
+        before: &[],
         asked: Cut(CutDone {
             chunk: 0,
             packets: 0,
@@ -247,9 +286,7 @@ static ROWS: [Row; 7] = [
     // one packet, and room for a fifth closed part
     Row {
         ring: (4, Mode::Overwrite),
-        cuts: 4,
-        offers: 1,
-        takes: 0,
+        before: &[Cuts(4), Offers(1)],
         asked: Cut(CutDone {
             chunk: 4,
             packets: 1,
@@ -258,18 +295,86 @@ static ROWS: [Row; 7] = [
     },
     Row {
         ring: (4, Mode::Overwrite),
-        cuts: 1,
-        offers: 20,
-        takes: 1,
+        before: &[Cuts(1), Offers(20), Takes(1)],
         asked: Peek(684),
     },
     // an empty ring has nothing to copy
     Row {
         ring: (4, Mode::Discard),
-        cuts: 1,
-        offers: 0,
-        takes: 0,
+        before: &[Cuts(1)],
         asked: Peek(0),
+    },
+    // a ring alone
+    Row {
+        ring: (4, Mode::Discard),
+        before: &[Offers(7)],
+        asked: Clear(Cleared {
+            packets: 4,
+            records: 7,
+        }),
+    },
+    // three packets that were taken, and one record in the ring
+    Row {
+        ring: (4, Mode::Discard),
+        before: &[Offers(7), Takes(3)],
+        asked: Clear(Cleared {
+            packets: 4,
+            records: 7,
+        }),
+    },
+    // every other record is discarded from the third on: eight runs
+    Row {
+        ring: (2, Mode::Discard),
+        before: &[Pairs(7)],
+        asked: Clear(Cleared {
+            packets: 2,
+            records: 8,
+        }),
+    },
+    // the same runs of packets that were taken, and one of the ring
+    Row {
+        ring: (2, Mode::Discard),
+        before: &[Pairs(7), Takes(1), Offers(1), Takes(1)],
+        asked: Clear(Cleared {
+            packets: 3,
+            records: 9,
+        }),
+    },
+    // five runs are kept, and four come behind them
+    Row {
+        ring: (4, Mode::Overwrite),
+        before: &[Clears(5), Offers(20), Takes(1)],
+        asked: Clear(Cleared {
+            packets: 4,
+            records: 8,
+        }),
+    },
+    // closed parts stay
+    Row {
+        ring: (4, Mode::Discard),
+        before: &[Cuts(2), Clears(1), Offers(7), Takes(2)],
+        asked: Clear(Cleared {
+            packets: 4,
+            records: 7,
+        }),
+    },
+    // nothing to clear takes no memory
+    Row {
+        ring: (2, Mode::Discard),
+        before: &[],
+        asked: Clear(Cleared {
+            packets: 0,
+            records: 0,
+        }),
+    },
+    // nor if parts are closed and runs are kept
+    Row {
+        ring: (4, Mode::Discard),
+        before: &[Cuts(2), Clears(1)],
+        asked: Clear(Cleared {
+            packets: 0,
+            records: 0,
+        }),
     },
 ];
 
@@ -280,5 +385,5 @@ fn a_call_of_a_stream_without_memory_changes_nothing(rt: HostRuntime) {
     for row in &ROWS {
         tried = tried.wrapping_add(refuse_each(&rt, rt.alloc(), &heap, UNIT, row));
     }
-    assert!(rt; tried >= 400, "{tried}");
+    assert!(rt; tried >= 500, "{tried}");
 }

@@ -1,14 +1,16 @@
-//! Parts of streams with their packets, geometries, and what is shown of a stream.
+//! Parts of streams with their packets, the runs of cleared ones, counters, geometries, and what is shown of a stream.
 
 ghost use Rattle.std.specs.Prelude.{◌≤◌};
 ghost use Rattle.tr_book.specs.Parts.{records_of};
 
-use super::{assert_packets, assert_same, packet};
+use super::{assert_packets, assert_same, packet, record};
 use crate::packing::{put, put_in_part};
 use std::alloc::Global;
 use std::process::Abort;
-use tr_book::{Geometry, GeometryFault, Part, Parts, StreamSnap};
-use tr_packet::PacketTexts;
+use tr_book::{Counters, Geometry, GeometryFault, Part, Parts, Run, Runs, StreamSnap};
+use tr_packet::{Head, Packet, PacketTexts};
+use tr_testing::moment;
+use uuid::Uuid;
 
 /// A packet of two records with payloads of `len` bytes.
 fn only(rt: &impl Abort, alloc: Global, seq: u64, len: usize) -> PacketTexts
@@ -83,6 +85,168 @@ fn a_cut_closes_the_part_behind_its_packets(rt: HostRuntime) {
     cut(&rt, &mut parts, PacketTexts::new(rt.alloc()));
     assert_part_at(&rt, &parts, 2, 0, 0);
     assert_same(&rt, parts.part(3).is_none(), true);
+}
+
+/// The numbers of packets, and the serials of their records. Serials are missed within the first and within the last, and the
+/// second goes on where the first ends.
+static SERIALS: [(u64, &[u64]); 3] = [(4, &[0, 1, 3]), (5, &[4, 5]), (7, &[6, 9, 10, 11])];
+
+/// Their runs: a run ends where a serial is missed, and with its packet.
+static RUNS: [Run; 5] = [
+    Run {
+        seq: 4,
+        first: 0,
+        count: 2,
+    },
+    Run {
+        seq: 4,
+        first: 3,
+        count: 1,
+    },
+    Run {
+        seq: 5,
+        first: 4,
+        count: 2,
+    },
+    Run {
+        seq: 7,
+        first: 6,
+        count: 1,
+    },
+    Run {
+        seq: 7,
+        first: 9,
+        count: 3,
+    },
+];
+
+/// Serials, and the packet that had each, and whether the last run has it.
+static HOLDERS: [(u64, Option<u64>, bool); 14] = [
+    (0, Some(4), false),
+    (1, Some(4), false),
+    (2, None, false),
+    (3, Some(4), false),
+    (4, Some(5), false),
+    (5, Some(5), false),
+    (6, Some(7), false),
+    (7, None, false),
+    (8, None, false),
+    (9, Some(7), true),
+    (10, Some(7), true),
+    (11, Some(7), true),
+    (12, None, false),
+    (u64::MAX, None, false),
+];
+
+/// A packet of records with these serials, without payloads.
+fn packet_of(rt: &impl Abort, alloc: Global, seq: u64, serials: &[u64]) -> Packet {
+    let mut records = Vec::new(alloc);
+    for serial in serials {
+        let record = record(rt, alloc, *serial, 1000, 0);
+        records.push(record).expect(rt, "memory");
+    }
+    let head = Head {
+        uuid: Uuid::nil(),
+        stream: 0,
+        begin: moment(1000),
+        end: moment(1000),
+        seq,
+        discarded: 0,
+    };
+    Packet::checked(head, records).expect(rt, "a packet")
+}
+
+/// The texts of these packets.
+fn texts_of(rt: &impl Abort, alloc: Global, rows: &[(u64, &[u64])]) -> PacketTexts {
+    let mut texts = PacketTexts::new(alloc);
+    for (seq, serials) in rows {
+        put(rt, alloc, &mut texts, &packet_of(rt, alloc, *seq, serials));
+    }
+    texts
+}
+
+/// The runs of packets: those of the first one's records, and behind them those of the others.
+fn runs_of(rt: &impl Abort, alloc: Global, texts: &PacketTexts) -> Runs {
+    let mut packets = texts.packets();
+    let first = packets.next().expect(rt, "a packet");
+    let mut runs = Runs::new(alloc);
+    let pushed = runs.push_records(first.head().seq, first.count(), first.records());
+    pushed.expect(rt, "memory");
+    let mut more = Runs::new(alloc);
+    more.push_packets(packets).expect(rt, "memory");
+    runs.append(more).expect(rt, "memory");
+    runs
+}
+
+#[test]
+fn runs_end_where_serials_are_missed_and_with_their_packets(rt: HostRuntime) {
+    let texts = texts_of(&rt, rt.alloc(), &SERIALS);
+    let runs = runs_of(&rt, rt.alloc(), &texts);
+    assert_same(&rt, runs.as_slice(), RUNS.as_slice());
+    let last = runs.as_slice().last().expect(&rt, "a run");
+    for (serial, seq, has) in &HOLDERS {
+        let found = (*serial, runs.seq_of(*serial), last.has(*serial));
+        assert_same(&rt, found, (*serial, *seq, *has));
+    }
+}
+
+/// Serials, and the cleared packet that had each: packets 0 and 1 are in a closed part.
+static CLEARED: [(u64, Option<u64>); 8] = [
+    (0, None),
+    (3, None),
+    (4, Some(2)),
+    (5, Some(2)),
+    (6, Some(3)),
+    (7, Some(3)),
+    (9, Some(4)),
+    (10, None),
+];
+
+/// Clears the current part, and behind it a packet with this number.
+fn clear(rt: &impl Abort, alloc: Global, parts: &mut Parts, seq: u64) {
+    let texts = only(rt, alloc, seq, 50);
+    let mut more = Runs::new(alloc);
+    more.push_packets(texts.packets()).expect(rt, "memory");
+    parts.clear(more).expect(rt, "memory");
+}
+
+#[test]
+fn a_clear_keeps_runs_and_closed_parts(rt: HostRuntime) {
+    let mut parts = Parts::new(rt.alloc());
+    push(&rt, rt.alloc(), &mut parts, 0, 50);
+    cut(&rt, &mut parts, only(&rt, rt.alloc(), 1, 64));
+    push(&rt, rt.alloc(), &mut parts, 2, 50);
+    clear(&rt, rt.alloc(), &mut parts, 3);
+    clear(&rt, rt.alloc(), &mut parts, 4);
+    assert_only_closed(&rt, &parts);
+    assert_part_at(&rt, &parts, 1, 0, 0);
+    for (serial, seq) in &CLEARED {
+        assert_same(&rt, (*serial, parts.seq_cleared(*serial)), (*serial, *seq));
+    }
+}
+
+/// How many records are cleared, and how many of them had been consumed, and the sums so far.
+static CLEARS: [((u64, u64), (u64, u64)); 3] = [
+    ((6, 2), (6, 2)),
+    ((0, 0), (6, 2)),
+    ((5, 5), (11, 7)),
+];
+
+/// Notes that records were cleared, of which so many had been consumed.
+fn note_cleared(rt: &impl Abort, counters: &mut Counters, count: u64, consumed: u64) {
+    assert!(rt; counters.cleared() < 1000 && counters.withdrawn() < 1000);
+    assert!(rt; count < 1000 && consumed < 1000);
+    counters.note_cleared(count, consumed);
+}
+
+#[test]
+fn counters_sum_up_clears(rt: HostRuntime) {
+    let mut counters = Counters::new();
+    for ((count, consumed), wanted) in &CLEARS {
+        note_cleared(&rt, &mut counters, *count, *consumed);
+        assert_same(&rt, (counters.cleared(), counters.withdrawn()), *wanted);
+    }
+    assert_same(&rt, (counters.offered(), counters.consumed()), (0, 0));
 }
 
 /// Sizes and counts, and why they are refused.

@@ -1,17 +1,16 @@
 //! Worked examples: what offers, takes and cuts answer, what becomes of records, and the parts that are closed.
 
 use super::Step::{
-    self, Clear, Counts as Counted, Cut, Fate as FateOf, NoPart, Offer, Offers, Part, Start, Stop,
-    Take,
+    self, Counts as Counted, Cut, Fate as FateOf, NoPart, Offer, Offers, Part, Start, Stop, Take,
 };
 use super::{PacketRow, assert_lists, assert_same, assert_steps, new_stream};
 use std::alloc::Global;
 use std::fmt::Display;
 use std::process::Abort;
 use tr_book::{Counts, Mode};
-use tr_stream::Fate::{self, Discarded, InChunk, InRing, Overwritten};
+use tr_stream::Fate::{Discarded, InChunk, InRing, Overwritten};
 use tr_stream::{
-    ClearFault, Cleared, CutDone, CutFault, OfferFault, Offered, SessionMode, TakeFault, Taken,
+    ClearFault, CutDone, CutFault, OfferFault, Offered, SessionMode, TakeFault, Taken,
 };
 use tr_testing::moment;
 
@@ -359,6 +358,10 @@ fn assert_cut_fault(rt: &impl Abort, alloc: Global, fault: CutFault, text: &str)
     assert_named(rt, alloc, &fault, (fault.code(), fault.name()), text);
 }
 
+fn assert_clear_fault(rt: &impl Abort, alloc: Global, fault: ClearFault, text: &str) {
+    assert_named(rt, alloc, &fault, (fault.code(), fault.name()), text);
+}
+
 #[test]
 fn faults_have_their_codes_and_names(rt: HostRuntime) {
     let alloc = rt.alloc();
@@ -372,127 +375,6 @@ fn faults_have_their_codes_and_names(rt: HostRuntime) {
     assert_take_fault(&rt, alloc, TakeFault::Misplaced, "T4 Misplaced");
     assert_cut_fault(&rt, alloc, CutFault::SnapshotMode, "C1 SnapshotMode");
     assert_cut_fault(&rt, alloc, CutFault::NoMemory, "C2 NoMemory");
-}
-
-static CLEARS: [(Mode, &[Step]); 2] = [
-    // consumed packets and the ring are cleared, and no number and no serial is used again
-    (
-        Mode::Overwrite,
-        &[
-            Start,
-            Offers(1, 7, 64),
-            Take(Ok(Taken {
-                seq: 1,
-                count: 2,
-                chunk: 0,
-            })),
-            Offers(7, 11, 64),
-            Clear(Ok(Cleared {
-                packets: 3,
-                records: 6,
-            })),
-            FateOf(2, Some(Fate::Cleared { seq: 1 })),
-            FateOf(4, Some(Overwritten)),
-            FateOf(9, Some(Fate::Cleared { seq: 4 })),
-            Offer(11, 64, Ok(Offered::Stored { serial: 10, seq: 5 })),
-            Cut(
-                20,
-                Ok(CutDone {
-                    chunk: 0,
-                    packets: 1,
-                    records: 1,
-                }),
-            ),
-            Counted(Counts {
-                offered: 11,
-                discarded: 0,
-                overwritten: 4,
-                overwritten_packets: 2,
-                in_ring: 0,
-                consumed: 3,
-                in_chunks: 1,
-                cleared: 6,
-                withdrawn: 2,
-                cuts: 1,
-                current_bytes: 0,
-            }),
-            Part(
-                0,
-                (168, 1),
-                &[PacketRow {
-                    seq: 5,
-                    discarded: 0,
-                    begin: 11,
-                    end: 20,
-                    records: &[(10, 11, 64)],
-                }],
-            ),
-            Clear(Ok(Cleared {
-                packets: 0,
-                records: 0,
-            })),
-            FateOf(10, Some(InChunk { chunk: 0, seq: 5 })),
-        ],
-    ),
-    // what was discarded while a cleared packet was filling stays discarded
-    (
-        Mode::Discard,
-        &[
-            Start,
-            Offers(1, 6, 50),
-            Offer(6, 4, Ok(Offered::Stored { serial: 5, seq: 1 })),
-            Take(Ok(Taken {
-                seq: 0,
-                count: 2,
-                chunk: 0,
-            })),
-            Clear(Ok(Cleared {
-                packets: 2,
-                records: 5,
-            })),
-            FateOf(1, Some(Fate::Cleared { seq: 0 })),
-            FateOf(4, Some(Discarded)),
-            FateOf(5, Some(Fate::Cleared { seq: 1 })),
-            Clear(Ok(Cleared {
-                packets: 0,
-                records: 0,
-            })),
-            Offer(7, 4, Ok(Offered::Stored { serial: 6, seq: 2 })),
-            Cut(
-                10,
-                Ok(CutDone {
-                    chunk: 0,
-                    packets: 1,
-                    records: 1,
-                }),
-            ),
-            Part(
-                0,
-                (108, 1),
-                &[PacketRow {
-                    seq: 2,
-                    discarded: 1,
-                    begin: 7,
-                    end: 10,
-                    records: &[(6, 7, 4)],
-                }],
-            ),
-        ],
-    ),
-];
-
-#[test]
-fn clears_keep_what_became_of_records(rt: HostRuntime) {
-    assert_lists(&rt, rt.alloc(), SessionMode::Local, &CLEARS);
-}
-
-#[test]
-fn snapshot_sessions_refuse_clears(rt: HostRuntime) {
-    let refused: [Step; 1] = [Clear(Err(ClearFault::SnapshotMode))];
-    assert_lists(
-        &rt,
-        rt.alloc(),
-        SessionMode::Snapshot,
-        &[(Mode::Overwrite, &refused)],
-    );
+    assert_clear_fault(&rt, alloc, ClearFault::SnapshotMode, "X1 SnapshotMode");
+    assert_clear_fault(&rt, alloc, ClearFault::NoMemory, "X2 NoMemory");
 }

@@ -1,18 +1,18 @@
 //! A list of calls and its answers, worked by hand: sub-buffers of 256 bytes, two to a ring, in discard mode.
 
 use super::Step::{self, Clear, Cut, Offer, Peek, Start, Stop, Take};
-use super::{PAYLOAD, PacketRow, Place, assert_at, assert_look, assert_same, small};
+use super::{PAYLOAD, PacketRow, Place, assert_at, assert_lists, assert_look, assert_same, small};
 use std::alloc::Global;
 use std::process::Abort;
 use tr_book::Mode;
 use tr_stream::{
-    CutDone, Offered, Payload, SessionMode, Stream, StreamAnswer, StreamEvent, TakeFault, Taken,
-    run_stream,
+    Cleared, CutDone, Offered, Payload, SessionMode, Stream, StreamAnswer, StreamEvent, TakeFault,
+    Taken, run_stream,
 };
 use tr_testing::moment;
 
-/// The offer at 3 closes the first packet, and record 4 is discarded.
-static CALLS: [Step; 13] = [
+/// The offer at 3 closes the first packet, and record 4 is discarded. Record 6 fills a sub-buffer.
+static CALLS: [Step; 19] = [
     Start,
     Offer(1, 50, Ok(Offered::Stored { serial: 0, seq: 0 })),
     Offer(2, 50, Ok(Offered::Stored { serial: 1, seq: 0 })),
@@ -55,6 +55,22 @@ static CALLS: [Step; 13] = [
         }),
     ),
     Peek(12, (6, 1), &[]),
+    Offer(13, 152, Ok(Offered::Stored { serial: 6, seq: 2 })),
+    Offer(14, 50, Ok(Offered::Stored { serial: 7, seq: 3 })),
+    Take(Ok(Taken {
+        seq: 2,
+        count: 1,
+        chunk: 1,
+    })),
+    Clear(Ok(Cleared {
+        packets: 2,
+        records: 2,
+    })),
+    Clear(Ok(Cleared {
+        packets: 0,
+        records: 0,
+    })),
+    Peek(16, (8, 1), &[]),
     Stop,
 ];
 
@@ -111,5 +127,9 @@ fn run(rt: &impl Abort, alloc: Global, calls: &[Step]) -> Stream {
 #[test]
 fn a_run_answers_each_call(rt: HostRuntime) {
     let counts = run(&rt, rt.alloc(), &CALLS).counts();
-    assert_same(&rt, (counts.in_ring, counts.consumed), (0, 5));
+    assert_same(&rt, (counts.in_ring, counts.consumed), (0, 6));
+    assert_same(&rt, (counts.cleared, counts.withdrawn), (2, 1));
+    // the calls themselves answer the same
+    let lists: [(Mode, &[Step]); 1] = [(Mode::Discard, &CALLS)];
+    assert_lists(&rt, rt.alloc(), SessionMode::Local, &lists);
 }
