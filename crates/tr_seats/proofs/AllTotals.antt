@@ -8,8 +8,8 @@ use Rattle.tr_seats.proofs.Joins.{tables-length}
 use Rattle.tr_seats.proofs.Permuted.{one-each, sum_by-beside, sum_by-index, sum_by-same}
 use Rattle.tr_seats.specs.Books.{Books, consumed_books, cut_books}
 use Rattle.tr_seats.specs.Desks.{DeskState}
-use Rattle.tr_seats.specs.Settling.{AreAllMade, IsOneEach, streams_of, totals_of_seats}
-use Rattle.tr_seats.specs.Slots.{AreJoined, AreSeatsOf, IsOwn, ProducerState, SlotState, amounts_of}
+use Rattle.tr_seats.specs.Settling.{AreAllMade, AreTheirs, IsOneEach, streams_of, totals_of_seats}
+use Rattle.tr_seats.specs.Slots.{AreJoined, AreSeatsOf, IsOwn, ProducerState, SlotState, amounts_of, slot_state}
 use Rattle.tr_seats.specs.Sums.{totals_in, totals_of}
 use Rattle.tr_seats.specs.declared.totals.Totals.{Totals}
 use Rattle.tr_stream.specs.State.{StreamState}
@@ -118,3 +118,14 @@ module _ (books : List Books) (slots : List SlotState) (len : length slots ≡ l
         consumed = consumed k;
         cuts = cut k;
       }
+
+-- each producer's numbers are those of its stream, out of its slot
+pub theirs : (n : ℕ) (producers : List ProducerState) (slots : List SlotState) → length slots ≡ n → AreWithin n producers
+    → ((k : ℕ) (p : ProducerState) (s : SlotState) → k < length producers
+    → IsOwn (get_or producers k p) (totals_in (get_or slots (get_or producers k p).number s).stream))
+    → AreTheirs producers (streams_of slots)
+theirs n producers slots len there own k p t lt =
+    let s = slot_state 0 t 0 in
+    let q = get_or producers k p in
+    let at = get_or-map (λ (x : SlotState). x.stream) slots q.number s t (omega (arith, there k p lt, len)) in
+    subst (λ (x : StreamState). IsOwn q (totals_in x)) (sym at) (own k p s lt)

@@ -3,7 +3,8 @@ use Rattle.std.specs.Prelude.{◌≡◌, ◌≢◌, ℕ, ◌+◌, ◌<◌, ◌==
 use Rattle.std.specs.List.{sum_by}
 use Rattle.tr_seats.specs.Books.{IsPlanned, PlanState}
 use Rattle.tr_seats.specs.Desks.{DeskState, IsOfPlan}
-use Rattle.tr_seats.specs.Slots.{ProducerState, SlotState}
+use Rattle.tr_seats.specs.Slots.{IsOwn, ProducerState, SlotState}
+use Rattle.tr_seats.specs.Sums.{totals_in}
 use Rattle.tr_seats.specs.declared.settling.SettleError.{SettleError}
 use Rattle.tr_seats.specs.declared.settling.SettleError.TheVariants.{ProducerMissing, DrainerMissing, Misplaced}
 use Rattle.tr_seats.specs.declared.totals.Totals.{Totals}
@@ -68,3 +69,9 @@ IsWhy ProducerMissing producers drainers s = ¬ IsOneEach (length s.slots) produ
 IsWhy DrainerMissing producers drainers s = IsOneEach (length s.slots) producers × (drainers ≢ s.desk.drainers)
 IsWhy Misplaced producers drainers s =
     IsOneEach (length s.slots) producers × (drainers ≡ s.desk.drainers) × (¬ AreWhole drainers s.slots)
+
+-- each producer's numbers are those of its stream
+abbrev pub AreTheirs : List ProducerState → List StreamState → Type 0
+AreTheirs producers streams =
+    (k : ℕ) (p : ProducerState) (t : StreamState) → k < length producers
+    → IsOwn (slice_index_or producers k p) (totals_in (slice_index_or streams (slice_index_or producers k p).number t))

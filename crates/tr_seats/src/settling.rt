@@ -4,7 +4,7 @@ ghost use Rattle.std.specs.Prelude.{◌≡◌, ◌+◌, ◌<◌, ◌≤◌, ◌=
 ghost use Rattle.tr_ledger.specs.Ledgers.{SeatState, seat_state};
 ghost use Rattle.tr_seats.specs.Books.{IsPlanned, books_at, consumed_books, cut_books};
 ghost use Rattle.tr_seats.specs.Desks.{DeskState};
-ghost use Rattle.tr_seats.specs.Settling.{AreAllMade, AreInPlace, AreWhole, CanSettle, IsOneEach, IsSessionOf, IsWhy, opened_state, streams_of, totals_of_seats};
+ghost use Rattle.tr_seats.specs.Settling.{AreAllMade, AreInPlace, AreTheirs, AreWhole, CanSettle, IsOneEach, IsSessionOf, IsWhy, opened_state, streams_of, totals_of_seats};
 ghost use Rattle.tr_seats.specs.Slots.{AreJoined, AreSeatsOf, IsOwn, ProducerState, SlotState, amounts_of};
 ghost use Rattle.tr_seats.specs.Sums.{totals_in, totals_of};
 ghost use Rattle.tr_session.specs.Session.{session_of};
@@ -259,6 +259,11 @@ fn join_all<N: Names, A: Allocator>(
         → totals_of (streams_of slots.old) ≡ totals_of_seats producers.old drainers.items desk }
     ensures cut { (k : ℕ) (d : SeatState) (s : SlotState) → k < length slots.old
         → (slice_index_or cuts.old k d).amount ≡ (totals_in (slice_index_or slots.old k s).stream).cuts }
+    ensures there { (k : ℕ) (p : ProducerState) → k < length producers.old
+        → (slice_index_or producers.old k p).number < length N.plan.books }
+    ensures own { (k : ℕ) (p : ProducerState) (s : SlotState) → k < length producers.old
+        → IsOwn (slice_index_or producers.old k p)
+        (totals_in (slice_index_or slots.old (slice_index_or producers.old k p).number s).stream) }
     ensures planned { (k : ℕ) (s : SlotState) → k < length slots.old
         → IsPlanned N.plan k (slice_index_or slots.old k s).stream.config }
 {
@@ -298,6 +303,7 @@ pub(crate) fn settle_all<N: Names, A: Allocator + Copy>(
     ensures planned { IsSessionOf N.plan result.0 }
     ensures totals { result.1 ≡ totals_of (streams_of slots.items) }
     ensures seats { result.1 ≡ totals_of_seats producers.items drainers.items desk }
+    ensures own { AreTheirs producers.items (streams_of slots.items) }
     ensures places { result.1.offered ≡ result.1.discarded + result.1.overwritten
         + sum_by (λ (s : StreamState). in_ring s.ring) (streams_of slots.items) + result.1.consumed }
 {

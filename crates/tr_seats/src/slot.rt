@@ -6,6 +6,7 @@ ghost use Rattle.tr_seats.specs.Slots.{IsOwn, drainer_after, producer_after, slo
 ghost use Rattle.tr_ledger.specs.Ledgers.{seat_state};
 ghost use Rattle.tr_seats.specs.Books.{IsPlanned, IsTooBig, books_at};
 ghost use Rattle.tr_seats.specs.Sums.{totals_in};
+ghost use Rattle.tr_terms.specs.declared.limits.TheConstants.{MOST_OFFERS};
 ghost use Rattle.tr_stream.specs.StateSteps.{state_after_cut, state_after_switch, state_counts, state_cut_answer, state_snap};
 
 use crate::drainer::Drainer;
@@ -67,11 +68,19 @@ impl<N: Names, A: Allocator + Copy> Slot<N, A> {
         ensures serial { IfOk result (λ offered. serial_of offered ≡ producer.old.offered) }
         ensures too_big { result ≡ Err OfferFault.TooBig
             → IsTooBig N.plan producer.old.number (length payload.now) }
+        ensures spent { result ≡ Err OfferFault.Spent → MOST_OFFERS ≤ producer.old.offered }
     {
         if producer.number != self.number {
             return Err(OfferFault::Misplaced);
         }
-        let offered = self.stream.offer(moment, id, payload)?;
+        let offered = match self.stream.offer(moment, id, payload) {
+            Ok(offered) => offered,
+            Err(fault) => {
+                // the producer has offered what the stream was offered, so it knows whether the stream is spent
+                self.audit(producer);
+                return Err(fault);
+            }
+        };
         // a stream is sound, so there is room for what its books are raised by
         let _ = self.stream.config();
         self.offered.raise_by_one(&mut producer.offered);

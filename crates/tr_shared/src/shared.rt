@@ -1,10 +1,11 @@
 //! The session under its locks.
 
 ghost use Rattle.std.specs.Prelude.{◌≡◌, ◌+◌, ◌<◌, ◌≤◌, ◌↔◌, IfErr, IfOk, length, replicate, sum_by, vec_capacity, vec_len};
-ghost use Rattle.tr_seats.specs.Settling.{IsOneEach, IsSessionOf};
+ghost use Rattle.tr_seats.specs.Settling.{AreTheirs, IsOneEach, IsSessionOf};
 ghost use Rattle.tr_seats.specs.Slots.{AreNew, drainer_after, producer_after, serial_of};
 ghost use Rattle.tr_seats.specs.Books.{IsPlanned, IsTooBig};
 ghost use Rattle.tr_seats.specs.Sums.{totals_of};
+ghost use Rattle.tr_terms.specs.declared.limits.TheConstants.{MOST_OFFERS};
 ghost use Rattle.tr_shared.specs.Calls.{AreOffersOf, IsDrainerFault, IsStartFault, IsStopFault, IsTakeOf};
 ghost use Rattle.tr_stream.specs.State.{StreamState, in_ring};
 ghost use Rattle.tr_stream.specs.declared.config.StreamConfig.{StreamConfig};
@@ -92,6 +93,7 @@ impl<N: Names, A: Allocator + Copy> Shared<N, A> {
         ensures serial { IfOk result (λ offered. serial_of offered ≡ producer.old.offered) }
         ensures too_big { result ≡ Err OfferFault.TooBig
             → IsTooBig N.plan producer.old.number (length payload.now) }
+        ensures spent { result ≡ Err OfferFault.Spent → MOST_OFFERS ≤ producer.old.offered }
     {
         let lock = &self.slots[producer.stream()];
         // this is put into the caller, where `lock` stays a call
@@ -248,6 +250,7 @@ impl<N: Names, A: Allocator + Copy> Shared<N, A> {
         ensures planned { IfOk result (λ r. IsSessionOf N.plan r.0) }
         ensures totals { IfOk result (λ r. r.1 ≡ totals_of r.0.streams) }
         ensures seats { IfOk result (λ r. AreOffersOf producers.items drainers.items r.1) }
+        ensures own { IfOk result (λ r. AreTheirs producers.items r.0.streams) }
         ensures places { IfOk result
             (λ r. r.1.offered ≡ r.1.discarded + r.1.overwritten
             + sum_by (λ (s : StreamState). in_ring s.ring) r.0.streams + r.1.consumed) }

@@ -59,3 +59,9 @@ pub audit_cuts-requires-clause-slots : goal.audit_cuts-requires-clause-slots
 audit_cuts-requires-clause-slots g c =
     let after = c.audit_consumed.ensures.same.0 ∙ c.join_drainers.ensures.slots ∙ c.audit_producers.ensures.same.0 in
     subst (AreThere (length g.N.Names.plan.books)) (sym after) (c.requires.slots, c.requires.whole.in_place)
+
+pub returns-clause-own : goal.returns-clause-own
+returns-clause-own g c = c.audit_producers.ensures.own
+
+pub returns-clause-there : goal.returns-clause-there
+returns-clause-there g c = c.audit_producers.ensures.there

@@ -3,12 +3,13 @@ use Rattle.std.proofs.lemmas.Grind.{common_steps}
 use Rattle.std.specs.List.{sum_by}
 use Rattle.std.proofs.lemmas.List.{take_at}
 use Rattle.tr_ledger.specs.Ledgers.{SeatState}
+use Rattle.tr_seats.proofs.AllTotals.{AreWithin, theirs}
 use Rattle.tr_seats.proofs.SettledLaws.{settled-planned, settled-streams}
 use Rattle.tr_seats.proofs.settling.settle_all.Goals as goal
 use Rattle.tr_seats.specs.Books.{IsPlanned, PlanState, consumed_books, cut_books}
 use Rattle.tr_seats.specs.Desks.{DeskState}
 use Rattle.tr_seats.specs.Settling.{IsOneEach, IsSessionOf, streams_of, totals_of_seats}
-use Rattle.tr_seats.specs.Slots.{AreSeatsOf, ProducerState, SlotState, amounts_of}
+use Rattle.tr_seats.specs.Slots.{AreSeatsOf, IsOwn, ProducerState, SlotState, amounts_of}
 use Rattle.tr_seats.specs.Sums.{totals_in, totals_of}
 use Rattle.tr_session.specs.Session.{HasItsStreams, session_of}
 use Rattle.tr_stream.specs.State.{StreamState, in_ring}
@@ -106,3 +107,18 @@ returns-clause-places g c =
 
 pub join_all-requires-clause-whole : goal.join_all-requires-clause-whole
 join_all-requires-clause-whole g c = grind (arith, common_steps)
+
+abbrev AreOwn : List ProducerState × List SlotState → Type 0
+AreOwn x =
+    (k : ℕ) (p : ProducerState) (s : SlotState) → k < length x.0
+    → IsOwn (get_or x.0 k p) (totals_in (get_or x.1 (get_or x.0 k p).number s).stream)
+
+pub returns-clause-own : goal.returns-clause-own
+returns-clause-own g c =
+    let all = c.args.slots.items in
+    let slots : c.as_mut_slice.result.now ≡ all = c.as_mut_slice.ensures.value in
+    let producers : c.as_mut_slice-2.result.now ≡ c.args.producers.items = c.as_mut_slice-2.ensures.value in
+    let n = length g.N.Names.plan.books in
+    let there : AreWithin n c.args.producers.items = subst (AreWithin n) producers c.join_all.ensures.there in
+    let own : AreOwn (c.args.producers.items, all) = subst AreOwn (λ j. (producers j, slots j)) c.join_all.ensures.own in
+    theirs n c.args.producers.items all c.requires.slots there own

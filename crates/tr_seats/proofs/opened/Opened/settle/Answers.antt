@@ -1,11 +1,11 @@
-use Rattle.std.proofs.Common.{◌≡◌, ℕ, ◌+◌, List, ap, length, subst, ◌∙◌, arith}
+use Rattle.std.proofs.Common.{◌≡◌, ℕ, ◌+◌, List, ap, length, subst, sym, ◌∙◌, arith}
 use Rattle.std.proofs.lemmas.Grind.{common_steps}
 use Rattle.std.specs.List.{sum_by}
 use Rattle.tr_seats.proofs.opened.Opened.settle.Goals as goal
-use Rattle.tr_seats.specs.Settling.{IsWhy, OpenedState, opened_state, streams_of, totals_of_seats}
+use Rattle.tr_seats.specs.Settling.{AreTheirs, IsWhy, OpenedState, opened_state, streams_of, totals_of_seats}
 use Rattle.tr_seats.specs.Slots.{ProducerState}
 use Rattle.tr_seats.specs.Sums.{totals_of}
-use Rattle.tr_session.specs.Session.{session_of}
+use Rattle.tr_session.specs.Session.{SessionOf, session_of}
 use Rattle.tr_stream.specs.State.{StreamState, in_ring}
 
 pub returns-in-Some-clause-why : goal.returns-in-Some-clause-why
@@ -40,3 +40,7 @@ settle_all-requires-clause-may g c = grind (arith, common_steps)
 
 pub returns-in-None-clause-may : goal.returns-in-None-clause-may
 returns-in-None-clause-may g c = grind (arith, common_steps)
+
+pub returns-in-None-clause-own : goal.returns-in-None-clause-own
+returns-in-None-clause-own g c =
+    subst (λ (s : SessionOf StreamState). AreTheirs c.args.producers.items s.streams) (sym c.settle_all.ensures.session) c.settle_all.ensures.own

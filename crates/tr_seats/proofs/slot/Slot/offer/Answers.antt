@@ -19,7 +19,7 @@ invariant_of-self-in-Stored g c =
     let answer : Ok (Stored c.in-Stored.serial c.in-Stored.seq)
     ≡ state_offer_answer c.args.moment c.args.id c.args.payload.now old.stream = search rules in
     let more = ap totals_in after ∙ offer-totals c.args.moment c.args.id c.args.payload.now old.stream _ answer in
-    let planned = subst (IsPlanned g.N.Names.plan old.number) (sym c.in_ok-offered.ensures.config) c.self.invariant.2 in (
+    let planned = subst (IsPlanned g.N.Names.plan old.number) (sym c.in-Ok.ensures.config) c.self.invariant.2 in (
       c.self.invariant.0,
       books-stored (books_at g.N.Names.plan.books old.number) old.stream c.offer.new.self old.consumed.made old.offered
           old.discarded old.overwritten old.overwritten_packets old.consumed old.cuts c.self.invariant.1
@@ -37,7 +37,7 @@ invariant_of-self-in-StoredOver g c =
     let answer : Ok (StoredOver arm.serial arm.seq arm.gone_seq arm.gone_count)
     ≡ state_offer_answer c.args.moment c.args.id c.args.payload.now old.stream = search rules in
     let more = ap totals_in after ∙ offer-totals c.args.moment c.args.id c.args.payload.now old.stream _ answer in
-    let planned = subst (IsPlanned g.N.Names.plan old.number) (sym c.in_ok-offered.ensures.config) c.self.invariant.2 in (
+    let planned = subst (IsPlanned g.N.Names.plan old.number) (sym c.in-Ok.ensures.config) c.self.invariant.2 in (
       c.self.invariant.0,
       books-stored_over (books_at g.N.Names.plan.books old.number) old.stream c.offer.new.self old.consumed.made old.offered
           old.discarded old.overwritten old.overwritten_packets old.consumed old.cuts c.self.invariant.1
@@ -67,7 +67,7 @@ invariant_of-self-in-Discarded g c =
     let answer : Ok (Discarded c.in-Discarded.serial)
     ≡ state_offer_answer c.args.moment c.args.id c.args.payload.now old.stream = search rules in
     let more = ap totals_in after ∙ offer-totals c.args.moment c.args.id c.args.payload.now old.stream _ answer in
-    let planned = subst (IsPlanned g.N.Names.plan old.number) (sym c.in_ok-offered.ensures.config) c.self.invariant.2 in (
+    let planned = subst (IsPlanned g.N.Names.plan old.number) (sym c.in-Ok.ensures.config) c.self.invariant.2 in (
       c.self.invariant.0,
       books-discarded (books_at g.N.Names.plan.books old.number) old.stream c.offer.new.self old.consumed.made old.offered
           old.discarded old.overwritten old.overwritten_packets old.consumed old.cuts c.self.invariant.1
@@ -82,7 +82,7 @@ pub returns-in-Stored-clause-value : goal.returns-in-Stored-clause-value
 returns-in-Stored-clause-value g c =
     let old = c.args.self.now in
     let same : c.args.producer.now.number ≡ old.number = search rules in
-    let answer : Ok c.in_ok-offered.offered ≡ state_offer_answer c.args.moment c.args.id c.args.payload.now old.stream = search rules in
+    let answer : Ok c.in-Ok.offered ≡ state_offer_answer c.args.moment c.args.id c.args.payload.now old.stream = search rules in
     let after : c.offer.new.self ≡ state_after_offer c.args.moment c.args.id c.args.payload.now old.stream = search rules in
     let now : slot_state c.self.inside.number c.offer.new.self c.self.inside.consumed.made
     ≡ record old { stream = state_after_offer c.args.moment c.args.id c.args.payload.now old.stream } =
@@ -105,7 +105,7 @@ pub returns-in-Discarded-clause-value : goal.returns-in-Discarded-clause-value
 returns-in-Discarded-clause-value g c =
     let old = c.args.self.now in
     let same : c.args.producer.now.number ≡ old.number = search rules in
-    let answer : Ok c.in_ok-offered.offered ≡ state_offer_answer c.args.moment c.args.id c.args.payload.now old.stream = search rules in
+    let answer : Ok c.in-Ok.offered ≡ state_offer_answer c.args.moment c.args.id c.args.payload.now old.stream = search rules in
     let after : c.offer.new.self ≡ state_after_offer c.args.moment c.args.id c.args.payload.now old.stream = search rules in
     let now : slot_state c.self.inside.number c.offer.new.self c.self.inside.consumed.made
     ≡ record old { stream = state_after_offer c.args.moment c.args.id c.args.payload.now old.stream } =
@@ -115,7 +115,7 @@ returns-in-Discarded-clause-value g c =
 pub returns-in-Stored-clause-serial : goal.returns-in-Stored-clause-serial
 returns-in-Stored-clause-serial g c =
     let old = c.self.inside in
-    let answer : Ok c.in_ok-offered.offered ≡ state_offer_answer c.args.moment c.args.id c.args.payload.now old.stream = search rules in
+    let answer : Ok c.in-Ok.offered ≡ state_offer_answer c.args.moment c.args.id c.args.payload.now old.stream = search rules in
     let same : old.number ≡ c.producer.inside.number = search rules in
     let books = books_at g.N.Names.plan.books old.number in
     let seat : c.producer.inside.offered ≡ seat_state books.offered c.producer.inside.offered.amount 1 =
@@ -130,7 +130,7 @@ returns-in-Stored-clause-serial g c =
 pub returns-in-Discarded-clause-serial : goal.returns-in-Discarded-clause-serial
 returns-in-Discarded-clause-serial g c =
     let old = c.self.inside in
-    let answer : Ok c.in_ok-offered.offered ≡ state_offer_answer c.args.moment c.args.id c.args.payload.now old.stream = search rules in
+    let answer : Ok c.in-Ok.offered ≡ state_offer_answer c.args.moment c.args.id c.args.payload.now old.stream = search rules in
     let same : old.number ≡ c.producer.inside.number = search rules in
     let books = books_at g.N.Names.plan.books old.number in
     let seat : c.producer.inside.offered ≡ seat_state books.offered c.producer.inside.offered.amount 1 =
@@ -142,5 +142,5 @@ returns-in-Discarded-clause-serial g c =
     offer-serial c.args.moment c.args.id c.args.payload.now old.stream _ answer ∙ sym whole
     ∙ ap (λ (p : ProducerState). p.offered) c.producer.view_is
 
-pub returns-in_err-offered-clause-value : goal.returns-in_err-offered-clause-value
-returns-in_err-offered-clause-value g c = grind (arith, common_steps)
+pub returns-in-Err-clause-value : goal.returns-in-Err-clause-value
+returns-in-Err-clause-value g c = grind (arith, common_steps)
