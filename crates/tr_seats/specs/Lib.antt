@@ -2,6 +2,7 @@ pub mod Books
 pub mod Cuts
 pub mod Desks
 pub mod Drainers
+pub mod Faults
 pub mod Plans
 pub mod Seats
 pub mod Settling

@@ -4,6 +4,7 @@ ghost use Rattle.std.specs.Prelude.{◌≡◌, ◌+◌, ◌<◌, ◌≤◌, ◌=
 ghost use Rattle.tr_ledger.specs.Ledgers.{SeatState, seat_state};
 ghost use Rattle.tr_seats.specs.Books.{IsPlanned, books_at, consumed_books, cut_books};
 ghost use Rattle.tr_seats.specs.Desks.{DeskState};
+ghost use Rattle.tr_seats.specs.Faults.{settle_error_code, settle_error_name};
 ghost use Rattle.tr_seats.specs.Settling.{AreAllMade, AreInPlace, AreTheirs, AreWhole, CanSettle, IsOneEach, IsSessionOf, IsWhy, opened_state, streams_of, totals_of_seats};
 ghost use Rattle.tr_seats.specs.Slots.{AreJoined, AreSeatsOf, IsOwn, ProducerState, SlotState, amounts_of};
 ghost use Rattle.tr_seats.specs.Sums.{totals_in, totals_of};
@@ -35,6 +36,30 @@ pub enum SettleError {
     /// A stream isn't where its number says, or gave a seat to another number of drainers than there are.
     #[error("E3 Misplaced")]
     Misplaced,
+}
+
+impl SettleError {
+    /// The code that answers and documents call it by.
+    pub fn code(&self) -> &'static str
+        ensures { result.now ≡ settle_error_code self.now }
+    {
+        match self {
+            SettleError::ProducerMissing => "E1",
+            SettleError::DrainerMissing => "E2",
+            SettleError::Misplaced => "E3",
+        }
+    }
+
+    /// Its name, as answers print it.
+    pub fn name(&self) -> &'static str
+        ensures { result.now ≡ settle_error_name self.now }
+    {
+        match self {
+            SettleError::ProducerMissing => "ProducerMissing",
+            SettleError::DrainerMissing => "DrainerMissing",
+            SettleError::Misplaced => "Misplaced",
+        }
+    }
 }
 
 /// How many of the producers are of this stream.
