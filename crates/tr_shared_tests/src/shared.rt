@@ -8,7 +8,7 @@ mod rotating;
 mod snapshots;
 mod threads;
 
-use crate::plans::{PAYLOAD, assert_same, granted, last, plan_of, push};
+use crate::plans::{PAYLOAD, assert_same, granted, last, plan_of, plan_with, push};
 use std::alloc::Global;
 use std::marker::Brand;
 use std::process::Abort;
@@ -20,7 +20,7 @@ use tr_shared::{
     Totals,
 };
 use tr_stream::{OfferFault, Offered, TakeFault, Taken};
-use tr_terms::Mode;
+use tr_terms::{Mode, SessionMode};
 use tr_testing::moment;
 
 /// The session that was planned, and its producers.
@@ -115,7 +115,8 @@ fn starts<N: Names>(rt: &(impl Abort + Wait), plan: Plan)
     let too_big = Err(OfferFault::TooBig);
     assert_offered(rt, &shared, &mut second, 3, 153, too_big);
     assert_stopped(rt, &shared, Ok(()));
-    assert_offered(rt, &shared, &mut second, 4, 3, inactive);
+    // one that is too long is refused for this first
+    assert_offered(rt, &shared, &mut second, 4, 153, inactive);
     assert_same(rt, second.offered(), 1);
     drop(drainer);
     drop(second);
@@ -233,4 +234,31 @@ fn assert_records(rt: &impl Abort, settled: &Settled) {
 fn a_session_that_was_not_settled_goes_on(rt: HostRuntime) {
     let plan = plan_of(&rt, rt.alloc(), Mode::Discard, 2);
     settles::<Brand>(&rt, rt.alloc(), plan);
+}
+
+/// An offer of the longest payload that a sub-buffer may have, with the least id, is read again whole after settling.
+fn keeps_the_longest<N: Names>(rt: &(impl Abort + Wait), alloc: Global, plan: Plan)
+    requires { plan ≡ N.plan }
+{
+    let (shared, mut producers) = built::<N>(rt, plan);
+    assert_started(rt, &shared, 4, Ok(()));
+    let mut longest = vec![in alloc; 0x62; 65_431].expect(rt, "memory");
+    push(rt, &mut longest, 0x63);
+    let mut producer = last(rt, &mut producers);
+    let answer = shared.offer(rt, &mut producer, moment(5), 0, &longest);
+    assert_same(rt, answer, stored(0, 0));
+    push(rt, &mut producers, producer);
+    let (settled, _) = settled(rt, shared, producers, Vec::new(alloc));
+    let stream = settled.session().stream(0).expect(rt, "a stream");
+    let record = stream.ring_at(0).expect(rt, "a record");
+    assert_same(rt, (record.id(), record.moment().get()), (0, 5));
+    assert_same(rt, record.payload() == longest.as_slice(), true);
+    drop(settled);
+}
+
+#[test]
+fn the_longest_payload_is_kept_whole(rt: HostRuntime) {
+    let (local, discard) = (SessionMode::Local, Mode::Discard);
+    let plan = plan_with(&rt, rt.alloc(), local, discard, 65_536, 1).expect(&rt, "a plan");
+    keeps_the_longest::<Brand>(&rt, rt.alloc(), plan);
 }

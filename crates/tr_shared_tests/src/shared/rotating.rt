@@ -183,6 +183,34 @@ fn a_stopped_session_rotates_once(rt: HostRuntime) {
     rotates_whole::<Brand>(&rt, plan_of(&rt, rt.alloc(), Mode::Discard, 1));
 }
 
+/// A start and a stop that are refused for a pending rotation switch no stream. The first archive begins at the first start.
+fn refuses_to_switch<N: Names>(rt: &(impl Abort + Wait), plan: Plan)
+    requires { plan ≡ N.plan }
+{
+    let (shared, mut producers) = built::<N>(rt, plan);
+    let mut producer = last(rt, &mut producers);
+    let pending = Err(SessionFault::RotationPending);
+    assert_started(rt, &shared, 4, Ok(()));
+    assert_begun(rt, &shared, 5, Ok(0));
+    assert_stopped(rt, &shared, pending);
+    assert_offered(rt, &shared, &mut producer, 6, 1, stored(0, 0));
+    assert_next(rt, &shared, cut(0, 1));
+    assert_finished(rt, &shared, Ok(archive(0, 4, 5)));
+    assert_stopped(rt, &shared, Ok(()));
+    assert_begun(rt, &shared, 7, Ok(1));
+    assert_started(rt, &shared, 8, pending);
+    let inactive = Err(OfferFault::Inactive);
+    assert_offered(rt, &shared, &mut producer, 9, 1, inactive);
+    drop(producer);
+    drop(producers);
+    drop(shared);
+}
+
+#[test]
+fn a_refused_start_and_a_refused_stop_switch_no_stream(rt: HostRuntime) {
+    refuses_to_switch::<Brand>(&rt, plan_of(&rt, rt.alloc(), Mode::Discard, 1));
+}
+
 /// Asserts what a tick at this moment did.
 pub(super) fn assert_ticked<N: Names>(
     rt: &(impl Abort + Wait),

@@ -21,10 +21,18 @@ use tr_terms::{Mode, Moment, SessionMode};
 use tr_testing::moment;
 use uuid::Uuid;
 
-/// A plan of three streams with two sub-buffers of 256 bytes each, of a snapshot session: a packet's records have 176 bytes,
-/// each its payload's and 24 more.
-fn snapshot_plan(rt: &impl Abort, alloc: Global) -> Plan {
-    plan_with(rt, alloc, SessionMode::Snapshot, Mode::Overwrite, 256, 3).expect(rt, "a plan")
+/// A plan of this many streams with two sub-buffers of 256 bytes each, of a snapshot session: a packet's records have 176
+/// bytes, each its payload's and 24 more.
+fn snapshot_plan(rt: &impl Abort, alloc: Global, threads: u64) -> Plan {
+    let plan = plan_with(
+        rt,
+        alloc,
+        SessionMode::Snapshot,
+        Mode::Overwrite,
+        256,
+        threads,
+    );
+    plan.expect(rt, "a plan")
 }
 
 /// A record of a stream: its serial, its moment, its id and its payload.
@@ -92,9 +100,9 @@ fn assert_stream(
 
 /// A snapshot: the number of the stream whose producer is lent, if one is, when it is asked for, the moment that it stores, and
 /// the moments at which the open packets of the streams end.
-type Look = (Option<usize>, u64, u64, [u64; 3]);
+type Look = (Option<usize>, u64, u64, &'static [u64]);
 
-/// Three streams, and the snapshots of them.
+/// What is shown of the streams, and the snapshots of them.
 struct Stage {
     streams: &'static [StreamShown],
     looks: &'static [Look],
@@ -104,17 +112,21 @@ struct Stage {
 fn assert_shown(
     rt: &impl Abort,
     snapshot: Result<Snapshot, SessionFault>,
-    (stored, ends): (u64, [u64; 3]),
+    (stored, ends): (u64, &[u64]),
     want: &[StreamShown],
 ) {
     let snapshot = snapshot.expect(rt, "a snapshot");
     assert_same(rt, snapshot.moment().get(), stored);
-    let ([first, second, third], [one, two, three]) = (snapshot.streams(), want) else {
-        panic!(rt; "three streams")
-    };
-    assert_stream(rt, first, (0, ends[0]), one);
-    assert_stream(rt, second, (1, ends[1]), two);
-    assert_stream(rt, third, (2, ends[2]), three);
+    assert_same(rt, snapshot.streams().len(), want.len());
+    let mut shown = snapshot.streams().iter();
+    let mut ends = ends.iter();
+    let mut number: u64 = 0;
+    'streams: for stream in want {
+        let snap = shown.next().expect(rt, "a stream");
+        let end = ends.next().expect(rt, "an end");
+        assert_stream(rt, snap, (number, *end), stream);
+        number = number.wrapping_add(1);
+    }
 }
 
 /// A snapshot, with the producer of the stream of this number if there is one.
@@ -143,7 +155,7 @@ fn assert_stage<N: Names>(
 ) {
     for (beside, asked, stored, ends) in stage.looks {
         let snapshot = snapshot_beside(rt, shared, producers, *beside, moment(*asked));
-        assert_shown(rt, snapshot, (*stored, *ends), stage.streams);
+        assert_shown(rt, snapshot, (*stored, ends), stage.streams);
     }
 }
 
@@ -242,13 +254,13 @@ static AFTER_OFFERS: Stage = Stage {
         },
     ],
     looks: &[
-        (None, 10, 10, [20, 40, 0]),
-        (Some(1), 10, 10, [20, 40, 0]),
-        (Some(0), 25, 25, [25, 40, 0]),
-        (None, 3, 25, [25, 40, 0]),
-        (None, 50, 50, [50, 50, 0]),
-        (Some(1), 3, 50, [50, 50, 0]),
-        (Some(2), 3, 50, [50, 50, 0]),
+        (None, 10, 10, &[20, 40, 0]),
+        (Some(1), 10, 10, &[20, 40, 0]),
+        (Some(0), 25, 25, &[25, 40, 0]),
+        (None, 3, 25, &[25, 40, 0]),
+        (None, 50, 50, &[50, 50, 0]),
+        (Some(1), 3, 50, &[50, 50, 0]),
+        (Some(2), 3, 50, &[50, 50, 0]),
     ],
 };
 
@@ -308,12 +320,12 @@ static AFTER_LATER_OFFERS: Stage = Stage {
         },
     ],
     looks: &[
-        (Some(0), 3, 50, [50, 50, 90]),
-        (None, 3, 50, [50, 50, 90]),
-        (Some(1), 70, 70, [70, 70, 90]),
-        (Some(2), 60, 70, [70, 70, 90]),
-        (None, 100, 100, [100, 100, 100]),
-        (Some(0), 0, 100, [100, 100, 100]),
+        (Some(0), 3, 50, &[50, 50, 90]),
+        (None, 3, 50, &[50, 50, 90]),
+        (Some(1), 70, 70, &[70, 70, 90]),
+        (Some(2), 60, 70, &[70, 70, 90]),
+        (None, 100, 100, &[100, 100, 100]),
+        (Some(0), 0, 100, &[100, 100, 100]),
     ],
 };
 
@@ -343,7 +355,106 @@ fn assert_refused(rt: &impl Abort, snapshot: Result<Snapshot, SessionFault>, wan
 
 #[test]
 fn a_snapshot_shows_what_the_rings_hold(rt: HostRuntime) {
-    shows::<Brand>(&rt, snapshot_plan(&rt, rt.alloc()));
+    shows::<Brand>(&rt, snapshot_plan(&rt, rt.alloc(), 3));
+}
+
+/// The offers of the worked example: two records fill a sub-buffer, and the fifth overwrites the first two.
+static SIX_OFFERS: [Offer; 6] = [
+    (0, 1, 7, &[0x61; 64], Offered::Stored { serial: 0, seq: 0 }),
+    (0, 2, 7, &[0x61; 64], Offered::Stored { serial: 1, seq: 0 }),
+    (0, 3, 7, &[0x61; 64], Offered::Stored { serial: 2, seq: 1 }),
+    (0, 4, 7, &[0x61; 64], Offered::Stored { serial: 3, seq: 1 }),
+    (
+        0,
+        5,
+        7,
+        &[0x61; 64],
+        Offered::StoredOver {
+            serial: 4,
+            seq: 2,
+            gone_seq: 0,
+            gone_count: 2,
+        },
+    ),
+    (0, 6, 7, &[0x61; 64], Offered::Stored { serial: 5, seq: 2 }),
+];
+
+static AFTER_SIX_OFFERS: [StreamShown; 1] = [StreamShown {
+    offered: 6,
+    packets: &[
+        PacketShown {
+            seq: 1,
+            begin: 3,
+            end: Some(5),
+            records: &[(2, 3, 7, &[0x61; 64]), (3, 4, 7, &[0x61; 64])],
+        },
+        PacketShown {
+            seq: 2,
+            begin: 5,
+            end: None,
+            records: &[(4, 5, 7, &[0x61; 64]), (5, 6, 7, &[0x61; 64])],
+        },
+    ],
+}];
+
+static SEVENTH_OFFER: [Offer; 1] = [(
+    0,
+    11,
+    7,
+    &[0x61; 64],
+    Offered::StoredOver {
+        serial: 6,
+        seq: 3,
+        gone_seq: 1,
+        gone_count: 2,
+    },
+)];
+
+static AFTER_SEVEN_OFFERS: [StreamShown; 1] = [StreamShown {
+    offered: 7,
+    packets: &[
+        PacketShown {
+            seq: 2,
+            begin: 5,
+            end: Some(11),
+            records: &[(4, 5, 7, &[0x61; 64]), (5, 6, 7, &[0x61; 64])],
+        },
+        PacketShown {
+            seq: 3,
+            begin: 11,
+            end: None,
+            records: &[(6, 11, 7, &[0x61; 64])],
+        },
+    ],
+}];
+
+/// The worked example of one stream, with its producer or without: two snapshots at 10 show the same, and the one at 12 shows
+/// what the seventh offer left.
+fn shows_example<N: Names>(rt: &(impl Abort + Wait), plan: Plan, beside: Option<usize>)
+    requires { plan ≡ N.plan }
+{
+    let (shared, mut producers) = built::<N>(rt, plan);
+    assert_started(rt, &shared, 0, Ok(()));
+    assert_offers(rt, &shared, &mut producers, &SIX_OFFERS);
+    for _ in 0..2 {
+        let snapshot = snapshot_beside(rt, &shared, &mut producers, beside, moment(10));
+        assert_shown(rt, snapshot, (10, &[10]), &AFTER_SIX_OFFERS);
+    }
+    assert_offers(rt, &shared, &mut producers, &SEVENTH_OFFER);
+    let snapshot = snapshot_beside(rt, &shared, &mut producers, beside, moment(12));
+    assert_shown(rt, snapshot, (12, &[12]), &AFTER_SEVEN_OFFERS);
+    drop(producers);
+    drop(shared);
+}
+
+#[test]
+fn a_snapshot_shows_the_example(rt: HostRuntime) {
+    shows_example::<Brand>(&rt, snapshot_plan(&rt, rt.alloc(), 1), None);
+}
+
+#[test]
+fn a_snapshot_with_its_producer_shows_the_example(rt: HostRuntime) {
+    shows_example::<Brand>(&rt, snapshot_plan(&rt, rt.alloc(), 1), Some(0));
 }
 
 /// What a snapshot session refuses.
@@ -362,10 +473,11 @@ fn refuses<N: Names>(rt: &(impl Abort + Wait), plan: Plan)
 
 #[test]
 fn a_snapshot_session_is_not_rotated(rt: HostRuntime) {
-    refuses::<Brand>(&rt, snapshot_plan(&rt, rt.alloc()));
+    refuses::<Brand>(&rt, snapshot_plan(&rt, rt.alloc(), 3));
 }
 
-/// A local session has no snapshots; and offers to another stream go on while one is held.
+/// A local session has no snapshots; and while a stream is held, offers to another one go on, and calls at the desk are
+/// answered.
 fn holds<N: Names>(rt: &(impl Abort + Wait), plan: Plan)
     requires { plan ≡ N.plan }
 {
@@ -380,13 +492,19 @@ fn holds<N: Names>(rt: &(impl Abort + Wait), plan: Plan)
     shared.hold_stream(rt, 0, || {
         assert_offered(rt, &shared, &mut second, 1, 64, stored(0, 0))
     });
-    assert_same(rt, shared.hold_stream(rt, 0, || 7_u64), 7);
+    let answers = shared.hold_stream(rt, 0, || {
+        let set = shared.set_schedule(rt, None);
+        let begun = shared.rotate_begin(rt, moment(2));
+        (set, begun, shared.rotate_finish(rt))
+    });
+    let missing = Err(SessionFault::CutMissing);
+    assert_same(rt, answers, (Ok(()), Ok(0), missing));
     drop(second);
     drop(producers);
     drop(shared);
 }
 
 #[test]
-fn a_held_stream_stops_no_other(rt: HostRuntime) {
+fn a_held_stream_stops_no_other_and_no_call_at_the_desk(rt: HostRuntime) {
     holds::<Brand>(&rt, plan_of(&rt, rt.alloc(), Mode::Discard, 2));
 }

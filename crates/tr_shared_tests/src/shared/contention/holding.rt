@@ -13,7 +13,7 @@ use std::sync::atomic::{AtomicU64, Ordering};
 use std::test::*;
 use std::thread;
 use std::thread::Threads;
-use tr_session_book::Archive;
+use tr_session_book::{Archive, SessionFault};
 use tr_shared::{Drainer, Names, Plan, Producer, Shared};
 use tr_terms::Mode;
 use tr_testing::moment;
@@ -42,6 +42,8 @@ struct Hold {
     taken: AtomicU64,
     /// The rotation was answered.
     rotated: AtomicU64,
+    /// A start or a stop was answered.
+    switched: AtomicU64,
 }
 
 impl Hold {
@@ -54,6 +56,7 @@ impl Hold {
             beside: AtomicU64::new(0),
             taken: AtomicU64::new(0),
             rotated: AtomicU64::new(0),
+            switched: AtomicU64::new(0),
         }
     }
 }
@@ -220,4 +223,79 @@ fn holds<N: Names + Send + Sync, R: Threads + Wait + Abort + Sync>(
 fn a_held_stream_stops_a_rotation_and_no_other_stream(rt: HostRuntime) {
     let plan = plan_of(&rt, rt.alloc(), Mode::Discard, 4);
     holds::<Brand, HostRuntime>(&rt, rt.alloc(), plan);
+}
+
+/// How many turns a start or a stop is left to be answered while its last stream is held.
+const SWITCH_TURNS: u64 = 10_000;
+
+/// What is done while the last stream is held: of two starts or two stops, one waits for that stream and the other for the
+/// desk, so neither is answered.
+fn wait_unanswered(rt: &impl Abort, hold: &Hold) {
+    raise(&hold.held);
+    assert!(rt;
+        reached(&hold.begun, 2, TURNS),
+        "no calls that switch the held stream are begun"
+    );
+    let answered = reached(&hold.switched, 1, SWITCH_TURNS);
+    assert!(rt; !answered, "a start or a stop lets another one in between");
+}
+
+/// Starts or stops while the last stream is held.
+fn switch_held<N: Names>(
+    rt: &(impl Abort + Wait),
+    shared: &Shared<N>,
+    hold: &Hold,
+    active: bool,
+) -> Result<(), SessionFault> {
+    begin_waiting(rt, hold);
+    let answer = if active {
+        shared.start(rt, moment(1))
+    } else {
+        shared.stop(rt)
+    };
+    raise(&hold.switched);
+    answer
+}
+
+/// A thread holds the second stream, and two others start the session, or stop it, meanwhile: one of them is refused as the
+/// book refuses it after the other one.
+fn switch_twice<N: Names + Send + Sync, R: Threads + Wait + Abort + Sync>(
+    rt: &R,
+    alloc: Global,
+    shared: &Shared<N>,
+    active: bool,
+    refused: SessionFault,
+) {
+    let hold = Hold::new();
+    let jobs = vec![in alloc; active; 2].expect(rt, "memory");
+    assert!(rt; 1 < shared.streams());
+    let (_, answers) = thread::join(
+        rt,
+        || shared.hold_stream(rt, 1, || wait_unanswered(rt, &hold)),
+        || thread::map_vec(rt, jobs, &|active| switch_held(rt, shared, &hold, active)),
+    );
+    let answers = answers.expect(rt, "memory");
+    assert_same(rt, answers.contains(&Ok(())), true);
+    assert_same(rt, answers.contains(&Err(refused)), true);
+}
+
+/// A start holds the desk until all streams are switched, and so does a stop.
+fn switches<N: Names + Send + Sync, R: Threads + Wait + Abort + Sync>(
+    rt: &R,
+    alloc: Global,
+    plan: Plan,
+)
+    requires { plan ≡ N.plan }
+{
+    let (shared, producers) = built::<N>(rt, plan);
+    switch_twice(rt, alloc, &shared, true, SessionFault::AlreadyActive);
+    switch_twice(rt, alloc, &shared, false, SessionFault::NotActive);
+    drop(producers);
+    drop(shared);
+}
+
+#[test]
+fn a_start_and_a_stop_let_no_other_in_between(rt: HostRuntime) {
+    let plan = plan_of(&rt, rt.alloc(), Mode::Discard, 2);
+    switches::<Brand, HostRuntime>(&rt, rt.alloc(), plan);
 }

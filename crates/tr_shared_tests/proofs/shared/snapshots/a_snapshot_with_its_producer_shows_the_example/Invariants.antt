@@ -1,0 +1,5 @@
+use Rattle.tr_shared_tests.proofs.shared.snapshots.a_snapshot_with_its_producer_shows_the_example.Given as goal
+
+-- the plan that is given names itself
+abbrev pub ghosts-shows_example : goal.ghosts-shows_example
+ghosts-shows_example g a = record { plan = a.plan }
