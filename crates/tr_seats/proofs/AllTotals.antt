@@ -3,12 +3,12 @@ use Rattle.std.proofs.Common.{◌≡◌, ℕ, ◌+◌, ◌<◌, length, map, get
 use Rattle.std.specs.Prelude.{sum}
 use Rattle.std.specs.List.{sum_by}
 use Rattle.std.proofs.lemmas.List.{length-map, get_or-map}
-use Rattle.tr_ledger.specs.Ledgers.{SeatState}
+use Rattle.tr_ledger.specs.Ledgers.{SeatState, seat_state}
 use Rattle.tr_seats.proofs.Joins.{tables-length}
 use Rattle.tr_seats.proofs.Permuted.{one-each, sum_by-beside, sum_by-index, sum_by-same}
-use Rattle.tr_seats.specs.Books.{Books, consumed_books, cut_books}
+use Rattle.tr_seats.specs.Books.{Books, consumed_books, cut_books, no_table}
 use Rattle.tr_seats.specs.Desks.{DeskState}
-use Rattle.tr_seats.specs.Settling.{AreAllMade, AreTheirs, IsOneEach, streams_of, totals_of_seats}
+use Rattle.tr_seats.specs.Settling.{AreAllMade, AreTheirs, HaveConsumed, IsOneEach, streams_of, taken_of, totals_of_seats}
 use Rattle.tr_seats.specs.Slots.{AreJoined, AreSeatsOf, IsOwn, ProducerState, SlotState, amounts_of, slot_state}
 use Rattle.tr_seats.specs.Sums.{totals_in, totals_of}
 use Rattle.tr_seats.specs.declared.totals.Totals.{Totals}
@@ -78,6 +78,28 @@ module _ (books : List Books) (slots : List SlotState) (len : length slots ≡ l
       let wide = tables-length (cut_books books) cuts row.0 in
       whole k d s lt (row.1 k d (omega (arith, lt, len, wide, length-map books (λ (b : Books). b.cuts))))
 
+  -- a row that was joined with the drainers' has what the streams consumed
+  row-whole : (drainers : List (List ℕ)) (joined : List SeatState) → AreJoined (length drainers + 1) (consumed_books books) joined
+      → AreAllMade (length drainers) slots
+      → ((k : ℕ) (d : SeatState) (s : SlotState) → k < length slots → (get_or joined k d).mark ≡ (get_or slots k s).made + 1
+      → (get_or joined k d).amount ≡ (totals_in (get_or slots k s).stream).consumed)
+      → AreWholeOf (λ (t : Totals). t.consumed) slots joined
+  row-whole drainers joined row made whole k d s lt =
+      let wide = tables-length (consumed_books books) joined row.0 ∙ length-map books (λ (b : Books). b.consumed) in
+      whole k d s lt (row.1 k d (omega (arith, lt, wide, len)) ∙ ap (λ n. n + 1) (sym (made k s lt)))
+
+  -- so what the streams consumed is what the row had, and what the drainers took
+  pub row-taken : (drainers : List (List ℕ)) (mine joined : List SeatState)
+      → AreJoined (length drainers + 1) (consumed_books books) joined
+      → ((k : ℕ) (d : SeatState) → k < length books → (get_or joined k d).amount ≡ (get_or mine k d).amount + taken_of drainers k)
+      → AreAllMade (length drainers) slots
+      → ((k : ℕ) (d : SeatState) (s : SlotState) → k < length slots → (get_or joined k d).mark ≡ (get_or slots k s).made + 1
+      → (get_or joined k d).amount ≡ (totals_in (get_or slots k s).stream).consumed)
+      → (k : ℕ) (d : SeatState) (s : SlotState) → k < length slots
+      → (totals_in (get_or slots k s).stream).consumed ≡ (get_or mine k d).amount + taken_of drainers k
+  row-taken drainers mine joined row each made whole k d s lt =
+      sym (row-whole drainers joined row made whole k d s lt) ∙ each k d (omega (arith, lt, len))
+
   pub all-add_up : (producers : List ProducerState) (drainers : List (List ℕ)) (mine joined cuts : List SeatState)
       → IsOneEach (length slots) producers → AreWithin (length books) producers
       → ((k : ℕ) (p : ProducerState) (s : SlotState) → k < length producers
@@ -97,8 +119,7 @@ module _ (books : List Books) (slots : List SlotState) (len : length slots ≡ l
       let joined_length : length joined ≡ length slots = row_length ∙ length-map books (λ (b : Books). b.consumed) ∙ sym len in
       let cuts_length : length cuts ≡ length slots =
       tables-length (cut_books books) cuts cut_row.0 ∙ length-map books (λ (b : Books). b.cuts) ∙ sym len in
-      let joined_whole : AreWholeOf (λ (t : Totals). t.consumed) slots joined =
-      λ k d s lt. whole k d s lt (row.1 k d (omega (arith, lt, joined_length)) ∙ ap (λ n. n + 1) (sym (made k s lt))) in
+      let joined_whole = row-whole drainers joined row made whole in
       let offered = of-producers (λ (p : ProducerState). p.offered) (λ (t : Totals). t.offered) slots producers once within
       (λ k p s lt. (own k p s lt).0) in
       let discarded = of-producers (λ (p : ProducerState). p.discarded) (λ (t : Totals). t.discarded) slots producers once within
@@ -129,3 +150,16 @@ theirs n producers slots len there own k p t lt =
     let q = get_or producers k p in
     let at = get_or-map (λ (x : SlotState). x.stream) slots q.number s t (omega (arith, there k p lt, len)) in
     subst (λ (x : StreamState). IsOwn q (totals_in x)) (sym at) (own k p s lt)
+
+-- what a row and the drainers have is what was consumed of each stream, out of its slot
+pub have-consumed : (mine : List SeatState) (drainers : List (List ℕ)) (slots : List SlotState) → length mine ≡ length slots
+    → ((k : ℕ) (d : SeatState) (s : SlotState) → k < length slots
+    → (totals_in (get_or slots k s).stream).consumed ≡ (get_or mine k d).amount + taken_of drainers k)
+    → HaveConsumed (amounts_of mine) drainers (streams_of slots)
+have-consumed mine drainers slots long row k t lt =
+    let s = slot_state 0 t 0 in
+    let d = seat_state no_table 0 1 in
+    let there : k < length slots = omega (arith, lt, length-map slots (λ (x : SlotState). x.stream)) in
+    let at = get_or-map (λ (x : SlotState). x.stream) slots k s t there in
+    let has = get_or-map (λ (x : SeatState). x.amount) mine k d 0 (omega (arith, there, long)) in
+    ap (λ (x : StreamState). (totals_in x).consumed) at ∙ row k d s there ∙ ap (λ n. n + taken_of drainers k) (sym has)

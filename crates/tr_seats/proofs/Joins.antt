@@ -9,21 +9,21 @@ use Rattle.atomic_table.specs.Seated.{TableId}
 use Rattle.tr_ledger.specs.Ledgers.{SeatState}
 use Rattle.tr_seats.specs.Slots.{amounts_of}
 
--- a mark that rises by one once i is past its place k
-abbrev pub raised_until : (mark i k : ℕ) → ℕ
-raised_until mark i k = mark + (if nat_lt k i then 1 else 0)
+-- a number that rises by another once i is past its place k
+abbrev pub raised_until : (n more i k : ℕ) → ℕ
+raised_until n more i k = n + (if nat_lt k i then more else 0)
 
-pub raised-before : (mark i k : ℕ) → k < i → raised_until mark i k ≡ mark + 1
-raised-before mark i k lt = grind (arith, nat_tests)
+pub raised-before : (n more i k : ℕ) → k < i → raised_until n more i k ≡ n + more
+raised-before n more i k lt = grind (arith, nat_tests)
 
-pub raised-from : (mark i k : ℕ) → i ≤ k → raised_until mark i k ≡ mark
-raised-from mark i k le = grind (arith, nat_tests)
+pub raised-from : (n more i k : ℕ) → i ≤ k → raised_until n more i k ≡ n
+raised-from n more i k le = grind (arith, nat_tests)
 
-raised-apart : (mark i k : ℕ) → k ≢ i → raised_until mark i k ≡ raised_until mark (i + 1) k
-raised-apart mark i k ne =
+raised-apart : (n more i k : ℕ) → k ≢ i → raised_until n more i k ≡ raised_until n more (i + 1) k
+raised-apart n more i k ne =
     ⊎_elim
-    (λ (t : (leb i k ≡ true) × (i ≤ k)). raised-from mark i k t.1 ∙ sym (raised-from mark (i + 1) k (omega (arith, t.1, ne))))
-    (λ (t : (leb i k ≡ false) × (k < i)). raised-before mark i k t.1 ∙ sym (raised-before mark (i + 1) k (omega (arith, t.1))))
+    (λ (t : (leb i k ≡ true) × (i ≤ k)). raised-from n more i k t.1 ∙ sym (raised-from n more (i + 1) k (omega (arith, t.1, ne))))
+    (λ (t : (leb i k ≡ false) × (k < i)). raised-before n more i k t.1 ∙ sym (raised-before n more (i + 1) k (omega (arith, t.1))))
     (leb_tells i k)
 
 -- what is read may be put back
@@ -38,31 +38,29 @@ read-same {X = X} xs ys i d e same lt = ap (λ (l : List X). get_or l i d) same 
 pub tables-length : (tables : List TableId) (seats : List SeatState) → map (λ (s : SeatState). s.table) seats ≡ tables → length seats ≡ length tables
 tables-length tables seats row = sym (length-map seats (λ (s : SeatState). s.table)) ∙ ap length row
 
-abbrev mark_in : SeatState → ℕ
-mark_in s = s.mark
-
 abbrev amount_in : SeatState → ℕ
 amount_in s = s.amount
 
 module _ (old now : List SeatState) (n i : ℕ) (new : SeatState) (long : i < length now) where
-  -- the marks before the place of the next seat have risen
-  pub marks-joined : i < n → ((k : ℕ) (d : SeatState) → k < n → (get_or now k d).mark ≡ raised_until (get_or old k d).mark i k)
-      → new.mark ≡ (get_or now i new).mark + 1
-      → (k : ℕ) (d : SeatState) → k < n → (get_or (set now i new) k d).mark ≡ raised_until (get_or old k d).mark (i + 1) k
-  marks-joined below marks more k d lt =
+  -- the marks, or the amounts, before the place of the next seat have risen
+  pub parts-joined : (part : SeatState → ℕ) (by : ℕ → ℕ) → i < n
+      → ((k : ℕ) (d : SeatState) → k < n → part (get_or now k d) ≡ raised_until (part (get_or old k d)) (by k) i k)
+      → part new ≡ part (get_or now i new) + by i
+      → (k : ℕ) (d : SeatState) → k < n → part (get_or (set now i new) k d) ≡ raised_until (part (get_or old k d)) (by k) (i + 1) k
+  parts-joined part by below parts more k d lt =
       ⊎_elim
       (λ (t : (eqb k i ≡ true) × (k ≡ i)).
-      subst (λ j. (get_or (set now i new) j d).mark ≡ raised_until (get_or old j d).mark (i + 1) j) (sym t.1) here)
+      subst (λ j. part (get_or (set now i new) j d) ≡ raised_until (part (get_or old j d)) (by j) (i + 1) j) (sym t.1) here)
       (λ (t : (eqb k i ≡ false) × (k ≢ i)).
-      ap mark_in (get_or-set_other now i k new d t.1) ∙ marks k d lt ∙ raised-apart (get_or old k d).mark i k t.1)
+      ap part (get_or-set_other now i k new d t.1) ∙ parts k d lt ∙ raised-apart (part (get_or old k d)) (by k) i k t.1)
       (eqb_tells k i)
     where
-      was : (get_or now i new).mark ≡ (get_or old i d).mark
-      was = ap mark_in (get_or_default now i new d long) ∙ marks i d below ∙ raised-from (get_or old i d).mark i i (le_refl i)
+      was : part (get_or now i new) ≡ part (get_or old i d)
+      was = ap part (get_or_default now i new d long) ∙ parts i d below ∙ raised-from (part (get_or old i d)) (by i) i i (le_refl i)
 
-      here : (get_or (set now i new) i d).mark ≡ raised_until (get_or old i d).mark (i + 1) i
-      here = ap mark_in (get_or-set_same now i new d long) ∙ more ∙ ap (λ m. m + 1) was
-          ∙ sym (raised-before (get_or old i d).mark (i + 1) i (omega arith))
+      here : part (get_or (set now i new) i d) ≡ raised_until (part (get_or old i d)) (by i) (i + 1) i
+      here = ap part (get_or-set_same now i new d long) ∙ more ∙ ap (λ m. m + by i) was
+          ∙ sym (raised-before (part (get_or old i d)) (by i) (i + 1) i (omega arith))
 
   -- the sum of the amounts rises by the next seat's
   pub amounts-joined : (theirs : List SeatState) (x : SeatState) (base : ℕ) → new.amount ≡ (get_or now i new).amount + x.amount

@@ -1,5 +1,5 @@
 -- What settling answers.
-use Rattle.std.specs.Prelude.{◌≡◌, ◌≢◌, ℕ, ◌+◌, ◌<◌, ◌==◌, List, Some, length, map, sum, count_by, slice_get, slice_index_or, All}
+use Rattle.std.specs.Prelude.{◌≡◌, ◌≢◌, ℕ, ◌+◌, ◌<◌, ◌==◌, List, Some, length, map, sum, count_by, slice_get, slice_index, slice_index_or, All}
 use Rattle.std.specs.List.{sum_by}
 use Rattle.tr_seats.specs.Books.{IsPlanned, PlanState}
 use Rattle.tr_seats.specs.Desks.{DeskState, IsOfPlan}
@@ -40,6 +40,10 @@ totals_of_seats producers drainers desk = record {
   cuts = sum desk.cuts;
 }
 
+-- what the drainers took from the stream of this number
+abbrev pub taken_of : List (List ℕ) → ℕ → ℕ
+taken_of drainers i = sum_by (λ (amounts : List ℕ). slice_index amounts i) drainers
+
 -- one producer for each of n streams, in any order
 abbrev pub IsOneEach : ℕ → List ProducerState → Type 0
 IsOneEach n producers = (i : ℕ) → i < n → count_by (λ (p : ProducerState). p.number == i) producers ≡ 1
@@ -75,3 +79,8 @@ abbrev pub AreTheirs : List ProducerState → List StreamState → Type 0
 AreTheirs producers streams =
     (k : ℕ) (p : ProducerState) (t : StreamState) → k < length producers
     → IsOwn (slice_index_or producers k p) (totals_in (slice_index_or streams (slice_index_or producers k p).number t))
+
+-- what was consumed of each stream is what the desk's seat of it and the drainers' have
+abbrev pub HaveConsumed : List ℕ → List (List ℕ) → List StreamState → Type 0
+HaveConsumed desk drainers streams = (k : ℕ) (t : StreamState) → k < length streams
+    → (totals_in (slice_index_or streams k t)).consumed ≡ slice_index desk k + taken_of drainers k

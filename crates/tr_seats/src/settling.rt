@@ -5,7 +5,7 @@ ghost use Rattle.tr_ledger.specs.Ledgers.{SeatState, seat_state};
 ghost use Rattle.tr_seats.specs.Books.{IsPlanned, books_at, consumed_books, cut_books};
 ghost use Rattle.tr_seats.specs.Desks.{DeskState};
 ghost use Rattle.tr_seats.specs.Faults.{settle_error_code, settle_error_name};
-ghost use Rattle.tr_seats.specs.Settling.{AreAllMade, AreInPlace, AreTheirs, AreWhole, CanSettle, IsOneEach, IsSessionOf, IsWhy, opened_state, streams_of, totals_of_seats};
+ghost use Rattle.tr_seats.specs.Settling.{AreAllMade, AreInPlace, AreTheirs, AreWhole, CanSettle, HaveConsumed, IsOneEach, IsSessionOf, IsWhy, opened_state, streams_of, taken_of, totals_of_seats};
 ghost use Rattle.tr_seats.specs.Slots.{AreJoined, AreSeatsOf, IsOwn, ProducerState, SlotState, amounts_of};
 ghost use Rattle.tr_seats.specs.Sums.{totals_in, totals_of};
 ghost use Rattle.tr_session.specs.Session.{session_of};
@@ -237,6 +237,9 @@ fn join_row<N: Names, A: Allocator>(
     ensures marks { (k : ℕ) (d : SeatState) → k < length N.plan.books
         → (slice_index_or seats.new k d).mark ≡ (slice_index_or seats.old k d).mark + 1 }
     ensures amounts { sum (amounts_of seats.new) ≡ sum (amounts_of seats.old) + sum (amounts_of theirs.items) }
+    ensures each { (k : ℕ) (d e : SeatState) → k < length N.plan.books
+        → (slice_index_or seats.new k d).amount
+        ≡ (slice_index_or seats.old k d).amount + (slice_index_or theirs.items k e).amount }
 {
     let mut i = 0;
     for seat in theirs {
@@ -256,6 +259,8 @@ fn join_drainers<N: Names, A: Allocator>(
     ensures slots { slots.new ≡ slots.old }
     ensures seats { AreJoined (length drainers.items + 1) (consumed_books N.plan.books) seats.new }
     ensures amounts { sum (amounts_of seats.new) ≡ sum (amounts_of seats.old) + sum_by sum drainers.items }
+    ensures each { (k : ℕ) (d : SeatState) → k < length N.plan.books
+        → (slice_index_or seats.new k d).amount ≡ (slice_index_or seats.old k d).amount + taken_of drainers.items k }
 {
     for drainer in drainers {
         let Drainer {
@@ -289,6 +294,9 @@ fn join_all<N: Names, A: Allocator>(
     ensures own { (k : ℕ) (p : ProducerState) (s : SlotState) → k < length producers.old
         → IsOwn (slice_index_or producers.old k p)
         (totals_in (slice_index_or slots.old (slice_index_or producers.old k p).number s).stream) }
+    ensures taken { (k : ℕ) (d : SeatState) (s : SlotState) → k < length slots.old
+        → (totals_in (slice_index_or slots.old k s).stream).consumed
+        ≡ (slice_index_or mine.old k d).amount + taken_of drainers.items k }
     ensures planned { (k : ℕ) (s : SlotState) → k < length slots.old
         → IsPlanned N.plan k (slice_index_or slots.old k s).stream.config }
 {
@@ -329,6 +337,7 @@ pub(crate) fn settle_all<N: Names, A: Allocator + Copy>(
     ensures totals { result.1 ≡ totals_of (streams_of slots.items) }
     ensures seats { result.1 ≡ totals_of_seats producers.items drainers.items desk }
     ensures own { AreTheirs producers.items (streams_of slots.items) }
+    ensures taken { HaveConsumed desk.consumed drainers.items (streams_of slots.items) }
     ensures places { result.1.offered ≡ result.1.discarded + result.1.overwritten
         + sum_by (λ (s : StreamState). in_ring s.ring) (streams_of slots.items) + result.1.consumed }
 {

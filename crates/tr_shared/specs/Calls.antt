@@ -1,10 +1,13 @@
 -- What the calls of a shared session answer, as far as those who hold no lock can tell.
-use Rattle.std.specs.Prelude.{◌≡◌, ◌≢◌, ◌≤◌, ◌⊎◌, ℕ, List, Result, Err, IfOk, sum}
+use Rattle.std.specs.Prelude.{◌≡◌, ◌≢◌, ◌≤◌, ◌<◌, ◌⊎◌, ℕ, List, Result, Err, IfOk, length, slice_index_or, sum}
 use Rattle.std.specs.List.{sum_by}
+use Rattle.tr_seats.specs.Settling.{taken_of}
 use Rattle.tr_seats.specs.Slots.{ProducerState, drainer_after, producer_after, serial_of}
+use Rattle.tr_seats.specs.Sums.{totals_in}
 use Rattle.tr_seats.specs.declared.totals.Totals.{Totals}
 use Rattle.tr_session_book.specs.declared.faults.SessionFault.{SessionFault}
 use Rattle.tr_session_book.specs.declared.faults.SessionFault.TheVariants.{AlreadyActive, Misplaced, NoMemory, NotActive, RotationPending, TooMany}
+use Rattle.tr_stream.specs.State.{StreamState}
 use Rattle.tr_stream.specs.declared.answers.OfferFault.{OfferFault}
 use Rattle.tr_stream.specs.declared.answers.Offered.{Offered}
 use Rattle.tr_stream.specs.declared.answers.TakeFault.{TakeFault}
@@ -21,6 +24,11 @@ pub record AreOffersOf (producers : List ProducerState) (drainers : List (List �
   pub overwritten : t.overwritten ≡ sum_by (λ (p : ProducerState). p.overwritten) producers
   pub overwritten_packets : t.overwritten_packets ≡ sum_by (λ (p : ProducerState). p.overwritten_packets) producers
   pub consumed : sum_by sum drainers ≤ t.consumed
+
+-- what the drainers took from each stream is within what was consumed of it: the rest is the desk's
+abbrev pub HaveTaken : List (List ℕ) → List StreamState → Type 0
+HaveTaken drainers streams = (k : ℕ) (t : StreamState) → k < length streams
+    → taken_of drainers k ≤ (totals_in (slice_index_or streams k t)).consumed
 
 abbrev pub IsDrainerFault : SessionFault → Type 0
 IsDrainerFault fault = (fault ≡ TooMany) ⊎ (fault ≡ NoMemory) ⊎ (fault ≡ Misplaced)

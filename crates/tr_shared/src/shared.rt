@@ -6,7 +6,7 @@ ghost use Rattle.tr_seats.specs.Slots.{AreNew, drainer_after, producer_after, se
 ghost use Rattle.tr_seats.specs.Books.{IsPlanned, IsTooBig};
 ghost use Rattle.tr_seats.specs.Sums.{totals_of};
 ghost use Rattle.tr_terms.specs.declared.limits.TheConstants.{MOST_OFFERS};
-ghost use Rattle.tr_shared.specs.Calls.{AreOffersOf, IsDrainerFault, IsStartFault, IsStopFault, IsTakeOf};
+ghost use Rattle.tr_shared.specs.Calls.{AreOffersOf, HaveTaken, IsDrainerFault, IsStartFault, IsStopFault, IsTakeOf};
 ghost use Rattle.tr_stream.specs.State.{StreamState, in_ring};
 ghost use Rattle.tr_stream.specs.declared.config.StreamConfig.{StreamConfig};
 
@@ -251,6 +251,7 @@ impl<N: Names, A: Allocator + Copy> Shared<N, A> {
         ensures totals { IfOk result (λ r. r.1 ≡ totals_of r.0.streams) }
         ensures seats { IfOk result (λ r. AreOffersOf producers.items drainers.items r.1) }
         ensures own { IfOk result (λ r. AreTheirs producers.items r.0.streams) }
+        ensures taken { IfOk result (λ r. HaveTaken drainers.items r.0.streams) }
         ensures places { IfOk result
             (λ r. r.1.offered ≡ r.1.discarded + r.1.overwritten
             + sum_by (λ (s : StreamState). in_ring s.ring) r.0.streams + r.1.consumed) }

@@ -1,6 +1,6 @@
 use Rattle.std.proofs.Common.{◌≡◌, ℕ, ◌+◌, ◌<◌, length, get_or, List, ◌∙◌, subst, sym}
 use Rattle.tr_ledger.specs.Ledgers.{SeatState}
-use Rattle.tr_seats.proofs.AllTotals.{all-add_up, cuts-whole}
+use Rattle.tr_seats.proofs.AllTotals.{all-add_up, cuts-whole, row-taken}
 use Rattle.tr_seats.proofs.settling.join_all.Goals as goal
 use Rattle.tr_seats.specs.Books.{IsPlanned}
 use Rattle.tr_seats.specs.Settling.{AreInPlace}
@@ -62,6 +62,15 @@ audit_cuts-requires-clause-slots g c =
 
 pub returns-clause-own : goal.returns-clause-own
 returns-clause-own g c = c.audit_producers.ensures.own
+
+pub returns-clause-taken : goal.returns-clause-taken
+returns-clause-taken g c =
+    let slots = c.args.slots.now in
+    let joined = c.join_drainers.new.seats in
+    let after = c.join_drainers.ensures.slots ∙ c.audit_producers.ensures.same.0 in
+    let whole : AreConsumed joined slots = subst (AreConsumed joined) after c.audit_consumed.ensures.whole in
+    row-taken g.N.Names.plan.books slots c.requires.slots c.args.drainers.items c.args.mine.now joined c.join_drainers.ensures.seats
+    c.join_drainers.ensures.each c.requires.whole.made whole
 
 pub returns-clause-there : goal.returns-clause-there
 returns-clause-there g c = c.audit_producers.ensures.there

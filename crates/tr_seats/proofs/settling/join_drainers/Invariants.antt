@@ -1,8 +1,10 @@
-use Rattle.std.proofs.Common.{◌≡◌, ◌+◌, ◌≤◌, length, take, drop}
+use Rattle.std.proofs.Common.{◌≡◌, ℕ, ◌+◌, ◌≤◌, ◌<◌, get_or, length, take, drop}
 use Rattle.std.specs.Prelude.{sum}
 use Rattle.std.specs.List.{sum_by}
 use Rattle.tr_seats.proofs.settling.join_drainers.Given as goal
+use Rattle.tr_ledger.specs.Ledgers.{SeatState}
 use Rattle.tr_seats.specs.Books.{consumed_books}
+use Rattle.tr_seats.specs.Settling.{taken_of}
 use Rattle.tr_seats.specs.Slots.{AreJoined, amounts_of}
 
 abbrev pub invariant-loop-drainer : goal.invariant-loop-drainer
@@ -14,4 +16,7 @@ invariant-loop-drainer g l =
       seats : AreJoined (length l.yielded + 1) (consumed_books g.N.Names.plan.books) l.seats;
       amounts : sum (amounts_of l.seats)
           ≡ sum (amounts_of l.initial.seats) + sum_by sum (take (length l.yielded) l.fn.drainers.items);
+      each : (k : ℕ) (d : SeatState) → k < length g.N.Names.plan.books
+          → (get_or l.seats k d).amount
+          ≡ (get_or l.initial.seats k d).amount + taken_of (take (length l.yielded) l.fn.drainers.items) k;
     }

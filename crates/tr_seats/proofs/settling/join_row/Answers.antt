@@ -5,7 +5,7 @@ use Rattle.std.proofs.lemmas.List.{get_or_default, length-drop, length-map, take
 use Rattle.std.proofs.lemmas.Option.{get_or_from_slice_get}
 use Rattle.std.proofs.Math.Seq.{map-set_same}
 use Rattle.tr_ledger.specs.Ledgers.{SeatState, seat_state}
-use Rattle.tr_seats.proofs.Joins.{amounts-joined, marks-joined, raised-before, raised-from, tables-length}
+use Rattle.tr_seats.proofs.Joins.{amounts-joined, parts-joined, raised-before, raised-from, tables-length}
 use Rattle.tr_seats.proofs.Rows.{consumed-beside, drop-front}
 use Rattle.tr_seats.proofs.settling.join_row.Goals as goal
 use Rattle.tr_seats.specs.Books.{Books, consumed_books}
@@ -70,7 +70,7 @@ loop-seat-preserved g c =
     let slots_same = c.join_at.ensures.slots ∙ v.slots_same in
     let tables = map-set_same (λ (s : SeatState). s.table) seats i new x refl ∙ v.tables in
     let long = ap length is in
-    let marks = marks-joined old seats (length books) i new here below v.marks mark in
+    let marks = parts-joined old seats (length books) i new here (λ (s : SeatState). s.mark) (λ k. 1) below v.marks mark in
     let amounts = amounts-joined old seats (length books) i new here theirs x (sum (amounts_of old)) amount front.0 v.amounts in (
       tt,
       tt,
@@ -82,6 +82,13 @@ loop-seat-preserved g c =
         seats_left = omega (arith, rest, v.seats_left, long, row, tables-length (consumed_books books) (set seats i new) tables, wide);
         tables = ap (map (λ (s : SeatState). s.table)) is ∙ tables;
         marks = λ k d lt. ap (λ (l : List SeatState). (get_or l k d).mark) is ∙ marks k d lt;
+        each = λ k d e lt.
+            let given = get_or_from_slice_get theirs i x e front.0 in
+            let more : new.amount ≡ (get_or seats i new).amount + (get_or theirs i e).amount =
+            amount ∙ ap (λ (s : SeatState). (get_or seats i new).amount + s.amount) (sym given) in
+            ap (λ (l : List SeatState). (get_or l k d).amount) is
+            ∙ parts-joined old seats (length books) i new here (λ (s : SeatState). s.amount) (λ k. (get_or theirs k e).amount) below
+            (λ k d lt. v.each k d e lt) more k d lt;
         amounts = ap (λ (l : List SeatState). sum (amounts_of l)) is ∙ amounts;
       },
     )
@@ -103,7 +110,9 @@ loop-seat-init g c =
         slots_left = omega (arith, rest, c.requires.slots.0, many);
         seats_left = omega (arith, rest, tables-length (consumed_books books) c.args.seats.now c.requires.seats, wide, many);
         tables = c.requires.seats;
-        marks = λ k d lt. sym (raised-from (get_or c.args.seats.now k d).mark 0 k (omega arith));
+        marks = λ k d lt. sym (raised-from (get_or c.args.seats.now k d).mark 1 0 k (omega arith));
+        each = λ k d e lt.
+            sym (raised-from (get_or c.args.seats.now k d).amount (get_or c.args.theirs.items k e).amount 0 k (omega arith));
         amounts = omega arith;
       },
     )
@@ -113,7 +122,15 @@ returns-clause-marks g c = λ k d lt.
     let v = c.loop-seat.invariant.2 in
     let all : length g.N.Names.plan.books ≡ c.loop-seat.i =
     omega (arith, v.slots_left, c.in-None.ensures.steps.0, ap length v.slots_same, c.requires.slots.0) in
-    v.marks k d lt ∙ raised-before (get_or c.args.seats.now k d).mark c.loop-seat.i k (omega (arith, lt, all))
+    v.marks k d lt ∙ raised-before (get_or c.args.seats.now k d).mark 1 c.loop-seat.i k (omega (arith, lt, all))
+
+pub returns-clause-each : goal.returns-clause-each
+returns-clause-each g c = λ k d e lt.
+    let v = c.loop-seat.invariant.2 in
+    let all : length g.N.Names.plan.books ≡ c.loop-seat.i =
+    omega (arith, v.slots_left, c.in-None.ensures.steps.0, ap length v.slots_same, c.requires.slots.0) in
+    v.each k d e lt
+    ∙ raised-before (get_or c.args.seats.now k d).amount (get_or c.args.theirs.items k e).amount c.loop-seat.i k (omega (arith, lt, all))
 
 pub returns-clause-amounts : goal.returns-clause-amounts
 returns-clause-amounts g c =

@@ -16,6 +16,9 @@ invariant-loop-seat g l =
       seats_left : l.i + l.seat-iterator.rest.len ≡ length l.seats;
       tables : map (λ (s : SeatState). s.table) l.seats ≡ consumed_books g.N.Names.plan.books;
       marks : (k : ℕ) (d : SeatState) → k < length g.N.Names.plan.books
-          → (get_or l.seats k d).mark ≡ raised_until (get_or l.initial.seats k d).mark l.i k;
+          → (get_or l.seats k d).mark ≡ raised_until (get_or l.initial.seats k d).mark 1 l.i k;
+      each : (k : ℕ) (d e : SeatState) → k < length g.N.Names.plan.books
+          → (get_or l.seats k d).amount
+          ≡ raised_until (get_or l.initial.seats k d).amount (get_or l.fn.theirs.items k e).amount l.i k;
       amounts : sum (amounts_of l.seats) ≡ sum (amounts_of l.initial.seats) + sum (amounts_of (take l.i l.fn.theirs.items));
     }

@@ -1,14 +1,15 @@
 use Rattle.std.proofs.Common.{◌≡◌, ℕ, ◌+◌, ◌<◌, ◌++◌, List, ap, arith, drop, get_or, length, subst, sym, take, ◌∙◌}
 use Rattle.std.proofs.lemmas.Grind.{common_steps}
 use Rattle.std.specs.List.{sum_by}
-use Rattle.std.proofs.lemmas.List.{take_at}
+use Rattle.std.proofs.lemmas.List.{length-map, take_at}
 use Rattle.tr_ledger.specs.Ledgers.{SeatState}
-use Rattle.tr_seats.proofs.AllTotals.{AreWithin, theirs}
+use Rattle.tr_seats.proofs.AllTotals.{AreWithin, have-consumed, theirs}
+use Rattle.tr_seats.proofs.Joins.{tables-length}
 use Rattle.tr_seats.proofs.SettledLaws.{settled-planned, settled-streams}
 use Rattle.tr_seats.proofs.settling.settle_all.Goals as goal
-use Rattle.tr_seats.specs.Books.{IsPlanned, PlanState, consumed_books, cut_books}
+use Rattle.tr_seats.specs.Books.{Books, IsPlanned, PlanState, consumed_books, cut_books}
 use Rattle.tr_seats.specs.Desks.{DeskState}
-use Rattle.tr_seats.specs.Settling.{IsOneEach, IsSessionOf, streams_of, totals_of_seats}
+use Rattle.tr_seats.specs.Settling.{HaveConsumed, IsOneEach, IsSessionOf, streams_of, taken_of, totals_of_seats}
 use Rattle.tr_seats.specs.Slots.{AreSeatsOf, IsOwn, ProducerState, SlotState, amounts_of}
 use Rattle.tr_seats.specs.Sums.{totals_in, totals_of}
 use Rattle.tr_session.specs.Session.{HasItsStreams, session_of}
@@ -122,3 +123,20 @@ returns-clause-own g c =
     let there : AreWithin n c.args.producers.items = subst (AreWithin n) producers c.join_all.ensures.there in
     let own : AreOwn (c.args.producers.items, all) = subst AreOwn (λ j. (producers j, slots j)) c.join_all.ensures.own in
     theirs n c.args.producers.items all c.requires.slots there own
+
+abbrev AreTakenAs : List (List ℕ) → List SeatState × List SlotState → Type 0
+AreTakenAs drainers x = (k : ℕ) (d : SeatState) (s : SlotState) → k < length x.1
+    → (totals_in (get_or x.1 k s).stream).consumed ≡ (get_or x.0 k d).amount + taken_of drainers k
+
+pub returns-clause-taken : goal.returns-clause-taken
+returns-clause-taken g c =
+    let all = c.args.slots.items in
+    let drainers = c.args.drainers.items in
+    let mine = c.desk.inside.consumed.items in
+    let books = g.N.Names.plan.books in
+    let slots : c.as_mut_slice.result.now ≡ all = c.as_mut_slice.ensures.value in
+    let row : c.as_mut_slice-3.result.now ≡ mine = c.as_mut_slice-3.ensures.value in
+    let wide = tables-length (consumed_books books) mine c.desk.invariant.consumed_are.0 ∙ length-map books (λ (b : Books). b.consumed) in
+    let taken : AreTakenAs drainers (mine, all) = subst (AreTakenAs drainers) (λ j. (row j, slots j)) c.join_all.ensures.taken in
+    subst (λ (l : List ℕ). HaveConsumed l drainers (streams_of all)) (ap (λ (d : DeskState). d.consumed) c.desk.view_is)
+    (have-consumed mine drainers all (wide ∙ sym c.requires.slots) taken)

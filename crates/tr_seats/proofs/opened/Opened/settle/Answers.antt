@@ -2,7 +2,7 @@ use Rattle.std.proofs.Common.{◌≡◌, ℕ, ◌+◌, List, ap, length, subst, 
 use Rattle.std.proofs.lemmas.Grind.{common_steps}
 use Rattle.std.specs.List.{sum_by}
 use Rattle.tr_seats.proofs.opened.Opened.settle.Goals as goal
-use Rattle.tr_seats.specs.Settling.{AreTheirs, IsWhy, OpenedState, opened_state, streams_of, totals_of_seats}
+use Rattle.tr_seats.specs.Settling.{AreTheirs, HaveConsumed, IsWhy, OpenedState, opened_state, streams_of, totals_of_seats}
 use Rattle.tr_seats.specs.Slots.{ProducerState}
 use Rattle.tr_seats.specs.Sums.{totals_of}
 use Rattle.tr_session.specs.Session.{SessionOf, session_of}
@@ -44,3 +44,8 @@ returns-in-None-clause-may g c = grind (arith, common_steps)
 pub returns-in-None-clause-own : goal.returns-in-None-clause-own
 returns-in-None-clause-own g c =
     subst (λ (s : SessionOf StreamState). AreTheirs c.args.producers.items s.streams) (sym c.settle_all.ensures.session) c.settle_all.ensures.own
+
+pub returns-in-None-clause-taken : goal.returns-in-None-clause-taken
+returns-in-None-clause-taken g c =
+    subst (λ (x : List ℕ × SessionOf StreamState). HaveConsumed x.0 c.args.drainers.items x.1.streams)
+    (λ j. ((c.self.view_is j).desk.consumed, sym c.settle_all.ensures.session j)) c.settle_all.ensures.taken

@@ -24,3 +24,6 @@ returns-in-Ok-clause-seats g c = grind (arith, common_steps)
 
 pub returns-in-Ok-clause-places : goal.returns-in-Ok-clause-places
 returns-in-Ok-clause-places g c = grind (arith, common_steps)
+
+pub returns-in-Ok-clause-taken : goal.returns-in-Ok-clause-taken
+returns-in-Ok-clause-taken g c = λ k t lt. omega (arith, c.in-Ok.ensures.taken k t lt)
