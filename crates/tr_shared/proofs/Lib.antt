@@ -1,3 +1,4 @@
+pub mod FeedLaws
 pub mod ModeLaws
 pub mod RotationLaws
 pub mod ShownLaws

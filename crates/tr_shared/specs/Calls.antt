@@ -1,5 +1,5 @@
 -- What the calls of a shared session answer, as far as those who hold no lock can tell.
-use Rattle.std.specs.Prelude.{◌≡◌, ◌≢◌, ◌≤◌, ◌<◌, ◌⊎◌, ℕ, List, Result, Err, IfOk, length, slice_index_or, sum}
+use Rattle.std.specs.Prelude.{◌≡◌, ◌≢◌, ◌≤◌, ◌<◌, ◌⊎◌, ◌+◌, ℕ, List, Result, Err, IfOk, length, slice_index_or, sum}
 use Rattle.std.specs.List.{sum_by}
 use Rattle.tr_seats.specs.Settling.{taken_of}
 use Rattle.tr_seats.specs.Slots.{ProducerState, drainer_after, producer_after, serial_of}
@@ -52,3 +52,7 @@ IsTakeOf Snapshot answer = (answer ≡ Err SnapshotMode) ⊎ (answer ≡ Err tak
 abbrev pub IsOffered : ProducerState → ℕ → ℕ → List ℕ → Result Offered OfferFault → ProducerState → Type 0
 IsOffered before moment id payload answer after = (after ≡ producer_after answer before)
     × IfOk answer (λ (offered : Offered). serial_of offered ≡ before.offered)
+
+-- a producer has offered this many records more, and still offers to the same stream
+abbrev pub HasOffered : ℕ → ProducerState → ProducerState → Type 0
+HasOffered count before after = (after.offered ≡ before.offered + count) × (after.number ≡ before.number)

@@ -1,8 +1,12 @@
-//! What a rotation does, one hold of the locks after another.
+//! What a rotation does, one hold of the locks after another, and what a feeder's log says of its producer.
 
-ghost use Rattle.std.specs.Prelude.{◌≡◌, ◌≤◌, ℕ, length};
+ghost use Rattle.std.specs.Prelude.{◌≡◌, ◌≤◌, ℕ, List, length};
+ghost use Rattle.tr_pool.specs.Feeding.{IsFed};
+ghost use Rattle.tr_pool.specs.declared.items.Item.{Item};
 ghost use Rattle.tr_seats.specs.Settling.{OpenedState};
+ghost use Rattle.tr_seats.specs.Slots.{ProducerState};
 ghost use Rattle.tr_session.specs.Steps.{cut_first};
+ghost use Rattle.tr_shared.specs.Calls.{HasOffered, IsOffered};
 ghost use Rattle.tr_shared.specs.Rotations.{AreLocal, cut_slots, session_in};
 ghost use Rattle.tr_stream.specs.Rules.{by_state};
 
@@ -11,4 +15,10 @@ ghost use Rattle.tr_stream.specs.Rules.{by_state};
 pub fn every_rotation()
     ensures { (n : ℕ) (s : OpenedState) → n ≤ length s.slots → AreLocal s.slots
         → session_in (cut_slots n s) ≡ cut_first by_state n (session_in s) }
+{}
+
+/// A producer that a feeder had has offered as many records more as the feeder's log has items, all to the same stream. Does
+/// nothing.
+pub fn every_feed()
+    ensures { (p q : ProducerState) (work log : List Item) → IsFed IsOffered p work q log → HasOffered (length log) p q }
 {}

@@ -12,7 +12,7 @@ mod settle_fault;
 mod shared;
 mod snapshots;
 
-pub use laws::every_rotation;
+pub use laws::{every_feed, every_rotation};
 pub use settle_fault::SettleFault;
 pub use shared::Shared;
 pub use tr_seats::{
