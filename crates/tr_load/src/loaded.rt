@@ -2,6 +2,7 @@
 
 use crate::report::{Mismatch, Report};
 use std::alloc::AllocError;
+use thiserror::Error;
 use tr_session_book::SessionFault;
 use tr_shared::Settled;
 
@@ -15,11 +16,13 @@ pub struct Loaded {
 }
 
 /// Why a load was not settled.
-#[derive(Clone, Copy, Debug, PartialEq, Eq)]
+#[derive(Clone, Copy, Debug, PartialEq, Eq, Error)]
 pub enum LoadFault {
     /// A call was refused for another reason than memory: something isn't in its place.
+    #[error("something isn't in its place")]
     Misplaced,
     /// Memory or a thread was missing.
+    #[error("no memory")]
     NoMemory,
 }
 

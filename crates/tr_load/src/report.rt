@@ -1,8 +1,10 @@
 //! What reconciling answers.
 
 ghost use Rattle.std.specs.Prelude.{◌≡◌};
+ghost use Rattle.tr_load.specs.Faults.{mismatch_code, mismatch_name};
 ghost use Rattle.tr_load.specs.Reports.{HasRoomFor, with_counts};
 
+use thiserror::Error;
 use tr_book::Counts;
 
 /// Where all the records of a settled session are: sums over its streams.
@@ -37,18 +39,42 @@ impl Report {
 }
 
 /// What a log and its stream don't agree on.
-#[derive(Clone, Copy, PartialEq, Eq, Debug)]
+#[derive(Clone, Copy, PartialEq, Eq, Debug, Error)]
 pub enum Mismatch {
-    /// M1: a record isn't that of the item at its serial: another id or payload, or a lesser moment.
+    /// A record isn't that of the item at its serial: another id or payload, or a lesser moment.
+    #[error("M1 WrongRecord")]
     WrongRecord {
         /// The number of its stream.
         stream: u64,
         /// Its serial.
         serial: u64,
     },
-    /// M2: a stream has no log, or its first log hasn't as many items as the stream has offers.
+    /// A stream has no log, or its first log hasn't as many items as the stream has offers.
+    #[error("M2 LogLength")]
     LogLength {
         /// The number of the stream.
         stream: u64,
     },
+}
+
+impl Mismatch {
+    /// The code that documents call it by.
+    pub fn code(&self) -> &'static str
+        ensures { result.now ≡ mismatch_code self.now }
+    {
+        match self {
+            Mismatch::WrongRecord { .. } => "M1",
+            Mismatch::LogLength { .. } => "M2",
+        }
+    }
+
+    /// Its name.
+    pub fn name(&self) -> &'static str
+        ensures { result.now ≡ mismatch_name self.now }
+    {
+        match self {
+            Mismatch::WrongRecord { .. } => "WrongRecord",
+            Mismatch::LogLength { .. } => "LogLength",
+        }
+    }
 }

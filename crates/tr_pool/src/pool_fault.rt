@@ -1,12 +1,41 @@
 //! Why threads were not set to work.
 
+ghost use Rattle.std.specs.Prelude.{◌≡◌};
+ghost use Rattle.tr_pool.specs.Faults.{pool_error_code, pool_error_name};
+
+use thiserror::Error;
+
 /// What was missing.
-#[derive(Clone, Copy, PartialEq, Eq, Debug)]
+#[derive(Clone, Copy, PartialEq, Eq, Debug, Error)]
 pub enum PoolError {
-    /// U1: the system gave fewer threads than were asked for.
+    /// The system gave fewer threads than were asked for.
+    #[error("U1 NoThread")]
     NoThread,
-    /// U2: an allocation failed.
+    /// An allocation failed.
+    #[error("U2 NoMemory")]
     NoMemory,
+}
+
+impl PoolError {
+    /// The code that documents call it by.
+    pub fn code(&self) -> &'static str
+        ensures { result.now ≡ pool_error_code self.now }
+    {
+        match self {
+            PoolError::NoThread => "U1",
+            PoolError::NoMemory => "U2",
+        }
+    }
+
+    /// Its name.
+    pub fn name(&self) -> &'static str
+        ensures { result.now ≡ pool_error_name self.now }
+    {
+        match self {
+            PoolError::NoThread => "NoThread",
+            PoolError::NoMemory => "NoMemory",
+        }
+    }
 }
 
 /// Why threads were not set to work, and the seats that were given, in their order.
