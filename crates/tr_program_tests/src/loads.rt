@@ -2,13 +2,14 @@
 
 use crate::asserting::assert_same;
 use std::alloc::Global;
+use std::fmt::Display;
 use std::process::Abort;
 use std::sync::Wait;
 use std::test::*;
 use std::thread::Threads;
 use std::time::Clock;
-use tr_load::{Loaded, Log, Mismatch, Report, load, load_work, outcome_text, reconcile};
-use tr_pool::Items;
+use tr_load::{LoadFault, Loaded, Log, Mismatch, Report, load, load_work, outcome_text, reconcile};
+use tr_pool::{Items, PoolError};
 use tr_terms::limits::{MOST_RECORDS, MOST_WORKERS};
 
 /// A load of this many threads with this many records each, and this many workers.
@@ -24,13 +25,31 @@ fn loaded<R: Threads + Wait + Clock + Abort + Sync>(
     load(rt, alloc, threads, records, workers).expect(rt, "a load")
 }
 
+/// How many records of a load two rings hold: each has two sub-buffers of 65,536 bytes, with a head of 80 and records of 32. The
+/// rotation leaves what one ring holds in chunks, and a worker that makes one round a packet more.
+const TWO_RINGS: u128 = 8180;
+
+/// How often a load is run until its worker took enough. One run may not do, since a worker that no processor runs takes nothing.
+const RUNS: u64 = 100;
+
+/// What came of a load of 100,000 records whose worker took packets while they were offered.
+fn drained_report<R: Threads + Wait + Clock + Abort + Sync>(rt: &R, alloc: Global) -> Report {
+    'runs: for _ in 0..RUNS {
+        let loaded = loaded(rt, alloc, 1, 100_000, 1);
+        let report = loaded.outcome.expect(rt, "agreement");
+        if report.in_chunks > TWO_RINGS {
+            return report;
+        }
+    }
+    panic!(rt; "the worker takes nothing while records are offered")
+}
+
 #[test]
-fn a_full_ring_discards_and_agrees(rt: HostRuntime) {
-    let loaded = loaded(&rt, rt.alloc(), 1, 20_000, 1);
-    let report = loaded.outcome.expect(&rt, "agreement");
-    assert_same(&rt, report.offered, 20_000);
+fn a_worker_takes_while_records_are_offered(rt: HostRuntime) {
+    let report = drained_report(&rt, rt.alloc());
+    assert_same(&rt, report.offered, 100_000);
     let told = report.discarded.checked_add(report.in_chunks);
-    assert_same(&rt, told, Some(20_000));
+    assert_same(&rt, told, Some(100_000));
 }
 
 /// The log of a feeder that offered this many records of a load, the second of them with this id.
@@ -93,4 +112,48 @@ fn mismatches_are_told_in_a_line(rt: HostRuntime) {
         let text = outcome_text(rt.alloc(), *threads, outcome).expect(&rt, "memory");
         assert_same(&rt, text.as_str(), expected);
     }
+}
+
+/// Asserts what a fault prints, and its code and its name.
+fn assert_named(
+    rt: &impl Abort,
+    alloc: Global,
+    fault: &impl Display,
+    (code, name): (&str, &str),
+    text: &str,
+) {
+    let printed = format!(in alloc; "{fault}").expect(rt, "memory");
+    assert_same(rt, printed.as_str(), text);
+    let words = format!(in alloc; "{code} {name}").expect(rt, "memory");
+    assert_same(rt, words.as_str(), text);
+}
+
+fn assert_pool(rt: &impl Abort, alloc: Global, fault: PoolError, text: &str) {
+    assert_named(rt, alloc, &fault, (fault.code(), fault.name()), text);
+}
+
+fn assert_load(rt: &impl Abort, alloc: Global, fault: LoadFault, text: &str) {
+    let printed = format!(in alloc; "{fault}").expect(rt, "memory");
+    assert_same(rt, printed.as_str(), text);
+}
+
+fn assert_mismatch(rt: &impl Abort, alloc: Global, fault: Mismatch, text: &str) {
+    assert_named(rt, alloc, &fault, (fault.code(), fault.name()), text);
+}
+
+#[test]
+fn faults_have_their_codes_and_names(rt: HostRuntime) {
+    let alloc = rt.alloc();
+    assert_pool(&rt, alloc, PoolError::NoThread, "U1 NoThread");
+    assert_pool(&rt, alloc, PoolError::NoMemory, "U2 NoMemory");
+    let wrong = Mismatch::WrongRecord {
+        stream: 3,
+        serial: 17,
+    };
+    assert_mismatch(&rt, alloc, wrong, "M1 WrongRecord");
+    let none = Mismatch::LogLength { stream: 3 };
+    assert_mismatch(&rt, alloc, none, "M2 LogLength");
+    assert_load(&rt, alloc, LoadFault::NoMemory, "no memory");
+    let misplaced = "something isn't in its place";
+    assert_load(&rt, alloc, LoadFault::Misplaced, misplaced);
 }

@@ -13,7 +13,7 @@ use std::thread;
 use std::thread::Threads;
 use tr_pool::{Gate, Item, drain_all, feed};
 use tr_shared::{Drainer, Names, Plan, Producer, Settled, Shared};
-use tr_stream::Payload;
+use tr_stream::{Fate, Payload};
 use tr_terms::{Mode, SessionMode};
 use tr_testing::moment;
 
@@ -53,7 +53,7 @@ pub(crate) fn assert_item(rt: &impl Abort, alloc: Global, found: &Item, k: u8) {
     );
 }
 
-/// Asserts that the ring of the first stream has exactly these items.
+/// Asserts that the ring of the first stream has exactly these items, one at least, in one packet, the first one.
 fn assert_in_ring(rt: &impl Abort, alloc: Global, settled: &Settled, count: u8) {
     let stream = settled.session().stream(0).expect(rt, "a stream");
     'records: for k in 0..count {
@@ -63,10 +63,12 @@ fn assert_in_ring(rt: &impl Abort, alloc: Global, settled: &Settled, count: u8) 
         assert_same(rt, record.id(), item.id);
         assert_same(rt, record.payload() == item.payload.as_slice(), true);
     }
-    assert_same(rt, stream.ring_at(u64::from(count)).is_none(), true);
+    assert_same(rt, stream.counts().in_ring, u64::from(count));
+    let last = stream.fate_of(u64::from(count.saturating_sub(1)));
+    assert_same(rt, last, Some(Fate::InRing { seq: 0 }));
 }
 
-/// Feeds one stream, and settles: the log and the ring have all items.
+/// Feeds one stream, and settles: all items were offered, and the log and the ring have them.
 fn feeds<N: Names + Send + Sync, R: Threads + Wait + Abort + Sync>(
     rt: &R,
     alloc: Global,
@@ -90,7 +92,8 @@ fn feeds<N: Names + Send + Sync, R: Threads + Wait + Abort + Sync>(
         producers.push(producer).expect(rt, "memory");
     }
     let answer = shared.settle(producers, Vec::new(alloc));
-    let (settled, _) = granted(rt, answer, "settled session");
+    let (settled, totals) = granted(rt, answer, "settled session");
+    assert_same(rt, totals.offered, 153);
     assert_in_ring(rt, alloc, &settled, 153);
     drop(settled);
 }

@@ -137,14 +137,57 @@ impl Target for Still {
     }
 }
 
-/// A gate that holds a worker until no feeder is at work, and then lets it make one turn.
+/// An intake and a gate that wait for each other. The intake answers as `Picky`, and each offer waits until the gate was asked.
+/// The gate waits until both feeders are at their first offer, and then until none is at work; it lets a worker make one turn.
 #[derive(Drop)]
-struct AfterFeeders<'a, R: Abort> {
+struct Beside<'a, R: Abort> {
     rt: &'a R,
+    /// How many offers were begun.
+    begun: AtomicUsize,
+    /// How many were made.
+    made: AtomicUsize,
+    /// How often the gate was asked.
+    asked: AtomicUsize,
+    /// How many feeders are at work.
     left: &'a AtomicUsize,
 }
 
-impl<'a, R: Abort> Gate for AfterFeeders<'a, R> {
+/// Looks until a count is between these two.
+fn wait_for(rt: &impl Abort, count: &AtomicUsize, least: usize, most: usize, what: &str) {
+    'tries: for _ in 0..TRIES {
+        let now = count.load(Ordering::SeqCst);
+        if least <= now && now <= most {
+            return;
+        }
+        thread::yield_now();
+    }
+    panic!(rt; "no {what}")
+}
+
+impl<'a, R: Abort> Intake for Beside<'a, R> {
+    ghost use Rattle.std.specs.Prelude.{⊤};
+
+    type Seat = Told;
+
+    ghost offers = { λ _ _ _ _ _ _ _. ⊤ };
+
+    fn offer_with<W: Wait>(
+        &self,
+        rt: &W,
+        seat: &mut Told,
+        moment: Moment,
+        id: u32,
+        payload: &[u8],
+    ) -> Result<Offered, OfferFault> {
+        self.begun.fetch_add(1, Ordering::SeqCst);
+        wait_for(self.rt, &self.asked, 1, 1, "worker beside the feeders");
+        let answer = Picky.offer_with(rt, seat, moment, id, payload);
+        self.made.fetch_add(1, Ordering::SeqCst);
+        answer
+    }
+}
+
+impl<'a, R: Abort> Gate for Beside<'a, R> {
     ghost use Rattle.std.specs.Prelude.{⊤};
 
     ghost lets = { λ _ _ _ _. ⊤ };
@@ -153,35 +196,37 @@ impl<'a, R: Abort> Gate for AfterFeeders<'a, R> {
         if turn > 0 {
             return false;
         }
-        'tries: for _ in 0..TRIES {
-            if self.left.load(Ordering::SeqCst) == 0 {
-                return true;
-            }
-            thread::yield_now();
-        }
-        panic!(self.rt; "the feeders don't end")
+        wait_for(self.rt, &self.begun, 2, 2, "feeders beside the worker");
+        assert_same(self.rt, self.left.load(Ordering::SeqCst), 2);
+        self.asked.store(1, Ordering::SeqCst);
+        wait_for(self.rt, self.left, 0, 0, "end of the feeders");
+        assert_same(self.rt, self.made.load(Ordering::SeqCst), 9);
+        true
     }
 
     fn after(&self, _worker: usize, _turn: u64) {}
 }
 
 #[test]
-fn a_worker_waits_for_the_feeders_beside_it(rt: HostRuntime) {
+fn feeders_and_a_worker_run_at_once(rt: HostRuntime) {
     let alloc = rt.alloc();
     let left = AtomicUsize::new(0);
-    let gate = AfterFeeders {
+    let beside = Beside {
         rt: &rt,
+        begun: AtomicUsize::new(0),
+        made: AtomicUsize::new(0),
+        asked: AtomicUsize::new(0),
         left: &left,
     };
     let feeders = Feeders {
-        intake: &Picky,
+        intake: &beside,
         producers: producers(&rt, alloc),
         works: works(&rt, alloc),
         left: &left,
     };
     let workers = Workers {
         target: &Still,
-        gate: &gate,
+        gate: &beside,
         drainers: vec![in alloc; 0].expect(&rt, "memory"),
     };
     assert!(&rt; feeders.works.len() == feeders.producers.len());

@@ -1,4 +1,4 @@
-//! The tests of tr_seats, of tr_shared, and of tr_pool on it (`seats`, `shared`, `feeding`, `intakes`): offers and takes that
+//! The tests of tr_seats, of tr_shared, and of tr_pool on it (`seats`, `shared`, `feeding`, `gates`, `intakes`): offers and takes that
 //! move seats, drainers, desks, sessions that are settled, the threads that share one, and feeders and workers in threads.
 //!
 //! Some functions drop by name what they hold at their end, which is proved in less time.
@@ -6,6 +6,8 @@
 
 #[cfg(test)]
 mod feeding;
+#[cfg(test)]
+mod gates;
 #[cfg(test)]
 mod intakes;
 #[cfg(test)]
