@@ -11,10 +11,10 @@ use std::sync::Wait;
 use std::thread::{self, Threads};
 use std::{env, io};
 use tr_export::{HostFiles, SystemDisk, write_archives};
-use tr_session::{ChannelConfig, Config};
-use tr_session_book::SessionFault;
-use tr_shared::{Names, Plan, Producer, Settled, Shared, Totals, plan};
-use tr_terms::{Mode, Moment, Name, OffsetMinutes, SessionMode};
+use tr_shared::{
+    ChannelConfig, Config, Mode, Moment, Name, Names, OffsetMinutes, Plan, Producer, SessionFault,
+    SessionMode, Settled, Shared, Totals, plan,
+};
 use uuid::Uuid;
 
 /// How many records each thread offers.

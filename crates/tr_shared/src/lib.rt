@@ -15,6 +15,11 @@ mod snapshots;
 pub use laws::{every_feed, every_rotation};
 pub use settle_fault::SettleFault;
 pub use shared::Shared;
+// What a shared session is made of, and what a program that records names.
 pub use tr_seats::{
-    Drainer, MOST_DRAINERS, Names, Plan, Producer, SettleError, Settled, Totals, plan,
+    Desk, Drainer, MOST_DRAINERS, Names, Plan, Producer, SettleError, Settled, Slot, Totals, plan,
 };
+pub use tr_session::{ChannelConfig, Config, Next, StepFault, Ticked};
+pub use tr_session_book::{Archive, Cause, Pending, Schedule, ScheduleFault, SessionFault, State};
+pub use tr_stream::{OfferFault, Offered, TakeFault, Taken};
+pub use tr_terms::{Geometry, GeometryFault, Mode, Moment, Name, OffsetMinutes, SessionMode};
