@@ -30,7 +30,7 @@ fn loaded<R: Threads + Wait + Clock + Abort + Sync>(
 const TWO_RINGS: u128 = 8180;
 
 /// How often a load is run until its worker took enough. One run may not do, since a worker that no processor runs takes nothing.
-const RUNS: u64 = 100;
+const RUNS: u64 = 20;
 
 /// What came of a load of 100,000 records whose worker took packets while they were offered.
 fn drained_report<R: Threads + Wait + Clock + Abort + Sync>(rt: &R, alloc: Global) -> Report {
