@@ -240,6 +240,12 @@ fn wait_unanswered(rt: &impl Abort, hold: &Hold) {
     assert!(rt; !answered, "a start or a stop lets another one in between");
 }
 
+/// Holds the second stream, which is the last one.
+fn hold_last<N: Names>(rt: &(impl Abort + Wait), shared: &Shared<N>, hold: &Hold) {
+    assert!(rt; 1 < shared.streams());
+    shared.hold_stream(rt, 1, || wait_unanswered(rt, hold))
+}
+
 /// Starts or stops while the last stream is held.
 fn switch_held<N: Names>(
     rt: &(impl Abort + Wait),
@@ -257,7 +263,7 @@ fn switch_held<N: Names>(
     answer
 }
 
-/// A thread holds the second stream, and two others start the session, or stop it, meanwhile: one of them is refused as the
+/// A thread holds the last stream, and two others start the session, or stop it, meanwhile: one of them is refused as the
 /// book refuses it after the other one.
 fn switch_twice<N: Names + Send + Sync, R: Threads + Wait + Abort + Sync>(
     rt: &R,
@@ -268,10 +274,9 @@ fn switch_twice<N: Names + Send + Sync, R: Threads + Wait + Abort + Sync>(
 ) {
     let hold = Hold::new();
     let jobs = vec![in alloc; active; 2].expect(rt, "memory");
-    assert!(rt; 1 < shared.streams());
     let (_, answers) = thread::join(
         rt,
-        || shared.hold_stream(rt, 1, || wait_unanswered(rt, &hold)),
+        || hold_last(rt, shared, &hold),
         || thread::map_vec(rt, jobs, &|active| switch_held(rt, shared, &hold, active)),
     );
     let answers = answers.expect(rt, "memory");
