@@ -17,7 +17,7 @@ use tr_chunk::{
 use tr_packet::{Head, Packet, PacketFault, encode_packet, metadata_text};
 use tr_record::{MemorySink, Rec, WriterSink};
 use tr_terms::Name;
-use tr_testing::{FailsAfter, moment};
+use tr_testing::{FailsAfter, Filling, moment};
 use uuid::Uuid;
 
 /// The identifier 1.
@@ -250,6 +250,29 @@ fn a_sink_that_fails(rt: HostRuntime) {
     let parts = parts(&rt, rt.alloc());
     for (bytes, want) in &WRITES {
         assert_write(&rt, parts.current(), *bytes, *want);
+    }
+}
+
+/// Asserts that a sink with less room than the part needs, which takes one byte a put, got the front of its texts.
+fn assert_front(rt: &impl Abort, alloc: Global, part: &Part, texts: &[u8], room: usize) {
+    let mut sink = Filling {
+        taken: Vec::new(alloc),
+        room,
+        failures: 0,
+    };
+    let answer = write_part(&mut sink, part);
+    let wanted = (room, Err(WriteFault::Write), 1);
+    assert_same(rt, (room, answer, sink.failures), wanted);
+    let front = texts.get(..room).expect(rt, "more bytes");
+    assert_same(rt, (room, sink.taken.as_slice()), (room, front));
+}
+
+#[test]
+fn a_sink_that_fails_at_any_byte_has_those_before_it(rt: HostRuntime) {
+    let parts = parts(&rt, rt.alloc());
+    let texts = texts_of_both(&rt, rt.alloc());
+    for room in 0..texts.len() {
+        assert_front(&rt, rt.alloc(), parts.current(), &texts, room);
     }
 }
 
