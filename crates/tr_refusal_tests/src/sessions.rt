@@ -323,6 +323,7 @@ impl<A: Allocator + Copy> Call<A> for Row {
             return again;
         }
         assert_same(rt, again, self.held_up(cuts));
+        assert_same(rt, object.stop(), Err(SessionFault::RotationPending));
         self.gone_on(go_on(rt, object))
     }
 }

@@ -288,7 +288,7 @@ fn go_on<N: Names, A: Allocator + Copy>(
 }
 
 /// Makes the call of a row again after this refusal. A snapshot is asked for at an earlier moment than the refused one, which
-/// has stored its own. A rotation that is pending refuses another one, at a later moment, and goes on.
+/// has stored its own. A rotation that is pending refuses another one, at a later moment, and a stop, and goes on.
 pub(super) fn again_with<N: Names, A: Allocator + Copy>(
     rt: &(impl Abort + Wait),
     seated: &mut Seated<N, A>,
@@ -303,5 +303,10 @@ pub(super) fn again_with<N: Names, A: Allocator + Copy>(
     };
     let again = asked_of(rt, seated, row.asked, moment(200));
     assert_same(rt, again, row.held_up(None));
+    assert_same(
+        rt,
+        seated.shared.stop(rt),
+        Err(SessionFault::RotationPending),
+    );
     row.gone_on(go_on(rt, &seated.shared, cuts))
 }
