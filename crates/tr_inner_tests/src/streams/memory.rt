@@ -20,10 +20,10 @@ struct Shown {
 }
 
 /// What a full ring does, and what a stream shows after the first 100,000 offers, and after as many more behind a clear.
-static MODES: [(Mode, [Shown; 2]); 2] = [
+static MODES: [(Mode, &[Shown]); 2] = [
     (
         Mode::Discard,
-        [
+        &[
             Shown {
                 last: Offered::Discarded { serial: 99_999 },
                 counts: (100_000, 99_996, 0, 0),
@@ -38,7 +38,7 @@ static MODES: [(Mode, [Shown; 2]); 2] = [
     ),
     (
         Mode::Overwrite,
-        [
+        &[
             Shown {
                 last: Offered::Stored {
                     serial: 99_999,
@@ -127,7 +127,7 @@ fn offers_take_no_memory(rt: HostRuntime) {
         let heap = LocalHeap::new(rt.alloc(), 4096).expect(&rt, "memory");
         let mut stream = new_stream(&rt, &heap, *mode, SessionMode::Local);
         stream.set_active(true);
-        for wanted in shown {
+        for wanted in *shown {
             assert_offers(&rt, rt.alloc(), &heap, &mut stream, wanted);
             take_and_clear(&rt, &mut stream);
         }
