@@ -165,6 +165,8 @@ fn round(alloc: Global, case: &Case, total: Total) -> Result<Total, OffersFault>
 }
 
 /// Runs `rounds` rounds.
+// Each table counts its own loop: inlined into one function, the loops of all tables would have to share its registers.
+#[inline(never)]
 pub fn all_rounds(alloc: Global, case: &Case, rounds: u64) -> Result<Total, OffersFault> {
     let mut total = Total::default();
     for _ in 0..rounds {

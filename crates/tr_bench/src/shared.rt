@@ -126,6 +126,8 @@ fn round<N: Names>(
 }
 
 /// Runs `rounds` rounds.
+// Each table counts its own loop: inlined into one function, the loops of all tables would have to share its registers.
+#[inline(never)]
 pub fn all_rounds(
     rt: &impl Wait,
     alloc: Global,
