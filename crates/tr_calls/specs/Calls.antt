@@ -10,8 +10,8 @@ use Rattle.tr_outcome.specs.declared.faults.LineFault.{LineFault}
 use Rattle.tr_outcome.specs.declared.faults.LineFault.TheVariants.{NoSession, BadName, Schedule, Session, Step}
 use Rattle.tr_outcome.specs.declared.ticks.TickTold.{TickTold}
 use Rattle.tr_outcome.specs.declared.ticks.TickTold.TheVariants as told
-use Rattle.tr_session_book.specs.Schedules.{ScheduleState, schedule_of}
-use Rattle.tr_session_book.specs.declared.schedule_fault.ScheduleFault.{ScheduleFault}
+use Rattle.tr_schedule.specs.Schedules.{ScheduleState, schedule_of}
+use Rattle.tr_schedule.specs.declared.faults.ScheduleFault.{ScheduleFault}
 use Rattle.tr_session.specs.Session.{SessionOf}
 use Rattle.tr_session.specs.Steps.{IsHeldUp, session_add_channel}
 use Rattle.tr_session.specs.declared.faults.StepFault.{StepFault}

@@ -9,9 +9,9 @@ ghost use Rattle.tr_stream.specs.Rules.{by_state};
 
 use crate::sessions::Sessions;
 use std::alloc::Allocator;
-use tr_chunk::Snapshot;
 use tr_outcome::LineFault;
 use tr_record::Moment;
+use tr_snapshot::Snapshot;
 
 /// Takes a snapshot of the named session.
 ///

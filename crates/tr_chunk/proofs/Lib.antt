@@ -5,5 +5,4 @@ pub mod FileLemmas
 pub mod GapLemmas
 pub mod OnlyLemmas
 pub mod ReadingLemmas
-pub mod ShownLemmas
 pub mod WaitingLemmas

@@ -4,4 +4,3 @@ pub mod Civil
 pub mod Faults
 pub mod Files
 pub mod Reading
-pub mod Snapshots

@@ -1,5 +1,4 @@
-//! The files of trace chunks: their names, what is written to them, and the audit of what they hold. Also what a snapshot
-//! shows of a session's streams, which is written as such files are.
+//! The files of trace chunks: their names, what is written to them, and the audit of what they hold.
 #![tactic(auto)]
 
 mod archive_names;
@@ -10,8 +9,6 @@ mod faults;
 mod feeds;
 pub mod laws;
 mod names;
-mod shown;
-mod snapshot;
 mod stream_audit;
 mod writing;
 
@@ -22,8 +19,6 @@ pub use audit_reader::AuditReader;
 pub use faults::WriteFault;
 pub use feeds::audit_feeds;
 pub use names::stream_file_name;
-pub use shown::{oldest_serial, records_shown};
-pub use snapshot::Snapshot;
 pub use stream_audit::{Gaps, StreamAudit};
 pub use tr_terms::OffsetMinutes;
-pub use writing::{write_metadata, write_part, write_snap, write_standing};
+pub use writing::{write_metadata, write_part, write_standing};

@@ -5,7 +5,7 @@ ghost use Rattle.tr_chunk.specs.Files.{WritesPackets, WritesStanding, WritesText
 
 use crate::faults::WriteFault;
 use std::alloc::Allocator;
-use tr_book::{Part, StreamSnap};
+use tr_book::Part;
 use tr_packet::metadata_text;
 use tr_record::{ByteSink, put_all};
 use uuid::Uuid;
@@ -26,17 +26,6 @@ pub fn write_part<A: Allocator, K: ByteSink>(sink: &mut K, part: &Part<A>) -> Re
     ensures { WritesPackets part.now.packets (sunk_of K.ByteSink sink.old) (sunk_of K.ByteSink sink.new) result }
 {
     write_standing(sink, part.text())
-}
-
-/// Writes the packets that are shown of a stream, the oldest first, as its file would have them. It takes no memory. W1 Write:
-/// the sink failed, and a prefix of them went out.
-pub fn write_snap<A: Allocator, K: ByteSink>(
-    sink: &mut K,
-    snap: &StreamSnap<A>,
-) -> Result<(), WriteFault>
-    ensures { WritesPackets snap.now.packets (sunk_of K.ByteSink sink.old) (sunk_of K.ByteSink sink.new) result }
-{
-    write_standing(sink, snap.text())
 }
 
 /// Writes the metadata text of a trace. After a refusal a prefix of it went out; after W2, none of it.

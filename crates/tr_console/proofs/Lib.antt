@@ -1,4 +1,3 @@
-pub mod AddedLaws
 pub mod AnswerLaws
 pub mod FaultLemmas
 pub mod LineSteps

@@ -18,8 +18,8 @@ use Rattle.tr_outcome.specs.declared.faults.LineFault.TheVariants.{BadName}
 use Rattle.tr_outcome.specs.declared.ticks.TickTold.{TickTold}
 use Rattle.tr_outcome.specs.declared.ticks.TickTold.TheVariants as told
 use Rattle.tr_replies.specs.Texts.{line_of, started_text, stopped_text, offered_text, taken_text, rotating_text, next_text, archived_text, snapshot_text, schedule_text, tick_text, fate_text, status_line, status_head, status_rows, status_text, status_row, archive_text, archive_line, archive_lines, lines_or_none, archives_text}
-use Rattle.tr_session_book.specs.Schedules.{ScheduleState}
-use Rattle.tr_session_book.specs.declared.schedule_fault.ScheduleFault.{ScheduleFault}
+use Rattle.tr_schedule.specs.Schedules.{ScheduleState}
+use Rattle.tr_schedule.specs.declared.faults.ScheduleFault.{ScheduleFault}
 use Rattle.tr_session.proofs.Agreement.{ResultsAgree, same-length, agree-channel, agree-thread, agree-started, agree-stopped, same-offer, agree-offer, same-take, agree-take, agree-begun, same-next, agree-next, agree-finished, same-rotate, agree-rotate, same-snapshot, agree-snapshot, agree-scheduled, same-tick, agree-tick, same-fate, same-archive_packets, same-archive_bytes}
 use Rattle.tr_session.specs.Agreement.{AllAgree, SessionsAgree}
 use Rattle.tr_session.specs.Session.{SessionOf, new_session}

@@ -2,7 +2,7 @@
 use Rattle.std.specs.Prelude.{◌≡◌, ℕ, Bool, false, List, codes, Result, Ok, Err}
 use Rattle.tr_outcome.specs.declared.faults.LineFault.{LineFault}
 use Rattle.tr_outcome.specs.declared.faults.LineFault.TheVariants.{NoSession, BadUuid, BadName, Schedule, Session, Step}
-use Rattle.tr_session_book.specs.Schedules.{schedule_fault_code, schedule_fault_name}
+use Rattle.tr_schedule.specs.Schedules.{schedule_fault_code, schedule_fault_name}
 use Rattle.tr_session.specs.Faults.{step_fault_code, step_fault_name, step_wants_memory}
 use Rattle.tr_session_book.specs.Faults.{session_fault_code, session_fault_name, session_wants_memory}
 

@@ -4,8 +4,9 @@ ghost use Rattle.std.specs.Prelude.{◌≡◌};
 ghost use Rattle.tr_outcome.specs.Faults.{line_fault_code, line_fault_name, wants_memory};
 
 use thiserror::Error;
+use tr_schedule::ScheduleFault;
 use tr_session::StepFault;
-use tr_session_book::{ScheduleFault, SessionFault};
+use tr_session_book::SessionFault;
 
 /// Why a line is refused: by the console, by a session, or by a stream. Nothing changed, except that a rotation whose
 /// allocation failed may be pending.

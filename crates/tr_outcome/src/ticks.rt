@@ -1,7 +1,7 @@
 //! Ticks, as a line's call answers them.
 
 use crate::archives::NamedArchive;
-use tr_session_book::Cause;
+use tr_schedule::Cause;
 
 /// What a tick did, for its answer.
 #[derive(Clone, Copy, Debug, PartialEq, Eq)]

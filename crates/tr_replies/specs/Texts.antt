@@ -12,8 +12,8 @@ use Rattle.tr_outcome.specs.declared.ticks.TickTold.{TickTold}
 use Rattle.tr_outcome.specs.declared.ticks.TickTold.TheVariants as told
 use Rattle.tr_packet.specs.Packets.{Contents}
 use Rattle.tr_record.specs.Records.{Entry}
-use Rattle.tr_session_book.specs.Due.{cause_word}
-use Rattle.tr_session_book.specs.Schedules.{ScheduleState}
+use Rattle.tr_schedule.specs.Due.{cause_word}
+use Rattle.tr_schedule.specs.Schedules.{ScheduleState}
 use Rattle.tr_session.specs.Session.{SessionOf}
 use Rattle.tr_session.specs.Sizes.{archive_packets, archive_bytes}
 use Rattle.tr_session.specs.declared.rotation.Next.{Next}
@@ -23,7 +23,7 @@ use Rattle.tr_session_book.specs.declared.archive.Archive.{Archive}
 use Rattle.tr_session_book.specs.declared.archive.Pending.{Pending}
 use Rattle.tr_session_book.specs.declared.state.State.{State}
 use Rattle.tr_session_book.specs.declared.state.State.TheVariants.{New, Active, Inactive}
-use Rattle.tr_chunk.specs.Snapshots.{SnapshotState, entries_shown}
+use Rattle.tr_snapshot.specs.Snapshots.{SnapshotState, entries_shown}
 use Rattle.tr_stream.specs.Rules.{StreamRules}
 use Rattle.tr_stream.specs.declared.answers.Offered.{Offered}
 use Rattle.tr_stream.specs.declared.answers.Offered.TheVariants.{Stored, StoredOver, Discarded}

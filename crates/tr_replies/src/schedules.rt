@@ -9,7 +9,7 @@ use crate::replies::{Reply, refusal};
 use std::alloc::{AllocError, Allocator};
 use tr_chunk::archive_name;
 use tr_outcome::{LineFault, NamedArchive, TickTold};
-use tr_session_book::Schedule;
+use tr_schedule::Schedule;
 
 /// The answer to a schedule. If an allocation failed there is none.
 pub fn schedule_reply<A: Allocator + Copy>(

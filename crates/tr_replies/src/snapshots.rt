@@ -9,9 +9,9 @@ use crate::replies::{Reply, refusal};
 use std::alloc::{AllocError, Allocator};
 use std::fmt::Write;
 use tr_book::StreamSnap;
-use tr_chunk::{Snapshot, records_shown};
 use tr_outcome::LineFault;
 use tr_packet::PacketView;
+use tr_snapshot::{Snapshot, records_shown};
 
 /// Adds the line of a packet.
 fn push_packet<A: Allocator>(

@@ -1,3 +1,2 @@
 pub mod PageLaws
 pub mod RecordLaws
-pub mod SubBufferLaws

@@ -4,7 +4,7 @@ use Rattle.std.specs.List.{AllByRecursion}
 use Rattle.std.specs.Option.{option_map}
 use Rattle.tr_record.specs.Records.{has_serial}
 use Rattle.circular_buffer.specs.Buffer.{Buffer}
-use Rattle.tr_ring.specs.SubBuffer.{SubBuffer, empty_buffer}
+use Rattle.tr_subbuf.specs.SubBuffer.{SubBuffer, empty_buffer}
 use Rattle.tr_ring.specs.ClosedBuffer.{ClosedBuffer}
 
 -- a page that waits: the closed sub-buffer in it, and its size

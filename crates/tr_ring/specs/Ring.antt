@@ -4,7 +4,7 @@ use Rattle.std.specs.List.{AllByRecursion, flat_map}
 use Rattle.std.specs.Option.{option_map, option_or}
 use Rattle.tr_record.specs.Records.{Entry, has_serial}
 use Rattle.tr_record.specs.Weight.{weight_of}
-use Rattle.tr_ring.specs.SubBuffer.{SubBuffer, has_room, sub_buffer}
+use Rattle.tr_subbuf.specs.SubBuffer.{SubBuffer, has_room, sub_buffer}
 use Rattle.tr_ring.specs.declared.pushed.Pushed.{Pushed}
 use Rattle.tr_ring.specs.declared.pushed.Pushed.TheVariants.{Stored, StoredOver, Discarded}
 use Rattle.tr_ring.specs.ClosedBuffer.{ClosedBuffer, closed_buffer}

@@ -3,10 +3,10 @@
 ghost use Rattle.std.specs.Prelude.{◌≡◌, length, slice_get};
 ghost use Rattle.tr_ring.specs.ClosedBuffer.{closed_buffer};
 
-use crate::SubBuf;
 use std::alloc::{Allocator, Global};
 use std::marker::Model;
 use tr_record::{Moment, RecView, Records};
+use tr_subbuf::SubBuf;
 
 /// A closed sub-buffer, which waits to be consumed, as its ring lends it. Contracts see a `ClosedBuffer`.
 #[derive(Drop)]

@@ -7,9 +7,7 @@ mod closed;
 mod pushed;
 mod ring;
 mod sealed;
-mod sub_buffer;
 
 pub use closed::ClosedSubBuf;
 pub use pushed::Pushed;
 pub use ring::Ring;
-pub use sub_buffer::SubBuf;

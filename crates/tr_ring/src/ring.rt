@@ -8,7 +8,6 @@ ghost use Rattle.tr_ring.specs.Pages.{ArePages, sealed_page, seq_in_pages};
 ghost use Rattle.tr_ring.specs.Ring.{IsRing, empty_ring, current_buffer, after_push, push_answer, follow_current, remove_oldest, close_current, clear_ring, seq_waiting, seq_of, ring_records};
 ghost use Rattle.tr_terms.specs.declared.limits.TheConstants.{FEWEST_SUB_BUFFERS, LARGEST_PACKET, SMALLEST_PACKET};
 
-use crate::SubBuf;
 use crate::closed::ClosedSubBuf;
 use crate::pushed::Pushed;
 use crate::sealed::Sealed;
@@ -17,6 +16,7 @@ use std::alloc::{AllocError, Allocator, Global};
 use std::marker::Model;
 use std::mem;
 use tr_record::{Moment, RecView};
+use tr_subbuf::SubBuf;
 
 /// The closed sub-buffers that wait, the current one, and those that are free. Their pages go round, and no call but `new`
 /// takes memory. Contracts see a `RingState`.

@@ -2,15 +2,15 @@
 
 ghost use Rattle.std.specs.Prelude.{◌≡◌};
 ghost use Rattle.tr_record.specs.Records.{has_serial};
-ghost use Rattle.tr_ring.specs.SubBuffer.{empty_buffer};
+ghost use Rattle.tr_subbuf.specs.SubBuffer.{empty_buffer};
 ghost use Rattle.tr_ring.specs.ClosedBuffer.{closed_buffer};
 ghost use Rattle.tr_ring.specs.Pages.{sealed_page};
 
-use crate::SubBuf;
 use crate::closed::ClosedSubBuf;
 use std::alloc::Allocator;
 use std::marker::Model;
 use tr_record::Moment;
+use tr_subbuf::SubBuf;
 
 /// The page of a closed sub-buffer, with what its ring notes of it. Contracts see a `SealedPage`.
 #[derive(Drop)]

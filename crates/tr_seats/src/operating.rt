@@ -11,8 +11,9 @@ use crate::desk::Desk;
 use crate::names::Names;
 use crate::slot::Slot;
 use std::alloc::Allocator;
+use tr_schedule::Schedule;
 use tr_session::StepFault;
-use tr_session_book::{Archive, Schedule, SessionFault};
+use tr_session_book::{Archive, SessionFault};
 use tr_stream::{CutDone, CutFault};
 use tr_terms::{Moment, SessionMode};
 

@@ -14,8 +14,8 @@ use Rattle.tr_book.specs.Parts.{PartState, part_bytes, part_packets}
 use Rattle.tr_book.specs.Snaps.{SnapState}
 use Rattle.tr_book.specs.declared.counts.Counts.{Counts}
 use Rattle.tr_terms.specs.declared.mode.Mode.{Mode}
-use Rattle.tr_session_book.specs.Schedules.{ScheduleState}
-use Rattle.tr_session_book.specs.declared.cause.Cause.{Cause}
+use Rattle.tr_schedule.specs.Schedules.{ScheduleState}
+use Rattle.tr_schedule.specs.declared.cause.Cause.{Cause}
 use Rattle.tr_session.specs.Agreement.{AllAgree, CanBeMade, AllCanBeMade, SessionsAgree}
 use Rattle.tr_session_book.specs.Book.{SessionBookState}
 use Rattle.tr_session_book.specs.BookSteps.{unless_refused, is_new, is_allowed, channel_named, channel_of_geometry, book_add_channel, thread_place, with_thread, book_start_answer, with_start, book_after_start, book_stop_answer, with_stop, book_after_stop, book_switch_answer, book_rotate_begin_answer, with_pending, book_after_rotate_begin, cut_moment, with_cut, book_rotate_finish_answer, with_archive, book_after_rotate_finish, snapshot_allowed, book_snapshot_begin_answer, book_after_snapshot_begin, snap_allowed, book_schedule_answer, book_after_schedule, due_now}
@@ -29,7 +29,7 @@ use Rattle.tr_session_book.specs.declared.faults.SessionFault.{SessionFault}
 use Rattle.tr_session.specs.declared.faults.StepFault.{StepFault}
 use Rattle.tr_session.specs.declared.rotation.Next.TheVariants as next
 use Rattle.tr_stream.proofs.RuleLaws.{agree-made, agree-offered, agree-taken, agree-cut, agree-turned, same-counted, same-cut, same-fated, same-offered, same-parted, same-snapped, same-taken}
-use Rattle.tr_chunk.specs.Snapshots.{SnapshotState}
+use Rattle.tr_snapshot.specs.Snapshots.{SnapshotState}
 use Rattle.tr_stream.specs.Rules.{Traced, Agrees, by_state, by_history}
 use Rattle.tr_stream.specs.State.{StreamState}
 use Rattle.tr_stream.specs.declared.answers.CutDone.{CutDone}

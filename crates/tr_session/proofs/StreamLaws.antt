@@ -15,7 +15,7 @@ use Rattle.tr_session_book.specs.declared.archive.Pending.{Pending}
 use Rattle.tr_session_book.specs.declared.channel.Channel.{Channel}
 use Rattle.tr_session_book.specs.declared.faults.SessionFault.{SessionFault}
 use Rattle.tr_session_book.specs.declared.faults.SessionFault.TheVariants.{CutMissing, NeverStarted, NoStream, NotPending, RotationPending, SnapshotMode}
-use Rattle.tr_session_book.specs.Schedules.{ScheduleState}
+use Rattle.tr_schedule.specs.Schedules.{ScheduleState}
 use Rattle.tr_ring.specs.ClosedBuffer.{ClosedBuffer}
 use Rattle.tr_stream.specs.State.{StreamState}
 use Rattle.tr_stream.specs.StateSteps.{state_entry, move_oldest, refusal_of, state_after_cut, state_after_offer, state_after_take, state_after_switch, state_unless}

@@ -3,7 +3,7 @@ use Rattle.std.specs.Prelude.{◌≡◌, ◌≢◌, ◌<◌, ◌⊎◌, ℕ, max
 use Rattle.std.specs.Option.{option_map_or}
 use Rattle.tr_book.specs.Snaps.{SnapState}
 use Rattle.tr_terms.specs.declared.mode.Mode.{Mode}
-use Rattle.tr_session_book.specs.declared.cause.Cause.{Cause}
+use Rattle.tr_schedule.specs.declared.cause.Cause.{Cause}
 use Rattle.tr_session_book.specs.Book.{SessionBookState}
 use Rattle.tr_session_book.specs.BookSteps.{unless_refused, channel_named, book_add_channel, thread_place, with_thread, book_start_answer, book_after_start, book_stop_answer, book_after_stop, book_switch_answer, book_rotate_begin_answer, archive_ended, with_pending, book_after_rotate_begin, cut_moment, with_cut, book_rotate_finish_answer, book_after_rotate_finish, book_snapshot_begin_answer, book_after_snapshot_begin, snap_allowed, due_now}
 use Rattle.tr_session.specs.Session.{SessionOf, session_of}
@@ -18,7 +18,7 @@ use Rattle.tr_session.specs.declared.rotation.Next.{Next}
 use Rattle.tr_session.specs.declared.rotation.Next.TheVariants as next
 use Rattle.tr_session.specs.declared.ticks.Ticked.{Ticked}
 use Rattle.tr_session.specs.declared.ticks.Ticked.TheVariants as ticked
-use Rattle.tr_chunk.specs.Snapshots.{SnapshotState, snapshot_state}
+use Rattle.tr_snapshot.specs.Snapshots.{SnapshotState, snapshot_state}
 use Rattle.tr_stream.specs.Rules.{StreamRules}
 use Rattle.tr_stream.specs.declared.answers.CutDone.{CutDone}
 use Rattle.tr_stream.specs.declared.answers.CutFault.{CutFault}

@@ -13,7 +13,8 @@ use crate::streams::{cut_at, offer_at, sizes_of, snap_all, switch, switch_at, ta
 use std::alloc::{AllocError, Allocator, Global};
 use std::marker::Model;
 use tr_book::StreamSnap;
-use tr_session_book::{Archive, Channel, Schedule, SessionBook, SessionFault};
+use tr_schedule::Schedule;
+use tr_session_book::{Archive, Channel, SessionBook, SessionFault};
 use tr_stream::{CutDone, CutFault, Fate, Offered, Stream, TakeFault, Taken};
 use tr_terms::{Mode, Moment, Name, OffsetMinutes, SessionMode};
 use uuid::Uuid;

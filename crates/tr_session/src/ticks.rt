@@ -8,7 +8,8 @@ ghost use Rattle.tr_stream.specs.Rules.{by_state};
 use crate::session::Session;
 use std::alloc::Allocator;
 use tr_record::Moment;
-use tr_session_book::{Archive, Cause, SessionFault};
+use tr_schedule::Cause;
+use tr_session_book::{Archive, SessionFault};
 
 /// What a tick did.
 #[derive(Clone, Copy, Debug, PartialEq, Eq)]

@@ -2,6 +2,8 @@
 use Rattle.std.proofs.Common.{◌≡◌, ◌∙◌, ℕ, Bool, true, false, List, length, map, arith, ◌≤◌, ◌<◌, Result, Ok, Err, Option, Some, refl, subst, sym, ap}
 use Rattle.std.proofs.lemmas.Option.{slice_get-map}
 use Rattle.std.proofs.lemmas.Bool.Decides.{nat_tests}
+use Rattle.std.specs.List.{position_or_len}
+use Rattle.std.specs.Map.{keys_of}
 use Rattle.std.specs.Prelude.{String, nat_le, nat_lt, option_map, position, slice_get}
 use Rattle.std.specs.Str.{bytes_eq}
 use Rattle.std.specs.String.{string_bytes}
@@ -32,13 +34,27 @@ place-left b place n is room = let so : nat_le MOST_STREAMS (length b.threads) �
     subst (λ (m : ℕ). nat_le MOST_STREAMS m ≡ false) is (has-room n room) in rw so refl
 
 module _ {Z : Type 0} where
+  length-names : (es : List (String Z × Channel)) → length (keys_of es) ≡ length (names (by_name es))
+  length-names [] = refl
+  length-names (e ∷ es) = ap suc (length-names es)
+
+  first-by_name : (name : List ℕ) (es : List (String Z × Channel))
+      → position_or_len (λ key. bytes_eq name (string_bytes key)) (keys_of es)
+      ≡ position_or_len (bytes_eq name) (names (by_name es))
+  first-by_name name [] = refl
+  first-by_name name (e ∷ es) = let rest = first-by_name name es in cc
+
+  position-by_name : (name : List ℕ) (es : List (String Z × Channel))
+      → position (λ key. bytes_eq name (string_bytes key)) (keys_of es) ≡ position (bytes_eq name) (names (by_name es))
+  position-by_name name es = let first = first-by_name name es in let length = length-names es in cc
+
   -- where a thread of the channel of this name would go
   pub thread_place-is : (name : List ℕ) (es : List (String Z × Channel)) (b : SessionBookState) (place : Option ℕ)
       → by_name es ≡ b.channels → is_new b.state ≡ true
-      → place ≡ position (bytes_eq name) (names (by_name es)) → thread_place name b ≡ place_free place b
+      → place ≡ position (λ key. bytes_eq name (string_bytes key)) (keys_of es) → thread_place name b ≡ place_free place b
   thread_place-is name es b place channels fresh at =
       let found : position (bytes_eq name) (names b.channels) ≡ place =
-      ap (λ cs. position (bytes_eq name) (names cs)) (sym channels) ∙ sym at in
+      ap (λ cs. position (bytes_eq name) (names cs)) (sym channels) ∙ sym (position-by_name name es) ∙ sym at in
       rw (fresh, found) refl
 
   -- the channel's name at a place

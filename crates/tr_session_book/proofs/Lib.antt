@@ -1,4 +1,3 @@
 pub mod BookLaws
 pub mod ListLaws
 pub mod NameLaws
-pub mod TotalLemmas

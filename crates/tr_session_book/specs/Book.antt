@@ -1,6 +1,6 @@
 -- What a session keeps beside its streams.
 use Rattle.std.specs.Prelude.{ℕ, ℤ, Bool, false, List, [], Option, None}
-use Rattle.tr_session_book.specs.Schedules.{ScheduleState}
+use Rattle.tr_schedule.specs.Schedules.{ScheduleState}
 use Rattle.tr_session_book.specs.declared.archive.Archive.{Archive}
 use Rattle.tr_session_book.specs.declared.archive.Pending.{Pending}
 use Rattle.tr_session_book.specs.declared.channel.Channel.{Channel}

@@ -6,9 +6,9 @@ use Rattle.tr_terms.specs.Geometry.{GeometryState, geometry_of}
 use Rattle.tr_terms.specs.declared.geometry.GeometryFault.{GeometryFault}
 use Rattle.tr_terms.specs.declared.mode.Mode.{Mode}
 use Rattle.tr_terms.specs.declared.mode.Mode.TheVariants.{Discard, Overwrite}
-use Rattle.tr_session_book.specs.Due.{due_cause}
-use Rattle.tr_session_book.specs.Schedules.{ScheduleState}
-use Rattle.tr_session_book.specs.declared.cause.Cause.{Cause}
+use Rattle.tr_schedule.specs.Due.{due_cause}
+use Rattle.tr_schedule.specs.Schedules.{ScheduleState}
+use Rattle.tr_schedule.specs.declared.cause.Cause.{Cause}
 use Rattle.tr_session_book.specs.Book.{SessionBookState}
 use Rattle.tr_session_book.specs.Names.{AreNamed}
 use Rattle.tr_session_book.specs.declared.archive.Archive.{Archive}

@@ -1,21 +1,19 @@
 //! The book of a session: what it keeps beside its streams.
 
-ghost use Rattle.std.specs.Prelude.{◌≡◌, ◌≢◌, ◌+◌, ◌<◌, ◌^◌, [], false, None, Some, Ok, Err, IsOk, IfOk, OnOk, IfErr, OnErr, is_some, length, map, option_map, position};
-ghost use Rattle.std.specs.Map.{lookup};
-ghost use Rattle.std.specs.Str.{bytes_eq};
-ghost use Rattle.std.specs.String.{string_bytes};
+ghost use Rattle.std.specs.Prelude.{◌≡◌, ◌≢◌, ◌+◌, ◌<◌, ◌^◌, [], false, None, Some, Ok, Err, IsOk, IfOk, OnOk, IfErr, OnErr, is_some, length};
 ghost use Rattle.tr_session_book.specs.Book.{new_book};
 ghost use Rattle.tr_session_book.specs.BookSteps.{is_new, channel_named, book_add_channel, with_channel, thread_place, book_add_thread, with_thread, book_start_answer, book_after_start, book_stop_answer, book_after_stop, book_switch_answer, book_rotate_begin_answer, with_pending, book_after_rotate_begin, cut_moment, with_cut, book_note_cut_answer, book_after_note_cut, book_rotate_finish_answer, book_after_rotate_finish, is_allowed};
-ghost use Rattle.tr_session_book.specs.Names.{by_name};
 ghost use Rattle.tr_terms.specs.declared.limits.TheConstants.{MOST_CHANNELS, MOST_STREAMS};
 
-use crate::Schedule;
 use crate::archive::{Archive, Pending};
 use crate::channel::Channel;
 use crate::faults::SessionFault;
 use crate::state::State;
+use indexmap::IndexMap;
 use std::alloc::{AllocError, Allocator, Global};
+use std::hash::{BuildHasherDefault, FoldHasher};
 use std::marker::Model;
+use tr_schedule::Schedule;
 use tr_terms::limits::{MOST_CHANNELS, MOST_STREAMS};
 use tr_terms::{Geometry, Mode, Moment, Name, OffsetMinutes, SessionMode};
 use uuid::Uuid;
@@ -34,29 +32,6 @@ fn is_allowed(session: SessionMode, mode: Mode) -> bool
     }
 }
 
-/// The place of the channel of this name among these.
-fn place_named<A: Allocator>(channels: &[(String<A>, Channel)], name: &str) -> Option<usize>
-    ensures { result ≡ position (λ named. bytes_eq name.now (string_bytes named.0)) channels.now }
-{
-    channels
-        .iter()
-        .position(|(known, _)| name == known.as_str())
-}
-
-/// The channel of this name among these, with its place.
-fn find_channel<'a, A: Allocator>(
-    channels: &'a [(String<A>, Channel)],
-    name: &str,
-) -> Option<(usize, &'a Channel)>
-    ensures place { option_map (λ found. found.0) result
-        ≡ position (bytes_eq name.now) (map (λ named. named.0) (by_name channels.now)) }
-    ensures channel { option_map (λ found. found.1.now) result ≡ lookup (bytes_eq name.now) (by_name channels.now) }
-{
-    let place = place_named(channels, name)?;
-    let (_, channel) = channels.get(place)?;
-    Some((place, channel))
-}
-
 /// What a session keeps beside its streams: its channels and the threads that were added to them, what it allows, its
 /// rotations and its archives. Contracts see a `SessionBookState`.
 #[derive(Drop)]
@@ -69,7 +44,7 @@ pub struct SessionBook<A: Allocator = Global> {
     rotated: bool,
     last: Moment,
     begin: Moment,
-    channels: Vec<(String<A>, Channel), A>,
+    channels: IndexMap<String<A>, Channel, BuildHasherDefault<FoldHasher>, A>,
     threads: Vec<usize, A>,
     pending: Option<Pending>,
     archives: Vec<Archive, A>,
@@ -83,7 +58,7 @@ impl<A: Allocator> Model for SessionBook<A> {
     ghost Value = { SessionBookState };
 
     ghost view = { λ b. session_book_state b.uuid b.offset b.mode b.state b.rotated b.last b.begin
-        (by_name b.channels.items) b.threads.items b.pending b.archives.items b.schedule };
+        (by_name b.channels.entries) b.threads.items b.pending b.archives.items b.schedule };
 
     ghost use Rattle.std.specs.Prelude.{◌≡◌, ◌<◌, true, is_some, vec_capacity, vec_len};
     ghost use Rattle.tr_session_book.specs.BookSteps.{IsBook};
@@ -92,7 +67,7 @@ impl<A: Allocator> Model for SessionBook<A> {
     ghost invariant = { λ b.
         (is_some b.pending ≡ true → vec_len b.archives < vec_capacity b.archives)
         × IsBook (session_book_state b.uuid b.offset b.mode b.state b.rotated b.last b.begin
-        (by_name b.channels.items) b.threads.items b.pending b.archives.items b.schedule) };
+        (by_name b.channels.entries) b.threads.items b.pending b.archives.items b.schedule) };
 }
 
 impl<A: Allocator + Copy> SessionBook<A> {
@@ -109,7 +84,7 @@ impl<A: Allocator + Copy> SessionBook<A> {
             rotated: false,
             last: Moment::zero(),
             begin: Moment::zero(),
-            channels: Vec::new(alloc),
+            channels: IndexMap::new(alloc),
             threads: Vec::new(alloc),
             pending: None,
             archives: Vec::new(alloc),
@@ -151,7 +126,7 @@ impl<A: Allocator + Copy> SessionBook<A> {
         ensures err { OnErr result (self.new ≡ self.old) }
     {
         let name = String::from_str(self.alloc, name.as_str())?;
-        self.channels.push((name, channel))?;
+        self.channels.insert(name, channel)?;
         Ok(())
     }
 
@@ -272,7 +247,7 @@ impl<A: Allocator> SessionBook<A> {
         if self.state != State::New {
             return Err(SessionFault::AlreadyStarted);
         }
-        let Some((place, channel)) = find_channel(&self.channels, name) else {
+        let Some((place, _, channel)) = self.channels.get_full(name) else {
             return Err(SessionFault::NoChannel);
         };
         if self.streams() >= MOST_STREAMS {

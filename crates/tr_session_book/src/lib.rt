@@ -4,18 +4,12 @@
 
 mod archive;
 mod book;
-mod cause;
 mod channel;
 mod faults;
-mod schedule;
-mod schedule_fault;
 mod state;
 
 pub use archive::{Archive, Pending};
 pub use book::SessionBook;
-pub use cause::Cause;
 pub use channel::Channel;
 pub use faults::SessionFault;
-pub use schedule::Schedule;
-pub use schedule_fault::ScheduleFault;
 pub use state::State;

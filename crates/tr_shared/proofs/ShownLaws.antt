@@ -13,7 +13,7 @@ use Rattle.tr_ring.specs.ClosedBuffer.{ClosedBuffer}
 use Rattle.tr_ring.specs.Ring.{IsClosedWithin, RingState, ring_records, seq_after}
 use Rattle.tr_seats.specs.Books.{IsPlan, IsPlanned, PlanState}
 use Rattle.tr_shared.specs.Shown.{IsShownFrom}
-use Rattle.tr_chunk.specs.Snapshots.{entries_shown}
+use Rattle.tr_snapshot.specs.Snapshots.{entries_shown}
 use Rattle.tr_stream.specs.Chunks.{closed_if_any, packet_of, ring_buffers}
 use Rattle.tr_stream.specs.Consistent.{CountUp, GapsAgree, IsConsistent, SerialsFollow, buffers_of, first_in}
 use Rattle.tr_stream.proofs.PieceLaws.{buffers_in, none-cleared}

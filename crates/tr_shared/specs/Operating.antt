@@ -1,6 +1,6 @@
 -- What operators do at a shared session's desk, under its lock.
 use Rattle.std.specs.Prelude.{◌≡◌, ◌⊎◌, ◌<◌, ℕ, nat_lt, length, Option, Some, None, Result, Ok, Err, if◌then◌else◌}
-use Rattle.tr_session_book.specs.declared.cause.Cause.{Cause}
+use Rattle.tr_schedule.specs.declared.cause.Cause.{Cause}
 use Rattle.tr_seats.specs.Desks.{DeskState}
 use Rattle.tr_session.specs.declared.faults.StepFault.{StepFault}
 use Rattle.tr_session.specs.declared.faults.StepFault.TheVariants.{Session, Offer, Take, Cut}

@@ -4,7 +4,7 @@ use Rattle.tr_book.specs.Snaps.{SnapState}
 use Rattle.tr_seats.specs.Books.{IsPlanned, PlanState}
 use Rattle.tr_seats.specs.Slots.{IsOwn, ProducerState}
 use Rattle.tr_seats.specs.Sums.{totals_in}
-use Rattle.tr_chunk.specs.Snapshots.{SnapshotState, entries_shown}
+use Rattle.tr_snapshot.specs.Snapshots.{SnapshotState, entries_shown}
 use Rattle.tr_stream.specs.Consistent.{SerialsFollow}
 use Rattle.tr_stream.specs.Kept.{IsKept}
 use Rattle.tr_stream.specs.State.{StreamState}

@@ -8,9 +8,10 @@ use crate::rotating::{begin_if_due, cut_next, next_of};
 use crate::shared::Shared;
 use std::alloc::Allocator;
 use std::sync::Wait;
+use tr_schedule::{Cause, Schedule};
 use tr_seats::Names;
 use tr_session::{Next, Ticked};
-use tr_session_book::{Archive, Cause, Schedule, SessionFault};
+use tr_session_book::{Archive, SessionFault};
 use tr_terms::{Moment, SessionMode};
 
 impl<N: Names, A: Allocator> Shared<N, A> {

@@ -10,9 +10,9 @@ use crate::shared::Shared;
 use std::alloc::Allocator;
 use std::sync::Wait;
 use tr_book::StreamSnap;
-use tr_chunk::Snapshot;
 use tr_seats::{Names, Producer};
 use tr_session_book::SessionFault;
+use tr_snapshot::Snapshot;
 use tr_terms::{Moment, SessionMode};
 
 impl<N: Names, A: Allocator + Copy> Shared<N, A> {

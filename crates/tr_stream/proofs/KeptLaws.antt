@@ -23,7 +23,7 @@ use Rattle.tr_stream.specs.Steps.{history_clear_ring, history_cut_ring, history_
 use Rattle.tr_stream.specs.declared.answers.OfferFault.{OfferFault}
 use Rattle.tr_terms.specs.declared.session_mode.SessionMode.TheVariants.{Local}
 use Rattle.tr_stream.specs.declared.config.StreamConfig.{StreamConfig}
-use Rattle.tr_ring.specs.SubBuffer.{has_room}
+use Rattle.tr_subbuf.specs.SubBuffer.{has_room}
 
 pub overwrites-is : (m : Mode) → overwrites m ≡ true → m ≡ Overwrite
 overwrites-is Discard e = cc

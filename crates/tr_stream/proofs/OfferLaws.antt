@@ -20,7 +20,7 @@ use Rattle.tr_stream.specs.StateSteps.{state_entry, refusal_of, state_answer_unl
 use Rattle.tr_stream.specs.Steps.{Course, Refuse, Join, Follow, DiscardNewest, Replace, course_of, course_when_full, course_answer, after_course, history_entry, follow_filling, history_offer_answer, history_after_offer}
 use Rattle.tr_stream.specs.declared.answers.OfferFault.{OfferFault}
 use Rattle.tr_stream.specs.declared.answers.Offered.{Offered}
-use Rattle.tr_ring.specs.SubBuffer.{has_room}
+use Rattle.tr_subbuf.specs.SubBuffer.{has_room}
 use Rattle.tr_ring.specs.Ring.{push_answer}
 
 -- an offer of this many bytes that is accepted

@@ -25,7 +25,7 @@ use Rattle.tr_stream.specs.declared.answers.OfferFault.{OfferFault}
 use Rattle.tr_terms.specs.declared.session_mode.SessionMode.{SessionMode}
 use Rattle.tr_terms.specs.declared.session_mode.SessionMode.TheVariants.{Local, Snapshot}
 use Rattle.tr_stream.specs.declared.config.StreamConfig.{StreamConfig}
-use Rattle.tr_ring.specs.SubBuffer.{has_room}
+use Rattle.tr_subbuf.specs.SubBuffer.{has_room}
 use Rattle.tr_terms.specs.SessionModes.{by_session_mode}
 
 -- a push leaves the ring as it was made

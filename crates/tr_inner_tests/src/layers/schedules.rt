@@ -2,7 +2,7 @@
 
 use super::assert_same;
 use std::process::Abort;
-use tr_session_book::{Cause, Schedule, ScheduleFault};
+use tr_schedule::{Cause, Schedule, ScheduleFault};
 use tr_terms::Moment;
 use tr_testing::moment;
 

@@ -1,7 +1,8 @@
 use super::assert_same;
 use std::alloc::Global;
 use std::process::Abort;
-use tr_session_book::{Archive, Schedule, SessionBook, SessionFault};
+use tr_schedule::Schedule;
+use tr_session_book::{Archive, SessionBook, SessionFault};
 use tr_terms::{Mode, Moment, Name, OffsetMinutes, SessionMode};
 use tr_testing::moment;
 use uuid::Uuid;

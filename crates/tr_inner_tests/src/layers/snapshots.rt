@@ -5,9 +5,10 @@ use crate::packing::put;
 use std::alloc::Global;
 use std::process::Abort;
 use tr_book::StreamSnap;
-use tr_chunk::{Snapshot, WriteFault, oldest_serial, records_shown, write_snap};
+use tr_chunk::WriteFault;
 use tr_packet::{PacketTexts, decode_packet};
 use tr_record::{MemorySink, Records, WriterSink};
+use tr_snapshot::{Snapshot, oldest_serial, records_shown, write_snap};
 use tr_testing::{FailsAfter, moment};
 
 /// A stream after six offers of 64 bytes; its ring of two sub-buffers holds the last four.

@@ -3,7 +3,7 @@
 use super::{assert_record, assert_same, payload};
 use std::process::Abort;
 use tr_record::RecView;
-use tr_ring::SubBuf;
+use tr_subbuf::SubBuf;
 use tr_testing::moment;
 
 /// Puts a record with a payload of 50 bytes.

@@ -5,7 +5,7 @@ use std::alloc::Global;
 use std::fmt::Display;
 use std::process::Abort;
 use tr_book::GeometryFault;
-use tr_session_book::{Cause, ScheduleFault};
+use tr_schedule::{Cause, ScheduleFault};
 
 static GEOMETRY: [(GeometryFault, (&str, &str, &str)); 2] = [
     (GeometryFault::BadSize, ("G1", "BadSize", "G1 BadSize")),

@@ -6,9 +6,9 @@ use Call::{
 };
 use std::alloc::Global;
 use std::process::Abort;
-use tr_chunk::{oldest_serial, records_shown};
 use tr_session::{Answer, ChannelConfig, Config, Event, Session, StepFault, run_session};
 use tr_session_book::SessionFault;
+use tr_snapshot::{oldest_serial, records_shown};
 use tr_stream::{CutDone, Fate, Offered, Payload, Taken};
 use tr_terms::{Mode, Name, OffsetMinutes, SessionMode};
 use tr_testing::moment;

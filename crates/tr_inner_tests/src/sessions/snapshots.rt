@@ -8,13 +8,13 @@ use linked_list_allocator::LocalHeap;
 use std::alloc::{Allocator, Global};
 use std::process::Abort;
 use tr_book::StreamSnap;
-use tr_chunk::{Snapshot, oldest_serial, records_shown, write_snap};
 use tr_record::MemorySink;
 use tr_session::{Session, StepFault};
 use tr_session_book::SessionFault::{
     BadGeometry, DiscardInSnapshot, NameTaken, NeverStarted, NoMemory, NoStream, NotSnapshotMode,
     SnapshotMode,
 };
+use tr_snapshot::{Snapshot, oldest_serial, records_shown, write_snap};
 use tr_stream::TakeFault;
 use tr_terms::{Mode, SessionMode};
 use tr_testing::{fill, moment};

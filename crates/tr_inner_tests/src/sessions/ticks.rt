@@ -5,8 +5,8 @@ use super::Step::{
     Threads, Tick,
 };
 use super::assert_lists;
+use tr_schedule::Cause::{Size, Timer};
 use tr_session::Next::Cut;
-use tr_session_book::Cause::{Size, Timer};
 use tr_stream::Taken;
 use tr_terms::{Mode, SessionMode};
 

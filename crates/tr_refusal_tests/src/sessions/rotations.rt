@@ -1,7 +1,7 @@
 //! Whole rotations, which a refusal holds up.
 
 use super::{Asked, NO_MEMORY, Row, Step, Told, refuse_rows};
-use tr_session_book::Cause;
+use tr_schedule::Cause;
 use tr_terms::SessionMode;
 
 /// Four streams, each of which holds a packet more than the one before it: so its cut asks for more memory.

@@ -5,7 +5,7 @@ ghost use Rattle.tr_session_book.specs.declared.archive.Archive as value;
 ghost use Rattle.tr_session_book.specs.BookSteps.{channel_named, channel_of};
 ghost use Rattle.tr_terms.specs.declared.limits.TheConstants.{MOST_CHANNELS, MOST_STREAMS};
 
-use super::{SessionBook, find_channel};
+use super::SessionBook;
 use crate::archive::{Archive, Pending};
 use crate::channel::Channel;
 use crate::state::State;
@@ -68,8 +68,7 @@ impl<A: Allocator> SessionBook<A> {
     pub fn channel(&self, name: &str) -> Option<&Channel>
         ensures { option_copied result ≡ channel_named name.now self.now }
     {
-        let (_, channel) = find_channel(&self.channels, name)?;
-        Some(channel)
+        self.channels.get(name)
     }
 
     /// How many streams there are.
@@ -85,7 +84,7 @@ impl<A: Allocator> SessionBook<A> {
         ensures { result ≡ channel_of i self.now }
     {
         let place = self.threads.get(i as usize)?;
-        let (name, _) = self.channels.get(*place)?;
+        let (name, _) = self.channels.get_index(*place)?;
         Name::new(name.as_str())
     }
 

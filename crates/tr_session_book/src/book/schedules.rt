@@ -4,10 +4,10 @@ ghost use Rattle.std.specs.Prelude.{◌≡◌};
 ghost use Rattle.tr_session_book.specs.BookSteps.{book_schedule_answer, book_after_schedule, schedule_in_force};
 
 use super::SessionBook;
-use crate::Schedule;
 use crate::faults::SessionFault;
 use crate::state::State;
 use std::alloc::Allocator;
+use tr_schedule::Schedule;
 use tr_terms::SessionMode;
 
 impl<A: Allocator> SessionBook<A> {

@@ -11,8 +11,7 @@ use Rattle.tr_console.specs.Replies.{Does}
 use Rattle.tr_terms.specs.Names.{is_name}
 use Rattle.tr_outcome.specs.declared.faults.LineFault.TheVariants as fault
 use Rattle.tr_session.specs.Session.{new_session}
-use Rattle.tr_console.proofs.AddedLaws.{insert_entry-new_name}
-use Rattle.tr_session_book.proofs.NameLaws.{is_some-by_name, length-by_name, named-more}
+use Rattle.tr_session_book.proofs.NameLaws.{is_some-by_name, length-by_name, insert_entry-new_name, named-more}
 use Rattle.tr_session_book.specs.Names.{AreNamed, by_name}
 use Rattle.tr_session_book.specs.declared.faults.SessionFault.TheVariants.{TooMany, NameTaken}
 use Rattle.tr_stream.specs.State.{StreamState}

@@ -10,17 +10,16 @@ use Rattle.tr_terms.specs.Names.{is_name}
 
 pub returns : goal.returns
 returns g c =
-    let place = c.in_ok-place.place.now in
-    let entry = c.in_ok-name.field-0.now in
-    let thread : slice_get c.deref.result.now c.args.i ≡ Some place =
+    let thread : slice_get c.deref.result.now c.args.i ≡ Some c.in_ok-place.place.now =
     sym (copied-item c.deref.result.now c.args.i c.get.result c.get.ensures.lookup) ∙ ap option_copied c.in_ok-place.was in
-    let at : slice_get c.self.inside.channels.items place ≡ Some entry = ap (λ es. slice_get es place) (sym c.deref-2.ensures.value)
-    ∙ sym (copied-item c.deref-2.result.now place c.get-2.result c.get-2.ensures.lookup) ∙ ap option_copied c.in_ok-name.was in
-    let name = string_bytes entry.0 in
-    let named = named-at c.self.inside.channels.items place entry c.self.invariant.1.4 at in
+    let name = string_bytes c.in_ok-name.name.now in
+    let named = named-at c.self.inside.channels.entries c.in_ok-place.place.now
+    (c.in_ok-name.name.now, c.in_ok-name.field-0-1.now) c.self.invariant.1.4 (sym c.in_ok-name.ensures.entry) in
     let made : c.new.result ≡ Some name = subst (λ (text : List ℕ). c.new.result ≡ Some text) c.as_str.ensures.value
     (name-made c.new.result c.as_str.result.now (c.new.ensures.succeeds.1 (ap is_name c.as_str.ensures.value ∙ named)) c.new.ensures.value) in
     made
-    ∙ sym (channel_of-is c.self.inside.channels.items c.deref.result.now c.args.self.now c.args.i place entry
+    ∙ sym (channel_of-is c.self.inside.channels.entries c.deref.result.now c.args.self.now c.args.i c.in_ok-place.place.now
+    (c.in_ok-name.name.now, c.in_ok-name.field-0-1.now)
     (ap (λ (b : SessionBookState). b.channels) c.self.view_is)
-    (c.deref.ensures.value ∙ ap (λ (b : SessionBookState). b.threads) c.self.view_is) thread at)
+    (c.deref.ensures.value ∙ ap (λ (b : SessionBookState). b.threads) c.self.view_is) thread
+    (sym c.in_ok-name.ensures.entry))

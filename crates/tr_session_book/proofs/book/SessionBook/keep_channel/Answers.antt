@@ -1,8 +1,8 @@
-use Rattle.std.proofs.Common.{◌≡◌, ◌∙◌, ◌≤◌, ap, sym, subst, arith, List, [], ◌∷◌, ◌++◌, ℕ, length, length-append}
-use Rattle.tr_session_book.proofs.NameLaws.{by_name-push, named-more}
+use Rattle.std.proofs.Common.{◌≡◌, ◌∙◌, ◌≤◌, ap, sym, subst, arith, List, [], ◌∷◌, ◌++◌, ℕ, is_some, length, length-append}
+use Rattle.tr_session_book.proofs.NameLaws.{insert_entry-new_name, is_some-by_name, named-more}
 use Rattle.tr_session_book.proofs.book.SessionBook.keep_channel.Goals as goal
 use Rattle.tr_session_book.specs.Book.{SessionBookState, session_book_state}
-use Rattle.tr_session_book.specs.BookSteps.{with_channel}
+use Rattle.tr_session_book.specs.BookSteps.{channel_named, with_channel}
 use Rattle.tr_session_book.specs.Names.{AreNamed, by_name}
 use Rattle.tr_session_book.specs.declared.channel.Channel.{Channel}
 use Rattle.tr_terms.specs.declared.limits.TheConstants.{MOST_CHANNELS}
@@ -10,9 +10,10 @@ use Rattle.tr_terms.specs.declared.limits.TheConstants.{MOST_CHANNELS}
 pub returns-clause-ok : goal.returns-clause-ok
 returns-clause-ok g c =
     let name = c.args.name.now in
-    let es = c.self.inside.channels.items in
-    let added = ap by_name c.in_ok-push.ensures.items ∙ by_name-push es (c.in_ok-name.name, c.args.channel)
-    ∙ ap (λ (n : List ℕ). by_name es ++ (n, c.args.channel) ∷ []) (c.in_ok-name.ensures.ok ∙ c.as_str.ensures.value) in
+    let es = c.self.inside.channels.entries in
+    let free = is_some-by_name name es ∙ ap (λ (b : SessionBookState). is_some (channel_named name b)) c.self.view_is ∙ c.requires.free in
+    let added = insert_entry-new_name name es c.insert.new.self.entries c.in_ok-name.name c.args.channel
+    (c.in_ok-name.ensures.ok ∙ c.as_str.ensures.value) free c.in_ok-insert.ensures.entries in
     ap (λ (cs : List (List ℕ × Channel)).
     (let b : SessionBookState =
     session_book_state c.self.inside.uuid c.self.inside.offset c.self.inside.mode c.self.inside.state
@@ -23,12 +24,13 @@ returns-clause-ok g c =
 pub invariant_of-self-2 : goal.invariant_of-self-2
 invariant_of-self-2 g c =
     let name = c.args.name.now in
-    let es = c.self.inside.channels.items in
+    let es = c.self.inside.channels.entries in
     let kept = c.self.invariant.1 in
-    let added : by_name c.push.new.self.items ≡ by_name es ++ (name, c.args.channel) ∷ [] =
-    ap by_name c.in_ok-push.ensures.items ∙ by_name-push es (c.in_ok-name.name, c.args.channel)
-    ∙ ap (λ (n : List ℕ). by_name es ++ (n, c.args.channel) ∷ []) (c.in_ok-name.ensures.ok ∙ c.as_str.ensures.value) in
-    let fits : length (by_name c.push.new.self.items) ≤ MOST_CHANNELS =
+    let free = is_some-by_name name es ∙ ap (λ (b : SessionBookState). is_some (channel_named name b)) c.self.view_is ∙ c.requires.free in
+    let added : by_name c.insert.new.self.entries ≡ by_name es ++ (name, c.args.channel) ∷ [] =
+    insert_entry-new_name name es c.insert.new.self.entries c.in_ok-name.name c.args.channel
+    (c.in_ok-name.ensures.ok ∙ c.as_str.ensures.value) free c.in_ok-insert.ensures.entries in
+    let fits : length (by_name c.insert.new.self.entries) ≤ MOST_CHANNELS =
     omega (
       arith,
       ap length added,

@@ -1,0 +1,10 @@
+//! Snapshots: what a session shows of its streams at one step, and how that is written.
+#![tactic(auto)]
+
+mod shown;
+mod snapshot;
+mod writing;
+
+pub use shown::{oldest_serial, records_shown};
+pub use snapshot::Snapshot;
+pub use writing::write_snap;

@@ -1,0 +1,53 @@
+-- A page without records, and after one more.
+use Rattle.std.proofs.Common.{◌≡◌, ℕ, ◌+◌, ◌≤◌, List, [], ◌∷◌, ◌++◌, length, ap, sym, ◌∙◌, arith, length-append}
+use Rattle.std.specs.List.{sum_by}
+use Rattle.std.proofs.lemmas.List.Sums.{sum_by-cons}
+use Rattle.tr_record.specs.Records.{Entry, Fits, record_text}
+use Rattle.tr_record.specs.Weight.{weight_of, record_weight}
+use Rattle.tr_record.specs.Whole.{entries_of}
+use Rattle.tr_record.proofs.RecordLemmas.{length-record_text, weight_of-push}
+use Rattle.tr_record.proofs.WholeLemmas.{whole_none, whole_push}
+use Rattle.tr_subbuf.specs.Page.{IsPage}
+
+-- no bytes are a page without records
+pub page_none : (size capacity : ℕ) → size ≤ 80 + capacity → IsPage [] 0 size capacity × (entries_of [] ≡ [])
+page_none size capacity room =
+    let none = ap (λ (es : List Entry). length es) whole_none.1 in
+    let weighs = ap weight_of whole_none.1 in (
+      record {
+        whole = whole_none.0;
+        counted = sym none;
+        used = sym weighs;
+        within = λ some. absurd (omega (arith, none, some));
+        room = room;
+      },
+      whole_none.1,
+    )
+
+-- a record that has room is one more
+pub page_put : (bytes : List ℕ) (count size capacity more : ℕ) (e : Entry) → IsPage bytes count size capacity → Fits e
+    → weight_of (entries_of bytes) + (24 + length e.payload) ≤ size → capacity ≤ more
+    → IsPage (bytes ++ record_text e) (count + 1) size more × (entries_of (bytes ++ record_text e) ≡ entries_of bytes ++ e ∷ [])
+page_put bytes count size capacity more e is fits room grown =
+    let put = whole_push bytes e is.whole fits in
+    let weighs = ap weight_of put.1 ∙ weight_of-push (entries_of bytes) e in
+    let long = length-append bytes (record_text e) in
+    let counts = ap (λ (es : List Entry). length es) put.1 ∙ length-append (entries_of bytes) (e ∷ []) in (
+      record {
+        whole = put.0;
+        counted = omega (arith, counts, is.counted);
+        used = omega (arith, weighs, long, length-record_text e, is.used);
+        within = λ _. omega (arith, weighs, room);
+        room = omega (arith, is.room, grown);
+      },
+      put.1,
+    )
+
+-- each record takes bytes
+at_least_one : (es : List Entry) → length es ≤ sum_by record_weight es
+at_least_one [] = omega arith
+at_least_one (e ∷ es) = omega (arith, at_least_one es, sum_by-cons record_weight e es)
+
+-- so the count is no larger than the size
+pub counted_within : (bytes : List ℕ) (count size capacity : ℕ) → IsPage bytes count size capacity → count ≤ length bytes
+counted_within bytes count size capacity is = omega (arith, is.counted, is.used, at_least_one (entries_of bytes))
