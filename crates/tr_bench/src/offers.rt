@@ -8,8 +8,8 @@ use crate::sums::mix;
 use std::alloc::{AllocError, Global};
 use std::ops::Range;
 use tr_packet::PacketView;
-use tr_record::Moment;
-use tr_stream::{OfferFault, Offered, SessionMode, Stream};
+use tr_stream::{OfferFault, Offered, Stream};
+use tr_terms::{Moment, SessionMode};
 use uuid::Uuid;
 
 /// How many offers a round makes to a new stream.
@@ -84,7 +84,7 @@ fn mix_packet(sum: u64, packet: &PacketView<'_>) -> u64 {
     let head = packet.head();
     let mut sum = mix(mix(sum, u64::from(head.uuid.into_bytes()[15])), head.stream);
     sum = mix(mix(sum, head.begin.get()), head.end.get());
-    sum = mix(mix(sum, head.seq), head.discarded);
+    sum = mix(mix(sum, head.seq), head.lost);
     let Some(first) = packet.records().next() else {
         return sum;
     };

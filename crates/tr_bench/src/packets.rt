@@ -84,7 +84,7 @@ fn add_audit(audit: &StreamAudit, total: Audited) -> Audited {
         records: total.records.wrapping_add(audit.records),
         gaps: total.gaps.wrapping_add(gaps),
         absent,
-        sum: mix(serial, audit.last_discarded),
+        sum: mix(serial, audit.last_lost),
     }
 }
 

@@ -108,10 +108,7 @@ fn full_session(alloc: Global, payload: &[u8]) -> Result<Session, RotateFault> {
 fn mix_packet(before: u64, packet: &PacketView<'_>) -> u64 {
     let head = packet.head();
     let mut sum = mix(mix(before, head.stream), head.seq);
-    sum = mix(
-        mix(mix(sum, head.begin.get()), head.end.get()),
-        head.discarded,
-    );
+    sum = mix(mix(mix(sum, head.begin.get()), head.end.get()), head.lost);
     let Some(first) = packet.records().next() else {
         return sum;
     };

@@ -9,7 +9,7 @@ use std::marker::Brand;
 use std::sync::Wait;
 use tr_session::{ChannelConfig, Config};
 use tr_session_book::SessionFault;
-use tr_shared::{Names, Plan, Producer, SettleError, Shared, plan};
+use tr_shared::{Names, Offers, Plan, Producer, SettleError, Shared, plan};
 use tr_stream::OfferFault;
 use tr_terms::{Moment, Name, OffsetMinutes, SessionMode};
 use uuid::Uuid;
@@ -82,7 +82,7 @@ fn feed<N: Names>(
 ) -> Result<u64, OfferFault> {
     let mut sum = before;
     for k in 0..OFFERS {
-        let answer = shared.offer(rt, producer, moment_of(k), 7, &k.to_le_bytes())?;
+        let answer = producer.offer(rt, shared, moment_of(k), 7, &k.to_le_bytes())?;
         sum = mix_answer(sum, answer);
     }
     Ok(sum)

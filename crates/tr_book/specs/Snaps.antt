@@ -6,9 +6,9 @@ use Rattle.tr_packet.specs.Packets.{Contents}
 pub record SnapState : Type 0 where
   pub stream : ℕ
   pub offered : ℕ
-  pub discarded : ℕ
+  pub lost : ℕ
   pub packets : List Contents
 
 abbrev pub snap_state : ℕ → ℕ → ℕ → List Contents → SnapState
-snap_state stream offered discarded packets =
-    record { stream = stream; offered = offered; discarded = discarded; packets = packets }
+snap_state stream offered lost packets =
+    record { stream = stream; offered = offered; lost = lost; packets = packets }

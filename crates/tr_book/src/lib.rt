@@ -1,14 +1,14 @@
 //! What a stream keeps beside its ring: counters, and the packets of its parts. And what a snapshot shows of a stream.
 #![tactic(auto)]
 
-mod counters;
+mod book;
 mod counts;
 mod part;
 mod parts;
 mod runs;
 mod snap;
 
-pub use counters::Counters;
+pub use book::Book;
 pub use counts::Counts;
 pub use part::{Part, records_in};
 pub use parts::Parts;

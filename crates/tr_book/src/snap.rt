@@ -15,7 +15,7 @@ use tr_packet::{PacketTexts, Packets};
 pub struct StreamSnap<A: Allocator = Global> {
     stream: u64,
     offered: u64,
-    discarded: u64,
+    lost: u64,
     texts: PacketTexts<A>,
 }
 
@@ -24,7 +24,7 @@ impl<A: Allocator> Model for StreamSnap<A> {
 
     ghost Value = { SnapState };
 
-    ghost view = { λ s. snap_state s.stream s.offered s.discarded s.texts };
+    ghost view = { λ s. snap_state s.stream s.offered s.lost s.texts };
 
     ghost use Rattle.std.specs.Prelude.{◌<◌, ◌^◌};
     ghost use Rattle.tr_book.specs.Parts.{records_of};
@@ -34,14 +34,14 @@ impl<A: Allocator> Model for StreamSnap<A> {
 
 impl<A: Allocator> StreamSnap<A> {
     /// What is shown of the stream with this number. It takes no memory.
-    pub fn new(stream: u64, offered: u64, discarded: u64, texts: PacketTexts<A>) -> StreamSnap<A>
+    pub fn new(stream: u64, offered: u64, lost: u64, texts: PacketTexts<A>) -> StreamSnap<A>
         requires { records_of texts < 2 ^ 64 }
-        ensures { result ≡ snap_state stream offered discarded texts }
+        ensures { result ≡ snap_state stream offered lost texts }
     {
         StreamSnap {
             stream,
             offered,
-            discarded,
+            lost,
             texts,
         }
     }
@@ -61,10 +61,10 @@ impl<A: Allocator> StreamSnap<A> {
     }
 
     /// How many records it had discarded.
-    pub fn discarded(&self) -> u64
-        ensures { result ≡ self.now.discarded }
+    pub fn lost(&self) -> u64
+        ensures { result ≡ self.now.lost }
     {
-        self.discarded
+        self.lost
     }
 
     /// The packets of its ring, the oldest first.

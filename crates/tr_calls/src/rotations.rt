@@ -11,8 +11,8 @@ ghost use Rattle.tr_stream.specs.Rules.{by_state};
 use crate::sessions::Sessions;
 use std::alloc::Allocator;
 use tr_outcome::{LineFault, NamedArchive};
-use tr_record::Moment;
 use tr_session::Next;
+use tr_terms::Moment;
 
 /// Begins a rotation of the named session, and answers with the number of the chunk that it archives.
 ///

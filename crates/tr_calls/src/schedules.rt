@@ -12,9 +12,9 @@ ghost use Rattle.tr_stream.specs.Rules.{by_state};
 use crate::sessions::Sessions;
 use std::alloc::Allocator;
 use tr_outcome::{LineFault, NamedArchive, TickTold};
-use tr_record::Moment;
 use tr_schedule::{Schedule, ScheduleFault};
 use tr_session::{Session, Ticked};
+use tr_terms::Moment;
 
 /// The schedule that a line asks for: none if it says neither.
 fn schedule_for(every: Option<u64>, size: Option<u64>) -> Result<Option<Schedule>, ScheduleFault>

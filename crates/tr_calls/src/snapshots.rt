@@ -10,8 +10,8 @@ ghost use Rattle.tr_stream.specs.Rules.{by_state};
 use crate::sessions::Sessions;
 use std::alloc::Allocator;
 use tr_outcome::LineFault;
-use tr_record::Moment;
 use tr_snapshot::Snapshot;
+use tr_terms::Moment;
 
 /// Takes a snapshot of the named session.
 ///

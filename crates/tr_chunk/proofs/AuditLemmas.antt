@@ -75,7 +75,7 @@ made packets records gaps seq serial discarded =
       gaps = gaps;
       last_seq = seq;
       last_serial = serial;
-      last_discarded = discarded;
+      last_lost = discarded;
     }
 
 same_audit : {A : Type 0} (p p' r r' : ℕ) (g g' : List (ℕ × ℕ)) (q q' s s' : Option ℕ) (l l' : ℕ) → p ≡ p' → r ≡ r' → g ≡ g'
@@ -100,8 +100,8 @@ audit_of-push ps p =
     (ap (λ (l : List Entry). last_or None (serials_of l)) push_records
     ∙ ap (last_or None) (map-append (λ (e : Entry). e.serial) es p.records)
     ∙ last_or-append None (serials_of es) (serials_of p.records))
-    (ap (λ (l : List ℕ). unwrap_or (last_or None l) 0) (map-append (λ (q : Contents). q.head.discarded) ps (p ∷ []))
-    ∙ ap (λ (o : Option ℕ). unwrap_or o 0) (last_or-append None (map (λ (q : Contents). q.head.discarded) ps) (p.head.discarded ∷ [])))
+    (ap (λ (l : List ℕ). unwrap_or (last_or None l) 0) (map-append (λ (q : Contents). q.head.lost) ps (p ∷ []))
+    ∙ ap (λ (o : Option ℕ). unwrap_or o 0) (last_or-append None (map (λ (q : Contents). q.head.lost) ps) (p.head.lost ∷ [])))
 
 of_stream-push : (uuid : List ℕ) (stream : ℕ) (ps : List Contents) (p : Contents) → AreOfStream uuid stream ps → IsPacket p
     → packet_cause uuid stream (last_number ps) (last_serial ps) p ≡ None

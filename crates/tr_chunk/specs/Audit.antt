@@ -70,7 +70,7 @@ audit_of ps = record {
   gaps = gaps_behind None (numbers_of ps);
   last_seq = last_number ps;
   last_serial = last_serial ps;
-  last_discarded = unwrap_or (last_or None (map (λ (p : Contents). p.head.discarded) ps)) 0;
+  last_lost = unwrap_or (last_or None (map (λ (p : Contents). p.head.lost) ps)) 0;
 }
 
 -- ---- packets of one stream
@@ -161,7 +161,7 @@ after_packet a p = record {
   gaps = a.gaps ++ gap_before a.last_seq p.head.seq;
   last_seq = Some p.head.seq;
   last_serial = last_or a.last_serial (serials_of p.records);
-  last_discarded = p.head.discarded;
+  last_lost = p.head.lost;
 }
 
 -- the audit is that of these packets, which are the stream's

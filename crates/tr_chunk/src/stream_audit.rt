@@ -21,6 +21,27 @@ impl<A: Allocator> Model for Gaps<A> {
     ghost view = { λ g. g.runs.items };
 }
 
+impl<A: Allocator> From<Vec<(u64, u64), A>> for Gaps<A> {
+    ghost use Rattle.std.specs.Prelude.{◌≡◌};
+
+    ghost from_gives = { λ runs gaps. gaps ≡ runs.items };
+
+    fn from(runs: Vec<(u64, u64), A>) -> Gaps<A> {
+        Gaps { runs }
+    }
+}
+
+impl<A: Allocator> From<Gaps<A>> for Vec<(u64, u64), A> {
+    ghost use Rattle.std.specs.Prelude.{◌≡◌};
+
+    ghost from_gives = { λ gaps runs. runs.items ≡ gaps };
+
+    fn from(gaps: Gaps<A>) -> Vec<(u64, u64), A> {
+        let Gaps { runs } = gaps;
+        runs
+    }
+}
+
 impl<A: Allocator> Gaps<A> {
     /// The runs, each as its first number and its length.
     pub fn as_slice(&self) -> &[(u64, u64)]
@@ -61,7 +82,7 @@ pub struct StreamAudit<A: Allocator = Global> {
     /// The last record's serial.
     pub last_serial: Option<u64>,
     /// How many records the stream had discarded by the last packet; 0 without packets.
-    pub last_discarded: u64,
+    pub last_lost: u64,
 }
 
 impl<A: Allocator> StreamAudit<A> {
@@ -72,12 +93,10 @@ impl<A: Allocator> StreamAudit<A> {
         StreamAudit {
             packets: 0,
             records: 0,
-            gaps: Gaps {
-                runs: Vec::new(alloc),
-            },
+            gaps: Gaps::from(Vec::new(alloc)),
             last_seq: None,
             last_serial: None,
-            last_discarded: 0,
+            last_lost: 0,
         }
     }
 
@@ -93,7 +112,7 @@ impl<A: Allocator> StreamAudit<A> {
         self.records = self.records.saturating_add(packet.count() as u64);
         self.last_seq = Some(head.seq);
         self.last_serial = Some(packet.last_serial());
-        self.last_discarded = head.discarded;
+        self.last_lost = head.lost;
         Ok(())
     }
 }

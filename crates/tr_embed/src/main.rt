@@ -12,8 +12,8 @@ use std::thread::{self, Threads};
 use std::{env, io};
 use tr_export::{HostFiles, SystemDisk, write_archives};
 use tr_shared::{
-    ChannelConfig, Config, Mode, Moment, Name, Names, OffsetMinutes, Plan, Producer, SessionFault,
-    SessionMode, Settled, Shared, Totals, plan,
+    ChannelConfig, Config, Mode, Moment, Name, Names, Offers, OffsetMinutes, Plan, Producer,
+    SessionFault, SessionMode, Settled, Shared, Totals, plan,
 };
 use uuid::Uuid;
 
@@ -57,13 +57,7 @@ fn offer_all<N: Names>(
     mut producer: Producer<N>,
 ) -> Producer<N> {
     for k in 0..RECORDS {
-        let _ = shared.offer(
-            rt,
-            &mut producer,
-            Moment::within_limit(k),
-            7,
-            &k.to_le_bytes(),
-        );
+        let _ = producer.offer(rt, shared, Moment::within_limit(k), 7, &k.to_le_bytes());
     }
     producer
 }

@@ -23,7 +23,7 @@ first_chunk script = option_map_or (λ (entry : List ℕ × SessionOf Traced). c
 
 -- what is compared of a packet: its number, the number of discarded records, and its records' serials
 abbrev pub outline : Contents → ℕ × (ℕ × List ℕ)
-outline p = (p.head.seq, (p.head.discarded, map (λ (e : Entry). e.serial) p.records))
+outline p = (p.head.seq, (p.head.lost, map (λ (e : Entry). e.serial) p.records))
 
 -- the file of that chunk of the example with archives
 abbrev pub archived_file : List ℕ
@@ -37,7 +37,7 @@ archived_audit = record {
   gaps = [];
   last_seq = Some 1;
   last_serial = Some 5;
-  last_discarded = 1;
+  last_lost = 1;
 }
 
 -- and of three, when the first and the third packet are absent
@@ -48,12 +48,12 @@ gaps_audit = record {
   gaps = (0, 1) ∷ (2, 1) ∷ [];
   last_seq = Some 4;
   last_serial = Some 9;
-  last_discarded = 0;
+  last_lost = 0;
 }
 
 -- and of no packet
 abbrev pub empty_audit : {A : Type 0} → StreamAudit A
-empty_audit = record { packets = 0; records = 0; gaps = []; last_seq = None; last_serial = None; last_discarded = 0 }
+empty_audit = record { packets = 0; records = 0; gaps = []; last_seq = None; last_serial = None; last_lost = 0 }
 
 -- a trace's identifier
 abbrev pub trace : List ℕ
@@ -62,7 +62,7 @@ trace = replicate 15 0 ++ 1 ∷ []
 -- a packet of one record, with one byte of payload
 abbrev pub one_record : Contents
 one_record = record {
-  head = record { uuid = trace; stream = 0; begin = 1; end = 9; seq = 0; discarded = 0 };
+  head = record { uuid = trace; stream = 0; begin = 1; end = 9; seq = 0; lost = 0 };
   records = entry 0 1 7 (65 ∷ []) ∷ [];
 }
 

@@ -54,7 +54,7 @@ fn packet(
         begin: moment(begin),
         end: moment(end),
         seq,
-        discarded,
+        lost: discarded,
     };
     Packet::checked(head, records(rt, alloc, rows)).expect(rt, "a packet")
 }
@@ -105,7 +105,7 @@ struct Told<'a> {
     gaps: &'a [(u64, u64)],
     last_seq: Option<u64>,
     last_serial: Option<u64>,
-    last_discarded: u64,
+    last_lost: u64,
 }
 
 /// What the audit of no byte says.
@@ -115,7 +115,7 @@ const NOTHING: Told<'static> = Told {
     gaps: &[],
     last_seq: None,
     last_serial: None,
-    last_discarded: 0,
+    last_lost: 0,
 };
 
 /// What the audit of both packets says.
@@ -125,7 +125,7 @@ const BOTH: Told<'static> = Told {
     gaps: &[],
     last_seq: Some(1),
     last_serial: Some(5),
-    last_discarded: 1,
+    last_lost: 1,
 };
 
 /// How the bytes of each piece come to an audit: whole, or in feeds of this size.
@@ -157,8 +157,8 @@ fn assert_told(rt: &impl Abort, alloc: Global, case: usize, pieces: &[&[u8]], to
 
 /// Asserts what an audit says, in this case of a test.
 fn assert_audit(rt: &impl Abort, case: usize, audit: &StreamAudit, told: &Told<'_>) {
-    let counts = (audit.packets, audit.records, audit.last_discarded);
-    let wanted = (told.packets, told.records, told.last_discarded);
+    let counts = (audit.packets, audit.records, audit.last_lost);
+    let wanted = (told.packets, told.records, told.last_lost);
     assert_same(rt, (case, counts), (case, wanted));
     assert_same(rt, (case, audit.gaps.as_slice()), (case, told.gaps));
     let last = (audit.last_seq, audit.last_serial);
@@ -306,7 +306,7 @@ fn absent_numbers(rt: HostRuntime) {
         gaps: &[(0, 2), (4, 1), (6, u64::MAX - 6)],
         last_seq: Some(u64::MAX),
         last_serial: Some(10),
-        last_discarded: 4,
+        last_lost: 4,
     };
     assert_told(&rt, rt.alloc(), 0, &[&file], &told);
 }

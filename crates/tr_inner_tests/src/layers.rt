@@ -63,7 +63,7 @@ fn packet(rt: &impl Abort, alloc: Global, seq: u64, begin: u64, end: u64, len: u
         begin: moment(begin),
         end: moment(end),
         seq,
-        discarded: 0,
+        lost: 0,
     };
     let records = vec![in alloc; first, second].expect(rt, "memory");
     Packet::checked(head, records).expect(rt, "a packet")

@@ -30,7 +30,7 @@ fn head() -> Head {
         begin: moment(1),
         end: moment(9),
         seq: 0,
-        discarded: 0,
+        lost: 0,
     }
 }
 
@@ -192,7 +192,7 @@ fn head_at_limits() -> Head {
     let mut head = head();
     head.stream = 255;
     head.seq = u64::MAX;
-    head.discarded = 1 << 63;
+    head.lost = 1 << 63;
     head
 }
 

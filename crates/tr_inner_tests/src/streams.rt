@@ -10,13 +10,14 @@ mod runs;
 use crate::asserting::{Place, assert_at, assert_same};
 use std::alloc::{Allocator, Global};
 use std::process::Abort;
-use tr_book::{Counts, Geometry, Mode, StreamSnap};
+use tr_book::{Counts, StreamSnap};
 use tr_packet::{Head, PacketView, Packets};
 use tr_record::RecView;
 use tr_stream::{
-    ClearFault, Cleared, CutDone, CutFault, Fate, OfferFault, Offered, SessionMode, Stream,
-    StreamConfig, TakeFault, Taken,
+    ClearFault, Cleared, CutDone, CutFault, Fate, OfferFault, Offered, Stream, StreamConfig,
+    TakeFault, Taken,
 };
+use tr_terms::{Geometry, Mode, SessionMode};
 use tr_testing::moment;
 use uuid::Uuid;
 
@@ -180,7 +181,7 @@ fn assert_packet(rt: &impl Abort, place: Place, packet: &PacketView<'_>, row: &P
         begin: moment(row.begin),
         end: moment(row.end),
         seq: row.seq,
-        discarded: row.discarded,
+        lost: row.discarded,
     };
     assert_at(rt, place, packet.head(), head);
     let mut records = packet.records();
@@ -208,7 +209,7 @@ fn assert_look(
     (offered, discarded): (u64, u64),
     rows: &[PacketRow],
 ) {
-    let found = (snap.stream(), snap.offered(), snap.discarded());
+    let found = (snap.stream(), snap.offered(), snap.lost());
     assert_at(rt, place, found, (0, offered, discarded));
     assert_packets(rt, place, snap.packets(), rows);
 }

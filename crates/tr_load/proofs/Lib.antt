@@ -1,5 +1,3 @@
-pub mod JudgeLaws
 pub mod LoadLaws
-pub mod ReportLaws
 pub mod TellLaws
 pub mod WorkLaws

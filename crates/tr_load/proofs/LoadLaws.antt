@@ -7,10 +7,10 @@ use Rattle.std.proofs.lemmas.List.FromFn.{get_or-map-range_with_len, length-map-
 use Rattle.tr_load.proofs.WorkLaws.{whole_work}
 use Rattle.tr_load.specs.Loads.{AllHave, AreLogs, IsLogOf, log_in}
 use Rattle.tr_load.specs.Works.{item_of, work_of}
-use Rattle.tr_pool.specs.Feeding.{IsFed}
+use Rattle.tr_threads.specs.Feeding.{IsFed}
 use Rattle.tr_shared.specs.Calls.{IsOffered}
-use Rattle.tr_pool.specs.declared.items.Item.{Item}
-use Rattle.tr_load.specs.declared.log.Log.{Log}
+use Rattle.tr_threads.specs.declared.items.Item.{Item}
+use Rattle.tr_pool.specs.declared.log.Log.{Log}
 use Rattle.tr_seats.specs.Slots.{AreNew, ProducerState, new_producer}
 
 -- what holds of each element's image holds of the image's elements

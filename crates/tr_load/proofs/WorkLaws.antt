@@ -5,11 +5,11 @@ use Rattle.std.proofs.lemmas.List.Sums.{sum_by-cons}
 use Rattle.std.specs.List.{FoldsTo}
 use Rattle.std.specs.Prelude.{is_ok}
 use Rattle.tr_load.specs.Loads.{AllHave, IsJudged}
-use Rattle.tr_load.specs.declared.log.Log.{Log}
-use Rattle.tr_load.specs.declared.report.Mismatch.{Mismatch}
-use Rattle.tr_load.specs.declared.report.Report.{Report}
-use Rattle.tr_pool.specs.Feeding.{IsFed, OffersOne}
-use Rattle.tr_pool.specs.declared.items.Item.{Item}
+use Rattle.tr_pool.specs.declared.log.Log.{Log}
+use Rattle.tr_pool.specs.declared.report.Mismatch.{Mismatch}
+use Rattle.tr_pool.specs.declared.report.Report.{Report}
+use Rattle.tr_threads.specs.Feeding.{IsFed, OffersOne}
+use Rattle.tr_threads.specs.declared.items.Item.{Item}
 use Rattle.tr_stream.specs.State.{StreamState}
 use Rattle.tr_stream.specs.declared.answers.OfferFault.{OfferFault}
 use Rattle.tr_stream.specs.declared.answers.Offered.{Offered}

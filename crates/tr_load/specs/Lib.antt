@@ -1,9 +1,5 @@
-pub mod Faults
-pub mod Judging
 pub mod Loads
-pub mod Logs
 pub mod Plans
-pub mod Reports
 pub mod Rounds
 pub mod Telling
 pub mod Texts

@@ -2,13 +2,13 @@
 use Rattle.std.specs.Prelude.{◌≡◌, ℕ, ◌<◌, ◌*◌, List, [], ◌∷◌, length, slice_index_or, Result, Ok, Err, IfOk, All}
 use Rattle.tr_load.specs.Plans.{load_session}
 use Rattle.tr_load.specs.Works.{work_of}
-use Rattle.tr_pool.specs.Feeding.{IsFed}
+use Rattle.tr_threads.specs.Feeding.{IsFed}
 use Rattle.tr_shared.specs.Calls.{IsOffered}
-use Rattle.tr_load.specs.Logs.{AgreeBelow, IsFirstWrong, report_of}
-use Rattle.tr_pool.specs.declared.items.Item.{Item}
-use Rattle.tr_load.specs.declared.log.Log.{Log}
-use Rattle.tr_load.specs.declared.report.Mismatch.{Mismatch}
-use Rattle.tr_load.specs.declared.report.Report.{Report}
+use Rattle.tr_pool.specs.Logs.{AgreeBelow, IsFirstWrong, report_of}
+use Rattle.tr_threads.specs.declared.items.Item.{Item}
+use Rattle.tr_pool.specs.declared.log.Log.{Log}
+use Rattle.tr_pool.specs.declared.report.Mismatch.{Mismatch}
+use Rattle.tr_pool.specs.declared.report.Report.{Report}
 use Rattle.tr_seats.specs.Books.{PlanState}
 use Rattle.tr_seats.specs.Settling.{IsSessionOf}
 use Rattle.tr_seats.specs.Slots.{ProducerState, new_producer}

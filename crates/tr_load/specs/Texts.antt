@@ -1,9 +1,9 @@
 -- What is said of a load.
 use Rattle.std.specs.Fmt.{decimal}
 use Rattle.std.specs.Prelude.{ℕ, List, [], ◌∷◌, ◌++◌, codes, Result, Ok, Err}
-use Rattle.tr_load.specs.declared.report.Mismatch.{Mismatch}
-use Rattle.tr_load.specs.declared.report.Mismatch.TheVariants.{WrongRecord, LogLength}
-use Rattle.tr_load.specs.declared.report.Report.{Report}
+use Rattle.tr_pool.specs.declared.report.Mismatch.{Mismatch}
+use Rattle.tr_pool.specs.declared.report.Mismatch.TheVariants.{WrongRecord, LogLength}
+use Rattle.tr_pool.specs.declared.report.Report.{Report}
 
 -- a line of words and a number
 abbrev pub line : List ℕ → ℕ → List ℕ

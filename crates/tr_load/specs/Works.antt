@@ -2,7 +2,7 @@
 use Rattle.std.specs.Prelude.{ℕ, List, ◌++◌, map}
 use Rattle.std.specs.Int.{w32, to_le_bytes}
 use Rattle.std.specs.List.{range_with_len}
-use Rattle.tr_pool.specs.declared.items.Item.{Item}
+use Rattle.tr_threads.specs.declared.items.Item.{Item}
 
 -- the item of number k of the feeder of number t: both numbers are its payload, lowest byte first
 abbrev pub item_of : ℕ → ℕ → Item

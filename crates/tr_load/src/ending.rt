@@ -5,11 +5,8 @@ ghost use Rattle.tr_load.specs.Loads.{AllHave, IsEnded, IsJudged, log_in};
 ghost use Rattle.tr_seats.specs.Settling.{IsSessionOf};
 
 use crate::loaded::{LoadFault, Loaded};
-use crate::log::{Log, producer_and_log};
-use crate::reconciling::reconcile;
-use crate::report::{Mismatch, Report};
 use std::alloc::{AllocError, Global};
-use tr_pool::LoggedProducer;
+use tr_pool::{Log, Logged, LoggedProducer, Mismatch, Report, reconcile};
 use tr_session::Session;
 use tr_session_book::State;
 use tr_shared::{Drainer, Names, Producer, Settled, Shared};
@@ -24,7 +21,7 @@ pub(crate) fn parted<N: Names>(
     let mut producers = Vec::with_capacity(alloc, fed.len())?;
     let mut logs = Vec::with_capacity(alloc, fed.len())?;
     'fed: for logged in fed {
-        let (producer, log) = producer_and_log(logged);
+        let (producer, log) = logged.into_parts();
         producers.push_reserved(producer);
         logs.push_reserved(log);
     }

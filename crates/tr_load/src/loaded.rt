@@ -1,8 +1,8 @@
 //! What a load comes to.
 
-use crate::report::{Mismatch, Report};
 use std::alloc::AllocError;
 use thiserror::Error;
+use tr_pool::{Mismatch, Report};
 use tr_session_book::SessionFault;
 use tr_shared::Settled;
 

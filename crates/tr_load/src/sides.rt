@@ -1,7 +1,7 @@
 //! Feeders and workers side by side.
 
 ghost use Rattle.std.specs.Prelude.{◌≡◌, ◌<◌, ℕ, IfOk, slice_index_or, vec_len};
-ghost use Rattle.tr_pool.specs.Feeding.{IsFed};
+ghost use Rattle.tr_threads.specs.Feeding.{IsFed};
 ghost use Rattle.tr_shared.specs.Calls.{IsOffered};
 
 use crate::gate::Rounds;

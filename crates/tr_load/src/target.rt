@@ -3,7 +3,7 @@
 use crate::pace::Pace;
 use std::sync::Wait;
 use tr_pool::Target;
-use tr_shared::{Drainer, Names, Shared};
+use tr_shared::{Drainer, Names, Shared, Takes};
 use tr_stream::{TakeFault, Taken};
 
 /// A session, and the paces of the workers that take from it: each is told what its worker takes.
@@ -41,7 +41,7 @@ impl<'a, N: Names> Target for Watched<'a, N> {
         seat: &mut Drainer<N>,
         i: usize,
     ) -> Result<Taken, TakeFault> {
-        let answer = self.shared.take(rt, seat, i);
+        let answer = seat.take(rt, self.shared, i);
         if answer.is_ok() {
             if let Some(pace) = self.pace(i) {
                 pace.note();

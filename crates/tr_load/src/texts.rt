@@ -4,9 +4,9 @@ ghost use Rattle.std.specs.Prelude.{◌≡◌, ◌++◌, IfOk, OnOk};
 ghost use Rattle.std.specs.String.{string_bytes};
 ghost use Rattle.tr_load.specs.Texts.{line, mismatch_text, outcome_text, report_text};
 
-use crate::report::{Mismatch, Report};
 use std::alloc::{AllocError, Global};
 use std::fmt::Write;
+use tr_pool::{Mismatch, Report};
 
 /// Adds a line of words and a number.
 fn push_line(text: &mut String, words: &str, number: u128) -> Result<(), AllocError>

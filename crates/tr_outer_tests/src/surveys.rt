@@ -44,7 +44,7 @@ fn packets(rt: &impl Abort, alloc: Global, stream: u64, rows: &[(u64, &[u64])]) 
             begin: Moment::zero(),
             end: Moment::zero(),
             seq: *seq,
-            discarded: 0,
+            lost: 0,
         };
         let packet = Packet::checked(head, records).expect(rt, "a packet");
         let packet = encode_packet(alloc, &packet).expect(rt, "memory");

@@ -252,7 +252,7 @@ packet_decoded bytes small none =
         uuid = omega (arith, passes.long, length-take 16 (drop 4 bytes), length-drop 4 bytes);
         stream = numeral_64.below (bytes_from 8 24 bytes) (AreBytes-take 8 (drop 24 bytes) (AreBytes-drop 24 bytes small));
         seq = numeral_64.below (bytes_from 8 64 bytes) (AreBytes-take 8 (drop 64 bytes) (AreBytes-drop 64 bytes small));
-        discarded = numeral_64.below (bytes_from 8 72 bytes) (AreBytes-take 8 (drop 72 bytes) (AreBytes-drop 72 bytes small));
+        lost = numeral_64.below (bytes_from 8 72 bytes) (AreBytes-take 8 (drop 72 bytes) (AreBytes-drop 72 bytes small));
         records = record { fits = sound.fits; serials = sound.serials; moments = sound.moments; small = omega (arith, weight, passes.high) };
       };
       whole = record { are = sound.are; fits = sound.fits };
@@ -279,16 +279,16 @@ pub record IsRead (p : Contents) (bytes : List ℕ) : Type 0 where
   pub size : packet_bits_in bytes / 8 ≡ packet_size p
 
 abbrev made : List ℕ → ℕ → ℕ → ℕ → ℕ → ℕ → List Entry → Contents
-made uuid stream begin end seq discarded es =
+made uuid stream begin end seq lost es =
     record {
-      head = record { uuid = uuid; stream = stream; begin = begin; end = end; seq = seq; discarded = discarded };
+      head = record { uuid = uuid; stream = stream; begin = begin; end = end; seq = seq; lost = lost };
       records = es;
     }
 
 same_contents : (p : Contents) (u : List ℕ) (s b e q l : ℕ) (es : List Entry) → u ≡ p.head.uuid → s ≡ p.head.stream
-    → b ≡ p.head.begin → e ≡ p.head.end → q ≡ p.head.seq → l ≡ p.head.discarded → es ≡ p.records
+    → b ≡ p.head.begin → e ≡ p.head.end → q ≡ p.head.seq → l ≡ p.head.lost → es ≡ p.records
     → made u s b e q l es ≡ p
-same_contents p u s b e q l es uuid stream begin end seq discarded records = rw (uuid, stream, begin, end, seq, discarded, records) refl
+same_contents p u s b e q l es uuid stream begin end seq lost records = rw (uuid, stream, begin, end, seq, lost, records) refl
 
 pub packet_read : (p : Contents) (rest bytes : List ℕ) → Begins p rest bytes → IsRead p bytes
 packet_read p rest bytes b =
@@ -301,7 +301,7 @@ packet_read p rest bytes b =
       begin = omega (arith, order, m.limit);
       end = omega (arith, m.limit);
       seq = b.packet.seq;
-      discarded = b.packet.discarded;
+      lost = b.packet.lost;
     } in
     let bits = 8 * packet_size p in
     let f = fields_read p rest bytes b.parts fits (omega (arith, made.small)) in
@@ -339,7 +339,7 @@ packet_read p rest bytes b =
           ∙ rw (made.serials, made.moments) refl;
       contents = same_contents p (bytes_from 16 4 bytes) (number_from w64 24 bytes) (begin_in bytes) (end_in bytes)
           (number_from w64 64 bytes) (number_from w64 72 bytes) (entries_of (body_in bytes))
-          f.uuid f.stream f.begin f.end f.seq f.discarded (ap entries_of body ∙ records_of text p.records are);
+          f.uuid f.stream f.begin f.end f.seq f.lost (ap entries_of body ∙ records_of text p.records are);
       size = size;
     }
 

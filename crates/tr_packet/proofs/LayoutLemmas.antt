@@ -44,7 +44,7 @@ pub record Fields (p : Contents) (bits : ℕ) (back bytes : List ℕ) : Type 0 w
   pub content : content_bits_in bytes ≡ bits
   pub size : packet_bits_in bytes ≡ bits
   pub seq : number_from w64 64 bytes ≡ p.head.seq
-  pub discarded : number_from w64 72 bytes ≡ p.head.discarded
+  pub lost : number_from w64 72 bytes ≡ p.head.lost
   pub tail : drop 80 bytes ≡ back
 
 -- what fits the fields
@@ -54,7 +54,7 @@ pub record HeadFits (h : Head) : Type 0 where
   pub begin : h.begin < 2 ^ 64
   pub end : h.end < 2 ^ 64
   pub seq : h.seq < 2 ^ 64
-  pub discarded : h.discarded < 2 ^ 64
+  pub lost : h.lost < 2 ^ 64
 
 -- if the bytes start with a packet's text, its fields are read
 pub fields_read : (p : Contents) (rest bytes : List ℕ) → bytes ≡ packet_text p ++ rest → HeadFits p.head
@@ -63,7 +63,7 @@ fields_read p rest bytes is fits small =
     let h = p.head in
     let bits = 8 * packet_size p in
     let t80 = records_text p.records ++ rest in
-    let t72 = to_le_bytes w64 h.discarded ++ t80 in
+    let t72 = to_le_bytes w64 h.lost ++ t80 in
     let t64 = to_le_bytes w64 h.seq ++ t72 in
     let t56 = to_le_bytes w64 bits ++ t64 in
     let t48 = to_le_bytes w64 bits ++ t56 in
@@ -75,7 +75,7 @@ fields_read p rest bytes is fits small =
     let at0 : bytes ≡ magic ++ t4 =
     is ∙ in_a_row magic h.uuid (to_le_bytes w32 0) (to_le_bytes w64 h.stream) (to_le_bytes w64 h.begin)
     (to_le_bytes w64 h.end) (to_le_bytes w64 bits) (to_le_bytes w64 bits)
-    (to_le_bytes w64 h.seq) (to_le_bytes w64 h.discarded) (records_text p.records) rest in
+    (to_le_bytes w64 h.seq) (to_le_bytes w64 h.lost) (records_text p.records) rest in
     let at4 : drop 4 bytes ≡ t4 = behind 0 4 4 magic t4 bytes at0 refl refl in
     let at20 : drop 20 bytes ≡ t20 = behind 4 16 20 h.uuid t20 bytes at4 fits.uuid refl in
     let at24 : drop 24 bytes ≡ t24 = behind 20 4 24 (to_le_bytes w32 0) t24 bytes at20 refl refl in
@@ -95,8 +95,8 @@ fields_read p rest bytes is fits small =
       content = reads w64 (2 ^ 64) numeral_64 48 bits t56 bytes at48 small;
       size = reads w64 (2 ^ 64) numeral_64 56 bits t64 bytes at56 small;
       seq = reads w64 (2 ^ 64) numeral_64 64 h.seq t72 bytes at64 fits.seq;
-      discarded = reads w64 (2 ^ 64) numeral_64 72 h.discarded t80 bytes at72 fits.discarded;
-      tail = behind 72 8 80 (to_le_bytes w64 h.discarded) t80 bytes at72 refl refl;
+      lost = reads w64 (2 ^ 64) numeral_64 72 h.lost t80 bytes at72 fits.lost;
+      tail = behind 72 8 80 (to_le_bytes w64 h.lost) t80 bytes at72 refl refl;
     }
 
 -- ---- what the bytes are if fields are read
@@ -143,4 +143,4 @@ fields_stand bytes small long front id sizes =
     at0 ∙ ap (λ (t : List ℕ). magic ++ t) s4
     ∙ sym (in_parts magic h.uuid (to_le_bytes w32 0) (to_le_bytes w64 h.stream) (to_le_bytes w64 h.begin)
     (to_le_bytes w64 h.end) (to_le_bytes w64 bits) (to_le_bytes w64 bits)
-    (to_le_bytes w64 h.seq) (to_le_bytes w64 h.discarded) (drop 80 bytes))
+    (to_le_bytes w64 h.seq) (to_le_bytes w64 h.lost) (drop 80 bytes))

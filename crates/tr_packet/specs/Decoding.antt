@@ -9,6 +9,7 @@ use Rattle.tr_packet.specs.Order.{serials_rise, moments_hold}
 use Rattle.tr_packet.specs.Packets.{Contents, IsPacket, magic, packet_text}
 use Rattle.tr_packet.specs.declared.fault.PacketFault.{PacketFault}
 use Rattle.tr_packet.specs.declared.fault.PacketFault.TheVariants.{Short, BadMagic, BadStreamId, BadSize, BadRecord, SerialOrder, MomentOrder}
+use Rattle.tr_packet.specs.declared.layout.TheConstants.{BEGIN_AT, CONTENT_SIZE_AT, LOST_AT, END_AT, PACKET_SIZE_AT, SEQ_AT, STREAM_AT, STREAM_ID_AT, UUID_AT}
 use Rattle.tr_terms.specs.declared.limits.TheConstants.{LARGEST_PACKET, PACKET_HEADER, SMALLEST_PACKET}
 
 -- ---- a packet that bytes start with
@@ -29,19 +30,19 @@ abbrev pub bytes_from : ℕ → ℕ → List ℕ → List ℕ
 bytes_from count at bytes = take count (drop at bytes)
 
 abbrev pub stream_id_in : List ℕ → ℕ
-stream_id_in = number_from w32 20
+stream_id_in = number_from w32 STREAM_ID_AT
 
 abbrev pub begin_in : List ℕ → ℕ
-begin_in = number_from w64 32
+begin_in = number_from w64 BEGIN_AT
 
 abbrev pub end_in : List ℕ → ℕ
-end_in = number_from w64 40
+end_in = number_from w64 END_AT
 
 abbrev pub content_bits_in : List ℕ → ℕ
-content_bits_in = number_from w64 48
+content_bits_in = number_from w64 CONTENT_SIZE_AT
 
 abbrev pub packet_bits_in : List ℕ → ℕ
-packet_bits_in = number_from w64 56
+packet_bits_in = number_from w64 PACKET_SIZE_AT
 
 -- the bytes of the records: from the header's end to the packet's end
 abbrev pub body_in : List ℕ → List ℕ
@@ -51,12 +52,12 @@ body_in bytes = drop PACKET_HEADER (take (packet_bits_in bytes / 8) bytes)
 abbrev pub contents_in : List ℕ → Contents
 contents_in bytes = record {
   head = record {
-    uuid = bytes_from 16 4 bytes;
-    stream = number_from w64 24 bytes;
+    uuid = bytes_from 16 UUID_AT bytes;
+    stream = number_from w64 STREAM_AT bytes;
     begin = begin_in bytes;
     end = end_in bytes;
-    seq = number_from w64 64 bytes;
-    discarded = number_from w64 72 bytes;
+    seq = number_from w64 SEQ_AT bytes;
+    lost = number_from w64 LOST_AT bytes;
   };
   records = entries_of (body_in bytes);
 }

@@ -34,7 +34,7 @@ times_text h bits = to_le_bytes w64 h.begin ++ (to_le_bytes w64 h.end ++ (to_le_
 
 -- the packet context: those, packet_seq_num, events_discarded
 abbrev pub context_text : Head → ℕ → List ℕ
-context_text h bits = times_text h bits ++ (to_le_bytes w64 h.seq ++ to_le_bytes w64 h.discarded)
+context_text h bits = times_text h bits ++ (to_le_bytes w64 h.seq ++ to_le_bytes w64 h.lost)
 
 -- the bytes of a packet
 abbrev pub packet_text : Contents → List ℕ
@@ -52,5 +52,5 @@ pub record IsPacket (p : Contents) : Type 0 where
   pub uuid : length p.head.uuid ≡ 16
   pub stream : p.head.stream < 2 ^ 64
   pub seq : p.head.seq < 2 ^ 64
-  pub discarded : p.head.discarded < 2 ^ 64
+  pub lost : p.head.lost < 2 ^ 64
   pub records : MakePacket p.head.begin p.head.end p.records

@@ -6,6 +6,7 @@ ghost use Rattle.tr_packet.specs.Packets.{Contents, packet_size};
 
 use crate::fault::PacketFault;
 use crate::fields::{head_in, size_of_front, u64_from};
+use crate::layout::{BEGIN_AT, END_AT};
 use crate::seen::judge_records;
 use crate::view::PacketView;
 use tr_terms::limits::PACKET_HEADER;
@@ -20,7 +21,11 @@ fn packet_in(bytes: &[u8]) -> Result<(PacketView<'_>, usize), PacketFault>
     let size = size_of_front(bytes)?;
     let (text, _) = bytes.split_at(size);
     let (_, body) = text.split_at(PACKET_HEADER);
-    let (count, last_serial) = judge_records(body, u64_from(bytes, 32), u64_from(bytes, 40))?;
+    let (count, last_serial) = judge_records(
+        body,
+        u64_from(bytes, BEGIN_AT),
+        u64_from(bytes, END_AT),
+    )?;
     let Some(head) = head_in(bytes) else {
         return Err(PacketFault::MomentOrder);
     };

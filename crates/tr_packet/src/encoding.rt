@@ -24,7 +24,7 @@ fn numbers_of(head: &Head, bits: u64) -> [u8; 60]
     let end = head.end.get().to_le_bytes();
     let bits = bits.to_le_bytes();
     let seq = head.seq.to_le_bytes();
-    let lost = head.discarded.to_le_bytes();
+    let lost = head.lost.to_le_bytes();
     [
         0, 0, 0, 0, stream[0], stream[1], stream[2], stream[3], stream[4], stream[5], stream[6],
         stream[7], begin[0], begin[1], begin[2], begin[3], begin[4], begin[5], begin[6], begin[7],

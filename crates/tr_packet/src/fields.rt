@@ -7,7 +7,11 @@ ghost use Rattle.tr_packet.specs.Decoding.{number_from, bytes_from, packet_bits_
 
 use crate::fault::PacketFault;
 use crate::head::Head;
-use tr_record::{Moment, u32_at, u64_at};
+use crate::layout::{
+    BEGIN_AT, CONTENT_SIZE_AT, END_AT, LOST_AT, PACKET_SIZE_AT, SEQ_AT, STREAM_AT, STREAM_ID_AT,
+};
+use tr_record::{u32_at, u64_at};
+use tr_terms::Moment;
 use tr_terms::limits::{LARGEST_PACKET, PACKET_HEADER, SMALLEST_PACKET};
 use uuid::Uuid;
 
@@ -79,10 +83,13 @@ pub fn size_by_fields(bytes: &[u8]) -> Result<usize, PacketFault>
     if !bytes.starts_with(&MAGIC) {
         return Err(PacketFault::BadMagic);
     }
-    if u32_from(bytes, 20) != 0 {
+    if u32_from(bytes, STREAM_ID_AT) != 0 {
         return Err(PacketFault::BadStreamId);
     }
-    let Some(size) = bytes_of(u64_from(bytes, 48), u64_from(bytes, 56)) else {
+    let Some(size) = bytes_of(
+        u64_from(bytes, CONTENT_SIZE_AT),
+        u64_from(bytes, PACKET_SIZE_AT),
+    ) else {
         return Err(PacketFault::BadSize);
     };
     Ok(size)
@@ -108,14 +115,14 @@ pub(crate) fn head_in(bytes: &[u8]) -> Option<Head>
     ensures limits { IfSome result (λ h. (begin_in bytes.now ≤ LAST_MOMENT) × (end_in bytes.now ≤ LAST_MOMENT)) }
     ensures none { IfNone result ((LAST_MOMENT < begin_in bytes.now) ⊎ (LAST_MOMENT < end_in bytes.now)) }
 {
-    let begin = Moment::new(u64_from(bytes, 32))?;
-    let end = Moment::new(u64_from(bytes, 40))?;
+    let begin = Moment::new(u64_from(bytes, BEGIN_AT))?;
+    let end = Moment::new(u64_from(bytes, END_AT))?;
     Some(Head {
         uuid: uuid_in(bytes),
-        stream: u64_from(bytes, 24),
+        stream: u64_from(bytes, STREAM_AT),
         begin,
         end,
-        seq: u64_from(bytes, 64),
-        discarded: u64_from(bytes, 72),
+        seq: u64_from(bytes, SEQ_AT),
+        lost: u64_from(bytes, LOST_AT),
     })
 }

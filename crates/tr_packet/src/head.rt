@@ -1,6 +1,6 @@
 //! What a packet says beside its records.
 
-use tr_record::Moment;
+use tr_terms::Moment;
 use uuid::Uuid;
 
 /// What a packet says beside its records.
@@ -17,5 +17,5 @@ pub struct Head {
     /// The number of the packet in its stream.
     pub seq: u64,
     /// How many records the stream had discarded by then.
-    pub discarded: u64,
+    pub lost: u64,
 }

@@ -7,6 +7,7 @@ mod fault;
 mod fields;
 mod head;
 pub mod laws;
+pub mod layout;
 mod metadata;
 mod order;
 mod packet;

@@ -9,7 +9,8 @@ ghost use Rattle.tr_packet.specs.Packets.{MakePacket};
 ghost use Rattle.tr_terms.specs.declared.limits.TheConstants.{LARGEST_PACKET};
 
 use std::alloc::Allocator;
-use tr_record::{Moment, Rec};
+use tr_record::Rec;
+use tr_terms::Moment;
 use tr_terms::limits::{LARGEST_PACKET, PACKET_HEADER};
 
 /// The bytes of a packet of these records.

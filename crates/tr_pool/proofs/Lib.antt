@@ -1,4 +1,2 @@
-pub mod FeedLaws
-pub mod JoinLaws
-pub mod SideLaws
-pub mod StartLaws
+pub mod JudgeLaws
+pub mod ReportLaws

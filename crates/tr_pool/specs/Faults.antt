@@ -1,12 +1,12 @@
--- What was missing for threads, by its code and its name.
+-- What a log and its stream don't agree on, by its code and its name.
 use Rattle.std.specs.Prelude.{ℕ, List, codes}
-use Rattle.tr_pool.specs.declared.pool_fault.PoolError.{PoolError}
-use Rattle.tr_pool.specs.declared.pool_fault.PoolError.TheVariants.{NoThread, NoMemory}
+use Rattle.tr_pool.specs.declared.report.Mismatch.{Mismatch}
+use Rattle.tr_pool.specs.declared.report.Mismatch.TheVariants.{WrongRecord, LogLength}
 
-abbrev pub pool_error_code : PoolError → List ℕ
-pool_error_code NoThread = codes "U1"
-pool_error_code NoMemory = codes "U2"
+abbrev pub mismatch_code : Mismatch → List ℕ
+mismatch_code (WrongRecord stream serial) = codes "M1"
+mismatch_code (LogLength stream) = codes "M2"
 
-abbrev pub pool_error_name : PoolError → List ℕ
-pool_error_name NoThread = codes "NoThread"
-pool_error_name NoMemory = codes "NoMemory"
+abbrev pub mismatch_name : Mismatch → List ℕ
+mismatch_name (WrongRecord stream serial) = codes "WrongRecord"
+mismatch_name (LogLength stream) = codes "LogLength"

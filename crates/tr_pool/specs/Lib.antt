@@ -1,6 +1,4 @@
 pub mod Faults
-pub mod Feeding
-pub mod Pools
-pub mod Sides
-pub mod Threads
-pub mod Turns
+pub mod Judging
+pub mod Logs
+pub mod Reports

@@ -1,27 +1,17 @@
-//! Threads at work: workers that take packets from streams, and feeders that offer records to them and log what is accepted.
+//! A pool of feeders and workers on a shared session: feeders offer records and log what is accepted, workers take packets, and
+//! what was logged is reconciled with what the settled session holds.
 #![tactic(auto)]
 
-mod draining;
-mod feeding;
-mod gate;
-mod intake;
-mod items;
-mod limits;
-mod pool_fault;
-mod sides;
-mod target;
-mod threads;
-mod together;
-mod turns;
-mod work;
-mod worker;
+mod judging;
+mod log;
+mod reconciling;
+mod report;
 
-pub use draining::drain_all;
-pub use feeding::{LoggedProducer, feed};
-pub use gate::Gate;
-pub use intake::Intake;
-pub use items::{Item, Items};
-pub use pool_fault::{PoolError, PoolFault};
-pub use sides::SidesFault;
-pub use target::Target;
-pub use together::{Feeders, Workers, feed_and_drain};
+pub use log::{Log, Logged};
+pub use reconciling::reconcile;
+pub use report::{Mismatch, Report};
+// Feeders and workers in threads, whatever they offer to and take from.
+pub use tr_threads::{
+    Feeders, Gate, Intake, Item, Items, LoggedProducer, PoolError, PoolFault, SidesFault, Target,
+    Workers, drain_all, feed, feed_and_drain,
+};

@@ -7,7 +7,7 @@ use Rattle.tr_survey.proofs.FrontLemmas.{nothing_told}
 use Rattle.tr_survey.specs.Sessions.{sessions_of}
 use Rattle.tr_survey.specs.declared.faults.SurveyFault.{SurveyFault}
 use Rattle.tr_survey.specs.declared.faults.SurveyFault.TheVariants as survey
-use Rattle.tr_invocation.specs.CommandLine.{Script, Load, Audit, Task}
+use Rattle.tr_command.specs.Invocation.{Script, Load, Audit, Task}
 use Rattle.tr_program.specs.Endings.{ending_of_survey}
 use Rattle.tr_program.specs.Runs.{EndsSo, FoldersState, HasAudited, HasNoSession, Outside, TellsAudit}
 use Rattle.tr_program.specs.declared.ending.Ending.{Ending}

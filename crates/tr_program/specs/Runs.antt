@@ -23,7 +23,7 @@ use Rattle.tr_survey.specs.Failures.{reads_after, writes_after}
 use Rattle.tr_survey.specs.Fronts.{HasToldFront}
 use Rattle.tr_survey.specs.Sessions.{TellsFolder, sessions_of}
 use Rattle.tr_survey.specs.declared.faults.SurveyFault.{SurveyFault}
-use Rattle.tr_invocation.specs.CommandLine.{Folder, Script, Load, Audit, Task}
+use Rattle.tr_command.specs.Invocation.{Folder, Script, Load, Audit, Task}
 use Rattle.tr_program.specs.Endings.{ending_of_load, ending_of_refused, ending_of_survey, ending_of_told, message_of, status_of}
 use Rattle.tr_program.specs.Exports.{IsMadeBelow, all_made}
 use Rattle.tr_program.specs.declared.ending.Ending.{Ending}

@@ -6,7 +6,8 @@ ghost use Rattle.tr_program.specs.Endings.{ending_of_script, ending_of_arguments
 use std::io::ErrorKind;
 use tr_console::ScriptFault;
 use tr_export::ExportFault;
-use tr_load::{LoadFault, Mismatch, Report};
+use tr_load::LoadFault;
+use tr_pool::{Mismatch, Report};
 use tr_survey::SurveyFault;
 
 /// How a run of the program ends.

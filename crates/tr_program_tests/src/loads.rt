@@ -8,8 +8,8 @@ use std::sync::Wait;
 use std::test::*;
 use std::thread::Threads;
 use std::time::Clock;
-use tr_load::{LoadFault, Loaded, Log, Mismatch, Report, load, load_work, outcome_text, reconcile};
-use tr_pool::{Items, PoolError};
+use tr_load::{LoadFault, Loaded, load, load_work, outcome_text};
+use tr_pool::{Items, Log, Mismatch, PoolError, Report, reconcile};
 use tr_terms::limits::{MOST_RECORDS, MOST_WORKERS};
 
 /// A load of this many threads with this many records each, and this many workers.

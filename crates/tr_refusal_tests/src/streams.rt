@@ -8,9 +8,9 @@ use linked_list_allocator::LocalHeap;
 use std::alloc::{AllocError, Allocator, Global};
 use std::process::Abort;
 use tr_book::Part;
-use tr_record::{Moment, RecView};
-use tr_stream::{ClearFault, Cleared, CutDone, CutFault, SessionMode, Stream, TakeFault, Taken};
-use tr_terms::{Geometry, Mode};
+use tr_record::RecView;
+use tr_stream::{ClearFault, Cleared, CutDone, CutFault, Stream, TakeFault, Taken};
+use tr_terms::{Geometry, Mode, Moment, SessionMode};
 use tr_testing::moment;
 use uuid::Uuid;
 
@@ -63,7 +63,7 @@ fn assert_same_look<A: Allocator + Copy>(rt: &impl Abort, one: &Stream<A>, other
     let found = one.peek(Moment::zero()).expect(rt, "memory");
     let expected = other.peek(Moment::zero()).expect(rt, "memory");
     assert_same(rt, found.offered(), expected.offered());
-    assert_same(rt, found.discarded(), expected.discarded());
+    assert_same(rt, found.lost(), expected.lost());
     assert_same(rt, found.text(), expected.text());
 }
 

@@ -11,7 +11,7 @@ use std::fmt::Write;
 use tr_book::StreamSnap;
 use tr_outcome::LineFault;
 use tr_packet::PacketView;
-use tr_snapshot::{Snapshot, records_shown};
+use tr_snapshot::{Snapshot, count};
 
 /// Adds the line of a packet.
 fn push_packet<A: Allocator>(
@@ -46,7 +46,7 @@ fn push_head<A: Allocator, B: Allocator>(
     let stream = snap.stream();
     let offered = snap.offered();
     let packets = snap.packets().len();
-    let records = records_shown(snap);
+    let records = count(snap);
     match write!(
         text,
         "\nstream {stream} offered {offered} packets {packets} records {records}"

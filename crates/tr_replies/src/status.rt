@@ -10,7 +10,7 @@ use std::fmt::Write;
 use tr_book::Counts;
 use tr_session::Session;
 use tr_session_book::{Pending, SessionBook, State};
-use tr_stream::SessionMode;
+use tr_terms::SessionMode;
 
 /// The heads of the columns.
 const HEAD: &str = "stream     offered   discarded overwritten     in-ring   in-chunks";

@@ -6,7 +6,7 @@ use Rattle.tr_record.specs.Records.{Entry, has_serial}
 use Rattle.tr_record.specs.Weight.{weight_of}
 use Rattle.tr_subbuf.specs.SubBuffer.{SubBuffer, has_room, sub_buffer}
 use Rattle.tr_ring.specs.declared.pushed.Pushed.{Pushed}
-use Rattle.tr_ring.specs.declared.pushed.Pushed.TheVariants.{Stored, StoredOver, Discarded}
+use Rattle.tr_ring.specs.declared.pushed.Pushed.TheVariants.{Stored, StoredOver, Refused}
 use Rattle.tr_ring.specs.ClosedBuffer.{ClosedBuffer, closed_buffer}
 use Rattle.tr_terms.specs.declared.limits.TheConstants.{FEWEST_SUB_BUFFERS, LARGEST_PACKET, SMALLEST_PACKET}
 
@@ -61,8 +61,8 @@ abbrev pub discard_newest : RingState → RingState
 discard_newest r = record r { discarded = r.discarded + 1 }
 
 -- the oldest closed sub-buffer is removed
-abbrev pub remove_oldest : RingState → RingState
-remove_oldest r = record r { waiting = drop 1 r.waiting }
+abbrev pub drop_front : RingState → RingState
+drop_front r = record r { waiting = drop 1 r.waiting }
 
 -- the current sub-buffer is closed, and an empty one follows
 abbrev pub close_current : ℕ → RingState → RingState
@@ -82,7 +82,7 @@ abbrev pub after_push : Entry → RingState → RingState
 after_push e r =
     if has_room (current_buffer r) (length e.payload) then join_current e r
     else (if nat_lt (length r.waiting + 1) r.count then follow_current e r
-    else (if r.overwrite then follow_current e (remove_oldest r)
+    else (if r.overwrite then follow_current e (drop_front r)
     else discard_newest r))
 
 -- the answer gives the oldest one's number and count of records
@@ -95,7 +95,7 @@ push_answer e r =
     if has_room (current_buffer r) (length e.payload) then Stored r.seq
     else (if nat_lt (length r.waiting + 1) r.count then Stored (r.seq + 1)
     else (if r.overwrite then over_first (r.seq + 1) r.waiting
-    else Discarded))
+    else Refused))
 
 -- the number of the closed sub-buffer that has the record of a serial
 abbrev pub seq_waiting : ℕ → List ClosedBuffer → Option ℕ

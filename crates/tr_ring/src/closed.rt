@@ -5,8 +5,9 @@ ghost use Rattle.tr_ring.specs.ClosedBuffer.{closed_buffer};
 
 use std::alloc::{Allocator, Global};
 use std::marker::Model;
-use tr_record::{Moment, RecView, Records};
+use tr_record::{RecView, Records};
 use tr_subbuf::SubBuf;
+use tr_terms::Moment;
 
 /// A closed sub-buffer, which waits to be consumed, as its ring lends it. Contracts see a `ClosedBuffer`.
 #[derive(Drop)]

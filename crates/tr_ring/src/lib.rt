@@ -4,10 +4,12 @@
 #![tactic(auto)]
 
 mod closed;
+mod items;
 mod pushed;
 mod ring;
 mod sealed;
 
 pub use closed::ClosedSubBuf;
+pub use items::RingItems;
 pub use pushed::Pushed;
 pub use ring::Ring;

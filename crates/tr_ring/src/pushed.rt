@@ -13,6 +13,6 @@ pub enum Pushed {
         gone_seq: u64,
         gone_count: u64,
     },
-    /// The ring is full and discards it.
-    Discarded,
+    /// The ring is full, and it was refused: it is discarded.
+    Refused,
 }

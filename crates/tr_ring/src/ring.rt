@@ -5,18 +5,20 @@ ghost use Rattle.circular_buffer.specs.Buffer.{buffer};
 ghost use Rattle.tr_record.specs.Records.{entry};
 ghost use Rattle.tr_ring.specs.ClosedBuffer.{closed_buffer};
 ghost use Rattle.tr_ring.specs.Pages.{ArePages, sealed_page, seq_in_pages};
-ghost use Rattle.tr_ring.specs.Ring.{IsRing, empty_ring, current_buffer, after_push, push_answer, follow_current, remove_oldest, close_current, clear_ring, seq_waiting, seq_of, ring_records};
+ghost use Rattle.tr_ring.specs.Ring.{IsRing, empty_ring, current_buffer, after_push, push_answer, follow_current, drop_front, close_current, clear_ring, seq_waiting, seq_of, ring_records};
 ghost use Rattle.tr_terms.specs.declared.limits.TheConstants.{FEWEST_SUB_BUFFERS, LARGEST_PACKET, SMALLEST_PACKET};
 
 use crate::closed::ClosedSubBuf;
+use crate::items::RingItems;
 use crate::pushed::Pushed;
 use crate::sealed::Sealed;
 use circular_buffer::HeapCircularBuffer;
 use std::alloc::{AllocError, Allocator, Global};
 use std::marker::Model;
 use std::mem;
-use tr_record::{Moment, RecView};
+use tr_record::RecView;
 use tr_subbuf::SubBuf;
+use tr_terms::Moment;
 
 /// The closed sub-buffers that wait, the current one, and those that are free. Their pages go round, and no call but `new`
 /// takes memory. Contracts see a `RingState`.
@@ -134,13 +136,13 @@ impl<A: Allocator> Ring<A> {
         }
         if !self.overwrite {
             self.discarded += 1;
-            return Pushed::Discarded;
+            return Pushed::Refused;
         }
         let Some(oldest) = self.front() else {
             unreachable!()
         };
         let (gone_seq, gone_count) = (oldest.seq(), oldest.count() as u64);
-        self.remove_oldest();
+        self.drop_front();
         self.follow(moment, id, serial, payload);
         Pushed::StoredOver {
             seq: self.seq,
@@ -184,9 +186,9 @@ impl<A: Allocator> Ring<A> {
     }
 
     /// Removes the oldest closed sub-buffer, whose page is free then. It takes no memory.
-    pub fn remove_oldest(&mut self)
+    pub fn drop_front(&mut self)
         requires { 1 ≤ length self.old.waiting }
-        ensures { self.new ≡ remove_oldest self.old }
+        ensures { self.new ≡ drop_front self.old }
     {
         if let Some(oldest) = self.waiting.pop_front() {
             let _ = self.free.push_back(oldest.into_free());
@@ -199,7 +201,7 @@ impl<A: Allocator> Ring<A> {
         ensures { self.new ≡ clear_ring self.old }
     {
         for _ in 0..self.waiting() {
-            self.remove_oldest();
+            self.drop_front();
         }
         self.seq += u64::from(!self.current.is_empty());
         self.current.reset();
@@ -209,14 +211,14 @@ impl<A: Allocator> Ring<A> {
     pub fn front(&self) -> Option<ClosedSubBuf<'_, A>>
         ensures { result ≡ slice_get self.now.waiting 0 }
     {
-        self.closed(0)
+        self.items().next()
     }
 
-    /// The closed sub-buffer number `i`, counted from the oldest, which is number 0.
-    pub fn closed(&self, i: usize) -> Option<ClosedSubBuf<'_, A>>
-        ensures { result ≡ slice_get self.now.waiting i }
+    /// The closed sub-buffers that wait, the oldest first.
+    pub fn items(&self) -> RingItems<'_, A>
+        ensures { result ≡ self.now.waiting }
     {
-        self.waiting.get(i).map(|page| page.lent())
+        RingItems::new(self.waiting.iter())
     }
 
     /// The current sub-buffer.
@@ -253,10 +255,7 @@ impl<A: Allocator> Ring<A> {
         ensures { result ≡ slice_get (ring_records self.now) k }
     {
         let mut left = k;
-        for i in 0..self.waiting() {
-            let Some(buffer) = self.closed(i) else {
-                unreachable!()
-            };
+        for buffer in self.items() {
             let count = buffer.count() as u64;
             if left < count {
                 return buffer.at(left as usize);

@@ -9,8 +9,8 @@ ghost use Rattle.tr_ring.specs.Pages.{sealed_page};
 use crate::closed::ClosedSubBuf;
 use std::alloc::Allocator;
 use std::marker::Model;
-use tr_record::Moment;
 use tr_subbuf::SubBuf;
+use tr_terms::Moment;
 
 /// The page of a closed sub-buffer, with what its ring notes of it. Contracts see a `SealedPage`.
 #[derive(Drop)]

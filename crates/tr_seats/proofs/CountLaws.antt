@@ -5,7 +5,7 @@ use Rattle.std.specs.List.{AllByRecursion}
 use Rattle.std.specs.Prelude.{max}
 use Rattle.tr_record.specs.Records.{Entry}
 use Rattle.tr_ring.specs.ClosedBuffer.{ClosedBuffer}
-use Rattle.tr_ring.specs.Ring.{IsClosedWithin, discard_newest, follow_current, join_current, over_first, push_answer, remove_oldest}
+use Rattle.tr_ring.specs.Ring.{IsClosedWithin, discard_newest, follow_current, join_current, over_first, push_answer, drop_front}
 use Rattle.tr_ring.specs.declared.pushed.Pushed.{Pushed}
 use Rattle.tr_ring.specs.declared.pushed.Pushed.TheVariants as pushed
 use Rattle.tr_seats.specs.Slots.{serial_of}
@@ -34,9 +34,9 @@ pushed-totals e s = go _ _ _ s.ring.waiting
   where
     go : (room more over : Bool) (waiting : List ClosedBuffer)
         → (let ring = if room then join_current e s.ring else
-        (if more then follow_current e s.ring else (if over then follow_current e (remove_oldest s.ring) else discard_newest s.ring))
+        (if more then follow_current e s.ring else (if over then follow_current e (drop_front s.ring) else discard_newest s.ring))
         in let answer = if room then pushed.Stored s.ring.seq else
-        (if more then pushed.Stored (s.ring.seq + 1) else (if over then over_first (s.ring.seq + 1) waiting else pushed.Discarded))
+        (if more then pushed.Stored (s.ring.seq + 1) else (if over then over_first (s.ring.seq + 1) waiting else pushed.Refused))
         in totals_in (record s { ring = ring; counters = counters_after_push answer e.moment s.counters })
         ≡ totals_after_offer (offered_as s.counters.offered answer) (totals_in s))
     go true more over waiting = refl
@@ -88,7 +88,7 @@ offer-uncleared moment id payload s = go (refusal_of (length payload) s)
     pushed-same : (p : Pushed) → (counters_after_push p e.moment s.counters).cleared ≡ s.counters.cleared
     pushed-same (pushed.Stored seq) = refl
     pushed-same (pushed.StoredOver seq gone_seq gone_count) = refl
-    pushed-same pushed.Discarded = refl
+    pushed-same pushed.Refused = refl
 
     go : (refusal : Option OfferFault) → (state_unless refusal e s).counters.cleared ≡ s.counters.cleared
     go (Some fault) = refl
@@ -184,7 +184,7 @@ offer-serial moment id payload s offered is = go (refusal_of (length payload) s)
     as-pushed : (p : Pushed) → serial_of (offered_as s.counters.offered p) ≡ s.counters.offered
     as-pushed (pushed.Stored seq) = refl
     as-pushed (pushed.StoredOver seq gone_seq gone_count) = refl
-    as-pushed pushed.Discarded = refl
+    as-pushed pushed.Refused = refl
 
     go : (refusal : Option OfferFault) → refusal_of (length payload) s ≡ refusal → serial_of offered ≡ s.counters.offered
     go (Some fault) at = cc

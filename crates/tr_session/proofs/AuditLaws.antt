@@ -36,7 +36,7 @@ records_behind bs = flat_map (λ (b : ClosedBuffer). b.records) bs
 
 -- what packets say, by their sub-buffers
 discarded-packets : (c : StreamConfig) (bs : List ClosedBuffer)
-    → map (λ (p : Contents). p.head.discarded) (map (packet_of c) bs) ≡ map (λ (b : ClosedBuffer). b.discarded) bs
+    → map (λ (p : Contents). p.head.lost) (map (packet_of c) bs) ≡ map (λ (b : ClosedBuffer). b.discarded) bs
 discarded-packets c [] = refl
 discarded-packets c (b ∷ bs) = ap (λ (ns : List ℕ). b.discarded ∷ ns) (discarded-packets c bs)
 

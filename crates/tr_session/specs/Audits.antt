@@ -28,7 +28,7 @@ pub record LastIs {A : Type 0} (a : StreamAudit A) (bs : List ClosedBuffer) : Ty
   pub seq : a.last_seq ≡ last_or None (map (λ (b : ClosedBuffer). b.seq) bs)
   pub serial : a.last_serial
       ≡ last_or None (map (λ (e : Entry). e.serial) (flat_map (λ (b : ClosedBuffer). b.records) bs))
-  pub discarded : a.last_discarded ≡ unwrap_or (last_or None (map (λ (b : ClosedBuffer). b.discarded) bs)) 0
+  pub discarded : a.last_lost ≡ unwrap_or (last_or None (map (λ (b : ClosedBuffer). b.discarded) bs)) 0
 
 -- the block of this number was overwritten or cleared
 abbrev pub was_removed : ℕ → List Closed → Bool

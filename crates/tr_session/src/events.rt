@@ -6,9 +6,9 @@ ghost use Rattle.tr_session.specs.Faults.{answer_wants_memory};
 use crate::faults::StepFault;
 use std::alloc::{Allocator, Global};
 use tr_book::StreamSnap;
-use tr_record::Moment;
 use tr_session_book::{Archive, SessionFault};
 use tr_stream::{CutDone, Offered, Payload, Taken};
+use tr_terms::Moment;
 
 /// What is done to one stream of a session, by its number, or to the session itself.
 #[derive(Drop)]

@@ -24,3 +24,6 @@ pub use rotation::Next;
 pub use run::{configure, run_session};
 pub use session::Session;
 pub use ticks::Ticked;
+// What a session's book is made of.
+pub use tr_schedule::{Cause, Schedule, ScheduleFault};
+pub use tr_session_book::{Archive, Pending, SessionBook, SessionFault, State};

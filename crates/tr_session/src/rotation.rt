@@ -8,9 +8,9 @@ ghost use Rattle.tr_stream.specs.Rules.{by_state};
 use crate::faults::StepFault;
 use crate::session::Session;
 use std::alloc::{AllocError, Allocator};
-use tr_record::Moment;
 use tr_session_book::{Archive, SessionFault};
 use tr_stream::CutFault;
+use tr_terms::Moment;
 
 /// What a rotation did next.
 #[derive(Clone, Copy, Debug, PartialEq, Eq)]

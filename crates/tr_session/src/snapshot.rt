@@ -6,9 +6,9 @@ ghost use Rattle.tr_stream.specs.Rules.{by_state};
 
 use crate::session::Session;
 use std::alloc::Allocator;
-use tr_record::Moment;
 use tr_session_book::SessionFault;
 use tr_snapshot::Snapshot;
+use tr_terms::Moment;
 
 impl<A: Allocator + Copy> Session<A> {
     /// A snapshot of the session: each of its streams as it is at this moment, or at the last one if that is later. The

@@ -8,9 +8,9 @@ ghost use Rattle.tr_stream.specs.StateSteps.{state_offer_answer, state_after_off
 use crate::faults::StepFault;
 use std::alloc::{AllocError, Allocator};
 use tr_book::StreamSnap;
-use tr_record::Moment;
 use tr_session_book::SessionFault;
 use tr_stream::{CutDone, CutFault, Offered, Stream, TakeFault, Taken};
+use tr_terms::Moment;
 
 /// Lets the stream of this number take offers, or makes it refuse them.
 pub fn switch_at<A: Allocator>(streams: &mut Vec<Stream<A>, A>, active: bool, i: usize)

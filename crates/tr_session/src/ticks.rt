@@ -7,9 +7,9 @@ ghost use Rattle.tr_stream.specs.Rules.{by_state};
 
 use crate::session::Session;
 use std::alloc::Allocator;
-use tr_record::Moment;
 use tr_schedule::Cause;
 use tr_session_book::{Archive, SessionFault};
+use tr_terms::Moment;
 
 /// What a tick did.
 #[derive(Clone, Copy, Debug, PartialEq, Eq)]

@@ -3,8 +3,8 @@ use Rattle.std.proofs.Common.{◌≡◌, ◌∙◌, ◌+◌, ℕ, List, [], ◌�
 use Rattle.std.proofs.lemmas.List.{length-append}
 use Rattle.std.specs.List.{FoldsTo}
 use Rattle.std.specs.Prelude.{is_ok}
-use Rattle.tr_pool.specs.Feeding.{IsFed, OffersOne}
-use Rattle.tr_pool.specs.declared.items.Item.{Item}
+use Rattle.tr_threads.specs.Feeding.{IsFed, OffersOne}
+use Rattle.tr_threads.specs.declared.items.Item.{Item}
 use Rattle.tr_seats.specs.Slots.{ProducerState, producer_after}
 use Rattle.tr_shared.specs.Calls.{HasOffered, IsOffered}
 use Rattle.tr_stream.specs.declared.answers.OfferFault.{OfferFault}

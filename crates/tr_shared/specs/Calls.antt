@@ -1,6 +1,7 @@
 -- What the calls of a shared session answer, as far as those who hold no lock can tell.
 use Rattle.std.specs.Prelude.{◌≡◌, ◌≢◌, ◌≤◌, ◌<◌, ◌⊎◌, ◌+◌, ℕ, List, Result, Err, IfOk, length, slice_index_or, sum}
 use Rattle.std.specs.List.{sum_by}
+use Rattle.tr_seats.specs.Books.{IsPlanned, IsTooBig, PlanState}
 use Rattle.tr_seats.specs.Settling.{taken_of}
 use Rattle.tr_seats.specs.Slots.{ProducerState, drainer_after, producer_after, serial_of}
 use Rattle.tr_seats.specs.Sums.{totals_in}
@@ -9,11 +10,14 @@ use Rattle.tr_session_book.specs.declared.faults.SessionFault.{SessionFault}
 use Rattle.tr_session_book.specs.declared.faults.SessionFault.TheVariants.{AlreadyActive, Misplaced, NoMemory, NotActive, RotationPending, TooMany}
 use Rattle.tr_stream.specs.State.{StreamState}
 use Rattle.tr_stream.specs.declared.answers.OfferFault.{OfferFault}
+use Rattle.tr_stream.specs.declared.answers.OfferFault.TheVariants as offer_fault
 use Rattle.tr_stream.specs.declared.answers.Offered.{Offered}
 use Rattle.tr_stream.specs.declared.answers.TakeFault.{TakeFault}
 use Rattle.tr_stream.specs.declared.answers.TakeFault.TheVariants.{SnapshotMode}
 use Rattle.tr_stream.specs.declared.answers.TakeFault.TheVariants as take_fault
 use Rattle.tr_stream.specs.declared.answers.Taken.{Taken}
+use Rattle.tr_stream.specs.declared.config.StreamConfig.{StreamConfig}
+use Rattle.tr_terms.specs.declared.limits.TheConstants.{MOST_OFFERS}
 use Rattle.tr_terms.specs.declared.session_mode.SessionMode.{SessionMode}
 use Rattle.tr_terms.specs.declared.session_mode.SessionMode.TheVariants.{Local, Snapshot}
 
@@ -52,6 +56,20 @@ IsTakeOf Snapshot answer = (answer ≡ Err SnapshotMode) ⊎ (answer ≡ Err tak
 abbrev pub IsOffered : ProducerState → ℕ → ℕ → List ℕ → Result Offered OfferFault → ProducerState → Type 0
 IsOffered before moment id payload answer after = (after ≡ producer_after answer before)
     × IfOk answer (λ (offered : Offered). serial_of offered ≡ before.offered)
+
+-- what an offer answers to the owner of a producer, and makes of it, in a session of this plan
+pub record IsOfferTo (plan : PlanState) (before : ProducerState) (moment id : ℕ) (payload : List ℕ) (answer : Result Offered OfferFault)
+    (after : ProducerState) : Type 0 where
+  pub seats : after ≡ producer_after answer before
+  pub serial : IfOk answer (λ (offered : Offered). serial_of offered ≡ before.offered)
+  pub too_big : answer ≡ Err offer_fault.TooBig → IsTooBig plan before.number (length payload)
+  pub spent : answer ≡ Err offer_fault.Spent → MOST_OFFERS ≤ before.offered
+
+-- what a take from the stream of this number answers to the owner of a drainer, and makes of it, in a session of this plan
+pub record IsTakeFrom (plan : PlanState) (before : List ℕ) (i : ℕ) (answer : Result Taken TakeFault) (after : List ℕ) : Type 0 where
+  pub seats : after ≡ drainer_after answer i before
+  pub some : IfOk answer (λ (taken : Taken). 1 ≤ taken.count)
+  pub mode : (config : StreamConfig) → IsPlanned plan i config → IsTakeOf config.session answer
 
 -- a producer has offered this many records more, and still offers to the same stream
 abbrev pub HasOffered : ℕ → ProducerState → ProducerState → Type 0

@@ -1,8 +1,8 @@
 //! What a rotation does, one hold of the locks after another, and what a feeder's log says of its producer.
 
 ghost use Rattle.std.specs.Prelude.{◌≡◌, ◌≤◌, ℕ, List, length};
-ghost use Rattle.tr_pool.specs.Feeding.{IsFed};
-ghost use Rattle.tr_pool.specs.declared.items.Item.{Item};
+ghost use Rattle.tr_threads.specs.Feeding.{IsFed};
+ghost use Rattle.tr_threads.specs.declared.items.Item.{Item};
 ghost use Rattle.tr_seats.specs.Settling.{OpenedState};
 ghost use Rattle.tr_seats.specs.Slots.{ProducerState};
 ghost use Rattle.tr_session.specs.Steps.{cut_first};

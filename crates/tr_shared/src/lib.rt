@@ -8,18 +8,21 @@ mod looking;
 mod operating;
 mod pooled;
 mod rotating;
+mod seats;
 mod settle_fault;
 mod shared;
 mod snapshots;
 
 pub use laws::{every_feed, every_rotation};
+pub use seats::{Offers, Takes};
 pub use settle_fault::SettleFault;
 pub use shared::Shared;
 // What a shared session is made of, and what a program that records names.
+pub use tr_schedule::{Cause, Schedule, ScheduleFault};
 pub use tr_seats::{
     Desk, Drainer, MOST_DRAINERS, Names, Plan, Producer, SettleError, Settled, Slot, Totals, plan,
 };
 pub use tr_session::{ChannelConfig, Config, Next, StepFault, Ticked};
-pub use tr_session_book::{Archive, Cause, Pending, Schedule, ScheduleFault, SessionFault, State};
+pub use tr_session_book::{Archive, Pending, SessionFault, State};
 pub use tr_stream::{OfferFault, Offered, TakeFault, Taken};
 pub use tr_terms::{Geometry, GeometryFault, Mode, Moment, Name, OffsetMinutes, SessionMode};

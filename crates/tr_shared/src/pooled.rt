@@ -1,11 +1,12 @@
 //! What the threads of a pool do with a shared session: feeders offer to it, and workers take from it.
 
+use crate::seats::{Offers, Takes};
 use crate::shared::Shared;
 use std::sync::Wait;
-use tr_pool::{Intake, Target};
 use tr_seats::{Drainer, Names, Producer};
 use tr_stream::{OfferFault, Offered, TakeFault, Taken};
 use tr_terms::Moment;
+use tr_threads::{Intake, Target};
 
 impl<N: Names> Intake for Shared<N> {
     ghost use Rattle.tr_shared.specs.Calls.{IsOffered};
@@ -22,7 +23,7 @@ impl<N: Names> Intake for Shared<N> {
         id: u32,
         payload: &[u8],
     ) -> Result<Offered, OfferFault> {
-        self.offer(rt, seat, moment, id, payload)
+        seat.offer(rt, self, moment, id, payload)
     }
 }
 
@@ -46,6 +47,6 @@ impl<N: Names> Target for Shared<N> {
         seat: &mut Drainer<N>,
         i: usize,
     ) -> Result<Taken, TakeFault> {
-        self.take(rt, seat, i)
+        seat.take(rt, self, i)
     }
 }

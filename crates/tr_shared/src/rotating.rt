@@ -6,9 +6,10 @@ ghost use Rattle.tr_session_book.specs.BookSteps.{due_now};
 ghost use Rattle.tr_shared.specs.Operating.{IsNextFault, as_next, desk_if_due, next_stream};
 
 use std::alloc::Allocator;
+use tr_schedule::Cause;
 use tr_seats::{Desk, Names, Slot};
 use tr_session::{Next, StepFault};
-use tr_session_book::{Cause, SessionFault};
+use tr_session_book::SessionFault;
 use tr_terms::{Moment, SessionMode};
 
 /// The stream that the pending rotation cuts next; none if it has cut every stream.

@@ -81,7 +81,7 @@ impl<N: Names, A: Allocator + Copy> Shared<N, A> {
     /// # Errors
     ///
     /// Those of `Slot::offer`: nothing changed.
-    pub fn offer(
+    pub(crate) fn offer(
         &self,
         rt: &impl Wait,
         producer: &mut Producer<N>,
@@ -109,7 +109,7 @@ impl<N: Names, A: Allocator + Copy> Shared<N, A> {
     /// # Errors
     ///
     /// Those of `Slot::take`: nothing changed.
-    pub fn take(
+    pub(crate) fn take(
         &self,
         rt: &impl Wait,
         drainer: &mut Drainer<N, A>,

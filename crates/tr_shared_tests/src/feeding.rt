@@ -12,7 +12,7 @@ use std::test::*;
 use std::thread;
 use std::thread::Threads;
 use tr_pool::{Gate, Item, drain_all, feed};
-use tr_shared::{Drainer, Names, Plan, Producer, Settled, Shared};
+use tr_shared::{Drainer, Names, Offers, Plan, Producer, Settled, Shared};
 use tr_stream::{Fate, Payload};
 use tr_terms::{Mode, SessionMode};
 use tr_testing::moment;
@@ -139,7 +139,7 @@ impl<'a, R: Wait + Abort> Gate for Meeting<'a, R> {
 fn fill<N: Names>(rt: &(impl Abort + Wait), shared: &Shared<N>, producer: &mut Producer<N>) {
     let payload = [0x61; 150];
     for k in 0..2 {
-        let offered = shared.offer(rt, producer, moment(k), 1, &payload);
+        let offered = producer.offer(rt, shared, moment(k), 1, &payload);
         assert_same(rt, offered.is_ok(), true);
     }
 }

@@ -16,8 +16,8 @@ use std::sync::Wait;
 use std::test::*;
 use tr_session_book::SessionFault;
 use tr_shared::{
-    Drainer, MOST_DRAINERS, Names, Plan, Producer, SettleError, SettleFault, Settled, Shared,
-    Totals,
+    Drainer, MOST_DRAINERS, Names, Offers, Plan, Producer, SettleError, SettleFault, Settled,
+    Shared, Takes, Totals,
 };
 use tr_stream::{OfferFault, Offered, TakeFault, Taken};
 use tr_terms::{Mode, SessionMode};
@@ -64,7 +64,7 @@ fn assert_offered<N: Names>(
     want: Result<Offered, OfferFault>,
 ) {
     let payload = PAYLOAD.get(..len).expect(rt, "a shorter payload");
-    let answer = shared.offer(rt, producer, moment(at), 1, payload);
+    let answer = producer.offer(rt, shared, moment(at), 1, payload);
     assert_same(rt, (at, answer), (at, want));
 }
 
@@ -82,7 +82,7 @@ fn assert_taken<N: Names>(
     want: Result<Taken, TakeFault>,
 ) {
     assert!(rt; i < shared.streams());
-    assert_same(rt, (i, shared.take(rt, drainer, i)), (i, want));
+    assert_same(rt, (i, drainer.take(rt, shared, i)), (i, want));
 }
 
 /// What the session is settled with, and the totals of its streams.
@@ -245,7 +245,7 @@ fn keeps_the_longest<N: Names>(rt: &(impl Abort + Wait), alloc: Global, plan: Pl
     let mut longest = vec![in alloc; 0x62; 65_431].expect(rt, "memory");
     push(rt, &mut longest, 0x63);
     let mut producer = last(rt, &mut producers);
-    let answer = shared.offer(rt, &mut producer, moment(5), 0, &longest);
+    let answer = producer.offer(rt, &shared, moment(5), 0, &longest);
     assert_same(rt, answer, stored(0, 0));
     push(rt, &mut producers, producer);
     let (settled, _) = settled(rt, shared, producers, Vec::new(alloc));

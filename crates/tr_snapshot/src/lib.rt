@@ -5,6 +5,6 @@ mod shown;
 mod snapshot;
 mod writing;
 
-pub use shown::{oldest_serial, records_shown};
+pub use shown::{count, oldest_serial};
 pub use snapshot::Snapshot;
 pub use writing::write_snap;

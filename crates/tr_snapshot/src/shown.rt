@@ -16,7 +16,7 @@ pub fn oldest_serial<A: Allocator>(snap: &StreamSnap<A>) -> Option<u64>
 }
 
 /// How many records are shown. It takes no memory.
-pub fn records_shown<A: Allocator>(snap: &StreamSnap<A>) -> u64
+pub fn count<A: Allocator>(snap: &StreamSnap<A>) -> u64
     ensures shown { result ≡ length (entries_shown snap.now) }
     ensures counted { result ≡ records_of snap.now.packets }
 {

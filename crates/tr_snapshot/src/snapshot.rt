@@ -6,7 +6,7 @@ ghost use Rattle.tr_snapshot.specs.Snapshots.{snapshot_state};
 use std::alloc::{Allocator, Global};
 use std::marker::Model;
 use tr_book::StreamSnap;
-use tr_record::Moment;
+use tr_terms::Moment;
 
 /// A snapshot of a session: its moment, and each of its streams by number. Contracts see a `SnapshotState`.
 #[derive(Drop)]

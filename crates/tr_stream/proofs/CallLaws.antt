@@ -1,5 +1,5 @@
 -- What is to be proved for the bodies of a stream's calls, from what the ring, the parts and the counters did.
-use Rattle.std.proofs.Common.{◌≡◌, ◌≢◌, ℕ, ◌+◌, ◌^◌, ◌≤◌, ◌<◌, zero, suc, Bool, false, List, [], ◌∷◌, ◌++◌, length, map, max, min, take, IsTrue, length-append, Option, Some, None, Result, Ok, Err, refl, sym, ◌∙◌, ap, subst, arith}
+use Rattle.std.proofs.Common.{◌≡◌, ◌≢◌, ℕ, ◌+◌, ◌^◌, ◌≤◌, ◌<◌, zero, suc, Bool, false, List, [], ◌∷◌, ◌++◌, length, map, max, min, take, IsTrue, length-append, append_assoc, Option, Some, None, Result, Ok, Err, refl, sym, ◌∙◌, ap, subst, arith}
 use Rattle.std.proofs.lemmas.Grind.{common_steps, flat_map-append}
 use Rattle.std.proofs.lemmas.List.{append-nil, map-append, length-map, nil_from_length, take_more}
 use Rattle.std.proofs.lemmas.List.Sums.{sum_by-cons}
@@ -16,7 +16,7 @@ use Rattle.tr_book.specs.Parts.{PartsState, empty_part, part_records, records_of
 use Rattle.tr_packet.specs.Packets.{Contents, IsPacket}
 use Rattle.tr_record.specs.Records.{Entry}
 use Rattle.tr_ring.specs.ClosedBuffer.{ClosedBuffer}
-use Rattle.tr_ring.specs.Ring.{RingState, after_push, closed_current, clear_ring, empty_ring, push_answer, remove_oldest, seq_after}
+use Rattle.tr_ring.specs.Ring.{RingState, after_push, closed_current, clear_ring, empty_ring, push_answer, drop_front, seq_after}
 use Rattle.tr_ring.specs.declared.pushed.Pushed.{Pushed}
 use Rattle.tr_ring.specs.declared.pushed.Pushed.TheVariants as pushed
 use Rattle.tr_stream.proofs.ClearLaws.{clears}
@@ -71,7 +71,7 @@ pub booked-stored : (p : Pushed) (seq moment : ℕ) (old new : CountersState) �
     → new ≡ with_offer moment old → new ≡ counters_after_push p moment old
 booked-stored p seq moment old new is noted = rw is noted
 
-pub booked-refused : (p : Pushed) (moment : ℕ) (old new : CountersState) → p ≡ pushed.Discarded
+pub booked-refused : (p : Pushed) (moment : ℕ) (old new : CountersState) → p ≡ pushed.Refused
     → new ≡ with_offer moment old → new ≡ counters_after_push p moment old
 booked-refused p moment old new is noted = rw is noted
 
@@ -159,7 +159,7 @@ moved_first s (x ∷ xs) b first = let e : x ≡ b = cc in ap (λ (y : ClosedBuf
 
 -- the rest of a take, once the part has the packet
 pub moved-is : (s : StreamState) (b : ClosedBuffer) (ring : RingState) (parts : PartsState) (counters : CountersState)
-    → slice_get s.ring.waiting 0 ≡ Some b → ring ≡ remove_oldest s.ring → parts ≡ with_packet (packet_of s.config b) s.parts
+    → slice_get s.ring.waiting 0 ≡ Some b → ring ≡ drop_front s.ring → parts ≡ with_packet (packet_of s.config b) s.parts
     → counters ≡ with_consumed (length b.records) s.counters
     → (let t : StreamState = record {
       config = s.config;
@@ -171,7 +171,7 @@ pub moved-is : (s : StreamState) (b : ClosedBuffer) (ring : RingState) (parts : 
 moved-is s b ring parts counters first ring_is parts_is counters_is = let e = moved_first s s.ring.waiting b first in cc
 
 pub moved-local : (s : StreamState) (b : ClosedBuffer) (ring : RingState) (parts : PartsState) (counters : CountersState)
-    → s.config.session ≡ Local → slice_get s.ring.waiting 0 ≡ Some b → ring ≡ remove_oldest s.ring
+    → s.config.session ≡ Local → slice_get s.ring.waiting 0 ≡ Some b → ring ≡ drop_front s.ring
     → parts ≡ with_packet (packet_of s.config b) s.parts → counters ≡ with_consumed (length b.records) s.counters
     → (let t : StreamState = record {
       config = s.config;
@@ -184,7 +184,7 @@ moved-local s b ring parts counters local first ring_is parts_is counters_is =
     moved-is s b ring parts counters first ring_is parts_is counters_is ∙ sym (after-local s local)
 
 pub kept-moved : (s : StreamState) (b : ClosedBuffer) (ring : RingState) (parts : PartsState) (counters : CountersState)
-    → s.config.session ≡ Local → IsKept s → slice_get s.ring.waiting 0 ≡ Some b → ring ≡ remove_oldest s.ring
+    → s.config.session ≡ Local → IsKept s → slice_get s.ring.waiting 0 ≡ Some b → ring ≡ drop_front s.ring
     → parts ≡ with_packet (packet_of s.config b) s.parts → counters ≡ with_consumed (length b.records) s.counters
     → IsKept (record { config = s.config; ring = ring; parts = parts; counters = counters; active = s.active })
 kept-moved s b ring parts counters local is first ring_is parts_is counters_is =
@@ -199,23 +199,14 @@ pub new-is : (c : StreamConfig) (ring : RingState) (parts : PartsState) (counter
     ≡ new_state c
 new-is c ring parts counters size count over a b d e f g = cc
 
--- there is one at each place
-pub is-there : (waiting : List ClosedBuffer) (i : ℕ) → i < length waiting → slice_get waiting i ≡ None → ⊥
-is-there [] i within none = absurd (omega (arith, within))
-is-there (b ∷ bs) zero within none = cc
-is-there (b ∷ bs) (suc i) within none = is-there bs i (grind (arith, common_steps, within)) none
-
--- one more packet
-pub packed-more : (c : StreamConfig) (waiting : List ClosedBuffer) (packets more : List Contents) (i : ℕ) (b : ClosedBuffer)
-    (p : Contents) → slice_get waiting i ≡ Some b → p ≡ packet_of c b → packets ≡ map (packet_of c) (take i waiting)
-    → more ≡ packets ++ p ∷ [] → more ≡ map (packet_of c) (take (i + 1) waiting)
-packed-more c waiting packets more i b p got same so pushed =
-    let next : take (i + 1) waiting ≡ take i waiting ++ b ∷ [] =
-    take_more waiting i b (slice_get_within waiting i b got)
-    ∙ ap (λ (x : ClosedBuffer). take i waiting ++ x ∷ []) (get_or_from_slice_get waiting i b b got) in
-    let joined : map (packet_of c) (take i waiting ++ b ∷ []) ≡ map (packet_of c) (take i waiting) ++ packet_of c b ∷ [] =
-    map-append (packet_of c) (take i waiting) (b ∷ []) in
-    cc
+-- one packet less is left
+pub packed-more : (c : StreamConfig) (packets more all : List Contents) (b : ClosedBuffer) (left rest : List ClosedBuffer)
+    → left ≡ b ∷ rest → packets ++ map (packet_of c) left ≡ all → more ≡ packets ++ packet_of c b ∷ []
+    → more ++ map (packet_of c) rest ≡ all
+packed-more c packets more all b left rest steps so pushed =
+    ap (λ (ps : List Contents). ps ++ map (packet_of c) rest) pushed
+    ∙ append_assoc packets (packet_of c b ∷ []) (map (packet_of c) rest)
+    ∙ ap (λ (bs : List ClosedBuffer). packets ++ map (packet_of c) bs) (sym steps) ∙ so
 
 -- the ring's packets, with the current sub-buffer's if it has a record
 pub packed-waiting : (c : StreamConfig) (ring : RingState) (end : ℕ) (packets : List Contents)
@@ -395,17 +386,12 @@ clear-local s new done local told moved = (
   moved ∙ sym (in-local s.config.session (state_clear_ring s) s local),
 )
 
--- the runs of a ring
-pub runs-more : (waiting : List ClosedBuffer) (runs more : List Run) (i : ℕ) (b : ClosedBuffer) → slice_get waiting i ≡ Some b
-    → runs ≡ buffer_runs (take i waiting) → more ≡ runs ++ runs_of b.seq b.records
-    → more ≡ buffer_runs (take (i + 1) waiting)
-runs-more waiting runs more i b got so pushed =
-    let next : take (i + 1) waiting ≡ take i waiting ++ b ∷ [] =
-    take_more waiting i b (slice_get_within waiting i b got)
-    ∙ ap (λ (x : ClosedBuffer). take i waiting ++ x ∷ []) (get_or_from_slice_get waiting i b b got) in
-    let joined = flat_map-append (λ (x : ClosedBuffer). runs_of x.seq x.records) (take i waiting) (b ∷ []) in
-    let last = append-nil (runs_of b.seq b.records) in
-    cc
+-- the runs of a ring: those of one sub-buffer less are left
+pub runs-more : (runs more all : List Run) (b : ClosedBuffer) (left rest : List ClosedBuffer) → left ≡ b ∷ rest
+    → runs ++ buffer_runs left ≡ all → more ≡ runs ++ runs_of b.seq b.records → more ++ buffer_runs rest ≡ all
+runs-more runs more all b left rest steps so pushed =
+    ap (λ (rs : List Run). rs ++ buffer_runs rest) pushed ∙ append_assoc runs (runs_of b.seq b.records) (buffer_runs rest)
+    ∙ ap (λ (bs : List ClosedBuffer). runs ++ buffer_runs bs) (sym steps) ∙ so
 
 pub runs-all : (ring : RingState) (end : ℕ) (runs all : List Run) → runs ≡ buffer_runs ring.waiting
     → all ≡ runs ++ runs_of ring.seq ring.current → all ≡ buffer_runs (ring_buffers end ring)

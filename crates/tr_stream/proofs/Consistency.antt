@@ -213,7 +213,7 @@ discard-held h end is none = (
   count_up_held 0 0 h.closed last none is.numbers (last_counts h.filling.records),
   discards_held 0 0 0 (offered_of h) h.closed last none is.used is.covers refl
       (last_first h.filling.records h.filling.discarded refl refl is.covers_filling.starts)
-      (λ m e. last_discarded m h.filling.records refl (omega (arith, e))),
+      (λ m e. last_lost m h.filling.records refl (omega (arith, e))),
 )
   where
     last : List ClosedBuffer
@@ -230,10 +230,10 @@ discard-held h end is none = (
         ap length e in let b : length h.filling.discarded ≡ 0 = ap length (f ∙ starts) in omega (arith, a, b)
     last_first (r ∷ rs) ms e f starts = omega (arith, starts)
 
-    last_discarded : (m : ℕ) (rs : List Entry) → h.filling.records ≡ rs → m + discarded_in h.closed ≡ offers_before h.closed
+    last_lost : (m : ℕ) (rs : List Entry) → h.filling.records ≡ rs → m + discarded_in h.closed ≡ offers_before h.closed
         → DiscardsAgree m (closed_if_any h.filling.number end (discarded_of h) rs) (offered_of h)
-    last_discarded m [] f e = tt
-    last_discarded m (r ∷ rs) f e = let g : length h.filling.records ≡ length (r ∷ rs) = ap length f in (omega (arith, e, g), tt)
+    last_lost m [] f e = tt
+    last_lost m (r ∷ rs) f e = let g : length h.filling.records ≡ length (r ∷ rs) = ap length f in (omega (arith, e, g), tt)
 
 next_serial-high : (low : ℕ) (rs : List Entry) → RecordsRise low rs → low + length rs ≤ next_serial low rs
 next_serial-high low [] rise = omega arith

@@ -7,7 +7,7 @@ use Rattle.std.proofs.lemmas.List.Sums.{sum_by_push}
 use Rattle.tr_book.specs.Parts.{with_packet}
 use Rattle.tr_packet.specs.Packets.{Contents}
 use Rattle.tr_record.specs.Records.{Entry}
-use Rattle.tr_ring.specs.Ring.{join_current, follow_current, discard_newest, remove_oldest}
+use Rattle.tr_ring.specs.Ring.{join_current, follow_current, discard_newest, drop_front}
 use Rattle.tr_ring.specs.ClosedBuffer.{ClosedBuffer}
 use Rattle.tr_stream.proofs.ChunkLaws.{buffers_where-push, waiting-settle_first, other-settle_first, new-settle_first, records_where-push, blocks_where-push, records-settle_first, other_records-settle_first, blocks-settle_first, other_blocks-settle_first, sum-settle_first}
 use Rattle.tr_stream.proofs.FormLaws.{NumberedFrom-push, NumberedFrom-settle_first, length-settle_first, WaitLast-push, WaitLast-settle_first, AllWithinCuts-push, AllWithinCuts-settle_first, RecentLast-push, RecentLast-settle_first, serials_more, serials_same, AllUsed-push, AllUsed-settle_first, LastHeld-settle_first, nil-push, Covers-join, Covers-discard, Covers-one, CoversFrom-push, CoversFrom-settle_first, offers_before-push}
@@ -34,7 +34,7 @@ with_discarded moment s = record s { ring = discard_newest s.ring; counters = re
 -- the oldest sub-buffer that waits is overwritten, and counted
 abbrev pub without_oldest : StreamState → StreamState
 without_oldest s = record s {
-  ring = remove_oldest s.ring;
+  ring = drop_front s.ring;
   counters = record s.counters {
     overwritten = s.counters.overwritten + records_in (take 1 s.ring.waiting);
     overwritten_packets = s.counters.overwritten_packets + 1;
@@ -238,7 +238,7 @@ map-first c (d ∷ before) bs b = ap (λ (ps : List Contents). packet_of c d ∷
 -- the oldest sub-buffer that waits, as a packet of the current part
 abbrev pub with_moved : ClosedBuffer → StreamState → StreamState
 with_moved b s = record s {
-  ring = remove_oldest s.ring;
+  ring = drop_front s.ring;
   parts = with_packet (packet_of s.config b) s.parts;
   counters = record s.counters { consumed = s.counters.consumed + length b.records };
 }

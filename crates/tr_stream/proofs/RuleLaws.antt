@@ -4,7 +4,7 @@ use Rattle.std.proofs.lemmas.Bool.Decides.{nat_tests}
 use Rattle.std.specs.Prelude.{nat_lt}
 use Rattle.tr_record.specs.Records.{Entry}
 use Rattle.tr_ring.specs.ClosedBuffer.{ClosedBuffer}
-use Rattle.tr_ring.specs.Ring.{RingState, current_buffer, after_push, join_current, follow_current, discard_newest, remove_oldest}
+use Rattle.tr_ring.specs.Ring.{RingState, current_buffer, after_push, join_current, follow_current, discard_newest, drop_front}
 use Rattle.tr_stream.proofs.ClearLaws.{clears, stands-clear}
 use Rattle.tr_stream.proofs.CutLaws.{cuts, snaps, stands-cut}
 use Rattle.tr_stream.proofs.FateLaws.{fates}
@@ -42,11 +42,11 @@ made-pushed c e r is =
     let free = nat_lt (length r.waiting + 1) r.count in
     record {
       size = chosen (λ (q : RingState). q.size) c.geometry.size room free r.overwrite (join_current e r)
-          (follow_current e r) (follow_current e (remove_oldest r)) (discard_newest r) is.size is.size is.size is.size;
+          (follow_current e r) (follow_current e (drop_front r)) (discard_newest r) is.size is.size is.size is.size;
       count = chosen (λ (q : RingState). q.count) c.geometry.count room free r.overwrite (join_current e r)
-          (follow_current e r) (follow_current e (remove_oldest r)) (discard_newest r) is.count is.count is.count is.count;
+          (follow_current e r) (follow_current e (drop_front r)) (discard_newest r) is.count is.count is.count is.count;
       mode = chosen (λ (q : RingState). q.overwrite) (overwrites c.mode) room free r.overwrite (join_current e r)
-          (follow_current e r) (follow_current e (remove_oldest r)) (discard_newest r) is.mode is.mode is.mode is.mode;
+          (follow_current e r) (follow_current e (drop_front r)) (discard_newest r) is.mode is.mode is.mode is.mode;
       size_low = is.size_low;
       count_low = is.count_low;
     }

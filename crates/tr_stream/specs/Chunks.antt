@@ -73,7 +73,7 @@ packet_of c b = record {
     begin = begin_of b.records;
     end = b.end;
     seq = b.seq;
-    discarded = b.discarded;
+    lost = b.discarded;
   };
   records = b.records;
 }

@@ -15,7 +15,7 @@ use Rattle.tr_stream.specs.WellFormed.{RecordsRise, next_serial}
 
 -- the sub-buffer that a packet was
 abbrev pub buffer_in : Contents → ClosedBuffer
-buffer_in p = closed_buffer p.head.seq p.head.end p.head.discarded p.records
+buffer_in p = closed_buffer p.head.seq p.head.end p.head.lost p.records
 
 -- a part is what is left of these sub-buffers: its packets give them back
 abbrev pub IsLeftOf : PartState → List ClosedBuffer → Type 0

@@ -5,7 +5,7 @@ use Rattle.tr_book.specs.Parts.{no_parts, part_bytes, part_packets, part_records
 use Rattle.tr_book.specs.Snaps.{SnapState, snap_state}
 use Rattle.tr_book.specs.declared.counts.Counts.{Counts}
 use Rattle.tr_record.specs.Records.{Entry, entry}
-use Rattle.tr_ring.specs.Ring.{after_push, clear_ring, empty_ring, push_answer, remove_oldest}
+use Rattle.tr_ring.specs.Ring.{after_push, clear_ring, empty_ring, push_answer, drop_front}
 use Rattle.tr_ring.specs.ClosedBuffer.{ClosedBuffer}
 use Rattle.tr_ring.specs.declared.pushed.Pushed.{Pushed}
 use Rattle.tr_ring.specs.declared.pushed.Pushed.TheVariants as pushed
@@ -52,13 +52,13 @@ counters_after_push (pushed.StoredOver seq gone_seq gone_count) moment b = recor
   overwritten_packets = b.overwritten_packets + 1;
   last = moment;
 }
-counters_after_push pushed.Discarded moment b = record b { offered = b.offered + 1; last = moment }
+counters_after_push pushed.Refused moment b = record b { offered = b.offered + 1; last = moment }
 
 -- what the ring made of it, as the stream answers it
 abbrev pub offered_as : ℕ → Pushed → Offered
 offered_as serial (pushed.Stored seq) = Stored serial seq
 offered_as serial (pushed.StoredOver seq gone_seq gone_count) = StoredOver serial seq gone_seq gone_count
-offered_as serial pushed.Discarded = Discarded serial
+offered_as serial pushed.Refused = Discarded serial
 
 -- an accepted offer
 abbrev pub state_with_offer : Entry → StreamState → StreamState
@@ -87,7 +87,7 @@ state_after_offer moment id payload s = state_unless (refusal_of (length payload
 abbrev pub move_oldest : List ClosedBuffer → StreamState → StreamState
 move_oldest [] s = s
 move_oldest (b ∷ bs) s = record s {
-  ring = remove_oldest s.ring;
+  ring = drop_front s.ring;
   parts = with_packet (packet_of s.config b) s.parts;
   counters = record s.counters { consumed = s.counters.consumed + length b.records };
 }

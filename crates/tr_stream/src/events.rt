@@ -6,7 +6,7 @@ use crate::answers::{
 use crate::payload::Payload;
 use std::alloc::{AllocError, Allocator, Global};
 use tr_book::StreamSnap;
-use tr_record::Moment;
+use tr_terms::Moment;
 
 /// A call of a stream.
 #[derive(Drop)]

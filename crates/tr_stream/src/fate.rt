@@ -4,7 +4,8 @@ ghost use Rattle.std.specs.Prelude.{◌≡◌};
 ghost use Rattle.tr_stream.specs.Fates.{fate_in_parts, loss_of};
 
 use std::alloc::Allocator;
-use tr_book::{Mode, Part};
+use tr_book::Part;
+use tr_terms::Mode;
 
 /// What became of an accepted offer, as things stand.
 #[derive(Clone, Copy, Debug, PartialEq, Eq)]

@@ -12,8 +12,9 @@ use crate::config::StreamConfig;
 use std::alloc::{AllocError, Allocator};
 use tr_book::{Parts, Runs};
 use tr_packet::{Head, PacketTexts};
-use tr_record::{Moment, Records};
+use tr_record::Records;
 use tr_ring::{ClosedSubBuf, Ring};
+use tr_terms::Moment;
 
 /// The moment of the first record.
 fn begin(mut records: Records<'_>) -> Moment
@@ -35,7 +36,7 @@ fn head_of<A: Allocator>(config: &StreamConfig, buffer: &ClosedSubBuf<'_, A>) ->
         begin: begin(buffer.records()),
         end: buffer.end(),
         seq: buffer.seq(),
-        discarded: buffer.discarded(),
+        lost: buffer.discarded(),
     }
 }
 
@@ -84,7 +85,7 @@ fn put_current<A: Allocator>(
         begin: begin(ring.current().records()),
         end,
         seq: ring.seq(),
-        discarded: ring.discarded(),
+        lost: ring.discarded(),
     };
     packets.push(head, ring.current().count(), &ring.current().records())
 }
@@ -99,10 +100,7 @@ fn waiting_packets<A: Allocator + Copy>(
     ensures { IfOk result (λ t. t ≡ map (packet_of config) ring.now.waiting) }
 {
     let mut packets = PacketTexts::new(alloc);
-    for i in 0..ring.waiting() {
-        let Some(buffer) = ring.closed(i) else {
-            unreachable!()
-        };
+    for buffer in ring.items() {
         put_closed(&mut packets, &config, &buffer)?;
     }
     Ok(packets)
@@ -137,10 +135,7 @@ fn waiting_runs<A: Allocator + Copy>(alloc: A, ring: &Ring<A>) -> Result<Runs<A>
     ensures { IfOk result (λ r. r ≡ buffer_runs ring.now.waiting) }
 {
     let mut runs = Runs::new(alloc);
-    for i in 0..ring.waiting() {
-        let Some(buffer) = ring.closed(i) else {
-            unreachable!()
-        };
+    for buffer in ring.items() {
         runs.push_records(buffer.seq(), buffer.count(), buffer.records())?;
     }
     Ok(runs)

@@ -11,11 +11,11 @@ use crate::fate::{Fate, fate_in_parts, loss};
 use crate::packing::{move_to_part, ring_packets, ring_runs, used};
 use std::alloc::{AllocError, Allocator, Global};
 use std::marker::Model;
-use tr_book::{Counters, Counts, Geometry, Mode, Part, Parts, StreamSnap};
-use tr_record::{Moment, RecView};
+use tr_book::{Book, Counts, Part, Parts, StreamSnap};
+use tr_record::RecView;
 use tr_ring::{Pushed, Ring};
-use tr_terms::SessionMode;
 use tr_terms::limits::{MOST_OFFERS, SMALLEST_PACKET};
+use tr_terms::{Geometry, Mode, Moment, SessionMode};
 use uuid::Uuid;
 
 /// Whether the oldest sub-buffer is overwritten.
@@ -35,7 +35,7 @@ pub struct Stream<A: Allocator = Global> {
     config: StreamConfig,
     ring: Ring<A>,
     parts: Parts<A>,
-    counters: Counters,
+    counters: Book,
     active: bool,
 }
 
@@ -84,7 +84,7 @@ impl<A: Allocator + Copy> Stream<A> {
             },
             ring,
             parts: Parts::new(alloc),
-            counters: Counters::new(),
+            counters: Book::new(),
             active: false,
         })
     }
@@ -134,7 +134,7 @@ impl<A: Allocator + Copy> Stream<A> {
                     gone_count,
                 }
             }
-            Pushed::Discarded => Offered::Discarded { serial },
+            Pushed::Refused => Offered::Discarded { serial },
         }
     }
 
@@ -177,7 +177,7 @@ impl<A: Allocator + Copy> Stream<A> {
             chunk: self.parts.current().id(),
         };
         move_to_part(&mut self.parts, &self.config, &oldest)?;
-        self.ring.remove_oldest();
+        self.ring.drop_front();
         self.counters.note_consumed(taken.count);
         Ok(taken)
     }

@@ -62,7 +62,7 @@ stream_text stream audit =
     ++ (codes " packets " ++ (decimal audit.packets
     ++ (codes " records " ++ (decimal audit.records
     ++ (codes " absent " ++ (decimal (absent_of audit.gaps)
-    ++ (codes " lost " ++ (decimal audit.last_discarded
+    ++ (codes " lost " ++ (decimal audit.last_lost
     ++ (codes " last " ++ (last_text audit.last_seq audit.last_serial ++ 10 ∷ [])))))))))))))
 
 -- a cause as documents call it

@@ -68,7 +68,7 @@ pub(crate) fn stream_line(
     let packets = audit.packets;
     let records = audit.records;
     let absent = absent_of(audit.gaps.as_slice());
-    let lost = audit.last_discarded;
+    let lost = audit.last_lost;
     let mut line = format!(in alloc;
         "stream {number} {channel} packets {packets} records {records}"
     )?;

@@ -13,7 +13,7 @@ pub const RECORD_HEADER: usize = 24;
 pub const PACKET_HEADER: usize = 80;
 
 /// The bytes of the smallest packet: one record without payload.
-pub const SMALLEST_PACKET: usize = 104;
+pub const SMALLEST_PACKET: usize = PACKET_HEADER + RECORD_HEADER;
 
 /// The bytes of the largest packet, and of the largest sub-buffer.
 pub const LARGEST_PACKET: usize = 65_536;

@@ -5,9 +5,9 @@ use std::alloc::Global;
 use std::io::IsTerminal;
 use std::process::ExitCode;
 use std::{env, io};
+use tr_command::notice_given;
 use tr_export::{HostFiles, SystemDisk};
 use tr_folders::HostFolders;
-use tr_invocation::notice_given;
 use tr_program::run_given;
 use tr_record::{ReaderSource, WriterSink, put_all};
 

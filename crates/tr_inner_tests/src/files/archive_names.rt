@@ -3,8 +3,8 @@
 use super::assert_same;
 use std::alloc::Global;
 use std::process::Abort;
-use tr_chunk::{OffsetMinutes, archive_name};
-use tr_record::Moment;
+use tr_chunk::archive_name;
+use tr_terms::{Moment, OffsetMinutes};
 
 const SECOND: u64 = 1_000_000_000;
 

@@ -43,7 +43,7 @@ const FIRST: Told<'static> = Told {
     gaps: &[],
     last_seq: Some(0),
     last_serial: Some(1),
-    last_discarded: 0,
+    last_lost: 0,
 };
 
 /// Asserts what the audit says of the file that was cut to this length or damaged at this byte, which has this place in
@@ -71,7 +71,7 @@ fn assert_wanted(
             told.gaps = &gap;
             told.last_seq = Some(last);
         }
-        Want::LastDiscarded => told.last_discarded = last,
+        Want::LastDiscarded => told.last_lost = last,
         Want::LastSerial => told.last_serial = Some(inverted(5, place)),
     }
     assert_told(rt, alloc, case, &[bytes], &told);

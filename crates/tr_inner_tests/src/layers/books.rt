@@ -7,8 +7,9 @@ use super::{assert_packets, assert_same, packet, record};
 use crate::packing::{put, put_in_part};
 use std::alloc::Global;
 use std::process::Abort;
-use tr_book::{Counters, Geometry, GeometryFault, Part, Parts, Run, Runs, StreamSnap};
+use tr_book::{Book, Part, Parts, Run, Runs, StreamSnap};
 use tr_packet::{Head, Packet, PacketTexts};
+use tr_terms::{Geometry, GeometryFault};
 use tr_testing::moment;
 use uuid::Uuid;
 
@@ -151,7 +152,7 @@ fn packet_of(rt: &impl Abort, alloc: Global, seq: u64, serials: &[u64]) -> Packe
         begin: moment(1000),
         end: moment(1000),
         seq,
-        discarded: 0,
+        lost: 0,
     };
     Packet::checked(head, records).expect(rt, "a packet")
 }
@@ -233,7 +234,7 @@ static CLEARS: [((u64, u64), (u64, u64)); 3] = [
 ];
 
 /// Notes that records were cleared, of which so many had been consumed.
-fn note_cleared(rt: &impl Abort, counters: &mut Counters, count: u64, consumed: u64) {
+fn note_cleared(rt: &impl Abort, counters: &mut Book, count: u64, consumed: u64) {
     assert!(rt; counters.cleared() < 1000 && counters.withdrawn() < 1000);
     assert!(rt; count < 1000 && consumed < 1000);
     counters.note_cleared(count, consumed);
@@ -241,7 +242,7 @@ fn note_cleared(rt: &impl Abort, counters: &mut Counters, count: u64, consumed: 
 
 #[test]
 fn counters_sum_up_clears(rt: HostRuntime) {
-    let mut counters = Counters::new();
+    let mut counters = Book::new();
     for ((count, consumed), wanted) in &CLEARS {
         note_cleared(&rt, &mut counters, *count, *consumed);
         assert_same(&rt, (counters.cleared(), counters.withdrawn()), *wanted);
@@ -286,7 +287,7 @@ fn geometries_have_limits(rt: HostRuntime) {
 #[test]
 fn a_snap_gives_back_what_it_is_made_of(rt: HostRuntime) {
     let snap = StreamSnap::new(2, 9, 1, only(&rt, rt.alloc(), 3, 50));
-    let found = (snap.stream(), snap.offered(), snap.discarded());
+    let found = (snap.stream(), snap.offered(), snap.lost());
     assert_same(&rt, found, (2, 9, 1));
     assert_packets(&rt, snap.packets(), (1, 3));
 }

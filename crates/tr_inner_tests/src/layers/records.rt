@@ -3,7 +3,8 @@
 use super::{assert_record, assert_same};
 use std::alloc::Global;
 use std::process::Abort;
-use tr_record::{Moment, Rec, RecView, RecViews, Records, put_rec, read_raw, read_rec, rec_size};
+use tr_record::{Rec, RecView, RecViews, Records, put_rec, read_raw, read_rec, rec_size};
+use tr_terms::Moment;
 use tr_testing::moment;
 
 /// The text of a record of id 7, moment 1 and serial 0 with the payload `A`.

@@ -65,9 +65,9 @@ fn assert_front_record(rt: &impl Abort, ring: &Ring, place: usize, wanted: (u64,
 }
 
 /// Removes the oldest closed sub-buffer.
-fn remove_oldest(rt: &impl Abort, ring: &mut Ring) {
+fn drop_front(rt: &impl Abort, ring: &mut Ring) {
     assert!(rt; 1 <= ring.waiting());
-    ring.remove_oldest();
+    ring.drop_front();
 }
 
 /// Removes all records.
@@ -117,7 +117,7 @@ fn make(rt: &impl Abort, ring: &mut Ring, step: &Step) {
     match step {
         Step::Push(k, len, want) => assert_pushed(rt, ring, *k, payload(rt, *len), *want),
         Step::Close => close_current(rt, ring),
-        Step::Remove => remove_oldest(rt, ring),
+        Step::Remove => drop_front(rt, ring),
         Step::Clear => clear(rt, ring),
         Step::Ring(wanted) => assert_ring(rt, ring, *wanted),
         Step::Front(wanted) => assert_closed(rt, ring.front(), *wanted),
@@ -129,8 +129,8 @@ fn make(rt: &impl Abort, ring: &mut Ring, step: &Step) {
 
 /// Asserts the last closed sub-buffer, as `assert_closed` does.
 fn assert_last(rt: &impl Abort, ring: &Ring, place: usize, wanted: (u64, u64, u64, usize)) {
-    assert_closed(rt, ring.closed(place), wanted);
-    assert!(rt; ring.closed(place.wrapping_add(1)).is_none());
+    assert_closed(rt, ring.items().nth(place), wanted);
+    assert!(rt; ring.items().nth(place.wrapping_add(1)).is_none());
 }
 
 /// Asserts the record at this place of the oldest closed sub-buffer.
@@ -154,11 +154,11 @@ static DISCARDING: [Step; 14] = [
     Step::Push(1, 50, Pushed::Stored { seq: 0 }),
     Step::Push(2, 50, Pushed::Stored { seq: 1 }),
     Step::Push(3, 50, Pushed::Stored { seq: 1 }),
-    Step::Push(4, 50, Pushed::Discarded),
+    Step::Push(4, 50, Pushed::Refused),
     // the fifth was discarded, and a shorter one is stored after it
     Step::Push(5, 0, Pushed::Stored { seq: 1 }),
     Step::Shows(&[(0, 50), (1, 50), (2, 50), (3, 50), (5, 0)]),
-    Step::Push(6, 50, Pushed::Discarded),
+    Step::Push(6, 50, Pushed::Refused),
     Step::Ring((1, 2, 2, 1, 3)),
     Step::Front((0, 1002, 0, 2)),
     Step::InFront(1, 1, 50),

@@ -8,7 +8,7 @@ use tr_book::StreamSnap;
 use tr_chunk::WriteFault;
 use tr_packet::{PacketTexts, decode_packet};
 use tr_record::{MemorySink, Records, WriterSink};
-use tr_snapshot::{Snapshot, oldest_serial, records_shown, write_snap};
+use tr_snapshot::{Snapshot, count, oldest_serial, write_snap};
 use tr_testing::{FailsAfter, moment};
 
 /// A stream after six offers of 64 bytes; its ring of two sub-buffers holds the last four.
@@ -27,7 +27,7 @@ fn assert_shown(rt: &impl Abort, snap: &StreamSnap, wanted: (u64, u64, Option<u6
         snap.stream(),
         snap.offered(),
         oldest_serial(snap),
-        records_shown(snap),
+        count(snap),
     );
     assert_same(rt, found, wanted);
 }

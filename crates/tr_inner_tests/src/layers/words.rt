@@ -4,8 +4,8 @@ use super::assert_same;
 use std::alloc::Global;
 use std::fmt::Display;
 use std::process::Abort;
-use tr_book::GeometryFault;
 use tr_schedule::{Cause, ScheduleFault};
+use tr_terms::GeometryFault;
 
 static GEOMETRY: [(GeometryFault, (&str, &str, &str)); 2] = [
     (GeometryFault::BadSize, ("G1", "BadSize", "G1 BadSize")),

@@ -3,11 +3,11 @@
 use super::{PAYLOAD, assert_same};
 use std::alloc::Global;
 use std::process::Abort;
-use tr_book::{Geometry, Mode};
 use tr_chunk::{AuditCause, AuditFault, audit_stream, write_part};
 use tr_packet::PacketFault;
 use tr_record::MemorySink;
-use tr_stream::{SessionMode, Stream};
+use tr_stream::Stream;
+use tr_terms::{Geometry, Mode, SessionMode};
 use tr_testing::moment;
 use uuid::Uuid;
 
@@ -64,7 +64,7 @@ struct Told {
     gaps: &'static [(u64, u64)],
     last_seq: u64,
     last_serial: u64,
-    last_discarded: u64,
+    last_lost: u64,
 }
 
 /// What is found of the stream that discards.
@@ -74,7 +74,7 @@ const DISCARDED: Told = Told {
     gaps: &[],
     last_seq: 1,
     last_serial: 5,
-    last_discarded: 1,
+    last_lost: 1,
 };
 
 /// What is found of the stream that overwrites.
@@ -84,7 +84,7 @@ const OVERWRITTEN: Told = Told {
     gaps: &[(0, 1), (2, 1)],
     last_seq: 4,
     last_serial: 9,
-    last_discarded: 0,
+    last_lost: 0,
 };
 
 /// Asserts what the audit of a file says.
@@ -101,7 +101,7 @@ fn assert_audited(rt: &impl Abort, alloc: Global, bytes: &[u8], told: &Told) {
         (audit.last_seq, audit.last_serial),
         (Some(told.last_seq), Some(told.last_serial)),
     );
-    assert_same(rt, audit.last_discarded, told.last_discarded);
+    assert_same(rt, audit.last_lost, told.last_lost);
 }
 
 #[test]

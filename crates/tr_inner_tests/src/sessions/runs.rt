@@ -8,7 +8,7 @@ use std::alloc::Global;
 use std::process::Abort;
 use tr_session::{Answer, ChannelConfig, Config, Event, Session, StepFault, run_session};
 use tr_session_book::SessionFault;
-use tr_snapshot::{oldest_serial, records_shown};
+use tr_snapshot::{count, oldest_serial};
 use tr_stream::{CutDone, Fate, Offered, Payload, Taken};
 use tr_terms::{Mode, Name, OffsetMinutes, SessionMode};
 use tr_testing::moment;
@@ -105,9 +105,9 @@ fn assert_answer(rt: &impl Abort, place: Place, answer: &Answer, call: &Call) {
             assert_at(rt, place, snap.stream(), i);
             let found = (
                 snap.offered(),
-                snap.discarded(),
+                snap.lost(),
                 oldest_serial(snap),
-                records_shown(snap),
+                count(snap),
             );
             assert_at(rt, place, Ok(found), want);
         }

@@ -14,7 +14,7 @@ use tr_session_book::SessionFault::{
     BadGeometry, DiscardInSnapshot, NameTaken, NeverStarted, NoMemory, NoStream, NotSnapshotMode,
     SnapshotMode,
 };
-use tr_snapshot::{Snapshot, oldest_serial, records_shown, write_snap};
+use tr_snapshot::{Snapshot, count, oldest_serial, write_snap};
 use tr_stream::TakeFault;
 use tr_terms::{Mode, SessionMode};
 use tr_testing::{fill, moment};
@@ -68,7 +68,7 @@ pub(super) fn assert_shown<A: Allocator + Copy>(
     let snapshot = session.snapshot(moment(at)).expect(rt, "a snapshot");
     assert_at(rt, place, snapshot.moment().get(), shown.moment);
     let snap = only(rt, &snapshot);
-    let counts = (snap.offered(), snap.discarded(), records_shown(snap));
+    let counts = (snap.offered(), snap.lost(), count(snap));
     assert_at(
         rt,
         place,

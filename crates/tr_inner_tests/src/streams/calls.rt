@@ -7,11 +7,10 @@ use super::{PacketRow, assert_lists, assert_same, assert_steps, new_stream};
 use std::alloc::Global;
 use std::fmt::Display;
 use std::process::Abort;
-use tr_book::{Counts, Mode};
+use tr_book::Counts;
 use tr_stream::Fate::{Discarded, InChunk, InRing, Overwritten};
-use tr_stream::{
-    ClearFault, CutDone, CutFault, OfferFault, Offered, SessionMode, TakeFault, Taken,
-};
+use tr_stream::{ClearFault, CutDone, CutFault, OfferFault, Offered, TakeFault, Taken};
+use tr_terms::{Mode, SessionMode};
 use tr_testing::moment;
 
 static OFFERS: [(Mode, &[Step]); 3] = [

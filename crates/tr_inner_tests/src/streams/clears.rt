@@ -5,9 +5,10 @@ use super::Step::{
     Start, Stop, Take,
 };
 use super::{PacketRow, assert_lists};
-use tr_book::{Counts, Mode};
+use tr_book::Counts;
 use tr_stream::Fate::{self, Discarded, InChunk, InRing, Overwritten};
-use tr_stream::{ClearFault, Cleared, CutDone, OfferFault, Offered, SessionMode, Taken};
+use tr_stream::{ClearFault, Cleared, CutDone, OfferFault, Offered, Taken};
+use tr_terms::{Mode, SessionMode};
 
 static CLEARS: [(Mode, &[Step]); 3] = [
     // consumed packets and the ring are cleared, and no number and no serial is used again

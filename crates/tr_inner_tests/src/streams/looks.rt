@@ -4,9 +4,10 @@ use super::Step::{self, Counts as Counted, Cut, Offer, Offers, Peek, Start, Take
 use super::{PacketRow, assert_lists, assert_same, make_offers, new_stream};
 use std::alloc::Global;
 use std::process::Abort;
-use tr_book::{Counts, Mode};
+use tr_book::Counts;
 use tr_packet::{PacketView, decode_packet};
-use tr_stream::{CutFault, Offered, SessionMode, TakeFault};
+use tr_stream::{CutFault, Offered, TakeFault};
+use tr_terms::{Mode, SessionMode};
 use tr_testing::moment;
 
 /// The counts after offers of 64 bytes at moments 1 to 6: a sub-buffer has room for two such records, so the fifth offer

@@ -4,8 +4,8 @@ use super::{assert_same, new_stream};
 use linked_list_allocator::LocalHeap;
 use std::alloc::Global;
 use std::process::Abort;
-use tr_book::Mode;
-use tr_stream::{ClearFault, Cleared, Offered, SessionMode, Stream, TakeFault};
+use tr_stream::{ClearFault, Cleared, Offered, Stream, TakeFault};
+use tr_terms::{Mode, SessionMode};
 use tr_testing::{fill, moment};
 
 /// What a stream shows after 100,000 offers.

@@ -2,8 +2,8 @@
 
 use super::Step::{self, Cut, Offer, Offers, Ring, Start, Stop, Take};
 use super::assert_lists;
-use tr_book::Mode;
-use tr_stream::{CutDone, OfferFault, Offered, SessionMode, TakeFault, Taken};
+use tr_stream::{CutDone, OfferFault, Offered, TakeFault, Taken};
+use tr_terms::{Mode, SessionMode};
 
 static RINGS: [(Mode, &[Step]); 4] = [
     // a record has the moment that was stored

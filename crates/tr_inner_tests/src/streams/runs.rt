@@ -4,11 +4,11 @@ use super::Step::{self, Clear, Cut, Offer, Peek, Start, Stop, Take};
 use super::{PAYLOAD, PacketRow, Place, assert_at, assert_lists, assert_look, assert_same, small};
 use std::alloc::Global;
 use std::process::Abort;
-use tr_book::Mode;
 use tr_stream::{
-    Cleared, CutDone, Offered, Payload, SessionMode, Stream, StreamAnswer, StreamEvent, TakeFault,
-    Taken, run_stream,
+    Cleared, CutDone, Offered, Payload, Stream, StreamAnswer, StreamEvent, TakeFault, Taken,
+    run_stream,
 };
+use tr_terms::{Mode, SessionMode};
 use tr_testing::moment;
 
 /// The offer at 3 closes the first packet, and record 4 is discarded. Record 6 fills a sub-buffer.

@@ -12,7 +12,7 @@ use std::sync::atomic::{AtomicU64, Ordering};
 use std::test::*;
 use std::thread;
 use tr_session_book::Archive;
-use tr_shared::{Drainer, Names, Producer, Settled, Shared, Totals};
+use tr_shared::{Drainer, Names, Offers, Producer, Settled, Shared, Takes, Totals};
 use tr_stream::TakeFault;
 use tr_testing::moment;
 
@@ -62,7 +62,7 @@ fn offer_one<N: Names>(
     producer: &mut Producer<N>,
     at: u64,
 ) {
-    let answer = shared.offer(rt, producer, moment(at), 7, &PAYLOAD[..50]);
+    let answer = producer.offer(rt, shared, moment(at), 7, &PAYLOAD[..50]);
     assert!(rt; answer.is_ok(), "an offer is refused");
 }
 
@@ -74,7 +74,7 @@ fn take_one<N: Names>(
     i: usize,
 ) {
     assert!(rt; i < shared.streams());
-    match shared.take(rt, drainer, i) {
+    match drainer.take(rt, shared, i) {
         Ok(_) | Err(TakeFault::Nothing) => {}
         Err(_) => panic!(rt; "a take is refused"),
     }

@@ -15,7 +15,7 @@ use tr_packet::{Head, PacketView};
 use tr_schedule::Schedule;
 use tr_session::Ticked;
 use tr_session_book::SessionFault;
-use tr_shared::{Names, Plan, Producer, Shared};
+use tr_shared::{Names, Offers, Plan, Producer, Shared};
 use tr_snapshot::Snapshot;
 use tr_stream::Offered;
 use tr_terms::{Mode, Moment, SessionMode};
@@ -80,7 +80,7 @@ fn assert_stream(
     (number, open_end): (u64, u64),
     want: &StreamShown,
 ) {
-    let found = (snap.stream(), snap.offered(), snap.discarded());
+    let found = (snap.stream(), snap.offered(), snap.lost());
     assert_same(rt, found, (number, want.offered, 0));
     let mut shown = snap.packets();
     assert_same(rt, shown.len(), want.packets.len());
@@ -91,7 +91,7 @@ fn assert_stream(
             begin: moment(packet.begin),
             end: moment(packet.end.unwrap_or(open_end)),
             seq: packet.seq,
-            discarded: 0,
+            lost: 0,
         };
         let found = shown.next().expect(rt, "a packet");
         assert_same(rt, found.head(), head);
@@ -172,7 +172,7 @@ fn assert_offers<N: Names>(
 ) {
     for (i, at, id, payload, want) in offers {
         let producer = producers.get_mut(*i).expect(rt, "a producer");
-        let answer = shared.offer(rt, producer, moment(*at), *id, payload);
+        let answer = producer.offer(rt, shared, moment(*at), *id, payload);
         assert_same(rt, (*i, *at, answer), (*i, *at, Ok(*want)));
     }
 }

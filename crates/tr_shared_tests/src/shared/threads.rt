@@ -12,7 +12,7 @@ use std::test::*;
 use std::thread;
 use std::thread::Threads;
 use tr_session::Ticked;
-use tr_shared::{Drainer, Names, Plan, Producer, Shared, Totals};
+use tr_shared::{Drainer, Names, Offers, Plan, Producer, Shared, Takes, Totals};
 use tr_stream::{OfferFault, Offered};
 use tr_terms::Mode;
 use tr_testing::moment;
@@ -95,7 +95,7 @@ fn counted(answer: Result<Offered, OfferFault>) -> Totals {
 fn feed<N: Names>(rt: &impl Wait, shared: &Shared<N>, producer: &mut Producer<N>) -> Totals {
     let mut totals = nothing();
     for k in 0..OFFERS {
-        let answer = shared.offer(rt, producer, moment(k), 7, &PAYLOAD[..50]);
+        let answer = producer.offer(rt, shared, moment(k), 7, &PAYLOAD[..50]);
         totals = sum(totals, counted(answer));
     }
     totals
@@ -106,7 +106,7 @@ fn drain<N: Names>(rt: &impl Wait, shared: &Shared<N>, drainer: &mut Drainer<N>)
     let mut totals = nothing();
     for _ in 0..TURNS {
         for i in 0..shared.streams() {
-            if let Ok(taken) = shared.take(rt, drainer, i) {
+            if let Ok(taken) = drainer.take(rt, shared, i) {
                 totals.consumed = totals.consumed.wrapping_add(u128::from(taken.count));
             }
         }

@@ -1,6 +1,6 @@
 use Rattle.std.proofs.Common.{◌≡◌, ℕ, ◌<◌, get_or, length}
 use Rattle.tr_load.proofs.ending.are_whole.Given as goal
-use Rattle.tr_load.specs.declared.log.Log.{Log}
+use Rattle.tr_pool.specs.declared.log.Log.{Log}
 
 -- each log before this one has as many items
 abbrev pub invariant-loop-i : goal.invariant-loop-i

@@ -2,8 +2,8 @@ use Rattle.std.proofs.Common.{rules, arith, Vec, Global, ◌≡◌, Ok, ap, leng
 use Rattle.tr_load.specs.Loads.{AllHave, AreLogs, IsEnded, IsJudged, IsLoaded, log_in}
 use Rattle.tr_load.proofs.LoadLaws.{if_ok_too, logs_of}
 use Rattle.tr_load.proofs.WorkLaws.{all_offered}
-use Rattle.tr_pool.specs.declared.feeding.LoggedProducer.{LoggedProducer}
-use Rattle.tr_pool.specs.declared.items.Item.{Item}
+use Rattle.tr_threads.specs.declared.feeding.LoggedProducer.{LoggedProducer}
+use Rattle.tr_threads.specs.declared.items.Item.{Item}
 use Rattle.tr_seats.specs.Books.{PlanState}
 use Rattle.tr_seats.specs.Settling.{IsSessionOf}
 use Rattle.tr_seats.specs.Slots.{AreNew, ProducerState}

@@ -4,7 +4,7 @@ use Rattle.std.specs.List.{range_with_len}
 use Rattle.std.proofs.lemmas.List.{map-append}
 use Rattle.std.proofs.lemmas.List.FromFn.{map-range_with_len_more}
 use Rattle.tr_load.specs.Works.{work_of}
-use Rattle.tr_pool.specs.declared.items.Item.{Item}
+use Rattle.tr_threads.specs.declared.items.Item.{Item}
 use Rattle.tr_load.proofs.works.load_works.Goals as goal
 
 -- the work of the next feeder comes behind the others

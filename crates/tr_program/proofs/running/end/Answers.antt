@@ -1,5 +1,5 @@
 use Rattle.std.proofs.Common.{◌≡◌, ◌∙◌, ap, inr, map, option_map, subst, sym, Option, Some}
-use Rattle.tr_invocation.specs.CommandLine.{Audit, Task, job_asked, job_of, task_of}
+use Rattle.tr_command.specs.Invocation.{Audit, Task, job_asked, job_of, task_of}
 use Rattle.tr_program.specs.Runs.{HasFault, outside_of}
 use Rattle.tr_program.proofs.RunLemmas.{ends_without_memory, no_session}
 use Rattle.tr_program.proofs.running.end.Goals as goal

@@ -12,7 +12,7 @@ use std::sync::Wait;
 use tr_schedule::Cause;
 use tr_session::{ChannelConfig, Config, Next, StepFault, Ticked};
 use tr_session_book::{Archive, SessionFault};
-use tr_shared::{Drainer, Names, Plan, Producer, Shared, plan};
+use tr_shared::{Drainer, Names, Offers, Plan, Producer, Shared, Takes, plan};
 use tr_snapshot::Snapshot;
 use tr_stream::{TakeFault, Taken};
 use tr_terms::{Moment, Name, OffsetMinutes, SessionMode};
@@ -110,9 +110,8 @@ fn make_offers<N: Names, A: Allocator + Copy>(
         .get_mut(i as usize)
         .expect(rt, "a producer");
     for at in 1..=count {
-        seated
-            .shared
-            .offer(rt, producer, moment(at), 7, &[0x61; 50])
+        producer
+            .offer(rt, &seated.shared, moment(at), 7, &[0x61; 50])
             .expect(rt, "an offer");
     }
 }
@@ -126,7 +125,7 @@ fn take<N: Names, A: Allocator + Copy>(
     let drainer = seated.drainers.first_mut().expect(rt, "a drainer");
     let i = i as usize;
     assert!(rt; i < seated.shared.streams());
-    seated.shared.take(rt, drainer, i)
+    drainer.take(rt, &seated.shared, i)
 }
 
 /// Makes a step. Channels and threads are in the plan.

@@ -1,10 +1,10 @@
-use Rattle.std.proofs.Common.{rules, ◌≡◌, Some}
-use Rattle.std.specs.Prelude.{slice_get}
+use Rattle.std.proofs.Common.{rules, ◌≡◌, ◌∷◌}
 use Rattle.tr_stream.proofs.CallLaws.{runs-more}
+use Rattle.tr_stream.specs.Chunks.{buffer_runs}
 use Rattle.tr_stream.proofs.packing.waiting_runs.Goals as goal
 
-pub loop-i-preserved : goal.loop-i-preserved
-loop-i-preserved g c =
-    let got : slice_get c.args.ring.now.waiting c.loop-i.i ≡ Some c.in-Some.buffer = search rules in
-    runs-more c.args.ring.now.waiting c.loop-i.runs c.push_records.new.self c.loop-i.i c.in-Some.buffer got c.loop-i.invariant
-    (search rules)
+pub loop-buffer-preserved : goal.loop-buffer-preserved
+loop-buffer-preserved g c =
+    let steps : c.loop-buffer.buffer-iterator ≡ c.in-Some.buffer ∷ c.next.new.self = search rules in
+    runs-more c.loop-buffer.runs c.push_records.new.self (buffer_runs c.args.ring.now.waiting) c.in-Some.buffer
+    c.loop-buffer.buffer-iterator c.next.new.self steps c.loop-buffer.invariant (search rules)

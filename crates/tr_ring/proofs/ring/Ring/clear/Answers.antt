@@ -2,17 +2,17 @@ use Rattle.std.proofs.Common.{List, ap, ◌∙◌, arith}
 use Rattle.std.proofs.lemmas.Grind.{common_steps}
 use Rattle.std.proofs.lemmas.List.{drop-drop}
 use Rattle.tr_ring.specs.ClosedBuffer.{ClosedBuffer}
-use Rattle.tr_ring.specs.Ring.{remove_oldest}
+use Rattle.tr_ring.specs.Ring.{drop_front}
 use Rattle.tr_ring.proofs.ring.Ring.clear.Goals as goal
 
 pub loop-preserved : goal.loop-preserved
 loop-preserved g c =
     let old = c.args.self.now in
-    c.remove_oldest.ensures ∙ ap remove_oldest c.loop.invariant
+    c.drop_front.ensures ∙ ap drop_front c.loop.invariant
     ∙ ap (λ (bs : List ClosedBuffer). record old { waiting = bs }) (drop-drop 1 c.loop.counter old.waiting)
 
-pub remove_oldest-requires : goal.remove_oldest-requires
-remove_oldest-requires g c = grind (arith, common_steps)
+pub drop_front-requires : goal.drop_front-requires
+drop_front-requires g c = grind (arith, common_steps)
 
 pub returns : goal.returns
 returns g c = grind (arith, common_steps)

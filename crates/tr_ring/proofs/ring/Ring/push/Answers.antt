@@ -23,8 +23,8 @@ returns-then-not-self-clause-answer g c = grind (arith, common_steps)
 pub returns-then-not-self-clause-after : goal.returns-then-not-self-clause-after
 returns-then-not-self-clause-after g c = grind (arith, common_steps)
 
-pub remove_oldest-requires : goal.remove_oldest-requires
-remove_oldest-requires g c = grind (arith, common_steps)
+pub drop_front-requires : goal.drop_front-requires
+drop_front-requires g c = grind (arith, common_steps)
 
 pub follow-requires-2-clause-some : goal.follow-requires-2-clause-some
 follow-requires-2-clause-some g c = grind (arith, common_steps)

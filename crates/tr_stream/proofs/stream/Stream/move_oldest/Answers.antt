@@ -36,7 +36,7 @@ invariant_of-self-2 g c =
       counters = c.self.inside.counters;
       active = c.self.inside.active;
     } in
-    kept-moved s c.in-Some.oldest c.remove_oldest.new.self c.move_to_part.new.parts c.note_consumed.new.self (search rules)
+    kept-moved s c.in-Some.oldest c.drop_front.new.self c.move_to_part.new.parts c.note_consumed.new.self (search rules)
     c.self.invariant (search rules) (search rules) (search rules) (search rules)
 
 pub returns-clause-ok : goal.returns-clause-ok
@@ -48,7 +48,7 @@ returns-clause-ok g c =
       counters = c.self.inside.counters;
       active = c.self.inside.active;
     } in
-    moved-local s c.in-Some.oldest c.remove_oldest.new.self c.move_to_part.new.parts c.note_consumed.new.self (search rules)
+    moved-local s c.in-Some.oldest c.drop_front.new.self c.move_to_part.new.parts c.note_consumed.new.self (search rules)
     (search rules) (search rules) (search rules) (search rules) ∙ ap state_after_take c.self.view_is
 
 pub invariant_of-self : goal.invariant_of-self

@@ -1,7 +1,0 @@
-use Rattle.std.proofs.Common.{take, None}
-use Rattle.tr_load.specs.Judging.{Judges}
-use Rattle.tr_load.specs.Logs.{parts_records}
-use Rattle.tr_load.proofs.judging.judge_parts.Given as goal
-
-abbrev pub invariant-parts : goal.invariant-parts
-invariant-parts l = Judges l.items (parts_records (take l.k l.stream.parts.closed)) None l.least

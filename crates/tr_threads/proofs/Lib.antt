@@ -1,0 +1,4 @@
+pub mod FeedLaws
+pub mod JoinLaws
+pub mod SideLaws
+pub mod StartLaws
