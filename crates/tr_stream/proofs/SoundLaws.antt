@@ -53,7 +53,7 @@ closing-is_packet s end is used le in_time = record {
   uuid = is.config.uuid;
   stream = is.config.number;
   seq = omega (arith, is.numbers, is.few);
-  discarded = omega (arith, is.total, is.few);
+  lost = omega (arith, is.total, is.few);
   records = MakePacket-later (begin_of s.ring.current) s.counters.last end s.ring.current (is.filling.makes used) le in_time;
 }
 

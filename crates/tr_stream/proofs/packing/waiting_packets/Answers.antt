@@ -1,4 +1,4 @@
-use Rattle.std.proofs.Common.{rules, ◌≡◌, ◌∷◌, ◌++◌, map, subst}
+use Rattle.std.proofs.Common.{rules, ◌≡◌, ◌∷◌, map, subst}
 use Rattle.tr_stream.proofs.CallLaws.{packed-more}
 use Rattle.tr_stream.specs.Chunks.{packet_of}
 use Rattle.tr_stream.specs.Sound.{ArePackets}

@@ -36,8 +36,8 @@ invariant_of-self-in-StoredOver g c =
     (booked-over _ c.in-StoredOver.seq c.in-StoredOver.gone_seq c.in-StoredOver.gone_count _ _ c.note_offer.new.self _
     (search rules) c.note_offer.ensures c.note_overwritten.ensures)
 
-pub invariant_of-self-in-Discarded : goal.invariant_of-self-in-Discarded
-invariant_of-self-in-Discarded g c =
+pub invariant_of-self-in-Refused : goal.invariant_of-self-in-Refused
+invariant_of-self-in-Refused g c =
     let s : StreamState = record {
       config = c.self.inside.config;
       ring = c.self.inside.ring;
