@@ -50,29 +50,49 @@ struct Place<A: Allocator> {
     ran: Option<Ran<A>>,
 }
 
-/// An offer of 50 bytes. Two such records fill a sub-buffer.
-fn offer<A: Allocator>(rt: &impl Abort, alloc: A, at: u64) -> StreamEvent<A> {
-    let payload = Payload::copy_of(alloc, &[0x61; 50]).expect(rt, "memory");
-    StreamEvent::Offer(moment(at), 7, payload)
+/// A call of a list.
+#[derive(Clone, Copy)]
+enum Asked {
+    Start,
+    /// An offer of 50 bytes. Two such records fill a sub-buffer.
+    Offer,
+    Take,
+    Peek,
+    Clear,
+    Cut,
+    Stop,
 }
 
-/// Five offers, and every other call.
-fn calls<A: Allocator + Copy>(rt: &impl Abort, alloc: A) -> Vec<StreamEvent<A>, A> {
-    let mut events = Vec::new(alloc);
-    events.push(StreamEvent::Start).expect(rt, "memory");
-    for at in 1..=5 {
-        events.push(offer(rt, alloc, at)).expect(rt, "memory");
+/// Each call, so that those which ask for memory have packets.
+static LIST: [Asked; 12] = [
+    Asked::Start,
+    Asked::Offer,
+    Asked::Offer,
+    Asked::Offer,
+    Asked::Offer,
+    Asked::Offer,
+    Asked::Take,
+    Asked::Peek,
+    Asked::Clear,
+    Asked::Offer,
+    Asked::Cut,
+    Asked::Stop,
+];
+
+/// The call at moment 5, if it has one.
+fn event<A: Allocator>(rt: &impl Abort, alloc: A, asked: Asked) -> StreamEvent<A> {
+    match asked {
+        Asked::Start => StreamEvent::Start,
+        Asked::Offer => {
+            let payload = Payload::copy_of(alloc, &[0x61; 50]).expect(rt, "memory");
+            StreamEvent::Offer(moment(5), 7, payload)
+        }
+        Asked::Take => StreamEvent::Take,
+        Asked::Peek => StreamEvent::Peek(moment(5)),
+        Asked::Clear => StreamEvent::Clear,
+        Asked::Cut => StreamEvent::Cut(moment(5)),
+        Asked::Stop => StreamEvent::Stop,
     }
-    for event in [
-        StreamEvent::Take,
-        StreamEvent::Peek(moment(6)),
-        StreamEvent::Cut(moment(7)),
-        StreamEvent::Clear,
-        StreamEvent::Stop,
-    ] {
-        events.push(event).expect(rt, "memory");
-    }
-    events
 }
 
 /// A run of these calls on a new stream, whose ring has four sub-buffers of 256 bytes.
@@ -85,9 +105,13 @@ impl<A: Allocator + Copy> Call<A> for Run {
     type Answer = Result<(), AllocError>;
 
     fn object(&self, rt: &impl Abort, alloc: A) -> Place<A> {
+        let mut events = Vec::new(alloc);
+        for asked in &LIST {
+            events.push(event(rt, alloc, *asked)).expect(rt, "memory");
+        }
         Place {
             alloc,
-            events: calls(rt, alloc),
+            events,
             ran: None,
         }
     }

@@ -79,8 +79,8 @@ allocate_spec 𝓤 𝓛 𝓜 𝓡 wired =
     peeks ! Answer (Is Answer) (shows 𝓛 Answer) z (u ∷ []) (λ is. lands_as ! refl refl ((answer_laws.lawful 𝓛).typed z (u ∷ []) is).0 $
     returns_within ! (walks.post y) refl (look_at ! 0 refl) $ free_all ! refl $ move ! (1 ∷ 2 ∷ 0 ∷ 3 ∷ []) $
     by ! (leaves 𝓛 here.ended stays c y u z (tt, (tt, (tt, tt))) (tt, (tt, (tt, tt)))))))))
-    (λ refused. skips ! $ exec ! 𝓣.C 𝓣.Λ E code.Mir.t-4 (at_ret E (walks.post y)) $
-    sets ! (agg ! (no_more !)) refl (tt, tt) $ sets ! (agg ! (and_then ! (lit ! tt) (and_then ! (get ! refl) (no_more !)))) refl (Answer-typed false 0 0) $
+    (λ refused. skips ! $ exec ! 𝓣.C 𝓣.Λ E code.Mir.t-4 (at_ret E (walks.post y)) $ sets ! (agg ! (no_more !)) refl (tt, tt) $
+    sets ! (agg ! (and_then ! (lit ! tt) (and_then ! (get ! refl) (no_more !)))) refl (Answer-typed false 0 0) $
     returns ! (look_at ! 0 refl) $ free_all ! refl $ keep ! (0 ∷ []) $
     nothing ! $ use0 𝓛 (‵ (Answer.own_val (Err (record {})) (answer_val false 0 0 ∷ []))) (Answer-err 𝓛) $ nothing ! $ nothing ! $ fjoin ! $ nothing ! $ fjoin ! $ nothing ! $ fjoin ! $
     nothing ! $ move ! (4 ∷ 0 ∷ []) $ join ! $

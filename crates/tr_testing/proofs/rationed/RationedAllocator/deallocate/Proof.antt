@@ -65,7 +65,6 @@ deallocate_spec 𝓤 𝓛 𝓜 𝓡 wired =
     calls_at ! (framed 𝓤 𝓛.H 𝓜 𝓣) (Deallocates 𝓛 𝓜.mem 𝓡.returns) (deallocates 𝓤 𝓛 𝓜 𝓡 (code.calls-std::impls::GlobalAllocator::deallocate 𝓡.env wired)) gives
     (and_then ! (get ! refl) (and_then ! (get ! refl) (and_then ! (get ! refl) (and_then ! (get ! refl) (no_more !))))) (λ u.
     use1 𝓛 (later (some (λ (z : Unit {0}). ((‵ (flft κ q) ⊛ ‵ ftrue) ⊛ ‵ (unit.own_val z (u ∷ []))) ⊛ some (λ (ends : Unit {0} × (Unit {0} × (Unit {0} × (Unit {0} × Unit {0})))). ‵ (fsep ftrue (fsep ftrue (fsep ftrue (fsep ftrue ftrue)))) ⊛ ‵ ftrue)))) (id⊢ 𝓤 _) $
-    await ! tt $ pick ! (λ z. split ! $ split ! $ move ! (1 ∷ []) $ feq_l ! (λ said. lands_as ! (ap only said) refl (tt, tt) $
-    sets ! (of_opd ! (unit_lit !)) refl (tt, tt) $ returns ! (look_at ! 0 refl) $ free_all ! refl $
-    feq_i ! (List Val) (vunit ∷ []) _ refl $ move ! (2 ∷ []) $ pick ! (λ ends. split ! $ move ! (3 ∷ 0 ∷ 2 ∷ 1 ∷ []) $
+    await ! tt $ pick ! (λ z. split ! $ split ! $ move ! (1 ∷ []) $ feq_l ! (λ said. lands_as ! (ap only said) refl (tt, tt) $ sets ! (of_opd ! (unit_lit !)) refl (tt, tt) $
+    returns ! (look_at ! 0 refl) $ free_all ! refl $ feq_i ! (List Val) (vunit ∷ []) _ refl $ move ! (2 ∷ []) $ pick ! (λ ends. split ! $ move ! (3 ∷ 0 ∷ 2 ∷ 1 ∷ []) $
     by ! (leaves 𝓛 here.ended stays c (y (block_ptr at from)) vunit tt (tt, (tt, (tt, (tt, tt)))) (tt, (tt, (tt, (tt, tt)))))))))))))
