@@ -1,19 +1,19 @@
-//! Calls that make and audit the files of a chunk.
+//! Calls that make the bytes of a packet, and that name, make and audit the files of a chunk.
 
 use crate::scarce::{UNIT, new_heap};
 use crate::streams::{new_stream, offer_many};
-use crate::turns::{Call, assert_same, only, refuse_each};
+use crate::turns::{Call, assert_same, only, refuse_each, refuse_each_request};
 use std::alloc::{Allocator, Global};
 use std::process::Abort;
 use tr_chunk::{
     AuditCause, AuditFault, AuditReader, StreamAudit, WriteFault, archive_name, audit_stream,
-    write_metadata,
+    stream_file_name, write_metadata,
 };
-use tr_packet::metadata_text;
-use tr_record::MemorySink;
+use tr_packet::{Head, Packet, encode_packet, metadata_text};
+use tr_record::{MemorySink, Rec};
 use tr_stream::Stream;
-use tr_terms::{Mode, OffsetMinutes};
-use tr_testing::moment;
+use tr_terms::{Mode, Name, OffsetMinutes};
+use tr_testing::{Rationed, moment};
 use uuid::Uuid;
 
 /// A call.
@@ -21,6 +21,10 @@ use uuid::Uuid;
 enum Asked {
     /// The name of an archive.
     Name,
+    /// The name of a stream's file.
+    FileName,
+    /// The bytes of a packet.
+    Packet,
     /// The metadata, written to a sink.
     Metadata,
     /// An audit of whole pieces.
@@ -32,7 +36,7 @@ enum Asked {
 /// What such a call answers.
 #[derive(Clone, Copy, Debug, PartialEq, Eq)]
 enum Told {
-    /// Whether the name is the wanted one. None without memory.
+    /// Whether the name, or the bytes, are the wanted ones. None without memory.
     Named(Option<bool>),
     /// The answer of a write, and how many bytes went out.
     Written(Result<(), WriteFault>, usize),
@@ -92,6 +96,58 @@ fn name<A: Allocator>(rt: &impl Abort, alloc: A) -> Told {
         Ok(name) => Told::Named(Some(name.as_str() == wanted)),
         Err(_) => Told::Named(None),
     }
+}
+
+/// The name of a stream's file.
+fn file_name<A: Allocator>(rt: &impl Abort, alloc: A) -> Told {
+    let channel = Name::new("kernel").expect(rt, "a name");
+    match stream_file_name(alloc, &channel, 12) {
+        Ok(name) => Told::Named(Some(name.as_str() == "kernel_12")),
+        Err(_) => Told::Named(None),
+    }
+}
+
+/// A packet of two records of 50 bytes, as the first one of a stream that has offers at 1 and 2, and a cut at 2.
+fn packet(rt: &impl Abort, alloc: Global) -> Packet {
+    let mut records = Vec::new(alloc);
+    for at in 1..=2u64 {
+        let payload = vec![in alloc; 0x61; 50].expect(rt, "memory");
+        assert!(rt; payload.len() <= 70_000);
+        records
+            .push(Rec::new(at - 1, moment(at), 7, payload))
+            .expect(rt, "memory");
+    }
+    let head = Head {
+        uuid: Uuid::from_u128(1),
+        stream: 0,
+        begin: moment(1),
+        end: moment(2),
+        seq: 0,
+        discarded: 0,
+    };
+    Packet::checked(head, records).expect(rt, "a packet")
+}
+
+/// The bytes of the same packet, as a stream has them.
+fn packed(rt: &impl Abort, alloc: Global) -> Stream {
+    let mut stream = new_stream(rt, alloc, (2, Mode::Discard));
+    stream.set_active(true);
+    offer_many(&mut stream, 2);
+    stream.cut(moment(2)).expect(rt, "a cut");
+    stream
+}
+
+/// The bytes of a packet.
+fn encoded<A: Allocator>(rt: &impl Abort, alloc: A, plain: Global) -> Told {
+    let packet = packet(rt, plain);
+    let Ok(bytes) = encode_packet(alloc, &packet) else {
+        return Told::Named(None);
+    };
+    let stream = packed(rt, plain);
+    let wanted = stream.part(0).map(|part| part.text());
+    let same = wanted == Some(bytes.as_slice());
+    drop(stream);
+    Told::Named(Some(same))
 }
 
 /// How many bytes the metadata has.
@@ -200,6 +256,8 @@ impl<'a, A: Allocator + Copy> Call<A> for Row<'a> {
     fn make(&self, rt: &impl Abort, object: &mut A) -> Told {
         match self.asked {
             Asked::Name => name(rt, *object),
+            Asked::FileName => file_name(rt, *object),
+            Asked::Packet => encoded(rt, *object, self.plain),
             Asked::Metadata => metadata(*object, self.plain),
             Asked::Audit => found(audit_stream(*object, &Uuid::from_u128(1), 0, &self.pieces)),
             Asked::Read => read(rt, *object, &self.pieces),
@@ -208,7 +266,7 @@ impl<'a, A: Allocator + Copy> Call<A> for Row<'a> {
 
     fn granted(&self, rt: &impl Abort) -> Told {
         match self.asked {
-            Asked::Name => Told::Named(Some(true)),
+            Asked::Name | Asked::FileName | Asked::Packet => Told::Named(Some(true)),
             Asked::Metadata => Told::Written(Ok(()), metadata_bytes(rt, self.plain)),
             Asked::Audit | Asked::Read => Told::Audited(Ok(true)),
         }
@@ -216,7 +274,7 @@ impl<'a, A: Allocator + Copy> Call<A> for Row<'a> {
 
     fn refusal(&self, number: usize) -> Option<Told> {
         match self.asked {
-            Asked::Name => only(number, Told::Named(None)),
+            Asked::Name | Asked::FileName | Asked::Packet => only(number, Told::Named(None)),
             Asked::Metadata => only(number, Told::Written(Err(WriteFault::NoMemory), 0)),
             Asked::Audit => stop(number),
             Asked::Read => match number.checked_sub(1) {
@@ -229,7 +287,14 @@ impl<'a, A: Allocator + Copy> Call<A> for Row<'a> {
     fn assert_alike(&self, _rt: &impl Abort, _one: &A, _other: &A) {}
 }
 
-static CALLS: [Asked; 4] = [Asked::Name, Asked::Metadata, Asked::Audit, Asked::Read];
+static CALLS: [Asked; 6] = [
+    Asked::Name,
+    Asked::FileName,
+    Asked::Packet,
+    Asked::Metadata,
+    Asked::Audit,
+    Asked::Read,
+];
 
 /// The two halves of the stream's file.
 fn halves<'a>(rt: &impl Abort, stream: &'a Stream) -> [&'a [u8]; 2] {
@@ -239,10 +304,11 @@ fn halves<'a>(rt: &impl Abort, stream: &'a Stream) -> [&'a [u8]; 2] {
     [first, second]
 }
 
-/// Makes each call with too little memory. How often.
-fn refuse_calls(rt: &impl Abort, plain: Global, pieces: [&[u8]; 2]) -> usize {
+/// Makes each call with too little memory. How often, and how many requests were refused in turn.
+fn refuse_calls(rt: &impl Abort, plain: Global, pieces: [&[u8]; 2]) -> (usize, usize) {
     let heap = new_heap(rt, plain);
-    let mut tried = 0usize;
+    let memory = Rationed::new(plain);
+    let (mut tried, mut refused) = (0usize, 0usize);
     for asked in &CALLS {
         let row = Row {
             plain,
@@ -250,14 +316,16 @@ fn refuse_calls(rt: &impl Abort, plain: Global, pieces: [&[u8]; 2]) -> usize {
             asked: *asked,
         };
         tried = tried.wrapping_add(refuse_each(rt, plain, &heap, UNIT, &row));
+        refused = refused.wrapping_add(refuse_each_request(rt, &memory, &row));
     }
-    tried
+    (tried, refused)
 }
 
 #[test]
 fn an_audit_and_a_file_without_memory_say_so(rt: HostRuntime) {
     let stream = with_gaps(&rt, rt.alloc());
-    let tried = refuse_calls(&rt, rt.alloc(), halves(&rt, &stream));
+    let (tried, refused) = refuse_calls(&rt, rt.alloc(), halves(&rt, &stream));
     drop(stream);
     assert!(rt; tried >= 4_000, "{tried}");
+    assert!(rt; refused >= 8, "{refused}");
 }

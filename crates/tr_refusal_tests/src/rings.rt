@@ -2,12 +2,13 @@
 
 use crate::scarce::{UNIT, new_heap};
 use crate::streams::{assert_same_stream, try_stream};
-use crate::turns::{Call, assert_same, only, refuse_each};
+use crate::turns::{Call, assert_same, only, refuse_each, refuse_each_request};
 use std::alloc::{AllocError, Allocator};
 use std::process::Abort;
 use tr_ring::Ring;
 use tr_stream::Stream;
 use tr_terms::{Geometry, Mode};
+use tr_testing::Rationed;
 
 /// What is made.
 #[derive(Clone, Copy, Debug, PartialEq, Eq)]
@@ -113,17 +114,15 @@ impl<A: Allocator + Copy> Call<A> for Row {
 #[test]
 fn a_ring_and_a_stream_without_memory_are_not_made(rt: HostRuntime) {
     let heap = new_heap(&rt, rt.alloc());
-    let mut tried = 0usize;
+    let memory = Rationed::new(rt.alloc());
+    let (mut tried, mut refused) = (0usize, 0usize);
     for count in [2, 4, 16] {
         for what in [What::Ring, What::Stream] {
-            tried = tried.wrapping_add(refuse_each(
-                &rt,
-                rt.alloc(),
-                &heap,
-                UNIT,
-                &Row { what, count },
-            ));
+            let row = Row { what, count };
+            tried = tried.wrapping_add(refuse_each(&rt, rt.alloc(), &heap, UNIT, &row));
+            refused = refused.wrapping_add(refuse_each_request(&rt, &memory, &row));
         }
     }
     assert!(rt; tried >= 700, "{tried}");
+    assert!(rt; refused >= 44, "{refused}");
 }

@@ -1,84 +1,134 @@
 //! Runs of a script.
 
-use crate::scarce::new_heap;
-use crate::turns::{Call, only, refuse_each};
+use crate::turns::{Call, refuse_each_request};
 use std::alloc::{Allocator, Global};
 use std::process::Abort;
 use tr_console::{ScriptFault, run_script};
 use tr_record::{MemorySink, MemorySource};
+use tr_testing::Rationed;
 
-/// The lines of a script, each with its answer. None comes after the last one, not even an empty one.
-static LINES: [(&str, &str); 12] = [
-    (
-        "create s 00000000-0000-0000-0000-000000000001\n",
-        "created s\n",
-    ),
-    ("channel s c 256 2 discard\n", "channel c\n"),
-    ("thread s c\n", "stream 0\n"),
-    ("start s 0\n", "started\n"),
-    ("offer s 0 1 7 --fill 152\n", "stored 0 in 0\n"),
-    ("offer s 0 2 7 --fill 152\n", "stored 1 in 1\n"),
-    ("consume s 0\n", "taken 0 records 1 chunk 0\n"),
-    ("# a comment\n", ""),
-    (
-        "status s\n",
-        "session s local active channels 1 streams 1 archives 0
+/// A line of a script with its answer.
+type Line = (&'static str, &'static str);
+
+/// A script, how many of its lines are refused, and how many have an answer that isn't empty.
+#[derive(Clone, Copy)]
+struct Script {
+    lines: &'static [Line],
+    refused: u64,
+    answers: usize,
+}
+
+/// No line comes after the last one of a script, not even an empty one.
+static SCRIPTS: [Script; 2] = [
+    Script {
+        lines: &[
+            (
+                "create s 00000000-0000-0000-0000-000000000001\n",
+                "created s\n",
+            ),
+            ("channel s c 256 2 discard\n", "channel c\n"),
+            ("thread s c\n", "stream 0\n"),
+            ("thread s c\n", "stream 1\n"),
+            ("start s 0\n", "started\n"),
+            ("offer s 0 1 7 --fill 152\n", "stored 0 in 0\n"),
+            ("offer s 0 2 7 --fill 152\n", "stored 1 in 1\n"),
+            ("offer s 0 3 7 --fill 152\n", "discarded 2\n"),
+            ("offer s 1 3 7 --text hello\n", "stored 0 in 0\n"),
+            ("consume s 0\n", "taken 0 records 1 chunk 0\n"),
+            ("# a comment\n", ""),
+            (
+                "status s\n",
+                "session s local active channels 1 streams 2 archives 0
 stream     offered   discarded overwritten     in-ring   in-chunks
-     0           2           0           0           1           1
+     0           3           1           0           1           1
+     1           1           0           0           1           0
 ",
-    ),
-    ("snapshot s 5\n", "refused S2 NotSnapshotMode\n"),
-    (
-        "rotate s 10\n",
-        "archived 0 19700101T000000+0000-19700101T000000+0000-0\n",
-    ),
-    (
-        "archives s",
-        "0 19700101T000000+0000-19700101T000000+0000-0 packets 2 bytes 512\n",
-    ),
+            ),
+            ("snapshot s 5\n", "refused S2 NotSnapshotMode\n"),
+            (
+                "rotate s 10\n",
+                "archived 0 19700101T000000+0000-19700101T000000+0000-0\n",
+            ),
+            ("fate s 0 0\n", "in chunk 0 0\n"),
+            ("schedule s --size 200\n", "schedule set\n"),
+            ("offer s 1 11 7 --fill 152\n", "stored 1 in 1\n"),
+            ("tick s 20\n", "idle\n"),
+            ("rotate-begin s 30\n", "rotating 1\n"),
+            ("rotate-next s\n", "cut 0 records 0\n"),
+            ("rotate-next s\n", "cut 1 records 1\n"),
+            ("rotate-next s\n", "all cut\n"),
+            (
+                "rotate-finish s\n",
+                "archived 1 19700101T000000+0000-19700101T000000+0000-1\n",
+            ),
+            ("stop s\n", "stopped\n"),
+            (
+                "archives s",
+                "0 19700101T000000+0000-19700101T000000+0000-0 packets 3 bytes 621
+1 19700101T000000+0000-19700101T000000+0000-1 packets 1 bytes 256
+",
+            ),
+        ],
+        refused: 1,
+        answers: 24,
+    },
+    Script {
+        lines: &[
+            (
+                "create z 00000000-0000-0000-0000-000000000002 --snapshot\n",
+                "created z\n",
+            ),
+            ("channel z c 256 2 overwrite\n", "channel c\n"),
+            ("thread z c\n", "stream 0\n"),
+            ("start z 0\n", "started\n"),
+            ("offer z 0 1 7 --fill 152\n", "stored 0 in 0\n"),
+            ("offer z 0 2 7 --fill 152\n", "stored 1 in 1\n"),
+            (
+                "snapshot z 10\n",
+                "snapshot 10
+stream 0 offered 2 packets 2 records 2
+packet 0 records 1 first 0 last 0
+packet 1 records 1 first 1 last 1
+",
+            ),
+            ("rotate z 11", "refused S1 SnapshotMode\n"),
+        ],
+        refused: 1,
+        answers: 8,
+    },
 ];
 
-/// What a run came to: how many lines it refused, or its fault; and whether the answers of the first lines went out, each
-/// whole: of all lines, or of some of them.
+/// What a run came to: how many lines it refused, or its fault; and how many answers went out, each whole and in order, those
+/// that are empty not counted. None if anything else went out.
 #[derive(Clone, Copy, Debug, PartialEq, Eq)]
 struct Told {
     refused: Result<u64, ScriptFault>,
-    answered: Answered,
+    answers: Option<usize>,
 }
 
-/// Which lines were answered.
-#[derive(Clone, Copy, Debug, PartialEq, Eq)]
-enum Answered {
-    All,
-    /// The first lines, each of them whole, and not all.
-    First,
-    /// Something else went out.
-    Otherwise,
-}
-
-/// Which lines of the script these bytes answer.
-fn lines_answered(bytes: &[u8]) -> Answered {
-    let mut left = bytes;
-    for (_, answer) in &LINES {
+/// How many answers these bytes are, which are the first ones of a script, each whole.
+fn answers_in(lines: &[Line], bytes: &[u8]) -> Option<usize> {
+    let (mut left, mut count) = (bytes, 0usize);
+    for (_, answer) in lines {
         match left.strip_prefix(answer.as_bytes()) {
-            Some(rest) => left = rest,
-            None if left.is_empty() => return Answered::First,
-            None => return Answered::Otherwise,
+            Some(rest) if !answer.is_empty() => {
+                left = rest;
+                count = count.wrapping_add(1);
+            }
+            Some(_) => {}
+            None => break,
         }
     }
-    if left.is_empty() {
-        Answered::All
-    } else {
-        Answered::Otherwise
-    }
+    if left.is_empty() { Some(count) } else { None }
 }
 
-/// A run of the script.
+/// A run of a script.
 #[derive(Clone, Copy)]
 struct Run<'a> {
     /// What is never refused.
     plain: Global,
-    script: &'a [u8],
+    script: Script,
+    text: &'a [u8],
 }
 
 impl<'a, A: Allocator + Copy> Call<A> for Run<'a> {
@@ -91,7 +141,7 @@ impl<'a, A: Allocator + Copy> Call<A> for Run<'a> {
     }
 
     fn make(&self, _rt: &impl Abort, object: &mut A) -> Told {
-        let mut source = MemorySource::new(self.script, 65_536);
+        let mut source = MemorySource::new(self.text, 65_536);
         let mut sink = MemorySink::new(self.plain, 7);
         let refused = match run_script(*object, self.plain, &mut source, &mut sink) {
             Ok(done) => Ok(done.refused),
@@ -99,47 +149,56 @@ impl<'a, A: Allocator + Copy> Call<A> for Run<'a> {
         };
         Told {
             refused,
-            answered: lines_answered(&sink.into_bytes()),
+            answers: answers_in(self.script.lines, &sink.into_bytes()),
         }
     }
 
     fn granted(&self, _rt: &impl Abort) -> Told {
         Told {
-            refused: Ok(1),
-            answered: Answered::All,
+            refused: Ok(self.script.refused),
+            answers: Some(self.script.answers),
         }
     }
 
+    /// A line that has an answer wants memory for it, so a run ends after each number of answers but the last.
     fn refusal(&self, number: usize) -> Option<Told> {
-        let told = Told {
+        if number >= self.script.answers {
+            return None;
+        }
+        Some(Told {
             refused: Err(ScriptFault::NoMemory),
-            answered: Answered::First,
-        };
-        only(number, told)
+            answers: Some(number),
+        })
     }
 
     fn assert_alike(&self, _rt: &impl Abort, _one: &A, _other: &A) {}
 }
 
-/// The lines of the script.
-fn script(rt: &impl Abort, alloc: Global) -> Vec<u8> {
-    let mut script = Vec::new(alloc);
-    for (line, _) in &LINES {
-        script
-            .extend_from_slice(line.as_bytes())
-            .expect(rt, "memory");
+/// The text of a script.
+fn text_of(rt: &impl Abort, alloc: Global, lines: &[Line]) -> Vec<u8> {
+    let mut text = Vec::new(alloc);
+    for (line, _) in lines {
+        text.extend_from_slice(line.as_bytes()).expect(rt, "memory");
     }
-    script
+    text
+}
+
+/// Runs a script with each of its requests refused in turn. How many these are.
+fn refuse_script(rt: &impl Abort, plain: Global, script: Script) -> usize {
+    let memory = Rationed::new(plain);
+    let text = text_of(rt, plain, script.lines);
+    let run = Run {
+        plain,
+        script,
+        text: &text,
+    };
+    refuse_each_request(rt, &memory, &run)
 }
 
 #[test]
-fn a_script_without_memory_ends_behind_an_answer(rt: HostRuntime) {
-    let heap = new_heap(&rt, rt.alloc());
-    let script = script(&rt, rt.alloc());
-    let run = Run {
-        plain: rt.alloc(),
-        script: &script,
-    };
-    let tried = refuse_each(&rt, rt.alloc(), &heap, 256, &run);
-    assert!(rt; tried >= 250, "{tried}");
+fn a_script_without_memory_ends_after_an_answer(rt: HostRuntime) {
+    for script in &SCRIPTS {
+        let refused = refuse_script(&rt, rt.alloc(), *script);
+        assert!(rt; refused >= 4 * script.answers, "{refused}");
+    }
 }

@@ -1,13 +1,14 @@
 //! Calls of a session.
 
 mod alike;
+mod events;
 mod free;
 mod rotations;
 mod shared;
 mod single;
 
 use crate::scarce::{UNIT, new_heap};
-use crate::turns::{Call, assert_same, refuse_each};
+use crate::turns::{Call, assert_same, refuse_each, refuse_each_request};
 use alike::assert_same_session;
 use std::alloc::{Allocator, Global};
 use std::process::Abort;
@@ -15,9 +16,9 @@ use tr_schedule::{Cause, Schedule};
 use tr_session::{Next, Session, StepFault, Ticked};
 use tr_session_book::{Archive, SessionFault};
 use tr_snapshot::Snapshot;
-use tr_stream::{CutDone, Taken};
+use tr_stream::{CutDone, Offered, Taken};
 use tr_terms::{Mode, Moment, Name, OffsetMinutes, SessionMode};
-use tr_testing::moment;
+use tr_testing::{Rationed, moment};
 use uuid::Uuid;
 
 /// What a session is set up by.
@@ -81,6 +82,7 @@ type Chunk = (u64, u64, u64);
 enum Told {
     Done(Result<(), SessionFault>),
     Number(Result<u64, SessionFault>),
+    Offered(Result<Offered, StepFault>),
     Taken(Result<Taken, StepFault>),
     Cut(Result<CutDone, StepFault>),
     Next(Result<Next, StepFault>),
@@ -347,14 +349,16 @@ impl Row {
     }
 }
 
-/// Makes the calls of some rows with too little memory. How often.
-fn refuse_rows(rt: &impl Abort, plain: Global, rows: &[Row]) -> usize {
+/// Makes the calls of some rows with too little memory. How often, and how many requests were refused in turn.
+fn refuse_rows(rt: &impl Abort, plain: Global, rows: &[Row]) -> (usize, usize) {
     let heap = new_heap(rt, plain);
-    let mut tried = 0usize;
+    let memory = Rationed::new(plain);
+    let (mut tried, mut refused) = (0usize, 0usize);
     for row in rows {
         tried = tried.wrapping_add(refuse_each(rt, plain, &heap, UNIT, row));
+        refused = refused.wrapping_add(refuse_each_request(rt, &memory, row));
     }
-    tried
+    (tried, refused)
 }
 
 /// A session's want of memory.

@@ -1,7 +1,9 @@
 //! Calls of a stream.
 
+mod runs;
+
 use crate::scarce::{UNIT, new_heap};
-use crate::turns::{Call, assert_same, only, refuse_each};
+use crate::turns::{Call, assert_same, only, refuse_each, refuse_each_request};
 use Asked::{Clear, Cut, Peek, Take};
 use Before::{Clears, Cuts, Offers, Pairs, Takes};
 use linked_list_allocator::LocalHeap;
@@ -11,7 +13,7 @@ use tr_book::Part;
 use tr_record::RecView;
 use tr_stream::{ClearFault, Cleared, CutDone, CutFault, Stream, TakeFault, Taken};
 use tr_terms::{Geometry, Mode, Moment, SessionMode};
-use tr_testing::moment;
+use tr_testing::{Rationed, moment};
 use uuid::Uuid;
 
 /// A record's serial, its moment, its id and its payload.
@@ -381,9 +383,12 @@ static ROWS: [Row; 15] = [
 #[test]
 fn a_call_of_a_stream_without_memory_changes_nothing(rt: HostRuntime) {
     let heap = new_heap(&rt, rt.alloc());
-    let mut tried = 0usize;
+    let memory = Rationed::new(rt.alloc());
+    let (mut tried, mut refused) = (0usize, 0usize);
     for row in &ROWS {
         tried = tried.wrapping_add(refuse_each(&rt, rt.alloc(), &heap, UNIT, row));
+        refused = refused.wrapping_add(refuse_each_request(&rt, &memory, row));
     }
     assert!(rt; tried >= 500, "{tried}");
+    assert!(rt; refused >= 15, "{refused}");
 }

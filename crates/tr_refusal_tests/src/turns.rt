@@ -1,10 +1,12 @@
-//! Calls that are made with too little memory, and again with more.
+//! Calls that are made with too little memory, and again with more: with a heap that is full but for some bytes, and with memory
+//! of which some requests are granted.
 
 use crate::scarce::fill_all_but;
 use linked_list_allocator::LocalHeap;
 use std::alloc::{Allocator, Global};
 use std::fmt::Debug;
 use std::process::Abort;
+use tr_testing::Rationed;
 
 /// No call of these tests is made more often.
 pub(crate) const MOST: usize = 10_000;
@@ -14,9 +16,9 @@ pub(crate) fn assert_same<T: PartialEq + Debug + Drop>(rt: &impl Abort, found: T
     assert_eq!(rt; found, expected);
 }
 
-/// The same, with the bytes that there were.
-fn assert_at<T: PartialEq + Debug + Drop>(rt: &impl Abort, bytes: usize, found: T, expected: T) {
-    assert_eq!(rt; found, expected, "with {bytes} bytes");
+/// The same, with how much memory there was: how many bytes, or how many requests were granted.
+fn assert_at<T: PartialEq + Debug + Drop>(rt: &impl Abort, much: usize, found: T, expected: T) {
+    assert_eq!(rt; found, expected, "with {much} bytes or requests");
 }
 
 /// A call that asks for memory.
@@ -69,16 +71,46 @@ fn make_with<'h, C: Call<&'h LocalHeap>>(
     let blocks = fill_all_but(rt, plain, heap, bytes);
     let answer = call.make(rt, &mut object);
     drop(blocks);
+    assert_left(rt, call, answer, (&mut object, &mut other), bytes);
+    answer
+}
+
+/// Asserts that what a call left is what its answer says, and what it leaves if it is made again with memory after a refusal.
+/// The second object is set up as the first one was.
+fn assert_left<A: Allocator + Copy, C: Call<A>>(
+    rt: &impl Abort,
+    call: &C,
+    answer: C::Answer,
+    (object, other): (&mut C::Object, &mut C::Object),
+    much: usize,
+) {
     let granted = call.granted(rt);
     if answer == granted {
-        call.make(rt, &mut other);
+        call.make(rt, other);
     } else {
-        call.leave(rt, answer, &mut other);
-        call.assert_alike(rt, &object, &other);
-        assert_at(rt, bytes, call.make_again(rt, answer, &mut object), granted);
-        call.make_again(rt, answer, &mut other);
+        call.leave(rt, answer, other);
+        call.assert_alike(rt, object, other);
+        assert_at(rt, much, call.make_again(rt, answer, object), granted);
+        call.make_again(rt, answer, other);
     }
-    call.assert_alike(rt, &object, &other);
+    call.assert_alike(rt, object, other);
+}
+
+/// Makes a call of which so many requests for memory are granted and the later ones refused, asserts that it is refused if and
+/// only if one of its requests was, and what stands after it. Its first answer.
+fn make_rationed<'h, C: Call<&'h Rationed>>(
+    rt: &impl Abort,
+    memory: &'h Rationed,
+    call: &C,
+    requests: usize,
+) -> C::Answer {
+    let mut object = call.object(rt, memory);
+    let mut other = call.object(rt, memory);
+    memory.limit(requests as u64);
+    let answer = call.make(rt, &mut object);
+    let refused = memory.lift();
+    assert_at(rt, requests, answer == call.granted(rt), refused == 0);
+    assert_left(rt, call, answer, (&mut object, &mut other), requests);
     answer
 }
 
@@ -108,16 +140,16 @@ impl<T: PartialEq + Debug + Copy + Drop> Turns<T> {
     pub(crate) fn is_last(
         &mut self,
         rt: &impl Abort,
-        bytes: usize,
+        much: usize,
         answer: T,
         (granted, next): (T, Option<T>),
     ) -> bool {
         if answer == granted {
-            assert_at(rt, bytes, None, next);
+            assert_at(rt, much, None, next);
             return true;
         }
         if self.last != Some(answer) {
-            assert_at(rt, bytes, Some(answer), next);
+            assert_at(rt, much, Some(answer), next);
             self.last = Some(answer);
             self.seen = self.seen.wrapping_add(1);
         }
@@ -142,6 +174,25 @@ pub(crate) fn refuse_each<'h, C: Call<&'h LocalHeap>>(
         let next = call.refusal(turns.seen());
         if turns.is_last(rt, bytes, answer, (granted, next)) {
             return times;
+        }
+    }
+    panic!(rt; "no end of refusals")
+}
+
+/// Makes a call with its first request for memory refused, then with its second one, and so on until none is. Asserts that its
+/// refusals come in their order, and that none is missing. How many requests were refused, each of them once.
+pub(crate) fn refuse_each_request<'h, C: Call<&'h Rationed>>(
+    rt: &impl Abort,
+    memory: &'h Rationed,
+    call: &C,
+) -> usize {
+    let granted = call.granted(rt);
+    let mut turns = Turns::new();
+    for requests in 0..MOST {
+        let answer = make_rationed(rt, memory, call, requests);
+        let next = call.refusal(turns.seen());
+        if turns.is_last(rt, requests, answer, (granted, next)) {
+            return requests;
         }
     }
     panic!(rt; "no end of refusals")

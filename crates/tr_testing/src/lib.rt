@@ -4,10 +4,12 @@
 mod breaking;
 mod failing;
 mod full;
+mod rationed;
 
 pub use breaking::{Breaking, Filling};
 pub use failing::FailsAfter;
 pub use full::fill;
+pub use rationed::Rationed;
 use tr_terms::Moment;
 
 /// The moment of this many nanoseconds, and zero if that is beyond the limit.

@@ -119,8 +119,10 @@ static STEPS: [Row; 6] = [
 
 #[test]
 fn a_call_of_a_session_without_memory_changes_nothing(rt: HostRuntime) {
-    let added = refuse_rows(&rt, rt.alloc(), &ADDING);
+    let (added, adding) = refuse_rows(&rt, rt.alloc(), &ADDING);
     assert!(rt; added >= 250, "{added}");
-    let stepped = refuse_rows(&rt, rt.alloc(), &STEPS);
+    assert!(rt; adding >= 15, "{adding}");
+    let (stepped, stepping) = refuse_rows(&rt, rt.alloc(), &STEPS);
     assert!(rt; stepped >= 500, "{stepped}");
+    assert!(rt; stepping >= 10, "{stepping}");
 }
