@@ -1,5 +1,5 @@
 -- What a session's book finds among its channels.
-use Rattle.std.proofs.Common.{◌≡◌, ◌∙◌, ℕ, Bool, true, false, List, length, map, arith, ◌≤◌, ◌<◌, Result, Ok, Err, Option, Some, refl, subst, sym, ap}
+use Rattle.std.proofs.Common.{◌≡◌, ◌∙◌, ℕ, Bool, true, false, List, [], ◌∷◌, length, map, suc, arith, ◌≤◌, ◌<◌, Result, Ok, Err, Option, Some, refl, subst, sym, ap}
 use Rattle.std.proofs.lemmas.Option.{slice_get-map}
 use Rattle.std.proofs.lemmas.Bool.Decides.{nat_tests}
 use Rattle.std.specs.List.{position_or_len}
