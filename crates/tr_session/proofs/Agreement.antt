@@ -84,7 +84,7 @@ same-at i f g x (s ∷ ss) [] same agree = absurd agree
 same-at zero f g x (s ∷ ss) (t ∷ ts) same agree = same s t agree.0
 same-at (suc i) f g x (s ∷ ss) (t ∷ ts) same agree = same-at i f g x ss ts same agree.1
 
-same-sum : (f : StreamState → ℕ) (g : Traced → ℕ) (ss : List StreamState) (ts : List Traced)
+pub same-sum : (f : StreamState → ℕ) (g : Traced → ℕ) (ss : List StreamState) (ts : List Traced)
     → ((s : StreamState) (t : Traced) → Agrees s t → f s ≡ g t) → AllAgree ss ts → sum_by f ss ≡ sum_by g ts
 same-sum f g [] [] same agree = refl
 same-sum f g [] (t ∷ ts) same agree = absurd agree

@@ -2,15 +2,17 @@
 use Rattle.std.proofs.Common.{◌≡◌, ◌∙◌, ℕ, zero, suc, length, Result, Err, ap, refl, subst}
 use Rattle.std.specs.Option.{option_map_or}
 use Rattle.std.specs.Prelude.{slice_get}
-use Rattle.tr_session.proofs.Agreement.{agree-unless, all-changed, same-at, same-length}
+use Rattle.tr_session.proofs.Agreement.{agree-unless, all-changed, same-at, same-length, same-sum}
 use Rattle.tr_session.specs.Agreement.{SessionsAgree}
 use Rattle.tr_session.specs.Session.{SessionOf}
+use Rattle.tr_session.specs.Sizes.{all_cleared}
 use Rattle.tr_session.specs.Steps.{and_records, clear_as_session, clear_first, clear_first_answer, if_allowed, session_after_clear, session_after_clear_all, session_clear_all_answer, session_clear_answer}
 use Rattle.tr_session_book.specs.Book.{SessionBookState}
 use Rattle.tr_session_book.specs.BookSteps.{book_clear_answer, clear_allowed_at}
 use Rattle.tr_session_book.specs.declared.faults.SessionFault.TheVariants.{NoStream}
 use Rattle.tr_session_book.specs.declared.faults.SessionFault.{SessionFault}
-use Rattle.tr_stream.proofs.RuleLaws.{agree-cleared, same-cleared}
+use Rattle.tr_stream.proofs.RuleLaws.{agree-cleared, same-cleared, same-counted}
+use Rattle.tr_book.specs.declared.counts.Counts.{Counts}
 use Rattle.tr_stream.specs.Rules.{Traced, by_history, by_state}
 use Rattle.tr_stream.specs.State.{StreamState}
 use Rattle.tr_stream.specs.declared.answers.Cleared.{Cleared}
@@ -70,3 +72,8 @@ agree-clear_all a b is =
     agree-unless a b is (book_clear_answer a.book) (book_clear_answer b.book) _ _ (ap book_clear_answer is.book)
     (subst (λ (n : ℕ). SessionsAgree (clear_first by_state (length a.streams) a) (clear_first by_history n b))
     (same-length a.streams b.streams is.streams) (agree-clear_first (length a.streams) a b is))
+
+pub same-all_cleared : (a : SessionOf StreamState) (b : SessionOf Traced) → SessionsAgree a b → all_cleared by_state a ≡ all_cleared by_history b
+same-all_cleared a b is =
+    same-sum (λ s. (by_state.counts s).cleared) (λ t. (by_history.counts t).cleared) a.streams b.streams
+    (λ s t agree. ap (λ (n : Counts). n.cleared) (same-counted s t agree)) is.streams

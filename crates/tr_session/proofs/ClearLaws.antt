@@ -1,5 +1,5 @@
 -- A whole clear of a session: one stream after another.
-use Rattle.std.proofs.Common.{◌≡◌, ◌≢◌, ◌∙◌, ℕ, ◌+◌, ◌*◌, ◌^◌, ◌≤◌, ◌<◌, zero, suc, true, false, List, [], ◌∷◌, length, map, take, Option, Result, Ok, Err, ap, arith, refl, subst, sym, ⊎_elim}
+use Rattle.std.proofs.Common.{◌≡◌, ◌≢◌, ◌∙◌, ℕ, ◌+◌, ◌*◌, ◌^◌, ◌≤◌, ◌<◌, zero, suc, true, false, List, [], ◌∷◌, length, map, take, Option, Some, Result, Ok, Err, ap, arith, refl, subst, sym, ⊎_elim}
 use Rattle.std.proofs.lemmas.Bool.Decides.{nat_tests}
 use Rattle.std.proofs.lemmas.List.{take_all}
 use Rattle.std.specs.List.{sum_by}
@@ -10,7 +10,9 @@ use Rattle.tr_session.proofs.ListLaws.{changed-next, changed_before, changed_bef
 use Rattle.tr_session.proofs.SessionLaws.{at-there}
 use Rattle.tr_session.proofs.SizeLaws.{sum-more}
 use Rattle.tr_session.proofs.StreamLaws.{after-one, clear-keeps, mode-at}
+use Rattle.tr_book.specs.declared.counts.Counts.{Counts}
 use Rattle.tr_session.specs.Session.{HasItsStreams, SessionOf, session_of}
+use Rattle.tr_session.specs.Sizes.{all_cleared}
 use Rattle.tr_session.specs.Steps.{ClearsPackets, IsClearedSome, and_records, change_at, clear_as_session, clear_first, clear_first_answer, cleared_in_all, if_allowed, records_cleared, session_after_clear, session_clear_answer, with_first_cleared}
 use Rattle.tr_session_book.specs.Book.{SessionBookState}
 use Rattle.tr_session_book.specs.BookSteps.{book_clear_answer, clear_allowed_at, unless_refused}
@@ -19,7 +21,7 @@ use Rattle.tr_session_book.specs.declared.faults.SessionFault.{SessionFault}
 use Rattle.tr_stream.proofs.SessionLaws.{in-local}
 use Rattle.tr_stream.specs.Rules.{by_state}
 use Rattle.tr_stream.specs.State.{StreamState}
-use Rattle.tr_stream.specs.StateSteps.{state_after_clear, state_clear_answer, state_cleared}
+use Rattle.tr_stream.specs.StateSteps.{state_counts, state_after_clear, state_clear_answer, state_cleared}
 use Rattle.tr_stream.specs.declared.answers.ClearFault.{ClearFault}
 use Rattle.tr_stream.specs.declared.answers.ClearFault.TheVariants as clear_fault
 use Rattle.tr_stream.specs.declared.answers.Cleared.{Cleared}
@@ -208,3 +210,22 @@ clears-all n records s now all so = (
   so.is ∙ ap (λ (ts : List StreamState). (let t : SessionOf StreamState = record { book = s.book; streams = ts } in t))
       (changed_before-all state_after_clear n s.streams all),
 )
+
+-- ---- how many records were cleared
+
+-- those of the first streams
+pub record CountsSo (n : ℕ) (s : SessionOf StreamState) (records : ℕ) : Type 0 where
+  pub sum : records ≡ sum_by (λ t. (by_state.counts t).cleared) (take n s.streams)
+  pub few : records ≤ n * 2 ^ 64
+
+pub counts-more : (n records : ℕ) (s : SessionOf StreamState) (t : StreamState) (counts : Counts) → CountsSo n s records
+    → slice_get s.streams n ≡ Some t → counts ≡ state_counts t → counts.cleared < 2 ^ 64
+    → CountsSo (n + 1) s (records + counts.cleared)
+counts-more n records s t counts so at is small =
+    let more = sum-more (λ (u : StreamState). (state_counts u).cleared) n s.streams t at in
+    let one : counts.cleared ≡ (state_counts t).cleared = ap (λ (c : Counts). c.cleared) is in
+    record { sum = rw (so.sum, one) (sym more); few = omega (arith, so.few, small) }
+
+pub counts-all : (n records : ℕ) (s : SessionOf StreamState) → length s.streams ≤ n → CountsSo n s records → records ≡ all_cleared by_state s
+counts-all n records s past so =
+    so.sum ∙ ap (λ (ts : List StreamState). sum_by (λ (t : StreamState). (state_counts t).cleared) ts) (take_all n s.streams past)

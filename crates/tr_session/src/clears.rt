@@ -1,6 +1,7 @@
-//! A clear of a whole session.
+//! Clears of a whole session.
 
 ghost use Rattle.std.specs.Prelude.{◌≡◌, ◌≢◌, Ok, Err, IfOk, IfErr, OnErr, IsOk, length, map};
+ghost use Rattle.tr_session.specs.Sizes.{all_cleared};
 ghost use Rattle.tr_session.specs.Steps.{clear_first, clear_first_answer, cleared_in_all, session_clear_all_answer, session_after_clear_all, IsClearedSome};
 ghost use Rattle.tr_session_book.specs.BookSteps.{book_clear_answer};
 ghost use Rattle.tr_stream.specs.Rules.{by_state};
@@ -58,5 +59,21 @@ impl<A: Allocator + Copy> Session<A> {
             }
         }
         Ok(records)
+    }
+}
+
+impl<A: Allocator> Session<A> {
+    /// How many records of all streams were cleared, by all clears.
+    pub fn cleared(&self) -> u128
+        ensures { result ≡ all_cleared by_state self.now }
+    {
+        let mut records = 0;
+        'streams: for i in 0..self.streams() {
+            let Some(stream) = self.stream(i) else {
+                unreachable!()
+            };
+            records += u128::from(stream.counts().cleared);
+        }
+        records
     }
 }
