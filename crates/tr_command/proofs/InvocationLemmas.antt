@@ -1,36 +1,17 @@
--- What a parse of the program's words says of them.
-use Rattle.std.proofs.Common.{◌≡◌, ◌≢◌, true, false, refl, inl, inr, List, [], ◌∷◌, Some, None}
+-- What the words that the program is given ask for.
+use Rattle.std.proofs.Common.{◌≡◌, ◌∙◌, ap, refl, List, Option, option_and_then}
 use Rattle.clap.proofs.OnLiterals.{clap_on_literals}
-use Rattle.clap.specs.Faults.{is_simple_and_free}
-use Rattle.clap.specs.Words.{HasKind, IsAmong, Kinds, Row, Text, fault_of, is_simple, kind_of, subcommand_of}
-use Rattle.clap.specs.declared.error.Error.{Error}
-use Rattle.clap.specs.declared.error.kind.ErrorKind.{ErrorKind}
-use Rattle.clap.specs.declared.error.kind.ErrorKind.TheVariants.{OutOfMemory}
-use Rattle.tr_command.specs.Language.{is_free_of_faults}
+use Rattle.clap.specs.Words.{App, Row, Text}
+use Rattle.tr_command.specs.Language.{IsSimple, entered_by}
 use Rattle.tr_command.specs.Invocation.{job_named, job_of, program_app}
 
--- clap's definition covers the program's command line
-pub program-simple : (is_simple program_app ≡ true) × (is_simple_and_free program_app ≡ true)
+pub program-simple : IsSimple program_app
 unfolding clap_on_literals
 program-simple = (refl, refl)
 
-at_fault : (k : ErrorKind) (kinds : Kinds) → IsAmong k kinds → is_free_of_faults kinds ≡ false
-at_fault k [] h = absurd h
-at_fault k (x ∷ kinds) h = refl
-
--- an error for another cause than memory is a bad command line
-pub job_of-fault : (words : List Text) (e : Error) → HasKind (fault_of program_app words) e → kind_of e ≢ OutOfMemory → None ≡ job_of words
+-- what they ask for by the command that they enter
+pub job_of-entered : (app : App) (words : List Text) (entered : Option (Text × List Row)) → app ≡ program_app → entered ≡ entered_by app words
+    → option_and_then (λ p. job_named p.0 p.1) entered ≡ job_of words
 unfolding job_of
-job_of-fault words e (inl memory) other = absurd (other memory)
-job_of-fault words e (inr among) other = rw (at_fault (kind_of e) (fault_of program_app words) among) refl
-
--- a parse that entered a command asks what that one says
-pub job_of-entered : (words : List Text) (name : Text) (rows : List Row) → fault_of program_app words ≡ []
-    → Some (name, rows) ≡ subcommand_of program_app words → job_named name rows ≡ job_of words
-unfolding job_of
-job_of-entered words name rows none entered = rw (none, ← entered) refl
-
--- one that entered none asks nothing
-pub job_of-none : (words : List Text) → fault_of program_app words ≡ [] → None ≡ subcommand_of program_app words → None ≡ job_of words
-unfolding job_of
-job_of-none words none entered = rw (none, ← entered) refl
+job_of-entered app words entered shape is = ap (option_and_then (λ (p : Text × List Row). job_named p.0 p.1))
+    (is ∙ ap (λ (a : App). entered_by a words) shape)

@@ -1,11 +1,21 @@
--- The command line that is built for a line: that of the command that its first word names.
-use Rattle.std.specs.Prelude.{◌≡◌, false, List, [], ◌∷◌, Option, Some, None, Result, IfOk, codes, option_and_then, if◌then◌else◌}
+-- The command line of a script's line: that of the command that its first word names, or the whole one.
+use Rattle.std.specs.Prelude.{List, [], ◌∷◌, Option, Some, None, codes, fold, option_and_then}
 use Rattle.std.specs.Option.{option_map_or}
-use Rattle.std.specs.Str.{bytes_eq}
-use Rattle.clap.specs.Words.{App, Text, app_of, new_app, with_subcommand}
-use Rattle.clap.specs.declared.builder.command.Command.{Command}
-use Rattle.clap.specs.declared.builder.command.Command.TheViews.{out-Command as fields_of}
-use Rattle.tr_command.specs.CommandLine.{archives_app, channel_app, consume_app, create_app, fate_app, offer_app, rotate_app, rotate_begin_app, rotate_finish_app, rotate_next_app, schedule_app, script_app, snapshot_app, start_app, status_app, stop_app, thread_app, tick_app}
+use Rattle.clap.specs.Words.{App, Text, new_app, with_subcommand}
+use Rattle.tr_command.specs.Asked.{Command, command_named, commands}
+use Rattle.tr_command.specs.CommandLine.{line_app}
+
+-- the command line of a command
+abbrev pub command_app : Command → App
+command_app c = line_app c.name c.rules
+
+-- a command line with one more command
+abbrev pub with_command : App → Command → App
+with_command app c = with_subcommand app (command_app c).top
+
+-- the whole command line, with all commands
+abbrev pub script_app : App
+script_app = fold with_command (new_app (codes "tracerd")) commands
 
 -- the word after the program's name
 abbrev pub command_word : List Text → Option Text
@@ -14,40 +24,12 @@ command_word (program ∷ []) = None
 command_word (program ∷ word ∷ words) = Some word
 
 -- a command line with one command
-abbrev pub alone : App → App
-alone command = with_subcommand (new_app (codes "tracerd")) command.top
-
--- the command of this name
-abbrev pub command_of : Text → Option App
-command_of name =
-    if bytes_eq name (codes "create") then Some create_app else
-    (if bytes_eq name (codes "channel") then Some channel_app else
-    (if bytes_eq name (codes "thread") then Some thread_app else
-    (if bytes_eq name (codes "start") then Some start_app else
-    (if bytes_eq name (codes "stop") then Some stop_app else
-    (if bytes_eq name (codes "offer") then Some offer_app else
-    (if bytes_eq name (codes "consume") then Some consume_app else
-    (if bytes_eq name (codes "rotate-begin") then Some rotate_begin_app else
-    (if bytes_eq name (codes "rotate-next") then Some rotate_next_app else
-    (if bytes_eq name (codes "rotate-finish") then Some rotate_finish_app else
-    (if bytes_eq name (codes "rotate") then Some rotate_app else
-    (if bytes_eq name (codes "snapshot") then Some snapshot_app else
-    (if bytes_eq name (codes "fate") then Some fate_app else
-    (if bytes_eq name (codes "schedule") then Some schedule_app else
-    (if bytes_eq name (codes "tick") then Some tick_app else
-    (if bytes_eq name (codes "status") then Some status_app else
-    (if bytes_eq name (codes "archives") then Some archives_app else
-    None))))))))))))))))
+abbrev pub alone : Command → App
+alone c = with_command (new_app (codes "tracerd")) c
 
 -- the command line with this command alone, or the whole one if there is none
-abbrev pub alone_or_whole : Option App → App
+abbrev pub alone_or_whole : Option Command → App
 alone_or_whole command = option_map_or alone command script_app
 
 abbrev pub app_for : Option Text → App
-app_for word = alone_or_whole (option_and_then command_of word)
-
--- this command was built, or an allocation failed; or there is none
-abbrev pub IsBuilt : {E : Type 0} → Option (Result Command E) → Option App → Type 0
-IsBuilt (Some built) (Some command) = IfOk built (λ c. (app_of c ≡ command) × ((fields_of c).has_globals ≡ false))
-IsBuilt None None = Unit {0}
-IsBuilt _ _ = ⊥
+app_for word = alone_or_whole (option_and_then command_named word)

@@ -2,9 +2,9 @@
 use Rattle.std.specs.Prelude.{ℕ, List, [], ◌∷◌, ◌≤◌, Option, Some, None, String, map, nat_le, option_map, option_and_then, codes, string_bytes, if◌then◌else◌}
 use Rattle.std.specs.Borrow.{Bor}
 use Rattle.std.specs.Str.{bytes_eq}
-use Rattle.clap.specs.Words.{App, Row, Text, fault_of, first_of, new_app, subcommand_of, with_rule, with_subcommand}
-use Rattle.tr_command.specs.CommandLine.{option, place}
-use Rattle.tr_command.specs.Language.{is_free_of_faults}
+use Rattle.clap.specs.Words.{App, Row, Text, first_of, new_app, with_subcommand}
+use Rattle.tr_command.specs.CommandLine.{line_app, option, place}
+use Rattle.tr_command.specs.Language.{entered_by}
 use Rattle.tr_command.specs.Reading.{and_last, and_then, number_given}
 use Rattle.tr_terms.specs.declared.limits.TheConstants.{MOST_RECORDS, MOST_STREAMS, MOST_WORKERS}
 use Rattle.tr_command.specs.declared.invocation.Job.{Job}
@@ -38,16 +38,16 @@ IsWithinLimits (job.Audit dir) = Unit
 
 -- `script [--out DIR]`
 abbrev pub script_run_app : App
-script_run_app = with_rule (new_app (codes "script")) (option (codes "out"))
+script_run_app = line_app (codes "script") (option (codes "out") ∷ [])
 
 -- `load --threads T --records R --workers W [--out DIR]`
 abbrev pub load_app : App
-load_app = with_rule (with_rule (with_rule (with_rule (new_app (codes "load")) (option (codes "threads")))
-    (option (codes "records"))) (option (codes "workers"))) (option (codes "out"))
+load_app = line_app (codes "load")
+    (option (codes "threads") ∷ option (codes "records") ∷ option (codes "workers") ∷ option (codes "out") ∷ [])
 
 -- `audit DIR`
 abbrev pub audit_app : App
-audit_app = with_rule (new_app (codes "audit")) (place (codes "dir"))
+audit_app = line_app (codes "audit") (place (codes "dir") ∷ [])
 
 -- `tracerd script ..`, `tracerd load ..` and `tracerd audit ..`
 abbrev pub program_app : App
@@ -89,8 +89,7 @@ job_named name rows =
 
 -- what these words ask for, the program's name before them: a run of a script, a load, or an audit; none is a bad command line
 unfoldable pub job_of : List Text → Option Task
-job_of words = if is_free_of_faults (fault_of program_app words)
-    then option_and_then (λ entered. job_named entered.0 entered.1) (subcommand_of program_app words) else None
+job_of words = option_and_then (λ entered. job_named entered.0 entered.1) (entered_by program_app words)
 
 -- what the words after the program's name ask for
 abbrev pub job_asked : List Text → Option Task

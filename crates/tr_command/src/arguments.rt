@@ -2,31 +2,30 @@
 
 ghost use Rattle.std.specs.Prelude.{◌≡◌, false};
 ghost use Rattle.clap.specs.Words.{rule_of};
-ghost use Rattle.tr_command.specs.CommandLine.{flag, option, place};
+ghost use Rattle.tr_command.specs.CommandLine.{rule};
 
 use clap::{Arg, ArgAction};
 use std::alloc::Global;
 
-/// A required text, by its place among the words.
-pub fn place<'a>(alloc: Global, id: &'a str) -> Arg<'a>
-    ensures rule { rule_of result ≡ place id.entry.now }
-    ensures local { result.global ≡ false }
-{
-    Arg::new(alloc, id).required(true)
+/// An argument of a command, with its name.
+#[derive(Clone, Copy)]
+pub enum Argument {
+    /// A required text, by its place among the words.
+    Placed(&'static str),
+    /// The option `--name TEXT`.
+    Named(&'static str),
+    /// The flag `--name`.
+    Flag(&'static str),
 }
 
-/// The option `--id TEXT`.
-pub fn option<'a>(alloc: Global, id: &'a str) -> Arg<'a>
-    ensures rule { rule_of result ≡ option id.entry.now }
+/// The argument as clap has it.
+pub fn clap_argument<'a>(alloc: Global, argument: &Argument) -> Arg<'a>
+    ensures rule { rule_of result ≡ rule argument.now }
     ensures local { result.global ≡ false }
 {
-    Arg::new(alloc, id).long(id)
-}
-
-/// The flag `--id`.
-pub fn flag<'a>(alloc: Global, id: &'a str) -> Arg<'a>
-    ensures rule { rule_of result ≡ flag id.entry.now }
-    ensures local { result.global ≡ false }
-{
-    Arg::new(alloc, id).action(ArgAction::SetTrue).long(id)
+    match *argument {
+        Argument::Placed(name) => Arg::new(alloc, name).required(true),
+        Argument::Named(name) => Arg::new(alloc, name).long(name),
+        Argument::Flag(name) => Arg::new(alloc, name).action(ArgAction::SetTrue).long(name),
+    }
 }

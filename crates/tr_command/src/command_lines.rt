@@ -1,124 +1,33 @@
-//! The command line of each command, and of all of them.
+//! Command lines by the arguments of their commands.
 
-ghost use Rattle.std.specs.Prelude.{◌≡◌, IfOk, Ok, false};
-ghost use Rattle.clap.specs.Words.{app_of, with_rule, with_subcommand};
+ghost use Rattle.std.specs.Prelude.{◌≡◌, IfOk, Ok, false, map};
+ghost use Rattle.clap.specs.Words.{app_of, with_subcommand};
 ghost use Rattle.clap.specs.declared.builder.command.Command.{Command};
 ghost use Rattle.clap.specs.declared.builder.command.Command.TheViews.{out-Command as fields_of};
-ghost use Rattle.tr_command.specs.CommandLine.{channel_app, create_app, fate_app, layout_app, moment_app, offer_app, option, place, rotation_app, running_app, schedule_app, schedules_app, script_app, session_app, stream_app};
+ghost use Rattle.tr_command.specs.CommandLine.{line_app, rule};
 
-use crate::arguments::{flag, option, place};
+use crate::arguments::{Argument, clap_argument};
 use clap::Command;
 use std::alloc::{AllocError, Global};
 
-/// A command of a session: `NAME SESSION ..`.
-pub fn of_session<'a>(alloc: Global, name: &'a str) -> Result<Command<'a>, AllocError>
-    ensures shape { IfOk result (λ c. app_of c ≡ session_app name.entry.now) }
-    ensures local { IfOk result (λ c. (fields_of c).has_globals ≡ false) }
-{
-    Command::new(alloc, name).arg(place(alloc, "session"))
-}
-
-/// `NAME SESSION ID ..`.
-pub fn with_place<'a>(alloc: Global, name: &'a str, id: &'a str) -> Result<Command<'a>, AllocError>
-    ensures shape { IfOk result (λ c. app_of c ≡ with_rule (session_app name.entry.now) (place id.entry.now)) }
-    ensures local { IfOk result (λ c. (fields_of c).has_globals ≡ false) }
-{
-    of_session(alloc, name)?.arg(place(alloc, id))
-}
-
-/// A command with two more texts by their places.
-fn with_places<'a>(
-    alloc: Global,
-    command: Command<'a>,
-    first: &'a str,
-    second: &'a str,
-) -> Result<Command<'a>, AllocError>
-    requires { (fields_of command).has_globals ≡ false }
-    ensures shape { IfOk result
-        (λ c. app_of c ≡ with_rule (with_rule (app_of command.entry) (place first.entry.now)) (place second.entry.now)) }
-    ensures local { IfOk result (λ c. (fields_of c).has_globals ≡ false) }
-{
-    command.arg(place(alloc, first))?.arg(place(alloc, second))
-}
-
-/// A command with two more options.
+/// The command of this name with these arguments.
 ///
 /// # Errors
 ///
 /// Out of memory.
-pub fn with_options<'a>(
+pub fn command_of<'a>(
     alloc: Global,
-    command: Command<'a>,
-    first: &'a str,
-    second: &'a str,
+    name: &'static str,
+    arguments: &'static [Argument],
 ) -> Result<Command<'a>, AllocError>
-    requires { (fields_of command).has_globals ≡ false }
-    ensures shape { IfOk result
-        (λ c. app_of c ≡ with_rule (with_rule (app_of command.entry) (option first.entry.now)) (option second.entry.now)) }
+    ensures shape { IfOk result (λ c. app_of c ≡ line_app name.entry.now (map rule arguments.entry.now)) }
     ensures local { IfOk result (λ c. (fields_of c).has_globals ≡ false) }
 {
-    command
-        .arg(option(alloc, first))?
-        .arg(option(alloc, second))
-}
-
-/// `NAME SESSION MOMENT`.
-pub fn at_moment<'a>(alloc: Global, name: &'a str) -> Result<Command<'a>, AllocError>
-    ensures shape { IfOk result (λ c. app_of c ≡ moment_app name.entry.now) }
-    ensures local { IfOk result (λ c. (fields_of c).has_globals ≡ false) }
-{
-    with_place(alloc, name, "moment")
-}
-
-/// `NAME SESSION STREAM ..`.
-pub fn of_stream<'a>(alloc: Global, name: &'a str) -> Result<Command<'a>, AllocError>
-    ensures shape { IfOk result (λ c. app_of c ≡ stream_app name.entry.now) }
-    ensures local { IfOk result (λ c. (fields_of c).has_globals ≡ false) }
-{
-    with_place(alloc, name, "stream")
-}
-
-/// `create SESSION UUID [--east MIN] [--west MIN] [--snapshot]`.
-pub fn create_command<'a>(alloc: Global) -> Result<Command<'a>, AllocError>
-    ensures shape { IfOk result (λ c. app_of c ≡ create_app) }
-    ensures local { IfOk result (λ c. (fields_of c).has_globals ≡ false) }
-{
-    let command = with_place(alloc, "create", "uuid")?;
-    with_options(alloc, command, "east", "west")?.arg(flag(alloc, "snapshot"))
-}
-
-/// `channel SESSION CHANNEL SIZE COUNT MODE`.
-pub fn channel_command<'a>(alloc: Global) -> Result<Command<'a>, AllocError>
-    ensures shape { IfOk result (λ c. app_of c ≡ channel_app) }
-    ensures local { IfOk result (λ c. (fields_of c).has_globals ≡ false) }
-{
-    let command = with_place(alloc, "channel", "channel")?;
-    with_places(alloc, command, "size", "count")?.arg(place(alloc, "mode"))
-}
-
-/// `offer SESSION STREAM MOMENT ID [--text TEXT] [--fill LEN]`.
-pub fn offer_command<'a>(alloc: Global) -> Result<Command<'a>, AllocError>
-    ensures shape { IfOk result (λ c. app_of c ≡ offer_app) }
-    ensures local { IfOk result (λ c. (fields_of c).has_globals ≡ false) }
-{
-    let command = with_places(alloc, of_stream(alloc, "offer")?, "moment", "id")?;
-    with_options(alloc, command, "text", "fill")
-}
-
-/// `fate SESSION STREAM SERIAL`.
-pub fn fate_command<'a>(alloc: Global) -> Result<Command<'a>, AllocError>
-    ensures shape { IfOk result (λ c. app_of c ≡ fate_app) }
-    ensures local { IfOk result (λ c. (fields_of c).has_globals ≡ false) }
-{
-    of_stream(alloc, "fate")?.arg(place(alloc, "serial"))
-}
-
-/// `schedule SESSION [--every NS] [--size BYTES]`.
-pub fn schedule_command<'a>(alloc: Global) -> Result<Command<'a>, AllocError>
-    ensures shape { IfOk result (λ c. app_of c ≡ schedule_app) }
-    ensures local { IfOk result (λ c. (fields_of c).has_globals ≡ false) }
-{
-    with_options(alloc, of_session(alloc, "schedule")?, "every", "size")
+    let mut command = Command::new(alloc, name);
+    'arguments: for given in arguments {
+        command = command.arg(clap_argument(alloc, given))?;
+    }
+    Ok(command)
 }
 
 /// Both of two values that were to be made.
@@ -148,51 +57,4 @@ pub fn joined<'a>(
 {
     let (command, below) = both(command, below)?;
     command.subcommand(below)
-}
-
-/// The commands that lay a session out.
-fn layout_command<'a>(alloc: Global) -> Result<Command<'a>, AllocError>
-    ensures { IfOk result (λ c. app_of c ≡ layout_app) }
-{
-    let command = joined(Ok(Command::new(alloc, "tracerd")), create_command(alloc));
-    let command = joined(command, channel_command(alloc));
-    joined(command, with_place(alloc, "thread", "channel"))
-}
-
-/// And those that start and stop it, and for its streams while it runs.
-fn running_command<'a>(alloc: Global) -> Result<Command<'a>, AllocError>
-    ensures { IfOk result (λ c. app_of c ≡ running_app) }
-{
-    let command = joined(layout_command(alloc), at_moment(alloc, "start"));
-    let command = joined(command, of_session(alloc, "stop"));
-    let command = joined(command, offer_command(alloc));
-    joined(command, of_stream(alloc, "consume"))
-}
-
-/// And those that rotate it, step by step and in all steps at once.
-fn rotation_command<'a>(alloc: Global) -> Result<Command<'a>, AllocError>
-    ensures { IfOk result (λ c. app_of c ≡ rotation_app) }
-{
-    let command = joined(running_command(alloc), at_moment(alloc, "rotate-begin"));
-    let command = joined(command, of_session(alloc, "rotate-next"));
-    let command = joined(command, of_session(alloc, "rotate-finish"));
-    joined(command, at_moment(alloc, "rotate"))
-}
-
-/// And snapshots, and rotations by a schedule.
-fn schedules_command<'a>(alloc: Global) -> Result<Command<'a>, AllocError>
-    ensures { IfOk result (λ c. app_of c ≡ schedules_app) }
-{
-    let command = joined(rotation_command(alloc), at_moment(alloc, "snapshot"));
-    let command = joined(command, schedule_command(alloc));
-    joined(command, at_moment(alloc, "tick"))
-}
-
-/// The whole command line of a script's line: all these, and the commands that ask.
-pub fn script_command<'a>(alloc: Global) -> Result<Command<'a>, AllocError>
-    ensures { IfOk result (λ c. app_of c ≡ script_app) }
-{
-    let command = joined(schedules_command(alloc), fate_command(alloc));
-    let command = joined(command, of_session(alloc, "status"));
-    joined(command, of_session(alloc, "archives"))
 }

@@ -3,13 +3,12 @@
 ghost use Rattle.std.specs.Prelude.{◌≡◌, ◌≤◌, ◌∷◌, IfOk, IfSome, codes, false, map, option_map, string_bytes};
 ghost use Rattle.std.specs.Vec.Iter.{into_iter_items};
 ghost use Rattle.clap.specs.Words.{app_of, first_of, found_of, rows_of};
-ghost use Rattle.clap.specs.declared.builder.command.Command.TheViews.{out-Command as fields_of};
-ghost use Rattle.tr_command.specs.Invocation.{IsWithinLimits, audit_app, audit_given, count_given, folder_given, folder_named, job_named, job_of, load_app, load_given, program_app, script_given, script_run_app, task_of, words_of};
+ghost use Rattle.tr_command.specs.Invocation.{IsWithinLimits, audit_given, count_given, folder_given, folder_named, job_named, job_of, load_given, program_app, script_given, task_of, words_of};
 
-use crate::arguments::{option, place};
-use crate::command_lines::{joined, with_options};
+use crate::arguments::Argument::{self, Named, Placed};
+use crate::command_lines::{command_of, joined};
+use crate::parsing::matches_of;
 use crate::values::{number_given, text_given};
-use clap::error::ErrorKind;
 use clap::{ArgMatches, Command};
 use std::alloc::{AllocError, Global};
 use std::env::Args;
@@ -42,29 +41,18 @@ pub enum Job<'a> {
 }
 
 /// `script [--out DIR]`.
-fn script_run_command<'a>(alloc: Global) -> Result<Command<'a>, AllocError>
-    ensures shape { IfOk result (λ c. app_of c ≡ script_run_app) }
-    ensures local { IfOk result (λ c. (fields_of c).has_globals ≡ false) }
-{
-    Command::new(alloc, "script").arg(option(alloc, "out"))
-}
+static SCRIPT: [Argument; 1] = [Named("out")];
 
 /// `load --threads T --records R --workers W [--out DIR]`.
-fn load_command<'a>(alloc: Global) -> Result<Command<'a>, AllocError>
-    ensures shape { IfOk result (λ c. app_of c ≡ load_app) }
-    ensures local { IfOk result (λ c. (fields_of c).has_globals ≡ false) }
-{
-    let command = with_options(alloc, Command::new(alloc, "load"), "threads", "records")?;
-    with_options(alloc, command, "workers", "out")
-}
+static LOAD: [Argument; 4] = [
+    Named("threads"),
+    Named("records"),
+    Named("workers"),
+    Named("out"),
+];
 
 /// `audit DIR`.
-fn audit_command<'a>(alloc: Global) -> Result<Command<'a>, AllocError>
-    ensures shape { IfOk result (λ c. app_of c ≡ audit_app) }
-    ensures local { IfOk result (λ c. (fields_of c).has_globals ≡ false) }
-{
-    Command::new(alloc, "audit").arg(place(alloc, "dir"))
-}
+static AUDIT: [Argument; 1] = [Placed("dir")];
 
 /// The whole command line: `tracerd script ..`, `tracerd load ..` and `tracerd audit ..`.
 fn command_line<'a>(alloc: Global) -> Result<Command<'a>, AllocError>
@@ -72,10 +60,10 @@ fn command_line<'a>(alloc: Global) -> Result<Command<'a>, AllocError>
 {
     let command = joined(
         Ok(Command::new(alloc, "tracerd")),
-        script_run_command(alloc),
+        command_of(alloc, "script", &SCRIPT),
     );
-    let command = joined(command, load_command(alloc));
-    joined(command, audit_command(alloc))
+    let command = joined(command, command_of(alloc, "load", &LOAD));
+    joined(command, command_of(alloc, "audit", &AUDIT))
 }
 
 /// The arguments as a list.
@@ -127,14 +115,12 @@ pub fn job_of<'a>(alloc: Global, words: &'a [&'a str]) -> Result<Option<Job<'a>>
     ensures value { IfOk result (λ job. option_map task_of job ≡ job_of (map (λ w. w.now) words.entry.now)) }
     ensures within { IfOk result (λ job. IfSome job IsWithinLimits) }
 {
-    let command = command_line(alloc)?;
-    match command.try_get_matches_from(words) {
-        Ok(matches) => match matches.subcommand() {
-            Some((name, inner)) => Ok(job_named(name, inner)),
-            None => Ok(None),
-        },
-        Err(error) if error.kind() == ErrorKind::OutOfMemory => Err(AllocError),
-        Err(_) => Ok(None),
+    let Some(matches) = matches_of(command_line(alloc)?, words)? else {
+        return Ok(None);
+    };
+    match matches.subcommand() {
+        Some((name, inner)) => Ok(job_named(name, inner)),
+        None => Ok(None),
     }
 }
 

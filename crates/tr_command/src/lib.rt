@@ -7,12 +7,12 @@
 
 mod arguments;
 mod command_lines;
+mod commands;
 mod dispatch;
 mod invocation;
 mod notice;
 mod numbers;
 mod parsing;
-mod readings;
 mod requests;
 mod values;
 

@@ -1,48 +1,49 @@
-use Rattle.std.proofs.Common.{◌∙◌, ◌≡◌, sym, ap, map, List, true≢false, []}
-use Rattle.clap.specs.Words.{App, HasKind, Text, app_of, fault_of, found_of, is_simple, is_simple_and_free, rows_of, subcommand_of, subcommand_rows_of}
+use Rattle.std.proofs.Common.{◌≡◌, ◌∙◌, List, None, ap, map, option_and_then, subst, sym}
+use Rattle.clap.specs.Words.{App, Text, app_of, found_of, rows_of, subcommand_rows_of}
 use Rattle.tr_command.specs.Dispatch.{app_for, command_word}
-use Rattle.tr_command.specs.Language.{asked_from, asked_of}
-use Rattle.tr_command.proofs.CommandLemmas.{asked_from-entered, asked_from-fault, asked_from-none, subcommand_rows_of-entered, subcommand_rows_of-none}
-use Rattle.tr_command.proofs.DispatchLemmas.{asked_from-app_for, app_for-simple}
+use Rattle.tr_command.specs.Language.{IsSimple, entered_by}
+use Rattle.tr_command.proofs.DispatchLemmas.{app_for-simple, asked_of-entered}
 use Rattle.tr_command.proofs.LimitLemmas.{request-moment, request-offset}
+use Rattle.tr_command.proofs.ParseLemmas.{subcommand_rows_of-entered, subcommand_rows_of-none}
 use Rattle.tr_command.proofs.parsing.parse.Goals as goal
 
-pub returns-in-Some-clause-asked : goal.returns-in-Some-clause-asked
-returns-in-Some-clause-asked c =
+pub matches_of-requires : goal.matches_of-requires
+matches_of-requires c =
     let words : List Text = map (λ w. w.now) c.args.words.now in
-    let built : App = app_of c.in_ok-command.command in
-    let shape : built ≡ app_for (command_word words) = c.in_ok-command.ensures ∙ ap app_for c.command_word.ensures in
-    let simple = app_for-simple (command_word words) in
-    let none : fault_of built words ≡ [] = c.in-Ok.ensures.kinds (ap is_simple_and_free shape ∙ simple.1) in
-    let rows : subcommand_rows_of c.in-Ok.matches ≡ subcommand_of built words = (c.in-Ok.ensures.matches (ap is_simple shape ∙ simple.0)).1 in
-    let same : asked_from built words ≡ asked_of words = ap (λ (a : App). asked_from a words) shape ∙ asked_from-app_for words in
-    let entered = subcommand_rows_of-entered c.in-Ok.matches c.in-Some.name.now (rows_of (found_of c.in-Some.inner.now))
-    c.in-Some.ensures.name c.in-Some.ensures.rows in
-    c.request_of.ensures ∙ (asked_from-entered built words _ _ none (entered ∙ rows) ∙ same)
+    let shape : app_of c.in_ok-command.command ≡ app_for (command_word words) = c.in_ok-command.ensures ∙ ap app_for c.command_word.ensures in
+    subst IsSimple (sym shape) (app_for-simple (command_word words))
 
-pub returns-in-Ok-clause-asked : goal.returns-in-Ok-clause-asked
-returns-in-Ok-clause-asked c =
+pub returns-in_default-clause-asked : goal.returns-in_default-clause-asked
+returns-in_default-clause-asked c =
     let words : List Text = map (λ w. w.now) c.args.words.now in
     let built : App = app_of c.in_ok-command.command in
     let shape : built ≡ app_for (command_word words) = c.in_ok-command.ensures ∙ ap app_for c.command_word.ensures in
-    let simple = app_for-simple (command_word words) in
-    let none : fault_of built words ≡ [] = c.in-Ok.ensures.kinds (ap is_simple_and_free shape ∙ simple.1) in
-    let rows : subcommand_rows_of c.in-Ok.matches ≡ subcommand_of built words = (c.in-Ok.ensures.matches (ap is_simple shape ∙ simple.0)).1 in
-    let same : asked_from built words ≡ asked_of words = ap (λ (a : App). asked_from a words) shape ∙ asked_from-app_for words in
-    asked_from-none built words none (subcommand_rows_of-none c.in-Ok.matches c.in-None.ensures.name ∙ rows) ∙ same
+    asked_of-entered built words None shape (ap (option_and_then subcommand_rows_of) (sym c.in_default.is) ∙ c.in_ok-matches.ensures)
+
+pub returns-in-Some-subcommand-clause-asked : goal.returns-in-Some-subcommand-clause-asked
+returns-in-Some-subcommand-clause-asked c =
+    let words : List Text = map (λ w. w.now) c.args.words.now in
+    let built : App = app_of c.in_ok-command.command in
+    let shape : built ≡ app_for (command_word words) = c.in_ok-command.ensures ∙ ap app_for c.command_word.ensures in
+    let read : subcommand_rows_of c.in-Some.matches ≡ entered_by built words =
+    ap (option_and_then subcommand_rows_of) (sym c.in-Some.is) ∙ c.in_ok-matches.ensures in
+    let entered = subcommand_rows_of-entered c.in-Some.matches c.in-Some-subcommand.name.now (rows_of (found_of c.in-Some-subcommand.inner.now))
+    c.in-Some-subcommand.ensures.name c.in-Some-subcommand.ensures.rows in
+    c.request_of.ensures ∙ asked_of-entered built words _ shape (entered ∙ read)
+
+pub returns-in-Some-subcommand-clause-moment : goal.returns-in-Some-subcommand-clause-moment
+returns-in-Some-subcommand-clause-moment c =
+    request-moment c.request_of.result c.in-Some-subcommand.name.now (rows_of (found_of c.in-Some-subcommand.inner.now)) c.request_of.ensures
+
+pub returns-in-Some-subcommand-clause-offset : goal.returns-in-Some-subcommand-clause-offset
+returns-in-Some-subcommand-clause-offset c =
+    request-offset c.request_of.result c.in-Some-subcommand.name.now (rows_of (found_of c.in-Some-subcommand.inner.now)) c.request_of.ensures
 
 pub returns-clause-asked : goal.returns-clause-asked
 returns-clause-asked c =
     let words : List Text = map (λ w. w.now) c.args.words.now in
     let built : App = app_of c.in_ok-command.command in
     let shape : built ≡ app_for (command_word words) = c.in_ok-command.ensures ∙ ap app_for c.command_word.ensures in
-    let simple = app_for-simple (command_word words) in
-    let kinds : HasKind (fault_of built words) c.in-Err.error = c.in-Err.ensures.kinds (ap is_simple_and_free shape ∙ simple.1) in
-    let same : asked_from built words ≡ asked_of words = ap (λ (a : App). asked_from a words) shape ∙ asked_from-app_for words in
-    asked_from-fault built words c.in-Err.error kinds (λ memory. true≢false (sym (rw (c.kind.ensures ∙ memory) at c.if-eq.ensures))) ∙ same
-
-pub returns-in-Some-clause-moment : goal.returns-in-Some-clause-moment
-returns-in-Some-clause-moment c = request-moment c.request_of.result c.in-Some.name.now (rows_of (found_of c.in-Some.inner.now)) c.request_of.ensures
-
-pub returns-in-Some-clause-offset : goal.returns-in-Some-clause-offset
-returns-in-Some-clause-offset c = request-offset c.request_of.result c.in-Some.name.now (rows_of (found_of c.in-Some.inner.now)) c.request_of.ensures
+    let read : subcommand_rows_of c.in-Some.matches ≡ entered_by built words =
+    ap (option_and_then subcommand_rows_of) (sym c.in-Some.is) ∙ c.in_ok-matches.ensures in
+    asked_of-entered built words None shape (subcommand_rows_of-none c.in-Some.matches c.in-None.ensures.name ∙ read)

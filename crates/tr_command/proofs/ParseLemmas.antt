@@ -9,30 +9,22 @@ use Rattle.clap.specs.declared.error.kind.ErrorKind.TheVariants.{OutOfMemory}
 use Rattle.clap.specs.declared.parser.matches.ArgMatches.{ArgMatches}
 use Rattle.clap.specs.declared.parser.matches.ArgMatches.TheViews.{out-ArgMatches, out-SubCommand}
 use Rattle.clap.specs.declared.parser.matches.SubCommand.{SubCommand}
-use Rattle.tr_command.specs.Language.{asked_from, is_free_of_faults}
-use Rattle.tr_command.specs.Reading.{read_command}
+use Rattle.tr_command.specs.Language.{entered_by, is_free_of_faults}
 
 is_free_of_faults-among : (k : ErrorKind) (kinds : Kinds) → IsAmong k kinds → is_free_of_faults kinds ≡ false
 is_free_of_faults-among k [] h = absurd h
 is_free_of_faults-among k (x ∷ kinds) h = refl
 
--- an error for another cause than memory is a bad line
-pub asked_from-fault : (app : App) (words : List Text) (e : Error) → HasKind (fault_of app words) e
-    → kind_of e ≢ OutOfMemory → None ≡ asked_from app words
-unfolding asked_from
-asked_from-fault app words e (inl memory) other = absurd (other memory)
-asked_from-fault app words e (inr among) other = rw (is_free_of_faults-among (kind_of e) (fault_of app words) among) refl
+-- words with an error for another cause than memory enter nothing
+pub entered_by-fault : (app : App) (words : List Text) (e : Error) → HasKind (fault_of app words) e
+    → kind_of e ≢ OutOfMemory → None ≡ entered_by app words
+entered_by-fault app words e (inl memory) other = absurd (other memory)
+entered_by-fault app words e (inr among) other = rw (is_free_of_faults-among (kind_of e) (fault_of app words) among) refl
 
--- a parse that entered a command asks what that one says
-pub asked_from-entered : (app : App) (words : List Text) (name : Text) (rows : List Row) → fault_of app words ≡ []
-    → Some (name, rows) ≡ subcommand_of app words → read_command name rows ≡ asked_from app words
-unfolding asked_from
-asked_from-entered app words name rows none entered = rw (none, ← entered) refl
-
--- one that entered none is a bad line
-pub asked_from-none : (app : App) (words : List Text) → fault_of app words ≡ [] → None ≡ subcommand_of app words → None ≡ asked_from app words
-unfolding asked_from
-asked_from-none app words none entered = rw (none, ← entered) refl
+-- words without a fault enter what a parse entered
+pub entered_by-free : (app : App) (words : List Text) (entered : Option (Text × List Row)) → fault_of app words ≡ []
+    → entered ≡ subcommand_of app words → entered ≡ entered_by app words
+entered_by-free app words entered none is = rw none is
 
 module _ {Z : Type 0} where
   rows-entered : (o : Option (Box SubCommand Z)) (name : Text) (rows : List Row)

@@ -1,0 +1,9 @@
+use Rattle.std.proofs.Common.{◌≡◌, codes, fold, map, take}
+use Rattle.clap.specs.Words.{app_of, new_app}
+use Rattle.tr_command.specs.Asked.{command_in}
+use Rattle.tr_command.specs.Dispatch.{with_command}
+use Rattle.tr_command.proofs.dispatch.script_command.Given as goal
+
+-- the command line with the first of the commands
+abbrev pub invariant-commands : goal.invariant-commands
+invariant-commands l = app_of l.program ≡ fold with_command (new_app (codes "tracerd")) (map command_in (take l.row-index l.row-items))
