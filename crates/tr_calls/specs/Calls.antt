@@ -13,7 +13,7 @@ use Rattle.tr_outcome.specs.declared.ticks.TickTold.TheVariants as told
 use Rattle.tr_schedule.specs.Schedules.{ScheduleState, schedule_of}
 use Rattle.tr_schedule.specs.declared.faults.ScheduleFault.{ScheduleFault}
 use Rattle.tr_session.specs.Session.{SessionOf}
-use Rattle.tr_session.specs.Steps.{IsHeldUp, session_add_channel}
+use Rattle.tr_session.specs.Steps.{IsClearedSome, IsHeldUp, session_add_channel}
 use Rattle.tr_session.specs.declared.faults.StepFault.{StepFault}
 use Rattle.tr_session.specs.declared.ticks.Ticked.{Ticked}
 use Rattle.tr_session.specs.declared.ticks.Ticked.TheVariants as ticked
@@ -87,6 +87,14 @@ pub record IsHeldUpNamed {S : Type 0} (rules : StreamRules S) (name : Text) (mom
     pub found : session_named name w ≡ Some before
     pub held_up : IsHeldUp rules moment before after
     pub is : new ≡ with_session name w after
+
+-- and what a clear of it leaves
+pub record IsClearedSomeNamed {S : Type 0} (rules : StreamRules S) (name : Text) (w new : World S) : Type 0 where
+  pub before : SessionOf S
+  pub after : SessionOf S
+  pub found : session_named name w ≡ Some before
+  pub cleared : IsClearedSome rules before after
+  pub is : new ≡ with_session name w after
 
 abbrev pub world_with : {S : Type 0} → Text → World S → Result (SessionOf S) SessionFault → Result (World S) LineFault
 world_with name w (Ok s) = Ok (with_session name w s)

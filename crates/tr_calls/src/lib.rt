@@ -3,11 +3,13 @@
 //! unless an allocation fails.
 #![tactic(auto)]
 
+mod clears;
 mod rotations;
 mod schedules;
 mod sessions;
 mod snapshots;
 
+pub use clears::clear_named;
 pub use rotations::{rotate_begin_named, rotate_finish_named, rotate_named, rotate_next_named};
 pub use schedules::{schedule_named, tick_named};
 pub use sessions::{

@@ -9,7 +9,7 @@ use tr_session::StepFault;
 use tr_session_book::SessionFault;
 
 /// Why a line is refused: by the console, by a session, or by a stream. Nothing changed, except that a rotation whose
-/// allocation failed may be pending.
+/// allocation failed may be pending, and that of a clear whose allocation failed the first streams may be cleared.
 #[derive(Clone, Copy, Debug, PartialEq, Eq, Error)]
 pub enum LineFault {
     /// There is no session of this name.

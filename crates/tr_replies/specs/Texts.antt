@@ -1,6 +1,6 @@
 -- The texts of answers, without their last newline; but in `archives_text` each line has its newline.
 use Rattle.std.specs.Fmt.{decimal}
-use Rattle.std.specs.Prelude.{ℕ, ℤ, ◌+◌, ◌-◌, List, [], ◌∷◌, ◌++◌, length, slice_get, replicate, codes, Option, Some, None, Result, Ok, Err}
+use Rattle.std.specs.Prelude.{ℕ, ℤ, ◌+◌, ◌-◌, ◌==◌, if◌then◌else◌, List, [], ◌∷◌, ◌++◌, length, slice_get, replicate, codes, Option, Some, None, Result, Ok, Err}
 use Rattle.tr_book.specs.Snaps.{SnapState}
 use Rattle.tr_book.specs.declared.counts.Counts.{Counts}
 use Rattle.tr_chunk.specs.ArchiveName.{archive_name_text}
@@ -15,7 +15,7 @@ use Rattle.tr_record.specs.Records.{Entry}
 use Rattle.tr_schedule.specs.Due.{cause_word}
 use Rattle.tr_schedule.specs.Schedules.{ScheduleState}
 use Rattle.tr_session.specs.Session.{SessionOf}
-use Rattle.tr_session.specs.Sizes.{archive_packets, archive_bytes}
+use Rattle.tr_session.specs.Sizes.{all_cleared, archive_packets, archive_bytes}
 use Rattle.tr_session.specs.declared.rotation.Next.{Next}
 use Rattle.tr_session.specs.declared.rotation.Next.TheVariants as next
 use Rattle.tr_session_book.specs.Book.{SessionBookState}
@@ -60,6 +60,10 @@ offered_text (Discarded serial) = codes "discarded " ++ decimal serial
 abbrev pub taken_text : Taken → Text
 taken_text taken = codes "taken " ++ (decimal taken.seq ++
     (codes " records " ++ (decimal taken.count ++ (codes " chunk " ++ decimal taken.chunk))))
+
+-- how many records a clear removed
+abbrev pub cleared_text : ℕ → Text
+cleared_text records = codes "cleared " ++ decimal records
 
 -- what became of an offer; none: there was no such offer yet
 abbrev pub fate_text : Option Fate → Text
@@ -164,19 +168,24 @@ abbrev pub pending_text : Option Pending → Text
 pending_text None = []
 pending_text (Some pending) = codes " pending " ++ decimal pending.archive.id
 
+-- how many records were cleared, if any were
+abbrev pub status_cleared : ℕ → Text
+status_cleared records = if records == 0 then [] else codes " cleared " ++ decimal records
+
 -- how many channels, streams and archives there are
 abbrev pub sizes_text : SessionBookState → Text
 sizes_text b =
     codes " channels " ++ (decimal (length b.channels) ++ (codes " streams "
     ++ (decimal (length b.threads) ++ (codes " archives " ++ decimal (length b.archives)))))
 
--- what is said of the session as a whole
-abbrev pub status_line : Text → SessionBookState → Text
-status_line name b = codes "session " ++ (name ++ (32 ∷ (mode_text b.mode
-    ++ (32 ∷ (state_text b.state ++ (sizes_text b ++ pending_text b.pending))))))
+-- what is said of the session as a whole, of which this number of records was cleared
+abbrev pub status_line : Text → SessionBookState → ℕ → Text
+status_line name b cleared = codes "session " ++ (name ++ (32 ∷ (mode_text b.mode
+    ++ (32 ∷ (state_text b.state ++ (sizes_text b ++ (pending_text b.pending ++ status_cleared cleared)))))))
 
 abbrev pub status_text : {S : Type 0} → StreamRules S → Text → SessionOf S → Text
-status_text rules name s = status_line name s.book ++ (10 ∷ (status_head ++ status_rows rules 0 s.streams))
+status_text rules name s =
+    status_line name s.book (all_cleared rules s) ++ (10 ∷ (status_head ++ status_rows rules 0 s.streams))
 
 -- the line of an archive: how many packets it holds over all streams, and how many bytes
 abbrev pub archive_line : {S : Type 0} → StreamRules S → SessionOf S → Archive → Text

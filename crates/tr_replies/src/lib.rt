@@ -11,7 +11,8 @@ mod status;
 
 pub use archives::archives_of;
 pub use replies::{
-    Reply, bad_line, done_reply, fate_reply, offered_reply, refusal, skipped, taken_reply,
+    Reply, bad_line, cleared_reply, done_reply, fate_reply, offered_reply, refusal, skipped,
+    taken_reply,
 };
 pub use rotations::{archived_reply, next_reply, rotating_reply};
 pub use schedules::{schedule_reply, tick_reply};

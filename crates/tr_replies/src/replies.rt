@@ -3,7 +3,7 @@
 ghost use Rattle.std.specs.Prelude.{◌≡◌, ◌∷◌, ◌++◌, [], true, false, Some, Ok, Err, IfOk, OnOk, codes, is_err};
 ghost use Rattle.std.specs.String.{string_bytes};
 ghost use Rattle.tr_outcome.specs.Faults.{HasMemory, wants_memory};
-ghost use Rattle.tr_replies.specs.Texts.{fate_text, line_of, offered_text, refusal_text, taken_text};
+ghost use Rattle.tr_replies.specs.Texts.{cleared_text, fate_text, line_of, offered_text, refusal_text, taken_text};
 
 use std::alloc::{AllocError, Allocator, Global};
 use tr_outcome::LineFault;
@@ -142,6 +142,24 @@ pub fn taken_reply<A: Allocator + Copy>(
     match answer {
         Ok(Taken { seq, count, chunk }) => {
             let text = format!(in alloc; "taken {seq} records {count} chunk {chunk}\n")?;
+            Ok(Reply::done(text))
+        }
+        Err(fault) => refusal(alloc, fault),
+    }
+}
+
+/// The answer to a clear. If an allocation failed there is none.
+pub fn cleared_reply<A: Allocator + Copy>(
+    alloc: A,
+    answer: Result<u128, LineFault>,
+) -> Result<Reply<A>, AllocError>
+    ensures text { IfOk result (λ r. string_bytes r.text ≡ line_of cleared_text answer ++ 10 ∷ []) }
+    ensures refused { IfOk result (λ r. r.is_refused ≡ is_err answer) }
+    ensures memory { OnOk result (HasMemory answer) }
+{
+    match answer {
+        Ok(records) => {
+            let text = format!(in alloc; "cleared {records}\n")?;
             Ok(Reply::done(text))
         }
         Err(fault) => refusal(alloc, fault),

@@ -2,7 +2,7 @@
 
 ghost use Rattle.std.specs.Prelude.{◌≡◌, ◌∷◌, ◌++◌, OnOk, IfOk, codes};
 ghost use Rattle.std.specs.String.{string_bytes};
-ghost use Rattle.tr_replies.specs.Texts.{mode_text, pending_text, right_aligned, sizes_text, state_text, status_line, status_row, status_text};
+ghost use Rattle.tr_replies.specs.Texts.{mode_text, pending_text, right_aligned, sizes_text, state_text, status_cleared, status_line, status_row, status_text};
 ghost use Rattle.tr_stream.specs.Rules.{by_state};
 
 use std::alloc::{AllocError, Allocator};
@@ -85,17 +85,32 @@ fn push_pending<A: Allocator>(
     }
 }
 
-/// What is said of the session as a whole.
+/// Adds how many records were cleared, if any were.
+fn push_cleared<A: Allocator>(text: &mut String<A>, records: u128) -> Result<(), AllocError>
+    ensures { OnOk result (string_bytes text.new ≡ string_bytes text.old ++ status_cleared records) }
+{
+    if records == 0 {
+        return Ok(());
+    }
+    match write!(text, " cleared {records}") {
+        Ok(()) => Ok(()),
+        Err(_) => Err(AllocError),
+    }
+}
+
+/// What is said of the session as a whole, of which this number of records was cleared.
 fn session_line<A: Allocator + Copy>(
     alloc: A,
     name: &str,
     book: &SessionBook<A>,
+    cleared: u128,
 ) -> Result<String<A>, AllocError>
-    ensures { IfOk result (λ s. string_bytes s ≡ status_line name.now book.now) }
+    ensures { IfOk result (λ s. string_bytes s ≡ status_line name.now book.now cleared) }
 {
     let mut text = session_head(alloc, name, book)?;
     push_sizes(&mut text, book)?;
     push_pending(&mut text, book.pending())?;
+    push_cleared(&mut text, cleared)?;
     Ok(text)
 }
 
@@ -144,7 +159,7 @@ pub fn status_of<A: Allocator + Copy>(
 ) -> Result<String<A>, AllocError>
     ensures { IfOk result (λ s. string_bytes s ≡ status_text by_state name.now session.now) }
 {
-    let mut text = session_line(alloc, name, session.book())?;
+    let mut text = session_line(alloc, name, session.book(), session.cleared())?;
     text.push_str("\n")?;
     text.push_str(HEAD)?;
     'rows: for i in 0..session.streams() {
