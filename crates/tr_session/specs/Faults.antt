@@ -45,6 +45,7 @@ abbrev pub answer_wants_memory : {A : Type 0} → Answer A → Bool
 answer_wants_memory (answer.Offer result) = step_refused_memory result
 answer_wants_memory (answer.Take result) = step_refused_memory result
 answer_wants_memory (answer.Cut result) = step_refused_memory result
+answer_wants_memory (answer.Clear result) = session_refused_memory result
 answer_wants_memory (answer.Snap result) = session_refused_memory result
 answer_wants_memory (answer.Start result) = session_refused_memory result
 answer_wants_memory (answer.Stop result) = session_refused_memory result

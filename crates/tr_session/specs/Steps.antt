@@ -1,17 +1,18 @@
 -- What the calls of a session answer, and what they do to its book and its streams.
-use Rattle.std.specs.Prelude.{◌≡◌, ◌≢◌, ◌<◌, ◌⊎◌, ℕ, max, Bool, true, false, nat_lt, List, [], ◌∷◌, ◌++◌, zero, suc, length, map, Option, Some, None, Result, Ok, Err, slice_get, if◌then◌else◌}
+use Rattle.std.specs.Prelude.{◌≡◌, ◌≢◌, ◌<◌, ◌+◌, ◌⊎◌, ℕ, max, Bool, true, false, nat_lt, List, [], ◌∷◌, ◌++◌, zero, suc, length, map, take, drop, Option, Some, None, Result, Ok, Err, slice_get, if◌then◌else◌}
+use Rattle.std.specs.List.{sum_by}
 use Rattle.std.specs.Option.{option_map_or}
 use Rattle.tr_book.specs.Snaps.{SnapState}
 use Rattle.tr_terms.specs.declared.mode.Mode.{Mode}
 use Rattle.tr_schedule.specs.declared.cause.Cause.{Cause}
 use Rattle.tr_session_book.specs.Book.{SessionBookState}
-use Rattle.tr_session_book.specs.BookSteps.{unless_refused, channel_named, book_add_channel, thread_place, with_thread, book_start_answer, book_after_start, book_stop_answer, book_after_stop, book_switch_answer, book_rotate_begin_answer, archive_ended, with_pending, book_after_rotate_begin, cut_moment, with_cut, book_rotate_finish_answer, book_after_rotate_finish, book_snapshot_begin_answer, book_after_snapshot_begin, snap_allowed, due_now}
+use Rattle.tr_session_book.specs.BookSteps.{unless_refused, channel_named, book_add_channel, thread_place, with_thread, book_start_answer, book_after_start, book_stop_answer, book_after_stop, book_switch_answer, book_rotate_begin_answer, archive_ended, with_pending, book_after_rotate_begin, cut_moment, with_cut, book_rotate_finish_answer, book_after_rotate_finish, book_snapshot_begin_answer, book_after_snapshot_begin, snap_allowed, book_clear_answer, clear_allowed_at, due_now}
 use Rattle.tr_session.specs.Session.{SessionOf, session_of}
 use Rattle.tr_session_book.specs.declared.archive.Archive.{Archive}
 use Rattle.tr_session_book.specs.declared.archive.Pending.{Pending}
 use Rattle.tr_session_book.specs.declared.channel.Channel.{Channel}
 use Rattle.tr_session_book.specs.declared.faults.SessionFault.{SessionFault}
-use Rattle.tr_session_book.specs.declared.faults.SessionFault.TheVariants.{NoStream, NoChannel, NotPending}
+use Rattle.tr_session_book.specs.declared.faults.SessionFault.TheVariants.{SnapshotMode, NoStream, NoChannel, NoMemory, NotPending}
 use Rattle.tr_session.specs.declared.faults.StepFault.{StepFault}
 use Rattle.tr_session.specs.declared.faults.StepFault.TheVariants.{Session, Offer, Take, Cut}
 use Rattle.tr_session.specs.declared.rotation.Next.{Next}
@@ -20,6 +21,9 @@ use Rattle.tr_session.specs.declared.ticks.Ticked.{Ticked}
 use Rattle.tr_session.specs.declared.ticks.Ticked.TheVariants as ticked
 use Rattle.tr_snapshot.specs.Snapshots.{SnapshotState, snapshot_state}
 use Rattle.tr_stream.specs.Rules.{StreamRules}
+use Rattle.tr_stream.specs.declared.answers.ClearFault.{ClearFault}
+use Rattle.tr_stream.specs.declared.answers.ClearFault.TheVariants as clear_fault
+use Rattle.tr_stream.specs.declared.answers.Cleared.{Cleared}
 use Rattle.tr_stream.specs.declared.answers.CutDone.{CutDone}
 use Rattle.tr_stream.specs.declared.answers.CutFault.{CutFault}
 use Rattle.tr_stream.specs.declared.answers.OfferFault.{OfferFault}
@@ -134,6 +138,32 @@ abbrev pub ShowsPackets : Result SnapState SessionFault → Type 0
 ShowsPackets (Ok snap) = snap.packets ≢ []
 ShowsPackets (Err fault) = ⊥
 
+-- what a stream answers to a clear, as a session answers it
+abbrev pub clear_as_session : Result Cleared ClearFault → Result Cleared SessionFault
+clear_as_session (Ok cleared) = Ok cleared
+clear_as_session (Err clear_fault.SnapshotMode) = Err SnapshotMode
+clear_as_session (Err clear_fault.NoMemory) = Err NoMemory
+
+-- what is answered if the session allows it
+abbrev pub if_allowed : {R : Type 0} → Result Unit SessionFault → Result R SessionFault → Result R SessionFault
+if_allowed (Ok done) answer = answer
+if_allowed (Err fault) answer = Err fault
+
+-- a clear of stream i, which leaves the book as it is
+abbrev pub session_clear_answer : {S : Type 0} → StreamRules S → ℕ → SessionOf S → Result Cleared SessionFault
+session_clear_answer rules i s =
+    if_allowed (clear_allowed_at i s.book)
+    (option_map_or (λ t. clear_as_session (rules.clear_answer t)) (slice_get s.streams i) (Err NoStream))
+
+abbrev pub session_after_clear : {S : Type 0} → StreamRules S → ℕ → SessionOf S → SessionOf S
+session_after_clear rules i s =
+    unless_refused (clear_allowed_at i s.book) (record s { streams = change_at i rules.after_clear s.streams }) s
+
+-- the answer of a clear that finds packets
+abbrev pub ClearsPackets : Result Cleared SessionFault → Type 0
+ClearsPackets (Ok cleared) = cleared.packets ≢ 0
+ClearsPackets (Err fault) = ⊥
+
 -- stream i takes offers from now on, or takes none
 abbrev pub session_after_switch : {S : Type 0} → StreamRules S → Bool → ℕ → SessionOf S → SessionOf S
 session_after_switch rules active i s =
@@ -224,6 +254,53 @@ pub record IsCutSome {S : Type 0} (rules : StreamRules S) (s t : SessionOf S) : 
 -- what a rotation leaves after a failed allocation: what was before, or itself pending with some of its cuts
 abbrev pub IsHeldUp : {S : Type 0} → StreamRules S → ℕ → SessionOf S → SessionOf S → Type 0
 IsHeldUp rules moment s t = (t ≡ s) ⊎ IsCutSome rules (session_after_rotate_begin moment s) t
+
+-- ---- clears
+
+-- the first streams, this many, are cleared one after another
+abbrev pub clear_first : {S : Type 0} → StreamRules S → ℕ → SessionOf S → SessionOf S
+clear_first rules zero s = s
+clear_first rules (suc n) s = session_after_clear rules n (clear_first rules n s)
+
+abbrev pub and_records : Result ℕ SessionFault → Result Cleared SessionFault → Result ℕ SessionFault
+and_records (Ok records) (Ok cleared) = Ok (records + cleared.records)
+and_records (Ok records) (Err fault) = Err fault
+and_records (Err fault) next = Err fault
+
+-- how many records that clears, or the first refusal
+abbrev pub clear_first_answer : {S : Type 0} → StreamRules S → ℕ → SessionOf S → Result ℕ SessionFault
+clear_first_answer rules zero s = Ok 0
+clear_first_answer rules (suc n) s =
+    and_records (clear_first_answer rules n s) (session_clear_answer rules n (clear_first rules n s))
+
+-- a whole clear: each stream is cleared, if the session allows it
+abbrev pub session_clear_all_answer : {S : Type 0} → StreamRules S → SessionOf S → Result ℕ SessionFault
+session_clear_all_answer rules s =
+    if_allowed (book_clear_answer s.book) (clear_first_answer rules (length s.streams) s)
+
+abbrev pub session_after_clear_all : {S : Type 0} → StreamRules S → SessionOf S → SessionOf S
+session_after_clear_all rules s =
+    unless_refused (book_clear_answer s.book) (clear_first rules (length s.streams) s) s
+
+-- the records that a stream's clear takes away
+abbrev pub records_cleared : Result Cleared ClearFault → ℕ
+records_cleared (Ok cleared) = cleared.records
+records_cleared (Err fault) = 0
+
+-- what a whole clear comes to: the records of all streams, and each stream cleared in the same book
+abbrev pub cleared_in_all : {S : Type 0} → StreamRules S → SessionOf S → ℕ
+cleared_in_all rules s = sum_by (λ t. records_cleared (rules.clear_answer t)) s.streams
+
+-- the first streams, this many, are cleared, and the others are as they were
+abbrev pub with_first_cleared : {S : Type 0} → StreamRules S → ℕ → SessionOf S → SessionOf S
+with_first_cleared rules n s = record s { streams = map rules.after_clear (take n s.streams) ++ drop n s.streams }
+
+-- what a clear leaves after a failed allocation: the streams before one that has packets are cleared, and nothing else
+pub record IsClearedSome {S : Type 0} (rules : StreamRules S) (s t : SessionOf S) : Type 0 where
+  pub clears : ℕ
+  pub within : clears < length s.streams
+  pub is : t ≡ with_first_cleared rules clears s
+  pub next : ClearsPackets (session_clear_answer rules clears s)
 
 -- ---- snapshots
 

@@ -7,7 +7,7 @@ use crate::faults::StepFault;
 use std::alloc::{Allocator, Global};
 use tr_book::StreamSnap;
 use tr_session_book::{Archive, SessionFault};
-use tr_stream::{CutDone, Offered, Payload, Taken};
+use tr_stream::{Cleared, CutDone, Offered, Payload, Taken};
 use tr_terms::Moment;
 
 /// What is done to one stream of a session, by its number, or to the session itself.
@@ -19,6 +19,8 @@ pub enum Event<A: Allocator = Global> {
     Take(u64),
     /// The pending rotation cuts a stream.
     Cut(u64),
+    /// A stream is cleared.
+    Clear(u64),
     /// A stream of a snapshot session is shown at a moment.
     Snap(u64, Moment),
     /// A stream of an active session takes offers from now on.
@@ -44,6 +46,8 @@ pub enum Answer<A: Allocator = Global> {
     Take(Result<Taken, StepFault>),
     /// The answer to a cut.
     Cut(Result<CutDone, StepFault>),
+    /// The answer to a clear of a stream.
+    Clear(Result<Cleared, SessionFault>),
     /// The answer to a snap of a stream.
     Snap(Result<StreamSnap<A>, SessionFault>),
     /// The answer to the start of a stream.
@@ -69,6 +73,7 @@ impl<A: Allocator> Answer<A> {
             Answer::Offer(Err(fault)) => fault.wants_memory(),
             Answer::Take(Err(fault)) => fault.wants_memory(),
             Answer::Cut(Err(fault)) => fault.wants_memory(),
+            Answer::Clear(Err(fault)) => fault.wants_memory(),
             Answer::Snap(Err(fault)) => fault.wants_memory(),
             Answer::Start(Err(fault)) => fault.wants_memory(),
             Answer::Stop(Err(fault)) => fault.wants_memory(),

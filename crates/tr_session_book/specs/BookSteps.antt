@@ -261,6 +261,23 @@ book_after_snapshot_begin moment b = unless_refused (snapshot_allowed b) (record
 abbrev pub snap_allowed : ℕ → SessionBookState → Result Unit SessionFault
 snap_allowed i b = if nat_lt i (length b.threads) then snapshot_allowed b else Err NoStream
 
+-- ---- clears
+
+-- whether the streams of a local session can be cleared: it was started once, and no rotation is pending
+abbrev pub local_clear : SessionBookState → Result Unit SessionFault
+local_clear b =
+    if is_new b.state then Err NeverStarted
+    else (if is_some b.pending then Err RotationPending
+    else Ok tt)
+
+-- a snapshot session isn't cleared
+abbrev pub book_clear_answer : SessionBookState → Result Unit SessionFault
+book_clear_answer b = by_session_mode b.mode (local_clear b) (Err SnapshotMode)
+
+-- whether stream i can be cleared
+abbrev pub clear_allowed_at : ℕ → SessionBookState → Result Unit SessionFault
+clear_allowed_at i b = if nat_lt i (length b.threads) then book_clear_answer b else Err NoStream
+
 -- ---- schedules
 
 -- a snapshot session has no schedule

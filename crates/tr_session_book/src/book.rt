@@ -18,6 +18,7 @@ use tr_terms::limits::{MOST_CHANNELS, MOST_STREAMS};
 use tr_terms::{Geometry, Mode, Moment, Name, OffsetMinutes, SessionMode};
 use uuid::Uuid;
 
+mod clears;
 mod readers;
 mod schedules;
 mod snapshots;
