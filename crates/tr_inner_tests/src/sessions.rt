@@ -2,6 +2,7 @@
 
 mod audits;
 mod channels;
+mod clears;
 mod rotations;
 mod runs;
 mod snapshots;
@@ -14,7 +15,7 @@ use std::process::Abort;
 use tr_schedule::{Cause, Schedule};
 use tr_session::{Next, Session, StepFault, Ticked};
 use tr_session_book::{Archive, SessionFault, State};
-use tr_stream::{CutDone, Fate, Offered, Taken};
+use tr_stream::{Cleared, CutDone, Fate, Offered, Taken};
 use tr_terms::{Mode, Name, OffsetMinutes, SessionMode};
 use tr_testing::moment;
 use uuid::Uuid;
@@ -51,6 +52,12 @@ enum Step {
     Cut(u64, Result<CutDone, StepFault>),
     /// The end of a rotation.
     Finish(Result<Row, SessionFault>),
+    /// A clear of a stream.
+    Clear(u64, Result<Cleared, SessionFault>),
+    /// A clear of the session, and how many records it answers.
+    ClearAll(Result<u128, SessionFault>),
+    /// How many of a stream's records are cleared, and how many are in its chunks.
+    Kept(u64, (u64, u64)),
     /// A tick at this moment, and the rotation that it made.
     Tick(u64, Option<(Cause, Row)>),
     /// A snapshot at this moment.
@@ -154,6 +161,12 @@ fn assert_rotation_step<A: Allocator + Copy>(
         Step::Next(want) => assert_at(rt, place, session.rotate_next(), want),
         Step::Cut(i, want) => assert_at(rt, place, session.cut(i), want),
         Step::Finish(want) => assert_at(rt, place, row(session.rotate_finish()), want),
+        Step::Clear(i, want) => assert_at(rt, place, session.clear_stream(i), want),
+        Step::ClearAll(want) => assert_at(rt, place, session.clear(), want),
+        Step::Kept(i, want) => {
+            let counts = session.stream(i).expect(rt, "a stream").counts();
+            assert_at(rt, place, (counts.cleared, counts.in_chunks), want);
+        }
         Step::Tick(at, want) => assert_at(rt, place, ticked(session.tick(moment(at))), Ok(want)),
         Step::Fate(i, serial, want) => assert_at(rt, place, session.fate_of(i, serial), want),
         Step::Last(at) => assert_at(rt, place, session.book().last().get(), at),

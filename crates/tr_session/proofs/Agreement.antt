@@ -65,7 +65,7 @@ all-turned active [] (t ∷ ts) agree = absurd agree
 all-turned active (s ∷ ss) [] agree = absurd agree
 all-turned active (s ∷ ss) (t ∷ ts) agree = (agree-turned s t active agree.0, all-turned active ss ts agree.1)
 
-all-changed : (i : ℕ) (f : StreamState → StreamState) (g : Traced → Traced) (ss : List StreamState) (ts : List Traced)
+pub all-changed : (i : ℕ) (f : StreamState → StreamState) (g : Traced → Traced) (ss : List StreamState) (ts : List Traced)
     → ((s : StreamState) (t : Traced) → Agrees s t → Agrees (f s) (g t)) → AllAgree ss ts
     → AllAgree (change_at i f ss) (change_at i g ts)
 all-changed i f g [] [] step agree = tt
@@ -75,7 +75,7 @@ all-changed zero f g (s ∷ ss) (t ∷ ts) step agree = (step s t agree.0, agree
 all-changed (suc i) f g (s ∷ ss) (t ∷ ts) step agree = (agree.0, all-changed i f g ss ts step agree.1)
 
 -- what is asked of the stream of a number
-same-at : {X : Type 0} (i : ℕ) (f : StreamState → X) (g : Traced → X) (x : X) (ss : List StreamState) (ts : List Traced)
+pub same-at : {X : Type 0} (i : ℕ) (f : StreamState → X) (g : Traced → X) (x : X) (ss : List StreamState) (ts : List Traced)
     → ((s : StreamState) (t : Traced) → Agrees s t → f s ≡ g t) → AllAgree ss ts
     → option_map_or f (slice_get ss i) x ≡ option_map_or g (slice_get ts i) x
 same-at i f g x [] [] same agree = refl
@@ -84,7 +84,7 @@ same-at i f g x (s ∷ ss) [] same agree = absurd agree
 same-at zero f g x (s ∷ ss) (t ∷ ts) same agree = same s t agree.0
 same-at (suc i) f g x (s ∷ ss) (t ∷ ts) same agree = same-at i f g x ss ts same agree.1
 
-same-sum : (f : StreamState → ℕ) (g : Traced → ℕ) (ss : List StreamState) (ts : List Traced)
+pub same-sum : (f : StreamState → ℕ) (g : Traced → ℕ) (ss : List StreamState) (ts : List Traced)
     → ((s : StreamState) (t : Traced) → Agrees s t → f s ≡ g t) → AllAgree ss ts → sum_by f ss ≡ sum_by g ts
 same-sum f g [] [] same agree = refl
 same-sum f g [] (t ∷ ts) same agree = absurd agree
@@ -186,7 +186,7 @@ module _ (a : SessionOf StreamState) (b : SessionOf Traced) (is : SessionsAgree 
   -- ---- the session's calls
 
   -- a step that only the book may refuse
-  agree-unless : {R : Type 0} (r : Result R SessionFault) (q : Result R SessionFault) (c : SessionOf StreamState)
+  pub agree-unless : {R : Type 0} (r : Result R SessionFault) (q : Result R SessionFault) (c : SessionOf StreamState)
       (d : SessionOf Traced) → r ≡ q → SessionsAgree c d → SessionsAgree (unless_refused r c a) (unless_refused q d b)
   agree-unless {R = R} (Ok x) q c d same agree = subst (λ (p : Result R SessionFault). SessionsAgree c (unless_refused p d b)) same agree
   agree-unless {R = R} (Err f) q c d same agree = subst (λ (p : Result R SessionFault). SessionsAgree a (unless_refused p d b)) same is

@@ -1,6 +1,8 @@
 pub mod Agreement
 pub mod AuditLaws
 pub mod CallLaws
+pub mod ClearAgreement
+pub mod ClearLaws
 pub mod FrontLaws
 pub mod GapLaws
 pub mod ListLaws

@@ -34,7 +34,7 @@ module _ {X : Type 0} where
   abbrev pub changed_before : ℕ → (X → X) → List X → List X
   changed_before i f xs = map f (take i xs) ++ drop i xs
 
-  changed-next : (f : X → X) (i : ℕ) (xs : List X) → i < length xs → change_at i f (changed_before i f xs) ≡ changed_before (suc i) f xs
+  pub changed-next : (f : X → X) (i : ℕ) (xs : List X) → i < length xs → change_at i f (changed_before i f xs) ≡ changed_before (suc i) f xs
   changed-next f i [] within = absurd (omega (arith, within))
   changed-next f zero (x ∷ xs) within = refl
   changed-next f (suc i) (x ∷ xs) within = ap (λ (ys : List X). f x ∷ ys) (changed-next f i xs (omega (arith, within)))

@@ -4,12 +4,12 @@ use Rattle.std.proofs.lemmas.Bool.Decides.{nat_tests}
 use Rattle.std.proofs.lemmas.Grind.{common_steps}
 use Rattle.std.specs.Prelude.{◌==◌, if◌then◌else◌, option_map, slice_get}
 use Rattle.tr_session_book.specs.Book.{SessionBookState}
-use Rattle.tr_session_book.specs.BookSteps.{unless_refused, cut_moment, book_switch_answer, with_cut, snap_allowed}
+use Rattle.tr_session_book.specs.BookSteps.{unless_refused, cut_moment, book_switch_answer, with_cut, snap_allowed, clear_allowed_at}
 use Rattle.tr_session.specs.Events.{session_after_event, session_after_events, book_after_event, cut_let_through, is_of, let_through, own_steps}
 use Rattle.tr_session.specs.Session.{SessionOf}
 use Rattle.tr_session.specs.Steps.{after_cut_if_due, change_at}
 use Rattle.tr_session.specs.declared.events.Event.{Event}
-use Rattle.tr_session.specs.declared.events.Event.TheVariants.{Offer, Take, Cut, Snap, Start, Stop, SessionStart, SessionStop, RotateBegin, RotateFinish}
+use Rattle.tr_session.specs.declared.events.Event.TheVariants.{Offer, Take, Cut, Clear, Snap, Start, Stop, SessionStart, SessionStop, RotateBegin, RotateFinish}
 use Rattle.tr_session_book.specs.declared.faults.SessionFault.{SessionFault}
 use Rattle.tr_stream.specs.History.{History}
 use Rattle.tr_stream.specs.Rules.{Traced, by_history}
@@ -31,10 +31,10 @@ book-cut : (due : Result ℕ SessionFault) (i : ℕ) (s : SessionOf Traced)
 book-cut (Ok moment) i s = refl
 book-cut (Err fault) i s = refl
 
-book-switch : (r : Result Unit SessionFault) (s : SessionOf Traced) (ts : List Traced)
+book-unless : (r : Result Unit SessionFault) (s : SessionOf Traced) (ts : List Traced)
     → (unless_refused r (let u : SessionOf Traced = record s { streams = ts } in u) s).book ≡ s.book
-book-switch (Ok x) s ts = refl
-book-switch (Err fault) s ts = refl
+book-unless (Ok x) s ts = refl
+book-unless (Err fault) s ts = refl
 
 module _ (A : Type 0) where
   -- a stream some steps later
@@ -82,13 +82,13 @@ module _ (A : Type 0) where
   at-cut i j (Ok moment) s = at-own i j (by_history.after_cut moment) (stream.Cut moment ∷ []) s.streams (λ t. refl)
   at-cut i j (Err fault) s = if-none (i == j) (slice_get s.streams i)
 
-  at-switch : (i j : ℕ) (active : Bool) (r : Result Unit SessionFault) (steps : List (StreamEvent A)) (s : SessionOf Traced)
-      → ((t : Traced) → by_history.after_switch active t ≡ moved steps t)
-      → slice_get (unless_refused r
-      (let u : SessionOf Traced = record s { streams = change_at j (by_history.after_switch active) s.streams } in u)
-      s).streams i ≡ option_map (moved (if i == j then unless_refused r steps [] else [])) (slice_get s.streams i)
-  at-switch i j active (Ok x) steps s same = at-own i j (by_history.after_switch active) steps s.streams same
-  at-switch i j active (Err fault) steps s same = if-none (i == j) (slice_get s.streams i)
+  -- a step that only the book may refuse
+  at-unless : (i j : ℕ) (f : Traced → Traced) (r : Result Unit SessionFault) (steps : List (StreamEvent A)) (s : SessionOf Traced)
+      → ((t : Traced) → f t ≡ moved steps t)
+      → slice_get (unless_refused r (let u : SessionOf Traced = record s { streams = change_at j f s.streams } in u) s).streams i
+      ≡ option_map (moved (if i == j then unless_refused r steps [] else [])) (slice_get s.streams i)
+  at-unless i j f (Ok x) steps s same = at-own i j f steps s.streams same
+  at-unless i j f (Err fault) steps s same = if-none (i == j) (slice_get s.streams i)
 
   -- a peek changes no stream
   seen : (moment : ℕ) (o : Option Traced) → o ≡ option_map (moved (stream.Peek moment ∷ [])) o
@@ -113,9 +113,10 @@ module _ (A : Type 0) where
       at-own i j (by_history.after_offer moment id payload) (stream.Offer moment id payload ∷ []) s.streams (λ t. refl)
   own-event i (Take j) s = at-own i j by_history.after_take (stream.Take ∷ []) s.streams (λ t. refl)
   own-event i (Cut j) s = at-cut i j (cut_moment j s.book) s
+  own-event i (Clear j) s = at-unless i j by_history.after_clear (clear_allowed_at j s.book) (stream.Clear ∷ []) s (λ t. refl)
   own-event i (Snap j moment) s = at-snap i j moment (snap_allowed j s.book) s.streams
-  own-event i (Start j) s = at-switch i j true (book_switch_answer true j s.book) (stream.Start ∷ []) s (λ t. refl)
-  own-event i (Stop j) s = at-switch i j false (book_switch_answer false j s.book) (stream.Stop ∷ []) s (λ t. refl)
+  own-event i (Start j) s = at-unless i j (by_history.after_switch true) (book_switch_answer true j s.book) (stream.Start ∷ []) s (λ t. refl)
+  own-event i (Stop j) s = at-unless i j (by_history.after_switch false) (book_switch_answer false j s.book) (stream.Stop ∷ []) s (λ t. refl)
   own-event i (SessionStart moment) s = none-moved (slice_get s.streams i)
   own-event i SessionStop s = none-moved (slice_get s.streams i)
   own-event i (RotateBegin moment) s = none-moved (slice_get s.streams i)
@@ -126,9 +127,10 @@ module _ (A : Type 0) where
   book-event (Offer j moment id payload) s = refl
   book-event (Take j) s = refl
   book-event (Cut j) s = book-cut (cut_moment j s.book) j s
+  book-event (Clear j) s = book-unless (clear_allowed_at j s.book) s (change_at j by_history.after_clear s.streams)
   book-event (Snap j moment) s = refl
-  book-event (Start j) s = book-switch (book_switch_answer true j s.book) s (change_at j (by_history.after_switch true) s.streams)
-  book-event (Stop j) s = book-switch (book_switch_answer false j s.book) s (change_at j (by_history.after_switch false) s.streams)
+  book-event (Start j) s = book-unless (book_switch_answer true j s.book) s (change_at j (by_history.after_switch true) s.streams)
+  book-event (Stop j) s = book-unless (book_switch_answer false j s.book) s (change_at j (by_history.after_switch false) s.streams)
   book-event (SessionStart moment) s = refl
   book-event SessionStop s = refl
   book-event (RotateBegin moment) s = refl

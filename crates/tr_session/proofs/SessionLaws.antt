@@ -122,7 +122,7 @@ thread-wants b name f placed refused =
 pub noted-due : (i moment : ℕ) (b : SessionBookState) → cut_moment i b ≡ Ok moment → book_after_note_cut i b ≡ with_cut b
 noted-due i moment b due = ap (λ (r : Result ℕ SessionFault). unless_refused r (with_cut b) b) due
 
-at-there : (i : ℕ) (ts : List StreamState) → i < length ts → (t : StreamState) × (slice_get ts i ≡ Some t)
+pub at-there : (i : ℕ) (ts : List StreamState) → i < length ts → (t : StreamState) × (slice_get ts i ≡ Some t)
 at-there i [] within = absurd (omega (arith, within))
 at-there zero (t ∷ ts) within = (t, refl)
 at-there (suc i) (t ∷ ts) within = at-there i ts (omega (arith, within))

@@ -13,7 +13,7 @@ use Rattle.tr_session_book.specs.BookSteps.{is_cut}
 use Rattle.tr_stream.specs.Rules.{by_state}
 use Rattle.tr_stream.specs.State.{StreamState}
 
-sum-more : {X : Type 0} (f : X → ℕ) (n : ℕ) (xs : List X) (x : X) → slice_get xs n ≡ Some x → sum_by f (take (n + 1) xs) ≡ sum_by f (take n xs) + f x
+pub sum-more : {X : Type 0} (f : X → ℕ) (n : ℕ) (xs : List X) (x : X) → slice_get xs n ≡ Some x → sum_by f (take (n + 1) xs) ≡ sum_by f (take n xs) + f x
 sum-more f n [] x at = absurd cc
 sum-more f zero (y ∷ ys) x at = let same : y ≡ x = cc in grind (arith, common_steps, same)
 sum-more f (suc n) (y ∷ ys) x at = let rest = sum-more f n ys x at in let one : suc n + 1 ≡ suc (n + 1) =

@@ -18,7 +18,7 @@ use Rattle.tr_session_book.specs.declared.faults.SessionFault.TheVariants.{CutMi
 use Rattle.tr_schedule.specs.Schedules.{ScheduleState}
 use Rattle.tr_ring.specs.ClosedBuffer.{ClosedBuffer}
 use Rattle.tr_stream.specs.State.{StreamState}
-use Rattle.tr_stream.specs.StateSteps.{state_entry, move_oldest, refusal_of, state_after_cut, state_after_offer, state_after_take, state_after_switch, state_unless}
+use Rattle.tr_stream.specs.StateSteps.{state_entry, move_oldest, refusal_of, state_after_clear, state_clear_ring, state_after_cut, state_after_offer, state_after_take, state_after_switch, state_unless}
 use Rattle.tr_stream.specs.declared.answers.OfferFault.{OfferFault}
 use Rattle.tr_terms.specs.declared.session_mode.SessionMode.{SessionMode}
 use Rattle.tr_terms.specs.declared.session_mode.SessionMode.TheVariants.{Local, Snapshot}
@@ -49,6 +49,14 @@ take-keeps t = go t.config.session t.ring.waiting
     go Local [] = (refl, refl)
     go Local (b ∷ bs) = (refl, refl)
     go Snapshot bs = (refl, refl)
+
+pub clear-keeps : Keeps state_after_clear
+clear-keeps t = go t.config.session
+  where
+    go : (m : SessionMode) → ((by_session_mode m (state_clear_ring t) t).config ≡ t.config)
+        × (length (by_session_mode m (state_clear_ring t) t).parts.closed ≡ length t.parts.closed)
+    go Local = (refl, refl)
+    go Snapshot = (refl, refl)
 
 pub switch-keeps : (active : Bool) → Keeps (state_after_switch active)
 switch-keeps active t = (refl, refl)

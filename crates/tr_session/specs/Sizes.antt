@@ -1,4 +1,4 @@
--- How much a session's archives hold.
+-- How much a session's archives hold, and how much was cleared.
 use Rattle.std.specs.Prelude.{ℕ}
 use Rattle.std.specs.List.{sum_by}
 use Rattle.std.specs.Option.{option_map_or}
@@ -15,3 +15,7 @@ archive_records rules id s = sum_by (λ t. option_map_or part_records (rules.par
 
 abbrev pub archive_bytes : {S : Type 0} → StreamRules S → ℕ → SessionOf S → ℕ
 archive_bytes rules id s = sum_by (λ t. option_map_or part_bytes (rules.part id t) 0) s.streams
+
+-- how many records were cleared over all streams
+abbrev pub all_cleared : {S : Type 0} → StreamRules S → SessionOf S → ℕ
+all_cleared rules s = sum_by (λ t. (rules.counts t).cleared) s.streams

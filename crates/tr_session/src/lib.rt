@@ -4,6 +4,7 @@
 #![tactic(auto)]
 
 mod archive_size;
+mod clears;
 mod config;
 mod events;
 mod faults;

@@ -2,14 +2,14 @@
 
 ghost use Rattle.std.specs.Prelude.{◌≡◌, ◌≢◌, ◌<◌, Some, Err, IfOk, IsOk, length, map, option_map, slice_get};
 ghost use Rattle.std.specs.Option.{option_map_or};
-ghost use Rattle.tr_session.specs.Steps.{change_at, offer_as_step, take_as_step};
-ghost use Rattle.tr_stream.specs.StateSteps.{state_offer_answer, state_after_offer, state_take_answer, state_after_take, state_cut_answer, state_after_cut, state_snap, state_after_switch, state_counts};
+ghost use Rattle.tr_session.specs.Steps.{change_at, clear_as_session, ClearsPackets, offer_as_step, take_as_step};
+ghost use Rattle.tr_stream.specs.StateSteps.{state_offer_answer, state_after_offer, state_take_answer, state_after_take, state_cut_answer, state_after_cut, state_clear_answer, state_after_clear, state_snap, state_after_switch, state_counts};
 
 use crate::faults::StepFault;
 use std::alloc::{AllocError, Allocator};
 use tr_book::StreamSnap;
 use tr_session_book::SessionFault;
-use tr_stream::{CutDone, CutFault, Offered, Stream, TakeFault, Taken};
+use tr_stream::{ClearFault, Cleared, CutDone, CutFault, Offered, Stream, TakeFault, Taken};
 use tr_terms::Moment;
 
 /// Lets the stream of this number take offers, or makes it refuse them.
@@ -105,6 +105,41 @@ pub fn cut_at<A: Allocator + Copy>(
     ensures no_memory { result ≡ Err CutFault.NoMemory → streams.new.items ≡ streams.old.items }
 {
     streams[i as usize].cut(moment)
+}
+
+/// Clears a stream.
+fn clear_one<A: Allocator + Copy>(stream: &mut Stream<A>) -> Result<Cleared, SessionFault>
+    ensures value { result ≢ Err SessionFault.NoMemory →
+        (result ≡ clear_as_session (state_clear_answer stream.old)) × (stream.new ≡ state_after_clear stream.old) }
+    ensures no_memory { result ≡ Err SessionFault.NoMemory → stream.new ≡ stream.old }
+    ensures memory { result ≡ Err SessionFault.NoMemory
+        → ClearsPackets (clear_as_session (state_clear_answer stream.old)) }
+{
+    match stream.clear() {
+        Ok(cleared) => Ok(cleared),
+        Err(ClearFault::SnapshotMode) => Err(SessionFault::SnapshotMode),
+        Err(ClearFault::NoMemory) => Err(SessionFault::NoMemory),
+    }
+}
+
+/// Clears the stream of this number.
+pub fn clear_at<A: Allocator + Copy>(
+    streams: &mut Vec<Stream<A>, A>,
+    i: u64,
+) -> Result<Cleared, SessionFault>
+    ensures value { result ≢ Err SessionFault.NoMemory →
+        (result ≡ option_map_or (λ s. clear_as_session (state_clear_answer s)) (slice_get streams.old.items i)
+        (Err SessionFault.NoStream))
+        × (streams.new.items ≡ change_at i state_after_clear streams.old.items) }
+    ensures no_memory { result ≡ Err SessionFault.NoMemory → streams.new.items ≡ streams.old.items }
+    ensures memory { result ≡ Err SessionFault.NoMemory →
+        ClearsPackets (option_map_or (λ s. clear_as_session (state_clear_answer s)) (slice_get streams.old.items i)
+        (Err SessionFault.NoStream)) }
+{
+    let Some(stream) = streams.get_mut(i as usize) else {
+        return Err(SessionFault::NoStream);
+    };
+    clear_one(stream)
 }
 
 /// Each stream as it is at this moment.

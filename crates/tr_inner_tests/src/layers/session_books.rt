@@ -61,6 +61,28 @@ fn a_book_alone_notes_snapshots(rt: HostRuntime) {
     drop(book);
 }
 
+/// Asserts whether a book's streams can be cleared, or why not.
+fn assert_clearable(rt: &impl Abort, book: &SessionBook, want: Result<(), SessionFault>) {
+    assert_same(rt, book.clear_allowed(), want);
+}
+
+// the mode goes before the start
+#[test]
+fn a_book_alone_allows_clears(rt: HostRuntime) {
+    let mut shown = book(&rt, rt.alloc(), SessionMode::Snapshot, 0, Mode::Overwrite);
+    assert_clearable(&rt, &shown, Err(SessionFault::SnapshotMode));
+    start(&rt, &mut shown, 1);
+    assert_clearable(&rt, &shown, Err(SessionFault::SnapshotMode));
+    drop(shown);
+    let mut book = book(&rt, rt.alloc(), SessionMode::Local, 0, Mode::Discard);
+    assert_clearable(&rt, &book, Err(SessionFault::NeverStarted));
+    start(&rt, &mut book, 1);
+    assert_clearable(&rt, &book, Ok(()));
+    begin_rotation(&rt, &mut book, 2);
+    assert_clearable(&rt, &book, Err(SessionFault::RotationPending));
+    drop(book);
+}
+
 /// Asserts which schedule is in force.
 fn assert_in_force(rt: &impl Abort, book: &SessionBook, want: Option<Schedule>) {
     assert_same(rt, book.schedule_in_force(), want);

@@ -2,14 +2,15 @@
 
 use super::{Place, Row, Step, assert_archives, assert_at, assert_same, assert_steps, row};
 use Call::{
-    Cut, Offer, RotateBegin, RotateFinish, SessionStart, SessionStop, Snap, Start, Stop, Take,
+    Clear, Cut, Offer, RotateBegin, RotateFinish, SessionStart, SessionStop, Snap, Start, Stop,
+    Take,
 };
 use std::alloc::Global;
 use std::process::Abort;
 use tr_session::{Answer, ChannelConfig, Config, Event, Session, StepFault, run_session};
 use tr_session_book::SessionFault;
 use tr_snapshot::{count, oldest_serial};
-use tr_stream::{CutDone, Fate, Offered, Payload, Taken};
+use tr_stream::{Cleared, CutDone, Fate, Offered, Payload, Taken};
 use tr_terms::{Mode, Name, OffsetMinutes, SessionMode};
 use tr_testing::moment;
 use uuid::Uuid;
@@ -58,6 +59,7 @@ enum Call {
     Offer(u64, u64, Result<Offered, StepFault>),
     Take(u64, Result<Taken, StepFault>),
     Cut(u64, Result<CutDone, StepFault>),
+    Clear(u64, Result<Cleared, SessionFault>),
     RotateBegin(u64, Result<u64, SessionFault>),
     RotateFinish(Result<Row, SessionFault>),
     /// A look at a stream at this moment. It shows the offers, the discarded records, the oldest serial, and how many
@@ -78,6 +80,7 @@ fn event(rt: &impl Abort, alloc: Global, call: &Call) -> Event {
         }
         Take(i, _) => Event::Take(i),
         Cut(i, _) => Event::Cut(i),
+        Clear(i, _) => Event::Clear(i),
         RotateBegin(at, _) => Event::RotateBegin(moment(at)),
         RotateFinish(_) => Event::RotateFinish,
         Snap(i, at, _) => Event::Snap(i, moment(at)),
@@ -90,6 +93,7 @@ fn assert_answer(rt: &impl Abort, place: Place, answer: &Answer, call: &Call) {
         (Answer::Offer(found), Offer(_, _, want)) => assert_at(rt, place, *found, want),
         (Answer::Take(found), Take(_, want)) => assert_at(rt, place, *found, want),
         (Answer::Cut(found), Cut(_, want)) => assert_at(rt, place, *found, want),
+        (Answer::Clear(found), Clear(_, want)) => assert_at(rt, place, *found, want),
         (Answer::Start(found), Start(_, want)) => assert_at(rt, place, *found, want),
         (Answer::Stop(found), Stop(_, want)) => assert_at(rt, place, *found, want),
         (Answer::SessionStart(found), SessionStart(_, want)) => assert_at(rt, place, *found, want),
@@ -239,6 +243,55 @@ fn a_rotation_begins_and_ends(rt: HostRuntime) {
     let session = run(&rt, rt.alloc(), LOCAL, 2, &ENDED);
     assert_archives(&rt, session.book().archives(), &[(0, 0, 10)]);
     drop(session);
+}
+
+/// Clears of streams between other events, and those that are refused.
+static CLEARED: [Call; 15] = [
+    Clear(0, Err(SessionFault::NeverStarted)),
+    SessionStart(0, Ok(())),
+    Start(0, Ok(())),
+    Start(1, Ok(())),
+    Offer(0, 1, Ok(Offered::Stored { serial: 0, seq: 0 })),
+    Offer(1, 1, Ok(Offered::Stored { serial: 0, seq: 0 })),
+    Clear(2, Err(SessionFault::NoStream)),
+    Clear(
+        1,
+        Ok(Cleared {
+            packets: 1,
+            records: 1,
+        }),
+    ),
+    RotateBegin(10, Ok(0)),
+    Clear(0, Err(SessionFault::RotationPending)),
+    Cut(0, Ok(ONE_CUT)),
+    Clear(0, Err(SessionFault::RotationPending)),
+    Cut(
+        1,
+        Ok(CutDone {
+            chunk: 0,
+            packets: 0,
+            records: 0,
+        }),
+    ),
+    RotateFinish(Ok((0, 0, 10))),
+    Clear(
+        0,
+        Ok(Cleared {
+            packets: 0,
+            records: 0,
+        }),
+    ),
+];
+
+/// Where their records are at the end.
+static CLEARED_FATES: [Step; 2] = [
+    Step::Fate(0, 0, Ok(Some(Fate::InChunk { chunk: 0, seq: 0 }))),
+    Step::Fate(1, 0, Ok(Some(Fate::Cleared { seq: 0 }))),
+];
+
+#[test]
+fn clears_of_streams(rt: HostRuntime) {
+    assert_fates(&rt, rt.alloc(), 15, &CLEARED, &CLEARED_FATES);
 }
 
 /// Two looks, after six offers and after a seventh.

@@ -1,0 +1,21 @@
+use Rattle.std.proofs.Common.{refl}
+use Rattle.tr_session.proofs.ListLaws.{changed_at-past, changed_at-set, lent-none, lent-some}
+use Rattle.tr_session.proofs.streams.clear_at.Goals as goal
+use Rattle.tr_stream.specs.StateSteps.{state_after_clear}
+
+pub returns-in_default-clause-value : goal.returns-in_default-clause-value
+returns-in_default-clause-value g c = λ _.
+    let none = lent-none c.args.streams.now.items c.args.i c.in_default.ensures.item in
+    (rw none refl, changed_at-past state_after_clear c.args.i c.args.streams.now.items none)
+
+pub returns-clause-value : goal.returns-clause-value
+returns-clause-value g c = λ not_memory.
+    let xs = c.args.streams.now.items in
+    let at = lent-some xs c.args.i c.in-Some.stream c.in-Some.ensures.item in
+    let did = c.clear_one.ensures.value not_memory in
+    (rw at did.0, changed_at-set state_after_clear c.args.i xs c.in-Some.stream.now c.clear_one.new.stream at did.1)
+
+pub returns-clause-memory : goal.returns-clause-memory
+returns-clause-memory g c = λ memory.
+    let at = lent-some c.args.streams.now.items c.args.i c.in-Some.stream c.in-Some.ensures.item in
+    rw at (c.clear_one.ensures.memory memory)
