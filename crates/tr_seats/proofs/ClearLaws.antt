@@ -1,5 +1,5 @@
 -- A clear at a desk as its session's rule.
-use Rattle.std.proofs.Common.{◌≡◌, ◌∙◌, ◌<◌, ℕ, Bool, true, List, Option, Some, Result, Ok, Err, ap, arith, length, refl, set, sym}
+use Rattle.std.proofs.Common.{◌≡◌, ◌∙◌, ◌<◌, ℕ, Bool, true, List, Some, Result, Ok, Err, ap, arith, length, refl, set, sym}
 use Rattle.std.proofs.lemmas.Bool.Decides.{nat_tests}
 use Rattle.std.specs.Option.{option_map_or}
 use Rattle.std.specs.Prelude.{if◌then◌else◌, nat_lt, slice_get}
@@ -9,9 +9,8 @@ use Rattle.tr_seats.specs.Clears.{desk_after_clear, desk_clear_answer, slot_afte
 use Rattle.tr_seats.specs.Desks.{DeskState}
 use Rattle.tr_seats.specs.Slots.{SlotState}
 use Rattle.tr_session.proofs.ListLaws.{changed_at-set}
-use Rattle.tr_session.specs.Session.{SessionOf, session_of}
+use Rattle.tr_session.specs.Session.{session_of}
 use Rattle.tr_session.specs.Steps.{change_at, clear_as_session, if_allowed, session_after_clear, session_clear_answer}
-use Rattle.tr_session_book.specs.Book.{SessionBookState}
 use Rattle.tr_session_book.specs.BookSteps.{book_clear_answer, clear_allowed_at, unless_refused}
 use Rattle.tr_session_book.specs.declared.faults.SessionFault.{SessionFault}
 use Rattle.tr_session_book.specs.declared.faults.SessionFault.TheVariants.{Misplaced, NoStream}

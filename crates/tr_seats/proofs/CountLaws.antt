@@ -13,7 +13,7 @@ use Rattle.tr_seats.specs.Sums.{totals_after_offer, totals_in}
 use Rattle.tr_seats.specs.declared.totals.Totals.{Totals}
 use Rattle.tr_stream.specs.Sound.{IsSound}
 use Rattle.tr_stream.specs.State.{StreamState, in_ring}
-use Rattle.tr_stream.specs.StateSteps.{counters_after_push, cut_done, move_oldest, offered_as, refusal_of, state_after_clear, state_after_cut, state_after_offer, state_after_take, state_clear_answer, state_clear_ring, state_cleared, state_cut_answer, state_cut_ring, state_entry, state_offer_answer, state_take_answer, state_unless, state_with_offer}
+use Rattle.tr_stream.specs.StateSteps.{counters_after_push, cut_done, move_oldest, offered_as, refusal_of, state_after_clear, state_after_cut, state_after_offer, state_after_take, state_clear_answer, state_clear_ring, state_cleared, state_cut_answer, state_cut_ring, state_entry, state_offer_answer, state_take_answer, state_with_offer}
 use Rattle.tr_stream.proofs.CutLaws.{records_in-ring}
 use Rattle.tr_stream.specs.declared.answers.ClearFault.{ClearFault}
 use Rattle.tr_stream.specs.declared.answers.ClearFault.TheVariants as clear_fault
@@ -24,7 +24,6 @@ use Rattle.tr_stream.specs.declared.answers.Offered.{Offered}
 use Rattle.tr_stream.specs.declared.answers.TakeFault.{TakeFault}
 use Rattle.tr_stream.specs.declared.answers.TakeFault.TheVariants as take_fault
 use Rattle.tr_stream.specs.declared.answers.Taken.{Taken}
-use Rattle.tr_terms.specs.SessionModes.{by_session_mode}
 use Rattle.tr_terms.specs.declared.session_mode.SessionMode.{SessionMode}
 use Rattle.tr_terms.specs.declared.session_mode.SessionMode.TheVariants.{Local, Snapshot}
 

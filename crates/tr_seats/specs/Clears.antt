@@ -7,7 +7,6 @@ use Rattle.tr_session.specs.Steps.{clear_as_session, if_allowed}
 use Rattle.tr_session_book.specs.BookSteps.{book_clear_answer, unless_refused}
 use Rattle.tr_session_book.specs.declared.faults.SessionFault.{SessionFault}
 use Rattle.tr_session_book.specs.declared.faults.SessionFault.TheVariants.{Misplaced}
-use Rattle.tr_stream.specs.State.{StreamState}
 use Rattle.tr_stream.specs.StateSteps.{state_after_clear, state_clear_answer}
 use Rattle.tr_stream.specs.declared.answers.ClearFault.{ClearFault}
 use Rattle.tr_stream.specs.declared.answers.Cleared.{Cleared}

@@ -2,7 +2,7 @@
 
 ghost use Rattle.std.specs.Prelude.{◌≡◌, ◌≢◌, ◌+◌, ◌<◌, Err, length};
 ghost use Rattle.tr_seats.specs.Clears.{desk_after_clear, desk_clear_answer, slot_after_clear};
-ghost use Rattle.tr_session.specs.Steps.{ClearsPackets};
+ghost use Rattle.tr_session.specs.Steps.{ClearsPackets, clear_as_session};
 ghost use Rattle.tr_session_book.specs.BookSteps.{book_clear_answer};
 
 use crate::desk::Desk;
@@ -11,6 +11,16 @@ use crate::slot::Slot;
 use std::alloc::Allocator;
 use tr_session_book::SessionFault;
 use tr_stream::{ClearFault, Cleared};
+
+/// Why a stream isn't cleared, as its session says it.
+fn fault_of(fault: ClearFault) -> SessionFault
+    ensures { clear_as_session (Err fault) ≡ Err result }
+{
+    match fault {
+        ClearFault::SnapshotMode => SessionFault::SnapshotMode,
+        ClearFault::NoMemory => SessionFault::NoMemory,
+    }
+}
 
 impl<N: Names, A: Allocator + Copy> Desk<N, A> {
     /// Clears the stream in a slot, which is to be that of number `i`, if the session's book allows it. The desk's seat of
@@ -31,11 +41,11 @@ impl<N: Names, A: Allocator + Copy> Desk<N, A> {
             return Err(SessionFault::Misplaced);
         }
         self.book.clear_allowed()?;
-        match slot.clear(&mut self.cleared[i]) {
-            Ok(done) => Ok(done),
-            Err(ClearFault::SnapshotMode) => Err(SessionFault::SnapshotMode),
-            Err(ClearFault::NoMemory) => Err(SessionFault::NoMemory),
-        }
+        let done = match slot.clear(&mut self.cleared[i]) {
+            Ok(done) => done,
+            Err(fault) => return Err(fault_of(fault)),
+        };
+        Ok(done)
     }
 
     /// Whether the session's streams can be cleared, as its book says. Nothing changes.

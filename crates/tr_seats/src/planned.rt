@@ -67,7 +67,10 @@ impl<A: Allocator> PlannedStream<A> {
     {
         let (stream, books) = both(stream, three_books(alloc))?;
         let ((stream, books), others) = both((stream, books), three_books(alloc))?;
-        let ((stream, books, others), cleared) = both((stream, books, others), Ledger::open(alloc))?;
+        let ((stream, books, others), cleared) = both(
+            (stream, books, others),
+            Ledger::open(alloc),
+        )?;
         let (offered, discarded, overwritten) = books;
         let (overwritten_packets, consumed, cuts) = others;
         Ok(PlannedStream {

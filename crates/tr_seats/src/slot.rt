@@ -20,7 +20,9 @@ use std::marker::{Model, PhantomData};
 use tr_book::{Counts, StreamSnap};
 use tr_ledger::{Ledger, Seat};
 use tr_session_book::SessionFault;
-use tr_stream::{ClearFault, Cleared, CutDone, CutFault, OfferFault, Offered, Stream, TakeFault, Taken};
+use tr_stream::{
+    ClearFault, Cleared, CutDone, CutFault, OfferFault, Offered, Stream, TakeFault, Taken,
+};
 use tr_terms::Moment;
 
 /// A stream with its number and its books, which its lock guards. Contracts see a `SlotState`.

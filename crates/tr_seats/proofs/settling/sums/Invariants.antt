@@ -1,4 +1,4 @@
-use Rattle.std.proofs.Common.{◌≡◌, ◌+◌, ◌≤◌, ◌*◌, ◌^◌, take}
+use Rattle.std.proofs.Common.{◌≡◌, ◌≤◌, ◌*◌, ◌^◌, take}
 use Rattle.tr_seats.proofs.settling.sums.Given as goal
 use Rattle.tr_seats.specs.Settling.{AddUp, WereConsumed, streams_of}
 use Rattle.tr_seats.specs.Sums.{totals_of}

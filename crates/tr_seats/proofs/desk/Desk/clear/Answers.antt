@@ -26,8 +26,8 @@ clear-requires g c =
     c.index_mut.ensures.value no_table
     ∙ cleared-at books i no_books lt ∙ ap (λ (n : ℕ). (books_at books n).cleared) (here ∙ c.number.ensures.number)
 
-pub invariant_of-self : goal.invariant_of-self
-invariant_of-self g c =
+pub invariant_of-self-2 : goal.invariant_of-self-2
+invariant_of-self-2 g c =
     let plan = g.N.Names.plan in
     let old = c.self.inside in
     let i = c.args.i in
@@ -48,3 +48,6 @@ returns-clause-seats g c =
     c.in-Ok.done.records c.in-Ok.ensures.seat in
     (λ j. desk_state old.book old.drainers (amounts_of old.consumed.items) (amounts_of old.cuts.items) (cleared j))
     ∙ ap (λ (d : DeskState). record d { cleared = slice_set d.cleared i (slice_index d.cleared i + c.in-Ok.done.records) }) c.self.view_is
+
+pub invariant_of-self : goal.invariant_of-self
+invariant_of-self g c = grind (arith, common_steps)

@@ -1,4 +1,4 @@
-use Rattle.std.proofs.Common.{◌≡◌, ℕ, ◌+◌, List, ap, length, subst, sym, ◌∙◌, arith}
+use Rattle.std.proofs.Common.{◌≡◌, ℕ, List, ap, length, subst, sym, ◌∙◌, arith}
 use Rattle.std.proofs.lemmas.Grind.{common_steps}
 use Rattle.tr_seats.proofs.opened.Opened.settle.Goals as goal
 use Rattle.tr_seats.specs.Settling.{AddUp, AreTheirs, HaveConsumed, IsWhy, OpenedState, WereConsumed, opened_state, streams_of, totals_of_seats}

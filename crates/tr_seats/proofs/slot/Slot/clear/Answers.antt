@@ -1,5 +1,4 @@
 use Rattle.std.proofs.Common.{rules, ◌≡◌, ◌∙◌, ◌+◌, ◌<◌, Ok, ap, arith, length, subst, sym}
-use Rattle.std.proofs.lemmas.Grind.{common_steps}
 use Rattle.tr_ledger.specs.Ledgers.{LedgerState}
 use Rattle.tr_seats.proofs.CountLaws.{clear-totals, few-counted, refused-clear}
 use Rattle.tr_seats.proofs.SlotLaws.{books-cleared}

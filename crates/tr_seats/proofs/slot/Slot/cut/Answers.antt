@@ -7,7 +7,6 @@ use Rattle.tr_seats.proofs.slot.Slot.cut.Goals as goal
 use Rattle.tr_seats.specs.Books.{IsPlanned, books_at}
 use Rattle.tr_seats.specs.Sums.{totals_in}
 use Rattle.tr_seats.specs.declared.totals.Totals.{Totals}
-use Rattle.tr_stream.specs.State.{StreamState}
 use Rattle.tr_stream.specs.StateSteps.{state_after_cut, state_cut_answer}
 
 pub raise-requires-clause-room : goal.raise-requires-clause-room

@@ -8,7 +8,6 @@ use Rattle.tr_seats.specs.Books.{IsPlanned, books_at}
 use Rattle.tr_seats.specs.Slots.{ProducerState, slot_state}
 use Rattle.tr_seats.specs.Sums.{totals_in}
 use Rattle.tr_seats.specs.declared.totals.Totals.{Totals}
-use Rattle.tr_stream.specs.State.{StreamState}
 use Rattle.tr_stream.specs.StateSteps.{state_after_offer, state_offer_answer}
 use Rattle.tr_stream.specs.declared.answers.Offered.TheVariants.{Stored, StoredOver, Discarded}
 
