@@ -6,7 +6,7 @@ use Rattle.std.proofs.lemmas.List.{length-map, get_or-map}
 use Rattle.tr_ledger.specs.Ledgers.{SeatState, seat_state}
 use Rattle.tr_seats.proofs.Joins.{tables-length}
 use Rattle.tr_seats.proofs.Permuted.{one-each, sum_by-beside, sum_by-index, sum_by-same}
-use Rattle.tr_seats.specs.Books.{Books, consumed_books, cut_books, no_table}
+use Rattle.tr_seats.specs.Books.{Books, cleared_books, consumed_books, cut_books, no_table}
 use Rattle.tr_seats.specs.Desks.{DeskState}
 use Rattle.tr_seats.specs.Settling.{AreAllMade, AreTheirs, HaveConsumed, IsOneEach, streams_of, taken_of, totals_of_seats}
 use Rattle.tr_seats.specs.Slots.{AreJoined, AreSeatsOf, IsOwn, ProducerState, SlotState, amounts_of, slot_state}
@@ -78,6 +78,15 @@ module _ (books : List Books) (slots : List SlotState) (len : length slots ≡ l
       let wide = tables-length (cut_books books) cuts row.0 in
       whole k d s lt (row.1 k d (omega (arith, lt, len, wide, length-map books (λ (b : Books). b.cuts))))
 
+  -- and those of the cleared records
+  cleared-whole : (cleared : List SeatState) → AreSeatsOf (cleared_books books) cleared
+      → ((k : ℕ) (d : SeatState) (s : SlotState) → k < length slots → (get_or cleared k d).mark ≡ 1
+      → (get_or cleared k d).amount ≡ (totals_in (get_or slots k s).stream).cleared)
+      → AreWholeOf (λ (t : Totals). t.cleared) slots cleared
+  cleared-whole cleared row whole k d s lt =
+      let wide = tables-length (cleared_books books) cleared row.0 in
+      whole k d s lt (row.1 k d (omega (arith, lt, len, wide, length-map books (λ (b : Books). b.cleared))))
+
   -- a row that was joined with the drainers' has what the streams consumed
   row-whole : (drainers : List (List ℕ)) (joined : List SeatState) → AreJoined (length drainers + 1) (consumed_books books) joined
       → AreAllMade (length drainers) slots
@@ -100,7 +109,7 @@ module _ (books : List Books) (slots : List SlotState) (len : length slots ≡ l
   row-taken drainers mine joined row each made whole k d s lt =
       sym (row-whole drainers joined row made whole k d s lt) ∙ each k d (omega (arith, lt, len))
 
-  pub all-add_up : (producers : List ProducerState) (drainers : List (List ℕ)) (mine joined cuts : List SeatState)
+  pub all-add_up : (producers : List ProducerState) (drainers : List (List ℕ)) (mine joined cuts cleared : List SeatState)
       → IsOneEach (length slots) producers → AreWithin (length books) producers
       → ((k : ℕ) (p : ProducerState) (s : SlotState) → k < length producers
       → IsOwn (get_or producers k p) (totals_in (get_or slots (get_or producers k p).number s).stream))
@@ -111,14 +120,20 @@ module _ (books : List Books) (slots : List SlotState) (len : length slots ≡ l
       → AreSeatsOf (cut_books books) cuts
       → ((k : ℕ) (d : SeatState) (s : SlotState) → k < length slots → (get_or cuts k d).mark ≡ 1
       → (get_or cuts k d).amount ≡ (totals_in (get_or slots k s).stream).cuts)
-      → (desk : DeskState) → desk.consumed ≡ amounts_of mine → desk.cuts ≡ amounts_of cuts
+      → AreSeatsOf (cleared_books books) cleared
+      → ((k : ℕ) (d : SeatState) (s : SlotState) → k < length slots → (get_or cleared k d).mark ≡ 1
+      → (get_or cleared k d).amount ≡ (totals_in (get_or slots k s).stream).cleared)
+      → (desk : DeskState) → desk.consumed ≡ amounts_of mine → desk.cuts ≡ amounts_of cuts → desk.cleared ≡ amounts_of cleared
       → totals_of (streams_of slots) ≡ totals_of_seats producers drainers desk
-  all-add_up producers drainers mine joined cuts once there own row adds made whole cut_row cut_whole desk desk_consumed desk_cuts =
+  all-add_up producers drainers mine joined cuts cleared once there own row adds made whole cut_row cut_whole cleared_row cleared_are desk
+      desk_consumed desk_cuts desk_cleared =
       let within : AreWithin (length slots) producers = λ k p lt. subst (λ n. (get_or producers k p).number < n) (sym len) (there k p lt) in
       let row_length = tables-length (consumed_books books) joined row.0 in
       let joined_length : length joined ≡ length slots = row_length ∙ length-map books (λ (b : Books). b.consumed) ∙ sym len in
       let cuts_length : length cuts ≡ length slots =
       tables-length (cut_books books) cuts cut_row.0 ∙ length-map books (λ (b : Books). b.cuts) ∙ sym len in
+      let cleared_length : length cleared ≡ length slots =
+      tables-length (cleared_books books) cleared cleared_row.0 ∙ length-map books (λ (b : Books). b.cleared) ∙ sym len in
       let joined_whole = row-whole drainers joined row made whole in
       let offered = of-producers (λ (p : ProducerState). p.offered) (λ (t : Totals). t.offered) slots producers once within
       (λ k p s lt. (own k p s lt).0) in
@@ -131,6 +146,8 @@ module _ (books : List Books) (slots : List SlotState) (len : length slots ≡ l
       let consumed = of-row (λ (t : Totals). t.consumed) slots joined joined_length joined_whole
       ∙ adds ∙ ap (λ (l : List ℕ). sum l + sum_by sum drainers) (sym desk_consumed) in
       let cut = of-row (λ (t : Totals). t.cuts) slots cuts cuts_length (cuts-whole cuts cut_row cut_whole) ∙ ap sum (sym desk_cuts) in
+      let gone = of-row (λ (t : Totals). t.cleared) slots cleared cleared_length (cleared-whole cleared cleared_row cleared_are)
+      ∙ ap sum (sym desk_cleared) in
       λ k. record {
         offered = offered k;
         discarded = discarded k;
@@ -138,6 +155,7 @@ module _ (books : List Books) (slots : List SlotState) (len : length slots ≡ l
         overwritten_packets = packets k;
         consumed = consumed k;
         cuts = cut k;
+        cleared = gone k;
       }
 
 -- each producer's numbers are those of its stream, out of its slot

@@ -13,15 +13,17 @@ use Rattle.tr_seats.specs.Sums.{totals_after_offer, totals_in}
 use Rattle.tr_seats.specs.declared.totals.Totals.{Totals}
 use Rattle.tr_stream.specs.Sound.{IsSound}
 use Rattle.tr_stream.specs.State.{StreamState, in_ring}
-use Rattle.tr_stream.specs.StateSteps.{counters_after_push, cut_done, move_oldest, offered_as, refusal_of, state_after_cut, state_after_offer, state_after_take, state_cut_answer, state_cut_ring, state_entry, state_offer_answer, state_take_answer, state_unless, state_with_offer}
+use Rattle.tr_stream.specs.StateSteps.{counters_after_push, cut_done, move_oldest, offered_as, refusal_of, state_after_clear, state_after_cut, state_after_offer, state_after_take, state_clear_answer, state_clear_ring, state_cleared, state_cut_answer, state_cut_ring, state_entry, state_offer_answer, state_take_answer, state_with_offer}
 use Rattle.tr_stream.proofs.CutLaws.{records_in-ring}
+use Rattle.tr_stream.specs.declared.answers.ClearFault.{ClearFault}
+use Rattle.tr_stream.specs.declared.answers.ClearFault.TheVariants as clear_fault
+use Rattle.tr_stream.specs.declared.answers.Cleared.{Cleared}
 use Rattle.tr_stream.specs.declared.answers.CutDone.{CutDone}
 use Rattle.tr_stream.specs.declared.answers.OfferFault.{OfferFault}
 use Rattle.tr_stream.specs.declared.answers.Offered.{Offered}
 use Rattle.tr_stream.specs.declared.answers.TakeFault.{TakeFault}
 use Rattle.tr_stream.specs.declared.answers.TakeFault.TheVariants as take_fault
 use Rattle.tr_stream.specs.declared.answers.Taken.{Taken}
-use Rattle.tr_terms.specs.SessionModes.{by_session_mode}
 use Rattle.tr_terms.specs.declared.session_mode.SessionMode.{SessionMode}
 use Rattle.tr_terms.specs.declared.session_mode.SessionMode.TheVariants.{Local, Snapshot}
 
@@ -67,6 +69,7 @@ pub record AreFew (t : Totals) : Type 0 where
   pub overwritten : t.overwritten ≤ 2 ^ 62
   pub overwritten_packets : t.overwritten_packets ≤ 2 ^ 62
   pub consumed : t.consumed ≤ 2 ^ 62
+  pub cleared : t.cleared ≤ 2 ^ 62
 
 pub few-counted : (s : StreamState) → IsSound s → AreFew (totals_in s)
 few-counted s is = record {
@@ -75,36 +78,10 @@ few-counted s is = record {
   overwritten = omega (arith, is.few, is.total);
   overwritten_packets = omega (arith, is.few, is.dropped, is.numbers);
   consumed = omega (arith, is.few, is.total, is.consumed, is.withdrawn);
+  cleared = omega (arith, is.few, is.total);
 }
 
--- an offer clears nothing
-pub offer-uncleared : (moment id : ℕ) (payload : List ℕ) (s : StreamState)
-    → (state_after_offer moment id payload s).counters.cleared ≡ s.counters.cleared
-offer-uncleared moment id payload s = go (refusal_of (length payload) s)
-  where
-    e : Entry
-    e = state_entry moment id payload s
-
-    pushed-same : (p : Pushed) → (counters_after_push p e.moment s.counters).cleared ≡ s.counters.cleared
-    pushed-same (pushed.Stored seq) = refl
-    pushed-same (pushed.StoredOver seq gone_seq gone_count) = refl
-    pushed-same pushed.Refused = refl
-
-    go : (refusal : Option OfferFault) → (state_unless refusal e s).counters.cleared ≡ s.counters.cleared
-    go (Some fault) = refl
-    go None = pushed-same (push_answer e s.ring)
-
 -- ---- takes
-
--- a take clears nothing
-pub take-uncleared : (s : StreamState) → (state_after_take s).counters.cleared ≡ s.counters.cleared
-take-uncleared s = go s.config.session s.ring.waiting
-  where
-    go : (mode : SessionMode) (waiting : List ClosedBuffer)
-        → (by_session_mode mode (move_oldest waiting s) s).counters.cleared ≡ s.counters.cleared
-    go Snapshot waiting = refl
-    go Local [] = refl
-    go Local (b ∷ bs) = refl
 
 -- what is taken is counted as consumed, and it has a record
 pub record IsTakenFrom (s : StreamState) (taken : Taken) : Type 0 where
@@ -147,15 +124,6 @@ refused-take s new take_fault.Misplaced value none = take-unchanged s new take_f
 
 -- ---- cuts
 
--- a cut clears nothing
-pub cut-uncleared : (moment : ℕ) (s : StreamState) → (state_after_cut moment s).counters.cleared ≡ s.counters.cleared
-cut-uncleared moment s = go s.config.session
-  where
-    go : (mode : SessionMode)
-        → (by_session_mode mode (state_cut_ring (max moment s.counters.last) s) s).counters.cleared ≡ s.counters.cleared
-    go Snapshot = refl
-    go Local = refl
-
 -- what a cut moves is counted as consumed, and one more chunk is closed
 pub cut-totals : (moment : ℕ) (s : StreamState) (done : CutDone) → Ok done ≡ state_cut_answer moment s
     → totals_in (state_after_cut moment s)
@@ -175,6 +143,35 @@ cut-totals moment s done answered = go s.config.session refl
         let closed = length-append s.parts.closed (_ ∷ []) in
         ap totals_in after
         ∙ (λ j. record (totals_in s) { consumed = (totals_in s).consumed + records j; cuts = closed j })
+
+-- ---- clears
+
+-- what a clear removes is counted as cleared, and nothing else moves
+pub clear-totals : (s : StreamState) (done : Cleared) → Ok done ≡ state_clear_answer s
+    → totals_in (state_after_clear s) ≡ record (totals_in s) { cleared = (totals_in s).cleared + done.records }
+clear-totals s done answered = go s.config.session refl
+  where
+    go : (mode : SessionMode) → s.config.session ≡ mode
+        → totals_in (state_after_clear s) ≡ record (totals_in s) { cleared = (totals_in s).cleared + done.records }
+    go Snapshot at = cc
+    go Local at =
+        let is : done ≡ state_cleared s = cc in
+        let after : state_after_clear s ≡ state_clear_ring s = cc in
+        ap totals_in after ∙ ap (λ (d : Cleared). record (totals_in s) { cleared = (totals_in s).cleared + d.records }) (sym is)
+
+-- a clear that is refused changes nothing
+pub refused-clear : (s new : StreamState) (fault : ClearFault)
+    → (◌≢◌ {A = Result Cleared ClearFault} (Err fault) (Err clear_fault.NoMemory) → (Err fault ≡ state_clear_answer s) × (new ≡ state_after_clear s))
+    → (◌≡◌ {A = Result Cleared ClearFault} (Err fault) (Err clear_fault.NoMemory) → new ≡ s) → new ≡ s
+refused-clear s new clear_fault.NoMemory value none = none refl
+refused-clear s new clear_fault.SnapshotMode value none = go s.config.session refl
+  where
+    is : (Err clear_fault.SnapshotMode ≡ state_clear_answer s) × (new ≡ state_after_clear s)
+    is = value (λ e. cc)
+
+    go : (mode : SessionMode) → s.config.session ≡ mode → new ≡ s
+    go Snapshot at = is.1 ∙ cc
+    go Local at = let answer = is.0 in cc
 
 -- an accepted offer's serial is the number of offers before it
 pub offer-serial : (moment id : ℕ) (payload : List ℕ) (s : StreamState) (offered : Offered)

@@ -19,7 +19,7 @@ use Rattle.tr_stream.specs.StateSteps.{cut_done, state_after_cut, state_cut_answ
 use Rattle.tr_terms.specs.declared.session_mode.SessionMode.TheVariants.{Local}
 
 -- an element that is written as it was
-set-same : {X : Type 0} (i : ℕ) (xs : List X) (x : X) → slice_get xs i ≡ Some x → set xs i x ≡ xs
+pub set-same : {X : Type 0} (i : ℕ) (xs : List X) (x : X) → slice_get xs i ≡ Some x → set xs i x ≡ xs
 set-same i [] x at = refl
 set-same zero (z ∷ xs) x at = let same : z ≡ x = cc in ap (λ (w : _). w ∷ xs) (sym same)
 set-same (suc i) (z ∷ xs) x at = ap (λ (ys : List _). z ∷ ys) (set-same i xs x at)

@@ -1,4 +1,4 @@
--- A cut at a desk: its book notes it, and a seat of each kind rises.
+-- A cut at a desk: its book notes it, and two seats rise. A clear: one seat rises.
 use Rattle.std.proofs.Common.{◌≡◌, ◌≢◌, ◌∙◌, ℕ, ◌+◌, ◌<◌, Bool, true, false, List, Some, Ok, Result, length, ap, arith, get_or, refl, set, sym}
 use Rattle.std.specs.Prelude.{◌==◌, if◌then◌else◌, nat_lt, slice_index}
 use Rattle.std.proofs.lemmas.List.{get_or-set_other, length-map}
@@ -6,7 +6,7 @@ use Rattle.std.proofs.lemmas.Bool.Decides.{nat_tests}
 use Rattle.std.proofs.lemmas.Grind.{get_or-set_at}
 use Rattle.tr_ledger.specs.Ledgers.{SeatState, seat_state}
 use Rattle.tr_seats.proofs.Rows.{amounts-raised, length-seats, row-raised}
-use Rattle.tr_seats.specs.Books.{Books, PlanState, consumed_books, cut_books}
+use Rattle.tr_seats.specs.Books.{Books, PlanState, cleared_books, consumed_books, cut_books}
 use Rattle.tr_seats.specs.Desks.{IsDesk}
 use Rattle.tr_seats.specs.Slots.{amounts_of}
 use Rattle.tr_session.proofs.StreamLaws.{due-next}
@@ -59,8 +59,8 @@ set-more xs i k n lt = go (k == i) refl
         get_or-set_other xs i k (slice_index xs i + n) 0 apart ∙ omega arith
 
 -- one seat of each kind rises when a stream is cut
-module _ (plan : PlanState) (b : SessionBookState) (consumed cuts : List SeatState) (i end : ℕ) (one two : SeatState)
-    (is : IsDesk plan b consumed cuts) (due : cut_moment i b ≡ Ok end) (within : i < length plan.books)
+module _ (plan : PlanState) (b : SessionBookState) (consumed cuts cleared : List SeatState) (i end : ℕ) (one two : SeatState)
+    (is : IsDesk plan b consumed cuts cleared) (due : cut_moment i b ≡ Ok end) (within : i < length plan.books)
     (one_is : one ≡ get_or consumed i one) (two_is : two ≡ get_or cuts i two) where
   wide-consumed : i < length (consumed_books plan.books)
   wide-consumed = omega (arith, within, length-map plan.books (λ (b : Books). b.consumed))
@@ -78,7 +78,7 @@ module _ (plan : PlanState) (b : SessionBookState) (consumed cuts : List SeatSta
       ∙ ap (λ (n : ℕ). n + (if k == i then 1 else 0)) (is.operator k lt) ∙ sym (closed-more b i end k due)
 
   pub desk-cut : (moved : ℕ) (one' two' : SeatState) → one' ≡ seat_state one.table (one.amount + moved) one.mark
-      → two' ≡ seat_state two.table (two.amount + 1) two.mark → IsDesk plan (with_cut b) (set consumed i one') (set cuts i two')
+      → two' ≡ seat_state two.table (two.amount + 1) two.mark → IsDesk plan (with_cut b) (set consumed i one') (set cuts i two') cleared
   desk-cut moved one' two' first second = record {
     planned = is.planned;
     book_is = record {
@@ -90,5 +90,23 @@ module _ (plan : PlanState) (b : SessionBookState) (consumed cuts : List SeatSta
     };
     consumed_are = row-raised (consumed_books plan.books) consumed i one is.consumed_are wide-consumed one_is one' moved first;
     cuts_are = row-raised (cut_books plan.books) cuts i two is.cuts_are wide-cuts two_is two' 1 second;
+    cleared_are = is.cleared_are;
     operator = λ k lt. operator-cut two' second k lt;
+  }
+
+-- the seat of the cleared records rises when a stream is cleared
+module _ (plan : PlanState) (b : SessionBookState) (consumed cuts cleared : List SeatState) (i : ℕ) (one : SeatState)
+    (is : IsDesk plan b consumed cuts cleared) (within : i < length plan.books) (one_is : one ≡ get_or cleared i one) where
+  wide-cleared : i < length (cleared_books plan.books)
+  wide-cleared = omega (arith, within, length-map plan.books (λ (b : Books). b.cleared))
+
+  pub desk-cleared : (n : ℕ) (new : SeatState) → new ≡ seat_state one.table (one.amount + n) one.mark
+      → IsDesk plan b consumed cuts (set cleared i new)
+  desk-cleared n new e = record {
+    planned = is.planned;
+    book_is = is.book_is;
+    consumed_are = is.consumed_are;
+    cuts_are = is.cuts_are;
+    cleared_are = row-raised (cleared_books plan.books) cleared i one is.cleared_are wide-cleared one_is new n e;
+    operator = is.operator;
   }

@@ -1,4 +1,5 @@
 pub mod AllTotals
+pub mod ClearLaws
 pub mod CountLaws
 pub mod CutLaws
 pub mod DeskLaws

@@ -7,8 +7,8 @@ use Rattle.std.proofs.lemmas.Option.{get_or_from_slice_get, slice_get_within}
 use Rattle.std.proofs.lemmas.Grind.{common_steps}
 use Rattle.atomic_table.specs.Seated.{TableId}
 use Rattle.tr_ledger.specs.Ledgers.{LedgerState, SeatState, ledger_state, seat_state}
-use Rattle.tr_seats.proofs.Rows.{amounts-grown, consumed-at, cuts-at, new-grown, row-grown}
-use Rattle.tr_seats.specs.Books.{AreBooksOf, Books, IsPlan, IsPlanned, PlanState, books_of, consumed_books, cut_books, no_books, no_table}
+use Rattle.tr_seats.proofs.Rows.{amounts-grown, cleared-at, consumed-at, cuts-at, new-grown, row-grown}
+use Rattle.tr_seats.specs.Books.{AreBooksOf, Books, IsPlan, IsPlanned, PlanState, books_of, cleared_books, consumed_books, cut_books, no_books, no_table}
 use Rattle.tr_seats.specs.Desks.{IsDesk, desk_state}
 use Rattle.tr_seats.specs.Plans.{AreNamed, AreUnused, IsOpened, IsUnused, opened_of, slots_from}
 use Rattle.tr_seats.specs.Seats.{AreSeatsOfProducer}
@@ -19,12 +19,11 @@ use Rattle.tr_seats.specs.declared.totals.Totals.{Totals}
 use Rattle.tr_stream.specs.State.{StreamState}
 
 -- the books of a stream on which nothing was done, as they were opened
-pub books-opened : (books : Books) (stream : StreamState) (o d v p k c : LedgerState) (os ds vs ps ks cs : SeatState)
-    → books_of o.table d.table v.table p.table k.table c.table ≡ books → IsUnused stream
-    → IsOpened o os → IsOpened d ds → IsOpened v vs → IsOpened p ps → IsOpened k ks → IsOpened c cs
-    → AreBooksOf books stream k.made o d v p k c
-books-opened books stream o d v p k c os ds vs ps ks cs is unused io id iv ip ik ic =
-    let none = unused.0 in
+pub books-opened : (books : Books) (stream : StreamState) (o d v p k c l : LedgerState) (os ds vs ps ks cs ls : SeatState)
+    → books_of o.table d.table v.table p.table k.table c.table l.table ≡ books → IsUnused stream
+    → IsOpened o os → IsOpened d ds → IsOpened v vs → IsOpened p ps → IsOpened k ks → IsOpened c cs → IsOpened l ls
+    → AreBooksOf books stream k.made o d v p k c l
+books-opened books stream o d v p k c l os ds vs ps ks cs ls is none io id iv ip ik ic il =
     let made : k.made ≡ 0 = ap (λ (l : LedgerState). l.made) ik.0 in
     record {
       offered_is = io.0 ∙ (λ j. ledger_state (is j).offered (sym none j).offered 0);
@@ -33,7 +32,7 @@ books-opened books stream o d v p k c os ds vs ps ks cs is unused io id iv ip ik
       packets_is = ip.0 ∙ (λ j. ledger_state (is j).overwritten_packets (sym none j).overwritten_packets 0);
       consumed_is = ik.0 ∙ (λ j. ledger_state (is j).consumed (sym none j).consumed (sym made j));
       cuts_is = ic.0 ∙ (λ j. ledger_state (is j).cuts (sym none j).cuts 0);
-      uncleared = unused.1;
+      cleared_is = il.0 ∙ (λ j. ledger_state (is j).cleared (sym none j).cleared 0);
     }
 
 -- and their whole seats
@@ -80,23 +79,25 @@ there-within (x ∷ xs) zero lt = (x, refl)
 there-within (x ∷ xs) (suc i) lt = there-within xs i (grind (arith, common_steps, lt))
 
 -- the first streams have their names
-pub named-none : (plan : PlanState) → AreNamed plan [] [] [] []
+pub named-none : (plan : PlanState) → AreNamed plan [] [] [] [] []
 named-none plan = record {
   within = omega arith;
   slots_are = refl;
   producers_are = (refl, λ i p lt. absurd (omega (arith, lt)));
   consumed_are = (refl, All-nil (λ (s : SeatState). s.mark ≡ 1));
   cuts_are = (refl, All-nil (λ (s : SeatState). s.mark ≡ 1));
+  cleared_are = (refl, All-nil (λ (s : SeatState). s.mark ≡ 1));
   consumed_none = refl;
   cuts_none = refl;
+  cleared_none = refl;
 }
 
-module _ (plan : PlanState) (slots : List SlotState) (producers : List ProducerState) (consumed cuts : List SeatState)
-    (is : AreNamed plan slots producers consumed cuts) where
+module _ (plan : PlanState) (slots : List SlotState) (producers : List ProducerState) (consumed cuts cleared : List SeatState)
+    (is : AreNamed plan slots producers consumed cuts cleared) where
   pub named-more : (t : StreamState) (b : Books) → slice_get plan.session.streams (length slots) ≡ Some t
       → slice_get plan.books (length slots) ≡ Some b
       → AreNamed plan (slots ++ slot_state (length slots) t 0 ∷ []) (producers ++ new_producer (length slots) ∷ [])
-      (consumed ++ seat_state b.consumed 0 1 ∷ []) (cuts ++ seat_state b.cuts 0 1 ∷ [])
+      (consumed ++ seat_state b.consumed 0 1 ∷ []) (cuts ++ seat_state b.cuts 0 1 ∷ []) (cleared ++ seat_state b.cleared 0 1 ∷ [])
   named-more t b got at =
       let k = length slots in
       let lt : k < length plan.books = slice_get_within plan.books k b at in
@@ -106,8 +107,11 @@ module _ (plan : PlanState) (slots : List SlotState) (producers : List ProducerS
       ap (λ (x : Books). x.consumed) (sym there) ∙ sym (consumed-at plan.books k no_books lt) in
       let cuts_table : b.cuts ≡ get_or (cut_books plan.books) k no_table =
       ap (λ (x : Books). x.cuts) (sym there) ∙ sym (cuts-at plan.books k no_books lt) in
+      let cleared_table : b.cleared ≡ get_or (cleared_books plan.books) k no_table =
+      ap (λ (x : Books). x.cleared) (sym there) ∙ sym (cleared-at plan.books k no_books lt) in
       let wide : k < length (consumed_books plan.books) = omega (arith, lt, length-map plan.books (λ (x : Books). x.consumed)) in
       let wide_cuts : k < length (cut_books plan.books) = omega (arith, lt, length-map plan.books (λ (x : Books). x.cuts)) in
+      let wide_cleared : k < length (cleared_books plan.books) = omega (arith, lt, length-map plan.books (λ (x : Books). x.cleared)) in
       let number : k ≡ 0 + k = omega arith in
       let next : suc k ≡ length (slots ++ slot_state k t 0 ∷ []) = omega (arith, len) in
       record {
@@ -121,13 +125,17 @@ module _ (plan : PlanState) (slots : List SlotState) (producers : List ProducerS
             (row-grown (consumed_books plan.books) consumed k (seat_state b.consumed 0 1) no_table is.consumed_are wide consumed_table refl);
         cuts_are = subst (λ n. AreSeatsOf (take n (cut_books plan.books)) (cuts ++ seat_state b.cuts 0 1 ∷ []))
             (sym len) (row-grown (cut_books plan.books) cuts k (seat_state b.cuts 0 1) no_table is.cuts_are wide_cuts cuts_table refl);
+        cleared_are = subst (λ n. AreSeatsOf (take n (cleared_books plan.books)) (cleared ++ seat_state b.cleared 0 1 ∷ []))
+            (sym len)
+            (row-grown (cleared_books plan.books) cleared k (seat_state b.cleared 0 1) no_table is.cleared_are wide_cleared cleared_table refl);
         consumed_none = amounts-grown consumed k (seat_state b.consumed 0 1) is.consumed_none refl ∙ ap (λ n. replicate n 0) (sym len);
         cuts_none = amounts-grown cuts k (seat_state b.cuts 0 1) is.cuts_none refl ∙ ap (λ n. replicate n 0) (sym len);
+        cleared_none = amounts-grown cleared k (seat_state b.cleared 0 1) is.cleared_none refl ∙ ap (λ n. replicate n 0) (sym len);
       }
 
   module _ (planned : IsPlan plan) (all : length slots ≡ length plan.books) where
     -- all of them
-    pub desk-planned : AreUnused plan.session.streams → IsDesk plan plan.session.book consumed cuts
+    pub desk-planned : AreUnused plan.session.streams → IsDesk plan plan.session.book consumed cuts cleared
     desk-planned unused = record {
       planned = planned;
       book_is = record { uuid = refl; offset = refl; mode = refl; channels = refl; threads = refl };
@@ -137,15 +145,18 @@ module _ (plan : PlanState) (slots : List SlotState) (producers : List ProducerS
       cuts_are = subst (λ (tables : List TableId). AreSeatsOf tables cuts)
           (take-all (cut_books plan.books) (length slots) (all ∙ sym (length-map plan.books (λ (x : Books). x.cuts))))
           is.cuts_are;
+      cleared_are = subst (λ (tables : List TableId). AreSeatsOf tables cleared)
+          (take-all (cleared_books plan.books) (length slots) (all ∙ sym (length-map plan.books (λ (x : Books). x.cleared))))
+          is.cleared_are;
       operator = λ i lt.
           let here = there-within plan.session.streams i (omega (arith, lt, planned.books)) in
           let closed : length here.0.parts.closed ≡ chunks_closed i plan.session.book = (planned.session.are i here.0 here.1).closed in
-          let none : length here.0.parts.closed ≡ 0 = ap (λ (x : Totals). x.cuts) (unused i here.0 here.1).0 in
+          let none : length here.0.parts.closed ≡ 0 = ap (λ (x : Totals). x.cuts) (unused i here.0 here.1) in
           ap (λ (xs : List ℕ). slice_index xs i) is.cuts_none ∙ nothing-at (length slots) i (omega (arith, lt, all))
           ∙ sym none ∙ closed;
     }
 
-    pub opened-planned : opened_state (desk_state plan.session.book 0 (amounts_of consumed) (amounts_of cuts)) slots ≡ opened_of plan
+    pub opened-planned : opened_state (desk_state plan.session.book 0 (amounts_of consumed) (amounts_of cuts) (amounts_of cleared)) slots ≡ opened_of plan
     opened-planned =
         let streams : take (length slots) plan.session.streams ≡ plan.session.streams =
         take-all plan.session.streams (length slots) (all ∙ planned.books) in
@@ -153,7 +164,8 @@ module _ (plan : PlanState) (slots : List SlotState) (producers : List ProducerS
         let none : replicate (length slots) 0 ≡ replicate (length plan.books) 0 = ap (λ n. replicate n 0) all in
         let consumed_is : amounts_of consumed ≡ replicate (length plan.books) 0 = is.consumed_none ∙ none in
         let cuts_is : amounts_of cuts ≡ replicate (length plan.books) 0 = is.cuts_none ∙ none in
-        λ j. opened_state (desk_state plan.session.book 0 (consumed_is j) (cuts_is j)) (slots_are j)
+        let cleared_is : amounts_of cleared ≡ replicate (length plan.books) 0 = is.cleared_none ∙ none in
+        λ j. opened_state (desk_state plan.session.book 0 (consumed_is j) (cuts_is j) (cleared_is j)) (slots_are j)
 
 -- nothing is left of a list
 pub drop-none : {X : Type 0} (xs rest : List X) (k : ℕ) → drop k xs ≡ rest → length rest ≡ 0 → k ≤ length xs → k ≡ length xs

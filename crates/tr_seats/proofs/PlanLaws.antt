@@ -41,7 +41,7 @@ unused-stream : (channel : Option Channel) (place : Result ℕ SessionFault) (s 
 unused-stream channel (Err fault) s is = tt
 unused-stream None (Ok place) s is = tt
 unused-stream (Some channel) (Ok place) s is =
-    unused-more s.streams (by_state.new (next_config channel s.book)) is (refl, refl)
+    unused-more s.streams (by_state.new (next_config channel s.book)) is refl
 
 unused-threads : (channel : List ℕ) (n : ℕ) (s : SessionOf StreamState) → AreUnused s.streams
     → StreamsUnused (add_threads by_state channel n s)

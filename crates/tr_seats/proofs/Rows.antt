@@ -7,7 +7,7 @@ use Rattle.std.proofs.lemmas.List.Elements.{All-set, All-append, All-cons, All-n
 use Rattle.std.proofs.Math.Seq.{map-set_same}
 use Rattle.atomic_table.specs.Seated.{TableId}
 use Rattle.tr_ledger.specs.Ledgers.{SeatState, seat_state}
-use Rattle.tr_seats.specs.Books.{Books, no_table, no_books, books_at, consumed_books, cut_books}
+use Rattle.tr_seats.specs.Books.{Books, no_table, no_books, books_at, cleared_books, consumed_books, cut_books}
 use Rattle.tr_seats.specs.Slots.{ProducerState, new_producer, SlotState, AreNew, AreSeatsOf, amounts_of}
 use Rattle.tr_seats.specs.Settling.{AreInPlace}
 
@@ -43,6 +43,9 @@ consumed-at books i d lt = get_or-map (λ (b : Books). b.consumed) books i d no_
 
 pub cuts-at : (books : List Books) (i : ℕ) (d : Books) → i < length books → get_or (cut_books books) i no_table ≡ (get_or books i d).cuts
 cuts-at books i d lt = get_or-map (λ (b : Books). b.cuts) books i d no_table lt
+
+pub cleared-at : (books : List Books) (i : ℕ) (d : Books) → i < length books → get_or (cleared_books books) i no_table ≡ (get_or books i d).cleared
+cleared-at books i d lt = get_or-map (λ (b : Books). b.cleared) books i d no_table lt
 
 module _ (tables : List TableId) (seats : List SeatState) (i : ℕ) (old : SeatState) (h : AreSeatsOf tables seats) (lt : i < length tables)
     (is : old ≡ get_or seats i old) where
@@ -127,3 +130,12 @@ cuts-beside books seats slots i d s h len place lt =
     let below : i < length books = omega arith in
     let wide : i < length (cut_books books) = omega (arith, length-map books (λ (b : Books). b.cuts)) in
     table-in_row (cut_books books) seats i d no_table h wide ∙ cuts-at books i no_books below ∙ ap (λ n. (books_at books n).cuts) (sym (place i s lt))
+
+pub cleared-beside : (books : List Books) (seats : List SeatState) (slots : List SlotState) (i : ℕ) (d : SeatState) (s : SlotState)
+    → map table_in seats ≡ cleared_books books → length slots ≡ length books → AreInPlace slots → i < length slots
+    → (get_or seats i d).table ≡ (books_at books (get_or slots i s).number).cleared
+cleared-beside books seats slots i d s h len place lt =
+    let below : i < length books = omega arith in
+    let wide : i < length (cleared_books books) = omega (arith, length-map books (λ (b : Books). b.cleared)) in
+    table-in_row (cleared_books books) seats i d no_table h wide ∙ cleared-at books i no_books below
+    ∙ ap (λ n. (books_at books n).cleared) (sym (place i s lt))

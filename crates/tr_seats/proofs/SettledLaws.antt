@@ -23,8 +23,8 @@ mapped f (Some a) y is = (a, refl, cc)
 abbrev stream_in : SlotState → StreamState
 stream_in s = s.stream
 
-module _ (plan : PlanState) (book : SessionBookState) (consumed cuts : List SeatState) (slots : List SlotState)
-    (desk : IsDesk plan book consumed cuts) (len : length slots ≡ length plan.books)
+module _ (plan : PlanState) (book : SessionBookState) (consumed cuts cleared : List SeatState) (slots : List SlotState)
+    (desk : IsDesk plan book consumed cuts cleared) (len : length slots ≡ length plan.books)
     (planned : (k : ℕ) (s : SlotState) → k < length slots → IsPlanned plan k (get_or slots k s).stream.config)
     (cut : (k : ℕ) (d : SeatState) (s : SlotState) → k < length slots
     → (get_or cuts k d).amount ≡ (totals_in (get_or slots k s).stream).cuts) where

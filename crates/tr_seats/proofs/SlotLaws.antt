@@ -29,8 +29,8 @@ offered-here number moment id payload slot new result same answer after = (
   after ∙ sym (if-same number slot.number (record slot { stream = state_after_offer moment id payload slot.stream }) slot same),
 )
 
-module _ (books : Books) (s t : StreamState) (made : ℕ) (o d v p k c : LedgerState) (was : AreBooksOf books s made o d v p k c)
-    (still : t.counters.cleared ≡ s.counters.cleared) where
+module _ (books : Books) (s t : StreamState) (made : ℕ) (o d v p k c l : LedgerState)
+    (was : AreBooksOf books s made o d v p k c l) where
   -- the ledgers of the stream after its step, where their totals are given
   rise : (table : Books → TableId) (total : Totals → ℕ) (old new : LedgerState) (n made : ℕ)
       → old ≡ ledger_state (table books) (total (totals_in s)) made → new ≡ ledger_state old.table (old.total + n) old.made
@@ -46,7 +46,7 @@ module _ (books : Books) (s t : StreamState) (made : ℕ) (o d v p k c : LedgerS
 
   -- no count but that of the offers moved
   pub books-stored : (o' : LedgerState) (serial seq : ℕ) → totals_in t ≡ totals_after_offer (Stored serial seq) (totals_in s)
-      → o' ≡ ledger_state o.table (o.total + 1) o.made → AreBooksOf books t made o' d v p k c
+      → o' ≡ ledger_state o.table (o.total + 1) o.made → AreBooksOf books t made o' d v p k c l
   books-stored o' serial seq more e = record {
     offered_is = rise (λ (b : Books). b.offered) (λ (x : Totals). x.offered) o o' 1 0 was.offered_is e (ap (λ (x : Totals). x.offered) more);
     discarded_is = stay (λ (b : Books). b.discarded) (λ (x : Totals). x.discarded) d 0 was.discarded_is (ap (λ (x : Totals). x.discarded) more);
@@ -56,13 +56,13 @@ module _ (books : Books) (s t : StreamState) (made : ℕ) (o d v p k c : LedgerS
         (ap (λ (x : Totals). x.overwritten_packets) more);
     consumed_is = stay (λ (b : Books). b.consumed) (λ (x : Totals). x.consumed) k made was.consumed_is (ap (λ (x : Totals). x.consumed) more);
     cuts_is = stay (λ (b : Books). b.cuts) (λ (x : Totals). x.cuts) c 0 was.cuts_is (ap (λ (x : Totals). x.cuts) more);
-    uncleared = still ∙ was.uncleared;
+    cleared_is = stay (λ (b : Books). b.cleared) (λ (x : Totals). x.cleared) l 0 was.cleared_is (ap (λ (x : Totals). x.cleared) more);
   }
 
   pub books-stored_over : (o' v' p' : LedgerState) (serial seq gone_seq gone_count : ℕ)
       → totals_in t ≡ totals_after_offer (StoredOver serial seq gone_seq gone_count) (totals_in s)
       → o' ≡ ledger_state o.table (o.total + 1) o.made → v' ≡ ledger_state v.table (v.total + gone_count) v.made
-      → p' ≡ ledger_state p.table (p.total + 1) p.made → AreBooksOf books t made o' d v' p' k c
+      → p' ≡ ledger_state p.table (p.total + 1) p.made → AreBooksOf books t made o' d v' p' k c l
   books-stored_over o' v' p' serial seq gone_seq gone_count more eo ev ep = record {
     offered_is = rise (λ (b : Books). b.offered) (λ (x : Totals). x.offered) o o' 1 0 was.offered_is eo (ap (λ (x : Totals). x.offered) more);
     discarded_is = stay (λ (b : Books). b.discarded) (λ (x : Totals). x.discarded) d 0 was.discarded_is (ap (λ (x : Totals). x.discarded) more);
@@ -72,12 +72,12 @@ module _ (books : Books) (s t : StreamState) (made : ℕ) (o d v p k c : LedgerS
         (ap (λ (x : Totals). x.overwritten_packets) more);
     consumed_is = stay (λ (b : Books). b.consumed) (λ (x : Totals). x.consumed) k made was.consumed_is (ap (λ (x : Totals). x.consumed) more);
     cuts_is = stay (λ (b : Books). b.cuts) (λ (x : Totals). x.cuts) c 0 was.cuts_is (ap (λ (x : Totals). x.cuts) more);
-    uncleared = still ∙ was.uncleared;
+    cleared_is = stay (λ (b : Books). b.cleared) (λ (x : Totals). x.cleared) l 0 was.cleared_is (ap (λ (x : Totals). x.cleared) more);
   }
 
   pub books-discarded : (o' d' : LedgerState) (serial : ℕ) → totals_in t ≡ totals_after_offer (Discarded serial) (totals_in s)
       → o' ≡ ledger_state o.table (o.total + 1) o.made → d' ≡ ledger_state d.table (d.total + 1) d.made
-      → AreBooksOf books t made o' d' v p k c
+      → AreBooksOf books t made o' d' v p k c l
   books-discarded o' d' serial more eo ed = record {
     offered_is = rise (λ (b : Books). b.offered) (λ (x : Totals). x.offered) o o' 1 0 was.offered_is eo (ap (λ (x : Totals). x.offered) more);
     discarded_is = rise (λ (b : Books). b.discarded) (λ (x : Totals). x.discarded) d d' 1 0 was.discarded_is ed
@@ -88,11 +88,11 @@ module _ (books : Books) (s t : StreamState) (made : ℕ) (o d v p k c : LedgerS
         (ap (λ (x : Totals). x.overwritten_packets) more);
     consumed_is = stay (λ (b : Books). b.consumed) (λ (x : Totals). x.consumed) k made was.consumed_is (ap (λ (x : Totals). x.consumed) more);
     cuts_is = stay (λ (b : Books). b.cuts) (λ (x : Totals). x.cuts) c 0 was.cuts_is (ap (λ (x : Totals). x.cuts) more);
-    uncleared = still ∙ was.uncleared;
+    cleared_is = stay (λ (b : Books). b.cleared) (λ (x : Totals). x.cleared) l 0 was.cleared_is (ap (λ (x : Totals). x.cleared) more);
   }
 
   pub books-taken : (k' : LedgerState) (n : ℕ) → totals_in t ≡ record (totals_in s) { consumed = (totals_in s).consumed + n }
-      → k' ≡ ledger_state k.table (k.total + n) k.made → AreBooksOf books t k'.made o d v p k' c
+      → k' ≡ ledger_state k.table (k.total + n) k.made → AreBooksOf books t k'.made o d v p k' c l
   books-taken k' n more e =
       let same : k'.made ≡ made =
       ap (λ (l : LedgerState). l.made) (e ∙ ap (λ (l : LedgerState). ledger_state l.table (l.total + n) l.made) was.consumed_is) in
@@ -107,13 +107,13 @@ module _ (books : Books) (s t : StreamState) (made : ℕ) (o d v p k c : LedgerS
             (ap (λ (x : Totals). x.consumed) more)
             ∙ ap (λ (m : ℕ). ledger_state books.consumed (totals_in t).consumed m) (sym same);
         cuts_is = stay (λ (b : Books). b.cuts) (λ (x : Totals). x.cuts) c 0 was.cuts_is (ap (λ (x : Totals). x.cuts) more);
-        uncleared = still ∙ was.uncleared;
+        cleared_is = stay (λ (b : Books). b.cleared) (λ (x : Totals). x.cleared) l 0 was.cleared_is (ap (λ (x : Totals). x.cleared) more);
       }
 
   pub books-cut : (k' c' : LedgerState) (n : ℕ)
       → totals_in t ≡ record (totals_in s) { consumed = (totals_in s).consumed + n; cuts = (totals_in s).cuts + 1 }
       → k' ≡ ledger_state k.table (k.total + n) k.made → c' ≡ ledger_state c.table (c.total + 1) c.made
-      → AreBooksOf books t k'.made o d v p k' c'
+      → AreBooksOf books t k'.made o d v p k' c' l
   books-cut k' c' n more e ec =
       let same : k'.made ≡ made =
       ap (λ (l : LedgerState). l.made) (e ∙ ap (λ (l : LedgerState). ledger_state l.table (l.total + n) l.made) was.consumed_is) in
@@ -128,8 +128,22 @@ module _ (books : Books) (s t : StreamState) (made : ℕ) (o d v p k c : LedgerS
             (ap (λ (x : Totals). x.consumed) more)
             ∙ ap (λ (m : ℕ). ledger_state books.consumed (totals_in t).consumed m) (sym same);
         cuts_is = rise (λ (b : Books). b.cuts) (λ (x : Totals). x.cuts) c c' 1 0 was.cuts_is ec (ap (λ (x : Totals). x.cuts) more);
-        uncleared = still ∙ was.uncleared;
+        cleared_is = stay (λ (b : Books). b.cleared) (λ (x : Totals). x.cleared) l 0 was.cleared_is (ap (λ (x : Totals). x.cleared) more);
       }
+
+  pub books-cleared : (l' : LedgerState) (n : ℕ) → totals_in t ≡ record (totals_in s) { cleared = (totals_in s).cleared + n }
+      → l' ≡ ledger_state l.table (l.total + n) l.made → AreBooksOf books t made o d v p k c l'
+  books-cleared l' n more e = record {
+    offered_is = stay (λ (b : Books). b.offered) (λ (x : Totals). x.offered) o 0 was.offered_is (ap (λ (x : Totals). x.offered) more);
+    discarded_is = stay (λ (b : Books). b.discarded) (λ (x : Totals). x.discarded) d 0 was.discarded_is (ap (λ (x : Totals). x.discarded) more);
+    overwritten_is = stay (λ (b : Books). b.overwritten) (λ (x : Totals). x.overwritten) v 0 was.overwritten_is
+        (ap (λ (x : Totals). x.overwritten) more);
+    packets_is = stay (λ (b : Books). b.overwritten_packets) (λ (x : Totals). x.overwritten_packets) p 0 was.packets_is
+        (ap (λ (x : Totals). x.overwritten_packets) more);
+    consumed_is = stay (λ (b : Books). b.consumed) (λ (x : Totals). x.consumed) k made was.consumed_is (ap (λ (x : Totals). x.consumed) more);
+    cuts_is = stay (λ (b : Books). b.cuts) (λ (x : Totals). x.cuts) c 0 was.cuts_is (ap (λ (x : Totals). x.cuts) more);
+    cleared_is = rise (λ (b : Books). b.cleared) (λ (x : Totals). x.cleared) l l' n 0 was.cleared_is e (ap (λ (x : Totals). x.cleared) more);
+  }
 
 -- a whole seat that was raised by one had the whole total before
 pub whole-before : (ledger raised : LedgerState) (seat risen : SeatState) (table : TableId) (total : ℕ)

@@ -11,7 +11,7 @@ use Rattle.tr_terms.specs.declared.session_mode.SessionMode.{SessionMode}
 use Rattle.tr_terms.specs.declared.session_mode.SessionMode.TheVariants.{Local, Snapshot}
 use Rattle.tr_seats.specs.Sums.{totals_in}
 
--- the tables of a stream's six books
+-- the tables of a stream's seven books
 pub record Books : Type 0 where
   pub offered : TableId
   pub discarded : TableId
@@ -19,15 +19,17 @@ pub record Books : Type 0 where
   pub overwritten_packets : TableId
   pub consumed : TableId
   pub cuts : TableId
+  pub cleared : TableId
 
-abbrev pub books_of : (offered discarded overwritten overwritten_packets consumed cuts : TableId) → Books
-books_of offered discarded overwritten overwritten_packets consumed cuts = record {
+abbrev pub books_of : (offered discarded overwritten overwritten_packets consumed cuts cleared : TableId) → Books
+books_of offered discarded overwritten overwritten_packets consumed cuts cleared = record {
   offered = offered;
   discarded = discarded;
   overwritten = overwritten;
   overwritten_packets = overwritten_packets;
   consumed = consumed;
   cuts = cuts;
+  cleared = cleared;
 }
 
 -- the session as it was configured, and the books of its streams, in order of number
@@ -42,7 +44,7 @@ abbrev pub no_table : TableId
 no_table = record { words = 0; slots = 0; views_name = 0; atom = 0; block = 0; offset = 0; slot_names = [] }
 
 abbrev pub no_books : Books
-no_books = books_of no_table no_table no_table no_table no_table no_table
+no_books = books_of no_table no_table no_table no_table no_table no_table no_table
 
 abbrev pub no_plan : PlanState
 no_plan = plan_state (new_session [] (pos 0) Local) []
@@ -60,10 +62,9 @@ abbrev pub IsTooBig : PlanState → ℕ → ℕ → Type 0
 IsTooBig plan i len =
     (config : StreamConfig) → IsPlanned plan i config → config.geometry.size < SMALLEST_PACKET + len
 
--- a stream's books: their totals are its counts, and only that of the consumed records has made seats; nothing of the stream
--- was cleared, since no call here does that
+-- a stream's books: their totals are its counts, and only that of the consumed records has made seats
 pub record AreBooksOf (books : Books) (stream : StreamState) (made : ℕ)
-    (offered discarded overwritten overwritten_packets consumed cuts : LedgerState) : Type 0 where
+    (offered discarded overwritten overwritten_packets consumed cuts cleared : LedgerState) : Type 0 where
   pub offered_is : offered ≡ ledger_state books.offered (totals_in stream).offered 0
   pub discarded_is : discarded ≡ ledger_state books.discarded (totals_in stream).discarded 0
   pub overwritten_is : overwritten ≡ ledger_state books.overwritten (totals_in stream).overwritten 0
@@ -71,14 +72,17 @@ pub record AreBooksOf (books : Books) (stream : StreamState) (made : ℕ)
       ≡ ledger_state books.overwritten_packets (totals_in stream).overwritten_packets 0
   pub consumed_is : consumed ≡ ledger_state books.consumed (totals_in stream).consumed made
   pub cuts_is : cuts ≡ ledger_state books.cuts (totals_in stream).cuts 0
-  pub uncleared : stream.counters.cleared ≡ 0
+  pub cleared_is : cleared ≡ ledger_state books.cleared (totals_in stream).cleared 0
 
--- the books of what the streams consumed, and those of their cuts
+-- the books of what the streams consumed, those of their cuts, and those of what was cleared
 abbrev pub consumed_books : List Books → List TableId
 consumed_books books = map (λ (b : Books). b.consumed) books
 
 abbrev pub cut_books : List Books → List TableId
 cut_books books = map (λ (b : Books). b.cuts) books
+
+abbrev pub cleared_books : List Books → List TableId
+cleared_books books = map (λ (b : Books). b.cleared) books
 
 -- in a snapshot session every ring overwrites
 abbrev pub AreOverwriting : SessionMode → List StreamState → Type 0

@@ -1,7 +1,7 @@
--- The desk of a session: its book, with the seats of what it consumes and cuts.
+-- The desk of a session: its book, with the seats of what it consumes, cuts and clears.
 use Rattle.std.specs.Prelude.{◌≡◌, ℕ, ◌+◌, ◌<◌, List, length, nat_le, Result, Ok, Err, slice_index, if◌then◌else◌}
 use Rattle.tr_ledger.specs.Ledgers.{SeatState}
-use Rattle.tr_seats.specs.Books.{IsPlan, PlanState, consumed_books, cut_books}
+use Rattle.tr_seats.specs.Books.{IsPlan, PlanState, cleared_books, consumed_books, cut_books}
 use Rattle.tr_seats.specs.Slots.{AreSeatsOf, amounts_of}
 use Rattle.tr_seats.specs.declared.limits.TheConstants.{MOST_DRAINERS}
 use Rattle.tr_session_book.specs.Book.{SessionBookState}
@@ -15,10 +15,11 @@ pub record DeskState : Type 0 where
   pub drainers : ℕ
   pub consumed : List ℕ
   pub cuts : List ℕ
+  pub cleared : List ℕ
 
-abbrev pub desk_state : SessionBookState → ℕ → List ℕ → List ℕ → DeskState
-desk_state book drainers consumed cuts =
-    record { book = book; drainers = drainers; consumed = consumed; cuts = cuts }
+abbrev pub desk_state : SessionBookState → ℕ → List ℕ → List ℕ → List ℕ → DeskState
+desk_state book drainers consumed cuts cleared =
+    record { book = book; drainers = drainers; consumed = consumed; cuts = cuts; cleared = cleared }
 
 -- what no call changes in a book once its session is shared
 pub record IsOfPlan (planned book : SessionBookState) : Type 0 where
@@ -28,13 +29,14 @@ pub record IsOfPlan (planned book : SessionBookState) : Type 0 where
   pub channels : book.channels ≡ planned.channels
   pub threads : book.threads ≡ planned.threads
 
--- the desk of a plan: it has a seat of each stream's consumed records, and the whole seat of its cuts, which says how many
--- chunks of the stream are closed
-pub record IsDesk (plan : PlanState) (book : SessionBookState) (consumed cuts : List SeatState) : Type 0 where
+-- the desk of a plan: it has a seat of each stream's consumed records, the whole seat of its cuts, which says how many
+-- chunks of the stream are closed, and the whole seat of its cleared records
+pub record IsDesk (plan : PlanState) (book : SessionBookState) (consumed cuts cleared : List SeatState) : Type 0 where
   pub planned : IsPlan plan
   pub book_is : IsOfPlan plan.session.book book
   pub consumed_are : AreSeatsOf (consumed_books plan.books) consumed
   pub cuts_are : AreSeatsOf (cut_books plan.books) cuts
+  pub cleared_are : AreSeatsOf (cleared_books plan.books) cleared
   pub operator : (i : ℕ) → i < length plan.books → slice_index (amounts_of cuts) i ≡ chunks_closed i book
 
 -- a drainer is begun, with no seat yet, unless as many were as are allowed

@@ -1,4 +1,5 @@
 pub mod Books
+pub mod Clears
 pub mod Cuts
 pub mod Desks
 pub mod Drainers

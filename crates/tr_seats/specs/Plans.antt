@@ -1,7 +1,7 @@
 -- What a plan makes of its session.
 use Rattle.std.specs.Prelude.{◌≡◌, ◌≤◌, ℕ, suc, List, [], ◌∷◌, Some, length, map, replicate, slice_get, take}
 use Rattle.tr_ledger.specs.Ledgers.{LedgerState, SeatState, ledger_state, seat_state}
-use Rattle.tr_seats.specs.Books.{Books, PlanState, consumed_books, cut_books}
+use Rattle.tr_seats.specs.Books.{Books, PlanState, cleared_books, consumed_books, cut_books}
 use Rattle.tr_seats.specs.Desks.{desk_state}
 use Rattle.tr_seats.specs.Settling.{OpenedState, opened_state}
 use Rattle.tr_seats.specs.Slots.{AreNew, AreSeatsOf, ProducerState, SlotState, amounts_of, slot_state}
@@ -25,11 +25,12 @@ no_totals = record {
   overwritten_packets = 0;
   consumed = 0;
   cuts = 0;
+  cleared = 0;
 }
 
 -- nothing was done on a stream
 abbrev pub IsUnused : StreamState → Type 0
-IsUnused t = (totals_in t ≡ no_totals) × (t.counters.cleared ≡ 0)
+IsUnused t = totals_in t ≡ no_totals
 
 -- nothing was done on these streams
 abbrev pub AreUnused : List StreamState → Type 0
@@ -47,7 +48,8 @@ slots_from i (t ∷ ts) = slot_state i t 0 ∷ slots_from (suc i) ts
 -- a planned session before its first call: no drainer was made, and no seat has anything
 abbrev pub opened_of : PlanState → OpenedState
 opened_of plan = opened_state
-    (desk_state plan.session.book 0 (replicate (length plan.books) 0) (replicate (length plan.books) 0))
+    (desk_state plan.session.book 0 (replicate (length plan.books) 0) (replicate (length plan.books) 0)
+    (replicate (length plan.books) 0))
     (slots_from 0 plan.session.streams)
 
 -- the streams of these, and their books
@@ -59,11 +61,13 @@ books_in planned = map (λ (p : PlannedState). p.books) planned
 
 -- the first streams of a plan in their slots, with their producers and the desk's seats
 pub record AreNamed (plan : PlanState) (slots : List SlotState) (producers : List ProducerState)
-    (consumed cuts : List SeatState) : Type 0 where
+    (consumed cuts cleared : List SeatState) : Type 0 where
   pub within : length slots ≤ length plan.books
   pub slots_are : slots ≡ slots_from 0 (take (length slots) plan.session.streams)
   pub producers_are : AreNew (length slots) producers
   pub consumed_are : AreSeatsOf (take (length slots) (consumed_books plan.books)) consumed
   pub cuts_are : AreSeatsOf (take (length slots) (cut_books plan.books)) cuts
+  pub cleared_are : AreSeatsOf (take (length slots) (cleared_books plan.books)) cleared
   pub consumed_none : amounts_of consumed ≡ replicate (length slots) 0
   pub cuts_none : amounts_of cuts ≡ replicate (length slots) 0
+  pub cleared_none : amounts_of cleared ≡ replicate (length slots) 0

@@ -1,5 +1,5 @@
 -- What settling answers.
-use Rattle.std.specs.Prelude.{◌≡◌, ◌≢◌, ℕ, ◌+◌, ◌<◌, ◌==◌, List, Some, length, map, sum, count_by, slice_get, slice_index, slice_index_or, All}
+use Rattle.std.specs.Prelude.{◌≡◌, ◌≢◌, ℕ, ◌+◌, ◌<◌, ◌≤◌, ◌==◌, List, Some, length, map, sum, count_by, slice_get, slice_index, slice_index_or, All}
 use Rattle.std.specs.List.{sum_by}
 use Rattle.tr_seats.specs.Books.{IsPlanned, PlanState}
 use Rattle.tr_seats.specs.Desks.{DeskState, IsOfPlan}
@@ -9,7 +9,7 @@ use Rattle.tr_seats.specs.declared.settling.SettleError.{SettleError}
 use Rattle.tr_seats.specs.declared.settling.SettleError.TheVariants.{ProducerMissing, DrainerMissing, Misplaced}
 use Rattle.tr_seats.specs.declared.totals.Totals.{Totals}
 use Rattle.tr_session.specs.Session.{SessionOf}
-use Rattle.tr_stream.specs.State.{StreamState}
+use Rattle.tr_stream.specs.State.{StreamState, in_parts, in_ring}
 
 -- a session out of its locks
 pub record OpenedState : Type 0 where
@@ -38,7 +38,19 @@ totals_of_seats producers drainers desk = record {
   overwritten_packets = sum_by (λ (p : ProducerState). p.overwritten_packets) producers;
   consumed = sum desk.consumed + sum_by sum drainers;
   cuts = sum desk.cuts;
+  cleared = sum desk.cleared;
 }
+
+-- each record that was offered was discarded, overwritten or cleared, or is in a ring or in a part
+abbrev pub AddUp : Totals → List StreamState → Type 0
+AddUp t streams = t.offered ≡ t.discarded + t.overwritten + t.cleared + sum_by (λ (s : StreamState). in_ring s.ring) streams
+    + sum_by (λ (s : StreamState). in_parts s.parts) streams
+
+-- each record that was consumed is in a part, or was cleared after that
+abbrev pub WereConsumed : Totals → List StreamState → Type 0
+WereConsumed t streams =
+    (t.consumed ≡ sum_by (λ (s : StreamState). in_parts s.parts) streams + sum_by (λ (s : StreamState). s.counters.withdrawn) streams)
+    × (sum_by (λ (s : StreamState). s.counters.withdrawn) streams ≤ t.cleared)
 
 -- what the drainers took from the stream of this number
 abbrev pub taken_of : List (List ℕ) → ℕ → ℕ

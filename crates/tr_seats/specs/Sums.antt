@@ -15,6 +15,7 @@ totals_in s = record {
   overwritten_packets = s.counters.overwritten_packets;
   consumed = s.counters.consumed;
   cuts = length s.parts.closed;
+  cleared = s.counters.cleared;
 }
 
 -- the sums over all streams
@@ -26,6 +27,7 @@ totals_of streams = record {
   overwritten_packets = sum_by (λ (s : StreamState). (totals_in s).overwritten_packets) streams;
   consumed = sum_by (λ (s : StreamState). (totals_in s).consumed) streams;
   cuts = sum_by (λ (s : StreamState). (totals_in s).cuts) streams;
+  cleared = sum_by (λ (s : StreamState). (totals_in s).cleared) streams;
 }
 
 -- what an accepted offer adds

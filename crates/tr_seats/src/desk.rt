@@ -14,13 +14,14 @@ use tr_ledger::Seat;
 use tr_session_book::{SessionBook, SessionFault};
 use tr_terms::Moment;
 
-/// A session's book, and the seats of what rotations consume and cut. Contracts see a `DeskState`.
+/// A session's book, and the seats of what rotations consume and cut, and of what clears remove. Contracts see a `DeskState`.
 #[derive(Drop)]
 pub struct Desk<N: Names, A: Allocator = Global> {
     pub(crate) book: SessionBook<A>,
     pub(crate) drainers: u64,
     pub(crate) consumed: Vec<Seat, A>,
     pub(crate) cuts: Vec<Seat, A>,
+    pub(crate) cleared: Vec<Seat, A>,
     pub(crate) of: PhantomData<N>,
 }
 
@@ -30,9 +31,10 @@ impl<N: Names, A: Allocator> Model for Desk<N, A> {
 
     ghost Value = { DeskState };
 
-    ghost view = { λ d. desk_state d.book d.drainers (amounts_of d.consumed.items) (amounts_of d.cuts.items) };
+    ghost view = { λ d. desk_state d.book d.drainers (amounts_of d.consumed.items) (amounts_of d.cuts.items)
+        (amounts_of d.cleared.items) };
 
-    ghost invariant = { λ d. IsDesk N.plan d.book d.consumed.items d.cuts.items };
+    ghost invariant = { λ d. IsDesk N.plan d.book d.consumed.items d.cuts.items d.cleared.items };
 }
 
 impl<N: Names, A: Allocator> Desk<N, A> {

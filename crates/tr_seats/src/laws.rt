@@ -1,18 +1,20 @@
-//! What the calls on a stream under its lock have to do with its history, and what a cut at a desk has to do with its session.
+//! What the calls on a stream under its lock have to do with its history, and what a cut or a clear at a desk has to do with
+//! its session.
 
-ghost use Rattle.std.specs.Prelude.{◌≡◌, ℕ, Bool, List, Some, slice_get, slice_set};
+ghost use Rattle.std.specs.Prelude.{◌≡◌, ◌<◌, ℕ, Bool, List, Some, length, slice_get, slice_set};
+ghost use Rattle.tr_seats.specs.Clears.{desk_after_clear, desk_clear_answer, slot_after_clear};
 ghost use Rattle.tr_seats.specs.Cuts.{desk_after_cut, desk_cut_answer, slot_after_cut};
 ghost use Rattle.tr_seats.specs.Desks.{DeskState};
 ghost use Rattle.tr_seats.specs.Slots.{SlotState};
 ghost use Rattle.tr_session.specs.Session.{session_of};
-ghost use Rattle.tr_session.specs.Steps.{session_after_cut, session_cut_answer};
+ghost use Rattle.tr_session.specs.Steps.{session_after_clear, session_after_cut, session_clear_answer, session_cut_answer};
 ghost use Rattle.tr_stream.specs.History.{History};
 ghost use Rattle.tr_stream.specs.Kept.{IsKept};
 ghost use Rattle.tr_stream.specs.Rules.{by_state};
 ghost use Rattle.tr_stream.specs.StandsFor.{StandsFor};
 ghost use Rattle.tr_stream.specs.State.{StreamState};
-ghost use Rattle.tr_stream.specs.StateSteps.{state_after_cut, state_after_offer, state_after_switch, state_after_take, state_cut_answer, state_offer_answer, state_snap, state_take_answer};
-ghost use Rattle.tr_stream.specs.Steps.{history_after_cut, history_after_offer, history_after_switch, history_after_take, history_cut_answer, history_offer_answer, history_snap, history_take_answer};
+ghost use Rattle.tr_stream.specs.StateSteps.{state_after_clear, state_after_cut, state_after_offer, state_after_switch, state_after_take, state_clear_answer, state_cut_answer, state_offer_answer, state_snap, state_take_answer};
+ghost use Rattle.tr_stream.specs.Steps.{history_after_clear, history_after_cut, history_after_offer, history_after_switch, history_after_take, history_clear_answer, history_cut_answer, history_offer_answer, history_snap, history_take_answer};
 
 use tr_terms::SessionMode;
 
@@ -30,6 +32,19 @@ pub fn every_cut()
         ≡ session_after_cut by_state i (session_of desk.book streams) }
 {}
 
+/// A clear at a desk is its session's rule: it answers as a session of the desk's book answers that has the slot's stream at
+/// its number, whatever its other streams are, and leaves what that session has then. Does nothing.
+pub fn every_clear()
+    ensures answer { (i : ℕ) (desk : DeskState) (slot : SlotState) (streams : List StreamState)
+        → i ≡ slot.number → i < length desk.book.threads → slice_get streams i ≡ Some slot.stream
+        → desk_clear_answer i desk slot ≡ session_clear_answer by_state i (session_of desk.book streams) }
+    ensures after { (i : ℕ) (desk : DeskState) (slot : SlotState) (streams : List StreamState)
+        → i ≡ slot.number → i < length desk.book.threads → slice_get streams i ≡ Some slot.stream
+        → session_of (desk_after_clear (desk_clear_answer i desk slot) i desk).book
+        (slice_set streams i (slot_after_clear i desk slot).stream)
+        ≡ session_after_clear by_state i (session_of desk.book streams) }
+{}
+
 /// The calls on a stream under its lock are its history's steps: whatever history a stream stands for, what a `Slot` or a
 /// `Desk` answers of it is what that history answers, and what they leave stands for the history after that step. Does
 /// nothing.
@@ -43,6 +58,9 @@ pub fn every_step()
     ensures cut { (s : StreamState) (h : History) (moment : ℕ) → StandsFor s h
         → (state_cut_answer moment s ≡ history_cut_answer s.config moment h)
         × StandsFor (state_after_cut moment s) (history_after_cut s.config moment h) }
+    ensures clear { (s : StreamState) (h : History) → StandsFor s h
+        → (state_clear_answer s ≡ history_clear_answer s.config h)
+        × StandsFor (state_after_clear s) (history_after_clear s.config h) }
     ensures switch { (s : StreamState) (h : History) (active : Bool) → StandsFor s h
         → StandsFor (state_after_switch active s) (history_after_switch active h) }
     ensures look { (s : StreamState) (h : History) (moment : ℕ) → StandsFor s h

@@ -3,6 +3,7 @@
 #![tactic(auto)]
 
 mod both;
+mod clearing;
 mod desk;
 mod drainer;
 mod laws;
@@ -21,7 +22,7 @@ mod totals;
 
 pub use desk::Desk;
 pub use drainer::{Drainer, DrainerBegun};
-pub use laws::{every_cut, every_step};
+pub use laws::{every_clear, every_cut, every_step};
 pub use limits::MOST_DRAINERS;
 pub use making::plan;
 pub use names::Names;

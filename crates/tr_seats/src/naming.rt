@@ -25,6 +25,7 @@ pub(crate) struct Named<N: Names, A: Allocator = Global> {
     producers: Vec<Producer<N>, A>,
     consumed: Vec<Seat, A>,
     cuts: Vec<Seat, A>,
+    cleared: Vec<Seat, A>,
 }
 
 impl<N: Names, A: Allocator> Model for Named<N, A> {
@@ -35,7 +36,8 @@ impl<N: Names, A: Allocator> Model for Named<N, A> {
 
     ghost view = { λ n. length n.slots.items };
 
-    ghost invariant = { λ n. AreNamed N.plan n.slots.items n.producers.items n.consumed.items n.cuts.items };
+    ghost invariant = { λ n. AreNamed N.plan n.slots.items n.producers.items n.consumed.items n.cuts.items
+        n.cleared.items };
 }
 
 impl<N: Names, A: Allocator + Copy> Named<N, A> {
@@ -48,6 +50,7 @@ impl<N: Names, A: Allocator + Copy> Named<N, A> {
             producers: Vec::new(alloc),
             consumed: Vec::new(alloc),
             cuts: Vec::new(alloc),
+            cleared: Vec::new(alloc),
         }
     }
 
@@ -62,17 +65,20 @@ impl<N: Names, A: Allocator + Copy> Named<N, A> {
             mut producers,
             mut consumed,
             mut cuts,
+            mut cleared,
         } = self;
-        let (slot, producer, consumed_seat, cut_seat) = named_as(slots.len(), planned);
+        let (slot, producer, seats) = named_as(slots.len(), planned);
         slots.push(slot)?;
         producers.push(producer)?;
-        consumed.push(consumed_seat)?;
-        cuts.push(cut_seat)?;
+        consumed.push(seats.consumed)?;
+        cuts.push(seats.cuts)?;
+        cleared.push(seats.cleared)?;
         Ok(Named {
             slots,
             producers,
             consumed,
             cuts,
+            cleared,
         })
     }
 
@@ -95,29 +101,40 @@ impl<N: Names, A: Allocator + Copy> Named<N, A> {
             producers,
             consumed,
             cuts,
+            cleared,
         } = self;
         let desk = Desk {
             book,
             drainers: 0,
             consumed,
             cuts,
+            cleared,
             of: PhantomData,
         };
         (Opened::from_parts(alloc, desk, slots, room), producers)
     }
 }
 
-/// A stream with this number in its slot, its producer, and the whole seats of what it consumes and of its cuts.
+/// The whole seats of a stream that the desk keeps: of what it consumes, of its cuts, and of what is cleared.
+#[derive(Drop)]
+struct DeskSeats {
+    consumed: Seat,
+    cuts: Seat,
+    cleared: Seat,
+}
+
+/// A stream with this number in its slot, its producer, and the desk's seats of it.
 fn named_as<N: Names, A: Allocator>(
     number: usize,
     planned: PlannedStream<A>,
-) -> (Slot<N, A>, Producer<N>, Seat, Seat)
+) -> (Slot<N, A>, Producer<N>, DeskSeats)
     requires stream { slice_get N.plan.session.streams number ≡ Some planned.stream }
     requires books { slice_get N.plan.books number ≡ Some planned.books }
     ensures slot { result.0 ≡ slot_state number planned.stream 0 }
     ensures producer { result.1 ≡ new_producer number }
-    ensures consumed { result.2 ≡ seat_state planned.books.consumed 0 1 }
-    ensures cuts { result.3 ≡ seat_state planned.books.cuts 0 1 }
+    ensures consumed { result.2.consumed ≡ seat_state planned.books.consumed 0 1 }
+    ensures cuts { result.2.cuts ≡ seat_state planned.books.cuts 0 1 }
+    ensures cleared { result.2.cleared ≡ seat_state planned.books.cleared 0 1 }
 {
     let PlannedStream {
         stream,
@@ -127,6 +144,7 @@ fn named_as<N: Names, A: Allocator>(
         overwritten_packets: (packets, packets_seat),
         consumed: (consumed, consumed_seat),
         cuts: (cuts, cut_seat),
+        cleared: (cleared, cleared_seat),
     } = planned;
     let producer = Producer {
         number,
@@ -145,7 +163,13 @@ fn named_as<N: Names, A: Allocator>(
         overwritten_packets: packets,
         consumed,
         cuts,
+        cleared,
         of: PhantomData,
     };
-    (slot, producer, consumed_seat, cut_seat)
+    let seats = DeskSeats {
+        consumed: consumed_seat,
+        cuts: cut_seat,
+        cleared: cleared_seat,
+    };
+    (slot, producer, seats)
 }

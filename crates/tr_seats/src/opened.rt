@@ -1,10 +1,9 @@
 //! A session out of its locks.
 
 ghost use Rattle.std.specs.Prelude.{◌≡◌, ◌+◌, ◌≤◌, IfErr, IfOk, length, sum_by, vec_capacity, vec_len};
-ghost use Rattle.tr_seats.specs.Settling.{AreTheirs, CanSettle, HaveConsumed, IsSessionOf, IsWhy, opened_state, streams_of, totals_of_seats};
+ghost use Rattle.tr_seats.specs.Settling.{AddUp, AreTheirs, CanSettle, HaveConsumed, WereConsumed, IsSessionOf, IsWhy, opened_state, streams_of, totals_of_seats};
 ghost use Rattle.tr_seats.specs.Sums.{totals_of};
 ghost use Rattle.tr_session.specs.Session.{session_of};
-ghost use Rattle.tr_stream.specs.State.{StreamState, in_ring};
 
 use crate::desk::Desk;
 use crate::drainer::Drainer;
@@ -111,9 +110,8 @@ impl<N: Names, A: Allocator + Copy> Opened<N, A> {
         ensures seats { IfOk result (λ r. r.1 ≡ totals_of_seats producers.items drainers.items self.desk) }
         ensures own { IfOk result (λ r. AreTheirs producers.items r.0.streams) }
         ensures taken { IfOk result (λ r. HaveConsumed self.desk.consumed drainers.items r.0.streams) }
-        ensures places { IfOk result
-            (λ r. r.1.offered ≡ r.1.discarded + r.1.overwritten
-            + sum_by (λ (s : StreamState). in_ring s.ring) (streams_of self.slots) + r.1.consumed) }
+        ensures places { IfOk result (λ r. AddUp r.1 (streams_of self.slots)) }
+        ensures consumed { IfOk result (λ r. WereConsumed r.1 (streams_of self.slots)) }
         ensures why { IfErr result (λ u. IsWhy u.error producers.items (length drainers.items) self) }
         ensures back { IfErr result
             (λ u. (u.opened ≡ self) × (u.producers ≡ producers) × (u.drainers ≡ drainers)) }

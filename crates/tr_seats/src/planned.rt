@@ -26,6 +26,7 @@ pub(crate) struct PlannedStream<A: Allocator = Global> {
     pub(crate) overwritten_packets: (Ledger<A>, Seat),
     pub(crate) consumed: (Ledger<A>, Seat),
     pub(crate) cuts: (Ledger<A>, Seat),
+    pub(crate) cleared: (Ledger<A>, Seat),
 }
 
 impl<A: Allocator> Model for PlannedStream<A> {
@@ -35,12 +36,12 @@ impl<A: Allocator> Model for PlannedStream<A> {
     ghost Value = { PlannedState };
 
     ghost view = { λ p. planned_state p.stream (books_of p.offered.0.table p.discarded.0.table p.overwritten.0.table
-        p.overwritten_packets.0.table p.consumed.0.table p.cuts.0.table) };
+        p.overwritten_packets.0.table p.consumed.0.table p.cuts.0.table p.cleared.0.table) };
 
     ghost invariant = { λ p. IsUnused p.stream × IsOpened p.offered.0 p.offered.1
         × IsOpened p.discarded.0 p.discarded.1 × IsOpened p.overwritten.0 p.overwritten.1
         × IsOpened p.overwritten_packets.0 p.overwritten_packets.1 × IsOpened p.consumed.0 p.consumed.1
-        × IsOpened p.cuts.0 p.cuts.1 };
+        × IsOpened p.cuts.0 p.cuts.1 × IsOpened p.cleared.0 p.cleared.1 };
 }
 
 /// Three books in which nothing is, with their whole seats.
@@ -66,6 +67,10 @@ impl<A: Allocator> PlannedStream<A> {
     {
         let (stream, books) = both(stream, three_books(alloc))?;
         let ((stream, books), others) = both((stream, books), three_books(alloc))?;
+        let ((stream, books, others), cleared) = both(
+            (stream, books, others),
+            Ledger::open(alloc),
+        )?;
         let (offered, discarded, overwritten) = books;
         let (overwritten_packets, consumed, cuts) = others;
         Ok(PlannedStream {
@@ -76,6 +81,7 @@ impl<A: Allocator> PlannedStream<A> {
             overwritten_packets,
             consumed,
             cuts,
+            cleared,
         })
     }
 }

@@ -2,14 +2,13 @@
 
 ghost use Rattle.std.specs.Prelude.{◌≡◌, ◌+◌, ◌<◌, ◌≤◌, ◌==◌, ◌↔◌, ℕ, IsTrue, MatchOption, count_by, length, map, slice_index_or, slice_set, sum, sum_by, vec_capacity, vec_len};
 ghost use Rattle.tr_ledger.specs.Ledgers.{SeatState, seat_state};
-ghost use Rattle.tr_seats.specs.Books.{IsPlanned, books_at, consumed_books, cut_books};
+ghost use Rattle.tr_seats.specs.Books.{IsPlanned, books_at, cleared_books, consumed_books, cut_books};
 ghost use Rattle.tr_seats.specs.Desks.{DeskState};
 ghost use Rattle.tr_seats.specs.Faults.{settle_error_code, settle_error_name};
-ghost use Rattle.tr_seats.specs.Settling.{AreAllMade, AreInPlace, AreTheirs, AreWhole, CanSettle, HaveConsumed, IsOneEach, IsSessionOf, IsWhy, opened_state, streams_of, taken_of, totals_of_seats};
+ghost use Rattle.tr_seats.specs.Settling.{AddUp, AreAllMade, AreInPlace, AreTheirs, AreWhole, CanSettle, HaveConsumed, IsOneEach, IsSessionOf, IsWhy, WereConsumed, opened_state, streams_of, taken_of, totals_of_seats};
 ghost use Rattle.tr_seats.specs.Slots.{AreJoined, AreSeatsOf, IsOwn, ProducerState, SlotState, amounts_of};
 ghost use Rattle.tr_seats.specs.Sums.{totals_in, totals_of};
 ghost use Rattle.tr_session.specs.Session.{session_of};
-ghost use Rattle.tr_stream.specs.State.{StreamState, in_ring};
 
 use crate::desk::Desk;
 use crate::drainer::Drainer;
@@ -134,8 +133,8 @@ pub(crate) fn why_not<N: Names, A: Allocator>(
 /// The sums of the streams' counts.
 fn sums<N: Names, A: Allocator>(slots: &[Slot<N, A>]) -> Totals
     ensures value { result ≡ totals_of (streams_of slots.now) }
-    ensures places { result.offered ≡ result.discarded + result.overwritten
-        + sum_by (λ (s : StreamState). in_ring s.ring) (streams_of slots.now) + result.consumed }
+    ensures places { AddUp result (streams_of slots.now) }
+    ensures consumed { WereConsumed result (streams_of slots.now) }
 {
     let mut totals = Totals {
         offered: 0,
@@ -144,6 +143,7 @@ fn sums<N: Names, A: Allocator>(slots: &[Slot<N, A>]) -> Totals
         overwritten_packets: 0,
         consumed: 0,
         cuts: 0,
+        cleared: 0,
     };
     for slot in slots {
         let counts = slot.counts();
@@ -153,6 +153,7 @@ fn sums<N: Names, A: Allocator>(slots: &[Slot<N, A>]) -> Totals
         totals.overwritten_packets += u128::from(counts.overwritten_packets);
         totals.consumed += u128::from(counts.consumed);
         totals.cuts += u128::from(counts.cuts);
+        totals.cleared += u128::from(counts.cleared);
     }
     totals
 }
@@ -200,6 +201,20 @@ fn audit_cuts<N: Names, A: Allocator>(slots: &mut [Slot<N, A>], seats: &mut [Sea
 {
     for i in 0..slots.len() {
         slots[i].audit_cuts(&mut seats[i]);
+    }
+}
+
+/// Changes nothing, and shows that whole seats have what was cleared of the streams.
+fn audit_cleared<N: Names, A: Allocator>(slots: &mut [Slot<N, A>], seats: &mut [Seat])
+    requires slots { (length slots.old ≡ length N.plan.books) × AreInPlace slots.old }
+    requires seats { map (λ (s : SeatState). s.table) seats.old ≡ cleared_books N.plan.books }
+    ensures same { (slots.new ≡ slots.old) × (seats.new ≡ seats.old) }
+    ensures whole { (k : ℕ) (d : SeatState) (s : SlotState) → k < length slots.old
+        → (slice_index_or seats.old k d).mark ≡ 1
+        → (slice_index_or seats.old k d).amount ≡ (totals_in (slice_index_or slots.old k s).stream).cleared }
+{
+    for i in 0..slots.len() {
+        slots[i].audit_cleared(&mut seats[i]);
     }
 }
 
@@ -277,6 +292,7 @@ fn join_all<N: Names, A: Allocator>(
     producers: &mut [Producer<N>],
     mine: &mut [Seat],
     cuts: &mut [Seat],
+    cleared: &mut [Seat],
     drainers: Vec<Drainer<N, A>, A>,
 )
     requires slots { length slots.old ≡ length N.plan.books }
@@ -284,8 +300,10 @@ fn join_all<N: Names, A: Allocator>(
     requires producers { IsOneEach (length slots.old) producers.old }
     requires mine { AreSeatsOf (consumed_books N.plan.books) mine.old }
     requires cuts { AreSeatsOf (cut_books N.plan.books) cuts.old }
+    requires cleared { AreSeatsOf (cleared_books N.plan.books) cleared.old }
     ensures slots { slots.new ≡ slots.old }
     ensures add_up { (desk : DeskState) → desk.consumed ≡ amounts_of mine.old → desk.cuts ≡ amounts_of cuts.old
+        → desk.cleared ≡ amounts_of cleared.old
         → totals_of (streams_of slots.old) ≡ totals_of_seats producers.old drainers.items desk }
     ensures cut { (k : ℕ) (d : SeatState) (s : SlotState) → k < length slots.old
         → (slice_index_or cuts.old k d).amount ≡ (totals_in (slice_index_or slots.old k s).stream).cuts }
@@ -304,6 +322,7 @@ fn join_all<N: Names, A: Allocator>(
     join_drainers(slots, mine, drainers);
     audit_consumed(slots, mine);
     audit_cuts(slots, cuts);
+    audit_cleared(slots, cleared);
 }
 
 /// The streams out of their slots, in order, in the room that was reserved.
@@ -338,14 +357,15 @@ pub(crate) fn settle_all<N: Names, A: Allocator + Copy>(
     ensures seats { result.1 ≡ totals_of_seats producers.items drainers.items desk }
     ensures own { AreTheirs producers.items (streams_of slots.items) }
     ensures taken { HaveConsumed desk.consumed drainers.items (streams_of slots.items) }
-    ensures places { result.1.offered ≡ result.1.discarded + result.1.overwritten
-        + sum_by (λ (s : StreamState). in_ring s.ring) (streams_of slots.items) + result.1.consumed }
+    ensures places { AddUp result.1 (streams_of slots.items) }
+    ensures consumed { WereConsumed result.1 (streams_of slots.items) }
 {
     let Desk {
         book,
         drainers: _,
         mut consumed,
         mut cuts,
+        mut cleared,
         of: _,
     } = desk;
     let totals = sums(&slots);
@@ -354,6 +374,7 @@ pub(crate) fn settle_all<N: Names, A: Allocator + Copy>(
         producers.as_mut_slice(),
         consumed.as_mut_slice(),
         cuts.as_mut_slice(),
+        cleared.as_mut_slice(),
         drainers,
     );
     let streams = streams_out(slots, room);

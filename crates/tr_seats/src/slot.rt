@@ -1,13 +1,15 @@
 //! A stream under a lock of its own.
 
 ghost use Rattle.std.specs.Prelude.{◌≡◌, ◌≢◌, ◌≤◌, ◌<◌, ◌+◌, ◌^◌, Ok, Err, IsOk, IfOk, OnErr, [], length};
+ghost use Rattle.tr_seats.specs.Clears.{seat_after_clear};
 ghost use Rattle.tr_seats.specs.Cuts.{seat_after_cut, seat_of_cuts_after};
 ghost use Rattle.tr_seats.specs.Slots.{IsOwn, drainer_after, producer_after, slot_after_offer, slot_after_split, slot_after_take, slot_offer_answer, slot_split_answer, slot_take_answer, serial_of};
 ghost use Rattle.tr_ledger.specs.Ledgers.{seat_state};
 ghost use Rattle.tr_seats.specs.Books.{IsPlanned, IsTooBig, books_at};
 ghost use Rattle.tr_seats.specs.Sums.{totals_in};
 ghost use Rattle.tr_terms.specs.declared.limits.TheConstants.{MOST_OFFERS};
-ghost use Rattle.tr_stream.specs.StateSteps.{state_after_cut, state_after_switch, state_counts, state_cut_answer, state_snap};
+ghost use Rattle.tr_stream.specs.Steps.{ClearsSome};
+ghost use Rattle.tr_stream.specs.StateSteps.{state_after_clear, state_after_cut, state_after_switch, state_clear_answer, state_counts, state_cut_answer, state_snap};
 
 use crate::drainer::Drainer;
 use crate::limits::MOST_DRAINERS;
@@ -18,7 +20,9 @@ use std::marker::{Model, PhantomData};
 use tr_book::{Counts, StreamSnap};
 use tr_ledger::{Ledger, Seat};
 use tr_session_book::SessionFault;
-use tr_stream::{CutDone, CutFault, OfferFault, Offered, Stream, TakeFault, Taken};
+use tr_stream::{
+    ClearFault, Cleared, CutDone, CutFault, OfferFault, Offered, Stream, TakeFault, Taken,
+};
 use tr_terms::Moment;
 
 /// A stream with its number and its books, which its lock guards. Contracts see a `SlotState`.
@@ -32,6 +36,7 @@ pub struct Slot<N: Names, A: Allocator = Global> {
     pub(crate) overwritten_packets: Ledger<A>,
     pub(crate) consumed: Ledger<A>,
     pub(crate) cuts: Ledger<A>,
+    pub(crate) cleared: Ledger<A>,
     pub(crate) of: PhantomData<N>,
 }
 
@@ -47,7 +52,7 @@ impl<N: Names, A: Allocator> Model for Slot<N, A> {
     // the totals of its books are the stream's counts, and it is the stream that the plan made for its number
     ghost invariant = { λ s. (s.number < length N.plan.books)
         × AreBooksOf (books_at N.plan.books s.number) s.stream s.consumed.made s.offered s.discarded s.overwritten
-        s.overwritten_packets s.consumed s.cuts
+        s.overwritten_packets s.consumed s.cuts s.cleared
         × IsPlanned N.plan s.number s.stream.config };
 }
 
@@ -156,8 +161,10 @@ impl<N: Names, A: Allocator> Slot<N, A> {
     /// How many records were offered, and where they are.
     pub fn counts(&self) -> Counts
         ensures value { result ≡ state_counts self.now.stream }
-        ensures total { result.discarded + result.overwritten + result.in_ring + result.consumed ≡ result.offered }
-        ensures uncleared { result.cleared ≡ 0 }
+        ensures total { result.discarded + result.overwritten + result.cleared + result.in_ring + result.in_chunks
+            ≡ result.offered }
+        ensures consumed { result.consumed ≡ result.in_chunks + result.withdrawn }
+        ensures withdrawn { result.withdrawn ≤ result.cleared }
     {
         self.stream.counts()
     }
@@ -263,6 +270,37 @@ impl<N: Names, A: Allocator> Slot<N, A> {
         self.cuts.audit(mine);
     }
 
+    /// Clears the stream as it does itself, and raises the desk's seat of its cleared records by those that were removed.
+    ///
+    /// # Errors
+    ///
+    /// Those of `Stream::clear`: nothing changed.
+    pub(crate) fn clear(&mut self, cleared: &mut Seat) -> Result<Cleared, ClearFault>
+    where
+        A: Copy,
+        requires { cleared.old.table ≡ (books_at N.plan.books self.old.number).cleared }
+        ensures value { result ≢ Err ClearFault.NoMemory → (result ≡ state_clear_answer self.old.stream)
+            × (self.new ≡ record self.old { stream = state_after_clear self.old.stream }) }
+        ensures seat { cleared.new ≡ seat_after_clear result cleared.old }
+        ensures no_memory { result ≡ Err ClearFault.NoMemory → self.new ≡ self.old }
+        ensures memory { result ≡ Err ClearFault.NoMemory → ClearsSome (state_clear_answer self.old.stream) }
+    {
+        let _ = self.stream.config();
+        let done = self.stream.clear()?;
+        let _ = self.stream.config();
+        self.cleared.raise(cleared, done.records);
+        Ok(done)
+    }
+
+    /// Changes nothing, and shows that the whole seat of the cleared records has the stream's count of them.
+    pub(crate) fn audit_cleared(&mut self, mine: &mut Seat)
+        requires { mine.old.table ≡ (books_at N.plan.books self.old.number).cleared }
+        ensures same { (self.new ≡ self.old) × (mine.new ≡ mine.old) }
+        ensures whole { mine.old.mark ≡ 1 → mine.old.amount ≡ (totals_in self.old.stream).cleared }
+    {
+        self.cleared.audit(mine);
+    }
+
     /// The stream, out of its slot.
     pub(crate) fn into_stream(self) -> Stream<A>
         ensures { result ≡ self.stream }
@@ -276,6 +314,7 @@ impl<N: Names, A: Allocator> Slot<N, A> {
             overwritten_packets: _,
             consumed: _,
             cuts: _,
+            cleared: _,
             of: _,
         } = self;
         stream

@@ -15,4 +15,6 @@ pub struct Totals {
     pub consumed: u128,
     /// How many parts were closed.
     pub cuts: u128,
+    /// How many records were cleared.
+    pub cleared: u128,
 }

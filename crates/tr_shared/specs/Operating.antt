@@ -47,6 +47,10 @@ abbrev pub IsBeginFault : SessionFault → Type 0
 IsBeginFault fault =
     (fault ≡ SnapshotMode) ⊎ (fault ≡ NeverStarted) ⊎ (fault ≡ RotationPending) ⊎ (fault ≡ AlreadyRotated) ⊎ (fault ≡ NoMemory)
 
+abbrev pub IsClearFault : SessionFault → Type 0
+IsClearFault fault =
+    (fault ≡ SnapshotMode) ⊎ (fault ≡ NeverStarted) ⊎ (fault ≡ RotationPending) ⊎ (fault ≡ NoMemory) ⊎ (fault ≡ Misplaced)
+
 abbrev pub IsNextFault : SessionFault → Type 0
 IsNextFault fault = (fault ≡ NotPending) ⊎ (fault ≡ NoMemory) ⊎ (fault ≡ Misplaced)
 

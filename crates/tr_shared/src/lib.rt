@@ -3,6 +3,7 @@
 //! waits for its stream alone.
 #![tactic(auto)]
 
+mod clearing;
 mod laws;
 mod looking;
 mod operating;

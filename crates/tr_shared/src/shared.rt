@@ -1,13 +1,12 @@
 //! The session under its locks.
 
 ghost use Rattle.std.specs.Prelude.{◌≡◌, ◌+◌, ◌<◌, ◌≤◌, ◌↔◌, IfErr, IfOk, length, replicate, sum_by, vec_capacity, vec_len};
-ghost use Rattle.tr_seats.specs.Settling.{AreTheirs, IsOneEach, IsSessionOf};
+ghost use Rattle.tr_seats.specs.Settling.{AddUp, AreTheirs, IsOneEach, IsSessionOf, WereConsumed};
 ghost use Rattle.tr_seats.specs.Slots.{AreNew, drainer_after, producer_after, serial_of};
 ghost use Rattle.tr_seats.specs.Books.{IsPlanned, IsTooBig};
 ghost use Rattle.tr_seats.specs.Sums.{totals_of};
 ghost use Rattle.tr_terms.specs.declared.limits.TheConstants.{MOST_OFFERS};
 ghost use Rattle.tr_shared.specs.Calls.{AreOffersOf, HaveTaken, IsDrainerFault, IsStartFault, IsStopFault, IsTakeOf};
-ghost use Rattle.tr_stream.specs.State.{StreamState, in_ring};
 ghost use Rattle.tr_stream.specs.declared.config.StreamConfig.{StreamConfig};
 
 use crate::settle_fault::SettleFault;
@@ -252,9 +251,8 @@ impl<N: Names, A: Allocator + Copy> Shared<N, A> {
         ensures seats { IfOk result (λ r. AreOffersOf producers.items drainers.items r.1) }
         ensures own { IfOk result (λ r. AreTheirs producers.items r.0.streams) }
         ensures taken { IfOk result (λ r. HaveTaken drainers.items r.0.streams) }
-        ensures places { IfOk result
-            (λ r. r.1.offered ≡ r.1.discarded + r.1.overwritten
-            + sum_by (λ (s : StreamState). in_ring s.ring) r.0.streams + r.1.consumed) }
+        ensures places { IfOk result (λ r. AddUp r.1 r.0.streams) }
+        ensures consumed { IfOk result (λ r. WereConsumed r.1 r.0.streams) }
         ensures all { IfOk result (λ r. IsOneEach (length N.plan.books) producers.items) }
         ensures missing { IfErr result
             (λ f. f.fault ≡ SettleError.ProducerMissing ↔ (¬ IsOneEach (length N.plan.books) producers.items)) }

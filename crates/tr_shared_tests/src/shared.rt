@@ -2,6 +2,7 @@
 
 ghost use Rattle.std.specs.Prelude.{◌≡◌, ◌<◌};
 
+mod clearing;
 mod contention;
 mod operators;
 mod rotating;

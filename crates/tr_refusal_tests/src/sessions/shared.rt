@@ -151,6 +151,7 @@ fn assert_sums<A: Allocator>(rt: &impl Abort, worked: &Worked<A>, sums: Sums) {
         overwritten_packets: 0,
         consumed,
         cuts,
+        cleared: 0,
     };
     assert_same(rt, worked.totals, totals);
 }

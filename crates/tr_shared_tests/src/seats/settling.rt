@@ -130,6 +130,7 @@ fn assert_settled(rt: &impl Abort, settled: &Settled, totals: Totals) {
         overwritten_packets: 0,
         consumed: 2,
         cuts: 0,
+        cleared: 0,
     };
     assert_same(rt, totals, sums);
     let session = settled.session();

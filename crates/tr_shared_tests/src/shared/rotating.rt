@@ -21,16 +21,16 @@ use tr_terms::Mode;
 use tr_testing::moment;
 
 /// What a take answers: the number of the packet, how many records it has, and its chunk.
-fn taken(seq: u64, count: u64, chunk: u64) -> Result<Taken, TakeFault> {
+pub(super) fn taken(seq: u64, count: u64, chunk: u64) -> Result<Taken, TakeFault> {
     Ok(Taken { seq, count, chunk })
 }
 
 /// What a rotation's cut of a stream answers.
-fn cut(stream: u64, records: u64) -> Result<Next, SessionFault> {
+pub(super) fn cut(stream: u64, records: u64) -> Result<Next, SessionFault> {
     Ok(Next::Cut { stream, records })
 }
 
-fn archive(id: u64, begin: u64, end: u64) -> Archive {
+pub(super) fn archive(id: u64, begin: u64, end: u64) -> Archive {
     Archive {
         id,
         begin: moment(begin),
@@ -59,7 +59,7 @@ pub(super) fn assert_begun<N: Names>(
 }
 
 /// Asserts what a rotation's next step answers.
-fn assert_next<N: Names>(
+pub(super) fn assert_next<N: Names>(
     rt: &(impl Abort + Wait),
     shared: &Shared<N>,
     want: Result<Next, SessionFault>,
@@ -68,7 +68,7 @@ fn assert_next<N: Names>(
 }
 
 /// Asserts what a rotation's end answers.
-fn assert_finished<N: Names>(
+pub(super) fn assert_finished<N: Names>(
     rt: &(impl Abort + Wait),
     shared: &Shared<N>,
     want: Result<Archive, SessionFault>,

@@ -59,6 +59,7 @@ fn nothing() -> Totals {
         overwritten_packets: 0,
         consumed: 0,
         cuts: 0,
+        cleared: 0,
     }
 }
 
@@ -71,6 +72,7 @@ fn sum(a: Totals, b: Totals) -> Totals {
         overwritten_packets: a.overwritten_packets.wrapping_add(b.overwritten_packets),
         consumed: a.consumed.wrapping_add(b.consumed),
         cuts: 0,
+        cleared: 0,
     }
 }
 

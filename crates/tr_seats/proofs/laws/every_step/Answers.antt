@@ -1,4 +1,5 @@
 use Rattle.tr_seats.proofs.laws.every_step.Goals as goal
+use Rattle.tr_stream.proofs.ClearLaws.{clears}
 use Rattle.tr_stream.proofs.CutLaws.{cuts, snaps}
 use Rattle.tr_stream.proofs.OfferLaws.{offers}
 use Rattle.tr_stream.proofs.Refinement.{stands-switched}
@@ -12,6 +13,9 @@ returns-clause-take c = takes
 
 pub returns-clause-cut : goal.returns-clause-cut
 returns-clause-cut c = cuts
+
+pub returns-clause-clear : goal.returns-clause-clear
+returns-clause-clear c = clears
 
 pub returns-clause-switch : goal.returns-clause-switch
 returns-clause-switch c = stands-switched

@@ -16,8 +16,9 @@ invariant_of-slot g c =
     let got = c.requires.stream ∙ ap (λ (p : PlannedState). Some p.stream) (sym c.planned.view_is) in (
       slice_get_within plan.books c.args.number c.args.planned.books c.requires.books,
       books-opened (books_at plan.books c.args.number) in_it.stream in_it.offered.0 in_it.discarded.0 in_it.overwritten.0
-          in_it.overwritten_packets.0 in_it.consumed.0 in_it.cuts.0 in_it.offered.1 in_it.discarded.1 in_it.overwritten.1
-          in_it.overwritten_packets.1 in_it.consumed.1 in_it.cuts.1 books is.0 is.1 is.2 is.3 is.4 is.5 is.6,
+          in_it.overwritten_packets.0 in_it.consumed.0 in_it.cuts.0 in_it.cleared.0 in_it.offered.1 in_it.discarded.1 in_it.overwritten.1
+          in_it.overwritten_packets.1 in_it.consumed.1 in_it.cuts.1 in_it.cleared.1 books is.0 is.1 is.2 is.3 is.4 is.5 is.6
+          is.7,
       planned-there plan c.args.number in_it.stream got,
     )
 

@@ -18,6 +18,11 @@ AreCut seats slots =
     (k : ℕ) (d : SeatState) (s : SlotState) → k < length slots → (get_or seats k d).mark ≡ 1
     → (get_or seats k d).amount ≡ (totals_in (get_or slots k s).stream).cuts
 
+abbrev AreCleared : List SeatState → List SlotState → Type 0
+AreCleared seats slots =
+    (k : ℕ) (d : SeatState) (s : SlotState) → k < length slots → (get_or seats k d).mark ≡ 1
+    → (get_or seats k d).amount ≡ (totals_in (get_or slots k s).stream).cleared
+
 abbrev AreThere : ℕ → List SlotState → Type 0
 AreThere n slots = (length slots ≡ n) × AreInPlace slots
 
@@ -26,13 +31,16 @@ returns-clause-add_up g c =
     let slots = c.args.slots.now in
     let joined = c.join_drainers.new.seats in
     let cuts = c.args.cuts.now in
+    let cleared = c.args.cleared.now in
     let after_drainers = c.join_drainers.ensures.slots ∙ c.audit_producers.ensures.same.0 in
     let after_consumed = c.audit_consumed.ensures.same.0 ∙ after_drainers in
     let whole : AreConsumed joined slots = subst (AreConsumed joined) after_drainers c.audit_consumed.ensures.whole in
     let cut_whole : AreCut cuts slots = subst (AreCut cuts) after_consumed c.audit_cuts.ensures.whole in
+    let after_cuts = c.audit_cuts.ensures.same.0 ∙ after_consumed in
+    let cleared_whole : AreCleared cleared slots = subst (AreCleared cleared) after_cuts c.audit_cleared.ensures.whole in
     all-add_up g.N.Names.plan.books slots c.requires.slots c.args.producers.now c.args.drainers.items c.args.mine.now joined cuts
-    c.requires.producers c.audit_producers.ensures.there c.audit_producers.ensures.own c.join_drainers.ensures.seats
-    c.join_drainers.ensures.amounts c.requires.whole.made whole c.requires.cuts cut_whole
+    cleared c.requires.producers c.audit_producers.ensures.there c.audit_producers.ensures.own c.join_drainers.ensures.seats
+    c.join_drainers.ensures.amounts c.requires.whole.made whole c.requires.cuts cut_whole c.requires.cleared cleared_whole
 
 pub returns-clause-cut : goal.returns-clause-cut
 returns-clause-cut g c =
@@ -58,6 +66,12 @@ audit_consumed-requires-clause-slots g c =
 pub audit_cuts-requires-clause-slots : goal.audit_cuts-requires-clause-slots
 audit_cuts-requires-clause-slots g c =
     let after = c.audit_consumed.ensures.same.0 ∙ c.join_drainers.ensures.slots ∙ c.audit_producers.ensures.same.0 in
+    subst (AreThere (length g.N.Names.plan.books)) (sym after) (c.requires.slots, c.requires.whole.in_place)
+
+pub audit_cleared-requires-clause-slots : goal.audit_cleared-requires-clause-slots
+audit_cleared-requires-clause-slots g c =
+    let after = c.audit_cuts.ensures.same.0 ∙ c.audit_consumed.ensures.same.0 ∙ c.join_drainers.ensures.slots
+    ∙ c.audit_producers.ensures.same.0 in
     subst (AreThere (length g.N.Names.plan.books)) (sym after) (c.requires.slots, c.requires.whole.in_place)
 
 pub returns-clause-own : goal.returns-clause-own

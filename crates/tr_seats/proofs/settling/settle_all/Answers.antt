@@ -1,19 +1,18 @@
 use Rattle.std.proofs.Common.{◌≡◌, ℕ, ◌+◌, ◌<◌, ◌++◌, List, ap, arith, drop, get_or, length, subst, sym, take, ◌∙◌}
 use Rattle.std.proofs.lemmas.Grind.{common_steps}
-use Rattle.std.specs.List.{sum_by}
 use Rattle.std.proofs.lemmas.List.{length-map, take_at}
 use Rattle.tr_ledger.specs.Ledgers.{SeatState}
 use Rattle.tr_seats.proofs.AllTotals.{AreWithin, have-consumed, theirs}
 use Rattle.tr_seats.proofs.Joins.{tables-length}
 use Rattle.tr_seats.proofs.SettledLaws.{settled-planned, settled-streams}
 use Rattle.tr_seats.proofs.settling.settle_all.Goals as goal
-use Rattle.tr_seats.specs.Books.{Books, IsPlanned, PlanState, consumed_books, cut_books}
+use Rattle.tr_seats.specs.Books.{Books, IsPlanned, PlanState, cleared_books, consumed_books, cut_books}
 use Rattle.tr_seats.specs.Desks.{DeskState}
-use Rattle.tr_seats.specs.Settling.{HaveConsumed, IsOneEach, IsSessionOf, streams_of, taken_of, totals_of_seats}
+use Rattle.tr_seats.specs.Settling.{AddUp, HaveConsumed, IsOneEach, IsSessionOf, WereConsumed, streams_of, taken_of, totals_of_seats}
 use Rattle.tr_seats.specs.Slots.{AreSeatsOf, IsOwn, ProducerState, SlotState, amounts_of}
 use Rattle.tr_seats.specs.Sums.{totals_in, totals_of}
 use Rattle.tr_session.specs.Session.{HasItsStreams, session_of}
-use Rattle.tr_stream.specs.State.{StreamState, in_ring}
+use Rattle.tr_stream.specs.State.{StreamState}
 
 -- what is written back over a list
 written-back : {X : Type 0} → (xs ys : List X) (n : ℕ) → ys ≡ xs → n ≡ length xs → take n (ys ++ drop (length ys) xs) ≡ xs
@@ -41,6 +40,10 @@ pub join_all-requires-clause-cuts : goal.join_all-requires-clause-cuts
 join_all-requires-clause-cuts g c =
     subst (AreSeatsOf (cut_books g.N.Names.plan.books)) (sym c.as_mut_slice-4.ensures.value) c.desk.invariant.cuts_are
 
+pub join_all-requires-clause-cleared : goal.join_all-requires-clause-cleared
+join_all-requires-clause-cleared g c =
+    subst (AreSeatsOf (cleared_books g.N.Names.plan.books)) (sym c.as_mut_slice-5.ensures.value) c.desk.invariant.cleared_are
+
 pub streams_out-streams-requires : goal.streams_out-streams-requires
 streams_out-streams-requires g c =
     let same = c.join_all.ensures.slots ∙ c.as_mut_slice.ensures.value in
@@ -58,7 +61,7 @@ from_parts-requires g c =
     let planned : ArePlanned plan all = subst (ArePlanned plan) slots c.join_all.ensures.planned in
     let cut : AreCutAs (c.desk.inside.cuts.items, all) = subst AreCutAs (λ j. (cuts j, slots j)) c.join_all.ensures.cut in
     subst (λ (l : List StreamState). HasItsStreams (session_of c.desk.inside.book l)) (sym items)
-    (settled-streams plan c.desk.inside.book c.desk.inside.consumed.items c.desk.inside.cuts.items all c.desk.invariant c.requires.slots planned
+    (settled-streams plan c.desk.inside.book c.desk.inside.consumed.items c.desk.inside.cuts.items c.desk.inside.cleared.items all c.desk.invariant c.requires.slots planned
     cut)
 
 pub returns-clause-planned : goal.returns-clause-planned
@@ -74,7 +77,7 @@ returns-clause-planned g c =
     let made : c.of.result ≡ session_of c.desk.inside.book (streams_of all) =
     c.of.ensures ∙ c.from_parts.ensures ∙ (λ j. session_of c.desk.inside.book (items j)) in
     subst (IsSessionOf plan) (sym made)
-    (settled-planned plan c.desk.inside.book c.desk.inside.consumed.items c.desk.inside.cuts.items all c.desk.invariant c.requires.slots planned
+    (settled-planned plan c.desk.inside.book c.desk.inside.consumed.items c.desk.inside.cuts.items c.desk.inside.cleared.items all c.desk.invariant c.requires.slots planned
     cut)
 
 pub returns-clause-session : goal.returns-clause-session
@@ -95,16 +98,19 @@ returns-clause-seats g c =
     sym (ap (λ (d : DeskState). d.consumed) c.desk.view_is) ∙ ap amounts_of (sym c.as_mut_slice-3.ensures.value) in
     let cuts : desk.cuts ≡ amounts_of c.as_mut_slice-4.result.now =
     sym (ap (λ (d : DeskState). d.cuts) c.desk.view_is) ∙ ap amounts_of (sym c.as_mut_slice-4.ensures.value) in
+    let cleared : desk.cleared ≡ amounts_of c.as_mut_slice-5.result.now =
+    sym (ap (λ (d : DeskState). d.cleared) c.desk.view_is) ∙ ap amounts_of (sym c.as_mut_slice-5.ensures.value) in
     c.sums-totals.ensures.value ∙ ap (λ (l : List SlotState). totals_of (streams_of l)) slots
-    ∙ c.join_all.ensures.add_up desk consumed cuts
+    ∙ c.join_all.ensures.add_up desk consumed cuts cleared
     ∙ ap (λ (l : List ProducerState). totals_of_seats l c.args.drainers.items desk) c.as_mut_slice-2.ensures.value
 
 pub returns-clause-places : goal.returns-clause-places
 returns-clause-places g c =
-    let totals = c.sums-totals.result in
-    subst (λ (l : List SlotState). totals.offered
-    ≡ totals.discarded + totals.overwritten + sum_by (λ (s : StreamState). in_ring s.ring) (streams_of l) + totals.consumed)
-    c.deref.ensures.value c.sums-totals.ensures.places
+    subst (λ (l : List SlotState). AddUp c.sums-totals.result (streams_of l)) c.deref.ensures.value c.sums-totals.ensures.places
+
+pub returns-clause-consumed : goal.returns-clause-consumed
+returns-clause-consumed g c =
+    subst (λ (l : List SlotState). WereConsumed c.sums-totals.result (streams_of l)) c.deref.ensures.value c.sums-totals.ensures.consumed
 
 pub join_all-requires-clause-whole : goal.join_all-requires-clause-whole
 join_all-requires-clause-whole g c = grind (arith, common_steps)

@@ -1,18 +1,20 @@
-use Rattle.std.proofs.Common.{◌≡◌, ◌+◌, List, ap, arith, sym, take, ◌∙◌}
-use Rattle.std.specs.List.{sum_by}
+use Rattle.std.proofs.Common.{◌≡◌, ◌+◌, List, ap, arith, subst, sym, take, ◌∙◌}
 use Rattle.std.proofs.lemmas.List.{take_all}
-use Rattle.std.proofs.lemmas.List.Sums.{sum_by_push}
 use Rattle.tr_book.specs.declared.counts.Counts.{Counts}
-use Rattle.tr_seats.proofs.SumLaws.{streams-more, totals-more}
+use Rattle.tr_seats.proofs.SumLaws.{streams-more, sum-more, totals-more}
 use Rattle.tr_seats.proofs.settling.sums.Goals as goal
-use Rattle.tr_seats.specs.Settling.{streams_of}
+use Rattle.tr_seats.specs.Settling.{AddUp, WereConsumed, streams_of}
 use Rattle.tr_seats.specs.Slots.{SlotState}
 use Rattle.tr_seats.specs.Sums.{totals_in, totals_of}
-use Rattle.tr_stream.specs.State.{StreamState, in_ring}
+use Rattle.tr_stream.specs.State.{StreamState, in_parts, in_ring}
 
 pub overflow_add-totals-in-loop-slot-5 : goal.overflow_add-totals-in-loop-slot-5
 overflow_add-totals-in-loop-slot-5 g c =
     omega (arith, c.loop-slot.invariant.cuts, c.from-in-loop-slot-5.ensures, c.counts-counts.type_inv, c.loop-slot-test.true)
+
+pub overflow_add-totals-in-loop-slot-6 : goal.overflow_add-totals-in-loop-slot-6
+overflow_add-totals-in-loop-slot-6 g c =
+    omega (arith, c.loop-slot.invariant.cleared, c.from-in-loop-slot-6.ensures, c.counts-counts.type_inv, c.loop-slot-test.true)
 
 pub loop-slot-preserved : goal.loop-slot-preserved
 loop-slot-preserved g c =
@@ -32,12 +34,15 @@ loop-slot-preserved g c =
     c.from-in-loop-slot-4.ensures ∙ ap (λ (x : Counts). x.consumed) value in
     let cuts : c.from-in-loop-slot-5.result ≡ (totals_in slot.stream).cuts =
     c.from-in-loop-slot-5.ensures ∙ ap (λ (x : Counts). x.cuts) value in
+    let cleared : c.from-in-loop-slot-6.result ≡ (totals_in slot.stream).cleared =
+    c.from-in-loop-slot-6.ensures ∙ ap (λ (x : Counts). x.cleared) value in
     let ring : c.counts-counts.result.in_ring ≡ in_ring slot.stream.ring = ap (λ (x : Counts). x.in_ring) value in
     let more = streams-more slots i slot c.loop-slot-test.true c.slot-item.is in
-    let rings : sum_by (λ (s : StreamState). in_ring s.ring) (streams_of (take (i + 1) slots))
-    ≡ sum_by (λ (s : StreamState). in_ring s.ring) (streams_of (take i slots)) + in_ring slot.stream.ring =
-    ap (sum_by (λ (s : StreamState). in_ring s.ring)) more
-    ∙ sum_by_push (λ (s : StreamState). in_ring s.ring) (streams_of (take i slots)) slot.stream in
+    let part : c.counts-counts.result.in_chunks ≡ in_parts slot.stream.parts = ap (λ (x : Counts). x.in_chunks) value in
+    let gone : c.counts-counts.result.withdrawn ≡ slot.stream.counters.withdrawn = ap (λ (x : Counts). x.withdrawn) value in
+    let rings = sum-more (λ (s : StreamState). in_ring s.ring) slots i slot c.loop-slot-test.true c.slot-item.is in
+    let parts = sum-more (λ (s : StreamState). in_parts s.parts) slots i slot c.loop-slot-test.true c.slot-item.is in
+    let withdrawn = sum-more (λ (s : StreamState). s.counters.withdrawn) slots i slot c.loop-slot-test.true c.slot-item.is in
     record {
       so_far = (λ k. record {
         offered = c.loop-slot.totals.offered + offered k;
@@ -46,6 +51,7 @@ loop-slot-preserved g c =
         overwritten_packets = c.loop-slot.totals.overwritten_packets + packets k;
         consumed = c.loop-slot.totals.consumed + consumed k;
         cuts = c.loop-slot.totals.cuts + cuts k;
+        cleared = c.loop-slot.totals.cleared + cleared k;
       })
           ∙ totals-more c.loop-slot.totals (streams_of (take i slots)) slot.stream v.so_far ∙ ap totals_of (sym more);
       places = omega (
@@ -53,11 +59,17 @@ loop-slot-preserved g c =
         v.places,
         rings,
         ring,
+        parts,
+        part,
         c.counts-counts.ensures.total,
         c.from.ensures,
         c.from-in-loop-slot.ensures,
         c.from-in-loop-slot-2.ensures,
-        c.from-in-loop-slot-4.ensures,
+        c.from-in-loop-slot-6.ensures,
+      );
+      kept = (
+        omega (arith, v.kept.0, parts, part, withdrawn, gone, c.counts-counts.ensures.consumed, c.from-in-loop-slot-4.ensures),
+        omega (arith, v.kept.1, withdrawn, gone, c.counts-counts.ensures.withdrawn, c.from-in-loop-slot-6.ensures),
       );
       offered = omega (arith, v.offered, c.from.ensures, c.counts-counts.type_inv);
       discarded = omega (arith, v.discarded, c.from-in-loop-slot.ensures, c.counts-counts.type_inv);
@@ -65,6 +77,7 @@ loop-slot-preserved g c =
       overwritten_packets = omega (arith, v.overwritten_packets, c.from-in-loop-slot-3.ensures, c.counts-counts.type_inv);
       consumed = omega (arith, v.consumed, c.from-in-loop-slot-4.ensures, c.counts-counts.type_inv);
       cuts = omega (arith, v.cuts, c.from-in-loop-slot-5.ensures, c.counts-counts.type_inv);
+      cleared = omega (arith, v.cleared, c.from-in-loop-slot-6.ensures, c.counts-counts.type_inv);
     }
 
 pub returns-clause-value : goal.returns-clause-value
@@ -75,5 +88,9 @@ returns-clause-value g c =
 pub returns-clause-places : goal.returns-clause-places
 returns-clause-places g c =
     let all = take_all c.loop-slot.slot-index c.args.slots.now (omega (arith, c.loop-slot-test.false)) in
-    let rings = ap (λ (l : List SlotState). sum_by (λ (s : StreamState). in_ring s.ring) (streams_of l)) all in
-    omega (arith, c.loop-slot.invariant.places, rings)
+    subst (λ (l : List SlotState). AddUp c.loop-slot.totals (streams_of l)) all c.loop-slot.invariant.places
+
+pub returns-clause-consumed : goal.returns-clause-consumed
+returns-clause-consumed g c =
+    let all = take_all c.loop-slot.slot-index c.args.slots.now (omega (arith, c.loop-slot-test.false)) in
+    subst (λ (l : List SlotState). WereConsumed c.loop-slot.totals (streams_of l)) all c.loop-slot.invariant.kept

@@ -7,6 +7,7 @@ use Rattle.tr_seats.proofs.Rows.{amounts-raised, consumed-at, cuts-at, table-the
 use Rattle.tr_seats.proofs.desk.Desk.cut_at.Goals as goal
 use Rattle.tr_seats.specs.Books.{Books, books_at, consumed_books, cut_books, no_books, no_table}
 use Rattle.tr_seats.specs.Desks.{DeskState, IsDesk, desk_state}
+use Rattle.tr_seats.specs.Slots.{amounts_of}
 use Rattle.tr_session_book.specs.BookSteps.{cut_moment, with_cut}
 
 pub cut-requires-clause-consumed : goal.cut-requires-clause-consumed
@@ -37,8 +38,8 @@ invariant_of-self g c =
     let book = noted i c.args.moment old.book due in
     let consumed = slice_set old.consumed.items i c.cut.new.consumed in
     let cuts = slice_set old.cuts.items i c.cut.new.cuts in
-    subst (λ b. IsDesk plan b consumed cuts) (sym (c.note_cut.ensures.after ∙ book))
-    (desk-cut plan old.book old.consumed.items old.cuts.items i c.args.moment c.index_mut.result.now c.index_mut-2.result.now
+    subst (λ b. IsDesk plan b consumed cuts old.cleared.items) (sym (c.note_cut.ensures.after ∙ book))
+    (desk-cut plan old.book old.consumed.items old.cuts.items old.cleared.items i c.args.moment c.index_mut.result.now c.index_mut-2.result.now
     c.self.invariant due c.requires.here.1 c.index_mut.ensures.value c.index_mut-2.ensures.value c.in-Ok.done.records
     c.cut.new.consumed c.cut.new.cuts c.in-Ok.ensures.consumed c.in-Ok.ensures.cuts)
 
@@ -57,7 +58,7 @@ returns-in-Ok-clause-seats g c =
     let cuts = amounts-raised (cut_books books) old.cuts.items i c.index_mut-2.result.now c.self.invariant.cuts_are
     (omega (arith, lt, length-map books (λ (b : Books). b.cuts))) c.index_mut-2.ensures.value c.cut.new.cuts 1
     c.in-Ok.ensures.cuts in
-    (λ j. desk_state (book j) old.drainers (consumed j) (cuts j))
+    (λ j. desk_state (book j) old.drainers (consumed j) (cuts j) (amounts_of old.cleared.items))
     ∙ ap (λ (d : DeskState). record d {
       book = with_cut d.book;
       consumed = slice_set d.consumed i (slice_index d.consumed i + c.in-Ok.done.records);

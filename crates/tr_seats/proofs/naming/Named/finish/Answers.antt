@@ -8,15 +8,17 @@ pub invariant_of-desk : goal.invariant_of-desk
 invariant_of-desk g c =
     let old = c.self.inside in
     let all : length old.slots.items ≡ length g.N.Names.plan.books = c.self.view_is ∙ c.requires.all in
-    subst (λ (book : SessionBookState). IsDesk g.N.Names.plan book old.consumed.items old.cuts.items) (sym c.requires.book)
-    (desk-planned g.N.Names.plan old.slots.items old.producers.items old.consumed.items old.cuts.items c.self.invariant
+    subst (λ (book : SessionBookState). IsDesk g.N.Names.plan book old.consumed.items old.cuts.items old.cleared.items) (sym c.requires.book)
+    (desk-planned g.N.Names.plan old.slots.items old.producers.items old.consumed.items old.cuts.items old.cleared.items
+    c.self.invariant
     c.requires.plan.0 all c.requires.plan.1)
 
 pub returns-clause-opened : goal.returns-clause-opened
 returns-clause-opened g c =
     let old = c.self.inside in
     let all : length old.slots.items ≡ length g.N.Names.plan.books = c.self.view_is ∙ c.requires.all in
-    let made = opened-planned g.N.Names.plan old.slots.items old.producers.items old.consumed.items old.cuts.items c.self.invariant
+    let made = opened-planned g.N.Names.plan old.slots.items old.producers.items old.consumed.items old.cuts.items old.cleared.items
+    c.self.invariant
     c.requires.plan.0 all in
     let e = c.from_parts.ensures in
     search (rules, made, e)

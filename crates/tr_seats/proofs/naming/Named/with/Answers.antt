@@ -21,9 +21,11 @@ invariant_of-result g c =
     let e2 : c.push-2.new.self.items ≡ old.producers.items ++ new_producer n ∷ [] = search rules in
     let e3 : c.push-3.new.self.items ≡ old.consumed.items ++ seat_state b.consumed 0 1 ∷ [] = search rules in
     let e4 : c.push-4.new.self.items ≡ old.cuts.items ++ seat_state b.cuts 0 1 ∷ [] = search rules in
-    subst (λ (x : List SlotState × List ProducerState × List SeatState × List SeatState). AreNamed plan x.0 x.1 x.2 x.3)
-    (λ j. (sym e1 j, sym e2 j, sym e3 j, sym e4 j))
-    (named-more plan old.slots.items old.producers.items old.consumed.items old.cuts.items c.self.invariant t b got at)
+    let e5 : c.push-5.new.self.items ≡ old.cleared.items ++ seat_state b.cleared 0 1 ∷ [] = search rules in
+    subst (λ (x : List SlotState × List ProducerState × List SeatState × List SeatState × List SeatState). AreNamed plan x.0 x.1 x.2 x.3 x.4)
+    (λ j. (sym e1 j, sym e2 j, sym e3 j, sym e4 j, sym e5 j))
+    (named-more plan old.slots.items old.producers.items old.consumed.items old.cuts.items old.cleared.items
+    c.self.invariant t b got at)
 
 pub returns : goal.returns
 returns g c = grind (arith, common_steps)

@@ -1,12 +1,11 @@
-use Rattle.std.proofs.Common.{◌≡◌, ℕ, ◌+◌, List, ap, length, subst, sym, ◌∙◌, arith}
+use Rattle.std.proofs.Common.{◌≡◌, ℕ, List, ap, length, subst, sym, ◌∙◌, arith}
 use Rattle.std.proofs.lemmas.Grind.{common_steps}
-use Rattle.std.specs.List.{sum_by}
 use Rattle.tr_seats.proofs.opened.Opened.settle.Goals as goal
-use Rattle.tr_seats.specs.Settling.{AreTheirs, HaveConsumed, IsWhy, OpenedState, opened_state, streams_of, totals_of_seats}
+use Rattle.tr_seats.specs.Settling.{AddUp, AreTheirs, HaveConsumed, IsWhy, OpenedState, WereConsumed, opened_state, streams_of, totals_of_seats}
 use Rattle.tr_seats.specs.Slots.{ProducerState}
 use Rattle.tr_seats.specs.Sums.{totals_of}
 use Rattle.tr_session.specs.Session.{SessionOf, session_of}
-use Rattle.tr_stream.specs.State.{StreamState, in_ring}
+use Rattle.tr_stream.specs.State.{StreamState}
 
 pub returns-in-Some-clause-why : goal.returns-in-Some-clause-why
 returns-in-Some-clause-why g c =
@@ -30,10 +29,11 @@ returns-in-None-clause-seats g c =
 
 pub returns-in-None-clause-places : goal.returns-in-None-clause-places
 returns-in-None-clause-places g c =
-    let totals = c.settle_all.result.1 in
-    subst (λ (o : OpenedState). totals.offered
-    ≡ totals.discarded + totals.overwritten + sum_by (λ (s : StreamState). in_ring s.ring) (streams_of o.slots) + totals.consumed)
-    c.self.view_is c.settle_all.ensures.places
+    subst (λ (o : OpenedState). AddUp c.settle_all.result.1 (streams_of o.slots)) c.self.view_is c.settle_all.ensures.places
+
+pub returns-in-None-clause-consumed : goal.returns-in-None-clause-consumed
+returns-in-None-clause-consumed g c =
+    subst (λ (o : OpenedState). WereConsumed c.settle_all.result.1 (streams_of o.slots)) c.self.view_is c.settle_all.ensures.consumed
 
 pub settle_all-requires-clause-may : goal.settle_all-requires-clause-may
 settle_all-requires-clause-may g c = grind (arith, common_steps)

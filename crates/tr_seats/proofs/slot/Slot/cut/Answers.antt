@@ -1,13 +1,12 @@
 use Rattle.std.proofs.Common.{rules, ◌≡◌, ◌∙◌, ◌+◌, Ok, ap, arith, subst, sym}
 use Rattle.std.proofs.lemmas.Grind.{common_steps}
 use Rattle.tr_ledger.specs.Ledgers.{LedgerState}
-use Rattle.tr_seats.proofs.CountLaws.{cut-totals, cut-uncleared, few-counted}
+use Rattle.tr_seats.proofs.CountLaws.{cut-totals, few-counted}
 use Rattle.tr_seats.proofs.SlotLaws.{books-cut}
 use Rattle.tr_seats.proofs.slot.Slot.cut.Goals as goal
 use Rattle.tr_seats.specs.Books.{IsPlanned, books_at}
 use Rattle.tr_seats.specs.Sums.{totals_in}
 use Rattle.tr_seats.specs.declared.totals.Totals.{Totals}
-use Rattle.tr_stream.specs.State.{StreamState}
 use Rattle.tr_stream.specs.StateSteps.{state_after_cut, state_cut_answer}
 
 pub raise-requires-clause-room : goal.raise-requires-clause-room
@@ -31,8 +30,7 @@ invariant_of-self-2 g c =
     let planned = subst (IsPlanned g.N.Names.plan old.number) (sym c.in_ok-done.ensures.config) c.self.invariant.2 in (
       c.self.invariant.0,
       books-cut (books_at g.N.Names.plan.books old.number) old.stream c.cut.new.self old.consumed.made old.offered
-          old.discarded old.overwritten old.overwritten_packets old.consumed old.cuts c.self.invariant.1
-          (ap (λ (t : StreamState). t.counters.cleared) after ∙ cut-uncleared c.args.moment old.stream)
+          old.discarded old.overwritten old.overwritten_packets old.consumed old.cuts old.cleared c.self.invariant.1
           c.raise.new.self c.raise_by_one.new.self done.records
           (ap totals_in after ∙ cut-totals c.args.moment old.stream done answer) c.raise.ensures.ledger
           c.raise_by_one.ensures.ledger,

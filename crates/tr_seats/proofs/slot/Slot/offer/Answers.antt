@@ -1,14 +1,13 @@
 use Rattle.std.proofs.Common.{rules, ◌≡◌, ◌∙◌, ◌+◌, ℕ, Ok, ap, arith, subst, sym}
 use Rattle.std.proofs.lemmas.Grind.{common_steps}
 use Rattle.tr_ledger.specs.Ledgers.{LedgerState, seat_state}
-use Rattle.tr_seats.proofs.CountLaws.{few-counted, offer-serial, offer-totals, offer-uncleared}
+use Rattle.tr_seats.proofs.CountLaws.{few-counted, offer-serial, offer-totals}
 use Rattle.tr_seats.proofs.SlotLaws.{books-discarded, books-stored, books-stored_over, offered-here, whole-before}
 use Rattle.tr_seats.proofs.slot.Slot.offer.Goals as goal
 use Rattle.tr_seats.specs.Books.{IsPlanned, books_at}
 use Rattle.tr_seats.specs.Slots.{ProducerState, slot_state}
 use Rattle.tr_seats.specs.Sums.{totals_in}
 use Rattle.tr_seats.specs.declared.totals.Totals.{Totals}
-use Rattle.tr_stream.specs.State.{StreamState}
 use Rattle.tr_stream.specs.StateSteps.{state_after_offer, state_offer_answer}
 use Rattle.tr_stream.specs.declared.answers.Offered.TheVariants.{Stored, StoredOver, Discarded}
 
@@ -22,9 +21,7 @@ invariant_of-self-in-Stored g c =
     let planned = subst (IsPlanned g.N.Names.plan old.number) (sym c.in-Ok.ensures.config) c.self.invariant.2 in (
       c.self.invariant.0,
       books-stored (books_at g.N.Names.plan.books old.number) old.stream c.offer.new.self old.consumed.made old.offered
-          old.discarded old.overwritten old.overwritten_packets old.consumed old.cuts c.self.invariant.1
-          (ap (λ (t : StreamState). t.counters.cleared) after
-          ∙ offer-uncleared c.args.moment c.args.id c.args.payload.now old.stream)
+          old.discarded old.overwritten old.overwritten_packets old.consumed old.cuts old.cleared c.self.invariant.1
           c.raise_by_one.new.self c.in-Stored.serial c.in-Stored.seq more c.raise_by_one.ensures.ledger,
       planned,
     )
@@ -40,9 +37,7 @@ invariant_of-self-in-StoredOver g c =
     let planned = subst (IsPlanned g.N.Names.plan old.number) (sym c.in-Ok.ensures.config) c.self.invariant.2 in (
       c.self.invariant.0,
       books-stored_over (books_at g.N.Names.plan.books old.number) old.stream c.offer.new.self old.consumed.made old.offered
-          old.discarded old.overwritten old.overwritten_packets old.consumed old.cuts c.self.invariant.1
-          (ap (λ (t : StreamState). t.counters.cleared) after
-          ∙ offer-uncleared c.args.moment c.args.id c.args.payload.now old.stream)
+          old.discarded old.overwritten old.overwritten_packets old.consumed old.cuts old.cleared c.self.invariant.1
           c.raise_by_one.new.self c.raise.new.self c.raise_by_one-in-StoredOver.new.self arm.serial arm.seq arm.gone_seq
           arm.gone_count more c.raise_by_one.ensures.ledger c.raise.ensures.ledger c.raise_by_one-in-StoredOver.ensures.ledger,
       planned,
@@ -70,9 +65,7 @@ invariant_of-self-in-Discarded g c =
     let planned = subst (IsPlanned g.N.Names.plan old.number) (sym c.in-Ok.ensures.config) c.self.invariant.2 in (
       c.self.invariant.0,
       books-discarded (books_at g.N.Names.plan.books old.number) old.stream c.offer.new.self old.consumed.made old.offered
-          old.discarded old.overwritten old.overwritten_packets old.consumed old.cuts c.self.invariant.1
-          (ap (λ (t : StreamState). t.counters.cleared) after
-          ∙ offer-uncleared c.args.moment c.args.id c.args.payload.now old.stream)
+          old.discarded old.overwritten old.overwritten_packets old.consumed old.cuts old.cleared c.self.invariant.1
           c.raise_by_one.new.self c.raise_by_one-in-Discarded.new.self c.in-Discarded.serial more c.raise_by_one.ensures.ledger
           c.raise_by_one-in-Discarded.ensures.ledger,
       planned,

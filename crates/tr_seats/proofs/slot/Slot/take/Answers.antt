@@ -3,7 +3,7 @@ use Rattle.std.proofs.lemmas.Grind.{common_steps}
 use Rattle.std.proofs.lemmas.List.{length-map}
 use Rattle.std.specs.Prelude.{slice_index, slice_set}
 use Rattle.tr_ledger.specs.Ledgers.{LedgerState}
-use Rattle.tr_seats.proofs.CountLaws.{few-counted, refused-take, take-totals, take-uncleared}
+use Rattle.tr_seats.proofs.CountLaws.{few-counted, refused-take, take-totals}
 use Rattle.tr_seats.proofs.Rows.{amounts-raised, consumed-at, length-seats, row-raised, table-there}
 use Rattle.tr_seats.proofs.SlotLaws.{books-taken}
 use Rattle.tr_seats.proofs.slot.Slot.take.Goals as goal
@@ -20,7 +20,7 @@ invariant_of-self g c =
     refused-take old.stream c.take.new.self c.in_err-taken.field-0.0 c.in_err-taken.ensures.value c.in_err-taken.ensures.no_memory in
     subst (λ (t : StreamState). (old.number < length g.N.Names.plan.books)
     × AreBooksOf (books_at g.N.Names.plan.books old.number) t old.consumed.made old.offered old.discarded old.overwritten
-    old.overwritten_packets old.consumed old.cuts × IsPlanned g.N.Names.plan old.number t.config) (sym same) c.self.invariant
+    old.overwritten_packets old.consumed old.cuts old.cleared × IsPlanned g.N.Names.plan old.number t.config) (sym same) c.self.invariant
 
 pub index_mut-requires : goal.index_mut-requires
 index_mut-requires g c =
@@ -63,8 +63,7 @@ invariant_of-self-2 g c =
     let planned = subst (IsPlanned g.N.Names.plan old.number) (sym c.in_ok-taken.ensures.config) c.self.invariant.2 in (
       c.self.invariant.0,
       books-taken (books_at g.N.Names.plan.books old.number) old.stream c.take.new.self old.consumed.made old.offered
-          old.discarded old.overwritten old.overwritten_packets old.consumed old.cuts c.self.invariant.1
-          (ap (λ (t : StreamState). t.counters.cleared) after ∙ take-uncleared old.stream)
+          old.discarded old.overwritten old.overwritten_packets old.consumed old.cuts old.cleared c.self.invariant.1
           c.raise.new.self c.in_ok-taken.taken.count (ap totals_in after ∙ is.totals) c.raise.ensures.ledger,
       planned,
     )

@@ -1,7 +1,9 @@
-use Rattle.std.proofs.Common.{◌≡◌, ℕ, subst, arith}
+use Rattle.std.proofs.Common.{◌≡◌, ℕ, subst, sym, arith}
 use Rattle.std.proofs.lemmas.Grind.{common_steps}
-use Rattle.tr_seats.specs.Settling.{IsOneEach}
+use Rattle.tr_seats.specs.Settling.{AddUp, IsOneEach, WereConsumed}
 use Rattle.tr_seats.specs.declared.settling.SettleError.TheVariants.{ProducerMissing}
+use Rattle.tr_session.specs.Session.{SessionOf}
+use Rattle.tr_stream.specs.State.{StreamState}
 use Rattle.tr_shared.proofs.WhyLaws.{why-missing}
 use Rattle.tr_shared.proofs.shared.Shared.settle.Goals as goal
 
@@ -23,7 +25,13 @@ pub returns-in-Ok-clause-seats : goal.returns-in-Ok-clause-seats
 returns-in-Ok-clause-seats g c = grind (arith, common_steps)
 
 pub returns-in-Ok-clause-places : goal.returns-in-Ok-clause-places
-returns-in-Ok-clause-places g c = grind (arith, common_steps)
+returns-in-Ok-clause-places g c =
+    subst (λ (s : SessionOf StreamState). AddUp c.in-Ok.settled.1 s.streams) (sym c.in-Ok.ensures.session) c.in-Ok.ensures.places
+
+pub returns-in-Ok-clause-consumed : goal.returns-in-Ok-clause-consumed
+returns-in-Ok-clause-consumed g c =
+    subst (λ (s : SessionOf StreamState). WereConsumed c.in-Ok.settled.1 s.streams) (sym c.in-Ok.ensures.session)
+    c.in-Ok.ensures.consumed
 
 pub returns-in-Ok-clause-taken : goal.returns-in-Ok-clause-taken
 returns-in-Ok-clause-taken g c = λ k t lt. omega (arith, c.in-Ok.ensures.taken k t lt)

@@ -1,0 +1,36 @@
+//! Clears of a shared session.
+
+ghost use Rattle.std.specs.Prelude.{◌≡◌, Err, IfErr};
+ghost use Rattle.tr_shared.specs.Operating.{IsClearFault};
+
+use crate::shared::Shared;
+use std::alloc::Allocator;
+use std::sync::Wait;
+use tr_seats::Names;
+use tr_session_book::SessionFault;
+use tr_terms::SessionMode;
+
+impl<N: Names, A: Allocator + Copy> Shared<N, A> {
+    /// Removes all records that the rings and the current chunk hold, stream after stream, each under its own lock; the
+    /// desk's lock is held until all are done. Answers how many records were removed. Packets that workers take from a stream
+    /// after its turn stay in the current chunk.
+    ///
+    /// # Errors
+    ///
+    /// `SnapshotMode`, `NeverStarted`, `RotationPending`: nothing changed. `NoMemory`, and `Misplaced` if a stream isn't where
+    /// its number says: the streams before it are cleared, the others are as they were, and the call can be made again.
+    pub fn clear(&self, rt: &impl Wait) -> Result<u128, SessionFault>
+        ensures refused { IfErr result IsClearFault }
+        ensures mode { N.plan.session.book.mode ≡ SessionMode.Snapshot → result ≡ Err SessionFault.SnapshotMode }
+    {
+        let mut desk = self.desk.lock(rt);
+        let _ = desk.book();
+        desk.clear_allowed()?;
+        let mut records = 0;
+        for i in 0..self.slots.len() {
+            let cleared = desk.clear(&mut self.slots[i].lock(rt), i)?;
+            records += u128::from(cleared.records);
+        }
+        Ok(records)
+    }
+}
