@@ -1,6 +1,6 @@
 //! What is to become of the offers.
 
-use tr_book::{Geometry, Mode};
+use tr_terms::{Geometry, Mode};
 
 /// The ring of a round's stream, and whether packets are taken from it.
 #[derive(Clone, Copy, Debug)]

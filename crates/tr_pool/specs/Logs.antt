@@ -11,7 +11,7 @@ use Rattle.tr_pool.specs.declared.report.Report.{Report}
 use Rattle.tr_record.specs.Records.{Entry}
 use Rattle.tr_stream.specs.Calls.{ring_records}
 use Rattle.tr_stream.specs.Fates.{all_parts}
-use Rattle.tr_stream.specs.State.{StreamState, in_ring}
+use Rattle.tr_stream.specs.State.{StreamState, in_parts, in_ring}
 
 -- the records of packets, and of parts
 abbrev pub packet_records : List Contents → List Entry
@@ -79,5 +79,6 @@ report_of streams = record {
   discarded = sum_by (λ (s : StreamState). s.ring.discarded) streams;
   overwritten = sum_by (λ (s : StreamState). s.counters.overwritten) streams;
   in_ring = sum_by (λ (s : StreamState). in_ring s.ring) streams;
-  in_chunks = sum_by (λ (s : StreamState). s.counters.consumed) streams;
+  in_chunks = sum_by (λ (s : StreamState). in_parts s.parts) streams;
+  cleared = sum_by (λ (s : StreamState). s.counters.cleared) streams;
 }

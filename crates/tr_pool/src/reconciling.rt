@@ -54,6 +54,7 @@ pub fn reconcile(settled: &Settled, logs: &[Log]) -> Result<Report, Mismatch>
         overwritten: 0,
         in_ring: 0,
         in_chunks: 0,
+        cleared: 0,
     };
     'streams: for i in 0..session.streams() {
         let Some(stream) = session.stream(i) else {

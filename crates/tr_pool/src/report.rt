@@ -20,6 +20,8 @@ pub struct Report {
     pub in_ring: u128,
     /// How many are in trace chunks.
     pub in_chunks: u128,
+    /// How many were cleared.
+    pub cleared: u128,
 }
 
 impl Report {
@@ -33,7 +35,8 @@ impl Report {
             discarded: self.discarded + u128::from(counts.discarded),
             overwritten: self.overwritten + u128::from(counts.overwritten),
             in_ring: self.in_ring + u128::from(counts.in_ring),
-            in_chunks: self.in_chunks + u128::from(counts.consumed),
+            in_chunks: self.in_chunks + u128::from(counts.in_chunks),
+            cleared: self.cleared + u128::from(counts.cleared),
         }
     }
 }

@@ -74,6 +74,7 @@ fn logs_are_reconciled(rt: HostRuntime) {
         overwritten: 0,
         in_ring: 0,
         in_chunks: 3,
+        cleared: 0,
     };
     let wrong = Mismatch::WrongRecord {
         stream: 0,

@@ -2,10 +2,10 @@
 
 ghost use Rattle.std.specs.Prelude.{◌≡◌};
 
-use super::rotating::{archive, assert_begun, assert_finished, assert_next, assert_rotated, cut, taken};
-use super::{
-    assert_offered, assert_started, assert_taken, built, drainer_of, settled, stored,
+use super::rotating::{
+    archive, assert_begun, assert_finished, assert_next, assert_rotated, cut, taken,
 };
+use super::{assert_offered, assert_started, assert_taken, built, drainer_of, settled, stored};
 use crate::plans::{assert_same, last, plan_of, plan_with, push};
 use std::alloc::Global;
 use std::marker::Brand;
@@ -103,7 +103,11 @@ fn assert_all_offered<N: Names>(
 fn assert_fates(rt: &impl Abort, settled: &Settled, wanted: &[(u64, Fate)]) {
     for (serial, fate) in wanted {
         let found = settled.session().stream(0).expect(rt, "a stream");
-        assert_same(rt, (*serial, found.fate_of(*serial)), (*serial, Some(*fate)));
+        assert_same(
+            rt,
+            (*serial, found.fate_of(*serial)),
+            (*serial, Some(*fate)),
+        );
     }
 }
 
