@@ -1,5 +1,5 @@
 -- What a feeder's log says of its producer.
-use Rattle.std.proofs.Common.{◌≡◌, ◌∙◌, ◌+◌, ℕ, List, [], ◌∷◌, ◌++◌, Result, Ok, Err, ap, arith, if◌then◌else◌, length, refl, sym}
+use Rattle.std.proofs.Common.{◌≡◌, ◌∙◌, ◌+◌, List, [], ◌∷◌, ◌++◌, Result, Ok, Err, ap, arith, if◌then◌else◌, length, refl, sym}
 use Rattle.std.proofs.lemmas.List.{length-append}
 use Rattle.std.specs.List.{FoldsTo}
 use Rattle.std.specs.Prelude.{is_ok}

@@ -30,11 +30,11 @@ fn assert_cleared<N: Names>(
 type Offer = (u64, usize, Offered);
 
 static TO_A_RING_THAT_DISCARDS: [Offer; 6] = [
-    (1, 64, Offered::Stored { serial: 0, seq: 0 }),
-    (2, 64, Offered::Stored { serial: 1, seq: 0 }),
-    (3, 64, Offered::Stored { serial: 2, seq: 1 }),
-    (4, 60, Offered::Stored { serial: 3, seq: 1 }),
-    (5, 64, Offered::Discarded { serial: 4 }),
+    (1, 50, Offered::Stored { serial: 0, seq: 0 }),
+    (2, 50, Offered::Stored { serial: 1, seq: 0 }),
+    (3, 50, Offered::Stored { serial: 2, seq: 1 }),
+    (4, 50, Offered::Stored { serial: 3, seq: 1 }),
+    (5, 50, Offered::Discarded { serial: 4 }),
     (6, 4, Offered::Stored { serial: 5, seq: 1 }),
 ];
 
