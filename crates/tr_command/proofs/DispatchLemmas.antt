@@ -44,11 +44,7 @@ fault-first a n rest first none =
     ∙ ap₂ (λ (k : Kinds) (w : Walk). or_else k (after_walk a w))
     (walk_fault-stopped a.top (names_of a) (walk_from nothing_held) (n, []) rest) (walk-first a n rest first)
 
--- the two command lines find the same fault, and enter the same command with the same values
-abbrev ReadsSame : App → App → List Text → Type 0
-ReadsSame a b words = (fault_of a words ≡ fault_of b words) × (subcommand_of a words ≡ subcommand_of b words)
-
--- what a command line makes of a line by its first word
+-- what a command line makes of a line that begins with this word, and goes on with any others
 record Seen : Type 0 where
   words : List Text → List Text
   stands : Walk
@@ -65,7 +61,7 @@ seen a n = record {
   enters = λ rest. entered (built a) (Some (n, rest));
 }
 
--- it stops at that word, which is that of a command
+-- the same, if it stops at that word and finds no fault in it
 abbrev stopped : App → Text → Seen
 stopped a n = record (seen a n) { words = drop 1; stands = stopped_at n []; turned = [] }
 
@@ -81,7 +77,7 @@ subcommand_of-stopped a program n rest is =
     ap (λ (s : Seen). entered (built a) (stop_after (built a).top.rules (names_of (built a)) (s.words (program ∷ n ∷ rest)))) is
     ∙ ap (λ (w : Walk). entered (built a) w.stopped) (walk-first (built a) n rest (ap (λ (s : Seen). s.stands) is))
 
--- two command lines that stop there alike enter the same
+-- two command lines that both stop there, and do the same after it, enter the same
 entered_by-same : (a b : App) (program n : Text) (rest : List Text) → seen a n ≡ stopped b n → seen b n ≡ stopped b n
     → entered_by a (program ∷ n ∷ rest) ≡ entered_by b (program ∷ n ∷ rest)
 entered_by-same a b program n rest own whole =
@@ -92,7 +88,7 @@ entered_by-same a b program n rest own whole =
     (fault_of-stopped a program n rest stops ∙ ap (λ (s : Seen). s.fault rest) own ∙ sym (fault_of-stopped b program n rest whole))
     (subcommand_of-stopped a program n rest stops ∙ ap (λ (s : Seen). s.enters rest) own ∙ sym (subcommand_of-stopped b program n rest whole))
 
--- the command line with one command alone stops at its name as the whole one does
+-- of each command the two command lines do the same after its name; for all of them at once, by computing both sides
 each-stops : map (λ (c : Command). seen (alone c) c.name) commands ≡ map (λ (c : Command). stopped script_app c.name) commands
 unfolding clap_on_literals commands
 each-stops = refl
@@ -101,7 +97,7 @@ whole-stops : map (λ (c : Command). seen script_app c.name) commands ≡ map (�
 unfolding clap_on_literals commands
 whole-stops = refl
 
--- what is the same of all commands is so of the one that is found, which passes the test
+-- two functions that agree on all commands agree on the one that is found, and that one passes the test
 module _ {Y : Type 0} (test : Command → Bool) (f g : Command → Y) where
   found-first : (b : Bool) (x : Command) (cs : List Command) (c : Command) → test x ≡ b → cond b (Some x) (find test cs) ≡ Some c
       → f x ≡ g x → (find test cs ≡ Some c → (f c ≡ g c) × (test c ≡ true)) → (f c ≡ g c) × (test c ≡ true)

@@ -1,5 +1,5 @@
 -- Loops over the arguments of a command, and over the table of commands.
-use Rattle.std.proofs.Common.{◌≡◌, ◌∙◌, ◌+◌, ◌<◌, ◌∷◌, ℕ, Bool, true, List, [], Option, Some, IfOk, Result, Ok, false, ap, ap₂, cond, drop, get_or, length, map, sym, take}
+use Rattle.std.proofs.Common.{◌≡◌, ◌∙◌, ◌+◌, ◌<◌, ◌∷◌, ℕ, Bool, true, List, [], Option, Some, IfOk, Result, Ok, Err, false, ap, ap₂, cond, drop, get_or, length, map, sym, take}
 use Rattle.std.specs.List.{find, fold}
 use Rattle.std.proofs.lemmas.List.{drop_more, map-append, take_more}
 use Rattle.std.proofs.lemmas.List.Sums.{fold-append}
@@ -32,14 +32,14 @@ module _ {X Y : Type 0} (f : X → Y) (test : Y → Bool) (xs : List X) (i : ℕ
   found-later within is fails = here within is ∙ ap (λ b. cond b (Some (f (get_or xs i x))) (find test (map f (drop (i + 1) xs)))) fails
 
 -- a command line with the first commands of a table, and one more that was built
-pub command-added : {E : Type 0} (z : App) (program joined : Command) (built : Result Command E) (rows : List CommandRow) (i : ℕ) (row : CommandRow)
-    → i < length rows → app_of program ≡ fold with_command z (map command_in (take i rows))
+pub command-added : {E : Type 0} (z : App) (program joined built : Result Command E) (rows : List CommandRow) (i : ℕ) (row : CommandRow)
+    → i < length rows → IfOk program (λ p. app_of p ≡ fold with_command z (map command_in (take i rows)))
     → IfOk built (λ b. app_of b ≡ command_app (command_in (get_or rows i row))) → IfOk built (λ b. (fields_of b).has_globals ≡ false)
-    → ((c : Command) × (b : Command) × (◌≡◌ {A = Result Command E} (Ok program) (Ok c)) × (built ≡ Ok b)
-    × ((fields_of b).has_globals ≡ false → app_of joined ≡ with_subcommand (app_of c) (app_of b).top))
-    → app_of joined ≡ fold with_command z (map command_in (take (i + 1) rows))
-command-added z program joined built rows i row within is shape local below =
-    let same : program ≡ below.0 = cc in
+    → IfOk joined (λ r. (c : Command) × (b : Command) × (program ≡ Ok c) × (built ≡ Ok b)
+    × ((fields_of b).has_globals ≡ false → app_of r ≡ with_subcommand (app_of c) (app_of b).top))
+    → IfOk joined (λ r. app_of r ≡ fold with_command z (map command_in (take (i + 1) rows)))
+command-added z program (Err e) built rows i row within is shape local below = tt
+command-added z program (Ok joined) built rows i row within is shape local below =
     below.4 (rw below.3 at local)
-    ∙ ap₂ (λ (a b : App). with_subcommand a b.top) (ap app_of (sym same) ∙ is) (rw below.3 at shape)
+    ∙ ap₂ (λ (a b : App). with_subcommand a b.top) (rw below.2 at is) (rw below.3 at shape)
     ∙ sym (folded-more command_in with_command z rows i row within)

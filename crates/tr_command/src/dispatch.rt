@@ -27,19 +27,19 @@ pub fn command_word<'a>(words: &[&'a str]) -> Option<&'a str>
 fn alone<'a>(alloc: Global, row: &'static CommandRow) -> Result<Command<'a>, AllocError>
     ensures { IfOk result (λ c. app_of c ≡ alone (command_in row.now)) }
 {
-    let program = Command::new(alloc, "tracerd");
-    joined(Ok(program), command_of(alloc, row.name, row.arguments))
+    let command = command_of(alloc, row.name, row.arguments)?;
+    Command::new(alloc, "tracerd").subcommand(command)
 }
 
 /// The whole command line of a script's line.
 fn script_command<'a>(alloc: Global) -> Result<Command<'a>, AllocError>
     ensures { IfOk result (λ c. app_of c ≡ script_app) }
 {
-    let mut program = Command::new(alloc, "tracerd");
+    let mut program = Ok(Command::new(alloc, "tracerd"));
     'commands: for row in rows() {
-        program = joined(Ok(program), command_of(alloc, row.name, row.arguments))?;
+        program = joined(program, command_of(alloc, row.name, row.arguments));
     }
-    Ok(program)
+    program
 }
 
 /// The command line of a line with this command word.

@@ -8,9 +8,8 @@ use tr_terms::Mode;
 /// [`parse`](crate::parse) ensures: they are plain numbers here, since the check covers no value that holds both a
 /// reference and a type with an invariant.
 ///
-/// To add a command: a variant here and in `specs/Asked.antt`, its command line in `command_lines` and
-/// `specs/CommandLine.antt`, its reading in `readings` and `specs/Reading.antt`, its arm in `dispatch`
-/// and `specs/Dispatch.antt`, and its lemmas in `proofs/DispatchLemmas.antt` and `proofs/LimitLemmas.antt`.
+/// To add a command: a variant here; its row and its reader in `commands`; the same in `specs/Asked.antt`; and what
+/// its reader keeps within the limits in `proofs/LimitLemmas.antt`.
 #[derive(Clone, Copy, Debug, PartialEq, Eq)]
 pub enum Request<'a> {
     /// `create SESSION UUID [--east MIN] [--west MIN] [--snapshot]`, the offset in minutes ahead of UTC;
