@@ -123,7 +123,7 @@ fn packet(rt: &impl Abort, alloc: Global) -> Packet {
         begin: moment(1),
         end: moment(2),
         seq: 0,
-        discarded: 0,
+        lost: 0,
     };
     Packet::checked(head, records).expect(rt, "a packet")
 }

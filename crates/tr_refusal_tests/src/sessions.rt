@@ -1,6 +1,7 @@
 //! Calls of a session.
 
 mod alike;
+mod clears;
 mod events;
 mod free;
 mod rotations;
@@ -16,7 +17,7 @@ use tr_schedule::{Cause, Schedule};
 use tr_session::{Next, Session, StepFault, Ticked};
 use tr_session_book::{Archive, SessionFault};
 use tr_snapshot::Snapshot;
-use tr_stream::{CutDone, Offered, Taken};
+use tr_stream::{Cleared, CutDone, Offered, Taken};
 use tr_terms::{Mode, Moment, Name, OffsetMinutes, SessionMode};
 use tr_testing::{Rationed, moment};
 use uuid::Uuid;
@@ -85,6 +86,7 @@ enum Told {
     Offered(Result<Offered, StepFault>),
     Taken(Result<Taken, StepFault>),
     Cut(Result<CutDone, StepFault>),
+    Cleared(Result<Cleared, SessionFault>),
     Next(Result<Next, StepFault>),
     /// Also how many cuts the rotation has made that is held up.
     Archived(Result<Chunk, SessionFault>, Option<u64>),

@@ -8,7 +8,7 @@ use std::alloc::{Allocator, Global};
 use std::process::Abort;
 use tr_session::{Answer, ChannelConfig, Config, Event, Session, StepFault, run_session};
 use tr_session_book::SessionFault;
-use tr_stream::{CutDone, CutFault, Payload, TakeFault, Taken};
+use tr_stream::{Cleared, CutDone, CutFault, Payload, TakeFault, Taken};
 use tr_terms::{Mode, Name, OffsetMinutes, SessionMode};
 use tr_testing::{Rationed, moment};
 use uuid::Uuid;
@@ -20,6 +20,7 @@ enum Happens {
     Offer,
     Take,
     Cut,
+    Clear,
     Snap,
     Start,
     Stop,
@@ -35,6 +36,7 @@ fn event<A: Allocator>(alloc: A, happens: Happens) -> Event<A> {
         Happens::Offer => Event::Offer(0, moment(100), 7, Payload::new(Vec::new(alloc))),
         Happens::Take => Event::Take(0),
         Happens::Cut => Event::Cut(0),
+        Happens::Clear => Event::Clear(0),
         Happens::Snap => Event::Snap(0, moment(100)),
         Happens::Start => Event::Start(0),
         Happens::Stop => Event::Stop(0),
@@ -51,6 +53,7 @@ fn shown<A: Allocator>(answer: &Answer<A>) -> Told {
         Answer::Offer(answer) => Told::Offered(*answer),
         Answer::Take(answer) => Told::Taken(*answer),
         Answer::Cut(answer) => Told::Cut(*answer),
+        Answer::Clear(answer) => Told::Cleared(*answer),
         Answer::Snap(Ok(snap)) => {
             let (packets, bytes) = (snap.packets().len() as u64, snap.text().len() as u64);
             Told::Shown(Ok((100, packets, bytes)))
@@ -137,7 +140,17 @@ const CUT: [Step; 9] = [
     Step::Next,
 ];
 
-static ROWS: [Row; 9] = [
+static ROWS: [Row; 10] = [
+    Row {
+        mode: SessionMode::Local,
+        steps: &THREE,
+        happens: Happens::Clear,
+        granted: Told::Cleared(Ok(Cleared {
+            packets: 4,
+            records: 7,
+        })),
+        refused: Some(Told::Cleared(Err(NO_MEMORY))),
+    },
     Row {
         mode: SessionMode::Local,
         steps: &THREE,
@@ -254,12 +267,13 @@ fn config<A: Allocator + Copy>(rt: &impl Abort, alloc: A) -> Config<'static, A> 
     }
 }
 
-/// A start, offers, a take, and a rotation up to its first cut. The end of the rotation is refused, since a stream isn't cut.
-static LIST: [Happens; 9] = [
+/// A start, offers, a take, a clear, and a rotation up to its first cut. The end of the rotation is refused, since a stream isn't cut.
+static LIST: [Happens; 10] = [
     Happens::SessionStart,
     Happens::Offer,
     Happens::Offer,
     Happens::Take,
+    Happens::Clear,
     Happens::Begin,
     Happens::Cut,
     Happens::Finish,
