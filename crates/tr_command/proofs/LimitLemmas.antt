@@ -76,6 +76,7 @@ read-limits reader.Offer rows = then-limits (session_given rows) _ (λ session _
     last-limits (number_or_0 (codes "fill") MOST_FILL rows) _ (λ fill _. moment-limits rows moment is)))))
 read-limits reader.Consume rows = then-limits (session_given rows) _
     (λ session _. last-limits (number_given (codes "stream") most_u64 rows) _ (λ stream _. neither))
+read-limits reader.Clear rows = read_of_session-limits rows _ (λ session. neither)
 read-limits reader.RotateBegin rows = read_at_moment-limits rows _ (λ session moment fits. (fits, no_offset))
 read-limits reader.RotateNext rows = read_of_session-limits rows _ (λ session. neither)
 read-limits reader.RotateFinish rows = read_of_session-limits rows _ (λ session. neither)

@@ -22,6 +22,7 @@ pub data Asked : Type 0 where
   Stop : (session : Text) → Asked
   Offer : (session : Text) (stream moment id : ℕ) (text : Text) (fill : ℕ) → Asked
   Consume : (session : Text) (stream : ℕ) → Asked
+  Clear : (session : Text) → Asked
   RotateBegin : (session : Text) (moment : ℕ) → Asked
   RotateNext : (session : Text) → Asked
   RotateFinish : (session : Text) → Asked
@@ -41,6 +42,7 @@ asked_by (request.Start session moment) = Start session.now moment
 asked_by (request.Stop session) = Stop session.now
 asked_by (request.Offer session stream moment id text fill) = Offer session.now stream moment id text.now fill
 asked_by (request.Consume session stream) = Consume session.now stream
+asked_by (request.Clear session) = Clear session.now
 asked_by (request.RotateBegin session moment) = RotateBegin session.now moment
 asked_by (request.RotateNext session) = RotateNext session.now
 asked_by (request.RotateFinish session) = RotateFinish session.now
@@ -107,6 +109,7 @@ read reader.Consume rows =
     and_then (session_given rows) (λ session.
     and_last (number_given (codes "stream") most_u64 rows) (λ stream.
     Consume session stream))
+read reader.Clear rows = of_session Clear rows
 read reader.RotateBegin rows = at_moment RotateBegin rows
 read reader.RotateNext rows = of_session RotateNext rows
 read reader.RotateFinish rows = of_session RotateFinish rows
@@ -150,6 +153,7 @@ commands =
     ∷ command "stop" ("session" ∷ []) [] [] reader.Stop
     ∷ command "offer" ("session" ∷ "stream" ∷ "moment" ∷ "id" ∷ []) ("text" ∷ "fill" ∷ []) [] reader.Offer
     ∷ command "consume" ("session" ∷ "stream" ∷ []) [] [] reader.Consume
+    ∷ command "clear" ("session" ∷ []) [] [] reader.Clear
     ∷ command "rotate-begin" ("session" ∷ "moment" ∷ []) [] [] reader.RotateBegin
     ∷ command "rotate-next" ("session" ∷ []) [] [] reader.RotateNext
     ∷ command "rotate-finish" ("session" ∷ []) [] [] reader.RotateFinish

@@ -33,6 +33,7 @@ pub enum Reader {
     Stop,
     Offer,
     Consume,
+    Clear,
     RotateBegin,
     RotateNext,
     RotateFinish,
@@ -100,6 +101,11 @@ const COMMANDS: &[CommandRow] = &[
         name: "consume",
         arguments: &[Placed("session"), Placed("stream")],
         reader: Reader::Consume,
+    },
+    CommandRow {
+        name: "clear",
+        arguments: &[Placed("session")],
+        reader: Reader::Clear,
     },
     CommandRow {
         name: "rotate-begin",
@@ -192,6 +198,7 @@ fn read<'a>(reader: Reader, matches: &ArgMatches<'a>) -> Option<Request<'a>>
         Reader::Stop => stop_request(matches),
         Reader::Offer => offer_request(matches),
         Reader::Consume => consume_request(matches),
+        Reader::Clear => clear_request(matches),
         Reader::RotateBegin => rotate_begin_request(matches),
         Reader::RotateNext => rotate_next_request(matches),
         Reader::RotateFinish => rotate_finish_request(matches),
@@ -285,6 +292,13 @@ fn consume_request<'a>(matches: &ArgMatches<'a>) -> Option<Request<'a>>
     let session = text_given(matches, "session")?;
     let stream = number_given(matches, "stream", u64::MAX)?;
     Some(Request::Consume { session, stream })
+}
+
+fn clear_request<'a>(matches: &ArgMatches<'a>) -> Option<Request<'a>>
+    ensures { option_map asked_by result ≡ read Reader.Clear (rows_of (found_of matches.now)) }
+{
+    let session = text_given(matches, "session")?;
+    Some(Request::Clear { session })
 }
 
 fn rotate_begin_request<'a>(matches: &ArgMatches<'a>) -> Option<Request<'a>>

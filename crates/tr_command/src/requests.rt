@@ -56,6 +56,10 @@ pub enum Request<'a> {
         session: &'a str,
         stream: u64,
     },
+    /// `clear SESSION`
+    Clear {
+        session: &'a str,
+    },
     /// `rotate-begin SESSION MOMENT`
     RotateBegin {
         session: &'a str,

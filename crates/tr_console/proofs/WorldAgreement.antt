@@ -7,9 +7,9 @@ use Rattle.std.specs.Str.{bytes_eq}
 use Rattle.tr_terms.specs.declared.mode.Mode.{Mode}
 use Rattle.tr_calls.specs.Calls.{mode_asked, from_session, from_step, archive_named, schedule_asked, schedule_set, after_schedule_asked, tick_named}
 use Rattle.tr_calls.specs.World.{World, session_named, with_session}
-use Rattle.tr_command.specs.Asked.{Asked, Create, Channel, Thread, Start, Stop, Offer, Consume, RotateBegin, RotateNext, RotateFinish, Rotate, Snapshot, Schedule, Tick, Fate, Status, Archives}
+use Rattle.tr_command.specs.Asked.{Asked, Create, Channel, Thread, Start, Stop, Offer, Consume, Clear, RotateBegin, RotateNext, RotateFinish, Rotate, Snapshot, Schedule, Tick, Fate, Status, Archives}
 use Rattle.tr_console.specs.Agreement.{WorldsAgree}
-use Rattle.tr_console.specs.Answers.{create_named_step, create_step, session_step, addition_step, call_step, channel_step, thread_step, start_step, stop_step, payload_of, offer_step, consume_step, rotate_begin_step, rotate_next_step, rotate_finish_step, rotate_step, snapshot_step, schedule_step, tick_step, fate_step, status_step, archives_step, request_step}
+use Rattle.tr_console.specs.Answers.{create_named_step, create_step, session_step, addition_step, call_step, channel_step, thread_step, start_step, stop_step, payload_of, offer_step, consume_step, clear_step, rotate_begin_step, rotate_next_step, rotate_finish_step, rotate_step, snapshot_step, schedule_step, tick_step, fate_step, status_step, archives_step, request_step}
 use Rattle.tr_console.specs.Steps.{Step, refusal_step}
 use Rattle.tr_terms.specs.Names.{is_name}
 use Rattle.tr_outcome.specs.Text.{Text}
@@ -17,14 +17,15 @@ use Rattle.tr_outcome.specs.declared.faults.LineFault.{LineFault}
 use Rattle.tr_outcome.specs.declared.faults.LineFault.TheVariants.{BadName}
 use Rattle.tr_outcome.specs.declared.ticks.TickTold.{TickTold}
 use Rattle.tr_outcome.specs.declared.ticks.TickTold.TheVariants as told
-use Rattle.tr_replies.specs.Texts.{line_of, started_text, stopped_text, offered_text, taken_text, rotating_text, next_text, archived_text, snapshot_text, schedule_text, tick_text, fate_text, status_line, status_head, status_rows, status_text, status_row, archive_text, archive_line, archive_lines, lines_or_none, archives_text}
+use Rattle.tr_replies.specs.Texts.{cleared_text, line_of, started_text, stopped_text, offered_text, taken_text, rotating_text, next_text, archived_text, snapshot_text, schedule_text, tick_text, fate_text, status_line, status_head, status_rows, status_text, status_row, archive_text, archive_line, archive_lines, lines_or_none, archives_text}
 use Rattle.tr_schedule.specs.Schedules.{ScheduleState}
 use Rattle.tr_schedule.specs.declared.faults.ScheduleFault.{ScheduleFault}
 use Rattle.tr_session.proofs.Agreement.{ResultsAgree, same-length, agree-channel, agree-thread, agree-started, agree-stopped, same-offer, agree-offer, same-take, agree-take, agree-begun, same-next, agree-next, agree-finished, same-rotate, agree-rotate, same-snapshot, agree-snapshot, agree-scheduled, same-tick, agree-tick, same-fate, same-archive_packets, same-archive_bytes}
+use Rattle.tr_session.proofs.ClearAgreement.{agree-clear_all, same-all_cleared, same-clear_all}
 use Rattle.tr_session.specs.Agreement.{AllAgree, SessionsAgree}
 use Rattle.tr_session.specs.Session.{SessionOf, new_session}
-use Rattle.tr_session.specs.Sizes.{archive_packets, archive_bytes}
-use Rattle.tr_session.specs.Steps.{session_add_channel, session_add_thread, session_after_next, session_after_offer, session_after_rotate, session_after_rotate_begin, session_after_rotate_finish, session_after_snapshot, session_after_start, session_after_stop, session_after_take, session_after_tick, session_rotate_answer, session_tick_answer}
+use Rattle.tr_session.specs.Sizes.{all_cleared, archive_packets, archive_bytes}
+use Rattle.tr_session.specs.Steps.{session_add_channel, session_add_thread, session_after_clear_all, session_after_next, session_after_offer, session_after_rotate, session_after_rotate_begin, session_after_rotate_finish, session_after_snapshot, session_after_start, session_after_stop, session_after_take, session_after_tick, session_rotate_answer, session_tick_answer}
 use Rattle.tr_session.specs.declared.ticks.Ticked.{Ticked}
 use Rattle.tr_session.specs.declared.ticks.Ticked.TheVariants as ticked
 use Rattle.tr_session_book.specs.Book.{SessionBookState}
@@ -219,6 +220,12 @@ consume-agree v w name stream is = at-agree v w name _ _ is (λ a b agree.
     answered-agree v w name taken_text _ _ (session_after_take by_state stream a) (session_after_take by_history stream b)
     is (ap (λ r. from_step r) (same-take a b agree stream)) (agree-take a b agree stream))
 
+clear-agree : (v : World StreamState) (w : World Traced) (name : Text) → WorldsAgree v w
+    → StepsAgree (clear_step by_state v name) (clear_step by_history w name)
+clear-agree v w name is = at-agree v w name _ _ is (λ a b agree.
+    answered-agree v w name cleared_text _ _ (session_after_clear_all by_state a) (session_after_clear_all by_history b) is
+    (ap (λ r. from_session r) (same-clear_all a b agree)) (agree-clear_all a b agree))
+
 rotate_begin-agree : (v : World StreamState) (w : World Traced) (name : Text) (moment : ℕ) → WorldsAgree v w
     → StepsAgree (rotate_begin_step v name moment) (rotate_begin_step w name moment)
 rotate_begin-agree v w name moment is = at-agree v w name _ _ is (λ a b agree.
@@ -316,8 +323,10 @@ same-rows i (s ∷ ss) (t ∷ ts) agree =
 same-status : (name : Text) (a : SessionOf StreamState) (b : SessionOf Traced) → SessionsAgree a b
     → status_text by_state name a ≡ status_text by_history name b
 same-status name a b is =
-    ap (λ k. status_line name k ++ (10 ∷ (status_head ++ status_rows by_state 0 a.streams))) is.book
-    ∙ ap (λ rows. status_line name b.book ++ (10 ∷ (status_head ++ rows))) (same-rows 0 a.streams b.streams is.streams)
+    ap (λ k. status_line name k (all_cleared by_state a) ++ (10 ∷ (status_head ++ status_rows by_state 0 a.streams))) is.book
+    ∙ ap (λ n. status_line name b.book n ++ (10 ∷ (status_head ++ status_rows by_state 0 a.streams))) (same-all_cleared a b is)
+    ∙ ap (λ rows. status_line name b.book (all_cleared by_history b) ++ (10 ∷ (status_head ++ rows)))
+    (same-rows 0 a.streams b.streams is.streams)
 
 status-agree : (v : World StreamState) (w : World Traced) (name : Text) → WorldsAgree v w
     → StepsAgree (status_step by_state v name) (status_step by_history w name)
@@ -363,6 +372,7 @@ answers-agree (Start session moment) v w is = start-agree v w session moment is
 answers-agree (Stop session) v w is = stop-agree v w session is
 answers-agree (Offer session stream moment id text fill) v w is = offer-agree v w session stream moment id text fill is
 answers-agree (Consume session stream) v w is = consume-agree v w session stream is
+answers-agree (Clear session) v w is = clear-agree v w session is
 answers-agree (RotateBegin session moment) v w is = rotate_begin-agree v w session moment is
 answers-agree (RotateNext session) v w is = rotate_next-agree v w session is
 answers-agree (RotateFinish session) v w is = rotate_finish-agree v w session is

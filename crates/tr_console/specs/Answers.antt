@@ -5,15 +5,15 @@ use Rattle.std.specs.Prelude.{ℕ, ℤ, List, [], ◌∷◌, ◌++◌, false, na
 use Rattle.tr_terms.specs.declared.mode.Mode.{Mode}
 use Rattle.tr_calls.specs.Calls.{mode_asked, from_session, from_step, archive_named, schedule_asked, schedule_set, after_schedule_asked, tick_named}
 use Rattle.tr_calls.specs.World.{World, session_named, with_session}
-use Rattle.tr_command.specs.Asked.{Asked, Create, Channel, Thread, Start, Stop, Offer, Consume, RotateBegin, RotateNext, RotateFinish, Rotate, Snapshot, Schedule, Tick, Fate, Status, Archives}
+use Rattle.tr_command.specs.Asked.{Asked, Create, Channel, Thread, Start, Stop, Offer, Consume, Clear, RotateBegin, RotateNext, RotateFinish, Rotate, Snapshot, Schedule, Tick, Fate, Status, Archives}
 use Rattle.tr_console.specs.Steps.{Step, reply_step, refusal_step}
 use Rattle.tr_terms.specs.Names.{is_name}
 use Rattle.tr_outcome.specs.Text.{Text}
 use Rattle.tr_outcome.specs.declared.faults.LineFault.{LineFault}
 use Rattle.tr_outcome.specs.declared.faults.LineFault.TheVariants as fault
-use Rattle.tr_replies.specs.Texts.{line_of, started_text, stopped_text, offered_text, taken_text, rotating_text, next_text, archived_text, snapshot_text, schedule_text, tick_text, fate_text, status_text, archives_text}
+use Rattle.tr_replies.specs.Texts.{cleared_text, line_of, started_text, stopped_text, offered_text, taken_text, rotating_text, next_text, archived_text, snapshot_text, schedule_text, tick_text, fate_text, status_text, archives_text}
 use Rattle.tr_session.specs.Session.{SessionOf, new_session}
-use Rattle.tr_session.specs.Steps.{session_add_channel, session_add_thread, session_after_next, session_after_offer, session_after_rotate, session_after_rotate_begin, session_after_rotate_finish, session_after_snapshot, session_after_start, session_after_stop, session_after_take, session_after_tick, session_fate_answer, session_next_answer, session_offer_answer, session_rotate_answer, session_snapshot_answer, session_take_answer, session_tick_answer}
+use Rattle.tr_session.specs.Steps.{session_add_channel, session_add_thread, session_after_clear_all, session_after_next, session_after_offer, session_after_rotate, session_after_rotate_begin, session_after_rotate_finish, session_after_snapshot, session_after_start, session_after_stop, session_after_take, session_after_tick, session_clear_all_answer, session_fate_answer, session_next_answer, session_offer_answer, session_rotate_answer, session_snapshot_answer, session_take_answer, session_tick_answer}
 use Rattle.tr_session_book.specs.BookSteps.{book_rotate_begin_answer, book_rotate_finish_answer, book_schedule_answer, book_start_answer, book_stop_answer}
 use Rattle.tr_session_book.specs.declared.faults.SessionFault.{SessionFault}
 use Rattle.tr_session_book.specs.declared.faults.SessionFault.TheVariants.{TooMany, NameTaken}
@@ -88,6 +88,11 @@ abbrev pub consume_step : {S : Type 0} → StreamRules S → World S → Text �
 consume_step rules w name stream =
     session_step w name (λ s. call_step w name taken_text (from_step (session_take_answer rules stream s))
     (session_after_take rules stream s))
+
+abbrev pub clear_step : {S : Type 0} → StreamRules S → World S → Text → Step S
+clear_step rules w name =
+    session_step w name (λ s. call_step w name cleared_text (from_session (session_clear_all_answer rules s))
+    (session_after_clear_all rules s))
 
 -- ---- rotations
 
@@ -169,6 +174,7 @@ request_step rules w (Start session moment) = start_step rules w session moment
 request_step rules w (Stop session) = stop_step rules w session
 request_step rules w (Offer session stream moment id text fill) = offer_step rules w session stream moment id text fill
 request_step rules w (Consume session stream) = consume_step rules w session stream
+request_step rules w (Clear session) = clear_step rules w session
 request_step rules w (RotateBegin session moment) = rotate_begin_step w session moment
 request_step rules w (RotateNext session) = rotate_next_step rules w session
 request_step rules w (RotateFinish session) = rotate_finish_step w session

@@ -4,7 +4,7 @@ ghost use Rattle.std.specs.Prelude.{◌≡◌, ◌≤◌, [], IfOk, map, option_
 ghost use Rattle.tr_command.specs.Asked.{asked_by, moment_in, offset_in};
 ghost use Rattle.tr_terms.specs.Offsets.{IsOffset};
 ghost use Rattle.tr_command.specs.Language.{asked_of};
-ghost use Rattle.tr_console.specs.Answers.{RotatesOrAsks, request_step, create_step, channel_step, thread_step, start_step, stop_step, offer_step, consume_step, rotate_begin_step, rotate_next_step, rotate_finish_step, rotate_step, snapshot_step, schedule_step, tick_step, fate_step, status_step, archives_step, payload_of};
+ghost use Rattle.tr_console.specs.Answers.{RotatesOrAsks, request_step, create_step, channel_step, thread_step, start_step, stop_step, offer_step, consume_step, clear_step, rotate_begin_step, rotate_next_step, rotate_finish_step, rotate_step, snapshot_step, schedule_step, tick_step, fate_step, status_step, archives_step, payload_of};
 ghost use Rattle.tr_console.specs.Replies.{Does};
 ghost use Rattle.tr_console.specs.Script.{asked_step, text_step};
 ghost use Rattle.tr_terms.specs.declared.limits.TheConstants.{LAST_MOMENT};
@@ -14,17 +14,17 @@ use indexmap::IndexMap;
 use std::alloc::{AllocError, Allocator, Global};
 use std::marker::Model;
 use tr_calls::{
-    ChannelShape, OfferTo, Sessions, add_channel_named, add_thread_named, fate_named, mode_of,
-    offer_named, rotate_begin_named, rotate_finish_named, rotate_named, rotate_next_named,
+    ChannelShape, OfferTo, Sessions, add_channel_named, add_thread_named, clear_named, fate_named,
+    mode_of, offer_named, rotate_begin_named, rotate_finish_named, rotate_named, rotate_next_named,
     schedule_named, shape_of, snapshot_named, start_named, stop_named, take_named, tick_named,
 };
 use tr_command::{Request, parse};
 use tr_lines::{is_skipped_line, push_words};
 use tr_outcome::LineFault;
 use tr_replies::{
-    Reply, archived_reply, archives_of, bad_line, done_reply, fate_reply, next_reply,
-    offered_reply, refusal, rotating_reply, schedule_reply, skipped, snapshot_reply, status_of,
-    taken_reply, tick_reply,
+    Reply, archived_reply, archives_of, bad_line, cleared_reply, done_reply, fate_reply,
+    next_reply, offered_reply, refusal, rotating_reply, schedule_reply, skipped, snapshot_reply,
+    status_of, taken_reply, tick_reply,
 };
 use tr_session::Session;
 use tr_session_book::SessionFault;
@@ -145,6 +145,7 @@ impl<A: Allocator + Copy> Console<A> {
                 fill,
             } => self.offer(session, stream, moment, id, text, fill),
             Request::Consume { session, stream } => self.consume(session, stream),
+            Request::Clear { session } => self.clear(session),
             _ => self.rotate_or_ask(request),
         }
     }
@@ -290,6 +291,14 @@ impl<A: Allocator + Copy> Console<A> {
     {
         let answer = take_named(&mut self.sessions, session, stream);
         taken_reply(self.alloc, answer)
+    }
+
+    /// `clear`
+    fn clear(&mut self, session: &str) -> Result<Reply<A>, AllocError>
+        ensures { IfOk result (Does (clear_step by_state self.old session.now) self.new) }
+    {
+        let answer = clear_named(&mut self.sessions, session);
+        cleared_reply(self.alloc, answer)
     }
 
     /// `rotate-begin`
