@@ -5,8 +5,14 @@ use std::alloc::Global;
 use std::process::Abort;
 use tr_command::parse;
 
-/// An empty word is no number.
-static BAD: [&str; 4] = ["fate s 0 ", "snapshot s ", "consume s ", "tick s "];
+/// An empty word is no number, and is one word more.
+static BAD: [&str; 5] = [
+    "fate s 0 ",
+    "snapshot s ",
+    "consume s ",
+    "tick s ",
+    "clear s ",
+];
 
 /// Asserts that these words ask for nothing.
 fn assert_none(rt: &impl Abort, alloc: Global, words: &[&str]) {

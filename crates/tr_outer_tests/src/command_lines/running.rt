@@ -40,6 +40,24 @@ macro_rules! consume {
 
 static CONSUMES: [Asks<'static>; 2] = [consume!("consume s 3", 3), consume!("consume -- s 0", 0)];
 
+/// A line, and the session that it clears.
+macro_rules! clear {
+    ($line:expr, $session:expr $(,)?) => {
+        (
+            $line,
+            Request::Clear {
+                session: $session,
+            },
+        )
+    };
+}
+
+static CLEARS: [Asks<'static>; 3] = [
+    clear!("clear s", "s"),
+    clear!("clear clear", "clear"),
+    clear!("clear -- -x", "-x"),
+];
+
 static STARTS: [Asks<'static>; 1] = [(
     "start s 9000000000000000000",
     Request::Start {
@@ -49,10 +67,11 @@ static STARTS: [Asks<'static>; 1] = [(
 )];
 
 #[test]
-fn reads_starts_stops_and_consumes(rt: HostRuntime) {
+fn reads_starts_stops_consumes_and_clears(rt: HostRuntime) {
     assert_each_asks(&rt, rt.alloc(), &STARTS);
     assert_each_asks(&rt, rt.alloc(), &STOPS);
     assert_each_asks(&rt, rt.alloc(), &CONSUMES);
+    assert_each_asks(&rt, rt.alloc(), &CLEARS);
 }
 
 /// A line, and the session, the text and the fill of an offer of the record 7 to stream 0 at moment 1.
