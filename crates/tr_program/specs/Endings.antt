@@ -8,8 +8,8 @@ use Rattle.tr_export.specs.declared.faults.ExportFault.{ExportFault}
 use Rattle.tr_export.specs.declared.faults.ExportFault.TheVariants as export
 use Rattle.tr_load.specs.declared.loaded.LoadFault.{LoadFault}
 use Rattle.tr_load.specs.declared.loaded.LoadFault.TheVariants as load
-use Rattle.tr_load.specs.declared.report.Mismatch.{Mismatch}
-use Rattle.tr_load.specs.declared.report.Report.{Report}
+use Rattle.tr_pool.specs.declared.report.Mismatch.{Mismatch}
+use Rattle.tr_pool.specs.declared.report.Report.{Report}
 use Rattle.tr_survey.specs.declared.faults.SurveyFault.{SurveyFault}
 use Rattle.tr_survey.specs.declared.faults.SurveyFault.TheVariants as survey
 use Rattle.tr_program.specs.declared.ending.Ending.{Ending}

@@ -12,8 +12,8 @@ use Rattle.tr_folders.specs.declared.folders.Folders as Folders
 use Rattle.tr_load.specs.Loads.{IsLoaded}
 use Rattle.tr_load.specs.Telling.{DiskState, TellsLoad}
 use Rattle.tr_load.specs.declared.loaded.LoadFault.{LoadFault}
-use Rattle.tr_load.specs.declared.report.Mismatch.{Mismatch}
-use Rattle.tr_load.specs.declared.report.Report.{Report}
+use Rattle.tr_pool.specs.declared.report.Mismatch.{Mismatch}
+use Rattle.tr_pool.specs.declared.report.Report.{Report}
 use Rattle.tr_record.specs.Bytes.{and_then_bytes, once_more}
 use Rattle.tr_record.specs.declared.bytes.ByteSink as Sink
 use Rattle.tr_record.specs.declared.bytes.ByteSource as Source
