@@ -8,7 +8,7 @@ use Rattle.tr_seats.proofs.Joins.{tables-length}
 use Rattle.tr_seats.proofs.Permuted.{one-each, sum_by-beside, sum_by-index, sum_by-same}
 use Rattle.tr_seats.specs.Books.{Books, cleared_books, consumed_books, cut_books, no_table}
 use Rattle.tr_seats.specs.Desks.{DeskState}
-use Rattle.tr_seats.specs.Settling.{AreAllMade, AreTheirs, HaveConsumed, IsOneEach, streams_of, taken_of, totals_of_seats}
+use Rattle.tr_seats.specs.Settling.{AreAllMade, AreTheirs, HaveCleared, HaveConsumed, IsOneEach, streams_of, taken_of, totals_of_seats}
 use Rattle.tr_seats.specs.Slots.{AreJoined, AreSeatsOf, IsOwn, ProducerState, SlotState, amounts_of, slot_state}
 use Rattle.tr_seats.specs.Sums.{totals_in, totals_of}
 use Rattle.tr_seats.specs.declared.totals.Totals.{Totals}
@@ -79,10 +79,11 @@ module _ (books : List Books) (slots : List SlotState) (len : length slots ≡ l
       whole k d s lt (row.1 k d (omega (arith, lt, len, wide, length-map books (λ (b : Books). b.cuts))))
 
   -- and those of the cleared records
-  cleared-whole : (cleared : List SeatState) → AreSeatsOf (cleared_books books) cleared
+  pub cleared-whole : (cleared : List SeatState) → AreSeatsOf (cleared_books books) cleared
       → ((k : ℕ) (d : SeatState) (s : SlotState) → k < length slots → (get_or cleared k d).mark ≡ 1
       → (get_or cleared k d).amount ≡ (totals_in (get_or slots k s).stream).cleared)
-      → AreWholeOf (λ (t : Totals). t.cleared) slots cleared
+      → (k : ℕ) (d : SeatState) (s : SlotState) → k < length slots
+      → (get_or cleared k d).amount ≡ (totals_in (get_or slots k s).stream).cleared
   cleared-whole cleared row whole k d s lt =
       let wide = tables-length (cleared_books books) cleared row.0 in
       whole k d s lt (row.1 k d (omega (arith, lt, len, wide, length-map books (λ (b : Books). b.cleared))))
@@ -181,3 +182,15 @@ have-consumed mine drainers slots long row k t lt =
     let at = get_or-map (λ (x : SlotState). x.stream) slots k s t there in
     let has = get_or-map (λ (x : SeatState). x.amount) mine k d 0 (omega (arith, there, long)) in
     ap (λ (x : StreamState). (totals_in x).consumed) at ∙ row k d s there ∙ ap (λ n. n + taken_of drainers k) (sym has)
+
+-- what a row has is what was cleared of each stream, out of its slot
+pub have-cleared : (cleared : List SeatState) (slots : List SlotState) → length cleared ≡ length slots
+    → ((k : ℕ) (d : SeatState) (s : SlotState) → k < length slots
+    → (get_or cleared k d).amount ≡ (totals_in (get_or slots k s).stream).cleared) → HaveCleared (amounts_of cleared) (streams_of slots)
+have-cleared cleared slots long row k t lt =
+    let s = slot_state 0 t 0 in
+    let d = seat_state no_table 0 1 in
+    let there : k < length slots = omega (arith, lt, length-map slots (λ (x : SlotState). x.stream)) in
+    let at = get_or-map (λ (x : SlotState). x.stream) slots k s t there in
+    let has = get_or-map (λ (x : SeatState). x.amount) cleared k d 0 (omega (arith, there, long)) in
+    ap (λ (x : StreamState). (totals_in x).cleared) at ∙ sym (row k d s there) ∙ sym has

@@ -1,5 +1,5 @@
 -- A clear at a desk as its session's rule.
-use Rattle.std.proofs.Common.{◌≡◌, ◌∙◌, ◌<◌, ℕ, Bool, true, List, Some, Result, Ok, Err, ap, arith, length, refl, set, sym}
+use Rattle.std.proofs.Common.{◌≡◌, ◌≢◌, ◌∙◌, ◌<◌, ℕ, Bool, true, List, Some, Result, Ok, Err, ap, arith, length, refl, set, sym}
 use Rattle.std.proofs.lemmas.Bool.Decides.{nat_tests}
 use Rattle.std.specs.Option.{option_map_or}
 use Rattle.std.specs.Prelude.{if◌then◌else◌, nat_lt, slice_get}
@@ -13,11 +13,30 @@ use Rattle.tr_session.specs.Session.{session_of}
 use Rattle.tr_session.specs.Steps.{change_at, clear_as_session, if_allowed, session_after_clear, session_clear_answer}
 use Rattle.tr_session_book.specs.BookSteps.{book_clear_answer, clear_allowed_at, unless_refused}
 use Rattle.tr_session_book.specs.declared.faults.SessionFault.{SessionFault}
-use Rattle.tr_session_book.specs.declared.faults.SessionFault.TheVariants.{Misplaced, NoStream}
+use Rattle.tr_session_book.specs.declared.faults.SessionFault.TheVariants.{Misplaced, NoStream, SnapshotMode}
 use Rattle.tr_stream.specs.Rules.{by_state}
 use Rattle.tr_stream.specs.State.{StreamState}
 use Rattle.tr_stream.specs.StateSteps.{state_after_clear, state_clear_answer}
+use Rattle.tr_stream.specs.declared.answers.ClearFault.{ClearFault}
+use Rattle.tr_stream.specs.declared.answers.ClearFault.TheVariants as clear_fault
 use Rattle.tr_stream.specs.declared.answers.Cleared.{Cleared}
+use Rattle.tr_terms.specs.declared.session_mode.SessionMode.{SessionMode}
+use Rattle.tr_terms.specs.declared.session_mode.SessionMode.TheVariants.{Local, Snapshot}
+
+-- a stream's clear is refused for the mode only in a snapshot session
+pub refused-mode : (s : StreamState) (fault : ClearFault) (told : SessionFault)
+    → ◌≡◌ {A = Result Cleared SessionFault} (clear_as_session (Err fault)) (Err told)
+    → (◌≢◌ {A = Result Cleared ClearFault} (Err fault) (Err clear_fault.NoMemory) → Err fault ≡ state_clear_answer s)
+    → ◌≡◌ {A = Result Cleared SessionFault} (Err told) (Err SnapshotMode) → s.config.session ≡ Snapshot
+refused-mode s clear_fault.NoMemory told is value same = absurd cc
+refused-mode s clear_fault.SnapshotMode told is value same = go s.config.session refl
+  where
+    answer : Err clear_fault.SnapshotMode ≡ state_clear_answer s
+    answer = value (λ e. cc)
+
+    go : (m : SessionMode) → s.config.session ≡ m → s.config.session ≡ Snapshot
+    go Snapshot at = at
+    go Local at = let is = answer in absurd cc
 
 -- a clear leaves the book as it is
 book-same : (r : Result Cleared SessionFault) (i : ℕ) (desk : DeskState) → (desk_after_clear r i desk).book ≡ desk.book

@@ -9,6 +9,7 @@ pub mod NameLaws
 pub mod OverwriteLaws
 pub mod Permuted
 pub mod PlanLaws
+pub mod PlannedLaws
 pub mod Rows
 pub mod SettledLaws
 pub mod SlotLaws

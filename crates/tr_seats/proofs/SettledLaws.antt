@@ -1,9 +1,10 @@
 -- A session whose seats were settled has its streams.
-use Rattle.std.proofs.Common.{◌≡◌, ℕ, ◌<◌, length, get_or, List, Option, Some, None, ap, ◌∙◌, refl, subst, sym, arith}
-use Rattle.std.specs.Prelude.{option_map, slice_get}
+use Rattle.std.proofs.Common.{◌≡◌, ℕ, ◌<◌, length, get_or, List, Some, ap, ◌∙◌, subst, sym, arith}
+use Rattle.std.specs.Prelude.{slice_get}
 use Rattle.std.proofs.lemmas.List.{length-map}
 use Rattle.std.proofs.lemmas.Option.{get_or_from_slice_get, slice_get-map, slice_get_within}
 use Rattle.tr_ledger.specs.Ledgers.{SeatState, seat_state}
+use Rattle.tr_seats.proofs.PlannedLaws.{mapped}
 use Rattle.tr_seats.proofs.Rows.{amount-at, length-seats}
 use Rattle.tr_seats.specs.Books.{Books, IsPlanned, PlanState, cut_books, no_table}
 use Rattle.tr_seats.specs.Desks.{IsDesk}
@@ -14,11 +15,6 @@ use Rattle.tr_session.specs.Session.{HasItsStreams, IsStreamOf, session_of}
 use Rattle.tr_session_book.specs.Book.{SessionBookState}
 use Rattle.tr_session_book.specs.BookSteps.{chunks_closed}
 use Rattle.tr_stream.specs.State.{StreamState}
-
--- what a list has at a place that is mapped to a value
-mapped : {X Y : Type 0} → (f : X → Y) (x : Option X) (y : Y) → option_map f x ≡ Some y → (a : X) × (x ≡ Some a) × (f a ≡ y)
-mapped f None y is = cc
-mapped f (Some a) y is = (a, refl, cc)
 
 abbrev stream_in : SlotState → StreamState
 stream_in s = s.stream

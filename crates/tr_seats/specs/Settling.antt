@@ -96,3 +96,8 @@ AreTheirs producers streams =
 abbrev pub HaveConsumed : List ℕ → List (List ℕ) → List StreamState → Type 0
 HaveConsumed desk drainers streams = (k : ℕ) (t : StreamState) → k < length streams
     → (totals_in (slice_index_or streams k t)).consumed ≡ slice_index desk k + taken_of drainers k
+
+-- what was cleared of each stream is what the desk's seat of it has
+abbrev pub HaveCleared : List ℕ → List StreamState → Type 0
+HaveCleared desk streams = (k : ℕ) (t : StreamState) → k < length streams
+    → (totals_in (slice_index_or streams k t)).cleared ≡ slice_index desk k

@@ -2,25 +2,17 @@
 
 ghost use Rattle.std.specs.Prelude.{◌≡◌, ◌≢◌, ◌+◌, ◌<◌, Err, length};
 ghost use Rattle.tr_seats.specs.Clears.{desk_after_clear, desk_clear_answer, slot_after_clear};
-ghost use Rattle.tr_session.specs.Steps.{ClearsPackets, clear_as_session};
+ghost use Rattle.tr_session.specs.Steps.{ClearsPackets};
 ghost use Rattle.tr_session_book.specs.BookSteps.{book_clear_answer};
 
 use crate::desk::Desk;
 use crate::names::Names;
 use crate::slot::Slot;
 use std::alloc::Allocator;
+use tr_session::clear_fault;
 use tr_session_book::SessionFault;
-use tr_stream::{ClearFault, Cleared};
-
-/// Why a stream isn't cleared, as its session says it.
-fn fault_of(fault: ClearFault) -> SessionFault
-    ensures { clear_as_session (Err fault) ≡ Err result }
-{
-    match fault {
-        ClearFault::SnapshotMode => SessionFault::SnapshotMode,
-        ClearFault::NoMemory => SessionFault::NoMemory,
-    }
-}
+use tr_stream::Cleared;
+use tr_terms::SessionMode;
 
 impl<N: Names, A: Allocator + Copy> Desk<N, A> {
     /// Clears the stream in a slot, which is to be that of number `i`, if the session's book allows it. The desk's seat of
@@ -36,6 +28,7 @@ impl<N: Names, A: Allocator + Copy> Desk<N, A> {
         ensures seats { self.new ≡ desk_after_clear result i self.old }
         ensures no_memory { result ≡ Err SessionFault.NoMemory → slot.new ≡ slot.old }
         ensures memory { result ≡ Err SessionFault.NoMemory → ClearsPackets (desk_clear_answer i self.old slot.old) }
+        ensures mode { result ≡ Err SessionFault.SnapshotMode → N.plan.session.book.mode ≡ SessionMode.Snapshot }
     {
         if i != slot.number() {
             return Err(SessionFault::Misplaced);
@@ -43,7 +36,7 @@ impl<N: Names, A: Allocator + Copy> Desk<N, A> {
         self.book.clear_allowed()?;
         let done = match slot.clear(&mut self.cleared[i]) {
             Ok(done) => done,
-            Err(fault) => return Err(fault_of(fault)),
+            Err(fault) => return Err(clear_fault(fault)),
         };
         Ok(done)
     }

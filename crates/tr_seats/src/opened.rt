@@ -1,7 +1,7 @@
 //! A session out of its locks.
 
 ghost use Rattle.std.specs.Prelude.{◌≡◌, ◌+◌, ◌≤◌, IfErr, IfOk, length, sum_by, vec_capacity, vec_len};
-ghost use Rattle.tr_seats.specs.Settling.{AddUp, AreTheirs, CanSettle, HaveConsumed, WereConsumed, IsSessionOf, IsWhy, opened_state, streams_of, totals_of_seats};
+ghost use Rattle.tr_seats.specs.Settling.{AddUp, AreTheirs, CanSettle, HaveCleared, HaveConsumed, WereConsumed, IsSessionOf, IsWhy, opened_state, streams_of, totals_of_seats};
 ghost use Rattle.tr_seats.specs.Sums.{totals_of};
 ghost use Rattle.tr_session.specs.Session.{session_of};
 
@@ -16,6 +16,7 @@ use crate::totals::Totals;
 use std::alloc::{Allocator, Global};
 use std::marker::Model;
 use tr_stream::Stream;
+use tr_terms::SessionMode;
 
 /// A session out of its locks: its desk, its streams by number, and room for these when they are settled. Contracts see an
 /// `OpenedState`.
@@ -110,8 +111,11 @@ impl<N: Names, A: Allocator + Copy> Opened<N, A> {
         ensures seats { IfOk result (λ r. r.1 ≡ totals_of_seats producers.items drainers.items self.desk) }
         ensures own { IfOk result (λ r. AreTheirs producers.items r.0.streams) }
         ensures taken { IfOk result (λ r. HaveConsumed self.desk.consumed drainers.items r.0.streams) }
+        ensures cleared { IfOk result (λ r. HaveCleared self.desk.cleared r.0.streams) }
         ensures places { IfOk result (λ r. AddUp r.1 (streams_of self.slots)) }
         ensures consumed { IfOk result (λ r. WereConsumed r.1 (streams_of self.slots)) }
+        ensures snapshot_session { N.plan.session.book.mode ≡ SessionMode.Snapshot
+            → IfOk result (λ r. (r.1.consumed ≡ 0) × (r.1.cleared ≡ 0)) }
         ensures why { IfErr result (λ u. IsWhy u.error producers.items (length drainers.items) self) }
         ensures back { IfErr result
             (λ u. (u.opened ≡ self) × (u.producers ≡ producers) × (u.drainers ≡ drainers)) }

@@ -5,7 +5,7 @@ ghost use Rattle.tr_ledger.specs.Ledgers.{SeatState, seat_state};
 ghost use Rattle.tr_seats.specs.Books.{IsPlanned, books_at, cleared_books, consumed_books, cut_books};
 ghost use Rattle.tr_seats.specs.Desks.{DeskState};
 ghost use Rattle.tr_seats.specs.Faults.{settle_error_code, settle_error_name};
-ghost use Rattle.tr_seats.specs.Settling.{AddUp, AreAllMade, AreInPlace, AreTheirs, AreWhole, CanSettle, HaveConsumed, IsOneEach, IsSessionOf, IsWhy, WereConsumed, opened_state, streams_of, taken_of, totals_of_seats};
+ghost use Rattle.tr_seats.specs.Settling.{AddUp, AreAllMade, AreInPlace, AreTheirs, AreWhole, CanSettle, HaveCleared, HaveConsumed, IsOneEach, IsSessionOf, IsWhy, WereConsumed, opened_state, streams_of, taken_of, totals_of_seats};
 ghost use Rattle.tr_seats.specs.Slots.{AreJoined, AreSeatsOf, IsOwn, ProducerState, SlotState, amounts_of};
 ghost use Rattle.tr_seats.specs.Sums.{totals_in, totals_of};
 ghost use Rattle.tr_session.specs.Session.{session_of};
@@ -22,6 +22,7 @@ use thiserror::Error;
 use tr_ledger::Seat;
 use tr_session::Session;
 use tr_stream::Stream;
+use tr_terms::SessionMode;
 
 /// Why a session was not settled.
 #[derive(Clone, Copy, Debug, PartialEq, Eq, Error)]
@@ -135,6 +136,9 @@ fn sums<N: Names, A: Allocator>(slots: &[Slot<N, A>]) -> Totals
     ensures value { result ≡ totals_of (streams_of slots.now) }
     ensures places { AddUp result (streams_of slots.now) }
     ensures consumed { WereConsumed result (streams_of slots.now) }
+    ensures snapshot_session { ((k : ℕ) (s : SlotState) → k < length slots.now
+        → (slice_index_or slots.now k s).stream.config.session ≡ SessionMode.Snapshot)
+        → (result.consumed ≡ 0) × (result.cleared ≡ 0) }
 {
     let mut totals = Totals {
         offered: 0,
@@ -307,6 +311,8 @@ fn join_all<N: Names, A: Allocator>(
         → totals_of (streams_of slots.old) ≡ totals_of_seats producers.old drainers.items desk }
     ensures cut { (k : ℕ) (d : SeatState) (s : SlotState) → k < length slots.old
         → (slice_index_or cuts.old k d).amount ≡ (totals_in (slice_index_or slots.old k s).stream).cuts }
+    ensures clear { (k : ℕ) (d : SeatState) (s : SlotState) → k < length slots.old
+        → (slice_index_or cleared.old k d).amount ≡ (totals_in (slice_index_or slots.old k s).stream).cleared }
     ensures there { (k : ℕ) (p : ProducerState) → k < length producers.old
         → (slice_index_or producers.old k p).number < length N.plan.books }
     ensures own { (k : ℕ) (p : ProducerState) (s : SlotState) → k < length producers.old
@@ -357,8 +363,11 @@ pub(crate) fn settle_all<N: Names, A: Allocator + Copy>(
     ensures seats { result.1 ≡ totals_of_seats producers.items drainers.items desk }
     ensures own { AreTheirs producers.items (streams_of slots.items) }
     ensures taken { HaveConsumed desk.consumed drainers.items (streams_of slots.items) }
+    ensures cleared { HaveCleared desk.cleared (streams_of slots.items) }
     ensures places { AddUp result.1 (streams_of slots.items) }
     ensures consumed { WereConsumed result.1 (streams_of slots.items) }
+    ensures snapshot_session { N.plan.session.book.mode ≡ SessionMode.Snapshot
+        → (result.1.consumed ≡ 0) × (result.1.cleared ≡ 0) }
 {
     let Desk {
         book,

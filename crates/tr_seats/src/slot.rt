@@ -23,7 +23,7 @@ use tr_session_book::SessionFault;
 use tr_stream::{
     ClearFault, Cleared, CutDone, CutFault, OfferFault, Offered, Stream, TakeFault, Taken,
 };
-use tr_terms::Moment;
+use tr_terms::{Moment, SessionMode};
 
 /// A stream with its number and its books, which its lock guards. Contracts see a `SlotState`.
 #[derive(Drop)]
@@ -165,6 +165,8 @@ impl<N: Names, A: Allocator> Slot<N, A> {
             ≡ result.offered }
         ensures consumed { result.consumed ≡ result.in_chunks + result.withdrawn }
         ensures withdrawn { result.withdrawn ≤ result.cleared }
+        ensures snapshot_session { self.now.stream.config.session ≡ SessionMode.Snapshot
+            → (result.consumed ≡ 0) × (result.cleared ≡ 0) }
     {
         self.stream.counts()
     }
@@ -270,7 +272,8 @@ impl<N: Names, A: Allocator> Slot<N, A> {
         self.cuts.audit(mine);
     }
 
-    /// Clears the stream as it does itself, and raises the desk's seat of its cleared records by those that were removed.
+    /// Clears the stream as it does itself, and raises the desk's seat of its cleared records by those that were removed. It
+    /// is the stream that the plan made for its number.
     ///
     /// # Errors
     ///
@@ -284,6 +287,7 @@ impl<N: Names, A: Allocator> Slot<N, A> {
         ensures seat { cleared.new ≡ seat_after_clear result cleared.old }
         ensures no_memory { result ≡ Err ClearFault.NoMemory → self.new ≡ self.old }
         ensures memory { result ≡ Err ClearFault.NoMemory → ClearsSome (state_clear_answer self.old.stream) }
+        ensures planned { IsPlanned N.plan self.old.number self.old.stream.config }
     {
         let _ = self.stream.config();
         let done = self.stream.clear()?;

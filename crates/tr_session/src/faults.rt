@@ -1,11 +1,12 @@
 //! Why steps of a session's streams are refused.
 
-ghost use Rattle.std.specs.Prelude.{◌≡◌};
+ghost use Rattle.std.specs.Prelude.{◌≡◌, Err};
 ghost use Rattle.tr_session.specs.Faults.{step_fault_code, step_fault_name, step_wants_memory};
+ghost use Rattle.tr_session.specs.Steps.{clear_as_session};
 
 use thiserror::Error;
 use tr_session_book::SessionFault;
-use tr_stream::{CutFault, OfferFault, TakeFault};
+use tr_stream::{ClearFault, CutFault, OfferFault, TakeFault};
 
 /// Why a step of a stream was refused: by the session, or by the stream. Nothing changed.
 #[derive(Clone, Copy, Debug, PartialEq, Eq, Error)]
@@ -59,6 +60,16 @@ impl StepFault {
             StepFault::Take(fault) => fault.name(),
             StepFault::Cut(fault) => fault.name(),
         }
+    }
+}
+
+/// Why a session's stream isn't cleared, as the session answers it.
+pub fn clear_fault(fault: ClearFault) -> SessionFault
+    ensures { clear_as_session (Err fault) ≡ Err result }
+{
+    match fault {
+        ClearFault::SnapshotMode => SessionFault::SnapshotMode,
+        ClearFault::NoMemory => SessionFault::NoMemory,
     }
 }
 

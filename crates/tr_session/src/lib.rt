@@ -19,7 +19,7 @@ mod ticks;
 pub use archive_size::ArchiveSize;
 pub use config::{ChannelConfig, Config};
 pub use events::{Answer, Event};
-pub use faults::StepFault;
+pub use faults::{StepFault, clear_fault};
 pub use laws::every_audit;
 pub use rotation::Next;
 pub use run::{configure, run_session};

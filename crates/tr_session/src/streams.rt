@@ -5,11 +5,11 @@ ghost use Rattle.std.specs.Option.{option_map_or};
 ghost use Rattle.tr_session.specs.Steps.{change_at, clear_as_session, ClearsPackets, offer_as_step, take_as_step};
 ghost use Rattle.tr_stream.specs.StateSteps.{state_offer_answer, state_after_offer, state_take_answer, state_after_take, state_cut_answer, state_after_cut, state_clear_answer, state_after_clear, state_snap, state_after_switch, state_counts};
 
-use crate::faults::StepFault;
+use crate::faults::{StepFault, clear_fault};
 use std::alloc::{AllocError, Allocator};
 use tr_book::StreamSnap;
 use tr_session_book::SessionFault;
-use tr_stream::{ClearFault, Cleared, CutDone, CutFault, Offered, Stream, TakeFault, Taken};
+use tr_stream::{Cleared, CutDone, CutFault, Offered, Stream, TakeFault, Taken};
 use tr_terms::Moment;
 
 /// Lets the stream of this number take offers, or makes it refuse them.
@@ -117,8 +117,7 @@ fn clear_one<A: Allocator + Copy>(stream: &mut Stream<A>) -> Result<Cleared, Ses
 {
     match stream.clear() {
         Ok(cleared) => Ok(cleared),
-        Err(ClearFault::SnapshotMode) => Err(SessionFault::SnapshotMode),
-        Err(ClearFault::NoMemory) => Err(SessionFault::NoMemory),
+        Err(fault) => Err(clear_fault(fault)),
     }
 }
 

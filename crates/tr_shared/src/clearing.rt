@@ -1,6 +1,6 @@
 //! Clears of a shared session.
 
-ghost use Rattle.std.specs.Prelude.{◌≡◌, Err, IfErr};
+ghost use Rattle.std.specs.Prelude.{◌≡◌, ◌↔◌, Err, IfErr};
 ghost use Rattle.tr_shared.specs.Operating.{IsClearFault};
 
 use crate::shared::Shared;
@@ -21,7 +21,7 @@ impl<N: Names, A: Allocator + Copy> Shared<N, A> {
     /// its number says: the streams before it are cleared, the others are as they were, and the call can be made again.
     pub fn clear(&self, rt: &impl Wait) -> Result<u128, SessionFault>
         ensures refused { IfErr result IsClearFault }
-        ensures mode { N.plan.session.book.mode ≡ SessionMode.Snapshot → result ≡ Err SessionFault.SnapshotMode }
+        ensures mode { result ≡ Err SessionFault.SnapshotMode ↔ N.plan.session.book.mode ≡ SessionMode.Snapshot }
     {
         let mut desk = self.desk.lock(rt);
         let _ = desk.book();

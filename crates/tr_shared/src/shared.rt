@@ -17,7 +17,7 @@ use tr_seats::{
 };
 use tr_session_book::SessionFault;
 use tr_stream::{OfferFault, Offered, Stream, TakeFault, Taken};
-use tr_terms::Moment;
+use tr_terms::{Moment, SessionMode};
 
 /// A session that threads share by reference: its desk, and each of its streams, under locks.
 #[derive(Drop)]
@@ -253,6 +253,8 @@ impl<N: Names, A: Allocator + Copy> Shared<N, A> {
         ensures taken { IfOk result (λ r. HaveTaken drainers.items r.0.streams) }
         ensures places { IfOk result (λ r. AddUp r.1 r.0.streams) }
         ensures consumed { IfOk result (λ r. WereConsumed r.1 r.0.streams) }
+        ensures snapshot_session { N.plan.session.book.mode ≡ SessionMode.Snapshot
+            → IfOk result (λ r. (r.1.consumed ≡ 0) × (r.1.cleared ≡ 0)) }
         ensures all { IfOk result (λ r. IsOneEach (length N.plan.books) producers.items) }
         ensures missing { IfErr result
             (λ f. f.fault ≡ SettleError.ProducerMissing ↔ (¬ IsOneEach (length N.plan.books) producers.items)) }

@@ -11,7 +11,7 @@ use std::sync::atomic::{AtomicU64, Ordering};
 use std::test::*;
 use std::thread;
 use std::thread::Threads;
-use tr_pool::{Gate, Item, drain_all, feed};
+use tr_pool::{Gate, Item, Logged, Report, drain_all, feed, reconcile};
 use tr_shared::{Drainer, Names, Offers, Plan, Producer, Settled, Shared};
 use tr_stream::{Fate, Payload};
 use tr_terms::{Mode, SessionMode};
@@ -68,7 +68,17 @@ fn assert_in_ring(rt: &impl Abort, alloc: Global, settled: &Settled, count: u8) 
     assert_same(rt, last, Some(Fate::InRing { seq: 0 }));
 }
 
-/// Feeds one stream, and settles: all items were offered, and the log and the ring have them.
+/// All 153 records are in the ring.
+const ALL_IN_RING: Report = Report {
+    offered: 153,
+    discarded: 0,
+    overwritten: 0,
+    in_ring: 153,
+    in_chunks: 0,
+    cleared: 0,
+};
+
+/// Feeds one stream, and settles: all items were offered, and the log and the ring have them and agree.
 fn feeds<N: Names + Send + Sync, R: Threads + Wait + Abort + Sync>(
     rt: &R,
     alloc: Global,
@@ -82,19 +92,23 @@ fn feeds<N: Names + Send + Sync, R: Threads + Wait + Abort + Sync>(
     assert!(rt; works.len() == producers.len());
     let fed = granted(rt, feed(rt, alloc, &shared, producers, works), "feeders");
     let mut producers = Vec::new(alloc);
+    let mut logs = Vec::new(alloc);
     'fed: for logged in fed {
-        let (producer, log) = logged.into_items();
-        let log = log.into_vec();
-        assert_same(rt, log.len(), 153);
-        'items: for (found, k) in log.iter().zip(0..153) {
+        let (producer, log) = logged.into_parts();
+        let items = log.items.as_slice();
+        assert_same(rt, (log.stream, items.len()), (0, 153));
+        'items: for (found, k) in items.iter().zip(0..153) {
             assert_item(rt, alloc, found, k);
         }
         producers.push(producer).expect(rt, "memory");
+        logs.push(log).expect(rt, "memory");
     }
     let answer = shared.settle(producers, Vec::new(alloc));
     let (settled, totals) = granted(rt, answer, "settled session");
     assert_same(rt, totals.offered, 153);
+    assert_same(rt, reconcile(&settled, &logs), Ok(ALL_IN_RING));
     assert_in_ring(rt, alloc, &settled, 153);
+    drop(logs);
     drop(settled);
 }
 

@@ -5,7 +5,7 @@ use Rattle.std.proofs.lemmas.List.{append-nil, length-map}
 use Rattle.std.proofs.lemmas.List.Sums.{sum_by-cons}
 use Rattle.std.specs.List.{AllByRecursion}
 use Rattle.std.specs.Prelude.{sum_by}
-use Rattle.tr_book.specs.Parts.{PartState}
+use Rattle.tr_book.specs.Parts.{PartState, PartsState, no_parts}
 use Rattle.tr_record.specs.Records.{Entry}
 use Rattle.tr_ring.specs.ClosedBuffer.{ClosedBuffer}
 use Rattle.tr_book.specs.declared.runs.Run.{Run}
@@ -21,9 +21,10 @@ use Rattle.tr_stream.specs.History.{Status, Waiting, Dropped, Kept, Cleared, Clo
 use Rattle.tr_stream.specs.Kept.{IsKept}
 use Rattle.tr_stream.specs.Sound.{LosesByMode}
 use Rattle.tr_stream.specs.StandsFor.{StandsFor}
-use Rattle.tr_stream.specs.State.{StreamState}
+use Rattle.tr_stream.specs.State.{StreamState, in_parts}
 use Rattle.tr_stream.specs.WellFormed.{IsWellFormed, NumberedFrom, AllWait, WaitLast, RecordsRise, next_serial, StartsAt, Covers, CoversFrom, AllUsed, LastHeld}
 use Rattle.tr_stream.specs.declared.config.StreamConfig.{StreamConfig}
+use Rattle.tr_terms.specs.declared.session_mode.SessionMode.TheVariants.{Snapshot}
 
 -- parts have the numbers of their chunks
 parts_from : (c : StreamConfig) (k : ℕ) (h : History) → PartsFrom 0 (parts_below c k h)
@@ -457,3 +458,14 @@ consistent s h losses is = record {
 -- a kept value is consistent
 pub consistent-of : (s t : StreamState) → t ≡ s → IsKept t → IsConsistent s
 consistent-of s t same is = subst (λ (u : StreamState). IsConsistent u) same (consistent t is.history.0 is.sound.losses is.history.1)
+
+-- in a snapshot session nothing was consumed, and nothing was cleared
+pub nothing-gone : (s t : StreamState) → t ≡ s → IsKept t → s.config.session ≡ Snapshot
+    → (s.counters.consumed ≡ 0) × (s.counters.cleared ≡ 0)
+nothing-gone s t same is snapshot =
+    let kept : IsKept s = subst IsKept same is in
+    let none : s.parts ≡ no_parts = kept.sound.unconsumed snapshot in
+    let cleared : s.counters.cleared ≡ 0 =
+    sym (consistent-of s t same is).gone ∙ ap (λ (p : PartsState). sum_by (λ (r : Run). r.count) p.cleared) none in
+    let parts : in_parts s.parts ≡ 0 = ap in_parts none in
+    (omega (arith, kept.sound.consumed, kept.sound.withdrawn, cleared, parts), cleared)

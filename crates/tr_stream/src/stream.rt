@@ -341,6 +341,8 @@ impl<A: Allocator> Stream<A> {
         ensures total { result.discarded + result.overwritten + result.cleared + result.in_ring + result.in_chunks ≡ result.offered }
         ensures consumed { result.in_chunks + result.withdrawn ≡ result.consumed }
         ensures withdrawn { result.withdrawn ≤ result.cleared }
+        ensures snapshot_session { self.now.config.session ≡ SessionMode.Snapshot
+            → (result.consumed ≡ 0) × (result.cleared ≡ 0) }
         ensures consistent { IsConsistent self.now }
     {
         Counts {

@@ -4,6 +4,7 @@
 ghost use Rattle.std.specs.Prelude.{◌≡◌};
 
 mod calls;
+mod clearing;
 mod free;
 mod making;
 mod steps;

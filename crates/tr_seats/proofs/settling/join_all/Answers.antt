@@ -1,6 +1,6 @@
 use Rattle.std.proofs.Common.{◌≡◌, ℕ, ◌+◌, ◌<◌, length, get_or, List, ◌∙◌, subst, sym}
 use Rattle.tr_ledger.specs.Ledgers.{SeatState}
-use Rattle.tr_seats.proofs.AllTotals.{all-add_up, cuts-whole, row-taken}
+use Rattle.tr_seats.proofs.AllTotals.{all-add_up, cleared-whole, cuts-whole, row-taken}
 use Rattle.tr_seats.proofs.settling.join_all.Goals as goal
 use Rattle.tr_seats.specs.Books.{IsPlanned}
 use Rattle.tr_seats.specs.Settling.{AreInPlace}
@@ -47,6 +47,13 @@ returns-clause-cut g c =
     let after = c.audit_consumed.ensures.same.0 ∙ c.join_drainers.ensures.slots ∙ c.audit_producers.ensures.same.0 in
     let cut_whole : AreCut c.args.cuts.now c.args.slots.now = subst (AreCut c.args.cuts.now) after c.audit_cuts.ensures.whole in
     cuts-whole g.N.Names.plan.books c.args.slots.now c.requires.slots c.args.cuts.now c.requires.cuts cut_whole
+
+pub returns-clause-clear : goal.returns-clause-clear
+returns-clause-clear g c =
+    let after = c.audit_cuts.ensures.same.0 ∙ c.audit_consumed.ensures.same.0 ∙ c.join_drainers.ensures.slots
+    ∙ c.audit_producers.ensures.same.0 in
+    let whole : AreCleared c.args.cleared.now c.args.slots.now = subst (AreCleared c.args.cleared.now) after c.audit_cleared.ensures.whole in
+    cleared-whole g.N.Names.plan.books c.args.slots.now c.requires.slots c.args.cleared.now c.requires.cleared whole
 
 pub returns-clause-planned : goal.returns-clause-planned
 returns-clause-planned g c =

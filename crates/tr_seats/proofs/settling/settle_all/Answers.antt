@@ -2,17 +2,19 @@ use Rattle.std.proofs.Common.{◌≡◌, ℕ, ◌+◌, ◌<◌, ◌++◌, List, 
 use Rattle.std.proofs.lemmas.Grind.{common_steps}
 use Rattle.std.proofs.lemmas.List.{length-map, take_at}
 use Rattle.tr_ledger.specs.Ledgers.{SeatState}
-use Rattle.tr_seats.proofs.AllTotals.{AreWithin, have-consumed, theirs}
+use Rattle.tr_seats.proofs.AllTotals.{AreWithin, have-cleared, have-consumed, theirs}
 use Rattle.tr_seats.proofs.Joins.{tables-length}
+use Rattle.tr_seats.proofs.PlannedLaws.{planned-mode}
 use Rattle.tr_seats.proofs.SettledLaws.{settled-planned, settled-streams}
 use Rattle.tr_seats.proofs.settling.settle_all.Goals as goal
 use Rattle.tr_seats.specs.Books.{Books, IsPlanned, PlanState, cleared_books, consumed_books, cut_books}
 use Rattle.tr_seats.specs.Desks.{DeskState}
-use Rattle.tr_seats.specs.Settling.{AddUp, HaveConsumed, IsOneEach, IsSessionOf, WereConsumed, streams_of, taken_of, totals_of_seats}
+use Rattle.tr_seats.specs.Settling.{AddUp, HaveCleared, HaveConsumed, IsOneEach, IsSessionOf, WereConsumed, streams_of, taken_of, totals_of_seats}
 use Rattle.tr_seats.specs.Slots.{AreSeatsOf, IsOwn, ProducerState, SlotState, amounts_of}
 use Rattle.tr_seats.specs.Sums.{totals_in, totals_of}
 use Rattle.tr_session.specs.Session.{HasItsStreams, session_of}
 use Rattle.tr_stream.specs.State.{StreamState}
+use Rattle.tr_terms.specs.declared.session_mode.SessionMode.TheVariants.{Snapshot}
 
 -- what is written back over a list
 written-back : {X : Type 0} → (xs ys : List X) (n : ℕ) → ys ≡ xs → n ≡ length xs → take n (ys ++ drop (length ys) xs) ≡ xs
@@ -146,3 +148,32 @@ returns-clause-taken g c =
     let taken : AreTakenAs drainers (mine, all) = subst (AreTakenAs drainers) (λ j. (row j, slots j)) c.join_all.ensures.taken in
     subst (λ (l : List ℕ). HaveConsumed l drainers (streams_of all)) (ap (λ (d : DeskState). d.consumed) c.desk.view_is)
     (have-consumed mine drainers all (wide ∙ sym c.requires.slots) taken)
+
+abbrev AreClearedAs : List SeatState × List SlotState → Type 0
+AreClearedAs x =
+    (k : ℕ) (d : SeatState) (s : SlotState) → k < length x.1 → (get_or x.0 k d).amount ≡ (totals_in (get_or x.1 k s).stream).cleared
+
+pub returns-clause-cleared : goal.returns-clause-cleared
+returns-clause-cleared g c =
+    let all = c.args.slots.items in
+    let mine = c.desk.inside.cleared.items in
+    let books = g.N.Names.plan.books in
+    let slots : c.as_mut_slice.result.now ≡ all = c.as_mut_slice.ensures.value in
+    let row : c.as_mut_slice-5.result.now ≡ mine = c.as_mut_slice-5.ensures.value in
+    let wide = tables-length (cleared_books books) mine c.desk.invariant.cleared_are.0 ∙ length-map books (λ (b : Books). b.cleared) in
+    let gone : AreClearedAs (mine, all) = subst AreClearedAs (λ j. (row j, slots j)) c.join_all.ensures.clear in
+    subst (λ (l : List ℕ). HaveCleared l (streams_of all)) (ap (λ (d : DeskState). d.cleared) c.desk.view_is)
+    (have-cleared mine all (wide ∙ sym c.requires.slots) gone)
+
+pub returns-clause-snapshot_session : goal.returns-clause-snapshot_session
+returns-clause-snapshot_session g c = λ snapshot.
+    let plan = g.N.Names.plan in
+    let all = c.args.slots.items in
+    let slots : c.as_mut_slice.result.now ≡ all = c.as_mut_slice.ensures.value in
+    let seen : c.deref.result.now ≡ all = c.deref.ensures.value in
+    let planned : ArePlanned plan all = subst (ArePlanned plan) slots c.join_all.ensures.planned in
+    c.sums-totals.ensures.snapshot_session
+    (λ k s lt.
+        let there : k < length all = subst (λ (l : List SlotState). k < length l) seen lt in
+        subst (λ (l : List SlotState). (get_or l k s).stream.config.session ≡ Snapshot) (sym seen)
+        (planned-mode plan c.desk.invariant.planned k (get_or all k s).stream.config (planned k s there) ∙ snapshot))

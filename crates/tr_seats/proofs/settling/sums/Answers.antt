@@ -7,6 +7,7 @@ use Rattle.tr_seats.specs.Settling.{AddUp, WereConsumed, streams_of}
 use Rattle.tr_seats.specs.Slots.{SlotState}
 use Rattle.tr_seats.specs.Sums.{totals_in, totals_of}
 use Rattle.tr_stream.specs.State.{StreamState, in_parts, in_ring}
+use Rattle.tr_terms.specs.declared.session_mode.SessionMode.TheVariants.{Snapshot}
 
 pub overflow_add-totals-in-loop-slot-5 : goal.overflow_add-totals-in-loop-slot-5
 overflow_add-totals-in-loop-slot-5 g c =
@@ -71,6 +72,15 @@ loop-slot-preserved g c =
         omega (arith, v.kept.0, parts, part, withdrawn, gone, c.counts-counts.ensures.consumed, c.from-in-loop-slot-4.ensures),
         omega (arith, v.kept.1, withdrawn, gone, c.counts-counts.ensures.withdrawn, c.from-in-loop-slot-6.ensures),
       );
+      none = λ all.
+          let here : slot.stream.config.session ≡ Snapshot =
+          subst (λ (s : SlotState). s.stream.config.session ≡ Snapshot) (sym c.slot-item.is)
+          (all i slot c.loop-slot-test.true) in
+          let nothing = c.counts-counts.ensures.snapshot_session here in
+          let before = v.none all in (
+            omega (arith, before.0, nothing.0, c.from-in-loop-slot-4.ensures),
+            omega (arith, before.1, nothing.1, c.from-in-loop-slot-6.ensures),
+          );
       offered = omega (arith, v.offered, c.from.ensures, c.counts-counts.type_inv);
       discarded = omega (arith, v.discarded, c.from-in-loop-slot.ensures, c.counts-counts.type_inv);
       overwritten = omega (arith, v.overwritten, c.from-in-loop-slot-2.ensures, c.counts-counts.type_inv);
@@ -94,3 +104,6 @@ pub returns-clause-consumed : goal.returns-clause-consumed
 returns-clause-consumed g c =
     let all = take_all c.loop-slot.slot-index c.args.slots.now (omega (arith, c.loop-slot-test.false)) in
     subst (λ (l : List SlotState). WereConsumed c.loop-slot.totals (streams_of l)) all c.loop-slot.invariant.kept
+
+pub returns-clause-snapshot_session : goal.returns-clause-snapshot_session
+returns-clause-snapshot_session g c = c.loop-slot.invariant.none

@@ -2,7 +2,9 @@ use Rattle.std.proofs.Common.{rules, ◌≡◌, ◌∙◌, ◌+◌, ◌<◌, ℕ
 use Rattle.std.proofs.lemmas.Grind.{common_steps}
 use Rattle.std.proofs.lemmas.List.{length-map}
 use Rattle.std.specs.Prelude.{slice_index, slice_set}
+use Rattle.tr_seats.proofs.ClearLaws.{refused-mode}
 use Rattle.tr_seats.proofs.DeskLaws.{desk-cleared}
+use Rattle.tr_seats.proofs.PlannedLaws.{planned-mode}
 use Rattle.tr_seats.proofs.Rows.{amounts-raised, cleared-at, length-seats, table-there}
 use Rattle.tr_seats.proofs.desk.Desk.clear.Goals as goal
 use Rattle.tr_seats.specs.Books.{Books, books_at, cleared_books, no_books, no_table}
@@ -51,3 +53,9 @@ returns-clause-seats g c =
 
 pub invariant_of-self : goal.invariant_of-self
 invariant_of-self g c = grind (arith, common_steps)
+
+pub returns-in-Err-clause-mode : goal.returns-in-Err-clause-mode
+returns-in-Err-clause-mode g c = λ same.
+    let slot = c.args.slot.now in
+    let own = refused-mode slot.stream c.in-Err.fault c.clear_fault.result c.clear_fault.ensures (λ not. (c.in-Err.ensures.value not).0) same in
+    sym (planned-mode g.N.Names.plan c.self.invariant.planned slot.number slot.stream.config c.in-Err.ensures.planned) ∙ own
