@@ -6,7 +6,7 @@ use Rattle.tr_ring.specs.ClosedBuffer.{ClosedBuffer}
 use Rattle.tr_seats.specs.Books.{IsPlanned, PlanState}
 use Rattle.tr_seats.specs.Slots.{SlotState, slot_take_answer}
 use Rattle.tr_session_book.specs.Book.{SessionBookState}
-use Rattle.tr_session_book.specs.BookSteps.{book_clear_answer, book_rotate_begin_answer, book_snapshot_begin_answer, local_rotation, moment_stored}
+use Rattle.tr_session_book.specs.BookSteps.{book_rotate_begin_answer, book_snapshot_begin_answer, local_rotation, moment_stored}
 use Rattle.tr_session_book.specs.declared.faults.SessionFault.{SessionFault}
 use Rattle.tr_session_book.specs.declared.faults.SessionFault.TheVariants.{AlreadyRotated, NeverStarted, NoMemory, NotSnapshotMode, RotationPending, SnapshotMode}
 use Rattle.tr_shared.specs.Calls.{IsTakeOf}
@@ -67,24 +67,6 @@ pub snap-mode : (m : SessionMode) (b : SessionBookState) (moment : ℕ) (r : Res
 snap-mode m b moment r mode told =
     let by = snaps-by b.mode _ moment b in
     (λ same. sym mode ∙ by.0 (sym told ∙ same), λ local. told ∙ by.1 (mode ∙ local))
-
--- ---- clears
-
-abbrev pub unclearable : Result Unit SessionFault
-unclearable = Err SnapshotMode
-
-clears-by : (m : SessionMode) (fresh pending : Bool)
-    → (by_session_mode m (cond fresh (Err NeverStarted) (cond pending (Err RotationPending) (Ok tt))) (Err SnapshotMode) ≡ unclearable)
-    ↔ (m ≡ Snapshot)
-clears-by Local true pending = (λ same. absurd cc, λ snapshot. absurd cc)
-clears-by Local false true = (λ same. absurd cc, λ snapshot. absurd cc)
-clears-by Local false false = (λ same. absurd cc, λ snapshot. absurd cc)
-clears-by Snapshot fresh pending = (λ same. refl, λ snapshot. refl)
-
--- a book refuses clears for the mode if and only if that is the session's
-pub clear-mode : (m : SessionMode) (b : SessionBookState) → b.mode ≡ m → (book_clear_answer b ≡ unclearable) ↔ (m ≡ Snapshot)
-clear-mode m b mode =
-    let by = clears-by b.mode _ _ in (λ same. sym mode ∙ by.0 same, λ snapshot. by.1 (mode ∙ snapshot))
 
 -- ---- takes
 
