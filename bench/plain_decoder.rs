@@ -133,7 +133,7 @@ fn decode_packet(bytes: &[u8]) -> Result<(Packet<'_>, usize), PacketFault> {
         return Err(PacketFault::BadStreamId);
     }
     let (content, bits) = (u64_at(front, 48), u64_at(front, 56));
-    if content != bits || bits % 8 != 0 || !(104..=65_536).contains(&(bits / 8)) {
+    if content != bits || bits % 8 != 0 || !(104..=1_048_576).contains(&(bits / 8)) {
         return Err(PacketFault::BadSize);
     }
     let size = (bits / 8) as usize;

@@ -8,13 +8,14 @@ use Rattle.tr_packet.proofs.OrderLemmas.{moments_hold_says}
 use Rattle.tr_packet.specs.Order.{moments_hold}
 use Rattle.tr_packet.specs.Packets.{Contents, IsPacket, packet_size}
 use Rattle.tr_record.specs.Records.{Entry}
+use Rattle.tr_terms.specs.declared.limits.TheConstants.{LARGEST_PACKET}
 
 has_record : (begin end : ℕ) (es : List Entry) → IsTrue (moments_hold begin end es) → 1 ≤ length es
 has_record begin end [] holds = absurd (false≢true (moments_hold_says begin end [] holds).starts)
 has_record begin end (e ∷ es) holds = omega arith
 
--- at most 65,536 bytes for each record
-pub small : (ps : List Contents) → AllByRecursion IsPacket ps → bytes_of ps ≤ 65536 * records_of ps
+-- at most the bytes of the largest packet for each record
+pub small : (ps : List Contents) → AllByRecursion IsPacket ps → bytes_of ps ≤ LARGEST_PACKET * records_of ps
 small [] are = omega arith
 small (p ∷ ps) are =
     omega (

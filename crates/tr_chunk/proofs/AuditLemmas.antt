@@ -19,6 +19,7 @@ use Rattle.tr_chunk.specs.declared.audit_fault.AuditCause.{AuditCause}
 use Rattle.tr_chunk.specs.declared.audit_fault.AuditCause.TheVariants.{NumberRepeat, SerialRepeat, Foreign}
 use Rattle.tr_chunk.specs.declared.stream_audit.StreamAudit.{StreamAudit}
 use Rattle.tr_chunk.proofs.FileLemmas.{packets_text-push}
+use Rattle.tr_terms.specs.declared.limits.TheConstants.{LARGEST_PACKET}
 
 -- ---- lists
 
@@ -214,8 +215,8 @@ piece_more uuid stream pieces i none a b passed within more =
 pub piece_stop : {A : Type 0} (uuid : List ℕ) (stream : ℕ) (pieces : List (Bor (List ℕ))) (i : ℕ) (none : Bor (List ℕ))
     (offset : ℕ) (cause : AuditCause) (a : StreamAudit A)
     (passed : Passed uuid stream (map (λ (p : Bor (List ℕ)). p.now) pieces) i a) → i < length pieces
-    → StopsIn uuid stream (all_of passed.before) (get_or pieces i none).now offset cause
-    → StopsAt uuid stream (map (λ (p : Bor (List ℕ)). p.now) pieces) (record { piece = i; offset = offset; cause = cause })
+    → StopsIn LARGEST_PACKET uuid stream (all_of passed.before) (get_or pieces i none).now offset cause
+    → StopsAt LARGEST_PACKET uuid stream (map (λ (p : Bor (List ℕ)). p.now) pieces) (record { piece = i; offset = offset; cause = cause })
 piece_stop uuid stream pieces i none offset cause a passed within stop =
     let bytes = (get_or pieces i none).now in
     let lists = map (λ (p : Bor (List ℕ)). p.now) pieces in

@@ -5,9 +5,9 @@ use Rattle.std.proofs.lemmas.List.{length-take, take_more, take-append-le, take-
 use Rattle.std.proofs.lemmas.List.Concat.{flat_map-append}
 use Rattle.std.proofs.lemmas.List.Folds.{length-flat_map-take}
 use Rattle.tr_packet.specs.Packets.{Contents, packet_text}
-use Rattle.tr_chunk.specs.Audit.{StopsAt, AreAudited, AreOfStream, all_of, audit_of}
+use Rattle.tr_chunk.specs.Audit.{AreAudited, AreOfStream, all_of, audit_of}
 use Rattle.tr_chunk.specs.Files.{packets_text}
-use Rattle.tr_chunk.specs.Reading.{Reading, HasRead, StopsHowever, answer_at, bytes_fed, bytes_of_pieces}
+use Rattle.tr_chunk.specs.Reading.{Reading, HasRead, ReaderStopsAt, StopsHowever, answer_at, bytes_fed, bytes_of_pieces}
 use Rattle.tr_chunk.specs.declared.audit_fault.AuditFault.{AuditFault}
 use Rattle.tr_chunk.specs.declared.stream_audit.StreamAudit.{StreamAudit}
 use Rattle.tr_chunk.proofs.AuditLemmas.{all_of-push}
@@ -46,8 +46,8 @@ get_before (t ∷ texts) (suc i) bytes is some =
     let more = get_before texts i bytes is some in
     (more.0, omega (arith, more.1))
 
-pub stops_before : (uuid : List ℕ) (stream : ℕ) (texts : List (List ℕ)) (f : AuditFault) → StopsAt uuid stream (texts ++ [] ∷ []) f
-    → StopsAt uuid stream texts f
+pub stops_before : (uuid : List ℕ) (stream : ℕ) (texts : List (List ℕ)) (f : AuditFault) → ReaderStopsAt uuid stream (texts ++ [] ∷ []) f
+    → ReaderStopsAt uuid stream texts f
 stops_before uuid stream texts f stops =
     let at = get_before texts f.piece stops.bytes stops.piece (omega (arith, stops.stop.within)) in
     record {
@@ -105,18 +105,18 @@ next_of [] = ([], [], refl)
 next_of (t ∷ texts) = (t, texts ++ [] ∷ [], refl)
 
 pub stops_within : (uuid : List ℕ) (stream : ℕ) (texts : List (List ℕ)) (at : ℕ) (piece : List ℕ) (f : AuditFault)
-    → slice_get texts at ≡ Some piece → StopsHowever uuid stream (take at texts) piece f → StopsAt uuid stream texts f
+    → slice_get texts at ≡ Some piece → StopsHowever uuid stream (take at texts) piece f → ReaderStopsAt uuid stream texts f
 stops_within uuid stream texts at piece f is stops =
-    subst (λ (l : List (List ℕ)). StopsAt uuid stream l f)
+    subst (λ (l : List (List ℕ)). ReaderStopsAt uuid stream l f)
     (ap (λ (t : List ℕ). take at texts ++ t ∷ drop (suc at) texts) (append-nil piece) ∙ sym (around texts at piece is))
     (stops [] (drop (suc at) texts))
 
 pub stops_next : (uuid : List ℕ) (stream : ℕ) (texts : List (List ℕ)) (at : ℕ) (f : AuditFault)
-    → StopsHowever uuid stream (take at texts) [] f → StopsAt uuid stream texts f
+    → StopsHowever uuid stream (take at texts) [] f → ReaderStopsAt uuid stream texts f
 stops_next uuid stream texts at f stops =
     let next = next_of (drop at texts) in
     stops_before uuid stream texts f
-    (subst (λ (l : List (List ℕ)). StopsAt uuid stream l f)
+    (subst (λ (l : List (List ℕ)). ReaderStopsAt uuid stream l f)
     (ap (λ (l : List (List ℕ)). take at texts ++ l) (sym next.2) ∙ sym (append_assoc (take at texts) (drop at texts) ([] ∷ []))
     ∙ ap (λ (l : List (List ℕ)). l ++ [] ∷ []) (take-append-drop at texts))
     (stops next.0 next.1))

@@ -18,6 +18,7 @@ use Rattle.tr_chunk.specs.declared.audit_fault.AuditCause.{AuditCause}
 use Rattle.tr_chunk.specs.declared.audit_fault.AuditCause.TheVariants.{Packet, NumberRepeat, SerialRepeat, Foreign, NoMemory}
 use Rattle.tr_chunk.specs.declared.audit_fault.AuditFault.{AuditFault}
 use Rattle.tr_chunk.specs.declared.stream_audit.StreamAudit.{StreamAudit}
+use Rattle.tr_terms.specs.declared.limits.TheConstants.{PACKET_HEADER}
 
 abbrev Packets : List Contents → Type 0
 Packets = AllByRecursion IsPacket
@@ -32,7 +33,7 @@ pub all_back : {X : Type 0} (P : X → Type 0) (xs ys : List X) → AllByRecursi
 all_back P [] ys all = all
 all_back P (x ∷ xs) ys all = all_back P xs ys all.1
 
-some_text : (p : Contents) → IsPacket p → 80 ≤ length (packet_text p)
+some_text : (p : Contents) → IsPacket p → PACKET_HEADER ≤ length (packet_text p)
 some_text p packet = omega (arith, length-packet_text p packet.uuid)
 
 -- packets that packets start with are the first of them
@@ -136,17 +137,17 @@ other uuid stream number serial cause p rest bytes begins none is =
     none_is_some cause (sym none ∙ ap (packet_cause uuid stream number serial) same.0 ∙ is.3)
 
 -- if bytes start with the text of a packet that isn't at fault, only a failed allocation is left as a cause
-pub cause_is_memory : (uuid : List ℕ) (stream : ℕ) (number serial : Option ℕ) (cause : AuditCause) (p : Contents)
+pub cause_is_memory : (room : ℕ) (uuid : List ℕ) (stream : ℕ) (number serial : Option ℕ) (cause : AuditCause) (p : Contents)
     (rest bytes : List ℕ) → Begins p rest bytes → packet_cause uuid stream number serial p ≡ None
-    → IsCause uuid stream number serial cause bytes → cause ≡ NoMemory
-cause_is_memory uuid stream number serial NoMemory p rest bytes begins none is = refl
-cause_is_memory uuid stream number serial (Packet f) p rest bytes begins none is =
+    → IsCause room uuid stream number serial cause bytes → cause ≡ NoMemory
+cause_is_memory room uuid stream number serial NoMemory p rest bytes begins none is = refl
+cause_is_memory room uuid stream number serial (Packet f) p rest bytes begins none is =
     absurd (none_is_some f (sym (packet_read p rest bytes begins).sound ∙ is))
-cause_is_memory uuid stream number serial Foreign p rest bytes begins none is =
+cause_is_memory room uuid stream number serial Foreign p rest bytes begins none is =
     absurd (other uuid stream number serial Foreign p rest bytes begins none is)
-cause_is_memory uuid stream number serial NumberRepeat p rest bytes begins none is =
+cause_is_memory room uuid stream number serial NumberRepeat p rest bytes begins none is =
     absurd (other uuid stream number serial NumberRepeat p rest bytes begins none is)
-cause_is_memory uuid stream number serial SerialRepeat p rest bytes begins none is =
+cause_is_memory room uuid stream number serial SerialRepeat p rest bytes begins none is =
     absurd (other uuid stream number serial SerialRepeat p rest bytes begins none is)
 
 -- ---- if packets of the stream are the pieces, the audit stops only for a failed allocation
@@ -179,20 +180,20 @@ parted pss i these others is = ap all_of is ∙ flat_map-append (λ (l : List Co
 regroup : (a h : List Contents) (p : Contents) (y o : List Contents) → a ++ ((h ++ p ∷ y) ++ o) ≡ (a ++ h) ++ (p ∷ (y ++ o))
 regroup a h p y o = simp append_assoc
 
-by_more : (uuid : List ℕ) (stream : ℕ) (front here more others : List Contents) (cause : AuditCause) (rest : List ℕ)
+by_more : (room : ℕ) (uuid : List ℕ) (stream : ℕ) (front here more others : List Contents) (cause : AuditCause) (rest : List ℕ)
     → AreOfStream uuid stream (front ++ ((here ++ more) ++ others)) → 0 < length rest → rest ≡ packets_text more
-    → IsCause uuid stream (last_number (front ++ here)) (last_serial (front ++ here)) cause rest → cause ≡ NoMemory
-by_more uuid stream front here [] others cause rest sound some text is = absurd (omega (arith, some, ap length text))
-by_more uuid stream front here (p ∷ ys) others cause rest sound some text is =
+    → IsCause room uuid stream (last_number (front ++ here)) (last_serial (front ++ here)) cause rest → cause ≡ NoMemory
+by_more room uuid stream front here [] others cause rest sound some text is = absurd (omega (arith, some, ap length text))
+by_more room uuid stream front here (p ∷ ys) others cause rest sound some text is =
     let all = subst (AreOfStream uuid stream) (regroup front here p ys others) sound in
     let packet = (all_back IsPacket (front ++ here) (p ∷ (ys ++ others)) all.packets).0 in
-    cause_is_memory uuid stream (last_number (front ++ here)) (last_serial (front ++ here)) cause p (packets_text ys) rest
+    cause_is_memory room uuid stream (last_number (front ++ here)) (last_serial (front ++ here)) cause p (packets_text ys) rest
     (record { packet = packet; parts = text })
     (none_at_fault uuid stream (front ++ here) p (ys ++ others) all) is
 
-pub memory_alone : (uuid : List ℕ) (stream : ℕ) (pieces : List (List ℕ)) (pss : List (List Contents)) (fault : AuditFault)
-    → AreAudited uuid stream pieces pss → StopsAt uuid stream pieces fault → fault.cause ≡ NoMemory
-memory_alone uuid stream pieces pss fault audited stop =
+pub memory_alone : (room : ℕ) (uuid : List ℕ) (stream : ℕ) (pieces : List (List ℕ)) (pss : List (List Contents)) (fault : AuditFault)
+    → AreAudited uuid stream pieces pss → StopsAt room uuid stream pieces fault → fault.cause ≡ NoMemory
+memory_alone room uuid stream pieces pss fault audited stop =
     let i = fault.piece in
     let at = placed pss i stop.bytes (subst (λ (l : List (List ℕ)). slice_get l i ≡ Some stop.bytes) audited.texts stop.piece) in
     let all = parted pss i at.these at.others at.is in
@@ -214,7 +215,7 @@ memory_alone uuid stream pieces pss fault audited stop =
     (all ∙ ap (λ (l : List (List Contents)). all_of l ++ (at.these ++ all_of at.others)) (sym front)
     ∙ ap (λ (l : List Contents). all_of stop.before ++ (l ++ all_of at.others)) more.1)
     audited.sound in
-    by_more uuid stream (all_of stop.before) here more.0 (all_of at.others) fault.cause rest sound
+    by_more room uuid stream (all_of stop.before) here more.0 (all_of at.others) fault.cause rest sound
     (omega (arith, stop.stop.within, length-drop fault.offset stop.bytes)) more.2 stop.stop.is_cause
 
 -- what an audit says of the pieces, it says of these packets

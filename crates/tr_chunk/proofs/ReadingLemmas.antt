@@ -11,10 +11,11 @@ use Rattle.tr_packet.specs.Packets.{Contents, packet_text, packet_size}
 use Rattle.tr_packet.specs.declared.fault.PacketFault.TheVariants.{Short}
 use Rattle.tr_packet.proofs.DecodingLemmas.{packet_read}
 use Rattle.tr_packet.proofs.TextLemmas.{length-packet_text}
-use Rattle.tr_chunk.specs.Audit.{packet_cause, after_packet, IsCause, StopsAt, AreAudited, Tells, audit_of, all_of}
+use Rattle.tr_chunk.specs.Audit.{packet_cause, after_packet, IsCause, AreAudited, Tells, audit_of, all_of}
 use Rattle.tr_chunk.specs.Files.{packets_text}
-use Rattle.tr_chunk.specs.Reading.{Reading, Waits, IsAt, Is, StopsHowever, Says, HasRead, Takes, Finds, bytes_of_pieces, with_front}
+use Rattle.tr_chunk.specs.Reading.{Reading, Waits, IsAt, Is, ReaderStopsAt, StopsHowever, Says, HasRead, Takes, Finds, bytes_of_pieces, with_front}
 use Rattle.tr_chunk.specs.declared.audit_fault.AuditCause.{AuditCause}
+use Rattle.tr_chunk.specs.declared.audit_reader.TheConstants.{FIRST_ROOM}
 use Rattle.tr_chunk.specs.declared.audit_fault.AuditCause.TheVariants.{Packet}
 use Rattle.tr_chunk.specs.declared.audit_fault.AuditFault.{AuditFault}
 use Rattle.tr_chunk.specs.declared.stream_audit.StreamAudit.{StreamAudit}
@@ -109,8 +110,8 @@ get_done (d ∷ done) piece others = get_done done piece others
 
 stops_at : {A : Type 0} (uuid : List ℕ) (stream : ℕ) (done : List (List ℕ)) (piece : List ℕ) (a : StreamAudit A) (held : List ℕ)
     (offset : ℕ) (cause : AuditCause) (bytes : List ℕ) (others : List (List ℕ)) → IsAt uuid stream done piece a held offset
-    → IsCause uuid stream a.last_seq a.last_serial cause (held ++ bytes) → 0 < length (held ++ bytes)
-    → StopsAt uuid stream (done ++ (piece ++ bytes) ∷ others) (record { piece = length done; offset = offset; cause = cause })
+    → IsCause FIRST_ROOM uuid stream a.last_seq a.last_serial cause (held ++ bytes) → 0 < length (held ++ bytes)
+    → ReaderStopsAt uuid stream (done ++ (piece ++ bytes) ∷ others) (record { piece = length done; offset = offset; cause = cause })
 stops_at {A = A} uuid stream done piece a held offset cause bytes others is is_cause some =
     let whole : piece ++ bytes ≡ packets_text is.here ++ (held ++ bytes) =
     ap (λ (t : List ℕ). t ++ bytes) is.text ∙ append_assoc (packets_text is.here) held bytes in
@@ -125,8 +126,8 @@ stops_at {A = A} uuid stream done piece a held offset cause bytes others is is_c
         texts = ap (take offset) whole ∙ take_at (packets_text is.here) (held ++ bytes) offset (sym is.place);
         sound = is.tells.sound;
         is_cause =
-            subst (λ (x : StreamAudit A). IsCause uuid stream x.last_seq x.last_serial cause (drop offset (piece ++ bytes))) is.tells.is
-            (subst (IsCause uuid stream a.last_seq a.last_serial cause)
+            subst (λ (x : StreamAudit A). IsCause FIRST_ROOM uuid stream x.last_seq x.last_serial cause (drop offset (piece ++ bytes))) is.tells.is
+            (subst (IsCause FIRST_ROOM uuid stream a.last_seq a.last_serial cause)
             (sym (ap (drop offset) whole ∙ drop_at (packets_text is.here) (held ++ bytes) offset (sym is.place))) is_cause);
       };
     }
@@ -134,7 +135,7 @@ stops_at {A = A} uuid stream done piece a held offset cause bytes others is is_c
 -- a fault other than that bytes are too few, with all that follows
 pub stops_however : {A : Type 0} (uuid : List ℕ) (stream : ℕ) (done : List (List ℕ)) (piece : List ℕ) (a : StreamAudit A)
     (held : List ℕ) (offset : ℕ) (cause : AuditCause) (front back bytes : List ℕ) → IsAt uuid stream done piece a held offset
-    → IsCause uuid stream a.last_seq a.last_serial cause (held ++ front) → cause ≢ Packet Short → 0 < length front
+    → IsCause FIRST_ROOM uuid stream a.last_seq a.last_serial cause (held ++ front) → cause ≢ Packet Short → 0 < length front
     → bytes ≡ front ++ back
     → StopsHowever uuid stream done (piece ++ bytes) (record { piece = length done; offset = offset; cause = cause })
 stops_however uuid stream done piece a held offset cause front back bytes is is_cause other some parts =
@@ -142,10 +143,10 @@ stops_however uuid stream done piece a held offset cause front back bytes is is_
     let all : (held ++ front) ++ (back ++ more) ≡ held ++ (front ++ (back ++ more)) = append_assoc held front (back ++ more) in
     let regroup : (piece ++ bytes) ++ more ≡ piece ++ (front ++ (back ++ more)) =
     ap (λ (t : List ℕ). (piece ++ t) ++ more) parts ∙ regrouped piece front back more in
-    subst (λ (t : List ℕ). StopsAt uuid stream (done ++ t ∷ others) (record { piece = length done; offset = offset; cause = cause })) (sym regroup)
+    subst (λ (t : List ℕ). ReaderStopsAt uuid stream (done ++ t ∷ others) (record { piece = length done; offset = offset; cause = cause })) (sym regroup)
     (stops_at uuid stream done piece a held offset cause (front ++ (back ++ more)) others is
-    (subst (IsCause uuid stream a.last_seq a.last_serial cause) all
-    (cause_stays uuid stream a.last_seq a.last_serial cause (held ++ front) (back ++ more) is_cause other))
+    (subst (IsCause FIRST_ROOM uuid stream a.last_seq a.last_serial cause) all
+    (cause_stays FIRST_ROOM uuid stream a.last_seq a.last_serial cause (held ++ front) (back ++ more) is_cause other))
     (omega (arith, some, length-append held (front ++ (back ++ more)), length-append front (back ++ more))))
   where
     regrouped : (p f b m : List ℕ) → (p ++ (f ++ b)) ++ m ≡ p ++ (f ++ (b ++ m))
@@ -188,7 +189,7 @@ takes_part r n front back bytes parts long some waits = record {
 }
 
 pub finds : {A : Type 0} (r : Reading A) (front back bytes : List ℕ) (cause : AuditCause)
-    → IsCause r.uuid r.stream r.audit.last_seq r.audit.last_serial cause (r.held ++ front) → cause ≢ Packet Short → 0 < length front
+    → IsCause FIRST_ROOM r.uuid r.stream r.audit.last_seq r.audit.last_serial cause (r.held ++ front) → cause ≢ Packet Short → 0 < length front
     → bytes ≡ front ++ back → Finds r bytes cause
 finds r front back bytes cause is_cause other some parts =
     λ done piece is.
@@ -211,20 +212,20 @@ however_more : (uuid : List ℕ) (stream : ℕ) (done : List (List ℕ)) (piece 
     → StopsHowever uuid stream done piece f → StopsHowever uuid stream done (piece ++ bytes) f
 however_more uuid stream done piece bytes f stops =
     λ more others.
-    subst (λ (t : List ℕ). StopsAt uuid stream (done ++ t ∷ others) f) (sym (append_assoc piece bytes more)) (stops (bytes ++ more) others)
+    subst (λ (t : List ℕ). ReaderStopsAt uuid stream (done ++ t ∷ others) f) (sym (append_assoc piece bytes more)) (stops (bytes ++ more) others)
 
 however_next : (uuid : List ℕ) (stream : ℕ) (done : List (List ℕ)) (piece : List ℕ) (f : AuditFault)
     → StopsHowever uuid stream done piece f → StopsHowever uuid stream (done ++ piece ∷ []) [] f
 however_next uuid stream done piece f stops =
     λ more others.
-    subst (λ (l : List (List ℕ)). StopsAt uuid stream l f)
+    subst (λ (l : List (List ℕ)). ReaderStopsAt uuid stream l f)
     (ap (λ (t : List ℕ). done ++ t ∷ (more ∷ others)) (append-nil piece) ∙ sym (append_assoc done (piece ∷ []) (more ∷ others)))
     (stops [] (more ∷ others))
 
 pub however_end : (uuid : List ℕ) (stream : ℕ) (done : List (List ℕ)) (piece : List ℕ) (f : AuditFault)
-    → StopsHowever uuid stream done piece f → StopsAt uuid stream (done ++ piece ∷ []) f
+    → StopsHowever uuid stream done piece f → ReaderStopsAt uuid stream (done ++ piece ∷ []) f
 however_end uuid stream done piece f stops =
-    subst (λ (t : List ℕ). StopsAt uuid stream (done ++ t ∷ []) f) (append-nil piece) (stops [] [])
+    subst (λ (t : List ℕ). ReaderStopsAt uuid stream (done ++ t ∷ []) f) (append-nil piece) (stops [] [])
 
 -- a reader that met a fault
 pub says_fault : {A : Type 0} (uuid : List ℕ) (stream : ℕ) (done : List (List ℕ)) (piece : List ℕ) (r : Reading A) (f : AuditFault)
@@ -258,10 +259,10 @@ has_met_next uuid stream done piece r f met has =
 -- a piece that ends within a packet
 pub short_at_end : {A : Type 0} (done : List (List ℕ)) (piece : List ℕ) (r : Reading A) (others : List (List ℕ)) → Is done piece r
     → Waits r.held → 0 < length r.held
-    → StopsAt r.uuid r.stream (done ++ piece ∷ others) (record { piece = length done; offset = r.offset; cause = Packet Short })
+    → ReaderStopsAt r.uuid r.stream (done ++ piece ∷ others) (record { piece = length done; offset = r.offset; cause = Packet Short })
 short_at_end done piece r others is waits some =
     let whole : r.held ++ [] ≡ r.held = append-nil r.held in
-    subst (λ (t : List ℕ). StopsAt r.uuid r.stream (done ++ t ∷ others) (record { piece = length done; offset = r.offset; cause = Packet Short }))
+    subst (λ (t : List ℕ). ReaderStopsAt r.uuid r.stream (done ++ t ∷ others) (record { piece = length done; offset = r.offset; cause = Packet Short }))
     (append-nil piece)
     (stops_at r.uuid r.stream done piece r.audit r.held r.offset (Packet Short) [] others is (subst Waits (sym whole) waits)
     (omega (arith, some, ap length whole)))
@@ -270,7 +271,7 @@ pub short_however : {A : Type 0} (done : List (List ℕ)) (piece : List ℕ) (r 
     → StopsHowever r.uuid r.stream (done ++ piece ∷ []) [] (record { piece = length done; offset = r.offset; cause = Packet Short })
 short_however done piece r is waits some =
     λ more others.
-    subst (λ (l : List (List ℕ)). StopsAt r.uuid r.stream l (record { piece = length done; offset = r.offset; cause = Packet Short }))
+    subst (λ (l : List (List ℕ)). ReaderStopsAt r.uuid r.stream l (record { piece = length done; offset = r.offset; cause = Packet Short }))
     (sym (append_assoc done (piece ∷ []) (more ∷ others)))
     (short_at_end done piece r (more ∷ others) is waits some)
 
@@ -342,12 +343,12 @@ next_short uuid stream done piece r s f none waits some is met has =
 
 pub finish_short : {A : Type 0} (uuid : List ℕ) (stream : ℕ) (done : List (List ℕ)) (piece : List ℕ) (r : Reading A) (f : AuditFault)
     → r.fault ≡ None → Waits r.held → 0 < length r.held → f ≡ ends_short r
-    → HasRead uuid stream done piece r → StopsAt uuid stream (done ++ piece ∷ []) f
+    → HasRead uuid stream done piece r → ReaderStopsAt uuid stream (done ++ piece ∷ []) f
 finish_short uuid stream done piece r f none waits some is has =
     let says = says_none uuid stream done piece r none has in
-    subst (λ (u : List ℕ). StopsAt u stream (done ++ piece ∷ []) f) has.of_trace
-    (subst (λ (s : ℕ). StopsAt r.uuid s (done ++ piece ∷ []) f) has.of_stream
-    (subst (StopsAt r.uuid r.stream (done ++ piece ∷ [])) (ends_at done r says.1 ∙ sym is) (short_at_end done piece r [] says.0 waits some)))
+    subst (λ (u : List ℕ). ReaderStopsAt u stream (done ++ piece ∷ []) f) has.of_trace
+    (subst (λ (s : ℕ). ReaderStopsAt r.uuid s (done ++ piece ∷ []) f) has.of_stream
+    (subst (ReaderStopsAt r.uuid r.stream (done ++ piece ∷ [])) (ends_at done r says.1 ∙ sym is) (short_at_end done piece r [] says.0 waits some)))
 
 pub finish_found : {A : Type 0} (uuid : List ℕ) (stream : ℕ) (done : List (List ℕ)) (piece : List ℕ) (r : Reading A) → r.fault ≡ None
     → r.held ≡ [] → HasRead uuid stream done piece r

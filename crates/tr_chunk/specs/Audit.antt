@@ -1,9 +1,9 @@
 -- The audit of one stream's packets.
-use Rattle.std.specs.Prelude.{◌≡◌, ◌≢◌, ℕ, ◌+◌, ◌-◌, ◌^◌, ◌<◌, Bool, true, ◌&&◌, not, nat_eq, nat_le, nat_lt, IsTrue, List, [], ◌∷◌, ◌++◌, length, map, take, drop, min, slice_get, Option, Some, None, unwrap_or, if◌then◌else◌}
+use Rattle.std.specs.Prelude.{◌≡◌, ◌≢◌, ℕ, ◌+◌, ◌-◌, ◌^◌, ◌<◌, ◌/◌, ◌⊎◌, Bool, true, ◌&&◌, not, nat_eq, nat_le, nat_lt, IsTrue, List, [], ◌∷◌, ◌++◌, length, map, take, drop, min, slice_get, Option, Some, None, unwrap_or, if◌then◌else◌}
 use Rattle.std.specs.List.{AllByRecursion, flat_map, last_or, list_any}
 use Rattle.std.specs.Cmp.Lexicographic.{pointwise}
 use Rattle.tr_record.specs.Records.{Entry}
-use Rattle.tr_packet.specs.Decoding.{Begins, first_fault}
+use Rattle.tr_packet.specs.Decoding.{Begins, fields_fault, first_fault, packet_bits_in}
 use Rattle.tr_packet.specs.Order.{follows, serials_rise}
 use Rattle.tr_packet.specs.Packets.{Contents, IsPacket}
 use Rattle.tr_chunk.specs.Files.{packets_text}
@@ -109,7 +109,7 @@ packet_cause uuid stream number serial p =
     else if not (starts_above serial p.records) then Some SerialRepeat
     else None
 
--- the bytes start with a packet of the stream, and numbers are absent right before its own: an audit takes memory only then
+-- the bytes start with a packet of the stream, and numbers are absent right before its own: an audit takes memory for these
 pub record TakesMemory (uuid : List ℕ) (stream : ℕ) (number serial : Option ℕ) (bytes : List ℕ) : Type 0 where
   pub packet : Contents
   pub rest : List ℕ
@@ -117,34 +117,41 @@ pub record TakesMemory (uuid : List ℕ) (stream : ℕ) (number serial : Option 
   pub right : packet_cause uuid stream number serial packet ≡ None
   pub absent : gap_before number packet.head.seq ≢ []
 
--- why an audit stops at these bytes: they don't start with a packet, or it is at fault, or else an allocation failed
-abbrev pub IsCause : List ℕ → ℕ → Option ℕ → Option ℕ → AuditCause → List ℕ → Type 0
-IsCause uuid stream number serial NoMemory bytes = TakesMemory uuid stream number serial bytes
-IsCause uuid stream number serial (Packet f) bytes = first_fault bytes ≡ Some f
-IsCause uuid stream number serial cause bytes =
+-- the header and the context at the front are right, and say that the packet has more than this many bytes
+pub record IsLarger (room : ℕ) (bytes : List ℕ) : Type 0 where
+  pub fields : fields_fault bytes ≡ None
+  pub more : room < packet_bits_in bytes / 8
+
+-- why an audit stops at these bytes: they don't start with a packet, or it is at fault, or else an allocation failed. It has
+-- room for packets of this many bytes, and asks for more only at a larger one
+abbrev pub IsCause : ℕ → List ℕ → ℕ → Option ℕ → Option ℕ → AuditCause → List ℕ → Type 0
+IsCause room uuid stream number serial NoMemory bytes = TakesMemory uuid stream number serial bytes ⊎ IsLarger room bytes
+IsCause room uuid stream number serial (Packet f) bytes = first_fault bytes ≡ Some f
+IsCause room uuid stream number serial cause bytes =
     (p : Contents) × (rest : List ℕ) × Begins p rest bytes × (packet_cause uuid stream number serial p ≡ Some cause)
 
 -- in a piece after packets of the stream, the audit stops at this byte: such packets are before it, and here is the cause
-pub record StopsIn (uuid : List ℕ) (stream : ℕ) (before : List Contents) (bytes : List ℕ) (offset : ℕ)
+pub record StopsIn (room : ℕ) (uuid : List ℕ) (stream : ℕ) (before : List Contents) (bytes : List ℕ) (offset : ℕ)
     (cause : AuditCause) : Type 0 where
   pub here : List Contents
   pub within : offset < length bytes
   pub texts : take offset bytes ≡ packets_text here
   pub sound : AreOfStream uuid stream (before ++ here)
-  pub is_cause : IsCause uuid stream (last_number (before ++ here)) (last_serial (before ++ here)) cause
+  pub is_cause : IsCause room uuid stream (last_number (before ++ here)) (last_serial (before ++ here)) cause
       (drop offset bytes)
 
 -- the packets of all pieces, in order
 abbrev pub all_of : List (List Contents) → List Contents
 all_of = flat_map (λ (ps : List Contents). ps)
 
--- the audit stops in this piece, and the pieces before it are packets of the stream
-pub record StopsAt (uuid : List ℕ) (stream : ℕ) (pieces : List (List ℕ)) (fault : AuditFault) : Type 0 where
+-- the audit, which has room for packets of this many bytes, stops in this piece, and the pieces before it are packets of the
+-- stream
+pub record StopsAt (room : ℕ) (uuid : List ℕ) (stream : ℕ) (pieces : List (List ℕ)) (fault : AuditFault) : Type 0 where
   pub before : List (List Contents)
   pub bytes : List ℕ
   pub texts : take fault.piece pieces ≡ map packets_text before
   pub piece : slice_get pieces fault.piece ≡ Some bytes
-  pub stop : StopsIn uuid stream (all_of before) bytes fault.offset fault.cause
+  pub stop : StopsIn room uuid stream (all_of before) bytes fault.offset fault.cause
 
 -- each piece is these packets' texts end to end, and all of them are the stream's
 pub record AreAudited (uuid : List ℕ) (stream : ℕ) (pieces : List (List ℕ)) (pss : List (List Contents)) : Type 0 where

@@ -10,7 +10,7 @@ use Rattle.tr_chunk.specs.Files.{packets_text}
 use Rattle.tr_chunk.specs.declared.audit_fault.AuditCause.{AuditCause}
 use Rattle.tr_chunk.specs.declared.audit_fault.AuditFault.{AuditFault}
 use Rattle.tr_chunk.specs.declared.stream_audit.StreamAudit.{StreamAudit}
-use Rattle.tr_terms.specs.declared.limits.TheConstants.{LARGEST_PACKET}
+use Rattle.tr_chunk.specs.declared.audit_reader.TheConstants.{FIRST_ROOM}
 
 -- a reader: the trace and the stream that it audits, the audit of the whole packets so far, the bytes behind them in this
 -- piece and the place where these begin, how many bytes it was fed, how many pieces were begun, and the fault that it met
@@ -36,15 +36,15 @@ reading uuid stream audit held offset bytes pieces fault = record {
   fault = fault;
 }
 
--- the decoder's first fault of the bytes is that they are too few: of the first 80 nothing is judged before all are there, and
--- nothing behind them before the packet is whole
+-- the decoder's first fault of the bytes is that they are too few: nothing is judged before all of a header and context are
+-- there, and nothing behind these before the packet is whole
 abbrev pub Waits : List ℕ → Type 0
 Waits bytes = first_fault bytes ≡ Some Short
 
 -- what a reader keeps to
 pub record Keeps {A : Type 0} (r : Reading A) (capacity : ℕ) : Type 0 where
   pub waits : Waits r.held
-  pub room : LARGEST_PACKET ≤ capacity
+  pub room : FIRST_ROOM ≤ capacity
   pub within : r.offset + length r.held ≤ r.bytes
   pub few : r.bytes < 2 ^ 62
   pub begun : 0 < r.pieces
@@ -63,10 +63,14 @@ pub record IsAt {A : Type 0} (uuid : List ℕ) (stream : ℕ) (done : List (List
 abbrev pub Is : {A : Type 0} → List (List ℕ) → List ℕ → Reading A → Type 0
 Is done piece r = IsAt r.uuid r.stream done piece r.audit r.held r.offset
 
--- however this piece goes on, and whatever pieces follow, their audit stops at this fault
+-- a reader stops in these pieces at this fault
+abbrev pub ReaderStopsAt : List ℕ → ℕ → List (List ℕ) → AuditFault → Type 0
+ReaderStopsAt = StopsAt FIRST_ROOM
+
+-- however this piece goes on, and whatever pieces follow, a reader stops in them at this fault
 abbrev pub StopsHowever : List ℕ → ℕ → List (List ℕ) → List ℕ → AuditFault → Type 0
 StopsHowever uuid stream done piece fault =
-    (more : List ℕ) (others : List (List ℕ)) → StopsAt uuid stream (done ++ (piece ++ more) ∷ others) fault
+    (more : List ℕ) (others : List (List ℕ)) → ReaderStopsAt uuid stream (done ++ (piece ++ more) ∷ others) fault
 
 -- how many bytes pieces have
 abbrev pub bytes_of_pieces : List (List ℕ) → ℕ

@@ -7,6 +7,7 @@ ghost use Rattle.tr_packet.specs.Packets.{Contents, packet_size};
 ghost use Rattle.tr_chunk.specs.Audit.{audit_of, after_packet, packet_cause, starts_above, last_serial, IsCause, StopsIn, StopsAt, AreAudited, Tells, all_of};
 ghost use Rattle.tr_chunk.specs.Files.{packets_text};
 ghost use Rattle.tr_chunk.specs.declared.audit_fault.AuditCause.TheVariants.{NoMemory};
+ghost use Rattle.tr_terms.specs.declared.limits.TheConstants.{LARGEST_PACKET};
 
 use crate::audit_fault::{AuditCause, AuditFault};
 use crate::stream_audit::StreamAudit;
@@ -66,7 +67,7 @@ pub(crate) fn add_front<A: Allocator>(
     ensures ok { IfOk result (λ n. (p : Contents) × Begins p (drop n bytes.now) bytes.now × (n ≡ packet_size p)
         × (packet_cause uuid.now stream audit.old.last_seq audit.old.last_serial p ≡ None)
         × (audit.new ≡ after_packet audit.old p)) }
-    ensures err { IfErr result (λ c. IsCause uuid.now stream audit.old.last_seq audit.old.last_serial c bytes.now) }
+    ensures err { IfErr result (λ c. IsCause LARGEST_PACKET uuid.now stream audit.old.last_seq audit.old.last_serial c bytes.now) }
     ensures same { OnErr result (audit.new ≡ audit.old) }
     ensures within { IfOk result (λ n. (0 < n) × (n ≤ length bytes.now)) }
 {
@@ -102,7 +103,7 @@ fn add_piece<A: Allocator>(
         × Tells uuid.now stream (before ++ here) audit.new) }
     ensures err { IfErr result
         (λ s. (before : List Contents) → Tells uuid.now stream before audit.old
-        → StopsIn uuid.now stream before bytes.now s.offset s.cause) }
+        → StopsIn LARGEST_PACKET uuid.now stream before bytes.now s.offset s.cause) }
 {
     let mut at = 0;
     while at < bytes.len() {
@@ -129,7 +130,7 @@ pub fn audit_stream<A: Allocator>(
         × (a ≡ audit_of (all_of pss))) }
     ensures only { (pss : List (List Contents)) → AreAudited uuid.now stream (map (λ b. b.now) pieces.now) pss
         → MatchResult result (λ a. a ≡ audit_of (all_of pss)) (λ f. f.cause ≡ NoMemory) }
-    ensures fault { IfErr result (λ f. StopsAt uuid.now stream (map (λ b. b.now) pieces.now) f) }
+    ensures fault { IfErr result (λ f. StopsAt LARGEST_PACKET uuid.now stream (map (λ b. b.now) pieces.now) f) }
 {
     let mut audit = StreamAudit::new(alloc);
     'pieces: for piece in 0..pieces.len() {

@@ -1,13 +1,13 @@
 //! The audit of a stream's files as their bytes come.
 
-ghost use Rattle.std.specs.Prelude.{◌≡◌, ◌≢◌, ◌+◌, ◌-◌, ◌++◌, ◌<◌, ◌≤◌, ◌^◌, ◌∷◌, [], ℕ, List, length, drop, Ok, Some, None, IfOk, IfErr, IfNone, IfSome, MatchResult, Err};
-ghost use Rattle.tr_packet.specs.Decoding.{Begins};
+ghost use Rattle.std.specs.Prelude.{◌≡◌, ◌≢◌, ◌+◌, ◌-◌, ◌/◌, ◌++◌, ◌<◌, ◌≤◌, ◌^◌, ◌∷◌, [], ℕ, List, length, drop, Ok, Some, None, IfOk, IfErr, IfNone, IfSome, MatchResult, Err};
+ghost use Rattle.tr_packet.specs.Decoding.{Begins, fields_fault, packet_bits_in};
 ghost use Rattle.tr_packet.specs.Packets.{Contents, packet_size};
 ghost use Rattle.tr_packet.specs.declared.fault.PacketFault.TheVariants.{Short};
-ghost use Rattle.tr_chunk.specs.Audit.{AreAudited, IsCause, StopsAt, after_packet, all_of, audit_of, packet_cause};
-ghost use Rattle.tr_chunk.specs.Reading.{Finds, HasRead, Takes, Waits, answer_at, with_front};
+ghost use Rattle.tr_chunk.specs.Audit.{AreAudited, IsCause, after_packet, all_of, audit_of, packet_cause};
+ghost use Rattle.tr_chunk.specs.Reading.{Finds, HasRead, ReaderStopsAt, Takes, Waits, answer_at, with_front};
 ghost use Rattle.tr_chunk.specs.declared.audit_fault.AuditCause.TheVariants.{NoMemory, Packet};
-ghost use Rattle.tr_terms.specs.declared.limits.TheConstants.{LARGEST_PACKET};
+ghost use Rattle.tr_terms.specs.declared.limits.TheConstants.{LARGEST_PACKET, PACKET_HEADER};
 
 use crate::audit::add_front;
 use crate::audit_fault::{AuditCause, AuditFault};
@@ -15,9 +15,11 @@ use crate::stream_audit::StreamAudit;
 use std::alloc::{AllocError, Allocator, Global};
 use std::marker::Model;
 use tr_packet::{PacketFault, size_by_fields};
-use tr_record::put_bytes;
-use tr_terms::limits::{LARGEST_PACKET, PACKET_HEADER};
+use tr_terms::limits::PACKET_HEADER;
 use uuid::Uuid;
+
+/// The bytes of a packet for which a reader has memory from the beginning.
+pub const FIRST_ROOM: usize = 65_536;
 
 /// Audits the packet that bytes start with. Its size; or None if they are too few.
 fn judge_front<A: Allocator>(
@@ -30,7 +32,7 @@ fn judge_front<A: Allocator>(
         × (packet_cause uuid.now stream audit.old.last_seq audit.old.last_serial p ≡ None)
         × (audit.new ≡ after_packet audit.old p) }
     ensures part { result ≡ Ok None → Waits bytes.now × (audit.new ≡ audit.old) }
-    ensures fault { IfErr result (λ c. IsCause uuid.now stream audit.old.last_seq audit.old.last_serial c bytes.now × (c ≢ Packet Short)) }
+    ensures fault { IfErr result (λ c. IsCause FIRST_ROOM uuid.now stream audit.old.last_seq audit.old.last_serial c bytes.now × (c ≢ Packet Short)) }
 {
     match add_front(audit, uuid, stream, bytes) {
         Ok(size) => Ok(Some(size)),
@@ -44,6 +46,8 @@ fn wanted(bytes: &[u8]) -> usize
     requires { Waits bytes.now }
     ensures some { 0 < result }
     ensures within { length bytes.now + result ≤ LARGEST_PACKET }
+    ensures whole { PACKET_HEADER < length bytes.now + result → (fields_fault bytes.now ≡ None)
+        × (length bytes.now + result ≡ packet_bits_in bytes.now / 8) }
 {
     match size_by_fields(bytes) {
         Ok(size) => size - bytes.len(),
@@ -52,7 +56,8 @@ fn wanted(bytes: &[u8]) -> usize
 }
 
 /// An audit of one stream's files whose bytes come in any pieces: what `audit_stream` says of them whole. It holds the bytes
-/// of one packet at most. After a fault every call answers that fault. Contracts see a `Reading`.
+/// of one packet at most. For one of more than `FIRST_ROOM` bytes it asks for memory as its bytes come, and stops at that
+/// packet, with `NoMemory`, if it gets none. After a fault every call answers that fault. Contracts see a `Reading`.
 #[derive(Drop)]
 pub struct AuditReader<A: Allocator = Global> {
     uuid: Uuid,
@@ -77,7 +82,7 @@ impl<A: Allocator> Model for AuditReader<A> {
 }
 
 impl<A: Allocator> AuditReader<A> {
-    /// A reader at the start of piece 0. It takes the memory for the largest packet.
+    /// A reader at the start of piece 0. It takes the memory for a packet of `FIRST_ROOM` bytes.
     pub fn new(alloc: A, uuid: &Uuid, stream: u64) -> Result<AuditReader<A>, AllocError>
     where
         A: Copy,
@@ -85,7 +90,7 @@ impl<A: Allocator> AuditReader<A> {
         ensures fault { IfOk result (λ r. r.fault ≡ None) }
         ensures counts { IfOk result (λ r. (r.bytes ≡ 0) × (r.pieces ≡ 1)) }
     {
-        let held = Vec::with_capacity(alloc, LARGEST_PACKET)?;
+        let held = Vec::with_capacity(alloc, FIRST_ROOM)?;
         Ok(AuditReader {
             uuid: *uuid,
             stream,
@@ -127,7 +132,9 @@ impl<A: Allocator> AuditReader<A> {
                 Ok(size)
             }
             Ok(None) => {
-                put_bytes(&mut self.held, bytes);
+                if self.held.extend_from_slice(bytes).is_err() {
+                    return Err(AuditCause::NoMemory);
+                }
                 Ok(bytes.len())
             }
             Err(cause) => Err(cause),
@@ -146,7 +153,9 @@ impl<A: Allocator> AuditReader<A> {
         let before = self.held.len();
         let count = bytes.len().min(wanted(&self.held));
         let (front, _) = bytes.split_at(count);
-        put_bytes(&mut self.held, front);
+        if self.held.extend_from_slice(front).is_err() {
+            return Err(AuditCause::NoMemory);
+        }
         match judge_front(&mut self.audit, &self.uuid, self.stream, &self.held) {
             Ok(None) => Ok(count),
             Ok(Some(size)) => {
@@ -190,8 +199,8 @@ impl<A: Allocator> AuditReader<A> {
         fault
     }
 
-    /// Audits bytes that follow those before in this piece. A packet is judged as soon as it is whole, and its header as soon as
-    /// 80 bytes are there.
+    /// Audits bytes that follow those before in this piece. A packet is judged as soon as it is whole, and its header and context as
+    /// soon as these are.
     pub fn feed(&mut self, bytes: &[u8]) -> Result<(), AuditFault>
         requires { self.old.bytes + length bytes.now < 2 ^ 62 }
         ensures read { (uuid : List ℕ) (stream : ℕ) (done : List (List ℕ)) (piece : List ℕ) → HasRead uuid stream done piece self.old
@@ -245,7 +254,7 @@ impl<A: Allocator> AuditReader<A> {
             → (pss : List (List Contents)) → AreAudited uuid stream (done ++ piece ∷ []) pss
             → MatchResult result (λ a. a ≡ audit_of (all_of pss)) (λ f. f.cause ≡ NoMemory) }
         ensures fault { (uuid : List ℕ) (stream : ℕ) (done : List (List ℕ)) (piece : List ℕ) → HasRead uuid stream done piece self
-            → IfErr result (λ f. StopsAt uuid stream (done ++ piece ∷ []) f) }
+            → IfErr result (λ f. ReaderStopsAt uuid stream (done ++ piece ∷ []) f) }
         ensures again { IfSome self.fault (λ f. result ≡ Err f) }
     {
         if let Some(fault) = self.fault {

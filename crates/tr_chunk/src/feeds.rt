@@ -2,8 +2,8 @@
 
 ghost use Rattle.std.specs.Prelude.{◌≡◌, ◌+◌, ◌++◌, ◌<◌, ◌^◌, [], ℕ, List, length, IfOk, IfErr, None, MatchResult};
 ghost use Rattle.tr_packet.specs.Packets.{Contents};
-ghost use Rattle.tr_chunk.specs.Audit.{AreAudited, StopsAt, all_of, audit_of};
-ghost use Rattle.tr_chunk.specs.Reading.{HasRead, answer_at, bytes_fed, bytes_of_pieces, pieces_fed};
+ghost use Rattle.tr_chunk.specs.Audit.{AreAudited, all_of, audit_of};
+ghost use Rattle.tr_chunk.specs.Reading.{HasRead, ReaderStopsAt, answer_at, bytes_fed, bytes_of_pieces, pieces_fed};
 ghost use Rattle.tr_chunk.specs.declared.audit_fault.AuditCause.TheVariants.{NoMemory};
 
 use crate::audit_fault::AuditFault;
@@ -40,7 +40,7 @@ pub fn audit_feeds<A: Allocator>(
         × (a ≡ audit_of (all_of pss))) }
     ensures only { (pss : List (List Contents)) → AreAudited reader.uuid reader.stream (pieces_fed pieces.now) pss
         → MatchResult result (λ a. a ≡ audit_of (all_of pss)) (λ f. f.cause ≡ NoMemory) }
-    ensures fault { IfErr result (λ f. StopsAt reader.uuid reader.stream (pieces_fed pieces.now) f) }
+    ensures fault { IfErr result (λ f. ReaderStopsAt reader.uuid reader.stream (pieces_fed pieces.now) f) }
 {
     for at in 0..pieces.len() {
         feed_all(&mut reader, pieces[at])?;

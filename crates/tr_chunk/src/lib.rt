@@ -15,7 +15,7 @@ mod writing;
 pub use archive_names::archive_name;
 pub use audit::audit_stream;
 pub use audit_fault::{AuditCause, AuditFault};
-pub use audit_reader::AuditReader;
+pub use audit_reader::{AuditReader, FIRST_ROOM};
 pub use faults::WriteFault;
 pub use feeds::audit_feeds;
 pub use names::stream_file_name;

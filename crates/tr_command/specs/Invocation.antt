@@ -6,7 +6,7 @@ use Rattle.clap.specs.Words.{App, Row, Text, first_of, new_app, with_subcommand}
 use Rattle.tr_command.specs.CommandLine.{line_app, option, place}
 use Rattle.tr_command.specs.Language.{entered_by}
 use Rattle.tr_command.specs.Reading.{and_last, and_then, number_given}
-use Rattle.tr_terms.specs.declared.limits.TheConstants.{MOST_RECORDS, MOST_STREAMS, MOST_WORKERS}
+use Rattle.tr_terms.specs.declared.limits.TheConstants.{MOST_FEEDERS, MOST_RECORDS, MOST_WORKERS}
 use Rattle.tr_command.specs.declared.invocation.Job.{Job}
 use Rattle.tr_command.specs.declared.invocation.Job.TheVariants as job
 
@@ -33,7 +33,7 @@ task_of (job.Audit dir) = Audit dir.now
 abbrev pub IsWithinLimits : Job → Type 0
 IsWithinLimits (job.Script out) = Unit
 IsWithinLimits (job.Load threads records workers out) =
-    ((1 ≤ threads) × (threads ≤ MOST_STREAMS)) × (records ≤ MOST_RECORDS) × ((1 ≤ workers) × (workers ≤ MOST_WORKERS))
+    ((1 ≤ threads) × (threads ≤ MOST_FEEDERS)) × (records ≤ MOST_RECORDS) × ((1 ≤ workers) × (workers ≤ MOST_WORKERS))
 IsWithinLimits (job.Audit dir) = Unit
 
 -- `script [--out DIR]`
@@ -70,7 +70,7 @@ script_given rows = and_last (folder_given (first_of (codes "out") rows)) (λ ou
 
 abbrev pub load_given : List Row → Option Task
 load_given rows =
-    and_then (count_given (codes "threads") 1 MOST_STREAMS rows) (λ threads.
+    and_then (count_given (codes "threads") 1 MOST_FEEDERS rows) (λ threads.
     and_then (count_given (codes "records") 0 MOST_RECORDS rows) (λ records.
     and_then (count_given (codes "workers") 1 MOST_WORKERS rows) (λ workers.
     and_last (folder_given (first_of (codes "out") rows)) (λ out. Load threads records workers out))))

@@ -12,7 +12,7 @@ use crate::values::{number_given, text_given};
 use clap::{ArgMatches, Command};
 use std::alloc::{AllocError, Global};
 use std::env::Args;
-use tr_terms::limits::{MOST_RECORDS, MOST_STREAMS, MOST_WORKERS};
+use tr_terms::limits::{MOST_FEEDERS, MOST_RECORDS, MOST_WORKERS};
 
 /// What the program is asked to do.
 #[derive(Clone, Copy, Debug, PartialEq, Eq)]
@@ -24,11 +24,11 @@ pub enum Job<'a> {
     },
     /// Runs a load, says what it came to, and then writes its archives below a folder, if one is named.
     Load {
-        /// How many feeders there are, each in a thread of its own: 1 to 256.
+        /// How many feeders there are, each in a thread of its own: 1 to `MOST_FEEDERS`.
         threads: u64,
-        /// How many records each of them offers: at most 1,000,000.
+        /// How many records each of them offers: at most `MOST_RECORDS`.
         records: u64,
-        /// How many workers drain them meanwhile: 1 to 64.
+        /// How many workers drain them meanwhile: 1 to `MOST_WORKERS`.
         workers: u64,
         /// The folder for the archives, if one is named.
         out: Option<&'a str>,
@@ -151,7 +151,7 @@ fn load_given<'a>(matches: &ArgMatches<'a>) -> Option<Job<'a>>
     ensures value { option_map task_of result ≡ load_given (rows_of (found_of matches.now)) }
     ensures within { IfSome result IsWithinLimits }
 {
-    let threads = count_given(matches, "threads", 1, MOST_STREAMS as u64)?;
+    let threads = count_given(matches, "threads", 1, MOST_FEEDERS as u64)?;
     let records = count_given(matches, "records", 0, MOST_RECORDS)?;
     let workers = count_given(matches, "workers", 1, MOST_WORKERS as u64)?;
     let out = folder_given(matches, "out")?;

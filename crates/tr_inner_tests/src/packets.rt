@@ -8,6 +8,7 @@ use tr_packet::{
     Head, Packet, PacketFault, PacketTexts, PacketView, Packets, decode_packet, encode_packet,
 };
 use tr_record::Rec;
+use tr_terms::limits::LARGEST_PACKET;
 use tr_testing::moment;
 use uuid::Uuid;
 
@@ -42,7 +43,7 @@ fn records(rt: &impl Abort, alloc: Global, rows: &[Row]) -> Vec<Rec> {
     let mut records = Vec::new(alloc);
     for (serial, at, len) in rows {
         let payload = vec![in alloc; 0x41; *len].expect(rt, "memory");
-        assert!(rt; payload.len() <= 70_000);
+        assert!(rt; payload.len() <= LARGEST_PACKET);
         records
             .push(Rec::new(*serial, moment(*at), 7, payload))
             .expect(rt, "memory");
@@ -123,9 +124,9 @@ fn packets_are_moved_behind_others(rt: HostRuntime) {
 /// Records, and whether they make a packet with that head.
 static MAKES: [(&[Row], bool); 10] = [
     (&[(4, 1, 0), (6, 1, 3), (7, 9, 0)], true),
-    (&[(0, 1, 65_432)], true),
-    (&[(0, 1, 65_433)], false),
-    (&[(0, 1, 40_000), (1, 1, 40_000)], false),
+    (&[(0, 1, 1_048_472)], true),
+    (&[(0, 1, 1_048_473)], false),
+    (&[(0, 1, 600_000), (1, 1, 600_000)], false),
     (&[], false),
     (&[(0, 2, 0)], false),
     (&[(0, 1, 0), (1, 3, 0), (2, 2, 0)], false),
@@ -273,7 +274,7 @@ static SIZES: [(u64, u64, Option<PacketFault>); 9] = [
     (1825, 1825, Some(PacketFault::BadSize)),
     (8 * 103, 8 * 103, Some(PacketFault::BadSize)),
     (8 * 104, 8 * 104, Some(PacketFault::BadRecord)),
-    (8 * 65_537, 8 * 65_537, Some(PacketFault::BadSize)),
+    (8 * 1_048_577, 8 * 1_048_577, Some(PacketFault::BadSize)),
     (1832, 1832, Some(PacketFault::BadRecord)),
     (1816, 1816, Some(PacketFault::BadRecord)),
 ];
@@ -287,7 +288,7 @@ fn assert_sizes(rt: &impl Abort, bytes: &mut [u8], rows: &[(u64, u64, Option<Pac
 }
 
 /// What follows a packet: more bytes than its size can tell.
-static BEHIND: [u8; 70_000] = [0; 70_000];
+static BEHIND: [u8; 1_048_577] = [0; 1_048_577];
 
 #[test]
 fn sizes(rt: HostRuntime) {
@@ -305,8 +306,8 @@ fn the_least_and_the_greatest_size(rt: HostRuntime) {
     assert_same(&rt, least.len(), 104);
     assert_same(&rt, least.get(48..64), Some(LEAST.as_slice()));
     assert_size(&rt, &least, 104);
-    let greatest = written(&rt, rt.alloc(), head(), &[(0, 1, 65_432)]);
-    assert_size(&rt, &greatest, 65_536);
+    let greatest = written(&rt, rt.alloc(), head(), &[(0, 1, 1_048_472)]);
+    assert_size(&rt, &greatest, 1_048_576);
 }
 
 /// Where bytes are damaged for all faults at once, in the decoder's order.

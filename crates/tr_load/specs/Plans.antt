@@ -1,5 +1,6 @@
 -- The session of a load.
 use Rattle.std.specs.Prelude.{ℕ, List, [], ◌∷◌, codes, pos, Result}
+use Rattle.tr_load.specs.declared.plan.TheConstants.{COUNT, SIZE}
 use Rattle.tr_session.specs.Runs.{configure_channels}
 use Rattle.tr_session.specs.Session.{SessionOf, new_session}
 use Rattle.tr_session.specs.declared.config.ChannelConfig.{ChannelConfig}
@@ -14,7 +15,7 @@ abbrev pub load_identifier : List ℕ
 load_identifier = 0 ∷ 0 ∷ 0 ∷ 0 ∷ 0 ∷ 0 ∷ 64 ∷ 0 ∷ 128 ∷ 0 ∷ 0 ∷ 0 ∷ 0 ∷ 0 ∷ 0 ∷ 1 ∷ []
 
 abbrev pub load_channel : ℕ → ChannelConfig
-load_channel threads = record { name = codes "load"; size = 65536; count = 2; mode = Discard; threads = threads }
+load_channel threads = record { name = codes "load"; size = SIZE; count = COUNT; mode = Discard; threads = threads }
 
 -- a local session at offset 0 with the one channel, and this many streams
 abbrev pub load_session : ℕ → Result (SessionOf StreamState) SessionFault

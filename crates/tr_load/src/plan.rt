@@ -19,12 +19,12 @@ const COUNT: u64 = 2;
 /// The identifier of every load's trace: 00000000-0000-4000-8000-000000000001.
 const IDENTIFIER: [u8; 16] = [0, 0, 0, 0, 0, 0, 64, 0, 128, 0, 0, 0, 0, 0, 0, 1];
 
-/// The plan of a load's session: local, at offset 0, with the channel `load` of this many streams, each with 2 sub-buffers of
-/// 65,536 bytes, in discard mode.
+/// The plan of a load's session: local, at offset 0, with the channel `load` of this many streams, each with `COUNT` sub-buffers of
+/// `SIZE` bytes, in discard mode.
 ///
 /// # Errors
 ///
-/// `NoMemory`. `Misplaced` if there are more than 256 threads.
+/// `NoMemory`. `Misplaced` if there are more than `MOST_STREAMS` threads.
 pub fn load_plan(alloc: Global, threads: u64) -> Result<Plan, LoadFault>
     ensures session { IfOk result (λ p. load_session threads ≡ Ok p.session) }
     ensures books { IfOk result (λ p. length p.books ≡ length p.session.streams) }

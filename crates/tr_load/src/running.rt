@@ -3,7 +3,7 @@
 ghost use Rattle.std.specs.Prelude.{◌≡◌, ◌≤◌, IfOk, Ok, vec_len};
 ghost use Rattle.tr_load.specs.Loads.{IsLoaded};
 ghost use Rattle.tr_load.specs.Plans.{load_session};
-ghost use Rattle.tr_terms.specs.declared.limits.TheConstants.{MOST_RECORDS, MOST_STREAMS, MOST_WORKERS};
+ghost use Rattle.tr_terms.specs.declared.limits.TheConstants.{MOST_FEEDERS, MOST_RECORDS, MOST_WORKERS};
 
 use crate::ending::{parted, settled};
 use crate::loaded::{LoadFault, Loaded};
@@ -47,7 +47,7 @@ fn run<N: Names + Send + Sync, R: Threads + Wait + Clock + Sync>(
 ) -> Result<Loaded, LoadFault>
     requires plan { plan ≡ N.plan }
     requires session { load_session threads ≡ Ok plan.session }
-    requires threads { threads ≤ MOST_STREAMS }
+    requires threads { threads ≤ MOST_FEEDERS }
     requires records { records ≤ MOST_RECORDS }
     ensures { IfOk result (λ l. IsLoaded threads records l.settled l.outcome) }
 {
@@ -93,7 +93,7 @@ pub fn load<R: Threads + Wait + Clock + Sync>(
     records: u64,
     workers: usize,
 ) -> Result<Loaded, LoadFault>
-    requires threads { threads ≤ MOST_STREAMS }
+    requires threads { threads ≤ MOST_FEEDERS }
     requires records { records ≤ MOST_RECORDS }
     requires workers { (1 ≤ workers) × (workers ≤ MOST_WORKERS) }
     ensures { IfOk result (λ l. IsLoaded threads records l.settled l.outcome) }

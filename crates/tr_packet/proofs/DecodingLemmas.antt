@@ -24,19 +24,19 @@ use Rattle.tr_packet.specs.declared.head.Head.{Head}
 use Rattle.tr_packet.proofs.LayoutLemmas.{HeadFits, fields_read, fields_stand}
 use Rattle.tr_packet.proofs.TextLemmas.{length-packet_text}
 use Rattle.tr_packet.proofs.OrderLemmas.{both, first_holds, second_holds, in_order-within, moments_hold_says}
-use Rattle.tr_terms.specs.declared.limits.TheConstants.{LAST_MOMENT}
+use Rattle.tr_terms.specs.declared.limits.TheConstants.{LARGEST_PACKET, LAST_MOMENT, PACKET_HEADER, SMALLEST_PACKET}
 
 -- ---- the front
 
 -- what holds if no fault of the front applies
 pub record Passes (bytes : List ℕ) : Type 0 where
-  pub long : 80 ≤ length bytes
+  pub long : PACKET_HEADER ≤ length bytes
   pub front : take 4 bytes ≡ magic
   pub id : stream_id_in bytes ≡ 0
   pub sizes : content_bits_in bytes ≡ packet_bits_in bytes
   pub whole : packet_bits_in bytes % 8 ≡ 0
-  pub low : 8 * 104 ≤ packet_bits_in bytes
-  pub high : packet_bits_in bytes ≤ 8 * 65536
+  pub low : 8 * SMALLEST_PACKET ≤ packet_bits_in bytes
+  pub high : packet_bits_in bytes ≤ 8 * LARGEST_PACKET
   pub there : packet_bits_in bytes / 8 ≤ length bytes
 
 some_is_none : {A : Type 0} (x : A) → Some x ≡ None → ⊥
@@ -57,28 +57,28 @@ holds false e = absurd cc
 record Sizes (content size : ℕ) : Type 0 where
   same : content ≡ size
   whole : size % 8 ≡ 0
-  low : 8 * 104 ≤ size
-  high : size ≤ 8 * 65536
+  low : 8 * SMALLEST_PACKET ≤ size
+  high : size ≤ 8 * LARGEST_PACKET
 
 sizes_say : (content size : ℕ) → sizes_hold content size ≡ true → Sizes content size
 sizes_say content size h =
-    let limits = leb (8 * 104) size && leb size (8 * 65536) in
+    let limits = leb (8 * SMALLEST_PACKET) size && leb size (8 * LARGEST_PACKET) in
     let rest = eqb (size % 8) 0 && limits in
     let second = second_holds (eqb content size) rest h in
     let third = second_holds (eqb (size % 8) 0) limits second in
     record {
       same = eqb-true content size (first_holds (eqb content size) rest h);
       whole = eqb-true (size % 8) 0 (first_holds (eqb (size % 8) 0) limits second);
-      low = leb-true (8 * 104) size (first_holds (leb (8 * 104) size) (leb size (8 * 65536)) third);
-      high = leb-true size (8 * 65536) (second_holds (leb (8 * 104) size) (leb size (8 * 65536)) third);
+      low = leb-true (8 * SMALLEST_PACKET) size (first_holds (leb (8 * SMALLEST_PACKET) size) (leb size (8 * LARGEST_PACKET)) third);
+      high = leb-true size (8 * LARGEST_PACKET) (second_holds (leb (8 * SMALLEST_PACKET) size) (leb size (8 * LARGEST_PACKET)) third);
     }
 
 sizes_from : (content size : ℕ) → Sizes content size → sizes_hold content size ≡ true
 sizes_from content size s =
-    let limits = leb (8 * 104) size && leb size (8 * 65536) in
+    let limits = leb (8 * SMALLEST_PACKET) size && leb size (8 * LARGEST_PACKET) in
     both (eqb content size) (eqb (size % 8) 0 && limits) (eq-eqb content size s.same)
     (both (eqb (size % 8) 0) limits (eq-eqb (size % 8) 0 s.whole)
-    (both (leb (8 * 104) size) (leb size (8 * 65536)) (le-leb (8 * 104) size s.low) (le-leb size (8 * 65536) s.high)))
+    (both (leb (8 * SMALLEST_PACKET) size) (leb size (8 * LARGEST_PACKET)) (le-leb (8 * SMALLEST_PACKET) size s.low) (le-leb size (8 * LARGEST_PACKET) s.high)))
 
 pub front_passes : (bytes : List ℕ) → front_fault bytes ≡ None → Passes bytes
 unfolding front_fault fields_fault
@@ -87,14 +87,14 @@ front_passes bytes none =
     let id = cond (not (eqb (stream_id_in bytes) 0)) (Some BadStreamId) sizes in
     let front = cond (not (starts_with eqb bytes magic)) (Some BadMagic) id in
     let parts = first_none (fields_fault bytes) (cond (ltb (length bytes) (packet_bits_in bytes / 8)) (Some Short) None) none in
-    let a = no_fault (ltb (length bytes) 80) Short front parts.0 in
+    let a = no_fault (ltb (length bytes) PACKET_HEADER) Short front parts.0 in
     let b = no_fault (not (starts_with eqb bytes magic)) BadMagic id a.1 in
     let c = no_fault (not (eqb (stream_id_in bytes) 0)) BadStreamId sizes b.1 in
     let d = no_fault (not (sizes_hold (content_bits_in bytes) (packet_bits_in bytes))) BadSize None c.1 in
     let e = no_fault (ltb (length bytes) (packet_bits_in bytes / 8)) Short None parts.1 in
     let s = sizes_say (content_bits_in bytes) (packet_bits_in bytes) (holds (sizes_hold (content_bits_in bytes) (packet_bits_in bytes)) d.0) in
     record {
-      long = ltb-false (length bytes) 80 a.0;
+      long = ltb-false (length bytes) PACKET_HEADER a.0;
       front = sym (same_text magic (take 4 bytes) (sym (holds (starts_with eqb bytes magic) b.0)));
       id = eqb-true (stream_id_in bytes) 0 (holds (eqb (stream_id_in bytes) 0) c.0);
       sizes = s.same;
@@ -104,7 +104,7 @@ front_passes bytes none =
       there = ltb-false (length bytes) (packet_bits_in bytes / 8) e.0;
     }
 
-passed_front : (bytes : List ℕ) → ltb (length bytes) 80 ≡ false → starts_with eqb bytes magic ≡ true → eqb (stream_id_in bytes) 0 ≡ true
+passed_front : (bytes : List ℕ) → ltb (length bytes) PACKET_HEADER ≡ false → starts_with eqb bytes magic ≡ true → eqb (stream_id_in bytes) 0 ≡ true
     → sizes_hold (content_bits_in bytes) (packet_bits_in bytes) ≡ true
     → ltb (length bytes) (packet_bits_in bytes / 8) ≡ false → front_fault bytes ≡ None
 unfolding front_fault fields_fault
@@ -112,7 +112,7 @@ passed_front bytes long front id sizes there = rw (long, front, id, sizes, there
 
 pub passes_front : (bytes : List ℕ) → Passes bytes → front_fault bytes ≡ None
 passes_front bytes p =
-    passed_front bytes (le-ltb (length bytes) 80 p.long)
+    passed_front bytes (le-ltb (length bytes) PACKET_HEADER p.long)
     (ap (λ (t : List ℕ). starts_with eqb t magic)
     (sym (take-append-drop 4 bytes) ∙ ap (λ (t : List ℕ). t ++ drop 4 bytes) p.front))
     (eq-eqb (stream_id_in bytes) 0 p.id)
@@ -218,10 +218,10 @@ sound_by begin end body (Some es) small is none =
       moments = subst (λ (l : List Entry). IsTrue (moments_hold begin end l)) (sym same) h.1;
     }
 
-body_length : (bytes : List ℕ) → Passes bytes → 80 + length (body_in bytes) ≡ packet_bits_in bytes / 8
+body_length : (bytes : List ℕ) → Passes bytes → PACKET_HEADER + length (body_in bytes) ≡ packet_bits_in bytes / 8
 body_length bytes p =
     let size = packet_bits_in bytes / 8 in
-    omega (arith, p.low, p.there, length-drop 80 (take size bytes), length-take size bytes)
+    omega (arith, p.low, p.there, length-drop PACKET_HEADER (take size bytes), length-take size bytes)
 
 -- a packet at the front: what it obeys, and that the bytes of its records are whole
 pub record Decoded (bytes : List ℕ) : Type 0 where
@@ -239,13 +239,13 @@ packet_decoded bytes small none =
     let rest = drop size bytes in
     let faults = first_none (front_fault bytes) (records_fault (begin_in bytes) (end_in bytes) (entries_at body)) none in
     let passes = front_passes bytes faults.0 in
-    let body_small = AreBytes-drop 80 (take size bytes) (AreBytes-take size bytes small) in
+    let body_small = AreBytes-drop PACKET_HEADER (take size bytes) (AreBytes-take size bytes small) in
     let sound = sound_by (begin_in bytes) (end_in bytes) body (entries_at body) body_small refl faults.1 in
     let weight : packet_size p ≡ size = omega (arith, weight_of-records_text p.records, ap length sound.are.parts, body_length bytes passes) in
     let eight : 8 * packet_size p ≡ bits = omega (arith, weight, passes.whole) in
-    let behind : drop 80 bytes ≡ records_text p.records ++ rest =
-    ap (drop 80) (sym (take-append-drop size bytes))
-    ∙ drop-append-le 80 (take size bytes) rest (omega (arith, passes.low, passes.there, length-take size bytes))
+    let behind : drop PACKET_HEADER bytes ≡ records_text p.records ++ rest =
+    ap (drop PACKET_HEADER) (sym (take-append-drop size bytes))
+    ∙ drop-append-le PACKET_HEADER (take size bytes) rest (omega (arith, passes.low, passes.there, length-take size bytes))
     ∙ ap (λ (t : List ℕ). t ++ rest) sound.are.parts in
     record {
       packet = record {
@@ -269,7 +269,7 @@ packet_decoded bytes small none =
 
 -- ---- if the bytes start with a packet, no fault applies
 
-nonempty : (begin end : ℕ) (es : List Entry) → IsTrue (moments_hold begin end es) → 104 ≤ weight_of es
+nonempty : (begin end : ℕ) (es : List Entry) → IsTrue (moments_hold begin end es) → SMALLEST_PACKET ≤ weight_of es
 nonempty begin end [] h = absurd (false≢true (moments_hold_says begin end [] h).starts)
 nonempty begin end (e ∷ es) h = omega (arith, sum_by-cons record_weight e es)
 
@@ -307,14 +307,14 @@ packet_read p rest bytes b =
     let f = fields_read p rest bytes b.parts fits (omega (arith, made.small)) in
     let size : packet_bits_in bytes / 8 ≡ packet_size p = omega (arith, f.size) in
     let text = records_text p.records in
-    let len : packet_size p ≡ 80 + length text = weight_of-records_text p.records in
+    let len : packet_size p ≡ PACKET_HEADER + length text = weight_of-records_text p.records in
     let long : length bytes ≡ packet_size p + length rest =
     ap length b.parts ∙ length-append (packet_text p) rest
     ∙ ap (λ (n : ℕ). n + length rest) (length-packet_text p b.packet.uuid) in
     let some = nonempty p.head.begin p.head.end p.records made.moments in
     let body : body_in bytes ≡ text =
-    ap (λ (n : ℕ). drop 80 (take n bytes)) (size ∙ len)
-    ∙ drop-take 80 (length text) bytes
+    ap (λ (n : ℕ). drop PACKET_HEADER (take n bytes)) (size ∙ len)
+    ∙ drop-take PACKET_HEADER (length text) bytes
     ∙ ap (take (length text)) f.tail
     ∙ take_at text rest (length text) refl in
     let are : AreRecords p.records text = record { text = all_weaken Fits HasText fits_has_text p.records made.fits; parts = refl } in
@@ -347,8 +347,8 @@ packet_read p rest bytes b =
 
 -- the bytes of the records, as they were cut out
 pub body_is : (bytes text body : List ℕ) (size : ℕ) → size ≡ packet_bits_in bytes / 8 → text ≡ take size bytes
-    → body ≡ drop 80 text → body ≡ body_in bytes
-body_is bytes text body size size-is text-is is = is ∙ ap (drop 80) (text-is ∙ ap (λ (n : ℕ). take n bytes) size-is)
+    → body ≡ drop PACKET_HEADER text → body ≡ body_in bytes
+body_is bytes text body size size-is text-is is = is ∙ ap (drop PACKET_HEADER) (text-is ∙ ap (λ (n : ℕ). take n bytes) size-is)
 
 judged_in : (bytes body : List ℕ) (begin end : ℕ) → body ≡ body_in bytes → begin ≡ begin_in bytes → end ≡ end_in bytes
     → verdict_on begin end (entries_at body) ≡ verdict_on (begin_in bytes) (end_in bytes) (entries_at (body_in bytes))

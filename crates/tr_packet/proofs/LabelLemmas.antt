@@ -15,6 +15,7 @@ use Rattle.tr_packet.specs.Order.{last_serial_after, moments_hold}
 use Rattle.tr_record.proofs.RecordLemmas.{weight_of-records_text}
 use Rattle.tr_packet.proofs.OrderLemmas.{moments_hold_says}
 use Rattle.tr_packet.proofs.TextLemmas.{length-packet_text}
+use Rattle.tr_terms.specs.declared.limits.TheConstants.{PACKET_HEADER}
 
 -- the bytes are the texts of the packets
 pub texts_are : (ls : List Label) (bytes : List ℕ) → AreLabelled ls bytes → bytes ≡ packets_text (packets_in ls bytes)
@@ -73,8 +74,8 @@ behind (l ∷ ls) ms bytes more are others =
 pub body_is_records : (p : Contents) → length p.head.uuid ≡ 16 → body_of (packet_text p) ≡ records_text p.records
 body_is_records p sixteen =
     let bits = 8 * packet_size p in
-    ap (drop 80) (sym (append_assoc (header_text p.head) (context_text p.head bits) (records_text p.records)))
-    ∙ drop_at (header_text p.head ++ context_text p.head bits) (records_text p.records) 80
+    ap (drop PACKET_HEADER) (sym (append_assoc (header_text p.head) (context_text p.head bits) (records_text p.records)))
+    ∙ drop_at (header_text p.head ++ context_text p.head bits) (records_text p.records) PACKET_HEADER
     (omega (
       arith,
       sixteen,
@@ -105,16 +106,16 @@ one_labelled p l body is whole records text head count size =
 -- what a push leaves: a header, a context and the records' texts behind the bytes, and a label
 pub pushed : (ls : List Label) (bytes out text : List ℕ) (head : Head) (count : ℕ) (es : List Entry) → AreLabelled ls bytes
     → IsPacket (contents head es) → count ≡ length es → AreWhole text → entries_of text ≡ es → text ≡ records_text es
-    → out ≡ ((bytes ++ header_text head) ++ context_text head (8 * (80 + length text))) ++ text
-    → AreLabelled (ls ++ record { head = head; count = count; size = 80 + length text } ∷ []) out
-    × (packets_in (ls ++ record { head = head; count = count; size = 80 + length text } ∷ []) out ≡ packets_in ls bytes ++ contents head es ∷ [])
+    → out ≡ ((bytes ++ header_text head) ++ context_text head (8 * (PACKET_HEADER + length text))) ++ text
+    → AreLabelled (ls ++ record { head = head; count = count; size = PACKET_HEADER + length text } ∷ []) out
+    × (packets_in (ls ++ record { head = head; count = count; size = PACKET_HEADER + length text } ∷ []) out ≡ packets_in ls bytes ++ contents head es ∷ [])
 pushed ls bytes out text head count es are is many whole records is_text written =
     let p : Contents = contents head es in
-    let l : Label = record { head = head; count = count; size = 80 + length text } in
-    let size : 80 + length text ≡ packet_size p = ap (λ (t : List ℕ). 80 + length t) is_text ∙ sym (weight_of-records_text es) in
+    let l : Label = record { head = head; count = count; size = PACKET_HEADER + length text } in
+    let size : PACKET_HEADER + length text ≡ packet_size p = ap (λ (t : List ℕ). PACKET_HEADER + length t) is_text ∙ sym (weight_of-records_text es) in
     let one = one_labelled p l text is whole records is_text refl many size in
     let all : out ≡ bytes ++ packet_text p =
-    written ∙ four (bytes) (header_text head) (context_text head (8 * (80 + length text))) text
+    written ∙ four (bytes) (header_text head) (context_text head (8 * (PACKET_HEADER + length text))) text
     ∙ ap (λ (n : ℕ). bytes ++ (header_text head ++ (context_text head (8 * n) ++ text))) size
     ∙ ap (λ (t : List ℕ). bytes ++ (header_text head ++ (context_text head (8 * packet_size p) ++ t))) is_text in
     let both = behind ls (l ∷ []) bytes (packet_text p) are one.0 in (

@@ -8,6 +8,7 @@ use Rattle.tr_record.specs.Whole.{AreBytes}
 use Rattle.tr_packet.specs.declared.head.Head.{Head}
 use Rattle.tr_packet.specs.Packets.{Contents, magic, header_text, context_text, packet_text, packet_size}
 use Rattle.tr_packet.specs.Decoding.{number_from, bytes_from, stream_id_in, begin_in, end_in, content_bits_in, packet_bits_in, contents_in}
+use Rattle.tr_terms.specs.declared.limits.TheConstants.{PACKET_HEADER}
 
 -- ---- what is read of a text
 
@@ -45,7 +46,7 @@ pub record Fields (p : Contents) (bits : ℕ) (back bytes : List ℕ) : Type 0 w
   pub size : packet_bits_in bytes ≡ bits
   pub seq : number_from w64 64 bytes ≡ p.head.seq
   pub lost : number_from w64 72 bytes ≡ p.head.lost
-  pub tail : drop 80 bytes ≡ back
+  pub tail : drop PACKET_HEADER bytes ≡ back
 
 -- what fits the fields
 pub record HeadFits (h : Head) : Type 0 where
@@ -96,7 +97,7 @@ fields_read p rest bytes is fits small =
       size = reads w64 (2 ^ 64) numeral_64 56 bits t64 bytes at56 small;
       seq = reads w64 (2 ^ 64) numeral_64 64 h.seq t72 bytes at64 fits.seq;
       lost = reads w64 (2 ^ 64) numeral_64 72 h.lost t80 bytes at72 fits.lost;
-      tail = behind 72 8 80 (to_le_bytes w64 h.lost) t80 bytes at72 refl refl;
+      tail = behind 72 8 PACKET_HEADER (to_le_bytes w64 h.lost) t80 bytes at72 refl refl;
     }
 
 -- ---- what the bytes are if fields are read
@@ -116,13 +117,13 @@ stands w limit numeral k j bytes small j-is long =
     cut k (byte_len w) j bytes j-is ∙ ap (λ (t : List ℕ). t ++ drop j bytes) (sym text)
 
 -- bytes with the magic, the stream_id 0 and equal sizes begin with a header and a context
-pub fields_stand : (bytes : List ℕ) → AreBytes bytes → 80 ≤ length bytes → take 4 bytes ≡ magic → stream_id_in bytes ≡ 0
+pub fields_stand : (bytes : List ℕ) → AreBytes bytes → PACKET_HEADER ≤ length bytes → take 4 bytes ≡ magic → stream_id_in bytes ≡ 0
     → content_bits_in bytes ≡ packet_bits_in bytes
-    → bytes ≡ header_text (contents_in bytes).head ++ (context_text (contents_in bytes).head (packet_bits_in bytes) ++ drop 80 bytes)
+    → bytes ≡ header_text (contents_in bytes).head ++ (context_text (contents_in bytes).head (packet_bits_in bytes) ++ drop PACKET_HEADER bytes)
 fields_stand bytes small long front id sizes =
     let h = (contents_in bytes).head in
     let bits = packet_bits_in bytes in
-    let at72 = stands w64 (2 ^ 64) numeral_64 72 80 bytes small refl (omega arith) in
+    let at72 = stands w64 (2 ^ 64) numeral_64 72 PACKET_HEADER bytes small refl (omega arith) in
     let at64 = stands w64 (2 ^ 64) numeral_64 64 72 bytes small refl (omega arith) in
     let at56 = stands w64 (2 ^ 64) numeral_64 56 64 bytes small refl (omega arith) in
     let at48 = stands w64 (2 ^ 64) numeral_64 48 56 bytes small refl (omega arith) ∙ ap (λ (n : ℕ). to_le_bytes w64 n ++ drop 56 bytes) sizes in
@@ -143,4 +144,4 @@ fields_stand bytes small long front id sizes =
     at0 ∙ ap (λ (t : List ℕ). magic ++ t) s4
     ∙ sym (in_parts magic h.uuid (to_le_bytes w32 0) (to_le_bytes w64 h.stream) (to_le_bytes w64 h.begin)
     (to_le_bytes w64 h.end) (to_le_bytes w64 bits) (to_le_bytes w64 bits)
-    (to_le_bytes w64 h.seq) (to_le_bytes w64 h.lost) (drop 80 bytes))
+    (to_le_bytes w64 h.seq) (to_le_bytes w64 h.lost) (drop PACKET_HEADER bytes))

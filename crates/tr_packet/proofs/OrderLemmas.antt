@@ -8,7 +8,7 @@ use Rattle.tr_record.specs.Weight.{record_weight, weight_of}
 use Rattle.tr_record.proofs.RecordLemmas.{all_push, all_weaken, weight_of-push}
 use Rattle.tr_packet.specs.Order.{follows, serials_rise_after, serials_rise, in_order, starts_at, moments_hold, IsBelow}
 use Rattle.tr_packet.specs.Packets.{MakePacket}
-use Rattle.tr_terms.specs.declared.limits.TheConstants.{LAST_MOMENT}
+use Rattle.tr_terms.specs.declared.limits.TheConstants.{LARGEST_PACKET, LAST_MOMENT}
 
 pub both : (a b : Bool) → a ≡ true → b ≡ true → (a && b) ≡ true
 both true b p q = q
@@ -94,7 +94,7 @@ moments_hold_from begin end es h =
 -- ---- packets
 
 -- one record makes a packet
-pub MakePacket-one : (e : Entry) → Fits e → weight_of (e ∷ []) ≤ 65536 → MakePacket e.moment e.moment (e ∷ [])
+pub MakePacket-one : (e : Entry) → Fits e → weight_of (e ∷ []) ≤ LARGEST_PACKET → MakePacket e.moment e.moment (e ∷ [])
 MakePacket-one e fits small = record {
   fits = (fits, tt);
   serials = refl;
@@ -108,7 +108,7 @@ MakePacket-one e fits small = record {
 
 -- and so does one more record, with a greater serial and no earlier moment
 pub MakePacket-push : (begin end : ℕ) (es : List Entry) (e : Entry) → MakePacket begin end es → Fits e
-    → AllByRecursion (IsBelow e.serial) es → end ≤ e.moment → weight_of es + record_weight e ≤ 65536
+    → AllByRecursion (IsBelow e.serial) es → end ≤ e.moment → weight_of es + record_weight e ≤ LARGEST_PACKET
     → MakePacket begin e.moment (es ++ e ∷ [])
 MakePacket-push begin end es e p fits below le small =
     let h = moments_hold_says begin end es p.moments in

@@ -64,12 +64,12 @@ contents_in bytes = record {
 
 -- ---- the decoder's order
 
--- the sizes, in bits, are equal and a multiple of 8, and say 104 to 65,536 bytes
+-- the sizes, in bits, are equal and a multiple of 8, and a packet may have as many bytes
 abbrev pub sizes_hold : ℕ → ℕ → Bool
 sizes_hold content size = nat_eq content size && (nat_eq (size % 8) 0
     && (nat_le (8 * SMALLEST_PACKET) size && nat_le size (8 * LARGEST_PACKET)))
 
--- the first fault of the 80 bytes of the header and context, whatever follows them
+-- the first fault of the header and context, whatever follows them
 unfoldable pub fields_fault : List ℕ → Option PacketFault
 fields_fault bytes =
     if nat_lt (length bytes) PACKET_HEADER then Some Short

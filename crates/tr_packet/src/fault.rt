@@ -8,7 +8,7 @@ use thiserror::Error;
 /// Why bytes don't start with a packet. If several apply, a decoder answers the first one in its order.
 #[derive(Clone, Copy, Debug, PartialEq, Eq, Error)]
 pub enum PacketFault {
-    /// There are fewer than 80 bytes, or fewer than packet_size says.
+    /// There are fewer bytes than `PACKET_HEADER`, or fewer than packet_size says.
     #[error("P1 Short")]
     Short,
     /// The first four bytes aren't the magic.
@@ -17,10 +17,11 @@ pub enum PacketFault {
     /// The stream_id isn't 0.
     #[error("P3 BadStreamId")]
     BadStreamId,
-    /// content_size and packet_size aren't equal, or aren't a number of whole bytes from 104 to 65,536.
+    /// content_size and packet_size aren't equal, or aren't a number of whole bytes from `SMALLEST_PACKET` to
+    /// `LARGEST_PACKET`.
     #[error("P4 BadSize")]
     BadSize,
-    /// The bytes from 80 to the packet's end aren't whole records.
+    /// The bytes from the header's end to the packet's aren't whole records.
     #[error("P5 BadRecord")]
     BadRecord,
     /// The serials don't rise strictly.

@@ -55,7 +55,8 @@ fn uuid_in(bytes: &[u8]) -> Uuid
     }
 }
 
-/// The number of bytes that these sizes, in bits, say. None unless they are equal, a multiple of 8, and 104 to 65,536 bytes.
+/// The number of bytes that these sizes, in bits, say. None unless they are equal, a multiple of 8, and a packet may have as
+/// many bytes.
 fn bytes_of(content: u64, size: u64) -> Option<usize>
     ensures some { IfSome result (λ n. (sizes_hold content size ≡ true) × (n ≡ size / 8)) }
     ensures none { IfNone result (sizes_hold content size ≡ false) }
@@ -70,8 +71,8 @@ fn bytes_of(content: u64, size: u64) -> Option<usize>
     Some(bytes as usize)
 }
 
-/// The size of the packet at the front, by the 80 bytes of its header and context, or the first fault of these. It doesn't
-/// look whether that many bytes are there.
+/// The size of the packet at the front, by its header and context, or the first fault of these. It doesn't look whether that
+/// many bytes are there.
 #[tactic(auto, unfolding(crate::specs::Decoding::fields_fault))]
 pub fn size_by_fields(bytes: &[u8]) -> Result<usize, PacketFault>
     ensures size { IfOk result (λ n. (fields_fault bytes.now ≡ None) × (n ≡ packet_bits_in bytes.now / 8)) }

@@ -25,7 +25,7 @@ pub(crate) fn size_of<A: Allocator>(records: &[Rec<A>]) -> usize
     size
 }
 
-/// Whether a packet of these records has at most 65,536 bytes.
+/// Whether a packet of these records has at most `LARGEST_PACKET` bytes.
 fn are_small<A: Allocator>(records: &[Rec<A>]) -> bool
     ensures small { IsTrue result ↔ (weight_of records.now ≤ LARGEST_PACKET) }
     ensures fits { IsTrue result → AllByRecursion Fits records.now }

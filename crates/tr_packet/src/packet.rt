@@ -10,7 +10,7 @@ use std::marker::Model;
 use tr_record::{Rec, RecViews};
 
 /// A packet: a head, and at least one record. The serials rise strictly, the moments don't fall from `begin`, the
-/// first record's, to `end`, and the text has at most 65,536 bytes. Contracts see it as `Contents`.
+/// first record's, to `end`, and the text has at most `LARGEST_PACKET` bytes. Contracts see it as `Contents`.
 #[derive(Drop, Debug)]
 pub struct Packet<A: Allocator = Global> {
     head: Head,
@@ -66,7 +66,7 @@ impl<A: Allocator> Packet<A> {
         RecViews::new(self.records.as_slice())
     }
 
-    /// How many bytes its text has, at most 65,536.
+    /// How many bytes its text has, at most `LARGEST_PACKET`.
     pub fn size(&self) -> usize
         ensures value { result ≡ packet_size self.now }
         ensures packet { IsPacket self.now }

@@ -11,6 +11,7 @@ use Rattle.tr_pool.specs.declared.log.Log.{Log}
 use Rattle.tr_pool.specs.declared.report.Report.{Report}
 use Rattle.tr_stream.specs.Calls.{in_parts, in_ring, state_counts}
 use Rattle.tr_stream.specs.State.{StreamState}
+use Rattle.tr_terms.specs.declared.limits.TheConstants.{MOST_STREAMS}
 
 sum-more : {X : Type 0} (f : X → ℕ) (n : ℕ) (xs : List X) (x : X) → slice_get xs n ≡ Some x → sum_by f (take (n + 1) xs) ≡ sum_by f (take n xs) + f x
 sum-more f n [] x at = absurd cc
@@ -39,10 +40,10 @@ abbrev pub AreCounts : Counts → Type 0
 AreCounts c = (c.offered < 2 ^ 64) × (c.discarded < 2 ^ 64) × (c.overwritten < 2 ^ 64) × (c.in_ring < 2 ^ 64)
     × (c.in_chunks < 2 ^ 64) × (c.cleared < 2 ^ 64)
 
-fits : (i n size part : ℕ) → i < n → n ≤ 256 → size ≤ i * 2 ^ 64 → part < 2 ^ 64 → size + part < 2 ^ 128
+fits : (i n size part : ℕ) → i < n → n ≤ MOST_STREAMS → size ≤ i * 2 ^ 64 → part < 2 ^ 64 → size + part < 2 ^ 128
 fits i n size part within few all one = omega (arith, within, few, all, one)
 
-pub has-room : (i n : ℕ) (r : Report) (c : Counts) → i < n → n ≤ 256 → IsSmall i r → AreCounts c → HasRoomFor r c
+pub has-room : (i n : ℕ) (r : Report) (c : Counts) → i < n → n ≤ MOST_STREAMS → IsSmall i r → AreCounts c → HasRoomFor r c
 has-room i n r c within few small are = (
   fits i n r.offered c.offered within few small.0 are.0,
   fits i n r.discarded c.discarded within few small.1 are.1,

@@ -5,6 +5,7 @@ use Rattle.std.proofs.lemmas.List.Concat.{flat_map-append}
 use Rattle.std.proofs.lemmas.List.Sums.{sum_by-cons, sum_by_push}
 use Rattle.tr_record.specs.Records.{Entry, record_text, records_text, HasText, Fits}
 use Rattle.tr_record.specs.Weight.{record_weight, weight_of}
+use Rattle.tr_terms.specs.declared.limits.TheConstants.{PACKET_HEADER}
 
 -- ---- facts of each record
 
@@ -40,5 +41,5 @@ pub weight_of-push : (es : List Entry) (e : Entry) → weight_of (es ++ e ∷ []
 weight_of-push es e = omega (arith, sum_by_push record_weight es e)
 
 -- the text of more records is longer by theirs
-pub weight_of-records_text : (es : List Entry) → weight_of es ≡ 80 + length (records_text es)
+pub weight_of-records_text : (es : List Entry) → weight_of es ≡ PACKET_HEADER + length (records_text es)
 weight_of-records_text es = omega (arith, length-records_text es)

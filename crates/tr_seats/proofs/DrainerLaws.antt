@@ -8,7 +8,7 @@ use Rattle.tr_seats.proofs.Rows.{amounts-grown, consumed-at, row-grown}
 use Rattle.tr_seats.specs.Books.{Books, books_at, consumed_books, no_books, no_table}
 use Rattle.tr_seats.specs.Drainers.{AreFirst}
 use Rattle.tr_seats.specs.Slots.{AreSeatsOf, SlotState, slot_split_answer}
-use Rattle.tr_seats.specs.declared.limits.TheConstants.{MOST_DRAINERS}
+use Rattle.tr_terms.specs.declared.limits.TheConstants.{MOST_DRAINERS}
 
 -- a seat that was made is of the book of that number
 pub split-made : (books : List Books) (i : ℕ) (slot : SlotState) (seat : SeatState) → Ok seat ≡ slot_split_answer books i slot

@@ -3,7 +3,7 @@ use Rattle.std.specs.Prelude.{◌≡◌, ℕ, ◌+◌, ◌<◌, List, length, na
 use Rattle.tr_ledger.specs.Ledgers.{SeatState}
 use Rattle.tr_seats.specs.Books.{IsPlan, PlanState, cleared_books, consumed_books, cut_books}
 use Rattle.tr_seats.specs.Slots.{AreSeatsOf, amounts_of}
-use Rattle.tr_seats.specs.declared.limits.TheConstants.{MOST_DRAINERS}
+use Rattle.tr_terms.specs.declared.limits.TheConstants.{MOST_DRAINERS}
 use Rattle.tr_session_book.specs.Book.{SessionBookState}
 use Rattle.tr_session_book.specs.BookSteps.{chunks_closed}
 use Rattle.tr_session_book.specs.declared.faults.SessionFault.{SessionFault}

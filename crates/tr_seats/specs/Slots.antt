@@ -4,7 +4,7 @@ use Rattle.atomic_table.specs.Seated.{TableId}
 use Rattle.tr_ledger.specs.Ledgers.{SeatState, seat_state}
 use Rattle.tr_seats.specs.Books.{Books, books_at}
 use Rattle.tr_seats.specs.declared.totals.Totals.{Totals}
-use Rattle.tr_seats.specs.declared.limits.TheConstants.{MOST_DRAINERS}
+use Rattle.tr_terms.specs.declared.limits.TheConstants.{MOST_DRAINERS}
 use Rattle.tr_session_book.specs.declared.faults.SessionFault.{SessionFault}
 use Rattle.tr_session_book.specs.declared.faults.SessionFault.TheVariants as session_fault
 use Rattle.tr_stream.specs.State.{StreamState}

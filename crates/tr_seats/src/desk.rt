@@ -6,13 +6,13 @@ ghost use Rattle.tr_seats.specs.Desks.{IsOfPlan, desk_after_begin, desk_begin_an
 ghost use Rattle.tr_session_book.specs.BookSteps.{book_after_start, book_after_stop, book_start_answer, book_stop_answer};
 
 use crate::drainer::DrainerBegun;
-use crate::limits::MOST_DRAINERS;
 use crate::names::Names;
 use std::alloc::{Allocator, Global};
 use std::marker::{Model, PhantomData};
 use tr_ledger::Seat;
 use tr_session_book::{SessionBook, SessionFault};
 use tr_terms::Moment;
+use tr_terms::limits::MOST_DRAINERS;
 
 /// A session's book, and the seats of what rotations consume and cut, and of what clears remove. Contracts see a `DeskState`.
 #[derive(Drop)]

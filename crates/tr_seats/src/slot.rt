@@ -12,7 +12,6 @@ ghost use Rattle.tr_stream.specs.Steps.{ClearsSome};
 ghost use Rattle.tr_stream.specs.StateSteps.{state_after_clear, state_after_cut, state_after_switch, state_clear_answer, state_counts, state_cut_answer, state_snap};
 
 use crate::drainer::Drainer;
-use crate::limits::MOST_DRAINERS;
 use crate::names::Names;
 use crate::producer::Producer;
 use std::alloc::{AllocError, Allocator, Global};
@@ -23,6 +22,7 @@ use tr_session_book::SessionFault;
 use tr_stream::{
     ClearFault, Cleared, CutDone, CutFault, OfferFault, Offered, Stream, TakeFault, Taken,
 };
+use tr_terms::limits::MOST_DRAINERS;
 use tr_terms::{Moment, SessionMode};
 
 /// A stream with its number and its books, which its lock guards. Contracts see a `SlotState`.

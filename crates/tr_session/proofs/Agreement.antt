@@ -34,7 +34,7 @@ use Rattle.tr_stream.specs.Rules.{Traced, Agrees, by_state, by_history}
 use Rattle.tr_stream.specs.State.{StreamState}
 use Rattle.tr_stream.specs.declared.answers.CutDone.{CutDone}
 use Rattle.tr_stream.specs.declared.fate.Fate.{Fate}
-use Rattle.tr_terms.specs.declared.limits.TheConstants.{MOST_CHANNELS}
+use Rattle.tr_terms.specs.declared.limits.TheConstants.{MOST_CHANNELS, SMALLEST_SUB_BUFFER}
 
 -- both are refused alike, or lead to sessions that agree
 abbrev pub ResultsAgree : Result (SessionOf StreamState) SessionFault → Result (SessionOf Traced) SessionFault → Type 0
@@ -349,7 +349,7 @@ agree-tick a b is now =
 
 -- ---- channels and threads
 
-size_low : (n : ℕ) → is_size n ≡ true → 256 ≤ n
+size_low : (n : ℕ) → is_size n ≡ true → SMALLEST_SUB_BUFFER ≤ n
 size_low n is = grind (arith, nat_tests, is)
 
 count_low : (n : ℕ) → is_count n ≡ true → 2 ≤ n

@@ -12,6 +12,7 @@ use Rattle.tr_session_book.specs.Book.{SessionBookState}
 use Rattle.tr_session_book.specs.BookSteps.{is_cut}
 use Rattle.tr_stream.specs.Rules.{by_state}
 use Rattle.tr_stream.specs.State.{StreamState}
+use Rattle.tr_terms.specs.declared.limits.TheConstants.{LARGEST_PACKET, MOST_STREAMS}
 
 pub sum-more : {X : Type 0} (f : X → ℕ) (n : ℕ) (xs : List X) (x : X) → slice_get xs n ≡ Some x → sum_by f (take (n + 1) xs) ≡ sum_by f (take n xs) + f x
 sum-more f n [] x at = absurd cc
@@ -24,13 +25,13 @@ pub record TalliesSo (n id : ℕ) (s : SessionOf StreamState) (size : ArchiveSiz
   pub packets : size.packets ≡ sum_by (λ t. option_map_or part_packets (by_state.part id t) 0) (take n s.streams)
   pub records : size.records ≡ sum_by (λ t. option_map_or part_records (by_state.part id t) 0) (take n s.streams)
   pub bytes : size.bytes ≡ sum_by (λ t. option_map_or part_bytes (by_state.part id t) 0) (take n s.streams)
-  pub few : (size.packets ≤ n * 2 ^ 64) × (size.records ≤ n * 2 ^ 64) × (size.bytes ≤ n * 2 ^ 80)
+  pub few : (size.packets ≤ n * 2 ^ 64) × (size.records ≤ n * 2 ^ 64) × (size.bytes ≤ n * (LARGEST_PACKET * 2 ^ 64))
 
 pub tallies-more : (n id : ℕ) (s : SessionOf StreamState) (size part : ArchiveSize) (t : StreamState)
     → TalliesSo n id s size → slice_get s.streams n ≡ Some t
     → part.packets ≡ option_map_or part_packets (by_state.part id t) 0 → part.records ≡ option_map_or part_records (by_state.part id t) 0
     → part.bytes ≡ option_map_or part_bytes (by_state.part id t) 0
-    → (part.packets < 2 ^ 64) × (part.records < 2 ^ 64) × (part.bytes < 2 ^ 80)
+    → (part.packets < 2 ^ 64) × (part.records < 2 ^ 64) × (part.bytes < LARGEST_PACKET * 2 ^ 64)
     → TalliesSo (n + 1) id s (record {
       packets = size.packets + part.packets;
       records = size.records + part.records;
@@ -44,14 +45,14 @@ tallies-more n id s size part t so at packets records bytes few = record {
 }
 
 -- the sums fit, since there are few streams
-pub fits-count : (i n size part : ℕ) → i < n → n ≤ 256 → size ≤ i * 2 ^ 64 → part < 2 ^ 64 → size + part < 2 ^ 128
+pub fits-count : (i n size part : ℕ) → i < n → n ≤ MOST_STREAMS → size ≤ i * 2 ^ 64 → part < 2 ^ 64 → size + part < 2 ^ 128
 fits-count i n size part within few all one = omega (arith, within, few, all, one)
 
-pub fits-bytes : (i n size part : ℕ) → i < n → n ≤ 256 → size ≤ i * 2 ^ 80 → part < 2 ^ 80 → size + part < 2 ^ 128
+pub fits-bytes : (i n size part : ℕ) → i < n → n ≤ MOST_STREAMS → size ≤ i * (LARGEST_PACKET * 2 ^ 64) → part < LARGEST_PACKET * 2 ^ 64 → size + part < 2 ^ 128
 fits-bytes i n size part within few all one = omega (arith, within, few, all, one)
 
--- a record has at most 65,536 bytes
-pub fits-part : (bytes n records : ℕ) → bytes ≤ 65536 * records → n ≡ records → n < 2 ^ 64 → bytes < 2 ^ 80
+-- a record has at most as many bytes as the largest packet
+pub fits-part : (bytes n records : ℕ) → bytes ≤ LARGEST_PACKET * records → n ≡ records → n < 2 ^ 64 → bytes < LARGEST_PACKET * 2 ^ 64
 fits-part bytes n records small is few = omega (arith, small, is, few)
 
 -- ---- a stream's parts of archived chunks

@@ -1,10 +1,11 @@
 //! How much an archive holds.
 
-ghost use Rattle.std.specs.Prelude.{◌≡◌, ◌<◌, ◌^◌};
+ghost use Rattle.std.specs.Prelude.{◌≡◌, ◌*◌, ◌<◌, ◌^◌};
 ghost use Rattle.std.specs.Option.{option_map_or};
 ghost use Rattle.tr_book.specs.Parts.{part_packets, part_records, part_bytes};
 ghost use Rattle.tr_session.specs.Sizes.{archive_packets, archive_records, archive_bytes};
 ghost use Rattle.tr_stream.specs.Rules.{by_state};
+ghost use Rattle.tr_terms.specs.declared.limits.TheConstants.{LARGEST_PACKET};
 
 use crate::session::Session;
 use std::alloc::Allocator;
@@ -26,7 +27,7 @@ fn part_size<A: Allocator>(stream: &Stream<A>, id: u64) -> ArchiveSize
     ensures packets { result.packets ≡ option_map_or part_packets (by_state.part id stream.now) 0 }
     ensures records { result.records ≡ option_map_or part_records (by_state.part id stream.now) 0 }
     ensures bytes { result.bytes ≡ option_map_or part_bytes (by_state.part id stream.now) 0 }
-    ensures few { (result.packets < 2 ^ 64) × (result.records < 2 ^ 64) × (result.bytes < 2 ^ 80) }
+    ensures few { (result.packets < 2 ^ 64) × (result.records < 2 ^ 64) × (result.bytes < LARGEST_PACKET * 2 ^ 64) }
 {
     match stream.part(id) {
         Some(part) => ArchiveSize {

@@ -102,7 +102,7 @@ impl<A: Allocator + Copy> Session<A> {
     }
 
     /// Adds a thread to a channel, and answers with the number of its stream. Its ring takes all its memory here: for each
-    /// sub-buffer its size less 80 bytes.
+    /// sub-buffer its size less a packet's header.
     ///
     /// # Errors
     ///

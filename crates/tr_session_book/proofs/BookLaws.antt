@@ -18,18 +18,18 @@ use Rattle.tr_terms.specs.declared.limits.TheConstants.{MOST_STREAMS}
 abbrev names : List (List ℕ × Channel) → List (List ℕ)
 names cs = map (λ (c : List ℕ × Channel). c.0) cs
 
-is-full : (n : ℕ) → 256 ≤ n → nat_le MOST_STREAMS n ≡ true
+is-full : (n : ℕ) → MOST_STREAMS ≤ n → nat_le MOST_STREAMS n ≡ true
 is-full n full = grind (arith, nat_tests, full)
 
-has-room : (n : ℕ) → n < 256 → nat_le MOST_STREAMS n ≡ false
+has-room : (n : ℕ) → n < MOST_STREAMS → nat_le MOST_STREAMS n ≡ false
 has-room n room = grind (arith, nat_tests, room)
 
 -- with as many streams as are allowed there is no place
-pub place-full : (b : SessionBookState) (place n : ℕ) → n ≡ length b.threads → 256 ≤ n → place_free (Some place) b ≡ Err TooMany
+pub place-full : (b : SessionBookState) (place n : ℕ) → n ≡ length b.threads → MOST_STREAMS ≤ n → place_free (Some place) b ≡ Err TooMany
 place-full b place n is full = let so : nat_le MOST_STREAMS (length b.threads) ≡ true =
     subst (λ (m : ℕ). nat_le MOST_STREAMS m ≡ true) is (is-full n full) in rw so refl
 
-pub place-left : (b : SessionBookState) (place n : ℕ) → n ≡ length b.threads → n < 256 → place_free (Some place) b ≡ Ok place
+pub place-left : (b : SessionBookState) (place n : ℕ) → n ≡ length b.threads → n < MOST_STREAMS → place_free (Some place) b ≡ Ok place
 place-left b place n is room = let so : nat_le MOST_STREAMS (length b.threads) ≡ false =
     subst (λ (m : ℕ). nat_le MOST_STREAMS m ≡ false) is (has-room n room) in rw so refl
 

@@ -5,7 +5,7 @@ use Rattle.std.proofs.lemmas.Grind.{common_steps}
 use Rattle.std.specs.Prelude.{nat_lt}
 use Rattle.tr_terms.specs.declared.mode.Mode.{Mode}
 use Rattle.tr_terms.specs.declared.mode.Mode.TheVariants.{Discard, Overwrite}
-use Rattle.tr_terms.specs.declared.limits.TheConstants.{LAST_MOMENT}
+use Rattle.tr_terms.specs.declared.limits.TheConstants.{LAST_MOMENT, SMALLEST_SUB_BUFFER}
 use Rattle.tr_ring.specs.Ring.{current_buffer}
 use Rattle.tr_ring.specs.ClosedBuffer.{ClosedBuffer}
 use Rattle.tr_stream.proofs.ClearLaws.{stands-clear}
@@ -133,7 +133,7 @@ kept-switched s active is = record {
 }
 
 -- a new stream
-pub kept-new : (c : StreamConfig) → IsConfig c → 256 ≤ c.geometry.size → 2 ≤ c.geometry.count → IsKept (new_state c)
+pub kept-new : (c : StreamConfig) → IsConfig c → SMALLEST_SUB_BUFFER ≤ c.geometry.size → 2 ≤ c.geometry.count → IsKept (new_state c)
 kept-new c config size count = record {
   sound = record {
     config = config;

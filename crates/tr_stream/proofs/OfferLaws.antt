@@ -22,11 +22,12 @@ use Rattle.tr_stream.specs.declared.answers.OfferFault.{OfferFault}
 use Rattle.tr_stream.specs.declared.answers.Offered.{Offered}
 use Rattle.tr_subbuf.specs.SubBuffer.{has_room}
 use Rattle.tr_ring.specs.Ring.{push_answer}
+use Rattle.tr_terms.specs.declared.limits.TheConstants.{PACKET_HEADER, SMALLEST_PACKET}
 
 -- an offer of this many bytes that is accepted
 pub record IsAccepted (s : StreamState) (len : ℕ) : Type 0 where
   pub active : s.active ≡ true
-  pub small : len ≤ s.config.geometry.size - 104
+  pub small : len ≤ s.config.geometry.size - SMALLEST_PACKET
   pub left : s.counters.offered < 2 ^ 62
 
 pub accepted : (s : StreamState) (len : ℕ) → refusal_of len s ≡ None → IsAccepted s len
@@ -56,10 +57,10 @@ pub replaces : (e : Entry) (s : StreamState) → has_room (current_buffer s.ring
 replaces e s room free mode b bs oldest = rw (room, free, mode, oldest, zero-add)
 
 -- an offer that finds no room finds a record in the sub-buffer
-pub not_empty : (s : StreamState) (len : ℕ) → IsMade s.config s.ring → len ≤ s.config.geometry.size - 104
+pub not_empty : (s : StreamState) (len : ℕ) → IsMade s.config s.ring → len ≤ s.config.geometry.size - SMALLEST_PACKET
     → has_room (current_buffer s.ring) len ≡ false → s.ring.current ≢ []
 not_empty s len is small room empty =
-    let light : weight_of s.ring.current ≡ 80 = ap weight_of empty in
+    let light : weight_of s.ring.current ≡ PACKET_HEADER = ap weight_of empty in
     absurd (grind (arith, nat_tests, light, small, room, is.size_low, is.size))
 
 -- the step of a history that this is for a stream

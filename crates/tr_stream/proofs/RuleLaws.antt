@@ -27,6 +27,7 @@ use Rattle.tr_terms.specs.declared.session_mode.SessionMode.TheVariants.{Local, 
 use Rattle.tr_stream.specs.declared.config.StreamConfig.{StreamConfig}
 use Rattle.tr_subbuf.specs.SubBuffer.{has_room}
 use Rattle.tr_terms.specs.SessionModes.{by_session_mode}
+use Rattle.tr_terms.specs.declared.limits.TheConstants.{SMALLEST_SUB_BUFFER}
 
 -- a push leaves the ring as it was made
 chosen : {X : Type 0} (f : RingState → X) (x : X) (room free over : Bool) (a b c d : RingState) → f a ≡ x → f b ≡ x
@@ -89,7 +90,7 @@ losses-unless s e None made is =
     (nat_lt (length s.ring.waiting + 1) s.ring.count) s.ring.overwrite s.ring.waiting refl refl refl refl made is
 
 -- a new stream, and a history that begins
-pub agree-made : (c : StreamConfig) → 256 ≤ c.geometry.size → 2 ≤ c.geometry.count → Agrees (by_state.new c) (by_history.new c)
+pub agree-made : (c : StreamConfig) → SMALLEST_SUB_BUFFER ≤ c.geometry.size → 2 ≤ c.geometry.count → Agrees (by_state.new c) (by_history.new c)
 agree-made c size count = record {
   config = refl;
   made = record { size = refl; count = refl; mode = refl; size_low = size; count_low = count };

@@ -25,7 +25,7 @@ use Rattle.tr_stream.specs.State.{StreamState, records_in, in_ring, in_parts}
 use Rattle.tr_stream.specs.StateSteps.{state_after_switch, state_cut_ring, state_clear_ring}
 use Rattle.tr_terms.specs.declared.session_mode.SessionMode.TheVariants.{Local}
 use Rattle.tr_stream.specs.declared.config.StreamConfig.{StreamConfig}
-use Rattle.tr_terms.specs.declared.limits.TheConstants.{LAST_MOMENT}
+use Rattle.tr_terms.specs.declared.limits.TheConstants.{LAST_MOMENT, SMALLEST_PACKET}
 
 are-push : (c : StreamConfig) (bs : List ClosedBuffer) (b : ClosedBuffer) → ArePackets c bs → IsPacket (packet_of c b) → ArePackets c (bs ++ b ∷ [])
 are-push c [] b old new = (new, tt)
@@ -121,7 +121,7 @@ sound-discarded s moment is left le in_time mode = record {
 }
 
 pub sound-followed : (s : StreamState) (e : Entry) → IsSound s → IsNext s e → s.ring.current ≢ []
-    → length e.payload + 104 ≤ s.config.geometry.size → length s.ring.waiting + 1 < s.config.geometry.count
+    → length e.payload + SMALLEST_PACKET ≤ s.config.geometry.size → length s.ring.waiting + 1 < s.config.geometry.count
     → IsSound (with_followed e s)
 sound-followed s e is next used small room = record {
   config = is.config;

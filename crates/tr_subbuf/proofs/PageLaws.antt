@@ -8,9 +8,10 @@ use Rattle.tr_record.specs.Whole.{entries_of}
 use Rattle.tr_record.proofs.RecordLemmas.{length-record_text, weight_of-push}
 use Rattle.tr_record.proofs.WholeLemmas.{whole_none, whole_push}
 use Rattle.tr_subbuf.specs.Page.{IsPage}
+use Rattle.tr_terms.specs.declared.limits.TheConstants.{PACKET_HEADER}
 
 -- no bytes are a page without records
-pub page_none : (size capacity : ℕ) → size ≤ 80 + capacity → IsPage [] 0 size capacity × (entries_of [] ≡ [])
+pub page_none : (size capacity : ℕ) → size ≤ PACKET_HEADER + capacity → IsPage [] 0 size capacity × (entries_of [] ≡ [])
 page_none size capacity room =
     let none = ap (λ (es : List Entry). length es) whole_none.1 in
     let weighs = ap weight_of whole_none.1 in (

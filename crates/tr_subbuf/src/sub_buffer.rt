@@ -66,7 +66,7 @@ impl<A: Allocator> SubBuf<A> {
         self.count == 0
     }
 
-    /// The bytes that its packet would have now: 80, and those of the records.
+    /// The bytes that its packet would have now: those of its header, and those of the records.
     pub fn used(&self) -> usize
         ensures value { result ≡ weight_of self.now.records }
         ensures within { IsWithin self.now }

@@ -1,8 +1,9 @@
 -- Sizes and counts of sub-buffers that a stream may have.
-use Rattle.std.specs.Prelude.{ℕ, ◌^◌, ◌==◌, Bool, List, [], ◌∷◌, Result, Ok, Err, if◌then◌else◌, codes}
-use Rattle.std.specs.List.{list_any}
+use Rattle.std.specs.Prelude.{ℕ, Bool, ◌&&◌, nat_le, List, Result, Ok, Err, if◌then◌else◌, codes}
+use Rattle.std.specs.Int.{is_power_of_two}
 use Rattle.tr_terms.specs.declared.geometry.GeometryFault.{GeometryFault}
 use Rattle.tr_terms.specs.declared.geometry.GeometryFault.TheVariants.{BadSize, BadCount}
+use Rattle.tr_terms.specs.declared.limits.TheConstants.{FEWEST_SUB_BUFFERS, LARGEST_PACKET, MOST_SUB_BUFFERS, SMALLEST_SUB_BUFFER}
 
 pub record GeometryState : Type 0 where
   pub size : ℕ
@@ -11,13 +12,17 @@ pub record GeometryState : Type 0 where
 abbrev pub geometry_state : ℕ → ℕ → GeometryState
 geometry_state size count = record { size = size; count = count }
 
--- a size in bytes: a power of two from 256 to 65,536
-abbrev pub is_size : ℕ → Bool
-is_size n = list_any (λ k. n == 2 ^ k) (8 ∷ 9 ∷ 10 ∷ 11 ∷ 12 ∷ 13 ∷ 14 ∷ 15 ∷ 16 ∷ [])
+-- a power of two within these bounds
+abbrev pub is_power_within : (least most n : ℕ) → Bool
+is_power_within least most n = is_power_of_two n && (nat_le least n && nat_le n most)
 
--- how many sub-buffers a ring has: a power of two from 2 to 64
+-- a size in bytes
+abbrev pub is_size : ℕ → Bool
+is_size = is_power_within SMALLEST_SUB_BUFFER LARGEST_PACKET
+
+-- how many sub-buffers a ring has
 abbrev pub is_count : ℕ → Bool
-is_count n = list_any (λ k. n == 2 ^ k) (1 ∷ 2 ∷ 3 ∷ 4 ∷ 5 ∷ 6 ∷ [])
+is_count = is_power_within FEWEST_SUB_BUFFERS MOST_SUB_BUFFERS
 
 -- the size is judged first
 abbrev pub geometry_of : ℕ → ℕ → Result GeometryState GeometryFault

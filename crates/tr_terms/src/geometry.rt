@@ -1,13 +1,13 @@
 //! Sizes and counts of sub-buffers.
 
+ghost use Rattle.std.specs.Prelude.{◌≡◌};
+ghost use Rattle.tr_terms.specs.Geometry.{is_power_within};
+
+use crate::limits::{
+    FEWEST_SUB_BUFFERS, LARGEST_PACKET, MOST_SUB_BUFFERS, SMALLEST_SUB_BUFFER,
+};
 use std::marker::Model;
 use thiserror::Error;
-
-/// The powers of two from 256 to 65,536.
-const SIZES: [u64; 9] = [256, 512, 1024, 2048, 4096, 8192, 16384, 32768, 65536];
-
-/// The powers of two from 2 to 64.
-const COUNTS: [u64; 6] = [2, 4, 8, 16, 32, 64];
 
 /// The size and the number of a ring's sub-buffers. Contracts see a `GeometryState`.
 #[derive(Clone, Copy, Debug, PartialEq, Eq)]
@@ -32,12 +32,19 @@ impl Model for Geometry {
 /// Why a size and a count make no geometry.
 #[derive(Clone, Copy, Debug, PartialEq, Eq, Error)]
 pub enum GeometryFault {
-    /// The size isn't a power of two from 256 to 65,536.
+    /// The size isn't a power of two from `SMALLEST_SUB_BUFFER` to `LARGEST_PACKET`.
     #[error("G1 BadSize")]
     BadSize,
-    /// The count isn't a power of two from 2 to 64.
+    /// The count isn't a power of two from `FEWEST_SUB_BUFFERS` to `MOST_SUB_BUFFERS`.
     #[error("G2 BadCount")]
     BadCount,
+}
+
+/// Whether n is a power of two that lies within these bounds.
+fn is_power_within(n: u64, least: u64, most: u64) -> bool
+    ensures { result ≡ is_power_within least most n }
+{
+    n.is_power_of_two() && least <= n && n <= most
 }
 
 impl Geometry {
@@ -49,10 +56,10 @@ impl Geometry {
     pub fn new(size: u64, count: u64) -> Result<Geometry, GeometryFault>
         ensures { result ≡ geometry_of size count }
     {
-        if !SIZES.contains(&size) {
+        if !is_power_within(size, SMALLEST_SUB_BUFFER as u64, LARGEST_PACKET as u64) {
             return Err(GeometryFault::BadSize);
         }
-        if !COUNTS.contains(&count) {
+        if !is_power_within(count, FEWEST_SUB_BUFFERS as u64, MOST_SUB_BUFFERS as u64) {
             return Err(GeometryFault::BadCount);
         }
         Ok(Geometry {
@@ -61,7 +68,7 @@ impl Geometry {
         })
     }
 
-    /// The bytes of a sub-buffer: a power of two from 256 to 65,536.
+    /// The bytes of a sub-buffer: a power of two from `SMALLEST_SUB_BUFFER` to `LARGEST_PACKET`.
     pub fn size(self) -> usize
         ensures value { result ≡ self.size }
         ensures within { (SMALLEST_SUB_BUFFER ≤ result) × (result ≤ LARGEST_PACKET) }
@@ -69,7 +76,7 @@ impl Geometry {
         self.size
     }
 
-    /// How many sub-buffers a ring has: a power of two from 2 to 64.
+    /// How many sub-buffers a ring has: a power of two from `FEWEST_SUB_BUFFERS` to `MOST_SUB_BUFFERS`.
     pub fn count(self) -> usize
         ensures value { result ≡ self.count }
         ensures within { (FEWEST_SUB_BUFFERS ≤ result) × (result ≤ MOST_SUB_BUFFERS) }

@@ -1,5 +1,5 @@
 //! The terms that all crates share: limits, moments, modes, geometries, offsets and names.
-//! Each limit is defined here alone, and specifications cite it from here.
+//! Each limit of the product is defined here alone, in `limits`, and specifications cite it from here.
 #![tactic(auto)]
 
 mod geometry;

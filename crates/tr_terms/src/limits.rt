@@ -1,4 +1,7 @@
-//! Limits, and the sizes of headers.
+//! The limits of the product, and the sizes of headers.
+//! Two numbers that look like limits stand where they are used: `MANY_RECORDS` of tr_command only says before which loads a
+//! terminal is told something, and `MOST_BYTES` of tr_folders belongs to the interface that reads folders, whose counts it keeps
+//! within a u64.
 
 /// The greatest moment, in nanoseconds since 1970.
 pub const LAST_MOMENT: u64 = 9_000_000_000_000_000_000;
@@ -16,7 +19,7 @@ pub const PACKET_HEADER: usize = 80;
 pub const SMALLEST_PACKET: usize = PACKET_HEADER + RECORD_HEADER;
 
 /// The bytes of the largest packet, and of the largest sub-buffer.
-pub const LARGEST_PACKET: usize = 65_536;
+pub const LARGEST_PACKET: usize = 1_048_576;
 
 /// The bytes of the smallest sub-buffer.
 pub const SMALLEST_SUB_BUFFER: usize = 256;
@@ -40,7 +43,13 @@ pub const MOST_SESSIONS: usize = 16;
 pub const MOST_CHANNELS: usize = 8;
 
 /// The most streams that a session has.
-pub const MOST_STREAMS: usize = 256;
+pub const MOST_STREAMS: usize = 1_024;
+
+/// The most drainers that a session makes.
+pub const MOST_DRAINERS: u64 = 65_536;
+
+/// The most turns that a worker makes.
+pub const MOST_TURNS: u64 = 1 << 62;
 
 /// The bytes of the longest line of a script, without its newline.
 pub const LONGEST_LINE: usize = 4_096;
@@ -52,10 +61,16 @@ pub const LONGEST_SCRIPT: usize = 16_777_216;
 pub const LONGEST_PIECE: usize = 65_536;
 
 /// The most bytes that the line `offer` fills a payload with.
-pub const MOST_FILL: u32 = 65_536;
+pub const MOST_FILL: u32 = 1_048_576;
 
-/// The most records that each thread of a load offers.
+/// The most feeders of a load, each in a thread of its own.
+pub const MOST_FEEDERS: usize = 256;
+
+/// The most records that each feeder of a load offers.
 pub const MOST_RECORDS: u64 = 1_000_000;
 
 /// The most workers of a load.
 pub const MOST_WORKERS: usize = 64;
+
+/// The most bytes of metadata that an audit looks at, and of any file that it reads at a time.
+pub const MOST_METADATA: usize = 65_536;

@@ -1,6 +1,6 @@
 -- Which stream a worker takes from at which turn, and what it did.
 use Rattle.std.specs.Prelude.{◌≡◌, ◌⊎◌, ℕ, zero, suc, ◌+◌, ◌<◌, ◌≤◌, Bool, true, false, Result, if◌then◌else◌, nat_lt}
-use Rattle.tr_threads.specs.declared.limits.TheConstants.{MOST_TURNS}
+use Rattle.tr_terms.specs.declared.limits.TheConstants.{MOST_TURNS}
 use Rattle.tr_stream.specs.declared.answers.TakeFault.{TakeFault}
 use Rattle.tr_stream.specs.declared.answers.Taken.{Taken}
 

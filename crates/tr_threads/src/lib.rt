@@ -6,7 +6,6 @@ mod feeding;
 mod gate;
 mod intake;
 mod items;
-mod limits;
 mod pool_fault;
 mod sides;
 mod target;

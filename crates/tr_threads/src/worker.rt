@@ -4,10 +4,10 @@ ghost use Rattle.std.specs.Prelude.{◌<◌};
 ghost use Rattle.tr_threads.specs.Turns.{HasWorked, IsWorked};
 
 use crate::gate::Gate;
-use crate::limits::MOST_TURNS;
 use crate::target::Target;
 use crate::turns::next_stream;
 use std::sync::Wait;
+use tr_terms::limits::MOST_TURNS;
 
 /// A worker's turns: it takes from its streams in rounds, each time after the gate let it, and ends when the gate doesn't. A
 /// refused take is passed over. A worker that has no stream does nothing.

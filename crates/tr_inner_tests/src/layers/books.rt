@@ -251,9 +251,9 @@ fn counters_sum_up_clears(rt: HostRuntime) {
 }
 
 /// Sizes and counts, and why they are refused.
-static GEOMETRIES: [(u64, u64, Option<GeometryFault>); 14] = [
+static GEOMETRIES: [(u64, u64, Option<GeometryFault>); 16] = [
     (255, 2, Some(GeometryFault::BadSize)),
-    (131_072, 2, Some(GeometryFault::BadSize)),
+    (2_097_152, 2, Some(GeometryFault::BadSize)),
     (255, 3, Some(GeometryFault::BadSize)),
     (0, 2, Some(GeometryFault::BadSize)),
     (128, 2, Some(GeometryFault::BadSize)),
@@ -262,9 +262,11 @@ static GEOMETRIES: [(u64, u64, Option<GeometryFault>); 14] = [
     (256, 128, Some(GeometryFault::BadCount)),
     (256, 0, Some(GeometryFault::BadCount)),
     (256, 1, Some(GeometryFault::BadCount)),
-    (65_536, 65, Some(GeometryFault::BadCount)),
+    (1_048_576, 65, Some(GeometryFault::BadCount)),
     (256, 2, None),
-    (65_536, 64, None),
+    (131_072, 2, None),
+    (1_048_576, 2, None),
+    (1_048_576, 64, None),
     (4096, 8, None),
 ];
 

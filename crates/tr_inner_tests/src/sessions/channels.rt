@@ -160,7 +160,7 @@ const SMALL: (u64, u64, Mode) = (256, 2, Mode::Discard);
 static CHANNELS: [Step; 15] = [
     Channel("c", (255, 2, Mode::Discard), Err(BadGeometry)),
     Channel("c", (256, 3, Mode::Discard), Err(BadGeometry)),
-    Channel("c", (131_072, 2, Mode::Discard), Err(BadGeometry)),
+    Channel("c", (2_097_152, 2, Mode::Discard), Err(BadGeometry)),
     Channel("c", (256, 128, Mode::Discard), Err(BadGeometry)),
     Channel("a", SMALL, Ok(())),
     Channel("b", SMALL, Ok(())),
@@ -170,7 +170,7 @@ static CHANNELS: [Step; 15] = [
     Channel("f", SMALL, Ok(())),
     Channel("g", SMALL, Ok(())),
     Channel("a", (255, 2, Mode::Discard), Err(NameTaken)),
-    Channel("h", (65_536, 64, Mode::Overwrite), Ok(())),
+    Channel("h", (1_048_576, 64, Mode::Overwrite), Ok(())),
     Channel("h", SMALL, Err(NameTaken)),
     Channel("i", (255, 2, Mode::Discard), Err(TooMany)),
 ];
@@ -192,7 +192,7 @@ fn channels_are_refused_in_order(rt: HostRuntime) {
     assert_same(
         &rt,
         (geometry, channel.mode),
-        ((65_536, 64), Mode::Overwrite),
+        ((1_048_576, 64), Mode::Overwrite),
     );
     assert_same(&rt, session.book().channel("i").is_none(), true);
     assert_steps(&rt, &mut session, 1, &STARTED);
@@ -203,22 +203,22 @@ fn channels_are_refused_in_order(rt: HostRuntime) {
 static STREAMS: [Step; 12] = [
     NoThread("c", NoChannel),
     Channel("c", SMALL, Ok(())),
-    Threads("c", 0, 256),
+    Threads("c", 0, 1_024),
     NoThread("x", NoChannel),
     NoThread("c", TooMany),
-    Offer((255, 1, 4), Err(StepFault::Offer(OfferFault::Inactive))),
+    Offer((1_023, 1, 4), Err(StepFault::Offer(OfferFault::Inactive))),
     Start(0, Ok(())),
-    Offer((255, 1, 152), Ok(Offered::Stored { serial: 0, seq: 0 })),
-    Offer((255, 1, 153), Err(StepFault::Offer(OfferFault::TooBig))),
-    Offer((256, 1, 4), Err(StepFault::Session(NoStream))),
-    Take(256, Err(StepFault::Session(NoStream))),
+    Offer((1_023, 1, 152), Ok(Offered::Stored { serial: 0, seq: 0 })),
+    Offer((1_023, 1, 153), Err(StepFault::Offer(OfferFault::TooBig))),
+    Offer((1_024, 1, 4), Err(StepFault::Session(NoStream))),
+    Take(1_024, Err(StepFault::Session(NoStream))),
     Take(u64::MAX, Err(StepFault::Session(NoStream))),
 ];
 
 #[test]
 fn streams_are_refused_in_order(rt: HostRuntime) {
     let session = after(&rt, rt.alloc(), SessionMode::Local, &STREAMS);
-    assert_same(&rt, session.streams(), 256);
+    assert_same(&rt, session.streams(), 1_024);
     drop(session);
 }
 

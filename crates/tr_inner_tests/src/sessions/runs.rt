@@ -347,13 +347,13 @@ fn looks_at_a_stream(rt: HostRuntime) {
 fn a_configuration_is_refused(rt: HostRuntime) {
     for (size, threads, fault) in [
         (255, 1, SessionFault::BadGeometry),
-        (256, 257, SessionFault::TooMany),
+        (256, 1_025, SessionFault::TooMany),
     ] {
         let bad = config(&rt, rt.alloc(), LOCAL, size, threads);
         let answer = run_session(rt.alloc(), &bad, &[]).err();
         assert_same(&rt, (size, threads, answer), (size, threads, Some(fault)));
     }
-    let session = run(&rt, rt.alloc(), LOCAL, 256, &[]);
-    assert_same(&rt, session.streams(), 256);
+    let session = run(&rt, rt.alloc(), LOCAL, 1_024, &[]);
+    assert_same(&rt, session.streams(), 1_024);
     drop(session);
 }

@@ -3,6 +3,7 @@ use Rattle.tr_chunk.specs.Audit.{all_of}
 use Rattle.tr_chunk.proofs.AuditLemmas.{piece_more, piece_stop, passed_end}
 use Rattle.tr_chunk.proofs.OnlyLemmas.{memory_alone, same_tale}
 use Rattle.tr_chunk.proofs.audit.audit_stream.Goals as goal
+use Rattle.tr_terms.specs.declared.limits.TheConstants.{LARGEST_PACKET}
 
 pub pieces-preserved : goal.pieces-preserved
 pieces-preserved g c =
@@ -17,7 +18,7 @@ returns-in-Err-clause-fault g c =
     (c.in-Err.ensures.err (all_of c.pieces.invariant.before) c.pieces.invariant.tells)
 
 pub returns-in-Err-clause-only : goal.returns-in-Err-clause-only
-returns-in-Err-clause-only g c = λ pss audited. memory_alone c.args.uuid.now c.args.stream _ pss _ audited (returns-in-Err-clause-fault g c)
+returns-in-Err-clause-only g c = λ pss audited. memory_alone LARGEST_PACKET c.args.uuid.now c.args.stream _ pss _ audited (returns-in-Err-clause-fault g c)
 
 pub returns-clause-found : goal.returns-clause-found
 returns-clause-found g c = passed_end c.args.uuid.now c.args.stream c.args.pieces.now c.pieces.piece c.pieces.audit

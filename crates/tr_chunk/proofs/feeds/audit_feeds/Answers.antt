@@ -4,12 +4,13 @@ use Rattle.std.proofs.lemmas.Option.{slice_get-get_or}
 use Rattle.std.proofs.lemmas.Result.{IfOk-weaker, IfErr-weaker, MatchResult-from_both}
 use Rattle.tr_packet.specs.Packets.{Contents}
 use Rattle.tr_chunk.specs.declared.audit_fault.AuditCause.TheVariants.{NoMemory}
-use Rattle.tr_chunk.specs.Audit.{AreAudited, StopsAt, all_of, audit_of}
-use Rattle.tr_chunk.specs.Reading.{Reading, HasRead, bytes_fed, pieces_fed}
+use Rattle.tr_chunk.specs.Audit.{AreAudited, all_of, audit_of}
+use Rattle.tr_chunk.specs.Reading.{Reading, HasRead, ReaderStopsAt, bytes_fed, pieces_fed}
 use Rattle.tr_chunk.proofs.OnlyLemmas.{memory_alone, same_tale}
 use Rattle.tr_chunk.proofs.ReadingLemmas.{says_fault}
 use Rattle.tr_chunk.proofs.FeedsLemmas.{ReadUpTo, piece_fits, pieces_fit, read_piece, stops_within, stops_next, stops_before, audited_before, answered_fault, answered_none}
 use Rattle.tr_chunk.proofs.feeds.audit_feeds.Goals as goal
+use Rattle.tr_chunk.specs.declared.audit_reader.TheConstants.{FIRST_ROOM}
 
 abbrev none : Bor (List (Bor (List ℕ)))
 none = record { ref_ptr = (0, 0); now = [] }
@@ -67,7 +68,7 @@ returns-in_err-feed_all-clause-fault g c =
     let piece = bytes_fed (get_or c.args.pieces.now at none).now in
     let f = c.in_err-feed_all.field-0.0 in
     let result : c.from_residual.result ≡ Err f = search rules in
-    subst (λ r. IfErr r (λ f. StopsAt c.args.reader.uuid c.args.reader.stream texts f)) (sym result)
+    subst (λ r. IfErr r (λ f. ReaderStopsAt c.args.reader.uuid c.args.reader.stream texts f)) (sym result)
     (stops_within c.args.reader.uuid c.args.reader.stream texts at piece f (slice_get-get_or texts at piece next.0 ∙ ap Some (sym next.1))
     (says_fault c.args.reader.uuid c.args.reader.stream (take at texts) piece c.feed_all.new.reader f
     (answered_fault c.feed_all.new.reader.fault f (search rules))
@@ -80,8 +81,8 @@ returns-in_err-feed_all-clause-only g c =
     let texts = pieces_fed c.args.pieces.now in
     λ pss audited.
     subst (λ r. MatchResult r (λ a. a ≡ audit_of (all_of pss)) (λ f. f.cause ≡ NoMemory)) (sym result)
-    (memory_alone c.args.reader.uuid c.args.reader.stream texts pss f audited
-    (subst (λ r. IfErr r (λ f. StopsAt c.args.reader.uuid c.args.reader.stream texts f)) result (returns-in_err-feed_all-clause-fault g c)))
+    (memory_alone FIRST_ROOM c.args.reader.uuid c.args.reader.stream texts pss f audited
+    (subst (λ r. IfErr r (λ f. ReaderStopsAt c.args.reader.uuid c.args.reader.stream texts f)) result (returns-in_err-feed_all-clause-fault g c)))
 
 pub returns-in_err-next_piece-clause-fault : goal.returns-in_err-next_piece-clause-fault
 returns-in_err-next_piece-clause-fault g c =
@@ -91,7 +92,7 @@ returns-in_err-next_piece-clause-fault g c =
     let piece = bytes_fed (get_or c.args.pieces.now at none).now in
     let f = c.in_err-next_piece.field-0.0 in
     let result : c.from_residual-in_err-next_piece.result ≡ Err f = search rules in
-    subst (λ r. IfErr r (λ f. StopsAt c.args.reader.uuid c.args.reader.stream texts f)) (sym result)
+    subst (λ r. IfErr r (λ f. ReaderStopsAt c.args.reader.uuid c.args.reader.stream texts f)) (sym result)
     (stops_next c.args.reader.uuid c.args.reader.stream texts (at + 1) f
     (says_fault c.args.reader.uuid c.args.reader.stream (take (at + 1) texts) [] c.next_piece.new.self f
     (answered_fault c.next_piece.new.self.fault f (search rules))
@@ -106,8 +107,8 @@ returns-in_err-next_piece-clause-only g c =
     let texts = pieces_fed c.args.pieces.now in
     λ pss audited.
     subst (λ r. MatchResult r (λ a. a ≡ audit_of (all_of pss)) (λ f. f.cause ≡ NoMemory)) (sym result)
-    (memory_alone c.args.reader.uuid c.args.reader.stream texts pss f audited
-    (subst (λ r. IfErr r (λ f. StopsAt c.args.reader.uuid c.args.reader.stream texts f)) result (returns-in_err-next_piece-clause-fault g c)))
+    (memory_alone FIRST_ROOM c.args.reader.uuid c.args.reader.stream texts pss f audited
+    (subst (λ r. IfErr r (λ f. ReaderStopsAt c.args.reader.uuid c.args.reader.stream texts f)) result (returns-in_err-next_piece-clause-fault g c)))
 
 -- what `finish` was told: all pieces, and an empty one
 all_read : {A : Type 0} (uuid : List ℕ) (stream : ℕ) (reader : Reading A) (pieces : List (Bor (List (Bor (List ℕ))))) (at : ℕ)
@@ -132,7 +133,7 @@ returns-clause-fault g c =
     let uuid = c.args.reader.uuid in
     let stream = c.args.reader.stream in
     let texts = pieces_fed c.args.pieces.now in
-    IfErr-weaker c.finish.result (λ f. StopsAt uuid stream (texts ++ [] ∷ []) f) (λ f. StopsAt uuid stream texts f) (stops_before uuid stream texts)
+    IfErr-weaker c.finish.result (λ f. ReaderStopsAt uuid stream (texts ++ [] ∷ []) f) (λ f. ReaderStopsAt uuid stream texts f) (stops_before uuid stream texts)
     (c.finish.ensures.fault uuid stream texts []
     (all_read uuid stream c.loop-at.reader c.args.pieces.now c.loop-at.at c.loop-at.invariant c.loop-at-test.false))
 
@@ -145,5 +146,5 @@ returns-clause-only g c =
     MatchResult-from_both c.finish.result (λ a. a ≡ audit_of (all_of pss)) (λ f. f.cause ≡ NoMemory)
     (IfOk-weaker c.finish.result (λ a. (qss : List (List Contents)) × AreAudited uuid stream texts qss × (a ≡ audit_of (all_of qss)))
     (λ a. a ≡ audit_of (all_of pss)) (λ a found. same_tale uuid stream texts found.0 pss a found.1 audited found.2) (returns-clause-found g c))
-    (IfErr-weaker c.finish.result (λ f. StopsAt uuid stream texts f) (λ f. f.cause ≡ NoMemory)
-    (λ f stops. memory_alone uuid stream texts pss f audited stops) (returns-clause-fault g c))
+    (IfErr-weaker c.finish.result (λ f. ReaderStopsAt uuid stream texts f) (λ f. f.cause ≡ NoMemory)
+    (λ f stops. memory_alone FIRST_ROOM uuid stream texts pss f audited stops) (returns-clause-fault g c))

@@ -4,6 +4,7 @@ use Rattle.tr_chunk.specs.Reading.{Reading, Waits}
 use Rattle.tr_chunk.proofs.OnlyLemmas.{memory_alone, same_tale}
 use Rattle.tr_chunk.proofs.ReadingLemmas.{says_fault, however_end, finish_short, finish_found}
 use Rattle.tr_chunk.proofs.audit_reader.AuditReader.finish.Goals as goal
+use Rattle.tr_chunk.specs.declared.audit_reader.TheConstants.{FIRST_ROOM}
 
 pub returns-in-Some-clause-fault : goal.returns-in-Some-clause-fault
 returns-in-Some-clause-fault g c = λ uuid stream done piece has.
@@ -12,7 +13,7 @@ returns-in-Some-clause-fault g c = λ uuid stream done piece has.
 
 pub returns-in-Some-clause-only : goal.returns-in-Some-clause-only
 returns-in-Some-clause-only g c = λ uuid stream done piece has pss audited.
-    memory_alone uuid stream (done ++ piece ∷ []) pss c.in-Some.fault audited (returns-in-Some-clause-fault g c uuid stream done piece has)
+    memory_alone FIRST_ROOM uuid stream (done ++ piece ∷ []) pss c.in-Some.fault audited (returns-in-Some-clause-fault g c uuid stream done piece has)
 
 pub returns-in_default-len-clause-fault : goal.returns-in_default-len-clause-fault
 returns-in_default-len-clause-fault g c =
@@ -24,7 +25,7 @@ returns-in_default-len-clause-fault g c =
 
 pub returns-in_default-len-clause-only : goal.returns-in_default-len-clause-only
 returns-in_default-len-clause-only g c = λ uuid stream done piece has pss audited.
-    memory_alone uuid stream (done ++ piece ∷ []) pss c.stop.result audited (returns-in_default-len-clause-fault g c uuid stream done piece has)
+    memory_alone FIRST_ROOM uuid stream (done ++ piece ∷ []) pss c.stop.result audited (returns-in_default-len-clause-fault g c uuid stream done piece has)
 
 pub returns-in-0-clause-found : goal.returns-in-0-clause-found
 returns-in-0-clause-found g c =

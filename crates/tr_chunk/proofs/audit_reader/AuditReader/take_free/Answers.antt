@@ -1,12 +1,15 @@
-use Rattle.std.proofs.Common.{◌≡◌, ◌≤◌, ◌+◌, ◌++◌, [], ℕ, List, length, drop, rules, arith, refl, sym, ap, subst, ◌∙◌, append-nil}
+use Rattle.std.proofs.Common.{◌≡◌, ◌≤◌, ◌<◌, inr, ◌+◌, ◌++◌, [], ℕ, List, length, drop, rules, arith, refl, sym, ap, subst, ◌∙◌, append-nil}
 use Rattle.std.proofs.lemmas.Grind.{common_steps}
 use Rattle.tr_packet.specs.Decoding.{Begins}
 use Rattle.tr_chunk.specs.Audit.{IsCause}
 use Rattle.tr_chunk.specs.Reading.{Reading, reading, Takes, Finds, Waits}
 use Rattle.tr_chunk.proofs.ReadingLemmas.{takes_whole, finds}
-use Rattle.tr_chunk.proofs.WaitingLemmas.{waits_within}
+use Rattle.tr_chunk.proofs.WaitingLemmas.{larger_waits}
 use Rattle.tr_chunk.proofs.AuditLemmas.{front_within}
 use Rattle.tr_chunk.proofs.audit_reader.AuditReader.take_free.Goals as goal
+use Rattle.tr_chunk.specs.declared.audit_fault.AuditCause.TheVariants.{NoMemory}
+use Rattle.tr_chunk.specs.declared.audit_reader.TheConstants.{FIRST_ROOM}
+use Rattle.std.specs.Prelude.{vec_capacity, vec_len}
 
 pub overflow_add-self : goal.overflow_add-self
 overflow_add-self g c =
@@ -14,15 +17,6 @@ overflow_add-self g c =
     let within = front_within whole.0 c.in-Ok-Some.size c.args.bytes.now whole.1 whole.2 in
     let fed = subst (λ (r : Reading _). r.offset + length r.held + length c.args.bytes.now ≤ r.bytes) (sym c.self.view_is) c.requires.fed in
     omega (arith, within.1, fed, c.self.invariant.few)
-
-pub put_bytes-requires : goal.put_bytes-requires
-put_bytes-requires g c =
-    omega (
-      arith,
-      waits_within c.args.bytes.now (c.judge_front.ensures.part (search rules)).0,
-      c.self.invariant.room,
-      ap length (ap (λ r. r.held) c.self.view_is ∙ c.requires.free),
-    )
 
 pub invariant_of-self : goal.invariant_of-self
 invariant_of-self g c =
@@ -35,11 +29,12 @@ pub invariant_of-self-in-Ok-None : goal.invariant_of-self-in-Ok-None
 invariant_of-self-in-Ok-None g c =
     let bytes = c.args.bytes.now in
     let free : c.self.inside.held.items ≡ [] = ap (λ r. r.held) c.self.view_is ∙ c.requires.free in
-    let held : c.put_bytes.new.out.items ≡ bytes = ◌∙◌ {A = List ℕ} c.put_bytes.ensures.items (ap (λ (t : List ℕ). t ++ bytes) free) in
+    let items : c.extend_from_slice.new.self.items ≡ c.self.inside.held.items ++ bytes = search rules in
+    let held : c.extend_from_slice.new.self.items ≡ bytes = ◌∙◌ {A = List ℕ} items (ap (λ (t : List ℕ). t ++ bytes) free) in
     let fed = subst (λ (r : Reading _). r.offset + length r.held + length bytes ≤ r.bytes) (sym c.self.view_is) c.requires.fed in
     record {
       waits = subst Waits (sym held) (c.judge_front.ensures.part (search rules)).0;
-      room = omega (arith, c.self.invariant.room, c.put_bytes.ensures.capacity);
+      room = omega (arith, c.self.invariant.room, c.extend_from_slice.ensures.capacity);
       within = omega (arith, fed, ap length held);
       few = c.self.invariant.few;
       begun = c.self.invariant.begun;
@@ -70,10 +65,27 @@ returns-in-Err-clause-err g c =
     subst (λ (v : Reading _). Finds v bytes cause × (inside.offset ≡ v.offset)) c.self.view_is (
       finds (reading inside.uuid inside.stream inside.audit inside.held.items inside.offset inside.bytes inside.pieces inside.fault)
           bytes [] bytes cause
-          (subst (λ t. IsCause inside.uuid inside.stream inside.audit.last_seq inside.audit.last_serial cause (t ++ bytes)) (sym free) fault.0)
+          (subst (λ t. IsCause FIRST_ROOM inside.uuid inside.stream inside.audit.last_seq inside.audit.last_serial cause (t ++ bytes)) (sym free) fault.0)
           fault.1 c.requires.some (sym (append-nil bytes)),
       refl,
     )
 
-pub returns-in-Ok-None-clause-ok : goal.returns-in-Ok-None-clause-ok
-returns-in-Ok-None-clause-ok g c = grind (arith, common_steps)
+-- a refused growth
+pub returns-then-is_err-clause-err : goal.returns-then-is_err-clause-err
+returns-then-is_err-clause-err g c =
+    let inside = c.self.inside in
+    let bytes = c.args.bytes.now in
+    let free : inside.held.items ≡ [] = ap (λ r. r.held) c.self.view_is ∙ c.requires.free in
+    let full : vec_capacity inside.held < vec_len inside.held + length bytes = search rules in
+    let waits = (c.judge_front.ensures.part (search rules)).0 in
+    let larger = larger_waits FIRST_ROOM bytes (omega arith) waits (omega (arith, full, c.self.invariant.room, ap length free)) in
+    subst (λ (v : Reading _). Finds v bytes NoMemory × (inside.offset ≡ v.offset)) c.self.view_is (
+      finds (reading inside.uuid inside.stream inside.audit inside.held.items inside.offset inside.bytes inside.pieces inside.fault)
+          bytes [] bytes NoMemory
+          (subst (λ t. IsCause FIRST_ROOM inside.uuid inside.stream inside.audit.last_seq inside.audit.last_serial NoMemory (t ++ bytes)) (sym free) (inr larger))
+          (λ same. cc) c.requires.some (sym (append-nil bytes)),
+      refl,
+    )
+
+pub returns-else-is_err-clause-ok : goal.returns-else-is_err-clause-ok
+returns-else-is_err-clause-ok g c = grind (arith, common_steps)
