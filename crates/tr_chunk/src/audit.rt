@@ -2,7 +2,6 @@
 
 ghost use Rattle.std.specs.Prelude.{◌≡◌, ◌++◌, ◌<◌, ◌≤◌, length, List, map, drop, Option, Some, None, IfOk, IfErr, MatchResult, OnErr};
 ghost use Rattle.tr_packet.specs.Decoding.{Begins};
-ghost use Rattle.tr_packet.specs.Order.{follows};
 ghost use Rattle.tr_packet.specs.Packets.{Contents, packet_size};
 ghost use Rattle.tr_chunk.specs.Audit.{audit_of, after_packet, packet_cause, starts_above, last_serial, IsCause, StopsIn, StopsAt, AreAudited, Tells, all_of};
 ghost use Rattle.tr_chunk.specs.Files.{packets_text};
@@ -12,18 +11,8 @@ ghost use Rattle.tr_terms.specs.declared.limits.TheConstants.{LARGEST_PACKET};
 use crate::audit_fault::{AuditCause, AuditFault};
 use crate::stream_audit::StreamAudit;
 use std::alloc::Allocator;
-use tr_packet::{PacketView, decode_packet};
+use tr_packet::{PacketView, decode_packet, may_follow};
 use uuid::Uuid;
-
-/// Whether a serial or a number may come after the one before it, if any.
-fn may_follow(before: Option<u64>, next: u64) -> bool
-    ensures { result ≡ follows before next }
-{
-    match before {
-        None => true,
-        Some(before) => before < next,
-    }
-}
 
 /// Whether a packet's first serial may come after the one before it, if any.
 fn may_start(before: Option<u64>, packet: &PacketView<'_>) -> bool

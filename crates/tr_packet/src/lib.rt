@@ -22,6 +22,7 @@ pub use fault::PacketFault;
 pub use fields::size_by_fields;
 pub use head::Head;
 pub use metadata::metadata_text;
+pub use order::may_follow;
 pub use packet::Packet;
 pub use packets::Packets;
 pub use texts::PacketTexts;

@@ -40,13 +40,13 @@ fn are_small<A: Allocator>(records: &[Rec<A>]) -> bool
     true
 }
 
-/// Whether a serial may come after the one before it, if any.
-fn may_follow(before: Option<u64>, serial: u64) -> bool
-    ensures { result ≡ follows before serial }
+/// Whether a serial, or a packet's number, may come after the one before it, if any.
+pub fn may_follow(before: Option<u64>, next: u64) -> bool
+    ensures { result ≡ follows before next }
 {
     match before {
         None => true,
-        Some(before) => before < serial,
+        Some(before) => before < next,
     }
 }
 

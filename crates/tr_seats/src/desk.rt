@@ -89,6 +89,12 @@ impl<N: Names, A: Allocator> Desk<N, A> {
         self.drainers
     }
 
+    /// Does nothing, and shows that what was planned of the session is as it was.
+    pub fn shows_plan(&self)
+        ensures { IsPlan N.plan × IsOfPlan N.plan.session.book self.now.book }
+    {
+    }
+
     /// What the session keeps beside its streams: what was planned of it is as it was.
     pub fn book(&self) -> &SessionBook<A>
         ensures value { result.now ≡ self.now.book }

@@ -8,6 +8,8 @@ ghost use Rattle.tr_ledger.specs.Ledgers.{seat_state};
 ghost use Rattle.tr_seats.specs.Books.{IsPlanned, IsTooBig, books_at};
 ghost use Rattle.tr_seats.specs.Sums.{totals_in};
 ghost use Rattle.tr_terms.specs.declared.limits.TheConstants.{MOST_OFFERS};
+ghost use Rattle.tr_stream.specs.Consistent.{IsConsistent};
+ghost use Rattle.tr_stream.specs.Kept.{IsKept};
 ghost use Rattle.tr_stream.specs.Steps.{ClearsSome};
 ghost use Rattle.tr_stream.specs.StateSteps.{state_after_clear, state_after_cut, state_after_switch, state_clear_answer, state_counts, state_cut_answer, state_snap};
 
@@ -87,7 +89,7 @@ impl<N: Names, A: Allocator + Copy> Slot<N, A> {
             }
         };
         // a stream is sound, so there is room for what its books are raised by
-        let _ = self.stream.config();
+        self.stream.shows_kept();
         self.offered.raise_by_one(&mut producer.offered);
         match offered {
             Offered::Stored { .. } => {}
@@ -118,9 +120,9 @@ impl<N: Names, A: Allocator + Copy> Slot<N, A> {
         if i != self.number {
             return Err(TakeFault::Misplaced);
         }
-        let _ = self.stream.config();
+        self.stream.shows_kept();
         let taken = self.stream.take()?;
-        let _ = self.stream.config();
+        self.stream.shows_kept();
         self.consumed.raise(&mut drainer.seats[i], taken.count);
         Ok(taken)
     }
@@ -141,6 +143,15 @@ impl<N: Names, A: Allocator> Slot<N, A> {
         ensures there { result < length N.plan.books }
     {
         self.number
+    }
+
+    /// Does nothing, and shows what the stream keeps, and that the plan made it for this number.
+    pub fn shows_planned(&self)
+        ensures kept { IsKept self.now.stream }
+        ensures consistent { IsConsistent self.now.stream }
+        ensures planned { IsPlanned N.plan self.now.number self.now.stream.config }
+    {
+        self.stream.shows_kept();
     }
 
     /// The stream itself, to read: the one that the plan made for this number.
@@ -244,9 +255,9 @@ impl<N: Names, A: Allocator> Slot<N, A> {
         ensures no_memory { result ≡ Err CutFault.NoMemory → self.new ≡ self.old }
         ensures memory { result ≡ Err CutFault.NoMemory → IsOk (state_cut_answer moment self.old.stream) }
     {
-        let _ = self.stream.config();
+        self.stream.shows_kept();
         let done = self.stream.cut(moment)?;
-        let _ = self.stream.config();
+        self.stream.shows_kept();
         self.consumed.raise(consumed, done.records);
         self.cuts.raise_by_one(cuts);
         Ok(done)
@@ -289,9 +300,9 @@ impl<N: Names, A: Allocator> Slot<N, A> {
         ensures memory { result ≡ Err ClearFault.NoMemory → ClearsSome (state_clear_answer self.old.stream) }
         ensures planned { IsPlanned N.plan self.old.number self.old.stream.config }
     {
-        let _ = self.stream.config();
+        self.stream.shows_kept();
         let done = self.stream.clear()?;
-        let _ = self.stream.config();
+        self.stream.shows_kept();
         self.cleared.raise(cleared, done.records);
         Ok(done)
     }

@@ -24,7 +24,7 @@ impl<N: Names, A: Allocator + Copy> Shared<N, A> {
         ensures mode { result ≡ Err SessionFault.SnapshotMode ↔ N.plan.session.book.mode ≡ SessionMode.Snapshot }
     {
         let mut desk = self.desk.lock(rt);
-        let _ = desk.book();
+        desk.shows_plan();
         desk.clear_allowed()?;
         let mut records = 0;
         for i in 0..self.slots.len() {

@@ -26,7 +26,7 @@ pub(crate) fn begin_snapshot<N: Names, A: Allocator>(
     ensures refused { IfErr result
         (λ fault. (fault ≡ SessionFault.NotSnapshotMode) ⊎ (fault ≡ SessionFault.NeverStarted)) }
 {
-    let _ = desk.book();
+    desk.shows_plan();
     desk.snapshot_begin(moment)
 }
 
@@ -53,7 +53,7 @@ pub(crate) fn look<N: Names, A: Allocator + Copy>(
     if slot.number() != i {
         return Err(SessionFault::Misplaced);
     }
-    let _ = slot.stream().config();
+    slot.shows_planned();
     Ok(slot.peek(moment)?)
 }
 

@@ -29,7 +29,7 @@ impl<N: Names, A: Allocator> Shared<N, A> {
         ensures refused { IfErr result (λ fault. fault ≡ SessionFault.SnapshotMode) }
     {
         let mut desk = self.desk.lock(rt);
-        let _ = desk.book();
+        desk.shows_plan();
         desk.set_schedule(schedule)
     }
 
@@ -43,7 +43,7 @@ impl<N: Names, A: Allocator> Shared<N, A> {
         ensures mode { N.plan.session.book.mode ≡ SessionMode.Snapshot → result ≡ Err SessionFault.NotPending }
     {
         let mut desk = self.desk.lock(rt);
-        let _ = desk.book();
+        desk.shows_plan();
         desk.rotate_finish()
     }
 }
@@ -59,7 +59,7 @@ impl<N: Names, A: Allocator + Copy> Shared<N, A> {
         ensures refused { IfErr result IsBeginFault }
     {
         let mut desk = self.desk.lock(rt);
-        let _ = desk.book();
+        desk.shows_plan();
         desk.rotate_begin(moment)
     }
 

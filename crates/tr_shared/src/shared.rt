@@ -120,8 +120,7 @@ impl<N: Names, A: Allocator + Copy> Shared<N, A> {
         ensures mode { (config : StreamConfig) → IsPlanned N.plan i config → IsTakeOf config.session result }
     {
         let mut slot = self.slots[i].lock(rt);
-        // it is the stream that was planned for its number
-        let _ = slot.stream();
+        slot.shows_planned();
         slot.take(drainer, i)
     }
 }

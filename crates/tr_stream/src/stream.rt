@@ -411,6 +411,13 @@ impl<A: Allocator> Stream<A> {
         self.ring.record(k)
     }
 
+    /// Does nothing, and shows what every stream keeps.
+    pub fn shows_kept(&self)
+        ensures kept { IsKept self.now }
+        ensures consistent { IsConsistent self.now }
+    {
+    }
+
     /// What the stream was made with.
     pub fn config(&self) -> StreamConfig
         ensures value { result ≡ self.now.config }

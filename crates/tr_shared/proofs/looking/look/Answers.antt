@@ -11,7 +11,7 @@ pub returns-clause-number : goal.returns-clause-number
 returns-clause-number g c =
     let slot = c.args.slot.now in
     let made : IsOver slot.number slot.stream.config =
-    planned-over g.N.Names.plan slot.number slot.stream.config c.requires.plan c.requires.mode c.stream.ensures.planned in
+    planned-over g.N.Names.plan slot.number slot.stream.config c.requires.plan c.requires.mode c.shows_planned.ensures.planned in
     let here : c.args.i ≡ slot.number = search rules in
     ap (λ (s : SnapState). s.stream) c.in_ok-peek.ensures.value ∙ made.number ∙ sym here
 
@@ -19,9 +19,9 @@ pub returns-clause-from : goal.returns-clause-from
 returns-clause-from g c =
     let slot = c.args.slot.now in
     let made : IsOver slot.number slot.stream.config =
-    planned-over g.N.Names.plan slot.number slot.stream.config c.requires.plan c.requires.mode c.stream.ensures.planned in
-    let kept : IsKept slot.stream = subst IsKept c.stream.ensures.value c.config.ensures.kept in
-    let is : IsConsistent slot.stream = subst IsConsistent c.stream.ensures.value c.config.ensures.consistent in
+    planned-over g.N.Names.plan slot.number slot.stream.config c.requires.plan c.requires.mode c.shows_planned.ensures.planned in
+    let kept : IsKept slot.stream = c.shows_planned.ensures.kept in
+    let is : IsConsistent slot.stream = c.shows_planned.ensures.consistent in
     subst (IsShownFrom slot.stream.counters.overwritten) (sym c.in_ok-peek.ensures.value)
     (shows-last c.args.moment slot.stream kept.sound is made.mode made.session)
 
@@ -30,7 +30,7 @@ returns-clause-look g c =
     let slot = c.args.slot.now in
     let here : c.args.i ≡ slot.number = search rules in
     record {
-      kept = subst IsKept c.stream.ensures.value c.config.ensures.kept;
-      planned = subst (λ (i : ℕ). IsPlanned g.N.Names.plan i slot.stream.config) (sym here) c.stream.ensures.planned;
+      kept = c.shows_planned.ensures.kept;
+      planned = subst (λ (i : ℕ). IsPlanned g.N.Names.plan i slot.stream.config) (sym here) c.shows_planned.ensures.planned;
       value = c.in_ok-peek.ensures.value;
     }

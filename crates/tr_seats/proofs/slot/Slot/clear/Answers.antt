@@ -24,7 +24,7 @@ raise-requires-clause-room g c =
     let done = c.in_ok-done.done in
     let after : c.clear.new.self ≡ state_after_clear old.stream = search rules in
     let answer : Ok done ≡ state_clear_answer old.stream = search rules in
-    let few = (few-counted c.clear.new.self c.config-2.ensures.kept.sound).cleared in
+    let few = (few-counted c.clear.new.self c.shows_kept-2.ensures.kept.sound).cleared in
     let more : (totals_in c.clear.new.self).cleared ≡ (totals_in old.stream).cleared + done.records =
     ap (λ (t : Totals). t.cleared) (ap totals_in after ∙ clear-totals old.stream done answer) in
     let total : old.cleared.total ≡ (totals_in old.stream).cleared = ap (λ (l : LedgerState). l.total) c.self.invariant.1.cleared_is in

@@ -15,7 +15,7 @@ raise-requires-clause-room g c =
     let done = c.in_ok-done.done in
     let after : c.cut.new.self ≡ state_after_cut c.args.moment old.stream = search rules in
     let answer : Ok done ≡ state_cut_answer c.args.moment old.stream = search rules in
-    let few = (few-counted c.cut.new.self c.config-2.ensures.kept.sound).consumed in
+    let few = (few-counted c.cut.new.self c.shows_kept-2.ensures.kept.sound).consumed in
     let more : (totals_in c.cut.new.self).consumed ≡ (totals_in old.stream).consumed + done.records =
     ap (λ (t : Totals). t.consumed) (ap totals_in after ∙ cut-totals c.args.moment old.stream done answer) in
     let total : old.consumed.total ≡ (totals_in old.stream).consumed = ap (λ (l : LedgerState). l.total) c.self.invariant.1.consumed_is in

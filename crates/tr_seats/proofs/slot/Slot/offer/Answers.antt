@@ -50,7 +50,7 @@ raise_by_one-requires-in-Discarded-clause-room g c =
     let answer : Ok (Discarded c.in-Discarded.serial)
     ≡ state_offer_answer c.args.moment c.args.id c.args.payload.now old.stream = search rules in
     let more = ap totals_in after ∙ offer-totals c.args.moment c.args.id c.args.payload.now old.stream _ answer in
-    let few = (few-counted c.offer.new.self c.config.ensures.kept.sound).discarded in
+    let few = (few-counted c.offer.new.self c.shows_kept.ensures.kept.sound).discarded in
     let one : (totals_in c.offer.new.self).discarded ≡ (totals_in old.stream).discarded + 1 = ap (λ (t : Totals). t.discarded) more in
     let total : old.discarded.total ≡ (totals_in old.stream).discarded = ap (λ (l : LedgerState). l.total) c.self.invariant.1.discarded_is in
     omega (arith, few, one, total)

@@ -47,8 +47,8 @@ raise-requires-clause-room g c =
     let old = c.self.inside in
     let after : c.take.new.self ≡ state_after_take old.stream = search rules in
     let answer : Ok c.in_ok-taken.taken ≡ state_take_answer old.stream = search rules in
-    let is = take-totals old.stream c.in_ok-taken.taken c.config.ensures.kept.sound answer in
-    let few = (few-counted c.take.new.self c.config-2.ensures.kept.sound).consumed in
+    let is = take-totals old.stream c.in_ok-taken.taken c.shows_kept.ensures.kept.sound answer in
+    let few = (few-counted c.take.new.self c.shows_kept-2.ensures.kept.sound).consumed in
     let more : (totals_in c.take.new.self).consumed ≡ (totals_in old.stream).consumed + c.in_ok-taken.taken.count =
     ap (λ (t : StreamState). (totals_in t).consumed) after ∙ ap (λ (t : Totals). t.consumed) is.totals in
     let total : old.consumed.total ≡ (totals_in old.stream).consumed = ap (λ (l : LedgerState). l.total) c.self.invariant.1.consumed_is in
@@ -59,7 +59,7 @@ invariant_of-self-2 g c =
     let old = c.self.inside in
     let after : c.take.new.self ≡ state_after_take old.stream = search rules in
     let answer : Ok c.in_ok-taken.taken ≡ state_take_answer old.stream = search rules in
-    let is = take-totals old.stream c.in_ok-taken.taken c.config.ensures.kept.sound answer in
+    let is = take-totals old.stream c.in_ok-taken.taken c.shows_kept.ensures.kept.sound answer in
     let planned = subst (IsPlanned g.N.Names.plan old.number) (sym c.in_ok-taken.ensures.config) c.self.invariant.2 in (
       c.self.invariant.0,
       books-taken (books_at g.N.Names.plan.books old.number) old.stream c.take.new.self old.consumed.made old.offered
@@ -93,7 +93,7 @@ returns-clause-seats g c =
 pub returns-clause-some : goal.returns-clause-some
 returns-clause-some g c =
     let answer : Ok c.in_ok-taken.taken ≡ state_take_answer c.self.inside.stream = search rules in
-    (take-totals c.self.inside.stream c.in_ok-taken.taken c.config.ensures.kept.sound answer).some
+    (take-totals c.self.inside.stream c.in_ok-taken.taken c.shows_kept.ensures.kept.sound answer).some
 
 pub returns-in_err-taken-clause-value : goal.returns-in_err-taken-clause-value
 returns-in_err-taken-clause-value g c = grind (arith, common_steps)

@@ -9,5 +9,5 @@ returns-clause-mode g c =
     let slot : SlotState = c.deref_mut.result.now in
     let same : c.deref.result.now ≡ slot = search rules in
     let own : IsPlanned g.N.Names.plan slot.number slot.stream.config =
-    subst (λ (s : SlotState). IsPlanned g.N.Names.plan s.number s.stream.config) same c.stream.ensures.planned in
+    subst (λ (s : SlotState). IsPlanned g.N.Names.plan s.number s.stream.config) same c.shows_planned.ensures.planned in
     take-mode g.N.Names.plan c.args.i slot c.take.result own (λ not. (c.take.ensures.value not).0) c.take.ensures.memory
