@@ -19,6 +19,8 @@ use Rattle.tr_stream.specs.declared.answers.ClearFault.{ClearFault}
 use Rattle.tr_stream.specs.declared.answers.ClearFault.TheVariants as clear_fault
 use Rattle.tr_stream.specs.declared.answers.Cleared.{Cleared}
 use Rattle.tr_stream.specs.declared.answers.CutDone.{CutDone}
+use Rattle.tr_stream.specs.declared.answers.CutFault.{CutFault}
+use Rattle.tr_stream.specs.declared.answers.CutFault.TheVariants as cut_fault
 use Rattle.tr_stream.specs.declared.answers.OfferFault.{OfferFault}
 use Rattle.tr_stream.specs.declared.answers.Offered.{Offered}
 use Rattle.tr_stream.specs.declared.answers.TakeFault.{TakeFault}
@@ -158,6 +160,21 @@ clear-totals s done answered = go s.config.session refl
         let is : done ≡ state_cleared s = cc in
         let after : state_after_clear s ≡ state_clear_ring s = cc in
         ap totals_in after ∙ ap (λ (d : Cleared). record (totals_in s) { cleared = (totals_in s).cleared + d.records }) (sym is)
+
+-- a cut that is refused leaves the stream as it was
+pub refused-cut : (moment : ℕ) (s new : StreamState) (fault : CutFault)
+    → (◌≢◌ {A = Result CutDone CutFault} (Err fault) (Err cut_fault.NoMemory)
+    → (Err fault ≡ state_cut_answer moment s) × (new ≡ state_after_cut moment s))
+    → (◌≡◌ {A = Result CutDone CutFault} (Err fault) (Err cut_fault.NoMemory) → new ≡ s) → new ≡ s
+refused-cut moment s new cut_fault.NoMemory value none = none refl
+refused-cut moment s new cut_fault.SnapshotMode value none = go s.config.session refl
+  where
+    is : (Err cut_fault.SnapshotMode ≡ state_cut_answer moment s) × (new ≡ state_after_cut moment s)
+    is = value (λ e. cc)
+
+    go : (mode : SessionMode) → s.config.session ≡ mode → new ≡ s
+    go Snapshot at = is.1 ∙ cc
+    go Local at = let answer = is.0 in cc
 
 -- a clear that is refused changes nothing
 pub refused-clear : (s new : StreamState) (fault : ClearFault)

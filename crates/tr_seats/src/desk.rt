@@ -93,6 +93,8 @@ impl<N: Names, A: Allocator> Desk<N, A> {
     pub fn shows_plan(&self)
         ensures { IsPlan N.plan × IsOfPlan N.plan.session.book self.now.book }
     {
+        // an invariant is known where a field is used
+        let _ = &self.book;
     }
 
     /// What the session keeps beside its streams: what was planned of it is as it was.

@@ -416,6 +416,8 @@ impl<A: Allocator> Stream<A> {
         ensures kept { IsKept self.now }
         ensures consistent { IsConsistent self.now }
     {
+        // an invariant is known where a field is used
+        let _ = &self.config;
     }
 
     /// What the stream was made with.

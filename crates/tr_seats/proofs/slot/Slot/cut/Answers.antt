@@ -1,13 +1,23 @@
-use Rattle.std.proofs.Common.{rules, ◌≡◌, ◌∙◌, ◌+◌, Ok, ap, arith, subst, sym}
+use Rattle.std.proofs.Common.{rules, ◌≡◌, ◌∙◌, ◌+◌, ◌<◌, Ok, ap, arith, length, subst, sym}
 use Rattle.std.proofs.lemmas.Grind.{common_steps}
 use Rattle.tr_ledger.specs.Ledgers.{LedgerState}
-use Rattle.tr_seats.proofs.CountLaws.{cut-totals, few-counted}
+use Rattle.tr_seats.proofs.CountLaws.{cut-totals, few-counted, refused-cut}
 use Rattle.tr_seats.proofs.SlotLaws.{books-cut}
 use Rattle.tr_seats.proofs.slot.Slot.cut.Goals as goal
-use Rattle.tr_seats.specs.Books.{IsPlanned, books_at}
+use Rattle.tr_seats.specs.Books.{AreBooksOf, IsPlanned, books_at}
 use Rattle.tr_seats.specs.Sums.{totals_in}
 use Rattle.tr_seats.specs.declared.totals.Totals.{Totals}
+use Rattle.tr_stream.specs.State.{StreamState}
 use Rattle.tr_stream.specs.StateSteps.{state_after_cut, state_cut_answer}
+
+pub invariant_of-self : goal.invariant_of-self
+invariant_of-self g c =
+    let old = c.self.inside in
+    let same : c.cut.new.self ≡ old.stream =
+    refused-cut c.args.moment old.stream c.cut.new.self c.in_err-done.field-0.0 c.in_err-done.ensures.value c.in_err-done.ensures.no_memory in
+    subst (λ (t : StreamState). (old.number < length g.N.Names.plan.books)
+    × AreBooksOf (books_at g.N.Names.plan.books old.number) t old.consumed.made old.offered old.discarded old.overwritten
+    old.overwritten_packets old.consumed old.cuts old.cleared × IsPlanned g.N.Names.plan old.number t.config) (sym same) c.self.invariant
 
 pub raise-requires-clause-room : goal.raise-requires-clause-room
 raise-requires-clause-room g c =
