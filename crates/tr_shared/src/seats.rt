@@ -67,7 +67,13 @@ impl<N: Names, A: Allocator + Copy> Offers<N, A> for Producer<N> {
         id: u32,
         payload: &[u8],
     ) -> Result<Offered, OfferFault> {
-        shared.offer(rt, self, moment, id, payload)
+        let lock = &shared.slots[self.stream()];
+        // this is put into the caller, where `lock` stays a call
+        let mut slot = match lock.try_lock() {
+            Some(slot) => slot,
+            None => lock.lock(rt),
+        };
+        slot.offer(self, moment, id, payload)
     }
 }
 
@@ -82,6 +88,8 @@ impl<N: Names, A: Allocator + Copy> Takes<N, A> for Drainer<N, A> {
         shared: &Shared<N, A>,
         i: usize,
     ) -> Result<Taken, TakeFault> {
-        shared.take(rt, self, i)
+        let mut slot = shared.slots[i].lock(rt);
+        slot.shows_planned();
+        slot.take(self, i)
     }
 }

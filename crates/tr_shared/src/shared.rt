@@ -2,12 +2,9 @@
 
 ghost use Rattle.std.specs.Prelude.{◌≡◌, ◌+◌, ◌<◌, ◌≤◌, ◌↔◌, IfErr, IfOk, length, replicate, sum_by, vec_capacity, vec_len};
 ghost use Rattle.tr_seats.specs.Settling.{AddUp, AreTheirs, IsOneEach, IsSessionOf, WereConsumed};
-ghost use Rattle.tr_seats.specs.Slots.{AreNew, drainer_after, producer_after, serial_of};
-ghost use Rattle.tr_seats.specs.Books.{IsPlanned, IsTooBig};
+ghost use Rattle.tr_seats.specs.Slots.{AreNew};
 ghost use Rattle.tr_seats.specs.Sums.{totals_of};
-ghost use Rattle.tr_terms.specs.declared.limits.TheConstants.{MOST_OFFERS};
-ghost use Rattle.tr_shared.specs.Calls.{AreOffersOf, HaveTaken, IsDrainerFault, IsStartFault, IsStopFault, IsTakeOf};
-ghost use Rattle.tr_stream.specs.declared.config.StreamConfig.{StreamConfig};
+ghost use Rattle.tr_shared.specs.Calls.{AreOffersOf, HaveTaken, IsDrainerFault, IsStartFault, IsStopFault};
 
 use crate::settle_fault::SettleFault;
 use std::alloc::{Allocator, Global};
@@ -16,7 +13,7 @@ use tr_seats::{
     Desk, Drainer, Names, Opened, Plan, Producer, SettleError, Settled, Slot, Totals, Unsettled,
 };
 use tr_session_book::SessionFault;
-use tr_stream::{OfferFault, Offered, Stream, TakeFault, Taken};
+use tr_stream::Stream;
 use tr_terms::{Moment, SessionMode};
 
 /// A session that threads share by reference: its desk, and each of its streams, under locks.
@@ -73,55 +70,6 @@ impl<N: Names, A: Allocator + Copy> Shared<N, A> {
             begun = begun.with(&mut self.slots[i].lock(rt))?;
         }
         Ok(begun.finish())
-    }
-
-    /// Offers a record to the producer's stream, as `Slot::offer` does, under that stream's lock alone.
-    ///
-    /// # Errors
-    ///
-    /// Those of `Slot::offer`: nothing changed.
-    pub(crate) fn offer(
-        &self,
-        rt: &impl Wait,
-        producer: &mut Producer<N>,
-        moment: Moment,
-        id: u32,
-        payload: &[u8],
-    ) -> Result<Offered, OfferFault>
-        ensures seats { producer.new ≡ producer_after result producer.old }
-        ensures serial { IfOk result (λ offered. serial_of offered ≡ producer.old.offered) }
-        ensures too_big { result ≡ Err OfferFault.TooBig
-            → IsTooBig N.plan producer.old.number (length payload.now) }
-        ensures spent { result ≡ Err OfferFault.Spent → MOST_OFFERS ≤ producer.old.offered }
-    {
-        let lock = &self.slots[producer.stream()];
-        // this is put into the caller, where `lock` stays a call
-        let mut slot = match lock.try_lock() {
-            Some(slot) => slot,
-            None => lock.lock(rt),
-        };
-        slot.offer(producer, moment, id, payload)
-    }
-
-    /// Takes a packet from the stream of number `i`, as `Slot::take` does, under that stream's lock alone.
-    ///
-    /// # Errors
-    ///
-    /// Those of `Slot::take`: nothing changed.
-    pub(crate) fn take(
-        &self,
-        rt: &impl Wait,
-        drainer: &mut Drainer<N, A>,
-        i: usize,
-    ) -> Result<Taken, TakeFault>
-        requires { i < length N.plan.books }
-        ensures seats { drainer.new ≡ drainer_after result i drainer.old }
-        ensures some { IfOk result (λ taken. 1 ≤ taken.count) }
-        ensures mode { (config : StreamConfig) → IsPlanned N.plan i config → IsTakeOf config.session result }
-    {
-        let mut slot = self.slots[i].lock(rt);
-        slot.shows_planned();
-        slot.take(drainer, i)
     }
 }
 
