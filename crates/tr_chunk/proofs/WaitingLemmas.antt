@@ -30,7 +30,7 @@ pub nothing_waits : Waits []
 unfolding front_fault fields_fault
 nothing_waits = refl
 
--- the fault of the fields of 80 bytes and more
+-- the fault of the fields, if a header and context are there
 abbrev later_faults : List ℕ → Option PacketFault
 later_faults bytes =
     cond (not (starts_with eqb bytes magic)) (Some BadMagic)
@@ -74,7 +74,7 @@ records_not_short : (begin end : ℕ) (o : Option (List Entry)) → records_faul
 records_not_short begin end None e = cc
 records_not_short begin end (Some es) e = order_not_short _ _ e
 
--- bytes that wait are fewer than 80, or their fields are right and they are fewer than these say
+-- bytes that wait are fewer than a header and context, or their fields are right and they are fewer than these say
 pub record Lacks (bytes : List ℕ) : Type 0 where
   pub fields : fields_fault bytes ≡ None
   pub some : length bytes < packet_bits_in bytes / 8

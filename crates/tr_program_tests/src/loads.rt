@@ -10,7 +10,7 @@ use std::thread::Threads;
 use std::time::Clock;
 use tr_load::{LoadFault, Loaded, load, load_work, outcome_text};
 use tr_pool::{Items, Log, Mismatch, PoolError, Report, reconcile};
-use tr_terms::limits::{MOST_RECORDS, MOST_WORKERS};
+use tr_terms::limits::{MOST_FEEDERS, MOST_RECORDS, MOST_WORKERS};
 
 /// A load of this many threads with this many records each, and this many workers.
 fn loaded<R: Threads + Wait + Clock + Abort + Sync>(
@@ -20,7 +20,7 @@ fn loaded<R: Threads + Wait + Clock + Abort + Sync>(
     records: u64,
     workers: usize,
 ) -> Loaded {
-    assert!(rt; threads <= 256 && records <= MOST_RECORDS);
+    assert!(rt; threads <= MOST_FEEDERS && records <= MOST_RECORDS);
     assert!(rt; 1 <= workers && workers <= MOST_WORKERS);
     load(rt, alloc, threads, records, workers).expect(rt, "a load")
 }

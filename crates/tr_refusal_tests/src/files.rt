@@ -168,7 +168,7 @@ fn metadata<A: Allocator>(alloc: A, plain: Global) -> Told {
 const MANY: u64 = 1 << 32;
 
 /// Feeds bytes, of which there are few.
-fn feed<A: Allocator>(
+pub(crate) fn feed<A: Allocator>(
     rt: &impl Abort,
     reader: &mut AuditReader<A>,
     bytes: &[u8],
@@ -200,7 +200,11 @@ fn feed_piece<A: Allocator>(
 }
 
 /// Asserts that every call answers this fault, with memory too, and that nothing more is counted.
-fn assert_stays<A: Allocator>(rt: &impl Abort, reader: AuditReader<A>, fault: AuditFault) {
+pub(crate) fn assert_stays<A: Allocator>(
+    rt: &impl Abort,
+    reader: AuditReader<A>,
+    fault: AuditFault,
+) {
     let mut reader = reader;
     let counts = (reader.bytes(), reader.pieces());
     for _ in 0..2 {

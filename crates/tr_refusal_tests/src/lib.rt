@@ -14,6 +14,8 @@ mod archives;
 #[cfg(test)]
 mod files;
 #[cfg(test)]
+mod readers;
+#[cfg(test)]
 mod rings;
 #[cfg(test)]
 mod scarce;

@@ -309,7 +309,7 @@ fn a_desk_starts_and_stops_its_session(rt: HostRuntime) {
 /// Modes of sessions, sizes of sub-buffers, numbers of threads, and why such a session is refused.
 static REFUSED: [(SessionMode, u64, u64, SessionFault); 3] = [
     (SessionMode::Local, 255, 1, SessionFault::BadGeometry),
-    (SessionMode::Local, 256, 257, SessionFault::TooMany),
+    (SessionMode::Local, 256, 1_025, SessionFault::TooMany),
     (
         SessionMode::Snapshot,
         256,

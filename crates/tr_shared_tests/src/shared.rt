@@ -243,7 +243,7 @@ fn keeps_the_longest<N: Names>(rt: &(impl Abort + Wait), alloc: Global, plan: Pl
 {
     let (shared, mut producers) = built::<N>(rt, plan);
     assert_started(rt, &shared, 4, Ok(()));
-    let mut longest = vec![in alloc; 0x62; 65_431].expect(rt, "memory");
+    let mut longest = vec![in alloc; 0x62; 1_048_471].expect(rt, "memory");
     push(rt, &mut longest, 0x63);
     let mut producer = last(rt, &mut producers);
     let answer = producer.offer(rt, &shared, moment(5), 0, &longest);
@@ -260,6 +260,6 @@ fn keeps_the_longest<N: Names>(rt: &(impl Abort + Wait), alloc: Global, plan: Pl
 #[test]
 fn the_longest_payload_is_kept_whole(rt: HostRuntime) {
     let (local, discard) = (SessionMode::Local, Mode::Discard);
-    let plan = plan_with(&rt, rt.alloc(), local, discard, 65_536, 1).expect(&rt, "a plan");
+    let plan = plan_with(&rt, rt.alloc(), local, discard, 1_048_576, 1).expect(&rt, "a plan");
     keeps_the_longest::<Brand>(&rt, rt.alloc(), plan);
 }

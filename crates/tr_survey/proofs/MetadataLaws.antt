@@ -17,7 +17,7 @@ use Rattle.uuid.specs.Text.{digit_place, hex_digit, hyphenated_text, is_hyphen_p
 use Rattle.tr_packet.specs.Metadata.{clock_text, event_text, lines, metadata_of, packet_header_text, preface_text, stream_text}
 use Rattle.tr_survey.specs.Metadata.{ends_line, named, naming_in, quoted, uuid_in, uuid_in_line, uuid_in_lines}
 use Rattle.tr_survey.specs.declared.naming.Naming.TheVariants.{Named}
-use Rattle.tr_survey.specs.declared.naming.TheConstants.{MOST_METADATA}
+use Rattle.tr_terms.specs.declared.limits.TheConstants.{MOST_METADATA}
 
 -- ---- the identifier
 

@@ -6,7 +6,7 @@ use Rattle.std.proofs.lemmas.Bool.{ltb-true, ltb-false}
 use Rattle.std.proofs.lemmas.List.Splits.{slice_split_first}
 use Rattle.std.proofs.lemmas.List.Sums.{prefix_len-le-length}
 use Rattle.tr_survey.specs.Metadata.{ends_line, named, naming_in, uuid_in, uuid_in_line, uuid_in_lines}
-use Rattle.tr_survey.specs.declared.naming.TheConstants.{MOST_METADATA}
+use Rattle.tr_terms.specs.declared.limits.TheConstants.{MOST_METADATA}
 
 abbrev end_of : List ℕ → ℕ
 end_of = position_or_len ends_line

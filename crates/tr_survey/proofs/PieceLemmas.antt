@@ -1,9 +1,9 @@
 -- What a reader says of a stream's pieces, each a file.
 use Rattle.std.proofs.Common.{◌≡◌, ◌<◌, ℕ, zero, suc, refl, sym, ap, subst, ◌∙◌, arith, List, [], ◌∷◌, ◌++◌, length, map, take, Option, Some, None, Ok, Err, append-nil, append_assoc}
 use Rattle.std.specs.Prelude.{IfNone, slice_get}
-use Rattle.tr_chunk.specs.Audit.{AreAudited, AreOfStream, StopsAt, all_of}
+use Rattle.tr_chunk.specs.Audit.{AreAudited, AreOfStream, all_of}
 use Rattle.tr_chunk.specs.Files.{packets_text}
-use Rattle.tr_chunk.specs.Reading.{HasRead, Reading, answer_at}
+use Rattle.tr_chunk.specs.Reading.{HasRead, ReaderStopsAt, Reading, answer_at}
 use Rattle.tr_chunk.specs.declared.audit_fault.AuditFault.{AuditFault}
 use Rattle.tr_chunk.proofs.AuditLemmas.{all_of-push}
 use Rattle.tr_chunk.proofs.ReadingLemmas.{says_fault, says_none}
@@ -46,8 +46,8 @@ before_empty (p ∷ pieces) (suc k) bytes e some =
     let rest = before_empty pieces k bytes e some in
     (rest.0, ap (λ (l : List (List ℕ)). p ∷ l) rest.1)
 
-pub stops_before : (uuid : List ℕ) (stream : ℕ) (pieces : List (List ℕ)) (f : AuditFault) → StopsAt uuid stream (pieces ++ [] ∷ []) f
-    → StopsAt uuid stream pieces f
+pub stops_before : (uuid : List ℕ) (stream : ℕ) (pieces : List (List ℕ)) (f : AuditFault) → ReaderStopsAt uuid stream (pieces ++ [] ∷ []) f
+    → ReaderStopsAt uuid stream pieces f
 stops_before uuid stream pieces f stops =
     let some : 0 < length stops.bytes = let within = stops.stop.within in omega (arith, within) in
     let same = before_empty pieces f.piece stops.bytes stops.piece some in
@@ -121,7 +121,7 @@ pub ended_whole : {A : Type 0} (uuid : List ℕ) (stream : ℕ) (done : List (Li
 ended_whole uuid stream done bytes r told answer has = (has, answer_none r.fault told answer)
 
 pub ended_at_fault : {A : Type 0} (uuid : List ℕ) (stream : ℕ) (done : List (List ℕ)) (bytes : List ℕ) (r : Reading A) (f : AuditFault) → Err f ≡ answer_at r.fault
-    → HasRead uuid stream (done ++ bytes ∷ []) [] r → StopsAt uuid stream (done ++ bytes ∷ []) f
+    → HasRead uuid stream (done ++ bytes ∷ []) [] r → ReaderStopsAt uuid stream (done ++ bytes ∷ []) f
 ended_at_fault uuid stream done bytes r f answer has =
     stops_before uuid stream (done ++ bytes ∷ []) f (says_fault uuid stream (done ++ bytes ∷ []) [] r f (answer_fault r.fault f answer) has [] [])
 

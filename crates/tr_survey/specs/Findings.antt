@@ -1,8 +1,8 @@
 -- What is found of a stream.
 use Rattle.std.specs.Prelude.{◌≡◌, ◌≢◌, ℕ, Bool, true, false, List, [], ◌∷◌, ◌++◌, length, map, slice_get, Option, Some, None}
-use Rattle.tr_chunk.specs.Audit.{AreAudited, StopsAt, all_of, audit_of}
+use Rattle.tr_chunk.specs.Audit.{AreAudited, all_of, audit_of}
 use Rattle.tr_chunk.specs.Files.{file_name}
-use Rattle.tr_chunk.specs.Reading.{HasRead, Reading}
+use Rattle.tr_chunk.specs.Reading.{HasRead, ReaderStopsAt, Reading}
 use Rattle.tr_chunk.specs.declared.audit_fault.AuditCause.TheVariants.{NoMemory}
 use Rattle.tr_chunk.specs.declared.audit_fault.AuditFault.{AuditFault}
 use Rattle.tr_folders.specs.Tree.{Tree}
@@ -26,7 +26,7 @@ Finds uuid stream files (Whole audit) =
     × AreAudited uuid stream pieces pss × (audit ≡ audit_of (all_of pss))
 Finds uuid stream files (Stopped fault) =
     (pieces : List (List ℕ)) × (rest : List (Option (List ℕ))) × (files ≡ map Some pieces ++ rest)
-    × StopsAt uuid stream pieces fault × (fault.cause ≢ NoMemory)
+    × ReaderStopsAt uuid stream pieces fault × (fault.cause ≢ NoMemory)
 Finds uuid stream files (NoFile place) =
     (pieces : List (List ℕ)) × (pss : List (List Contents)) × (rest : List (Option (List ℕ)))
     × (files ≡ map Some pieces ++ (None ∷ rest)) × AreAudited uuid stream pieces pss × (place ≡ length pieces)
@@ -55,9 +55,9 @@ AreLeft known bytes = (left : List ℕ) → known ≡ Some left → bytes ≡ le
 -- a reader was fed these bytes as a piece that may go on, or they have this fault
 abbrev pub IsFed : {A : Type 0} → List ℕ → ℕ → List (List ℕ) → List ℕ → Reading A → Option AuditFault → Type 0
 IsFed uuid stream done bytes r None = HasRead uuid stream done bytes r
-IsFed uuid stream done bytes r (Some fault) = StopsAt uuid stream (done ++ bytes ∷ []) fault
+IsFed uuid stream done bytes r (Some fault) = ReaderStopsAt uuid stream (done ++ bytes ∷ []) fault
 
 -- a reader was fed these bytes as a piece that ended, or they have this fault
 abbrev pub HasFed : {A : Type 0} → List ℕ → ℕ → List (List ℕ) → List ℕ → Reading A → Option AuditFault → Type 0
 HasFed uuid stream done bytes r None = HasRead uuid stream (done ++ bytes ∷ []) [] r × (r.fault ≡ None)
-HasFed uuid stream done bytes r (Some fault) = StopsAt uuid stream (done ++ bytes ∷ []) fault
+HasFed uuid stream done bytes r (Some fault) = ReaderStopsAt uuid stream (done ++ bytes ∷ []) fault

@@ -4,7 +4,7 @@ use Rattle.std.specs.List.{slice_split, starts_with, ends_with}
 use Rattle.std.specs.Option.{option_and_then, option_or}
 use Rattle.tr_survey.specs.declared.naming.Naming.{Naming}
 use Rattle.tr_survey.specs.declared.naming.Naming.TheVariants.{NoMetadata, NoUuid, Named}
-use Rattle.tr_survey.specs.declared.naming.TheConstants.{MOST_METADATA}
+use Rattle.tr_terms.specs.declared.limits.TheConstants.{MOST_METADATA}
 use Rattle.uuid.specs.Text.{parsed}
 
 -- a line without the spaces in front of it

@@ -8,7 +8,7 @@
 //!   one. The session's identifier is that of the first archive that names one. If none does, its streams aren't audited.
 //! - A stream is audited over the archives in order, up to the first thing that is wrong with it: a file that an archive lacks, or
 //!   a packet at fault. That is its one line, and counts one.
-//! - Of metadata the first 65,536 bytes are looked at. The identifier may be written in any form that a UUID has.
+//! - Of metadata the first `MOST_METADATA` bytes are looked at. The identifier may be written in any form that a UUID has.
 //! - A folder `archives` without an archive is a session with `uuid none archives 0`, and no fault.
 //! - If two archives end in the same number, the one whose name is first by bytes is first. If two channels have a stream
 //!   of the same number, each is a stream.

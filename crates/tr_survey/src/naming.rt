@@ -5,13 +5,11 @@ ghost use Rattle.std.specs.List.{position};
 ghost use Rattle.std.specs.Option.{option_map};
 ghost use Rattle.tr_folders.specs.Failures.{after_reading};
 ghost use Rattle.tr_folders.specs.Tree.{Tree};
+ghost use Rattle.tr_terms.specs.declared.limits.TheConstants.{MOST_METADATA};
 ghost use Rattle.tr_survey.specs.Metadata.{ends_line, first_named, naming_in, quoted, uuid_in, uuid_in_line, without_indent};
 
 use tr_folders::{Folders, ReadFault, read_front};
 use uuid::Uuid;
-
-/// The most bytes of metadata that are looked at, and of any file that are read at a time.
-pub(crate) const MOST_METADATA: usize = 65_536;
 
 /// What an archive's metadata say of the trace.
 #[derive(Clone, Copy, Debug, PartialEq, Eq)]

@@ -12,13 +12,13 @@ ghost use Rattle.tr_survey.specs.Fronts.{BeginsNamed, BeginsSession, IsFrontOut,
 ghost use Rattle.tr_survey.specs.Lines.{archive_text, wrong_name, wrong_with};
 ghost use Rattle.tr_survey.specs.Listing.{key_of};
 ghost use Rattle.tr_survey.specs.Sessions.{TellsNamed, TellsSession, TellsStreams, archives_at_fault, archives_text, head_text, namings_of};
-ghost use Rattle.tr_survey.specs.declared.naming.TheConstants.{MOST_METADATA};
+ghost use Rattle.tr_terms.specs.declared.limits.TheConstants.{MOST_METADATA};
 
 use crate::faults::SurveyFault;
 use crate::lines::{archive_line, session_line};
 use crate::listing::{archives_among, streams_among};
 use crate::names::Numbered;
-use crate::naming::{MOST_METADATA, Naming, first_named, naming_at};
+use crate::naming::{Naming, first_named, naming_at};
 use crate::paths::file_path;
 use crate::streams::find_stream;
 use crate::writing::{put_finding, put_line};

@@ -9,18 +9,18 @@ ghost use Rattle.tr_survey.specs.Fronts.{HasFrontAmong, HasToldFront, IsFrontOut
 ghost use Rattle.tr_survey.specs.Lines.{end_text};
 ghost use Rattle.tr_survey.specs.Listing.{session_names};
 ghost use Rattle.tr_survey.specs.Sessions.{TellsAmong, TellsFolder, and_more};
-ghost use Rattle.tr_survey.specs.declared.naming.TheConstants.{MOST_METADATA};
+ghost use Rattle.tr_terms.specs.declared.limits.TheConstants.{MOST_METADATA};
 
 use crate::faults::SurveyFault;
 use crate::lines::last_line;
 use crate::listing::session_names;
-use crate::naming::MOST_METADATA;
 use crate::paths::archives_path;
 use crate::sessions::survey_session;
 use crate::writing::put_line;
 use std::alloc::Global;
 use tr_folders::Folders;
 use tr_record::ByteSink;
+use tr_terms::limits::MOST_METADATA;
 
 /// Surveys what has this name, if it is a session. How many faults there are then.
 fn survey_name<F: Folders, K: ByteSink>(

@@ -3,9 +3,7 @@
 ghost use Rattle.std.specs.Prelude.{◌≡◌};
 ghost use Rattle.tr_terms.specs.Geometry.{is_power_within};
 
-use crate::limits::{
-    FEWEST_SUB_BUFFERS, LARGEST_PACKET, MOST_SUB_BUFFERS, SMALLEST_SUB_BUFFER,
-};
+use crate::limits::{FEWEST_SUB_BUFFERS, LARGEST_PACKET, MOST_SUB_BUFFERS, SMALLEST_SUB_BUFFER};
 use std::marker::Model;
 use thiserror::Error;
 

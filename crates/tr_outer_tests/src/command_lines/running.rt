@@ -112,14 +112,14 @@ static OFFERS: [Asks<'static>; 14] = [
 
 /// An offer with the largest numbers.
 static LARGEST: [Asks<'static>; 1] = [(
-    "offer s 18446744073709551615 1 4294967295 --text hello --fill 65536",
+    "offer s 18446744073709551615 1 4294967295 --text hello --fill 1048576",
     Request::Offer {
         session: "s",
         stream: MOST,
         moment: 1,
         id: 4_294_967_295,
         text: "hello",
-        fill: 65_536,
+        fill: 1_048_576,
     },
 )];
 

@@ -2,7 +2,7 @@ use Rattle.std.proofs.Common.{◌≡◌, Some, length, map, take}
 use Rattle.tr_survey.specs.Listing.{key_of}
 use Rattle.tr_survey.specs.Sessions.{namings_of}
 use Rattle.tr_folders.specs.Tree.{Tree}
-use Rattle.tr_survey.specs.declared.naming.TheConstants.{MOST_METADATA}
+use Rattle.tr_terms.specs.declared.limits.TheConstants.{MOST_METADATA}
 use Rattle.tr_survey.proofs.sessions.namings_of.Given as goal
 
 abbrev pub invariant-loop-archive : goal.invariant-loop-archive

@@ -1,7 +1,7 @@
 use Rattle.std.proofs.Common.{◌≡◌, Some, length, take}
 use Rattle.tr_survey.specs.Sessions.{TellsAmong}
 use Rattle.tr_folders.specs.Tree.{Tree, by_text}
-use Rattle.tr_survey.specs.declared.naming.TheConstants.{MOST_METADATA}
+use Rattle.tr_terms.specs.declared.limits.TheConstants.{MOST_METADATA}
 use Rattle.tr_survey.proofs.surveying.survey_names.Given as goal
 
 abbrev pub invariant-loop-name : goal.invariant-loop-name
