@@ -1,6 +1,6 @@
 -- The answers to lines: one more line, or some more lines.
 use Rattle.std.proofs.Common.{◌≡◌, ◌∙◌, ◌≤◌, ◌+◌, ℕ, Bool, cond, true, false, refl, sym, ap, arith, List, [], ◌∷◌, ◌++◌, append_assoc, append-nil}
-use Rattle.tr_calls.specs.World.{World}
+use Rattle.tr_console.specs.World.{World}
 use Rattle.tr_console.specs.Script.{answers, line_step, refused_in, text_step, world_after}
 use Rattle.tr_console.specs.Steps.{Step, skipped_step}
 use Rattle.tr_lines.specs.Lines.{text_of_line, with_last}

@@ -2,7 +2,7 @@
 use Rattle.std.proofs.Common.{◌≡◌, ◌∙◌, ◌≤◌, ◌<◌, ◌+◌, ◌⊎◌, ◌-◌, ℕ, inl, inr, refl, sym, ap, ap₂, subst, arith, List, [], ◌∷◌, ◌++◌, Option, length, take, append_assoc, append-nil, length-append}
 use Rattle.std.proofs.Math.Seq.{take-append_seam, take-append-add}
 use Rattle.std.proofs.lemmas.List.{take-append-le}
-use Rattle.tr_calls.specs.World.{World}
+use Rattle.tr_console.specs.World.{World}
 use Rattle.tr_console.proofs.LineSteps.{answers-append, answers-last, answers-push, line_step-text, one_if, one_if-le, refused_in-append, refused_in-last, refused_in-push, world_after-append, world_after-last, world_after-push}
 use Rattle.tr_console.proofs.ScriptAgreement.{agree-after, line-agree}
 use Rattle.tr_console.proofs.WorldAgreement.{StepsAgree}
@@ -15,7 +15,7 @@ use Rattle.tr_lines.specs.Lines.{HasNoFeed, lines_of, text_of_line, whole_lines_
 use Rattle.tr_lines.specs.Reading.{GoesTooFar, Reading, ReadsAll, ReadsLine, ReadsOn, budget}
 use Rattle.tr_lines.specs.declared.reader.Found.{Found}
 use Rattle.tr_lines.specs.declared.reader.Found.TheVariants.{Last, Whole}
-use Rattle.tr_outcome.specs.Text.{Text}
+use Rattle.tr_console.specs.Text.{Text}
 use Rattle.tr_record.proofs.ByteLemmas.{and_then_bytes-append, and_then_bytes-none}
 use Rattle.tr_record.specs.Bytes.{and_then_bytes}
 use Rattle.tr_stream.specs.Rules.{by_history, by_state}

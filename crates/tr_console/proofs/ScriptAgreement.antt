@@ -1,17 +1,18 @@
 -- A script, by what streams hold and by their histories: both give the same answer.
 use Rattle.std.proofs.Common.{◌≡◌, ℕ, Bool, true, false, cond, List, [], ◌∷◌, Option, Some, None, codes, refl}
 use Rattle.std.specs.Option.{option_map_or}
-use Rattle.tr_calls.specs.World.{World}
+use Rattle.tr_console.specs.World.{World}
 use Rattle.tr_command.specs.Asked.{Asked}
 use Rattle.tr_command.specs.Language.{asked_of}
-use Rattle.tr_console.proofs.WorldAgreement.{StepsAgree, answers-agree}
+use Rattle.tr_console.proofs.AnswerAgreement.{answers-agree}
+use Rattle.tr_console.proofs.WorldAgreement.{StepsAgree}
 use Rattle.tr_console.specs.Agreement.{WorldsAgree}
 use Rattle.tr_console.specs.Answers.{request_step}
 use Rattle.tr_console.specs.Script.{words_step, text_step, line_step, answers, world_after}
 use Rattle.tr_console.specs.Steps.{bad_line_step, skipped_step}
 use Rattle.tr_lines.specs.Lines.{text_of_line}
 use Rattle.tr_lines.specs.Words.{words_of, is_skipped}
-use Rattle.tr_outcome.specs.Text.{Text}
+use Rattle.tr_console.specs.Text.{Text}
 use Rattle.tr_stream.specs.Rules.{Traced, by_state, by_history}
 use Rattle.tr_stream.specs.State.{StreamState}
 

@@ -1,6 +1,6 @@
 -- The sessions of a console by what their streams hold, and by those streams' histories.
 use Rattle.std.specs.Prelude.{◌≡◌, [], ◌∷◌}
-use Rattle.tr_calls.specs.World.{World}
+use Rattle.tr_console.specs.World.{World}
 use Rattle.tr_session.specs.Agreement.{SessionsAgree}
 use Rattle.tr_stream.specs.Rules.{Traced}
 use Rattle.tr_stream.specs.State.{StreamState}

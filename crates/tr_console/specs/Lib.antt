@@ -1,7 +1,12 @@
 pub mod Agreement
 pub mod Answers
+pub mod Lends
+pub mod LineFaults
 pub mod Replies
 pub mod Runs
 pub mod Script
 pub mod ScriptFaults
 pub mod Steps
+pub mod Text
+pub mod World
+pub mod commands

@@ -1,12 +1,12 @@
 -- How a run of a script ends: what its source gave, and what went out.
 use Rattle.std.specs.Borrow.{Bor}
 use Rattle.std.specs.Prelude.{◌≡◌, ◌≤◌, ◌⊎◌, ◌+◌, ◌-◌, ℕ, List, [], ◌∷◌, ◌++◌, Option, length, option_map, take}
-use Rattle.tr_calls.specs.World.{World}
+use Rattle.tr_console.specs.World.{World}
 use Rattle.tr_console.specs.Agreement.{WorldsAgree}
 use Rattle.tr_console.specs.Script.{answers, refused_in, script_text, text_step, world_after}
 use Rattle.tr_console.specs.Steps.{Step}
 use Rattle.tr_lines.specs.Lines.{lines_of, whole_lines_of}
-use Rattle.tr_outcome.specs.Text.{Text}
+use Rattle.tr_console.specs.Text.{Text}
 use Rattle.tr_record.specs.Bytes.{and_then_bytes}
 use Rattle.tr_stream.specs.Rules.{Traced, by_history, by_state}
 use Rattle.tr_stream.specs.State.{StreamState}

@@ -1,14 +1,14 @@
 -- The answer to a whole script.
 use Rattle.std.specs.Option.{option_map_or}
 use Rattle.std.specs.Prelude.{ℕ, ◌+◌, List, [], ◌∷◌, ◌++◌, Option, codes, if◌then◌else◌}
-use Rattle.tr_calls.specs.World.{World}
+use Rattle.tr_console.specs.World.{World}
 use Rattle.tr_command.specs.Asked.{Asked}
 use Rattle.tr_command.specs.Language.{asked_of}
 use Rattle.tr_console.specs.Answers.{request_step}
 use Rattle.tr_console.specs.Steps.{Step, bad_line_step, skipped_step}
 use Rattle.tr_lines.specs.Lines.{lines_of, text_of_line}
 use Rattle.tr_lines.specs.Words.{words_of, is_skipped}
-use Rattle.tr_outcome.specs.Text.{Text}
+use Rattle.tr_console.specs.Text.{Text}
 use Rattle.tr_stream.specs.Rules.{StreamRules, by_history}
 
 -- the answer to what the words of a line ask for; none is a bad line

@@ -1,46 +1,41 @@
 //! The sessions of a script, and the answer to each line.
 
-ghost use Rattle.std.specs.Prelude.{◌≡◌, ◌≤◌, [], IfOk, map, option_map, length, slice_get};
+ghost use Rattle.std.specs.Borrow.{sem};
+ghost use Rattle.std.specs.Option.{option_copied_mut};
+ghost use Rattle.std.specs.Prelude.{◌≡◌, ◌≤◌, ◌∷◌, ◌++◌, [], None, IfOk, OnOk, OnErr, map, option_copied, option_map, length, slice_get};
 ghost use Rattle.tr_command.specs.Asked.{asked_by, moment_in, offset_in};
-ghost use Rattle.tr_terms.specs.Offsets.{IsOffset};
 ghost use Rattle.tr_command.specs.Language.{asked_of};
-ghost use Rattle.tr_console.specs.Answers.{RotatesOrAsks, request_step, create_step, channel_step, thread_step, start_step, stop_step, offer_step, consume_step, clear_step, rotate_begin_step, rotate_next_step, rotate_finish_step, rotate_step, snapshot_step, schedule_step, tick_step, fate_step, status_step, archives_step, payload_of};
+ghost use Rattle.tr_console.specs.Answers.{request_step};
+ghost use Rattle.tr_console.specs.Lends.{lends_session};
 ghost use Rattle.tr_console.specs.Replies.{Does};
 ghost use Rattle.tr_console.specs.Script.{asked_step, text_step};
-ghost use Rattle.tr_terms.specs.declared.limits.TheConstants.{LAST_MOMENT};
+ghost use Rattle.tr_console.specs.World.{session_named};
 ghost use Rattle.tr_stream.specs.Rules.{by_state};
+ghost use Rattle.tr_terms.specs.Offsets.{IsOffset};
+ghost use Rattle.tr_terms.specs.declared.limits.TheConstants.{LAST_MOMENT};
 
+use crate::commands::channel::shape_of;
+use crate::commands::create::mode_of;
+use crate::commands::offer::OfferTo;
+use crate::replies::{Reply, bad_line, skipped};
 use indexmap::IndexMap;
 use std::alloc::{AllocError, Allocator, Global};
+use std::hash::{BuildHasherDefault, FoldHasher};
 use std::marker::Model;
-use tr_calls::{
-    ChannelShape, OfferTo, Sessions, add_channel_named, add_thread_named, clear_named, fate_named,
-    mode_of, offer_named, rotate_begin_named, rotate_finish_named, rotate_named, rotate_next_named,
-    schedule_named, shape_of, snapshot_named, start_named, stop_named, take_named, tick_named,
-};
 use tr_command::{Request, parse};
 use tr_lines::{is_skipped_line, push_words};
-use tr_outcome::LineFault;
-use tr_replies::{
-    Reply, archived_reply, archives_of, bad_line, cleared_reply, done_reply, fate_reply,
-    next_reply, offered_reply, refusal, rotating_reply, schedule_reply, skipped, snapshot_reply,
-    status_of, taken_reply, tick_reply,
-};
 use tr_session::Session;
-use tr_session_book::SessionFault;
-use tr_terms::limits::MOST_SESSIONS;
-use tr_terms::{Moment, Name, OffsetMinutes, SessionMode};
-use uuid::Uuid;
+use tr_terms::{Moment, Name};
 
 /// The sessions of a script by name, in order of creation. Contracts see a `World`.
 #[derive(Drop)]
 pub struct Console<A: Allocator = Global> {
     alloc: A,
-    sessions: Sessions<A>,
+    sessions: IndexMap<String<A>, Session<A>, BuildHasherDefault<FoldHasher>, A>,
 }
 
 impl<A: Allocator> Model for Console<A> {
-    ghost use Rattle.tr_calls.specs.World.{World};
+    ghost use Rattle.tr_console.specs.World.{World};
     ghost use Rattle.tr_session_book.specs.Names.{by_name};
     ghost use Rattle.tr_stream.specs.State.{StreamState};
 
@@ -51,18 +46,6 @@ impl<A: Allocator> Model for Console<A> {
     ghost use Rattle.tr_session_book.specs.Names.{AreNamed};
 
     ghost invariant = { λ c. AreNamed (by_name c.sessions.entries) };
-}
-
-/// The payload of an offer: a text, and `fill` bytes `a` after it.
-fn payload<A: Allocator + Copy>(alloc: A, text: &str, fill: u32) -> Result<Vec<u8, A>, AllocError>
-    ensures { IfOk result (λ v. v.items ≡ payload_of text.now fill) }
-{
-    let mut bytes = Vec::from_slice(alloc, text.as_bytes())?;
-    'fill: for filled in 0..fill {
-        let _ = filled;
-        bytes.push(b'a')?;
-    }
-    Ok(bytes)
 }
 
 impl<A: Allocator + Copy> Console<A> {
@@ -134,7 +117,7 @@ impl<A: Allocator + Copy> Console<A> {
                 mode,
             } => self.add_channel(session, channel, shape_of(size, count, mode)),
             Request::Thread { session, channel } => self.add_thread(session, channel),
-            Request::Start { session, moment } => self.start(session, moment),
+            Request::Start { session, moment } => self.start(session, Moment::within_limit(moment)),
             Request::Stop { session } => self.stop(session),
             Request::Offer {
                 session,
@@ -143,31 +126,29 @@ impl<A: Allocator + Copy> Console<A> {
                 id,
                 text,
                 fill,
-            } => self.offer(session, stream, moment, id, text, fill),
+            } => {
+                let moment = Moment::within_limit(moment);
+                self.offer(session, OfferTo { stream, moment, id }, text, fill)
+            }
             Request::Consume { session, stream } => self.consume(session, stream),
             Request::Clear { session } => self.clear(session),
-            _ => self.rotate_or_ask(request),
-        }
-    }
-
-    /// Answers a command of rotations, snapshots or schedules, or a question.
-    fn rotate_or_ask(&mut self, request: Request<'_>) -> Result<Reply<A>, AllocError>
-        requires kind { RotatesOrAsks (asked_by request) }
-        requires moment { moment_in (asked_by request) ≤ LAST_MOMENT }
-        ensures { IfOk result (Does (request_step by_state self.old (asked_by request.entry)) self.new) }
-    {
-        match request {
-            Request::RotateBegin { session, moment } => self.rotate_begin(session, moment),
+            Request::RotateBegin { session, moment } => {
+                self.rotate_begin(session, Moment::within_limit(moment))
+            }
             Request::RotateNext { session } => self.rotate_next(session),
             Request::RotateFinish { session } => self.rotate_finish(session),
-            Request::Rotate { session, moment } => self.rotate(session, moment),
-            Request::Snapshot { session, moment } => self.snapshot(session, moment),
+            Request::Rotate { session, moment } => {
+                self.rotate(session, Moment::within_limit(moment))
+            }
+            Request::Snapshot { session, moment } => {
+                self.snapshot(session, Moment::within_limit(moment))
+            }
             Request::Schedule {
                 session,
                 every,
                 size,
             } => self.schedule(session, every, size),
-            Request::Tick { session, moment } => self.tick(session, moment),
+            Request::Tick { session, moment } => self.tick(session, Moment::within_limit(moment)),
             Request::Fate {
                 session,
                 stream,
@@ -175,238 +156,27 @@ impl<A: Allocator + Copy> Console<A> {
             } => self.fate(session, stream, serial),
             Request::Status { session } => self.status(session),
             Request::Archives { session } => self.archives(session),
-            _ => unreachable!(),
         }
     }
 
-    /// `create`
-    fn create(
-        &mut self,
-        session: &str,
-        uuid: &str,
-        offset: i32,
-        mode: SessionMode,
-    ) -> Result<Reply<A>, AllocError>
-        requires { IsOffset offset }
-        ensures { IfOk result (Does (create_step self.old session.now uuid.now offset mode) self.new) }
-    {
-        let Some(offset) = OffsetMinutes::new(offset) else {
-            unreachable!()
-        };
-        let Some(_) = Name::new(session) else {
-            return refusal(self.alloc, LineFault::BadName);
-        };
-        let Ok(uuid) = Uuid::parse_str(uuid) else {
-            return refusal(self.alloc, LineFault::BadUuid);
-        };
-        if self.sessions.contains_key(session) {
-            return refusal(self.alloc, LineFault::Session(SessionFault::NameTaken));
-        }
-        if self.sessions.len() >= MOST_SESSIONS {
-            return refusal(self.alloc, LineFault::Session(SessionFault::TooMany));
-        }
-        let text = format!(in self.alloc; "created {session}\n")?;
-        let name = String::from_str(self.alloc, session)?;
-        let made = Session::new(self.alloc, uuid, offset, mode);
-        self.sessions.insert(name, made)?;
-        Ok(Reply::done(text))
+    /// Where answers and sessions take their memory from.
+    pub(crate) fn alloc(&self) -> A {
+        self.alloc
     }
 
-    /// `channel`
-    fn add_channel(
-        &mut self,
-        session: &str,
-        channel: &str,
-        shape: ChannelShape,
-    ) -> Result<Reply<A>, AllocError>
-        ensures { IfOk result (Does (channel_step self.old session.now channel.now shape.size shape.count
-            shape.mode) self.new) }
+    /// Adds a session of a name of its own after the others.
+    ///
+    /// # Errors
+    ///
+    /// An allocation failed: nothing changed.
+    pub(crate) fn add(&mut self, name: &Name<'_>, session: Session<A>) -> Result<(), AllocError>
+        requires { session_named name.now self.old ≡ None }
+        ensures ok { OnOk result (self.new ≡ self.old ++ (name.now, session) ∷ []) }
+        ensures err { OnErr result (self.new ≡ self.old) }
     {
-        if let Err(fault) = add_channel_named(&mut self.sessions, session, channel, shape) {
-            return refusal(self.alloc, fault);
-        }
-        let text = format!(in self.alloc; "channel {channel}\n")?;
-        Ok(Reply::done(text))
-    }
-
-    /// `thread`
-    fn add_thread(&mut self, session: &str, channel: &str) -> Result<Reply<A>, AllocError>
-        ensures { IfOk result (Does (thread_step by_state self.old session.now channel.now) self.new) }
-    {
-        match add_thread_named(&mut self.sessions, session, channel) {
-            Ok(stream) => {
-                let text = format!(in self.alloc; "stream {stream}\n")?;
-                Ok(Reply::done(text))
-            }
-            Err(fault) => refusal(self.alloc, fault),
-        }
-    }
-
-    /// `start`
-    fn start(&mut self, session: &str, moment: u64) -> Result<Reply<A>, AllocError>
-        requires { moment ≤ LAST_MOMENT }
-        ensures { IfOk result (Does (start_step by_state self.old session.now moment) self.new) }
-    {
-        let Some(moment) = Moment::new(moment) else {
-            unreachable!()
-        };
-        let answer = start_named(&mut self.sessions, session, moment);
-        done_reply(self.alloc, "started", answer)
-    }
-
-    /// `stop`
-    fn stop(&mut self, session: &str) -> Result<Reply<A>, AllocError>
-        ensures { IfOk result (Does (stop_step by_state self.old session.now) self.new) }
-    {
-        let answer = stop_named(&mut self.sessions, session);
-        done_reply(self.alloc, "stopped", answer)
-    }
-
-    /// `offer`
-    fn offer(
-        &mut self,
-        session: &str,
-        stream: u64,
-        moment: u64,
-        id: u32,
-        text: &str,
-        fill: u32,
-    ) -> Result<Reply<A>, AllocError>
-        requires { moment ≤ LAST_MOMENT }
-        ensures { IfOk result (Does (offer_step by_state self.old session.now stream moment id text.now fill)
-            self.new) }
-    {
-        let Some(moment) = Moment::new(moment) else {
-            unreachable!()
-        };
-        let payload = payload(self.alloc, text, fill)?;
-        let offer = OfferTo { stream, moment, id };
-        let answer = offer_named(&mut self.sessions, session, offer, payload.as_slice());
-        offered_reply(self.alloc, answer)
-    }
-
-    /// `consume`
-    fn consume(&mut self, session: &str, stream: u64) -> Result<Reply<A>, AllocError>
-        ensures { IfOk result (Does (consume_step by_state self.old session.now stream) self.new) }
-    {
-        let answer = take_named(&mut self.sessions, session, stream);
-        taken_reply(self.alloc, answer)
-    }
-
-    /// `clear`
-    fn clear(&mut self, session: &str) -> Result<Reply<A>, AllocError>
-        ensures { IfOk result (Does (clear_step by_state self.old session.now) self.new) }
-    {
-        let answer = clear_named(&mut self.sessions, session);
-        cleared_reply(self.alloc, answer)
-    }
-
-    /// `rotate-begin`
-    fn rotate_begin(&mut self, session: &str, moment: u64) -> Result<Reply<A>, AllocError>
-        requires { moment ≤ LAST_MOMENT }
-        ensures { IfOk result (Does (rotate_begin_step self.old session.now moment) self.new) }
-    {
-        let Some(moment) = Moment::new(moment) else {
-            unreachable!()
-        };
-        let answer = rotate_begin_named(&mut self.sessions, session, moment);
-        rotating_reply(self.alloc, answer)
-    }
-
-    /// `rotate-next`
-    fn rotate_next(&mut self, session: &str) -> Result<Reply<A>, AllocError>
-        ensures { IfOk result (Does (rotate_next_step by_state self.old session.now) self.new) }
-    {
-        let answer = rotate_next_named(&mut self.sessions, session);
-        next_reply(self.alloc, answer)
-    }
-
-    /// `rotate-finish`
-    fn rotate_finish(&mut self, session: &str) -> Result<Reply<A>, AllocError>
-        ensures { IfOk result (Does (rotate_finish_step self.old session.now) self.new) }
-    {
-        let answer = rotate_finish_named(&mut self.sessions, session);
-        archived_reply(self.alloc, answer)
-    }
-
-    /// `rotate`
-    fn rotate(&mut self, session: &str, moment: u64) -> Result<Reply<A>, AllocError>
-        requires { moment ≤ LAST_MOMENT }
-        ensures { IfOk result (Does (rotate_step by_state self.old session.now moment) self.new) }
-    {
-        let Some(moment) = Moment::new(moment) else {
-            unreachable!()
-        };
-        let answer = rotate_named(&mut self.sessions, session, moment);
-        archived_reply(self.alloc, answer)
-    }
-
-    /// `snapshot`
-    fn snapshot(&mut self, session: &str, moment: u64) -> Result<Reply<A>, AllocError>
-        requires { moment ≤ LAST_MOMENT }
-        ensures { IfOk result (Does (snapshot_step by_state self.old session.now moment) self.new) }
-    {
-        let Some(moment) = Moment::new(moment) else {
-            unreachable!()
-        };
-        let answer = snapshot_named(&mut self.sessions, session, moment);
-        snapshot_reply(self.alloc, answer)
-    }
-
-    /// `schedule`
-    fn schedule(
-        &mut self,
-        session: &str,
-        every: Option<u64>,
-        size: Option<u64>,
-    ) -> Result<Reply<A>, AllocError>
-        ensures { IfOk result (Does (schedule_step self.old session.now every size) self.new) }
-    {
-        let answer = schedule_named(&mut self.sessions, session, every, size);
-        schedule_reply(self.alloc, answer)
-    }
-
-    /// `tick`
-    fn tick(&mut self, session: &str, moment: u64) -> Result<Reply<A>, AllocError>
-        requires { moment ≤ LAST_MOMENT }
-        ensures { IfOk result (Does (tick_step by_state self.old session.now moment) self.new) }
-    {
-        let Some(moment) = Moment::new(moment) else {
-            unreachable!()
-        };
-        let answer = tick_named(&mut self.sessions, session, moment);
-        tick_reply(self.alloc, answer)
-    }
-
-    /// `fate`
-    fn fate(&self, session: &str, stream: u64, serial: u64) -> Result<Reply<A>, AllocError>
-        ensures { IfOk result (Does (fate_step by_state self.now session.now stream serial) self.now) }
-    {
-        let answer = fate_named(&self.sessions, session, stream, serial);
-        fate_reply(self.alloc, answer)
-    }
-
-    /// `status`
-    fn status(&self, session: &str) -> Result<Reply<A>, AllocError>
-        ensures { IfOk result (Does (status_step by_state self.now session.now) self.now) }
-    {
-        let Some(found) = self.sessions.get(session) else {
-            return refusal(self.alloc, LineFault::NoSession);
-        };
-        let mut text = status_of(self.alloc, session, found)?;
-        text.push_str("\n")?;
-        Ok(Reply::done(text))
-    }
-
-    /// `archives`
-    fn archives(&self, session: &str) -> Result<Reply<A>, AllocError>
-        ensures { IfOk result (Does (archives_step by_state self.now session.now) self.now) }
-    {
-        let Some(found) = self.sessions.get(session) else {
-            return refusal(self.alloc, LineFault::NoSession);
-        };
-        let text = archives_of(self.alloc, found)?;
-        Ok(Reply::done(text))
+        let name = String::from_str(self.alloc, name.as_str())?;
+        self.sessions.insert(name, session)?;
+        Ok(())
     }
 }
 
@@ -429,5 +199,20 @@ impl<A: Allocator> Console<A> {
             unreachable!()
         };
         Some((name, session))
+    }
+
+    /// The session of this name.
+    pub(crate) fn find(&self, name: &str) -> Option<&Session<A>>
+        ensures { option_copied result ≡ session_named name.now self.now }
+    {
+        self.sessions.get(name)
+    }
+
+    /// The session of this name, to be changed: the others stay as they are.
+    pub(crate) fn find_mut(&mut self, name: &str) -> Option<&mut Session<A>>
+        ensures* lends { sem 𝓛 (lends_session A.row A.Allocator self.entry name.now result) }
+        ensures found { option_copied_mut result ≡ session_named name.now self.old }
+    {
+        self.sessions.get_mut(name)
     }
 }

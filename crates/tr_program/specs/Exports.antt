@@ -1,7 +1,7 @@
 -- What a run of the program makes below a folder.
 use Rattle.std.specs.Prelude.{◌≡◌, ℕ, List, Option, Some, None}
 use Rattle.std.specs.List.{flat_map}
-use Rattle.tr_calls.specs.World.{World}
+use Rattle.tr_console.specs.World.{World}
 use Rattle.tr_export.specs.Archives.{archives_made}
 use Rattle.tr_export.specs.Making.{Makings, and_then_made}
 use Rattle.tr_stream.specs.State.{StreamState}

@@ -1,0 +1,9 @@
+use Rattle.std.proofs.Common.{◌∙◌, ap}
+use Rattle.tr_console.proofs.SessionLaws.{named-is}
+use Rattle.tr_console.proofs.console.Console.find.Goals as goal
+use Rattle.tr_console.specs.World.{session_named}
+
+pub returns : goal.returns
+returns g c =
+    let name = c.args.name.now in
+    c.get.ensures.value ∙ named-is name c.self.inside.sessions.entries ∙ ap (session_named name) c.self.view_is

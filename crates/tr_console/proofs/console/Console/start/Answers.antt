@@ -1,0 +1,30 @@
+use Rattle.std.proofs.Common.{Some, inr, sym, ◌≡◌}
+use Rattle.tr_console.proofs.CallLaws.{called_session, left, on_err}
+use Rattle.tr_console.proofs.console.Console.start.Goals as goal
+use Rattle.tr_console.specs.LineFaults.{from_session}
+use Rattle.tr_console.specs.World.{session_named, with_session}
+use Rattle.tr_console.specs.commands.Start.{started_text}
+use Rattle.tr_session.specs.Steps.{session_after_start}
+use Rattle.tr_session_book.specs.BookSteps.{book_start_answer}
+use Rattle.tr_stream.specs.Rules.{by_state}
+
+pub returns-clause-done : goal.returns-clause-done
+returns-clause-done g c =
+    let w = c.args.self.now in
+    let name = c.args.session.now in
+    let s = c.in-Some.found.now in
+    let found : session_named name w ≡ Some s = sym c.in-Some.ensures.found in
+    let t = c.start.new.self in
+    let said = c.done_reply.ensures in
+    called_session w name started_text (session_after_start by_state c.args.moment) s t found c.done_reply.result c.from_session.result said.text said.refused said.memory
+    (λ u. book_start_answer u.book) c.start.result c.from_session.ensures (λ _. (c.start.ensures.answer, c.start.ensures.after))
+
+pub returns-clause-failed : goal.returns-clause-failed
+returns-clause-failed g c =
+    let w = c.args.self.now in
+    let name = c.args.session.now in
+    let s = c.in-Some.found.now in
+    let found : session_named name w ≡ Some s = sym c.in-Some.ensures.found in
+    let t = c.start.new.self in
+    on_err c.done_reply.result (left w name started_text (session_after_start by_state c.args.moment) s t found (with_session name w t ≡ w)
+    (λ u. from_session (book_start_answer u.book)) (inr c.start.ensures.after))

@@ -1,6 +1,0 @@
-use Rattle.std.proofs.Common.{arith}
-use Rattle.std.proofs.lemmas.Grind.{common_steps}
-use Rattle.tr_replies.proofs.schedules.tick_reply.Goals as goal
-
-pub returns-in_ok-text-in-Ok-Rotated-clause-text : goal.returns-in_ok-text-in-Ok-Rotated-clause-text
-returns-in_ok-text-in-Ok-Rotated-clause-text g c = grind (arith, common_steps)
