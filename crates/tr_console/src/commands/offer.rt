@@ -12,6 +12,7 @@ use crate::console::Console;
 use crate::line_fault::{LineFault, from_step};
 use crate::replies::{Reply, refusal};
 use std::alloc::{AllocError, Allocator};
+use tr_record::put_bytes;
 use tr_stream::Offered;
 use tr_terms::Moment;
 
@@ -30,7 +31,8 @@ pub(crate) struct OfferTo {
 fn payload<A: Allocator + Copy>(alloc: A, text: &str, fill: u32) -> Result<Vec<u8, A>, AllocError>
     ensures { IfOk result (λ v. v.items ≡ payload_of text.now fill) }
 {
-    let mut bytes = Vec::from_slice(alloc, text.as_bytes())?;
+    let mut bytes = Vec::with_capacity(alloc, text.len() + fill as usize)?;
+    put_bytes(&mut bytes, text.as_bytes());
     'fill: for filled in 0..fill {
         let _ = filled;
         bytes.push(b'a')?;
