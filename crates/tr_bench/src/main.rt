@@ -195,7 +195,7 @@ fn run_three(
     }
 }
 
-/// Does what the words behind the program's name ask for.
+/// Does what the words after the program's name ask for.
 fn run(
     rt: &(impl Print + Wait + CpuClock),
     alloc: Global,

@@ -48,7 +48,7 @@ with_packets ps s = record s { current = record s.current { packets = s.current.
 abbrev pub close_part : PartsState → PartsState
 close_part s = parts_state (s.closed ++ s.current ∷ []) (empty_part (s.current.id + 1)) s.cleared
 
--- the current part is emptied, and the runs of its packets are kept behind the others, and these behind them
+-- the current part is emptied, and the runs of its packets are kept after the others, and these after them
 abbrev pub clear_part : List Run → PartsState → PartsState
 clear_part more s =
     parts_state s.closed (empty_part s.current.id) (s.cleared ++ (packet_runs s.current.packets ++ more))

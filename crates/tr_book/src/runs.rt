@@ -117,7 +117,7 @@ impl<A: Allocator> Runs<A> {
         Ok(())
     }
 
-    /// Moves these runs behind the others. If an allocation fails, all is as it was.
+    /// Moves these runs after the others. If an allocation fails, all is as it was.
     pub fn append(&mut self, mut more: Runs<A>) -> Result<(), AllocError>
         ensures ok { OnOk result (self.new ≡ self.old ++ more) }
         ensures err { OnErr result (self.new ≡ self.old) }

@@ -25,14 +25,14 @@ head_same x y xs ys e = cc
 tail_same : (x y : List ℕ) (xs ys : List (List ℕ)) → x ∷ xs ≡ y ∷ ys → xs ≡ ys
 tail_same x y xs ys e = cc
 
--- the piece at a place, between those before and those behind it
+-- the piece at a place, between those before and those after it
 around : (texts : List (List ℕ)) (at : ℕ) (piece : List ℕ) → slice_get texts at ≡ Some piece
     → texts ≡ take at texts ++ piece ∷ drop (suc at) texts
 around [] at piece e = absurd (absent at piece e)
 around (t ∷ texts) zero piece e = ap (λ (x : List ℕ). x ∷ texts) (alike t piece e)
 around (t ∷ texts) (suc at) piece e = ap (λ (l : List (List ℕ)). t ∷ l) (around texts at piece e)
 
--- ---- an empty piece behind all pieces tells nothing
+-- ---- an empty piece after all pieces tells nothing
 
 get_before : (texts : List (List ℕ)) (i : ℕ) (bytes : List ℕ) → slice_get (texts ++ [] ∷ []) i ≡ Some bytes → 0 < length bytes
     → (slice_get texts i ≡ Some bytes) × (i < length texts)
@@ -99,7 +99,7 @@ audited_before uuid stream texts pss a audited is =
 
 -- ---- a fault that was met on the way
 
--- the pieces behind those that are done
+-- the pieces after those that are done
 next_of : (texts : List (List ℕ)) → (q : List ℕ) × (qs : List (List ℕ)) × (texts ++ [] ∷ [] ≡ q ∷ qs)
 next_of [] = ([], [], refl)
 next_of (t ∷ texts) = (t, texts ++ [] ∷ [], refl)

@@ -8,7 +8,7 @@ use Rattle.std.proofs.Math.Seq.{take-add}
 use Rattle.std.proofs.lemmas.List.Concat.{flat_map-append}
 use Rattle.tr_packet.specs.Decoding.{Begins}
 use Rattle.tr_packet.specs.Packets.{Contents, packet_text, packet_size}
-use Rattle.tr_packet.specs.declared.fault.PacketFault.TheVariants.{Short}
+use Rattle.tr_packet.specs.declared.faults.PacketFault.TheVariants.{Short}
 use Rattle.tr_packet.proofs.DecodingLemmas.{packet_read}
 use Rattle.tr_packet.proofs.TextLemmas.{length-packet_text}
 use Rattle.tr_chunk.specs.Audit.{packet_cause, after_packet, IsCause, AreAudited, Tells, audit_of, all_of}
@@ -25,7 +25,7 @@ use Rattle.tr_chunk.proofs.WaitingLemmas.{none_is_some, nothing_waits, cause_sta
 
 -- ---- a packet that becomes whole
 
--- it ends behind the bytes that waited
+-- it ends after the bytes that waited
 pub whole_behind : (p : Contents) (n : ℕ) (held bytes : List ℕ) → Waits held → Begins p (drop n (held ++ bytes)) (held ++ bytes)
     → n ≡ packet_size p → length held < n
 whole_behind p n held bytes waits begins size = behind (ltb (length held) n) refl
@@ -275,7 +275,7 @@ short_however done piece r is waits some =
     (sym (append_assoc done (piece ∷ []) (more ∷ others)))
     (short_at_end done piece r (more ∷ others) is waits some)
 
--- a piece that ends behind a packet
+-- a piece that ends after a packet
 pub audited : {A : Type 0} (done : List (List ℕ)) (piece : List ℕ) (r : Reading A) → Is done piece r → r.held ≡ []
     → (pss : List (List Contents)) × AreAudited r.uuid r.stream (done ++ piece ∷ []) pss × (r.audit ≡ audit_of (all_of pss))
 audited {A = A} done piece r is none =

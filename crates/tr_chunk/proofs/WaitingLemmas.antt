@@ -9,8 +9,8 @@ use Rattle.tr_record.specs.Records.{Entry}
 use Rattle.tr_packet.specs.Decoding.{Begins, number_from, stream_id_in, begin_in, end_in, content_bits_in, packet_bits_in, body_in, sizes_hold, fields_fault, front_fault, records_fault, first_fault}
 use Rattle.tr_record.specs.Whole.{entries_at}
 use Rattle.tr_packet.specs.Packets.{Contents, magic, packet_text}
-use Rattle.tr_packet.specs.declared.fault.PacketFault.{PacketFault}
-use Rattle.tr_packet.specs.declared.fault.PacketFault.TheVariants.{Short, BadMagic, BadStreamId, BadSize, SerialOrder, MomentOrder}
+use Rattle.tr_packet.specs.declared.faults.PacketFault.{PacketFault}
+use Rattle.tr_packet.specs.declared.faults.PacketFault.TheVariants.{Short, BadMagic, BadStreamId, BadSize, SerialOrder, MomentOrder}
 use Rattle.tr_packet.proofs.OrderLemmas.{second_holds}
 use Rattle.tr_chunk.specs.Audit.{IsCause, IsLarger, TakesMemory}
 use Rattle.tr_chunk.specs.Reading.{Waits}

@@ -4,7 +4,7 @@ use Rattle.std.specs.Borrow.{Bor}
 use Rattle.std.specs.List.{flat_map}
 use Rattle.tr_packet.specs.Decoding.{first_fault}
 use Rattle.tr_packet.specs.Packets.{Contents}
-use Rattle.tr_packet.specs.declared.fault.PacketFault.TheVariants.{Short}
+use Rattle.tr_packet.specs.declared.faults.PacketFault.TheVariants.{Short}
 use Rattle.tr_chunk.specs.Audit.{StopsAt, Tells, all_of}
 use Rattle.tr_chunk.specs.Files.{packets_text}
 use Rattle.tr_chunk.specs.declared.audit_fault.AuditCause.{AuditCause}
@@ -12,7 +12,7 @@ use Rattle.tr_chunk.specs.declared.audit_fault.AuditFault.{AuditFault}
 use Rattle.tr_chunk.specs.declared.stream_audit.StreamAudit.{StreamAudit}
 use Rattle.tr_chunk.specs.declared.audit_reader.TheConstants.{FIRST_ROOM}
 
--- a reader: the trace and the stream that it audits, the audit of the whole packets so far, the bytes behind them in this
+-- a reader: the trace and the stream that it audits, the audit of the whole packets so far, the bytes after them in this
 -- piece and the place where these begin, how many bytes it was fed, how many pieces were begun, and the fault that it met
 pub record Reading (A : Type 0) : Type 0 where
   pub uuid : List ℕ
@@ -37,7 +37,7 @@ reading uuid stream audit held offset bytes pieces fault = record {
 }
 
 -- the decoder's first fault of the bytes is that they are too few: nothing is judged before all of a header and context are
--- there, and nothing behind these before the packet is whole
+-- there, and nothing after these before the packet is whole
 abbrev pub Waits : List ℕ → Type 0
 Waits bytes = first_fault bytes ≡ Some Short
 

@@ -3,7 +3,7 @@
 ghost use Rattle.std.specs.Prelude.{◌≡◌, ◌≢◌, ◌+◌, ◌-◌, ◌/◌, ◌++◌, ◌<◌, ◌≤◌, ◌^◌, ◌∷◌, [], ℕ, List, length, drop, Ok, Some, None, IfOk, IfErr, IfNone, IfSome, MatchResult, Err};
 ghost use Rattle.tr_packet.specs.Decoding.{Begins, fields_fault, packet_bits_in};
 ghost use Rattle.tr_packet.specs.Packets.{Contents, packet_size};
-ghost use Rattle.tr_packet.specs.declared.fault.PacketFault.TheVariants.{Short};
+ghost use Rattle.tr_packet.specs.declared.faults.PacketFault.TheVariants.{Short};
 ghost use Rattle.tr_chunk.specs.Audit.{AreAudited, IsCause, after_packet, all_of, audit_of, packet_cause};
 ghost use Rattle.tr_chunk.specs.Reading.{Finds, HasRead, ReaderStopsAt, Takes, Waits, answer_at, with_front};
 ghost use Rattle.tr_chunk.specs.declared.audit_fault.AuditCause.TheVariants.{NoMemory, Packet};
@@ -41,7 +41,7 @@ fn judge_front<A: Allocator>(
     }
 }
 
-/// How many bytes are wanted behind these, which are too few: up to the end of the context, or else to the packet's own.
+/// How many bytes are wanted after these, which are too few: up to the end of the context, or else to the packet's own.
 fn wanted(bytes: &[u8]) -> usize
     requires { Waits bytes.now }
     ensures some { 0 < result }
@@ -117,7 +117,7 @@ impl<A: Allocator> AuditReader<A> {
         self.pieces
     }
 
-    /// Takes the packet at the front of these bytes, behind which nothing is held, or holds them. How many bytes it took.
+    /// Takes the packet at the front of these bytes, after which nothing is held, or holds them. How many bytes it took.
     fn take_free(&mut self, bytes: &[u8]) -> Result<usize, AuditCause>
         requires free { self.old.held ≡ [] }
         requires some { 0 < length bytes.now }
@@ -170,7 +170,7 @@ impl<A: Allocator> AuditReader<A> {
         }
     }
 
-    /// Takes bytes from the front of these: at least one, and none behind the packet's end.
+    /// Takes bytes from the front of these: at least one, and none after the packet's end.
     fn take_front(&mut self, bytes: &[u8]) -> Result<usize, AuditCause>
         requires some { 0 < length bytes.now }
         requires fed { self.old.offset + length self.old.held + length bytes.now ≤ self.old.bytes }

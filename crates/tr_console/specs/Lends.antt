@@ -9,7 +9,7 @@ use Rattle.tr_session.specs.Session.{SessionOf}
 use Rattle.tr_session.specs.contracts.session.Session.{the_row as session_row}
 use Rattle.tr_stream.specs.State.{StreamState}
 
--- the session of this name is the last one that was left behind the reference, and the others are as they were; without a
+-- the session of this name is the last one that was left after the reference, and the others are as they were; without a
 -- reference all are
 abbrev pub lends_session : (A : RattleType) → (memory : alloc.Ghosts A.Denot) → MutBor (World StreamState) → Text
     → Option (MutBor (SessionOf StreamState)) → Fml

@@ -14,14 +14,14 @@ pub enum ScriptFault {
     /// The source failed. All whole lines before are answered, and the one that broke off isn't.
     #[error("Q1 Read")]
     Read,
-    /// The script has more than 16,777,216 bytes. All whole lines within these are answered.
+    /// The script has more than `LONGEST_SCRIPT` bytes. All whole lines within these are answered.
     #[error("Q2 TooLong")]
     TooLong,
     /// The sink failed. A prefix of the answer went out.
     #[error("Q3 Write")]
     Write,
     /// An allocation failed. A prefix of the lines that were read whole is answered, each of them whole: at least all but one
-    /// of those that end before the last 65,536 bytes that were read.
+    /// of those that end before the last `LONGEST_PIECE` bytes that were read.
     #[error("Q4 NoMemory")]
     NoMemory,
 }

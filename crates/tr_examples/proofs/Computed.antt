@@ -6,7 +6,7 @@ use Rattle.tr_chunk.specs.declared.audit_fault.AuditCause.TheVariants.{NumberRep
 use Rattle.tr_examples.specs.Files.{archived_audit, archived_file, empty_audit, first_chunk, gaps_audit, one_record, one_record_bytes, outline, trace}
 use Rattle.tr_packet.specs.Decoding.{fields_fault, first_fault, front_fault}
 use Rattle.tr_packet.specs.Packets.{packet_text}
-use Rattle.tr_packet.specs.declared.fault.PacketFault.TheVariants.{BadMagic, Short}
+use Rattle.tr_packet.specs.declared.faults.PacketFault.TheVariants.{BadMagic, Short}
 use Rattle.tr_record.specs.Reading.{entry_at, payload_at}
 use Rattle.tr_record.specs.Whole.{entries_at, entries_of, entries_up_to}
 use Rattle.clap.specs.Takes.{flags_pass, walk_passes}

@@ -9,7 +9,7 @@ ghost use Rattle.tr_console.specs.Script.{script_text};
 ghost use Rattle.tr_examples.specs.Files.{archived_audit, archived_file, empty_audit, first_chunk, gaps_audit, one_record, one_record_bytes, outline, trace};
 ghost use Rattle.tr_packet.specs.Decoding.{first_fault};
 ghost use Rattle.tr_packet.specs.Packets.{packet_text};
-ghost use Rattle.tr_packet.specs.declared.fault.PacketFault.TheVariants.{BadMagic, Short};
+ghost use Rattle.tr_packet.specs.declared.faults.PacketFault.TheVariants.{BadMagic, Short};
 ghost use Rattle.tr_examples.specs.Offers.{nobody_script, nobody_answer, first_run_script, first_run_answer, sizes_script, sizes_answer, moments_script, moments_answer, overwriting_script, overwriting_answer, gaps_script, gaps_answer};
 ghost use Rattle.tr_examples.specs.Rotations.{archives_script, archives_answer, pending_script, pending_answer, rotation_script, rotation_answer, stopped_script, stopped_answer, schedule_script, schedule_answer};
 ghost use Rattle.tr_examples.specs.Snapshots.{empty_script, empty_answer, snapshot_script, snapshot_answer};

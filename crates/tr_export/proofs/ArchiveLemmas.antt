@@ -4,7 +4,7 @@ use Rattle.std.specs.Prelude.{codes}
 use Rattle.tr_chunk.specs.ArchiveName.{archive_name_text}
 use Rattle.tr_export.proofs.MakingLemmas.{made_after, front_before, front_after}
 use Rattle.tr_export.specs.Archives.{stream_file, stream_files, metadata_file, chunk_made, archive_made}
-use Rattle.tr_export.specs.Making.{Makings, and_then_made, MadeFront}
+use Rattle.tr_export.specs.Making.{Makings, and_then_made, MadePrefix}
 use Rattle.tr_export.specs.Paths.{folder_of, path_of}
 use Rattle.tr_export.specs.declared.made.Made.TheVariants.{Folder, File}
 use Rattle.tr_packet.specs.Metadata.{metadata_of}
@@ -26,8 +26,8 @@ module _ (folder : List ℕ) (id : ℕ) (s : SessionOf StreamState) where
 
   -- the files of the first i streams, and a prefix of the next one's
   pub streams_cut : (start now after : Option Makings) (i n : ℕ) → i < n → n ≡ length s.streams
-      → now ≡ and_then_made start (stream_files folder id s i) → MadeFront now after (stream_file folder id s i)
-      → MadeFront start after (stream_files folder id s (length s.streams))
+      → now ≡ and_then_made start (stream_files folder id s i) → MadePrefix now after (stream_file folder id s i)
+      → MadePrefix start after (stream_files folder id s (length s.streams))
   streams_cut start now after i n within is first made =
       let up = files_up (n - suc i) (suc i) in
       let all : length s.streams ≡ (n - suc i) + suc i = omega (arith, within, is) in
@@ -60,8 +60,8 @@ module _ (folder : List ℕ) (id : ℕ) (s : SessionOf StreamState) where
   pub chunk_cut : (start one two after : Option Makings) (path uuid : List ℕ) → path ≡ path_of folder (codes "metadata")
       → uuid ≡ s.book.uuid → one ≡ and_then_made start (Folder folder ∷ [])
       → two ≡ and_then_made one (File path (metadata_of uuid) ∷ [])
-      → MadeFront two after (stream_files folder id s (length s.streams))
-      → MadeFront start after (chunk_made folder id s)
+      → MadePrefix two after (stream_files folder id s (length s.streams))
+      → MadePrefix start after (chunk_made folder id s)
   chunk_cut start one two after path uuid at of first second made =
       front_after start two after (Folder folder ∷ metadata_file folder s) (stream_files folder id s (length s.streams))
       (chunk_made folder id s) refl (headed start one two path uuid at of first second) made
@@ -69,14 +69,14 @@ module _ (folder : List ℕ) (id : ℕ) (s : SessionOf StreamState) where
   -- the folder, and a prefix of the metadata
   pub metadata_cut : (start one after : Option Makings) (path uuid : List ℕ) → path ≡ path_of folder (codes "metadata")
       → uuid ≡ s.book.uuid → one ≡ and_then_made start (Folder folder ∷ [])
-      → MadeFront one after (File path (metadata_of uuid) ∷ []) → MadeFront start after (chunk_made folder id s)
+      → MadePrefix one after (File path (metadata_of uuid) ∷ []) → MadePrefix start after (chunk_made folder id s)
   metadata_cut start one after path uuid at of first made =
       let text : File path (metadata_of uuid) ∷ [] ≡ metadata_file folder s =
       ap (λ (p : List ℕ). File p (metadata_of uuid) ∷ []) at
       ∙ ap (λ (u : List ℕ). File (path_of folder (codes "metadata")) (metadata_of u) ∷ []) of in
       let next = front_before one after (metadata_file folder s) (stream_files folder id s (length s.streams))
       (metadata_file folder s ++ stream_files folder id s (length s.streams)) refl
-      (subst (λ (ms : Makings). MadeFront one after ms) text made) in
+      (subst (λ (ms : Makings). MadePrefix one after ms) text made) in
       front_after start one after (Folder folder ∷ [])
       (metadata_file folder s ++ stream_files folder id s (length s.streams)) (chunk_made folder id s) refl first next
 
@@ -88,5 +88,5 @@ archive_whole start after dir name s a folder at made = made ∙ ap (λ (f : Lis
 
 pub archive_cut : (start after : Option Makings) (dir name : List ℕ) (s : SessionOf StreamState) (a : Archive)
     (folder : List ℕ) → folder ≡ folder_of dir name (archive_name_text a.begin a.end s.book.offset a.id)
-    → MadeFront start after (chunk_made folder a.id s) → MadeFront start after (archive_made dir name s a)
-archive_cut start after dir name s a folder at made = subst (λ (f : List ℕ). MadeFront start after (chunk_made f a.id s)) at made
+    → MadePrefix start after (chunk_made folder a.id s) → MadePrefix start after (archive_made dir name s a)
+archive_cut start after dir name s a folder at made = subst (λ (f : List ℕ). MadePrefix start after (chunk_made f a.id s)) at made

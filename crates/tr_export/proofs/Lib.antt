@@ -1,3 +1,3 @@
 pub mod ArchiveLemmas
-pub mod FileLaws
+pub mod FileLemmas
 pub mod MakingLemmas

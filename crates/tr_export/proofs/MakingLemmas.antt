@@ -7,7 +7,7 @@ use Rattle.std.specs.Prelude.{Result, Ok, Err, OnErr}
 use Rattle.tr_export.specs.Failures.{FailedByWrite, HasNotFailed}
 use Rattle.tr_export.specs.declared.faults.ExportFault.{ExportFault}
 use Rattle.tr_export.specs.declared.faults.ExportFault.TheVariants.{Write, NoMemory}
-use Rattle.tr_export.specs.Making.{Makings, and_then_made, broken_first, MadeFront}
+use Rattle.tr_export.specs.Making.{Makings, and_then_made, broken_first, MadePrefix}
 use Rattle.tr_export.specs.declared.made.Made.TheVariants.{Folder, File, Broken}
 
 and_then_made-none : (known : Option Makings) → and_then_made known [] ≡ known
@@ -25,12 +25,12 @@ pub made_after : (start now after : Option Makings) (a b : Makings) → now ≡ 
 made_after start now after a b first then = then ∙ ap (λ k. and_then_made k b) first ∙ and_then_made-append start a b
 
 -- nothing of it was made
-pub front_none : (start after : Option Makings) (all : Makings) → after ≡ start → MadeFront start after all
+pub front_none : (start after : Option Makings) (all : Makings) → after ≡ start → MadePrefix start after all
 front_none start after all same = ([], all, refl, inl (same ∙ sym (and_then_made-none start)))
 
 -- what comes first, and a prefix of the rest
 pub front_after : (start now after : Option Makings) (a b all : Makings) → all ≡ a ++ b → now ≡ and_then_made start a
-    → MadeFront now after b → MadeFront start after all
+    → MadePrefix now after b → MadePrefix start after all
 front_after start now after a b all is first made = (
   a ++ made.0,
   made.1,
@@ -51,7 +51,7 @@ cut_before start after front (File path text ∷ rest) b cut = inr cut
 cut_before start after front (Broken path ∷ rest) b cut = inr cut
 
 -- a prefix of what comes first
-pub front_before : (start after : Option Makings) (a b all : Makings) → all ≡ a ++ b → MadeFront start after a → MadeFront start after all
+pub front_before : (start after : Option Makings) (a b all : Makings) → all ≡ a ++ b → MadePrefix start after a → MadePrefix start after all
 front_before start after a b all is made = (
   made.0,
   made.1 ++ b,
@@ -79,7 +79,7 @@ module _ {X : Type 0} (f : X → Makings) where
   -- a prefix of what one more element makes
   pub each_cut : (start now after : Option Makings) (items xs : List X) (i : ℕ) (x : X) → items ≡ xs → i < length items
       → x ≡ get_or items i x → now ≡ and_then_made start (flat_map f (take i xs))
-      → MadeFront now after (f x) → MadeFront start after (flat_map f xs)
+      → MadePrefix now after (f x) → MadePrefix start after (flat_map f xs)
   each_cut start now after items xs i x same within is first made =
       let next = one_more xs i x (subst (λ (l : List X). i < length l) same within) (subst (λ (l : List X). x ≡ get_or l i x) same is) in
       let whole : flat_map f xs ≡ flat_map f (take (i + 1) xs) ++ flat_map f (drop (i + 1) xs) =

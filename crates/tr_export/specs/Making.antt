@@ -41,7 +41,7 @@ broken_first (File path text ∷ rest) = Broken path ∷ []
 broken_first (Broken path ∷ rest) = []
 
 -- a prefix of these was made, and nothing more, or the file that comes next is broken
-abbrev pub MadeFront : Option Makings → Option Makings → Makings → Type 0
-MadeFront before after all =
+abbrev pub MadePrefix : Option Makings → Option Makings → Makings → Type 0
+MadePrefix before after all =
     (front : Makings) × (rest : Makings) × (all ≡ front ++ rest)
     × ((after ≡ and_then_made before front) ⊎ (after ≡ and_then_made before (front ++ broken_first rest)))

@@ -4,7 +4,7 @@ ghost use Rattle.std.specs.Prelude.{◌≡◌, ◌∷◌, [], length, OnOk, OnEr
 ghost use Rattle.tr_chunk.specs.Files.{packets_text};
 ghost use Rattle.tr_export.specs.Archives.{stream_file, stream_files, chunk_made, archive_made, archives_made};
 ghost use Rattle.tr_export.specs.Failures.{FailedByWrite};
-ghost use Rattle.tr_export.specs.Making.{and_then_made, MadeFront};
+ghost use Rattle.tr_export.specs.Making.{and_then_made, MadePrefix};
 ghost use Rattle.tr_export.specs.declared.made.Made.TheVariants.{File};
 ghost use Rattle.tr_packet.specs.Metadata.{metadata_of};
 
@@ -29,7 +29,7 @@ fn write_metadata_file<B: Allocator, D: Disk>(
     ensures ok { OnOk result (D.made disk.new ≡ and_then_made (D.made disk.old)
         (File path.now (metadata_of uuid.now) ∷ [])) }
     ensures err { OnErr result
-        (MadeFront (D.made disk.old) (D.made disk.new) (File path.now (metadata_of uuid.now) ∷ [])) }
+        (MadePrefix (D.made disk.old) (D.made disk.new) (File path.now (metadata_of uuid.now) ∷ [])) }
     ensures failures { FailedByWrite (D.failures disk.old) (D.failures disk.new) result }
 {
     let mut file = disk.open_file(path)?;
@@ -50,7 +50,7 @@ fn write_part_file<A: Allocator, D: Disk>(
     ensures ok { OnOk result (D.made disk.new ≡ and_then_made (D.made disk.old)
         (File path.now (packets_text part.now.packets) ∷ [])) }
     ensures err { OnErr result
-        (MadeFront (D.made disk.old) (D.made disk.new) (File path.now (packets_text part.now.packets) ∷ [])) }
+        (MadePrefix (D.made disk.old) (D.made disk.new) (File path.now (packets_text part.now.packets) ∷ [])) }
     ensures failures { FailedByWrite (D.failures disk.old) (D.failures disk.new) result }
 {
     let mut file = disk.open_file(path)?;
@@ -74,7 +74,7 @@ fn write_stream<A: Allocator, B: Allocator + Copy, D: Disk>(
     ensures ok { OnOk result (D.made disk.new ≡ and_then_made (D.made disk.old)
         (stream_file folder.now id session.now i)) }
     ensures err { OnErr result
-        (MadeFront (D.made disk.old) (D.made disk.new) (stream_file folder.now id session.now i)) }
+        (MadePrefix (D.made disk.old) (D.made disk.new) (stream_file folder.now id session.now i)) }
     ensures failures { FailedByWrite (D.failures disk.old) (D.failures disk.new) result }
 {
     let Some(channel) = session.book().channel_of(i) else {
@@ -102,7 +102,7 @@ fn write_streams<A: Allocator, B: Allocator + Copy, D: Disk>(
     ensures ok { OnOk result (D.made disk.new ≡ and_then_made (D.made disk.old)
         (stream_files folder.now id session.now (length session.now.streams))) }
     ensures err { OnErr result
-        (MadeFront (D.made disk.old) (D.made disk.new)
+        (MadePrefix (D.made disk.old) (D.made disk.new)
         (stream_files folder.now id session.now (length session.now.streams))) }
     ensures failures { FailedByWrite (D.failures disk.old) (D.failures disk.new) result }
 {
@@ -123,7 +123,7 @@ fn write_chunk<A: Allocator, B: Allocator + Copy, D: Disk>(
     ensures ok { OnOk result (D.made disk.new ≡ and_then_made (D.made disk.old)
         (chunk_made folder.now id session.now)) }
     ensures err { OnErr result
-        (MadeFront (D.made disk.old) (D.made disk.new) (chunk_made folder.now id session.now)) }
+        (MadePrefix (D.made disk.old) (D.made disk.new) (chunk_made folder.now id session.now)) }
     ensures failures { FailedByWrite (D.failures disk.old) (D.failures disk.new) result }
 {
     let metadata = file_path(alloc, folder, "metadata")?;
@@ -144,7 +144,7 @@ fn write_archive<A: Allocator, B: Allocator + Copy, D: Disk>(
     ensures ok { OnOk result (D.made disk.new ≡ and_then_made (D.made disk.old)
         (archive_made dir.now name.now session.now archive)) }
     ensures err { OnErr result
-        (MadeFront (D.made disk.old) (D.made disk.new) (archive_made dir.now name.now session.now archive)) }
+        (MadePrefix (D.made disk.old) (D.made disk.new) (archive_made dir.now name.now session.now archive)) }
     ensures failures { FailedByWrite (D.failures disk.old) (D.failures disk.new) result }
 {
     let offset = session.book().offset();
@@ -172,7 +172,7 @@ pub fn write_archives<A: Allocator, B: Allocator + Copy, D: Disk>(
     ensures ok { OnOk result (D.made disk.new ≡ and_then_made (D.made disk.old)
         (archives_made dir.now name.now session.now)) }
     ensures err { OnErr result
-        (MadeFront (D.made disk.old) (D.made disk.new) (archives_made dir.now name.now session.now)) }
+        (MadePrefix (D.made disk.old) (D.made disk.new) (archives_made dir.now name.now session.now)) }
     ensures failures { FailedByWrite (D.failures disk.old) (D.failures disk.new) result }
 {
     'archives: for archive in session.book().archives() {

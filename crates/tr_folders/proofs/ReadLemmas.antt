@@ -13,7 +13,7 @@ take_over (x ∷ xs) ys zs n within =
     let e : suc (length xs) + n ≡ suc (length xs + n) = omega arith in
     ap (λ (m : ℕ). take m (x ∷ (xs ++ (ys ++ zs)))) e ∙ ap (λ l. x ∷ l) (take_over xs ys zs n within)
 
--- n bytes more at the front of what lies behind place a
+-- n bytes more at the front of what comes after place a
 pub front_more : (a k n : ℕ) (xs ys : List ℕ) → a ≤ length xs → n ≤ length ys → take (a + n) (put_mid a k xs ys) ≡ take a xs ++ take n ys
 front_more a k n xs ys within some =
     let is : length (take a xs) ≡ a = grind (arith, common_steps) in
@@ -56,7 +56,7 @@ empty : (xs : List ℕ) → length xs ≡ 0 → xs ≡ []
 empty [] e = refl
 empty (x ∷ xs) e = absurd (omega arith)
 
--- bytes behind a place were copied to the front of a buffer, none only at the end
+-- bytes after a place were copied to the front of a buffer, none only at the end
 pub reads_copied : (all : List ℕ) (at n : ℕ) (copied tail : List ℕ) → copied ≡ take n (drop at all) → n ≤ length (drop at all)
     → (n ≡ 0 → length (drop at all) ≡ 0) → Reads (drop at all) (take n (copied ++ tail)) (Some (drop (at + n) all))
 reads_copied all at n copied tail is within end =

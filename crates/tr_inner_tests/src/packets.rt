@@ -104,7 +104,7 @@ fn packets_are_shown_one_after_another(rt: HostRuntime) {
     assert!(rt; shown.next().is_none());
 }
 
-/// The numbers of the packets that are moved behind others in turn.
+/// The numbers of the packets that are moved after others in turn.
 static MOVED: [&[u64]; 3] = [&[3], &[], &[5, 6]];
 
 #[test]

@@ -1,4 +1,4 @@
-//! Packets that are written behind others, as a stream writes them.
+//! Packets that are written after others, as a stream writes them.
 
 ghost use Rattle.std.specs.Prelude.{◌≡◌, ◌∷◌, [], ◌++◌};
 
@@ -7,7 +7,7 @@ use std::process::Abort;
 use tr_book::Parts;
 use tr_packet::{Packet, PacketTexts, decode_packet, encode_packet};
 
-/// Writes a packet behind others.
+/// Writes a packet after others.
 pub fn put(rt: &impl Abort, alloc: Global, texts: &mut PacketTexts, packet: &Packet)
     ensures { texts.new ≡ texts.old ++ packet.now ∷ [] }
 {
@@ -18,7 +18,7 @@ pub fn put(rt: &impl Abort, alloc: Global, texts: &mut PacketTexts, packet: &Pac
     put.expect(rt, "memory");
 }
 
-/// Writes a packet behind those of the current part.
+/// Writes a packet after those of the current part.
 pub fn put_in_part(rt: &impl Abort, alloc: Global, parts: &mut Parts, packet: &Packet) {
     let bytes = encode_packet(alloc, packet).expect(rt, "memory");
     let (view, _) = decode_packet(&bytes).expect(rt, "a packet");

@@ -169,7 +169,7 @@ impl<A: Allocator> LineReader<A> {
     /// # Errors
     ///
     /// `Read` if the source failed, `TooLong` if a byte came after the longest script, `NoMemory` if an allocation failed.
-    /// What had come of that line is lost, and nothing else: the next call goes on behind it.
+    /// What had come of that line is lost, and nothing else: the next call goes on after it.
     pub fn read_line<S: ByteSource>(&mut self, source: &mut S) -> Result<Found, ReadFault>
         ensures whole { result ≡ Ok Found.Whole
             → ReadsLine (S.given source.old) (S.given source.new) self.old self.new }

@@ -1,3 +1,3 @@
-pub mod LoadLaws
-pub mod TellLaws
-pub mod WorkLaws
+pub mod LoadLemmas
+pub mod TellLemmas
+pub mod WorkLemmas

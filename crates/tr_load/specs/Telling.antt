@@ -3,7 +3,7 @@ use Rattle.std.specs.Prelude.{◌≡◌, ◌⊎◌, ℕ, List, Option, Some, Non
 use Rattle.tr_chunk.specs.Files.{Sunk, WentOut}
 use Rattle.tr_export.specs.Archives.{archives_made}
 use Rattle.tr_export.specs.Failures.{FailedByWrite}
-use Rattle.tr_export.specs.Making.{MadeFront, Makings, and_then_made}
+use Rattle.tr_export.specs.Making.{MadePrefix, Makings, and_then_made}
 use Rattle.tr_export.specs.declared.disk.Disk as Disk
 use Rattle.tr_export.specs.declared.faults.ExportFault.{ExportFault}
 use Rattle.tr_export.specs.declared.faults.ExportFault.TheVariants.{Write, NoMemory}
@@ -25,7 +25,7 @@ disk_of disks disk = record { made = disks.made disk; failures = disks.failures 
 -- what became of the archives of a load's session
 abbrev pub AreWritten : List ℕ → SessionOf StreamState → DiskState → DiskState → Result (Unit {0}) ExportFault → Type 0
 AreWritten dir session before after (Ok done) = after.made ≡ and_then_made before.made (archives_made dir (codes "load") session)
-AreWritten dir session before after (Err fault) = MadeFront before.made after.made (archives_made dir (codes "load") session)
+AreWritten dir session before after (Err fault) = MadePrefix before.made after.made (archives_made dir (codes "load") session)
 
 -- a load's archives were written below a folder, if one is named, or one failure or want of memory came between
 abbrev pub WritesLoad : Option (List ℕ) → SessionOf StreamState → DiskState → DiskState → Result (Unit {0}) ExportFault → Type 0

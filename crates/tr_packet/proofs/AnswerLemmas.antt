@@ -4,7 +4,7 @@ use Rattle.std.specs.Prelude.{Result, Ok, Err, IfOk, IfErr}
 use Rattle.tr_record.specs.Whole.{AreBytes}
 use Rattle.tr_packet.specs.Packets.{Contents, packet_size}
 use Rattle.tr_packet.specs.Decoding.{Begins, packet_bits_in, contents_in, first_fault}
-use Rattle.tr_packet.specs.declared.fault.PacketFault.{PacketFault}
+use Rattle.tr_packet.specs.declared.faults.PacketFault.{PacketFault}
 use Rattle.tr_packet.proofs.DecodingLemmas.{packet_decoded, packet_read}
 
 abbrev Answer : Type 0

@@ -11,7 +11,7 @@ use Rattle.tr_record.proofs.RecordLemmas.{length-record_text}
 use Rattle.tr_record.proofs.WholeLemmas.{at_records, records_at, are_none, are_first}
 use Rattle.tr_packet.specs.Order.{serials_rise_after, last_serial_after, in_order}
 use Rattle.tr_packet.specs.Seen.{seen_first, seen_next, verdict, verdict_after, verdict_on}
-use Rattle.tr_packet.specs.declared.fault.PacketFault.TheVariants.{BadRecord}
+use Rattle.tr_packet.specs.declared.faults.PacketFault.TheVariants.{BadRecord}
 use Rattle.tr_packet.specs.declared.seen.Seen.{Seen}
 
 none_is_some : {A : Type 0} (x : A) → None ≡ Some x → ⊥

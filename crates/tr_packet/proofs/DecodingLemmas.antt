@@ -18,8 +18,8 @@ use Rattle.tr_packet.specs.Order.{serials_rise, last_serial_after, starts_at, in
 use Rattle.tr_packet.specs.Packets.{Contents, magic, header_text, context_text, packet_text, packet_size, IsPacket}
 use Rattle.tr_packet.specs.Decoding.{Begins, number_from, bytes_from, stream_id_in, begin_in, end_in, content_bits_in, packet_bits_in, body_in, contents_in, sizes_hold, fields_fault, front_fault, records_fault, first_fault}
 use Rattle.tr_packet.specs.Seen.{verdict, verdict_on}
-use Rattle.tr_packet.specs.declared.fault.PacketFault.{PacketFault}
-use Rattle.tr_packet.specs.declared.fault.PacketFault.TheVariants.{Short, BadMagic, BadStreamId, BadSize, BadRecord, SerialOrder, MomentOrder}
+use Rattle.tr_packet.specs.declared.faults.PacketFault.{PacketFault}
+use Rattle.tr_packet.specs.declared.faults.PacketFault.TheVariants.{Short, BadMagic, BadStreamId, BadSize, BadRecord, SerialOrder, MomentOrder}
 use Rattle.tr_packet.specs.declared.head.Head.{Head}
 use Rattle.tr_packet.proofs.LayoutLemmas.{HeadFits, fields_read, fields_stand}
 use Rattle.tr_packet.proofs.TextLemmas.{length-packet_text}

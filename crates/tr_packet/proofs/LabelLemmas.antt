@@ -47,7 +47,7 @@ size_is (p ∷ ps) are =
 pub is_there : (l : Label) (bytes : List ℕ) → IsLabelled l (take l.size bytes) → l.size ≤ length bytes
 is_there l bytes is = omega (arith, is.size, length-take l.size bytes)
 
--- labels and bytes, behind others
+-- labels and bytes, after others
 pub record Behind (ls ms : List Label) (bytes more : List ℕ) : Type 0 where
   pub are : AreLabelled (ls ++ ms) (bytes ++ more)
   pub packets : packets_in (ls ++ ms) (bytes ++ more) ≡ packets_in ls bytes ++ packets_in ms more
@@ -70,7 +70,7 @@ behind (l ∷ ls) ms bytes more are others =
 
 -- ---- one packet
 
--- what stands behind the header and the context
+-- what comes after the header and the context
 pub body_is_records : (p : Contents) → length p.head.uuid ≡ 16 → body_of (packet_text p) ≡ records_text p.records
 body_is_records p sixteen =
     let bits = 8 * packet_size p in
@@ -103,7 +103,7 @@ one_labelled p l body is whole records text head count size =
     } in
     ((subst (IsLabelled l) (sym all) labelled, none), ap (λ (t : List ℕ). packet_labelled l.head t ∷ []) all ∙ ap (λ (q : Contents). q ∷ []) same)
 
--- what a push leaves: a header, a context and the records' texts behind the bytes, and a label
+-- what a push leaves: a header, a context and the records' texts after the bytes, and a label
 pub pushed : (ls : List Label) (bytes out text : List ℕ) (head : Head) (count : ℕ) (es : List Entry) → AreLabelled ls bytes
     → IsPacket (contents head es) → count ≡ length es → AreWhole text → entries_of text ≡ es → text ≡ records_text es
     → out ≡ ((bytes ++ header_text head) ++ context_text head (8 * (PACKET_HEADER + length text))) ++ text

@@ -6,7 +6,7 @@ use Rattle.tr_record.proofs.RecordLemmas.{length-records_text}
 use Rattle.tr_packet.specs.declared.head.Head.{Head}
 use Rattle.tr_packet.specs.Packets.{Contents, magic, header_text, context_text, packet_text, packet_size}
 
--- what stands behind the trace's identifier
+-- what comes after the trace's identifier
 abbrev numbers_text : Head → ℕ → List ℕ
 numbers_text h bits = to_le_bytes w32 0 ++ (to_le_bytes w64 h.stream ++ context_text h bits)
 

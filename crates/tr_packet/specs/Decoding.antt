@@ -7,8 +7,8 @@ use Rattle.tr_record.specs.Records.{Entry}
 use Rattle.tr_record.specs.Whole.{entries_at, entries_of}
 use Rattle.tr_packet.specs.Order.{serials_rise, moments_hold}
 use Rattle.tr_packet.specs.Packets.{Contents, IsPacket, magic, packet_text}
-use Rattle.tr_packet.specs.declared.fault.PacketFault.{PacketFault}
-use Rattle.tr_packet.specs.declared.fault.PacketFault.TheVariants.{Short, BadMagic, BadStreamId, BadSize, BadRecord, SerialOrder, MomentOrder}
+use Rattle.tr_packet.specs.declared.faults.PacketFault.{PacketFault}
+use Rattle.tr_packet.specs.declared.faults.PacketFault.TheVariants.{Short, BadMagic, BadStreamId, BadSize, BadRecord, SerialOrder, MomentOrder}
 use Rattle.tr_packet.specs.declared.layout.TheConstants.{BEGIN_AT, CONTENT_SIZE_AT, LOST_AT, END_AT, PACKET_SIZE_AT, SEQ_AT, STREAM_AT, STREAM_ID_AT, UUID_AT}
 use Rattle.tr_terms.specs.declared.limits.TheConstants.{LARGEST_PACKET, PACKET_HEADER, SMALLEST_PACKET}
 

@@ -1,7 +1,7 @@
 -- Why bytes don't start with a packet, as documents name it.
 use Rattle.std.specs.Prelude.{ℕ, List, codes}
-use Rattle.tr_packet.specs.declared.fault.PacketFault.{PacketFault}
-use Rattle.tr_packet.specs.declared.fault.PacketFault.TheVariants.{Short, BadMagic, BadStreamId, BadSize, BadRecord, SerialOrder, MomentOrder}
+use Rattle.tr_packet.specs.declared.faults.PacketFault.{PacketFault}
+use Rattle.tr_packet.specs.declared.faults.PacketFault.TheVariants.{Short, BadMagic, BadStreamId, BadSize, BadRecord, SerialOrder, MomentOrder}
 
 abbrev pub packet_fault_code : PacketFault → List ℕ
 packet_fault_code Short = codes "P1"

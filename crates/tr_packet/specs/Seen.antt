@@ -2,8 +2,8 @@
 use Rattle.std.specs.Prelude.{ℕ, ◌+◌, Bool, true, ◌&&◌, not, nat_eq, nat_le, nat_lt, List, length, Option, Some, None, unwrap_or, Result, Ok, Err, if◌then◌else◌}
 use Rattle.tr_record.specs.Records.{Entry}
 use Rattle.tr_packet.specs.Order.{serials_rise, serials_rise_after, last_serial_after, starts_at, in_order}
-use Rattle.tr_packet.specs.declared.fault.PacketFault.{PacketFault}
-use Rattle.tr_packet.specs.declared.fault.PacketFault.TheVariants.{BadRecord, SerialOrder, MomentOrder}
+use Rattle.tr_packet.specs.declared.faults.PacketFault.{PacketFault}
+use Rattle.tr_packet.specs.declared.faults.PacketFault.TheVariants.{BadRecord, SerialOrder, MomentOrder}
 use Rattle.tr_packet.specs.declared.seen.Seen.{Seen}
 
 -- what is known of a first record, in a packet that begins at this moment

@@ -4,7 +4,7 @@ ghost use Rattle.std.specs.Prelude.{◌≡◌, ◌/◌, ◌↔◌, ℕ, List, Ok
 ghost use Rattle.tr_packet.specs.Decoding.{Begins, packet_bits_in, contents_in, first_fault};
 ghost use Rattle.tr_packet.specs.Packets.{Contents, packet_size};
 
-use crate::fault::PacketFault;
+use crate::faults::PacketFault;
 use crate::fields::{head_in, size_of_front, u64_from};
 use crate::layout::{BEGIN_AT, END_AT};
 use crate::seen::judge_records;

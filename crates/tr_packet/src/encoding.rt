@@ -14,7 +14,7 @@ use std::alloc::{AllocError, Allocator};
 use tr_record::{RecViews, put_bytes, put_rec};
 use tr_terms::limits::PACKET_HEADER;
 
-/// The text of a packet's header and context behind the trace's identifier.
+/// The text of a packet's header and context after the trace's identifier.
 #[inline(always)]
 fn numbers_of(head: &Head, bits: u64) -> [u8; 60]
     ensures { result ≡ to_le_bytes w32 0 ++ (to_le_bytes w64 head.now.stream ++ context_text head.now bits) }

@@ -5,7 +5,7 @@ ghost use Rattle.std.specs.Int.{w32, w64};
 ghost use Rattle.tr_terms.specs.declared.limits.TheConstants.{LAST_MOMENT, PACKET_HEADER};
 ghost use Rattle.tr_packet.specs.Decoding.{number_from, bytes_from, packet_bits_in, sizes_hold, fields_fault, front_fault, begin_in, end_in, contents_in};
 
-use crate::fault::PacketFault;
+use crate::faults::PacketFault;
 use crate::head::Head;
 use crate::layout::{
     BEGIN_AT, CONTENT_SIZE_AT, END_AT, LOST_AT, PACKET_SIZE_AT, SEQ_AT, STREAM_AT, STREAM_ID_AT,

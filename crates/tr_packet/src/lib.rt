@@ -3,7 +3,7 @@
 
 mod decoding;
 mod encoding;
-mod fault;
+mod faults;
 mod fields;
 mod head;
 pub mod laws;
@@ -18,7 +18,7 @@ mod view;
 
 pub use decoding::decode_packet;
 pub use encoding::encode_packet;
-pub use fault::PacketFault;
+pub use faults::PacketFault;
 pub use fields::size_by_fields;
 pub use head::Head;
 pub use metadata::metadata_text;

@@ -5,7 +5,7 @@ ghost use Rattle.tr_record.specs.Raw.{entry_of};
 ghost use Rattle.tr_record.specs.Whole.{entries_at};
 ghost use Rattle.tr_packet.specs.Seen.{seen_first, seen_next, verdict_after, verdict_on};
 
-use crate::fault::PacketFault;
+use crate::faults::PacketFault;
 use tr_record::{RawRec, read_raw};
 
 /// What is known of a packet's records, as far as they were read.

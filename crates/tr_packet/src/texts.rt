@@ -68,7 +68,7 @@ impl<A: Allocator> PacketTexts<A> {
         self.bytes.as_slice()
     }
 
-    /// Writes the packet of this head and these records, of which there are `count`, behind the others. If an allocation
+    /// Writes the packet of this head and these records, of which there are `count`, after the others. If an allocation
     /// fails, all is as it was.
     pub fn push(
         &mut self,
@@ -91,7 +91,7 @@ impl<A: Allocator> PacketTexts<A> {
         Ok(())
     }
 
-    /// Moves these packets behind the others. If an allocation fails, all is as it was.
+    /// Moves these packets after the others. If an allocation fails, all is as it was.
     pub fn append(&mut self, mut more: PacketTexts<A>) -> Result<(), AllocError>
         ensures ok { OnOk result (self.new ≡ self.old ++ more) }
         ensures err { OnErr result (self.new ≡ self.old) }

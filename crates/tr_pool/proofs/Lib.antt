@@ -1,2 +1,2 @@
-pub mod JudgeLaws
-pub mod ReportLaws
+pub mod JudgeLemmas
+pub mod ReportLemmas

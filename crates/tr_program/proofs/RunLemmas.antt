@@ -3,7 +3,7 @@ use Rattle.std.proofs.Common.{◌≡◌, ℕ, zero, suc, refl, inl, inr, List, [
 use Rattle.tr_folders.specs.Tree.{Tree}
 use Rattle.tr_load.specs.declared.loaded.LoadFault.TheVariants as load
 use Rattle.tr_chunk.specs.Files.{Sunk}
-use Rattle.tr_survey.proofs.FrontLemmas.{nothing_told}
+use Rattle.tr_survey.proofs.PrefixLemmas.{nothing_told}
 use Rattle.tr_survey.specs.Sessions.{sessions_of}
 use Rattle.tr_survey.specs.declared.faults.SurveyFault.{SurveyFault}
 use Rattle.tr_survey.specs.declared.faults.SurveyFault.TheVariants as survey

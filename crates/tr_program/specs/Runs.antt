@@ -4,7 +4,7 @@ use Rattle.tr_console.specs.World.{World}
 use Rattle.tr_chunk.specs.Files.{Sunk, WentOut}
 use Rattle.tr_console.specs.Runs.{AnsweredSome, BrokeOff, Ran, WentTooFar, WroteSome}
 use Rattle.tr_export.specs.Failures.{HasFailed, HasNotFailed}
-use Rattle.tr_export.specs.Making.{MadeFront, Makings}
+use Rattle.tr_export.specs.Making.{MadePrefix, Makings}
 use Rattle.tr_export.specs.declared.disk.Disk as Disk
 use Rattle.tr_export.specs.declared.faults.ExportFault.{ExportFault}
 use Rattle.tr_folders.specs.Tree.{Tree}
@@ -20,7 +20,7 @@ use Rattle.tr_record.specs.declared.bytes.ByteSource as Source
 use Rattle.tr_session.specs.Session.{SessionOf}
 use Rattle.tr_stream.specs.State.{StreamState}
 use Rattle.tr_survey.specs.Failures.{reads_after, writes_after}
-use Rattle.tr_survey.specs.Fronts.{HasToldFront}
+use Rattle.tr_survey.specs.Fronts.{HasToldPrefix}
 use Rattle.tr_survey.specs.Sessions.{TellsFolder, sessions_of}
 use Rattle.tr_survey.specs.declared.faults.SurveyFault.{SurveyFault}
 use Rattle.tr_command.specs.Invocation.{Folder, Script, Load, Audit, Task}
@@ -79,7 +79,7 @@ outside_of source sink disks ghosts input out disk folders = record {
 -- what is told of a folder by an audit with this result, before which this was out, and after which that is
 abbrev pub TellsAudit : Tree → List ℕ → Result (Option ℕ) SurveyFault → Option (List ℕ) → Option (List ℕ) → Type 0
 TellsAudit t dir (Ok found) before now = TellsFolder t dir found before now
-TellsAudit t dir (Err fault) before now = HasToldFront t dir before now
+TellsAudit t dir (Err fault) before now = HasToldPrefix t dir before now
 
 -- what stands in a folder was told to an output, or a front of it, and the ending says how many faults there are, or why not
 pub record HasAudited (dir : List ℕ) (folders folders_now : FoldersState) (out out_now : Sunk) (ending : Ending) : Type 0 where
@@ -121,7 +121,7 @@ module _ (old new : Host) where
     pub named : dir ≡ Some folder
     pub ran : Ran old.given new.given old.taken new.taken world refused
     pub whole : new.given ≡ old.content
-    pub front : MadeFront old.made new.made (all_made folder world)
+    pub front : MadePrefix old.made new.made (all_made folder world)
 
   -- neither the input nor the output failed
   abbrev pub NeitherFailed : Type 0

@@ -6,7 +6,7 @@ ghost use Rattle.std.specs.Result.{result_ok};
 ghost use Rattle.std.specs.Vec.Iter.{into_iter_items};
 ghost use Rattle.tr_chunk.specs.Files.{sunk_of};
 ghost use Rattle.tr_export.specs.Failures.{FailedByWrite, HasFailed, HasNotFailed};
-ghost use Rattle.tr_export.specs.Making.{MadeFront, and_then_made};
+ghost use Rattle.tr_export.specs.Making.{MadePrefix, and_then_made};
 ghost use Rattle.tr_command.specs.Invocation.{job_asked, words_of};
 ghost use Rattle.tr_load.specs.Telling.{disk_of};
 ghost use Rattle.tr_program.specs.Endings.{ending_of_arguments, status_of};
@@ -37,7 +37,7 @@ fn write_all<D: Disk>(
     console: &Console,
 ) -> Result<(), ExportFault>
     ensures ok { OnOk result (D.made disk.new ≡ and_then_made (D.made disk.old) (all_made dir.now console.now)) }
-    ensures err { OnErr result (MadeFront (D.made disk.old) (D.made disk.new) (all_made dir.now console.now)) }
+    ensures err { OnErr result (MadePrefix (D.made disk.old) (D.made disk.new) (all_made dir.now console.now)) }
     ensures failures { FailedByWrite (D.failures disk.old) (D.failures disk.new) result }
 {
     'sessions: for k in 0..console.sessions() {

@@ -265,7 +265,7 @@ static ROWS: [Row; 15] = [
             chunk: 0,
         }),
     },
-    // three packets, room for a closed part, and these packets behind another one
+    // three packets, room for a closed part, and these packets after another one
     Row {
         ring: (4, Mode::Discard),
         before: &[Offers(7), Takes(1)],
@@ -342,7 +342,7 @@ static ROWS: [Row; 15] = [
             records: 9,
         }),
     },
-    // five runs are kept, and four come behind them
+    // five runs are kept, and four come after them
     Row {
         ring: (4, Mode::Overwrite),
         before: &[Clears(5), Offers(20), Takes(1)],

@@ -1,2 +1,2 @@
-pub mod PageLaws
-pub mod RecordLaws
+pub mod PageLemmas
+pub mod RecordLemmas

@@ -237,7 +237,7 @@ impl<A: Allocator> Ring<A> {
     }
 
     /// The number of the sub-buffer that has the record of this serial. It looks at each record until then.
-    #[tactic(auto, using(crate::proofs::PageLaws::seq_of_pages))]
+    #[tactic(auto, using(crate::proofs::PageLemmas::seq_of_pages))]
     pub fn seq_of(&self, serial: u64) -> Option<u64>
         ensures { result ≡ seq_of serial self.now }
     {

@@ -11,7 +11,7 @@ use Rattle.tr_session_book.specs.Book.{SessionBookState}
 use Rattle.tr_session_book.specs.BookSteps.{book_clear_answer, clear_allowed_at}
 use Rattle.tr_session_book.specs.declared.faults.SessionFault.TheVariants.{NoStream}
 use Rattle.tr_session_book.specs.declared.faults.SessionFault.{SessionFault}
-use Rattle.tr_stream.proofs.RuleLaws.{agree-cleared, same-cleared, same-counted}
+use Rattle.tr_stream.proofs.RuleLemmas.{agree-cleared, same-cleared, same-counted}
 use Rattle.tr_book.specs.declared.counts.Counts.{Counts}
 use Rattle.tr_stream.specs.Rules.{Traced, by_history, by_state}
 use Rattle.tr_stream.specs.State.{StreamState}

@@ -1,3 +1,3 @@
-pub mod BookLaws
-pub mod ListLaws
-pub mod NameLaws
+pub mod BookLemmas
+pub mod ListLemmas
+pub mod NameLemmas

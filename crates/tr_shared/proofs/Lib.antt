@@ -1,6 +1,6 @@
-pub mod FeedLaws
-pub mod ModeLaws
-pub mod RotationLaws
-pub mod ShownLaws
-pub mod SnapLaws
-pub mod WhyLaws
+pub mod FeedLemmas
+pub mod ModeLemmas
+pub mod RotationLemmas
+pub mod ShownLemmas
+pub mod SnapLemmas
+pub mod WhyLemmas

@@ -4,19 +4,19 @@
 #![tactic(auto)]
 
 mod clearing;
+mod faults;
 mod laws;
 mod looking;
 mod operating;
 mod pooled;
 mod rotating;
 mod seats;
-mod settle_fault;
 mod shared;
 mod snapshots;
 
+pub use faults::SettleFault;
 pub use laws::{every_feed, every_rotation};
 pub use seats::{Offers, Takes};
-pub use settle_fault::SettleFault;
 pub use shared::Shared;
 // What a shared session is made of, and what a program that records names.
 pub use tr_schedule::{Cause, Schedule, ScheduleFault};

@@ -6,7 +6,7 @@ ghost use Rattle.tr_seats.specs.Slots.{AreNew};
 ghost use Rattle.tr_seats.specs.Sums.{totals_of};
 ghost use Rattle.tr_shared.specs.Calls.{AreOffersOf, HaveTaken, IsDrainerFault, IsStartFault, IsStopFault};
 
-use crate::settle_fault::SettleFault;
+use crate::faults::SettleFault;
 use std::alloc::{Allocator, Global};
 use std::sync::{Mutex, Wait};
 use tr_seats::{

@@ -5,12 +5,12 @@ use Rattle.std.proofs.lemmas.Grind.{common_steps}
 use Rattle.std.proofs.lemmas.List.{append-nil}
 use Rattle.tr_record.specs.Records.{Entry}
 use Rattle.tr_ring.specs.ClosedBuffer.{ClosedBuffer}
-use Rattle.tr_stream.proofs.ChunkLaws.{buffers_where-push, other-settle_first, new-settle_first, other-keep_waiting, new-keep_waiting}
-use Rattle.tr_stream.proofs.ClearLaws.{buffers-cleared, current-cleared, other-cleared, never, none_ever}
-use Rattle.tr_stream.proofs.FormLaws.{WaitLast-push}
-use Rattle.tr_stream.proofs.ModelLaws.{well_event, well_run}
-use Rattle.tr_stream.proofs.SessionLaws.{in-local, in-snapshot}
-use Rattle.tr_stream.proofs.TakeLaws.{starts}
+use Rattle.tr_stream.proofs.ChunkLemmas.{buffers_where-push, other-settle_first, new-settle_first, other-keep_waiting, new-keep_waiting}
+use Rattle.tr_stream.proofs.ClearLemmas.{buffers-cleared, current-cleared, other-cleared, never, none_ever}
+use Rattle.tr_stream.proofs.FormLemmas.{WaitLast-push}
+use Rattle.tr_stream.proofs.ModelLemmas.{well_event, well_run}
+use Rattle.tr_stream.proofs.SessionLemmas.{in-local, in-snapshot}
+use Rattle.tr_stream.proofs.TakeLemmas.{starts}
 use Rattle.tr_stream.specs.Chunks.{buffer_of, buffers_where, chunk_of, cleared_of, kept_of, waiting_of, ring_of, closed_if_any}
 use Rattle.tr_stream.specs.History.{Status, is_waiting, Waiting, Dropped, Kept, Closed, History, is_cleared, is_kept_in, discarded_in, discarded_of}
 use Rattle.tr_stream.specs.Runs.{history_after_event, history_after_events, kept_by, kept_after, kept_after_cuts, clears_among, cuts_among, cuts_made}

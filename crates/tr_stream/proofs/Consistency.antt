@@ -9,11 +9,11 @@ use Rattle.tr_book.specs.Parts.{PartState, PartsState, no_parts}
 use Rattle.tr_record.specs.Records.{Entry}
 use Rattle.tr_ring.specs.ClosedBuffer.{ClosedBuffer}
 use Rattle.tr_book.specs.declared.runs.Run.{Run}
-use Rattle.tr_stream.proofs.GoneLaws.{runs-count}
-use Rattle.tr_stream.proofs.ChunkLaws.{records-of_buffers, discarded_in-cons, blocks_where-cons}
-use Rattle.tr_stream.proofs.FateLaws.{parts-are}
-use Rattle.tr_stream.proofs.PieceLaws.{here, is_undropped, parts-left, held-is, pieces-buffers, pieces-cleared, pieces-held, pieces-used, pieces_of, undropped_of}
-use Rattle.tr_stream.proofs.TakeLaws.{length-parts_below}
+use Rattle.tr_stream.proofs.GoneLemmas.{runs-count}
+use Rattle.tr_stream.proofs.ChunkLemmas.{records-of_buffers, discarded_in-cons, blocks_where-cons}
+use Rattle.tr_stream.proofs.FateLemmas.{parts-are}
+use Rattle.tr_stream.proofs.PieceLemmas.{here, is_undropped, parts-left, held-is, pieces-buffers, pieces-cleared, pieces-held, pieces-used, pieces_of, undropped_of}
+use Rattle.tr_stream.proofs.TakeLemmas.{length-parts_below}
 use Rattle.tr_ring.specs.Ring.{seq_after}
 use Rattle.tr_stream.specs.Chunks.{buffer_runs, cleared_of, closed_if_any, buffer_of, buffers_where, chunk_of, kept_of, part_of, parts_below}
 use Rattle.tr_stream.specs.Consistent.{HasRecord, Piece, buffers_of, Rising, CountUp, PartsFrom, first_in, first_serial, DiscardsAgree, SerialsFollow, GapsAgree, IsConsistent}

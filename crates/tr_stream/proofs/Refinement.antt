@@ -9,8 +9,8 @@ use Rattle.tr_packet.specs.Packets.{Contents}
 use Rattle.tr_record.specs.Records.{Entry}
 use Rattle.tr_ring.specs.Ring.{join_current, follow_current, discard_newest, drop_front}
 use Rattle.tr_ring.specs.ClosedBuffer.{ClosedBuffer}
-use Rattle.tr_stream.proofs.ChunkLaws.{buffers_where-push, waiting-settle_first, other-settle_first, new-settle_first, records_where-push, blocks_where-push, records-settle_first, other_records-settle_first, blocks-settle_first, other_blocks-settle_first, sum-settle_first}
-use Rattle.tr_stream.proofs.FormLaws.{NumberedFrom-push, NumberedFrom-settle_first, length-settle_first, WaitLast-push, WaitLast-settle_first, AllWithinCuts-push, AllWithinCuts-settle_first, RecentLast-push, RecentLast-settle_first, serials_more, serials_same, AllUsed-push, AllUsed-settle_first, LastHeld-settle_first, nil-push, Covers-join, Covers-discard, Covers-one, CoversFrom-push, CoversFrom-settle_first, offers_before-push}
+use Rattle.tr_stream.proofs.ChunkLemmas.{buffers_where-push, waiting-settle_first, other-settle_first, new-settle_first, records_where-push, blocks_where-push, records-settle_first, other_records-settle_first, blocks-settle_first, other_blocks-settle_first, sum-settle_first}
+use Rattle.tr_stream.proofs.FormLemmas.{NumberedFrom-push, NumberedFrom-settle_first, length-settle_first, WaitLast-push, WaitLast-settle_first, AllWithinCuts-push, AllWithinCuts-settle_first, RecentLast-push, RecentLast-settle_first, serials_more, serials_same, AllUsed-push, AllUsed-settle_first, LastHeld-settle_first, nil-push, Covers-join, Covers-discard, Covers-one, CoversFrom-push, CoversFrom-settle_first, offers_before-push}
 use Rattle.tr_stream.specs.Chunks.{chunk_of, waiting_of, kept_of, cleared_of, buffer_runs, packet_of, part_of, parts_below}
 use Rattle.tr_stream.specs.History.{Status, Waiting, Dropped, Kept, Block, Closed, History, is_waiting, is_dropped, is_kept, is_kept_in, is_cleared, is_consumed, is_withdrawn, offers_in, offers_before, offered_of, times_in, times}
 use Rattle.tr_stream.specs.StandsFor.{StandsFor}

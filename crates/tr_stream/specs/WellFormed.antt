@@ -30,7 +30,7 @@ abbrev pub AllWithinCuts : ℕ → List Closed → Type 0
 AllWithinCuts cuts [] = Unit {0}
 AllWithinCuts cuts (c ∷ cs) = IsWithin cuts c.status × AllWithinCuts cuts cs
 
--- a block that may stand behind one kept in this chunk
+-- a block that may come after one kept in this chunk
 abbrev pub IsRecent : ℕ → Status → Type 0
 IsRecent k Waiting = Unit {0}
 IsRecent k Dropped = Unit {0}

@@ -56,7 +56,7 @@ pub fn move_to_part<A: Allocator>(
     parts.push(head, buffer.count(), &buffer.records())
 }
 
-/// Writes the packet of a closed sub-buffer behind others.
+/// Writes the packet of a closed sub-buffer after others.
 fn put_closed<A: Allocator>(
     packets: &mut PacketTexts<A>,
     config: &StreamConfig,
@@ -69,7 +69,7 @@ fn put_closed<A: Allocator>(
     packets.push(head, buffer.count(), &buffer.records())
 }
 
-/// Writes the packet that the current sub-buffer would be, if it were closed at this moment, behind others.
+/// Writes the packet that the current sub-buffer would be, if it were closed at this moment, after others.
 fn put_current<A: Allocator>(
     packets: &mut PacketTexts<A>,
     config: &StreamConfig,

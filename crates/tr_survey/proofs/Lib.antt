@@ -1,12 +1,12 @@
+pub mod FileNameLemmas
 pub mod FindLemmas
-pub mod FrontLemmas
+pub mod PrefixLemmas
 pub mod ListingLemmas
-pub mod MetadataLaws
 pub mod MetadataLemmas
-pub mod NameLaws
+pub mod MetadataTextLemmas
 pub mod NameLemmas
 pub mod NumberLemmas
 pub mod PieceLemmas
-pub mod StampLaws
+pub mod StampLemmas
 pub mod SurveyLemmas
 pub mod TellLemmas

@@ -42,7 +42,7 @@ last_line bytes none =
     let whole : end_of bytes ≡ length bytes = omega (arith, high, prefix_len-le-length (λ b. not (ends_line b)) bytes) in
     sym (ap uuid_in_lines (one_line bytes whole) ∙ or_none (uuid_in_line bytes))
 
--- a line, and the lines behind it
+-- a line, and the lines after it
 pub next_line : (bytes : List ℕ) (end : ℕ) → Some end ≡ position ends_line bytes
     → uuid_in bytes ≡ option_or (uuid_in_line (take end bytes)) (uuid_in (drop (end + 1) bytes))
 next_line bytes end some =
@@ -50,7 +50,7 @@ next_line bytes end some =
     ap uuid_in_lines (slice_split_first ends_line bytes 0 (ltb-true (end_of bytes) (length bytes) found.0))
     ∙ ap (λ (n : ℕ). option_or (uuid_in_line (take n bytes)) (uuid_in (drop (n + 1) bytes))) found.1
 
--- the line names one, or none and the lines behind it are left
+-- the line names one, or none and the lines after it are left
 pub found_in_line : (bytes line : List ℕ) (end : ℕ) (uuid : List ℕ) → Some end ≡ position ends_line bytes → line ≡ take end bytes
     → Some uuid ≡ uuid_in_line line → Some uuid ≡ uuid_in bytes
 found_in_line bytes line end uuid some is found =

@@ -38,7 +38,7 @@ none_before name none =
 pub named_none : (name : List ℕ) → NoCharPasses (λ d. eqb d 95) name → None ≡ stream_named name
 named_none name none = ap (λ (front : List ℕ). stream_of front (after_last is_underscore name)) (sym (none_before name none))
 
--- the bytes behind this place are others, and an underscore stands before it
+-- the bytes after this place are others, and an underscore stands before it
 record CutAt (name : List ℕ) (j : ℕ) : Type 0 where
   before : suffix_len is_other name ≡ length name - j
 

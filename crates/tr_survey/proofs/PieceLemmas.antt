@@ -25,7 +25,7 @@ pub answer_fault : (o : Option AuditFault) (f : AuditFault) → Err f ≡ answer
 answer_fault None f e = absurd cc
 answer_fault (Some g) f e = cc
 
--- ---- a piece without bytes behind the last one
+-- ---- a piece without bytes after the last one
 
 some_same : (a b : List ℕ) → Some a ≡ Some b → a ≡ b
 some_same a b e = cc
@@ -94,7 +94,7 @@ audited_before uuid stream pieces pss are =
     ap all_of cut.whole ∙ all_of-push cut.front cut.back ∙ ap (λ (l : List Contents). all_of cut.front ++ l) none ∙ append-nil (all_of cut.front) in
     (cut.front, record { texts = cut.texts; sound = subst (AreOfStream uuid stream) same are.sound }, same)
 
--- a reader at the start of a piece, behind those that are done
+-- a reader at the start of a piece, after those that are done
 pub audited_so_far : {A : Type 0} (uuid : List ℕ) (stream : ℕ) (pieces : List (List ℕ)) (r : Reading A) → r.fault ≡ None
     → HasRead uuid stream pieces [] r → (pss : List (List Contents)) × AreAudited uuid stream pieces pss
 audited_so_far {A = A} uuid stream pieces r none has =
@@ -127,7 +127,7 @@ ended_at_fault uuid stream done bytes r f answer has =
 
 -- ---- while a file is fed
 
--- of the file these bytes were fed to the reader, and what it has left comes behind them
+-- of the file these bytes were fed to the reader, and what it has left comes after them
 pub record FedSoFar {A : Type 0} (before now : Option (List ℕ)) (first r : Reading A) : Type 0 where
   pub fed : List ℕ
   pub left : (bytes : List ℕ) → before ≡ Some bytes → (rest : List ℕ) × (bytes ≡ fed ++ rest) × (now ≡ Some rest)
@@ -161,7 +161,7 @@ fed_all before now after first r so_far reads uuid stream done has = (
   so_far.has uuid stream done has,
 )
 
--- what is left behind bytes, if it is known
+-- what is left after bytes, if it is known
 left_behind : (before now : Option (List ℕ)) (fed : List ℕ)
     → ((bytes : List ℕ) → before ≡ Some bytes → (rest : List ℕ) × (bytes ≡ fed ++ rest) × (now ≡ Some rest))
     → (rest : List ℕ) × AreLeft before (fed ++ rest)

@@ -10,8 +10,8 @@ use Rattle.tr_survey.specs.Sessions.{IsSurvey, TellsSessions, TellsStreams, arch
 use Rattle.tr_survey.specs.declared.naming.Naming.{Naming}
 
 -- of this text some first bytes went out, and nothing else
-abbrev pub IsFrontOut : List ℕ → Option (List ℕ) → Option (List ℕ) → Type 0
-IsFrontOut text before now = (k : ℕ) × (k ≤ length text) × (now ≡ and_then_bytes before (take k text))
+abbrev pub IsPrefixOut : List ℕ → Option (List ℕ) → Option (List ℕ) → Type 0
+IsPrefixOut text before now = (k : ℕ) × (k ≤ length text) × (now ≡ and_then_bytes before (take k text))
 
 -- what is told of the first of these streams
 pub record TellsFirst (t : Tree) (folder uuid : List ℕ) (archives streams : List Numbered) (text : List ℕ) : Type 0 where
@@ -59,10 +59,10 @@ pub record TellsInto (t : Tree) (dir : List ℕ) (sessions : List (List ℕ)) (t
   pub text_is : text ≡ first_text ++ next_text
 
 -- what went out when a survey of these names, of which some are sessions, ended in a fault: a front of such a text
-abbrev pub HasFrontAmong : Tree → List ℕ → List (List ℕ) → Option (List ℕ) → Option (List ℕ) → Type 0
-HasFrontAmong t dir names before now = (text : List ℕ) × TellsInto t dir (filter (is_session t dir) names) text × IsFrontOut text before now
+abbrev pub HasPrefixAmong : Tree → List ℕ → List (List ℕ) → Option (List ℕ) → Option (List ℕ) → Type 0
+HasPrefixAmong t dir names before now = (text : List ℕ) × TellsInto t dir (filter (is_session t dir) names) text × IsPrefixOut text before now
 
 -- what went out when a survey of a folder did: a front of such a text, or of the whole survey's
-abbrev pub HasToldFront : Tree → List ℕ → Option (List ℕ) → Option (List ℕ) → Type 0
-HasToldFront t dir before now =
-    (text : List ℕ) × (TellsInto t dir (sessions_of t dir) text ⊎ ((n : ℕ) × IsSurvey t dir text n)) × IsFrontOut text before now
+abbrev pub HasToldPrefix : Tree → List ℕ → Option (List ℕ) → Option (List ℕ) → Type 0
+HasToldPrefix t dir before now =
+    (text : List ℕ) × (TellsInto t dir (sessions_of t dir) text ⊎ ((n : ℕ) × IsSurvey t dir text n)) × IsPrefixOut text before now

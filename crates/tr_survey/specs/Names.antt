@@ -9,7 +9,7 @@ use Rattle.tr_terms.specs.Names.{is_name}
 abbrev pub is_digit : ℕ → Bool
 is_digit b = nat_le 48 b && nat_le b 57
 
--- a zero with a digit behind it
+-- a zero with a digit after it
 abbrev pub has_spare_zero : List ℕ → Bool
 has_spare_zero [] = false
 has_spare_zero (b ∷ []) = false
@@ -41,7 +41,7 @@ is_underscore b = b == 95
 abbrev pub of_parts : List ℕ → ℕ → Numbered
 of_parts channel number = record { number = number; name = channel }
 
--- what stands before the last underscore and behind it as a channel's name and a number; none: it isn't so
+-- what stands before the last underscore and after it as a channel's name and a number; none: it isn't so
 abbrev pub stream_of : List ℕ → List ℕ → Option Numbered
 stream_of channel digits = if is_name channel then option_map (of_parts channel) (number_of digits) else None
 

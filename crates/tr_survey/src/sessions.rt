@@ -8,7 +8,7 @@ ghost use Rattle.tr_folders.specs.Failures.{after_reading};
 ghost use Rattle.tr_folders.specs.Tree.{Tree, by_text};
 ghost use Rattle.tr_record.specs.Bytes.{and_then_bytes};
 ghost use Rattle.tr_survey.specs.Failures.{reads_after, writes_after};
-ghost use Rattle.tr_survey.specs.Fronts.{BeginsNamed, BeginsSession, IsFrontOut, TellsFirst};
+ghost use Rattle.tr_survey.specs.Fronts.{BeginsNamed, BeginsSession, IsPrefixOut, TellsFirst};
 ghost use Rattle.tr_survey.specs.Lines.{archive_text, wrong_name, wrong_with};
 ghost use Rattle.tr_survey.specs.Listing.{key_of};
 ghost use Rattle.tr_survey.specs.Sessions.{TellsNamed, TellsSession, TellsStreams, archives_at_fault, archives_text, head_text, namings_of};
@@ -83,7 +83,7 @@ fn put_archive<K: ByteSink>(
     ensures faulty { IfOk result (λ faulty. faulty ≡ is_some (wrong_with (option_copied uuid.entry) naming.now)) }
     ensures ok { OnOk result (K.taken sink.new ≡ and_then_bytes (K.taken sink.old)
         (archive_text (key_of archive.now).name (wrong_with (option_copied uuid.entry) naming.now))) }
-    ensures err { OnErr result (IsFrontOut (archive_text (key_of archive.now).name (wrong_with (option_copied uuid.entry) naming.now))
+    ensures err { OnErr result (IsPrefixOut (archive_text (key_of archive.now).name (wrong_with (option_copied uuid.entry) naming.now))
         (K.taken sink.old) (K.taken sink.new)) }
     ensures writes { K.failures sink.new ≡ writes_after result (K.failures sink.old) }
     ensures reads { (n : ℕ) → reads_after result n ≡ n }
@@ -120,7 +120,7 @@ fn put_archives<K: ByteSink>(
         ≡ capped_count (archives_at_fault (option_copied uuid.entry) (zip (map key_of archives.now) namings.now))) }
     ensures ok { OnOk result (K.taken sink.new ≡ and_then_bytes (K.taken sink.old)
         (archives_text (option_copied uuid.entry) (zip (map key_of archives.now) namings.now))) }
-    ensures err { OnErr result (IsFrontOut (archives_text (option_copied uuid.entry) (zip (map key_of archives.now) namings.now))
+    ensures err { OnErr result (IsPrefixOut (archives_text (option_copied uuid.entry) (zip (map key_of archives.now) namings.now))
         (K.taken sink.old) (K.taken sink.new)) }
     ensures writes { K.failures sink.new ≡ writes_after result (K.failures sink.old) }
     ensures reads { (n : ℕ) → reads_after result n ≡ n }
@@ -150,7 +150,7 @@ fn survey_streams<F: Folders, K: ByteSink>(
         × (n ≡ capped_count faults) × (K.taken sink.new ≡ and_then_bytes (K.taken sink.old) text)) }
     ensures err { OnErr result ((t : Tree) → F.tree folders.old ≡ Some t → (text : List ℕ)
         × TellsFirst t folder.now uuid.now (map key_of archives.now) (map key_of streams.now) text
-        × IsFrontOut text (K.taken sink.old) (K.taken sink.new)) }
+        × IsPrefixOut text (K.taken sink.old) (K.taken sink.new)) }
     ensures tree { F.tree folders.new ≡ F.tree folders.old }
     ensures reads { F.failures folders.new ≡ reads_after result (F.failures folders.old) }
     ensures writes { K.failures sink.new ≡ writes_after result (K.failures sink.old) }
@@ -178,7 +178,7 @@ fn put_head<K: ByteSink>(
         ≡ capped_count (archives_at_fault (option_copied uuid.entry) (zip (map key_of archives.now) namings.now))) }
     ensures ok { OnOk result (K.taken sink.new ≡ and_then_bytes (K.taken sink.old)
         (head_text session.now (option_copied uuid.entry) (map key_of archives.now) namings.now)) }
-    ensures err { OnErr result (IsFrontOut (head_text session.now (option_copied uuid.entry) (map key_of archives.now) namings.now)
+    ensures err { OnErr result (IsPrefixOut (head_text session.now (option_copied uuid.entry) (map key_of archives.now) namings.now)
         (K.taken sink.old) (K.taken sink.new)) }
     ensures writes { K.failures sink.new ≡ writes_after result (K.failures sink.old) }
     ensures reads { (n : ℕ) → reads_after result n ≡ n }
@@ -206,7 +206,7 @@ fn survey_archives<F: Folders, K: ByteSink>(
         × (n ≡ capped_count faults) × (K.taken sink.new ≡ and_then_bytes (K.taken sink.old) text)) }
     ensures err { OnErr result ((t : Tree) → F.tree folders.old ≡ Some t → (text : List ℕ)
         × BeginsNamed t session.now folder.now (map key_of archives.now) namings.now text
-        × IsFrontOut text (K.taken sink.old) (K.taken sink.new)) }
+        × IsPrefixOut text (K.taken sink.old) (K.taken sink.new)) }
     ensures tree { F.tree folders.new ≡ F.tree folders.old }
     ensures reads { F.failures folders.new ≡ reads_after result (F.failures folders.old) }
     ensures writes { K.failures sink.new ≡ writes_after result (K.failures sink.old) }
@@ -239,7 +239,7 @@ pub(crate) fn survey_session<F: Folders, K: ByteSink>(
         × (n ≡ capped_count faults) × (K.taken sink.new ≡ and_then_bytes (K.taken sink.old) text)) }
     ensures err { OnErr result ((t : Tree) → F.tree folders.old ≡ Some t → (text : List ℕ)
         × BeginsSession t session.now folder.now (by_text names.now) text
-        × IsFrontOut text (K.taken sink.old) (K.taken sink.new)) }
+        × IsPrefixOut text (K.taken sink.old) (K.taken sink.new)) }
     ensures tree { F.tree folders.new ≡ F.tree folders.old }
     ensures reads { F.failures folders.new ≡ reads_after result (F.failures folders.old) }
     ensures writes { K.failures sink.new ≡ writes_after result (K.failures sink.old) }

@@ -119,7 +119,7 @@ fn stopped(fault: AuditFault) -> Result<Finding, SurveyFault>
     }
 }
 
-/// What is found of a stream whose files are all read. The piece behind the last one has no bytes.
+/// What is found of a stream whose files are all read. The piece after the last one has no bytes.
 fn ended(reader: AuditReader) -> Result<Finding, SurveyFault>
     ensures ok { IfOk result (λ finding. (uuid : List ℕ) (stream : ℕ) (pieces : List (List ℕ)) → HasRead uuid stream pieces [] reader
         → Finds uuid stream (map Some pieces) finding) }

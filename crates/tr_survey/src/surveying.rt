@@ -5,7 +5,7 @@ ghost use Rattle.std.specs.Option.{unwrap_or};
 ghost use Rattle.tr_folders.specs.Tree.{Tree, by_text};
 ghost use Rattle.tr_record.specs.Bytes.{and_then_bytes};
 ghost use Rattle.tr_survey.specs.Failures.{reads_after, writes_after};
-ghost use Rattle.tr_survey.specs.Fronts.{HasFrontAmong, HasToldFront, IsFrontOut};
+ghost use Rattle.tr_survey.specs.Fronts.{HasPrefixAmong, HasToldPrefix, IsPrefixOut};
 ghost use Rattle.tr_survey.specs.Lines.{end_text};
 ghost use Rattle.tr_survey.specs.Listing.{session_names};
 ghost use Rattle.tr_survey.specs.Sessions.{TellsAmong, TellsFolder, and_more};
@@ -35,7 +35,7 @@ fn survey_name<F: Folders, K: ByteSink>(
     ensures tells { IfOk result (λ found. (t : Tree) → F.tree folders.old ≡ Some t
         → TellsAmong t dir.now (name.now ∷ []) found (K.taken sink.old) (K.taken sink.new)) }
     ensures err { OnErr result ((t : Tree) → F.tree folders.old ≡ Some t
-        → HasFrontAmong t dir.now (name.now ∷ []) (K.taken sink.old) (K.taken sink.new)) }
+        → HasPrefixAmong t dir.now (name.now ∷ []) (K.taken sink.old) (K.taken sink.new)) }
     ensures tree { F.tree folders.new ≡ F.tree folders.old }
     ensures reads { F.failures folders.new ≡ reads_after result (F.failures folders.old) }
     ensures writes { K.failures sink.new ≡ writes_after result (K.failures sink.old) }
@@ -72,7 +72,7 @@ fn survey_names<F: Folders, K: ByteSink>(
     ensures tells { IfOk result (λ found. (t : Tree) → F.tree folders.old ≡ Some t
         → TellsAmong t dir.now (by_text names.now) found (K.taken sink.old) (K.taken sink.new)) }
     ensures err { OnErr result ((t : Tree) → F.tree folders.old ≡ Some t
-        → HasFrontAmong t dir.now (by_text names.now) (K.taken sink.old) (K.taken sink.new)) }
+        → HasPrefixAmong t dir.now (by_text names.now) (K.taken sink.old) (K.taken sink.new)) }
     ensures tree { F.tree folders.new ≡ F.tree folders.old }
     ensures reads { F.failures folders.new ≡ reads_after result (F.failures folders.old) }
     ensures writes { K.failures sink.new ≡ writes_after result (K.failures sink.old) }
@@ -97,7 +97,7 @@ fn survey_sessions<F: Folders, K: ByteSink>(
     ensures tells { IfOk result (λ found. (t : Tree) → F.tree folders.old ≡ Some t
         → TellsAmong t dir.now (session_names (unwrap_or (t.names dir.now) [])) found (K.taken sink.old) (K.taken sink.new)) }
     ensures err { OnErr result ((t : Tree) → F.tree folders.old ≡ Some t
-        → HasFrontAmong t dir.now (session_names (unwrap_or (t.names dir.now) [])) (K.taken sink.old) (K.taken sink.new)) }
+        → HasPrefixAmong t dir.now (session_names (unwrap_or (t.names dir.now) [])) (K.taken sink.old) (K.taken sink.new)) }
     ensures tree { F.tree folders.new ≡ F.tree folders.old }
     ensures reads { F.failures folders.new ≡ reads_after result (F.failures folders.old) }
     ensures writes { K.failures sink.new ≡ writes_after result (K.failures sink.old) }
@@ -112,7 +112,7 @@ fn survey_sessions<F: Folders, K: ByteSink>(
 /// Writes the end of the text.
 fn put_end<K: ByteSink>(alloc: Global, sink: &mut K, faults: u64) -> Result<(), SurveyFault>
     ensures ok { OnOk result (K.taken sink.new ≡ and_then_bytes (K.taken sink.old) (end_text faults)) }
-    ensures err { OnErr result (IsFrontOut (end_text faults) (K.taken sink.old) (K.taken sink.new)) }
+    ensures err { OnErr result (IsPrefixOut (end_text faults) (K.taken sink.old) (K.taken sink.new)) }
     ensures writes { K.failures sink.new ≡ writes_after result (K.failures sink.old) }
     ensures reads { (n : ℕ) → reads_after result n ≡ n }
 {
@@ -137,7 +137,7 @@ pub fn survey<F: Folders, K: ByteSink>(
     ensures tells { IfOk result (λ found. (t : Tree) → F.tree folders.old ≡ Some t
         → TellsFolder t dir.now found (K.taken sink.old) (K.taken sink.new)) }
     ensures err { OnErr result ((t : Tree) → F.tree folders.old ≡ Some t
-        → HasToldFront t dir.now (K.taken sink.old) (K.taken sink.new)) }
+        → HasToldPrefix t dir.now (K.taken sink.old) (K.taken sink.new)) }
     ensures tree { F.tree folders.new ≡ F.tree folders.old }
     ensures reads { F.failures folders.new ≡ reads_after result (F.failures folders.old) }
     ensures writes { K.failures sink.new ≡ writes_after result (K.failures sink.old) }

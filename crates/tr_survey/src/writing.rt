@@ -4,7 +4,7 @@ ghost use Rattle.std.specs.Prelude.{◌≡◌, ℕ, IfOk, OnOk, OnErr, map, slic
 ghost use Rattle.tr_record.specs.Bytes.{and_then_bytes};
 ghost use Rattle.tr_survey.specs.Failures.{reads_after, writes_after};
 ghost use Rattle.tr_survey.specs.Findings.{finding_text, is_faulty, name_of};
-ghost use Rattle.tr_survey.specs.Fronts.{IsFrontOut};
+ghost use Rattle.tr_survey.specs.Fronts.{IsPrefixOut};
 ghost use Rattle.tr_survey.specs.Lines.{gaps_text};
 ghost use Rattle.tr_survey.specs.Listing.{key_of};
 
@@ -18,7 +18,7 @@ use tr_record::{ByteSink, put_all};
 /// Writes a line.
 pub(crate) fn put_line<K: ByteSink>(sink: &mut K, line: &str) -> Result<(), SurveyFault>
     ensures ok { OnOk result (K.taken sink.new ≡ and_then_bytes (K.taken sink.old) line.now) }
-    ensures err { OnErr result (IsFrontOut line.now (K.taken sink.old) (K.taken sink.new)) }
+    ensures err { OnErr result (IsPrefixOut line.now (K.taken sink.old) (K.taken sink.new)) }
     ensures writes { K.failures sink.new ≡ writes_after result (K.failures sink.old) }
     ensures reads { (n : ℕ) → reads_after result n ≡ n }
 {
@@ -36,7 +36,7 @@ fn put_gaps<K: ByteSink>(
     runs: &[(u64, u64)],
 ) -> Result<(), SurveyFault>
     ensures ok { OnOk result (K.taken sink.new ≡ and_then_bytes (K.taken sink.old) (gaps_text stream runs.now)) }
-    ensures err { OnErr result (IsFrontOut (gaps_text stream runs.now) (K.taken sink.old) (K.taken sink.new)) }
+    ensures err { OnErr result (IsPrefixOut (gaps_text stream runs.now) (K.taken sink.old) (K.taken sink.new)) }
     ensures writes { K.failures sink.new ≡ writes_after result (K.failures sink.old) }
     ensures reads { (n : ℕ) → reads_after result n ≡ n }
 {
@@ -69,7 +69,7 @@ pub(crate) fn put_finding<K: ByteSink>(
     ensures ok { OnOk result (K.taken sink.new
         ≡ and_then_bytes (K.taken sink.old) (finding_text (map key_of archives.now) (key_of stream.now) finding.now)) }
     ensures err { OnErr result
-        (IsFrontOut (finding_text (map key_of archives.now) (key_of stream.now) finding.now) (K.taken sink.old) (K.taken sink.new)) }
+        (IsPrefixOut (finding_text (map key_of archives.now) (key_of stream.now) finding.now) (K.taken sink.old) (K.taken sink.new)) }
     ensures writes { K.failures sink.new ≡ writes_after result (K.failures sink.old) }
     ensures reads { (n : ℕ) → reads_after result n ≡ n }
 {

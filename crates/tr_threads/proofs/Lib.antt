@@ -1,4 +1,4 @@
-pub mod FeedLaws
-pub mod JoinLaws
-pub mod SideLaws
-pub mod StartLaws
+pub mod FeedLemmas
+pub mod JoinLemmas
+pub mod SideLemmas
+pub mod StartLemmas

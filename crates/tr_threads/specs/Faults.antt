@@ -1,7 +1,7 @@
 -- What was missing for threads, by its code and its name.
 use Rattle.std.specs.Prelude.{ℕ, List, codes}
-use Rattle.tr_threads.specs.declared.pool_fault.PoolError.{PoolError}
-use Rattle.tr_threads.specs.declared.pool_fault.PoolError.TheVariants.{NoThread, NoMemory}
+use Rattle.tr_threads.specs.declared.faults.PoolError.{PoolError}
+use Rattle.tr_threads.specs.declared.faults.PoolError.TheVariants.{NoThread, NoMemory}
 
 abbrev pub pool_error_code : PoolError → List ℕ
 pool_error_code NoThread = codes "U1"

@@ -4,8 +4,8 @@ ghost use Rattle.std.specs.Prelude.{◌≡◌, IfOk, IfErr, vec_len};
 ghost use Rattle.tr_threads.specs.Pools.{EachCame, IsKeptOr};
 ghost use Rattle.tr_threads.specs.Turns.{IsWorked};
 
+use crate::faults::{PoolError, PoolFault};
 use crate::gate::Gate;
-use crate::pool_fault::{PoolError, PoolFault};
 use crate::target::Target;
 use crate::threads::set_to_work;
 use crate::work::Work;

@@ -5,9 +5,9 @@ ghost use Rattle.std.specs.List.{AllByRecursion};
 ghost use Rattle.tr_threads.specs.Feeding.{IsFed, WasFed};
 ghost use Rattle.tr_threads.specs.Pools.{EachCame, IsKeptOr};
 
+use crate::faults::{PoolError, PoolFault};
 use crate::intake::Intake;
 use crate::items::{Item, Items};
-use crate::pool_fault::{PoolError, PoolFault};
 use crate::threads::set_to_work;
 use crate::work::Work;
 use std::alloc::Global;
@@ -129,7 +129,7 @@ fn pair<S: Drop>(
     Ok(seats)
 }
 
-/// The producers of these seats, the last first, behind those that are there.
+/// The producers of these seats, the last first, after those that are there.
 fn unpair<S: Drop>(mut seats: Vec<LoggedProducer<S>>, mut producers: Vec<S>) -> Vec<S>
     requires { vec_len producers + vec_len seats ≤ vec_capacity producers }
     ensures { result.items ≡ producers.items ++ reverse (map (λ s. s.producer) seats.items) }

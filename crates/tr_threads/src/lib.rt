@@ -2,11 +2,11 @@
 #![tactic(auto)]
 
 mod draining;
+mod faults;
 mod feeding;
 mod gate;
 mod intake;
 mod items;
-mod pool_fault;
 mod sides;
 mod target;
 mod threads;
@@ -16,11 +16,11 @@ mod work;
 mod worker;
 
 pub use draining::drain_all;
+pub use faults::{PoolError, PoolFault};
 pub use feeding::{LoggedProducer, feed};
 pub use gate::Gate;
 pub use intake::Intake;
 pub use items::{Item, Items};
-pub use pool_fault::{PoolError, PoolFault};
 pub use sides::SidesFault;
 pub use target::Target;
 pub use together::{Feeders, Workers, feed_and_drain};

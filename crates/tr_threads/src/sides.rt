@@ -5,7 +5,7 @@ ghost use Rattle.tr_threads.specs.Pools.{EachCame, IsKeptOr};
 ghost use Rattle.tr_threads.specs.Sides.{as_producer, as_drainer};
 ghost use Rattle.tr_threads.specs.declared.sides.Side.TheVariants.{Producer, Drainer};
 
-use crate::pool_fault::{PoolError, PoolFault};
+use crate::faults::{PoolError, PoolFault};
 use crate::threads::set_to_work;
 use crate::work::Work;
 use std::alloc::Global;

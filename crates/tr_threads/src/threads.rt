@@ -5,7 +5,7 @@ ghost use Rattle.tr_threads.specs.Pools.{EachCame, IsKeptOr};
 ghost use Rattle.std.specs.Thread.{IsSend, IsSync};
 ghost use Rattle.tr_threads.specs.Threads.{DidIfBegun};
 
-use crate::pool_fault::{PoolError, PoolFault};
+use crate::faults::{PoolError, PoolFault};
 use crate::work::Work;
 use std::alloc::Global;
 use std::snapshot::Snapshot;

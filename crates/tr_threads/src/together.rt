@@ -6,11 +6,11 @@ ghost use Rattle.tr_threads.specs.Pools.{EachCame, IsKeptOr};
 ghost use Rattle.tr_threads.specs.Turns.{IsWorked};
 
 use crate::draining::Draining;
+use crate::faults::PoolError;
 use crate::feeding::{Feeding, LoggedProducer, given_back, prepared};
 use crate::gate::Gate;
 use crate::intake::Intake;
 use crate::items::Item;
-use crate::pool_fault::PoolError;
 use crate::sides::{SidesFault, set_sides_to_work};
 use crate::target::Target;
 use std::alloc::Global;

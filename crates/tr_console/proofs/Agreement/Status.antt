@@ -9,7 +9,7 @@ use Rattle.tr_session.proofs.ClearAgreement.{same-all_cleared}
 use Rattle.tr_session.specs.Agreement.{AllAgree, SessionsAgree}
 use Rattle.tr_session.specs.Session.{SessionOf}
 use Rattle.tr_session.specs.Sizes.{all_cleared}
-use Rattle.tr_stream.proofs.RuleLaws.{same-counted}
+use Rattle.tr_stream.proofs.RuleLemmas.{same-counted}
 use Rattle.tr_stream.specs.Rules.{Traced, by_history, by_state}
 use Rattle.tr_stream.specs.State.{StreamState}
 

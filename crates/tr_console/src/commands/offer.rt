@@ -27,16 +27,15 @@ pub(crate) struct OfferTo {
     pub(crate) id: u32,
 }
 
-/// The payload of an offer: a text, and `fill` bytes `a` after it.
+/// The payload of an offer: a text, and `fill` bytes `a` after it. It is made once, in memory for as many bytes.
 fn payload<A: Allocator + Copy>(alloc: A, text: &str, fill: u32) -> Result<Vec<u8, A>, AllocError>
     ensures { IfOk result (λ v. v.items ≡ payload_of text.now fill) }
 {
-    let mut bytes = Vec::with_capacity(alloc, text.len() + fill as usize)?;
-    put_bytes(&mut bytes, text.as_bytes());
-    'fill: for filled in 0..fill {
-        let _ = filled;
-        bytes.push(b'a')?;
-    }
+    let text = text.as_bytes();
+    let len = text.len() + fill as usize;
+    let mut bytes = Vec::with_capacity(alloc, len)?;
+    put_bytes(&mut bytes, text);
+    bytes.resize(len, b'a')?;
     Ok(bytes)
 }
 

@@ -32,7 +32,7 @@ fn push(rt: &impl Abort, alloc: Global, parts: &mut Parts, seq: u64, len: usize)
     put_in_part(rt, alloc, parts, &packet(rt, alloc, seq, 1000, 1000, len));
 }
 
-/// Cuts behind packets.
+/// Cuts after packets.
 fn cut(rt: &impl Abort, parts: &mut Parts, packets: PacketTexts)
     requires { records_of packets ≤ 2 }
 {
@@ -166,7 +166,7 @@ fn texts_of(rt: &impl Abort, alloc: Global, rows: &[(u64, &[u64])]) -> PacketTex
     texts
 }
 
-/// The runs of packets: those of the first one's records, and behind them those of the others.
+/// The runs of packets: those of the first one's records, and after them those of the others.
 fn runs_of(rt: &impl Abort, alloc: Global, texts: &PacketTexts) -> Runs {
     let mut packets = texts.packets();
     let first = packets.next().expect(rt, "a packet");
@@ -203,7 +203,7 @@ static CLEARED: [(u64, Option<u64>); 8] = [
     (10, None),
 ];
 
-/// Clears the current part, and behind it a packet with this number.
+/// Clears the current part, and after it a packet with this number.
 fn clear(rt: &impl Abort, alloc: Global, parts: &mut Parts, seq: u64) {
     let texts = only(rt, alloc, seq, 50);
     let mut more = Runs::new(alloc);

@@ -65,7 +65,7 @@ fn assert_written(rt: &impl Abort, alloc: Global, snap: &StreamSnap, packets: &[
     assert_same(rt, bytes.len(), 0);
 }
 
-/// Asserts the packet that bytes begin with: 256 bytes, its number, and the serials of its two records. What is behind it.
+/// Asserts the packet that bytes begin with: 256 bytes, its number, and the serials of its two records. What is after it.
 fn assert_packet<'a>(rt: &impl Abort, bytes: &'a [u8], seq: u64, serial: u64) -> &'a [u8] {
     let (packet, size) = decode_packet(bytes).expect(rt, "a packet");
     assert_same(rt, (size, packet.head().seq, packet.count()), (256, seq, 2));

@@ -218,7 +218,7 @@ fn looks_show_the_ring_and_change_nothing(rt: HostRuntime) {
     assert_lists(&rt, rt.alloc(), SessionMode::Local, &DISCARDING);
 }
 
-/// Asserts that a packet of 256 bytes is read again from the front of a text. What is behind it.
+/// Asserts that a packet of 256 bytes is read again from the front of a text. What is after it.
 fn assert_read_again<'a>(rt: &impl Abort, bytes: &'a [u8], packet: &PacketView<'_>) -> &'a [u8] {
     let (view, size) = decode_packet(bytes).expect(rt, "a packet");
     assert_same(rt, size, 256);

@@ -19,7 +19,7 @@ struct Shown {
     ring: (u64, u64),
 }
 
-/// What a full ring does, and what a stream shows after the first 100,000 offers, and after as many more behind a clear.
+/// What a full ring does, and what a stream shows after the first 100,000 offers, and after as many more after a clear.
 static MODES: [(Mode, &[Shown]); 2] = [
     (
         Mode::Discard,

@@ -1,5 +1,5 @@
 use Rattle.std.proofs.Common.{◌∙◌, ap, sym}
-use Rattle.tr_export.proofs.FileLaws.{in-archive}
+use Rattle.tr_export.proofs.FileLemmas.{in-archive}
 use Rattle.tr_export.proofs.laws.every_stream_has_its_file.Goals as goal
 use Rattle.tr_session_book.specs.Book.{SessionBookState}
 

@@ -1,7 +1,7 @@
 use Rattle.std.proofs.Common.{rules, ◌≡◌, ◌∷◌, [], ◌++◌, List, ℕ, Ok, Result, sym, ap, ◌∙◌, append-nil}
 use Rattle.tr_packet.specs.Decoding.{Begins}
 use Rattle.tr_packet.specs.Packets.{Contents, contents, packet_text, packet_size}
-use Rattle.tr_packet.specs.declared.fault.PacketFault.{PacketFault}
+use Rattle.tr_packet.specs.declared.faults.PacketFault.{PacketFault}
 use Rattle.tr_packet.specs.declared.head.Head.{Head}
 use Rattle.tr_record.specs.Records.{Entry}
 use Rattle.tr_inner_tests.proofs.packing.put.Goals as goal

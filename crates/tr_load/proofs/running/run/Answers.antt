@@ -1,7 +1,7 @@
 use Rattle.std.proofs.Common.{rules, arith, Vec, Global, ◌≡◌, Ok, ap, length, map, vec_len, sym, ◌∙◌, subst}
 use Rattle.tr_load.specs.Loads.{AllHave, AreLogs, IsEnded, IsJudged, IsLoaded, log_in}
-use Rattle.tr_load.proofs.LoadLaws.{if_ok_too, logs_of}
-use Rattle.tr_load.proofs.WorkLaws.{all_offered}
+use Rattle.tr_load.proofs.LoadLemmas.{if_ok_too, logs_of}
+use Rattle.tr_load.proofs.WorkLemmas.{all_offered}
 use Rattle.tr_threads.specs.declared.feeding.LoggedProducer.{LoggedProducer}
 use Rattle.tr_threads.specs.declared.items.Item.{Item}
 use Rattle.tr_seats.specs.Books.{PlanState}

@@ -1,6 +1,6 @@
 use Rattle.std.proofs.Common.{rules, ◌≡◌, ℕ, List, Bor, Some, codes, option_map, sym, subst}
 use Rattle.tr_load.specs.Telling.{WritesLoad, disk_of}
-use Rattle.tr_load.proofs.TellLaws.{written_as}
+use Rattle.tr_load.proofs.TellLemmas.{written_as}
 use Rattle.tr_load.proofs.telling.write_load.Goals as goal
 
 -- the archives are those of a session of that name

@@ -5,7 +5,7 @@ use Rattle.std.proofs.lemmas.List.FromFn.{map-range_with_len_more}
 use Rattle.tr_load.specs.Works.{item_of}
 use Rattle.tr_load.proofs.works.load_work.Goals as goal
 
--- the item of the next number comes behind the others
+-- the item of the next number comes after the others
 pub records-preserved : goal.records-preserved
 records-preserved c =
     let f = item_of c.args.t in let k = c.records.k in let item = c.in_ok-load_item.field-0 in

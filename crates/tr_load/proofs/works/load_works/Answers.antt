@@ -7,7 +7,7 @@ use Rattle.tr_load.specs.Works.{work_of}
 use Rattle.tr_threads.specs.declared.items.Item.{Item}
 use Rattle.tr_load.proofs.works.load_works.Goals as goal
 
--- the work of the next feeder comes behind the others
+-- the work of the next feeder comes after the others
 pub threads-preserved : goal.threads-preserved
 threads-preserved c =
     let f = work_of c.args.records in let t = c.threads.t in let work = c.in_ok-load_work.field-0 in

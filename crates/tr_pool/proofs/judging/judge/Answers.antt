@@ -1,7 +1,7 @@
 use Rattle.std.proofs.Common.{rules, arith, ◌≡◌, ◌∷◌, [], Some, sym, subst}
 use Rattle.tr_pool.specs.Judging.{Judges}
 use Rattle.tr_pool.specs.Logs.{IsLogged}
-use Rattle.tr_pool.proofs.JudgeLaws.{judges_logged, judges_later, judges_least}
+use Rattle.tr_pool.proofs.JudgeLemmas.{judges_logged, judges_later, judges_least}
 use Rattle.tr_pool.proofs.judging.judge.Goals as goal
 
 pub returns-then-is_logged : goal.returns-then-is_logged

@@ -3,7 +3,7 @@ use Rattle.tr_record.specs.Records.{Entry}
 use Rattle.tr_packet.specs.Packets.{Contents}
 use Rattle.tr_pool.specs.Judging.{Judges}
 use Rattle.tr_pool.specs.Logs.{packet_records}
-use Rattle.tr_pool.proofs.JudgeLaws.{judges_then, judges_none}
+use Rattle.tr_pool.proofs.JudgeLemmas.{judges_then, judges_none}
 use Rattle.tr_pool.proofs.judging.judge_packets.Goals as goal
 
 pub packets-preserved : goal.packets-preserved

@@ -3,7 +3,7 @@ use Rattle.std.proofs.lemmas.List.{take_all}
 use Rattle.tr_book.specs.Parts.{PartState, part_at}
 use Rattle.tr_pool.specs.Judging.{Judges}
 use Rattle.tr_pool.specs.Logs.{packet_records, parts_records}
-use Rattle.tr_pool.proofs.JudgeLaws.{judges_more, judges_parts, item_at, part_below, part_last}
+use Rattle.tr_pool.proofs.JudgeLemmas.{judges_more, judges_parts, item_at, part_below, part_last}
 use Rattle.tr_pool.proofs.judging.judge_parts.Goals as goal
 
 pub parts-preserved : goal.parts-preserved

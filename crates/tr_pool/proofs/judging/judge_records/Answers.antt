@@ -1,7 +1,7 @@
 use Rattle.std.proofs.Common.{rules, ◌≡◌, ◌∷◌, [], List, sym, subst}
 use Rattle.tr_record.specs.Records.{Entry}
 use Rattle.tr_pool.specs.Judging.{Judges}
-use Rattle.tr_pool.proofs.JudgeLaws.{judges_then, judges_none}
+use Rattle.tr_pool.proofs.JudgeLemmas.{judges_then, judges_none}
 use Rattle.tr_pool.proofs.judging.judge_records.Goals as goal
 
 pub records-preserved : goal.records-preserved

@@ -5,7 +5,7 @@ use Rattle.std.proofs.lemmas.List.{take_all}
 use Rattle.tr_pool.specs.Judging.{Judges}
 use Rattle.tr_record.specs.Records.{Entry}
 use Rattle.tr_stream.specs.Calls.{ring_records}
-use Rattle.tr_pool.proofs.JudgeLaws.{judges_more, judges_singles, item_at, ring_length}
+use Rattle.tr_pool.proofs.JudgeLemmas.{judges_more, judges_singles, item_at, ring_length}
 use Rattle.tr_pool.proofs.judging.judge_ring.Goals as goal
 
 pub unreachable-requires : goal.unreachable-requires

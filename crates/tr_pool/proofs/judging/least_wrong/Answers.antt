@@ -2,7 +2,7 @@ use Rattle.std.proofs.Common.{None}
 use Rattle.tr_pool.specs.Logs.{parts_records}
 use Rattle.tr_stream.specs.Calls.{ring_records}
 use Rattle.tr_stream.specs.Fates.{all_parts}
-use Rattle.tr_pool.proofs.JudgeLaws.{judges_then, judges_all}
+use Rattle.tr_pool.proofs.JudgeLemmas.{judges_then, judges_all}
 use Rattle.tr_pool.proofs.judging.least_wrong.Goals as goal
 
 pub returns : goal.returns

@@ -3,7 +3,7 @@ use Rattle.std.proofs.lemmas.Grind.{common_steps}
 use Rattle.std.specs.Prelude.{slice_get}
 use Rattle.tr_pool.specs.Logs.{Agrees, report_of}
 use Rattle.tr_pool.specs.Reports.{with_counts}
-use Rattle.tr_pool.proofs.ReportLaws.{AreCounts, IsSmall, agree-more, reports-more, small-more}
+use Rattle.tr_pool.proofs.ReportLemmas.{AreCounts, IsSmall, agree-more, reports-more, small-more}
 use Rattle.tr_stream.specs.Calls.{state_counts}
 use Rattle.tr_pool.proofs.reconciling.reconcile.Goals as goal
 

@@ -1,6 +1,6 @@
 use Rattle.std.proofs.Common.{◌≡◌, take}
 use Rattle.tr_pool.specs.Logs.{AgreeBelow, report_of}
-use Rattle.tr_pool.proofs.ReportLaws.{IsSmall}
+use Rattle.tr_pool.proofs.ReportLemmas.{IsSmall}
 use Rattle.tr_pool.proofs.reconciling.reconcile.Given as goal
 
 -- the first streams agree, and these are their sums

@@ -23,10 +23,7 @@ type Cleared = (Result<u128, SessionFault>, (u64, u64, u64));
 /// The first stream has seven records, the last one one.
 const GRANTED: Cleared = (Ok(8), (7, 0, 1));
 
-static REFUSED: [Cleared; 2] = [
-    (Err(NO_MEMORY), (0, 0, 0)),
-    (Err(NO_MEMORY), (7, 0, 0)),
-];
+static REFUSED: [Cleared; 2] = [(Err(NO_MEMORY), (0, 0, 0)), (Err(NO_MEMORY), (7, 0, 0))];
 
 /// How many records are cleared of a stream.
 fn cleared_of<A: Allocator>(rt: &impl Abort, session: &Session<A>, i: u64) -> u64 {

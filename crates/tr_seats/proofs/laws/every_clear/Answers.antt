@@ -1,4 +1,4 @@
-use Rattle.tr_seats.proofs.ClearLaws.{clear-after, clear-answer}
+use Rattle.tr_seats.proofs.ClearLemmas.{clear-after, clear-answer}
 use Rattle.tr_seats.proofs.laws.every_clear.Goals as goal
 
 pub returns-clause-answer : goal.returns-clause-answer

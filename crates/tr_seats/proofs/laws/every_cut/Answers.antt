@@ -1,4 +1,4 @@
-use Rattle.tr_seats.proofs.CutLaws.{cut-after, cut-answer}
+use Rattle.tr_seats.proofs.CutLemmas.{cut-after, cut-answer}
 use Rattle.tr_seats.proofs.laws.every_cut.Goals as goal
 
 pub returns-clause-answer : goal.returns-clause-answer

@@ -1,9 +1,9 @@
 use Rattle.tr_seats.proofs.laws.every_step.Goals as goal
-use Rattle.tr_stream.proofs.ClearLaws.{clears}
-use Rattle.tr_stream.proofs.CutLaws.{cuts, snaps}
-use Rattle.tr_stream.proofs.OfferLaws.{offers}
+use Rattle.tr_stream.proofs.ClearLemmas.{clears}
+use Rattle.tr_stream.proofs.CutLemmas.{cuts, snaps}
+use Rattle.tr_stream.proofs.OfferLemmas.{offers}
 use Rattle.tr_stream.proofs.Refinement.{stands-switched}
-use Rattle.tr_stream.proofs.TakeLaws.{takes}
+use Rattle.tr_stream.proofs.TakeLemmas.{takes}
 
 pub returns-clause-offer : goal.returns-clause-offer
 returns-clause-offer c s h moment id payload kept stands = offers s h moment id payload kept.sound.made stands

@@ -1,7 +1,7 @@
 use Rattle.std.proofs.Common.{rules, ◌≡◌, ◌∙◌, ◌+◌, ◌<◌, ◌≤◌, ◌++◌, ◌∷◌, [], ℕ, ap, arith, drop, get_or, length, subst, sym, take}
 use Rattle.std.proofs.lemmas.List.{length_push, map-append, take_more}
 use Rattle.std.proofs.lemmas.Option.{get_or_from_slice_get}
-use Rattle.tr_seats.proofs.NameLaws.{drop-none, take-all}
+use Rattle.tr_seats.proofs.NameLemmas.{drop-none, take-all}
 use Rattle.tr_seats.proofs.Rows.{drop-front}
 use Rattle.tr_seats.proofs.making.open_all.Goals as goal
 use Rattle.tr_seats.specs.Plans.{PlannedState, streams_in}

@@ -1,7 +1,7 @@
 use Rattle.std.proofs.Common.{◌≡◌, ◌∙◌, Ok, subst, sym}
 use Rattle.std.proofs.lemmas.List.{length-map}
-use Rattle.tr_seats.proofs.OverwriteLaws.{configured-overwrites}
-use Rattle.tr_seats.proofs.PlanLaws.{configured-unused}
+use Rattle.tr_seats.proofs.OverwriteLemmas.{configured-overwrites}
+use Rattle.tr_seats.proofs.PlanLemmas.{configured-unused}
 use Rattle.tr_seats.proofs.making.plan.Goals as goal
 use Rattle.tr_seats.specs.Books.{AreOverwriting}
 use Rattle.tr_seats.specs.Plans.{AreUnused, PlannedState, streams_in}

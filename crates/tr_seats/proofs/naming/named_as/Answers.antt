@@ -1,6 +1,6 @@
 use Rattle.std.proofs.Common.{◌≡◌, ◌∙◌, Some, ap, sym}
 use Rattle.std.proofs.lemmas.Option.{get_or_from_slice_get, slice_get_within}
-use Rattle.tr_seats.proofs.NameLaws.{books-opened, planned-there, seats-opened}
+use Rattle.tr_seats.proofs.NameLemmas.{books-opened, planned-there, seats-opened}
 use Rattle.tr_seats.proofs.naming.named_as.Goals as goal
 use Rattle.tr_seats.specs.Books.{Books, books_at, no_books}
 use Rattle.tr_seats.specs.Plans.{PlannedState}

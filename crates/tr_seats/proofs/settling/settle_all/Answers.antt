@@ -4,8 +4,8 @@ use Rattle.std.proofs.lemmas.List.{length-map, take_at}
 use Rattle.tr_ledger.specs.Ledgers.{SeatState}
 use Rattle.tr_seats.proofs.AllTotals.{AreWithin, have-cleared, have-consumed, theirs}
 use Rattle.tr_seats.proofs.Joins.{tables-length}
-use Rattle.tr_seats.proofs.PlannedLaws.{planned-mode}
-use Rattle.tr_seats.proofs.SettledLaws.{settled-planned, settled-streams}
+use Rattle.tr_seats.proofs.PlannedLemmas.{planned-mode}
+use Rattle.tr_seats.proofs.SettledLemmas.{settled-planned, settled-streams}
 use Rattle.tr_seats.proofs.settling.settle_all.Goals as goal
 use Rattle.tr_seats.specs.Books.{Books, IsPlanned, PlanState, cleared_books, consumed_books, cut_books}
 use Rattle.tr_seats.specs.Desks.{DeskState}
@@ -174,6 +174,6 @@ returns-clause-snapshot_session g c = λ snapshot.
     let planned : ArePlanned plan all = subst (ArePlanned plan) slots c.join_all.ensures.planned in
     c.sums-totals.ensures.snapshot_session
     (λ k s lt.
-        let there : k < length all = subst (λ (l : List SlotState). k < length l) seen lt in
-        subst (λ (l : List SlotState). (get_or l k s).stream.config.session ≡ Snapshot) (sym seen)
-        (planned-mode plan c.desk.invariant.planned k (get_or all k s).stream.config (planned k s there) ∙ snapshot))
+    let there : k < length all = subst (λ (l : List SlotState). k < length l) seen lt in
+    subst (λ (l : List SlotState). (get_or l k s).stream.config.session ≡ Snapshot) (sym seen)
+    (planned-mode plan c.desk.invariant.planned k (get_or all k s).stream.config (planned k s there) ∙ snapshot))

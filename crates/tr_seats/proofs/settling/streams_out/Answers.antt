@@ -2,7 +2,7 @@ use Rattle.std.proofs.Common.{◌≡◌, ◌+◌, ◌≤◌, length, take, drop,
 use Rattle.std.proofs.lemmas.List.{length-drop, length_push, nil_from_length, take_all}
 use Rattle.std.proofs.lemmas.Option.{get_or_from_slice_get}
 use Rattle.tr_seats.proofs.Rows.{drop-front}
-use Rattle.tr_seats.proofs.SumLaws.{streams-more}
+use Rattle.tr_seats.proofs.SumLemmas.{streams-more}
 use Rattle.tr_seats.proofs.settling.streams_out.Goals as goal
 use Rattle.tr_seats.specs.Settling.{streams_of}
 

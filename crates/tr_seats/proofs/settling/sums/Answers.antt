@@ -1,7 +1,7 @@
 use Rattle.std.proofs.Common.{◌≡◌, ◌+◌, List, ap, arith, subst, sym, take, ◌∙◌}
 use Rattle.std.proofs.lemmas.List.{take_all}
 use Rattle.tr_book.specs.declared.counts.Counts.{Counts}
-use Rattle.tr_seats.proofs.SumLaws.{streams-more, sum-more, totals-more}
+use Rattle.tr_seats.proofs.SumLemmas.{streams-more, sum-more, totals-more}
 use Rattle.tr_seats.proofs.settling.sums.Goals as goal
 use Rattle.tr_seats.specs.Settling.{AddUp, WereConsumed, streams_of}
 use Rattle.tr_seats.specs.Slots.{SlotState}

@@ -1,5 +1,5 @@
 use Rattle.std.proofs.Common.{◌<◌, ◌^◌, ℕ, subst, sym}
-use Rattle.tr_session.proofs.SizeLaws.{fits-part}
+use Rattle.tr_session.proofs.SizeLemmas.{fits-part}
 use Rattle.tr_session.proofs.archive_size.part_size.Goals as goal
 
 pub returns-in-Some-clause-few : goal.returns-in-Some-clause-few

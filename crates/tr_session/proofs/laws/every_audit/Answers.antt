@@ -1,5 +1,5 @@
-use Rattle.tr_session.proofs.AuditLaws.{passes, packets-are, last-is, gaps-removed, gaps-within}
-use Rattle.tr_session.proofs.FrontLaws.{front-gaps, front-packets, front-passes}
+use Rattle.tr_session.proofs.AuditLemmas.{passes, packets-are, last-is, gaps-removed, gaps-within}
+use Rattle.tr_session.proofs.PrefixLemmas.{front-gaps, front-packets, front-passes}
 use Rattle.tr_session.proofs.laws.every_audit.Goals as goal
 
 pub returns : goal.returns

@@ -1,5 +1,5 @@
 use Rattle.std.proofs.Common.{◌≡◌, ◌∙◌, ℕ, ap, arith, refl}
-use Rattle.tr_session.proofs.RunLaws.{threads-more, threads-refused}
+use Rattle.tr_session.proofs.RunLemmas.{threads-more, threads-refused}
 use Rattle.tr_session.proofs.run.add_threads.Goals as goal
 use Rattle.tr_session.specs.Runs.{add_threads}
 use Rattle.tr_stream.specs.Rules.{by_state}

@@ -1,6 +1,6 @@
 use Rattle.std.proofs.Common.{◌∙◌, List, Ok, Err, ap, refl, sym}
 use Rattle.tr_session.proofs.RunAgreement.{refused-alike}
-use Rattle.tr_session.proofs.RunLaws.{channels-more, channels-end}
+use Rattle.tr_session.proofs.RunLemmas.{channels-more, channels-end}
 use Rattle.tr_session.proofs.run.configure.Goals as goal
 use Rattle.tr_session.specs.Runs.{configure_channels}
 use Rattle.tr_session.specs.Session.{SessionOf}

@@ -1,6 +1,6 @@
 use Rattle.std.proofs.Common.{◌≡◌, ◌++◌, List, ap, false, refl, rules}
 use Rattle.tr_session.proofs.RunAgreement.{has-run}
-use Rattle.tr_session.proofs.RunLaws.{runs-end, runs-more}
+use Rattle.tr_session.proofs.RunLemmas.{runs-end, runs-more}
 use Rattle.tr_session.proofs.run.run_session.Goals as goal
 use Rattle.tr_session.specs.Events.{session_answers}
 use Rattle.tr_session.specs.Faults.{answer_wants_memory}

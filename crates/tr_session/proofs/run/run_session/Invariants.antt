@@ -1,4 +1,4 @@
-use Rattle.tr_session.proofs.RunLaws.{RunsSo}
+use Rattle.tr_session.proofs.RunLemmas.{RunsSo}
 use Rattle.tr_session.proofs.run.run_session.Given as goal
 use Rattle.tr_stream.specs.Rules.{by_state}
 

@@ -1,6 +1,6 @@
 use Rattle.std.proofs.Common.{◌∙◌, arith}
 use Rattle.std.proofs.lemmas.Grind.{common_steps}
-use Rattle.tr_session.proofs.ListLaws.{changed_before-more, changed_before-all}
+use Rattle.tr_session.proofs.ListLemmas.{changed_before-more, changed_before-all}
 use Rattle.tr_session.proofs.streams.switch.Goals as goal
 use Rattle.tr_stream.specs.State.{StreamState}
 use Rattle.tr_stream.specs.StateSteps.{state_after_switch}

@@ -1,5 +1,5 @@
 use Rattle.std.proofs.Common.{◌≡◌}
-use Rattle.tr_session.proofs.ListLaws.{changed_before}
+use Rattle.tr_session.proofs.ListLemmas.{changed_before}
 use Rattle.tr_session.proofs.streams.switch.Given as goal
 use Rattle.tr_stream.specs.StateSteps.{state_after_switch}
 

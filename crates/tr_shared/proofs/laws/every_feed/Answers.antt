@@ -1,4 +1,4 @@
-use Rattle.tr_shared.proofs.FeedLaws.{fed-offers}
+use Rattle.tr_shared.proofs.FeedLemmas.{fed-offers}
 use Rattle.tr_shared.proofs.laws.every_feed.Goals as goal
 
 pub returns : goal.returns

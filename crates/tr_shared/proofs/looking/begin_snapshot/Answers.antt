@@ -1,4 +1,4 @@
-use Rattle.tr_shared.proofs.ModeLaws.{snap-mode}
+use Rattle.tr_shared.proofs.ModeLemmas.{snap-mode}
 use Rattle.tr_shared.proofs.looking.begin_snapshot.Goals as goal
 
 pub returns-clause-mode : goal.returns-clause-mode

@@ -1,6 +1,6 @@
 use Rattle.std.proofs.Common.{rules, ◌≡◌, ◌∙◌, ℕ, ap, subst, sym}
 use Rattle.tr_book.specs.Snaps.{SnapState}
-use Rattle.tr_shared.proofs.ShownLaws.{IsOver, planned-over, shows-last}
+use Rattle.tr_shared.proofs.ShownLemmas.{IsOver, planned-over, shows-last}
 use Rattle.tr_shared.proofs.looking.look.Goals as goal
 use Rattle.tr_seats.specs.Books.{IsPlanned}
 use Rattle.tr_shared.specs.Shown.{IsShownFrom}

@@ -1,5 +1,5 @@
 use Rattle.tr_stream.proofs.ChunkRuns.{chunk_between_cuts, counted_cuts, never-consumed, only-cleared}
-use Rattle.tr_stream.proofs.ModelLaws.{well_run, in_one_place, kept_rise, settled_below}
+use Rattle.tr_stream.proofs.ModelLemmas.{well_run, in_one_place, kept_rise, settled_below}
 use Rattle.tr_stream.proofs.laws.every_run.Goals as goal
 
 pub returns : goal.returns

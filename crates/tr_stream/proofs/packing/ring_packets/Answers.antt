@@ -2,7 +2,7 @@ use Rattle.std.proofs.Common.{rules, refl, ◌≡◌, ◌≢◌, length, arith}
 use Rattle.std.proofs.lemmas.Grind.{common_steps}
 use Rattle.tr_ring.specs.Ring.{closed_current}
 use Rattle.tr_stream.specs.Chunks.{packet_of}
-use Rattle.tr_stream.proofs.CallLaws.{packed-waiting, packed-all}
+use Rattle.tr_stream.proofs.CallLemmas.{packed-waiting, packed-all}
 use Rattle.tr_stream.proofs.packing.ring_packets.Goals as goal
 
 pub returns-then-is_empty-2-clause-packets : goal.returns-then-is_empty-2-clause-packets

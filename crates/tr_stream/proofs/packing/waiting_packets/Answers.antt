@@ -1,5 +1,5 @@
 use Rattle.std.proofs.Common.{rules, ◌≡◌, ◌∷◌, map, subst}
-use Rattle.tr_stream.proofs.CallLaws.{packed-more}
+use Rattle.tr_stream.proofs.CallLemmas.{packed-more}
 use Rattle.tr_stream.specs.Chunks.{packet_of}
 use Rattle.tr_stream.specs.Sound.{ArePackets}
 use Rattle.tr_stream.proofs.packing.waiting_packets.Goals as goal

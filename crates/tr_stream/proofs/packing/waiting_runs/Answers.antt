@@ -1,5 +1,5 @@
 use Rattle.std.proofs.Common.{rules, ◌≡◌, ◌∷◌}
-use Rattle.tr_stream.proofs.CallLaws.{runs-more}
+use Rattle.tr_stream.proofs.CallLemmas.{runs-more}
 use Rattle.tr_stream.specs.Chunks.{buffer_runs}
 use Rattle.tr_stream.proofs.packing.waiting_runs.Goals as goal
 

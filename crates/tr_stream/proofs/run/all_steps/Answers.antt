@@ -1,6 +1,6 @@
 use Rattle.std.proofs.Common.{rules, arith}
 use Rattle.std.proofs.lemmas.Grind.{common_steps}
-use Rattle.tr_stream.proofs.RunLaws.{runs-more}
+use Rattle.tr_stream.proofs.RunLemmas.{runs-more}
 use Rattle.tr_stream.proofs.run.all_steps.Goals as goal
 
 pub events-preserved : goal.events-preserved

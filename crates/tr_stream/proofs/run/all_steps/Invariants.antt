@@ -1,5 +1,5 @@
 use Rattle.std.proofs.Common.{take}
-use Rattle.tr_stream.proofs.RunLaws.{RunsSo}
+use Rattle.tr_stream.proofs.RunLemmas.{RunsSo}
 use Rattle.tr_stream.proofs.run.all_steps.Given as goal
 use Rattle.tr_stream.specs.Steps.{new_history}
 

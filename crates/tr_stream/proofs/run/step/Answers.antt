@@ -1,5 +1,5 @@
 use Rattle.std.proofs.Common.{rules, ◌≡◌, ◌≢◌, Err}
-use Rattle.tr_stream.proofs.RunLaws.{clear-answered, cut-answered, cut-let}
+use Rattle.tr_stream.proofs.RunLemmas.{clear-answered, cut-answered, cut-let}
 use Rattle.tr_stream.proofs.run.step.Goals as goal
 use Rattle.tr_stream.specs.declared.answers.ClearFault.TheVariants as clear
 use Rattle.tr_stream.specs.declared.answers.CutFault.TheVariants as cut

@@ -7,7 +7,7 @@ use Rattle.tr_chunk.specs.Audit.{capped_count}
 use Rattle.tr_survey.specs.Lines.{archive_text, wrong_with}
 use Rattle.tr_survey.specs.Listing.{key_of}
 use Rattle.tr_survey.specs.Sessions.{archives_at_fault, archives_text}
-use Rattle.tr_survey.proofs.FrontLemmas.{front_step}
+use Rattle.tr_survey.proofs.PrefixLemmas.{front_step}
 use Rattle.tr_survey.proofs.sessions.put_archives.Goals as goal
 
 pub returns-clause-faults : goal.returns-clause-faults

@@ -7,7 +7,7 @@ use Rattle.std.specs.Option.{option_copied}
 use Rattle.tr_survey.specs.Lines.{session_text}
 use Rattle.tr_survey.specs.Listing.{key_of}
 use Rattle.tr_survey.specs.Sessions.{archives_text, head_text}
-use Rattle.tr_survey.proofs.FrontLemmas.{at_err, front_cut, front_step}
+use Rattle.tr_survey.proofs.PrefixLemmas.{at_err, front_cut, front_step}
 use Rattle.tr_survey.proofs.sessions.put_head.Goals as goal
 
 pub returns-in_err-put_line-clause-err : goal.returns-in_err-put_line-clause-err

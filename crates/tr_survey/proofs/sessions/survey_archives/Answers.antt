@@ -8,7 +8,7 @@ use Rattle.tr_survey.specs.Fronts.{TellsFirst}
 use Rattle.tr_survey.specs.Listing.{key_of, streams_of}
 use Rattle.tr_survey.specs.Order.{Numbered}
 use Rattle.tr_survey.specs.Sessions.{TellsStreams, archives_at_fault, head_text}
-use Rattle.tr_survey.proofs.FrontLemmas.{at_err, front_whole, head_front, streams_front}
+use Rattle.tr_survey.proofs.PrefixLemmas.{at_err, front_whole, head_front, streams_front}
 use Rattle.tr_survey.proofs.TellLemmas.{capped-sum, capped-zero, named_tells}
 use Rattle.tr_survey.proofs.sessions.survey_archives.Goals as goal
 

@@ -1,5 +1,5 @@
 use Rattle.tr_folders.specs.Tree.{by_text}
-use Rattle.tr_survey.proofs.FrontLemmas.{at_err, session_nothing}
+use Rattle.tr_survey.proofs.PrefixLemmas.{at_err, session_nothing}
 use Rattle.tr_survey.proofs.sessions.survey_session.Goals as goal
 
 pub returns-in_err-archives-clause-err : goal.returns-in_err-archives-clause-err

@@ -2,7 +2,7 @@ use Rattle.std.proofs.Common.{◌≡◌, ◌+◌, ◌∷◌, ◌++◌, ◌≤◌
 use Rattle.std.proofs.lemmas.Grind.{common_steps}
 use Rattle.std.proofs.lemmas.List.{take_all}
 use Rattle.tr_survey.specs.Listing.{key_of}
-use Rattle.tr_survey.proofs.FrontLemmas.{at_err, found_front, seen_at, told_front}
+use Rattle.tr_survey.proofs.PrefixLemmas.{at_err, found_front, seen_at, told_front}
 use Rattle.tr_survey.proofs.TellLemmas.{ToldSoFar, seen_more, told_more, told_nothing}
 use Rattle.tr_survey.proofs.sessions.survey_streams.Goals as goal
 

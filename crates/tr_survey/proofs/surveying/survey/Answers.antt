@@ -3,7 +3,7 @@ use Rattle.std.proofs.lemmas.Grind.{common_steps}
 use Rattle.std.specs.Option.{unwrap_or}
 use Rattle.tr_survey.specs.Listing.{session_names}
 use Rattle.tr_survey.specs.Sessions.{TellsAmong}
-use Rattle.tr_survey.proofs.FrontLemmas.{among_front_nothing, at_err, end_front, sessions_front}
+use Rattle.tr_survey.proofs.PrefixLemmas.{among_front_nothing, at_err, end_front, sessions_front}
 use Rattle.tr_survey.proofs.SurveyLemmas.{folder_none, folder_some}
 use Rattle.tr_survey.proofs.surveying.survey.Goals as goal
 

@@ -3,7 +3,7 @@ use Rattle.std.proofs.lemmas.Grind.{common_steps}
 use Rattle.tr_survey.specs.Sessions.{TellsSession, archive_names}
 use Rattle.tr_folders.specs.Tree.{by_text}
 use Rattle.tr_survey.specs.Fronts.{BeginsSession}
-use Rattle.tr_survey.proofs.FrontLemmas.{among_front_nothing, among_front_session, at_err}
+use Rattle.tr_survey.proofs.PrefixLemmas.{among_front_nothing, among_front_session, at_err}
 use Rattle.tr_survey.proofs.SurveyLemmas.{among_no_session, among_session}
 use Rattle.tr_survey.proofs.surveying.survey_name.Goals as goal
 

@@ -3,7 +3,7 @@ use Rattle.std.proofs.lemmas.Grind.{common_steps}
 use Rattle.std.proofs.lemmas.List.{take_all}
 use Rattle.tr_survey.specs.Sessions.{TellsAmong}
 use Rattle.tr_folders.specs.Tree.{by_text}
-use Rattle.tr_survey.proofs.FrontLemmas.{among_front_both, at_err, seen_at}
+use Rattle.tr_survey.proofs.PrefixLemmas.{among_front_both, at_err, seen_at}
 use Rattle.tr_survey.proofs.SurveyLemmas.{among_both, among_nothing}
 use Rattle.tr_survey.proofs.TellLemmas.{seen_more}
 use Rattle.tr_survey.proofs.surveying.survey_names.Goals as goal

@@ -3,7 +3,7 @@ use Rattle.std.proofs.lemmas.Grind.{common_steps}
 use Rattle.std.specs.Option.{unwrap_or}
 use Rattle.tr_survey.specs.Listing.{session_names}
 use Rattle.tr_survey.specs.Sessions.{TellsAmong}
-use Rattle.tr_survey.proofs.FrontLemmas.{among_front_nothing, at_err}
+use Rattle.tr_survey.proofs.PrefixLemmas.{among_front_nothing, at_err}
 use Rattle.tr_survey.proofs.SurveyLemmas.{among_nothing}
 use Rattle.tr_survey.proofs.surveying.survey_sessions.Goals as goal
 

@@ -6,7 +6,7 @@ use Rattle.tr_survey.specs.Findings.{finding_text}
 use Rattle.tr_survey.specs.Lines.{gaps_text, stream_text}
 use Rattle.tr_survey.specs.Listing.{key_of}
 use Rattle.tr_survey.specs.declared.findings.Finding.{Finding}
-use Rattle.tr_survey.proofs.FrontLemmas.{at_err, front_cut, front_step}
+use Rattle.tr_survey.proofs.PrefixLemmas.{at_err, front_cut, front_step}
 use Rattle.tr_survey.proofs.writing.put_finding.Goals as goal
 
 pub returns-in_ok-put_gaps-in-Whole-clause-ok : goal.returns-in_ok-put_gaps-in-Whole-clause-ok

@@ -1,7 +1,7 @@
 use Rattle.std.proofs.Common.{◌≡◌, ◌+◌, ◌++◌, drop, arith, rules}
 use Rattle.std.proofs.lemmas.Grind.{common_steps}
 use Rattle.tr_survey.specs.Lines.{gaps_text}
-use Rattle.tr_survey.proofs.FrontLemmas.{at_err, front_cut, front_step}
+use Rattle.tr_survey.proofs.PrefixLemmas.{at_err, front_cut, front_step}
 use Rattle.tr_survey.proofs.writing.put_gaps.Goals as goal
 
 pub returns-in_err-put_line-clause-err : goal.returns-in_err-put_line-clause-err

@@ -2,7 +2,7 @@ use Rattle.std.proofs.Common.{rules, arith, Vec, Global, length, vec_len, ◌≡
 use Rattle.std.proofs.lemmas.Grind.{common_steps}
 use Rattle.tr_threads.specs.declared.feeding.LoggedProducer.{LoggedProducer}
 use Rattle.tr_threads.specs.declared.items.Item.{Item}
-use Rattle.tr_threads.proofs.FeedLaws.{all_fed, producers_came}
+use Rattle.tr_threads.proofs.FeedLemmas.{all_fed, producers_came}
 use Rattle.tr_threads.proofs.feeding.feed.Goals as goal
 
 -- each feeder was made of the producer and the work at its place

@@ -2,7 +2,7 @@ use Rattle.std.proofs.Common.{rules, arith, ◌≡◌, ◌+◌, ◌≤◌, ◌++
 use Rattle.std.specs.Prelude.{vec_capacity, is_ok}
 use Rattle.std.specs.List.{FoldsTo}
 use Rattle.tr_threads.specs.Feeding.{OffersOne}
-use Rattle.tr_threads.proofs.FeedLaws.{empty_of, folds_one}
+use Rattle.tr_threads.proofs.FeedLemmas.{empty_of, folds_one}
 use Rattle.tr_threads.proofs.feeding.feed_one.Goals as goal
 
 -- an accepted item is logged

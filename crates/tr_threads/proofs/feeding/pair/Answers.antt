@@ -2,7 +2,7 @@ use Rattle.std.proofs.Common.{rules, ◌≡◌, ◌++◌, [], map, reverse, ap, 
 use Rattle.std.proofs.lemmas.Grind.{common_steps}
 use Rattle.std.specs.List.{AllByRecursion}
 use Rattle.tr_threads.specs.declared.feeding.LoggedProducer.{LoggedProducer}
-use Rattle.tr_threads.proofs.FeedLaws.{all_reverse, empty_of, reverse-map}
+use Rattle.tr_threads.proofs.FeedLemmas.{all_reverse, empty_of, reverse-map}
 use Rattle.tr_threads.proofs.feeding.pair.Goals as goal
 
 -- none are left, and the seats are turned round

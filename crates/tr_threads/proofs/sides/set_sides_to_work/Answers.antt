@@ -3,7 +3,7 @@ use Rattle.std.proofs.lemmas.Grind.{common_steps}
 use Rattle.std.specs.Prelude.{flat_map}
 use Rattle.tr_threads.specs.Pools.{EachCame, IsKeptOr}
 use Rattle.tr_threads.specs.Sides.{as_producer, as_drainer}
-use Rattle.tr_threads.proofs.SideLaws.{all_aside, all_kept_aside, producers_of_line, drainers_of_line}
+use Rattle.tr_threads.proofs.SideLemmas.{all_aside, all_kept_aside, producers_of_line, drainers_of_line}
 use Rattle.tr_threads.proofs.sides.set_sides_to_work.Goals as goal
 
 -- as many came back of each side as there were, so they have room

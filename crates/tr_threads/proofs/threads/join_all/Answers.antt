@@ -5,10 +5,10 @@ use Rattle.std.proofs.lemmas.List.{get_or_push, get_or_append_left}
 use Rattle.tr_threads.specs.declared.threads.Ended.{Ended}
 use Rattle.tr_threads.specs.declared.threads.Task.{Task}
 use Rattle.tr_threads.specs.Pools.{IsKeptOr}
-use Rattle.tr_threads.proofs.JoinLaws.{AreJoined, joins_one, kept_or, both_left, both_right}
+use Rattle.tr_threads.proofs.JoinLemmas.{AreJoined, joins_one, kept_or, both_left, both_right}
 use Rattle.tr_threads.proofs.threads.join_all.Goals as goal
 
--- the last thread's seat joins those of the threads behind it
+-- the last thread's seat joins those of the threads after it
 pub joining-preserved : goal.joining-preserved
 joining-preserved g c =
     let was = c.joining.invariant in

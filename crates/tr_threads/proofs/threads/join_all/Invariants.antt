@@ -3,7 +3,7 @@ use Rattle.std.specs.Prelude.{vec_capacity, slice_index_or}
 use Rattle.tr_threads.specs.Pools.{IsKeptOr}
 use Rattle.tr_threads.proofs.threads.join_all.Given as goal
 
--- the threads that are left are the first ones; the seats of the others stand behind those that were there
+-- the threads that are left are the first ones; the seats of the others come after those that were there
 abbrev pub invariant-joining : goal.invariant-joining
 invariant-joining g l =
     (vec_len l.seats + vec_len l.handles ≡ vec_len l.fn.seats + vec_len l.fn.handles)

@@ -4,7 +4,7 @@ use Rattle.tr_threads.specs.Pools.{EachCame, IsKeptOr}
 use Rattle.tr_threads.specs.Turns.{IsWorked}
 use Rattle.tr_threads.specs.declared.feeding.LoggedProducer.{LoggedProducer}
 use Rattle.tr_threads.specs.declared.items.Item.{Item}
-use Rattle.tr_threads.proofs.FeedLaws.{all_fed, producers_came}
+use Rattle.tr_threads.proofs.FeedLemmas.{all_fed, producers_came}
 use Rattle.tr_threads.proofs.together.feed_and_drain.Goals as goal
 
 -- as many workers as seats

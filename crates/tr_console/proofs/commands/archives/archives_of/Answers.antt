@@ -3,7 +3,7 @@ use Rattle.std.proofs.lemmas.Option.{slice_get_read}
 use Rattle.std.specs.Prelude.{◌==◌, slice_get}
 use Rattle.std.specs.String.{string_bytes}
 use Rattle.tr_console.specs.Text.{Text}
-use Rattle.tr_console.proofs.ArchiveLaws.{goes_on, ends, told}
+use Rattle.tr_console.proofs.ArchiveLemmas.{goes_on, ends, told}
 use Rattle.tr_console.proofs.commands.archives.archives_of.Goals as goal
 use Rattle.tr_console.specs.commands.Archives.{archive_lines, lines_or_none}
 use Rattle.tr_session_book.specs.Book.{SessionBookState}

@@ -4,7 +4,7 @@ use Rattle.std.specs.Prelude.{slice_get}
 use Rattle.std.specs.String.{string_bytes}
 use Rattle.tr_record.specs.Records.{Entry}
 use Rattle.tr_console.specs.commands.Snapshot.{serial_text}
-use Rattle.tr_console.proofs.PacketLaws.{last_told, line_is, line_told}
+use Rattle.tr_console.proofs.PacketLemmas.{last_told, line_is, line_told}
 use Rattle.tr_console.proofs.commands.snapshot.push_packet.Goals as goal
 
 pub returns-in-Ok : goal.returns-in-Ok

@@ -1,4 +1,4 @@
-use Rattle.tr_console.proofs.ColumnLaws.{right_6, right_11}
+use Rattle.tr_console.proofs.ColumnLemmas.{right_6, right_11}
 use Rattle.tr_console.proofs.commands.status.push_first.Goals as goal
 
 pub returns-in-Ok : goal.returns-in-Ok

@@ -1,4 +1,4 @@
-use Rattle.tr_console.proofs.ColumnLaws.{right_11}
+use Rattle.tr_console.proofs.ColumnLemmas.{right_11}
 use Rattle.tr_console.proofs.commands.status.push_last.Goals as goal
 
 pub returns-in-Ok : goal.returns-in-Ok

@@ -1,7 +1,7 @@
 use Rattle.std.proofs.Common.{rules, ◌≡◌, ◌∙◌, Some, ap}
 use Rattle.std.specs.Prelude.{slice_get}
 use Rattle.std.specs.String.{string_bytes}
-use Rattle.tr_console.proofs.StatusLaws.{begins, goes_on, ends}
+use Rattle.tr_console.proofs.StatusLemmas.{begins, goes_on, ends}
 use Rattle.tr_console.proofs.commands.status.status_of.Goals as goal
 use Rattle.tr_console.specs.commands.Status.{status_line}
 use Rattle.tr_session_book.specs.Book.{SessionBookState}

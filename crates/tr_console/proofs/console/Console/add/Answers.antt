@@ -1,11 +1,11 @@
 use Rattle.std.proofs.Common.{◌≡◌, ◌∙◌, ◌∷◌, ◌++◌, [], None, false, is_some, ap, subst, sym}
 use Rattle.std.specs.Map.{lookup}
 use Rattle.std.specs.String.{string_bytes}
-use Rattle.tr_console.proofs.CallLaws.{on_err}
-use Rattle.tr_console.proofs.SessionLaws.{is_named}
+use Rattle.tr_console.proofs.CallLemmas.{on_err}
+use Rattle.tr_console.proofs.SessionLemmas.{is_named}
 use Rattle.tr_console.proofs.console.Console.add.Goals as goal
 use Rattle.tr_console.specs.World.{World, session_named}
-use Rattle.tr_session_book.proofs.NameLaws.{insert_entry-new_name, is_some-by_name, named-more}
+use Rattle.tr_session_book.proofs.NameLemmas.{insert_entry-new_name, is_some-by_name, named-more}
 use Rattle.tr_session_book.specs.Names.{AreNamed, by_name}
 use Rattle.tr_stream.specs.State.{StreamState}
 

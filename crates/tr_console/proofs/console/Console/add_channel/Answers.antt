@@ -1,5 +1,5 @@
 use Rattle.std.proofs.Common.{Err, Some, false, inl, refl, rules, subst, sym, true, ◌≡◌}
-use Rattle.tr_console.proofs.CallLaws.{on_err, refuses, session_kept, unchanged}
+use Rattle.tr_console.proofs.CallLemmas.{on_err, refuses, session_kept, unchanged}
 use Rattle.tr_console.proofs.console.Console.add_channel.Goals as goal
 use Rattle.tr_console.specs.Text.{Text}
 use Rattle.tr_console.specs.World.{session_named, with_session}

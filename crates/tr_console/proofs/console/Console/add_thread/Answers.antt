@@ -1,6 +1,6 @@
 use Rattle.std.proofs.Common.{Some, codes, inl, length, sym, ◌++◌, ◌∙◌, ◌≡◌}
 use Rattle.std.specs.Fmt.{decimal}
-use Rattle.tr_console.proofs.CallLaws.{added-err, at-some, on_err, refuses, session_kept, unchanged}
+use Rattle.tr_console.proofs.CallLemmas.{added-err, at-some, on_err, refuses, session_kept, unchanged}
 use Rattle.tr_console.proofs.console.Console.add_thread.Goals as goal
 use Rattle.tr_console.specs.Steps.{addition_step}
 use Rattle.tr_console.specs.Text.{Text}

@@ -2,7 +2,7 @@ use Rattle.std.proofs.Common.{IfOk}
 use Rattle.std.specs.Prelude.{ℤ}
 use Rattle.tr_console.specs.commands.Create.{mode_asked}
 use Rattle.tr_terms.specs.Offsets.{IsOffset}
-use Rattle.tr_console.proofs.CreateLaws.{as_passed}
+use Rattle.tr_console.proofs.CreateLemmas.{as_passed}
 use Rattle.tr_console.proofs.console.Console.answer_request.Goals as goal
 use Rattle.tr_console.specs.commands.Create.{create_step}
 use Rattle.tr_console.specs.Replies.{Does}

@@ -1,5 +1,5 @@
 use Rattle.std.proofs.Common.{◌≡◌, ◌∙◌, Some, false, refl, sym}
-use Rattle.tr_console.proofs.CallLaws.{at-some}
+use Rattle.tr_console.proofs.CallLemmas.{at-some}
 use Rattle.tr_console.proofs.console.Console.archives.Goals as goal
 use Rattle.tr_console.specs.World.{session_named}
 use Rattle.tr_console.specs.commands.Archives.{archives_text}

@@ -1,5 +1,5 @@
 use Rattle.std.proofs.Common.{Some, refl, sym, ◌≡◌}
-use Rattle.tr_console.proofs.CallLaws.{called_step, left_step, on_err, take_or_not, unchanged}
+use Rattle.tr_console.proofs.CallLemmas.{called_step, left_step, on_err, take_or_not, unchanged}
 use Rattle.tr_console.proofs.console.Console.consume.Goals as goal
 use Rattle.tr_console.specs.World.{session_named, with_session}
 use Rattle.tr_console.specs.commands.Consume.{taken_text}

@@ -2,8 +2,8 @@ use Rattle.std.proofs.Common.{rules, ◌≡◌, ◌∙◌, ◌∷◌, ◌++◌, 
 use Rattle.std.proofs.lemmas.Bool.Decides.{nat_tests}
 use Rattle.std.proofs.lemmas.Int.{to_z-of_z}
 use Rattle.std.specs.Prelude.{nat_le}
-use Rattle.tr_console.proofs.CallLaws.{refuses}
-use Rattle.tr_console.proofs.CreateLaws.{create-bad_uuid, create-new, none_copied, none_from}
+use Rattle.tr_console.proofs.CallLemmas.{refuses}
+use Rattle.tr_console.proofs.CreateLemmas.{create-bad_uuid, create-new, none_copied, none_from}
 use Rattle.tr_console.proofs.console.Console.create.Goals as goal
 use Rattle.tr_console.specs.Text.{Text}
 use Rattle.tr_console.specs.World.{session_named}

@@ -1,5 +1,5 @@
 use Rattle.std.proofs.Common.{Some, ap, sym, ◌∙◌, ◌≡◌}
-use Rattle.tr_console.proofs.CallLaws.{asked}
+use Rattle.tr_console.proofs.CallLemmas.{asked}
 use Rattle.tr_console.proofs.console.Console.fate.Goals as goal
 use Rattle.tr_console.specs.LineFaults.{from_step}
 use Rattle.tr_console.specs.World.{session_named}

@@ -1,5 +1,5 @@
 use Rattle.std.proofs.Common.{◌∙◌, ap}
-use Rattle.tr_console.proofs.SessionLaws.{named-is}
+use Rattle.tr_console.proofs.SessionLemmas.{named-is}
 use Rattle.tr_console.proofs.console.Console.find.Goals as goal
 use Rattle.tr_console.specs.World.{session_named}
 

@@ -1,6 +1,6 @@
 use Rattle.std.proofs.Common.{◌∙◌, ap, ap₂, subst, sym}
 use Rattle.std.specs.Option.{ghost_name_of}
-use Rattle.tr_console.proofs.SessionLaws.{named-is, names-kept, set-is}
+use Rattle.tr_console.proofs.SessionLemmas.{named-is, names-kept, set-is}
 use Rattle.tr_console.proofs.console.Console.find_mut.Goals as goal
 use Rattle.tr_console.specs.World.{World, session_named, with_session}
 use Rattle.tr_session_book.specs.Names.{AreNamed, by_name}

@@ -1,6 +1,6 @@
 use Rattle.std.proofs.Common.{Some, ap, refl, sym, ◌∙◌, ◌≡◌}
-use Rattle.tr_console.proofs.CallLaws.{on_err}
-use Rattle.tr_console.proofs.RotateLaws.{called_archive, left_archive}
+use Rattle.tr_console.proofs.CallLemmas.{on_err}
+use Rattle.tr_console.proofs.RotateLemmas.{called_archive, left_archive}
 use Rattle.tr_console.proofs.console.Console.rotate.Goals as goal
 use Rattle.tr_console.specs.World.{session_named, with_session}
 use Rattle.tr_console.specs.commands.Rotate.{IsHeldUpNamed}

@@ -1,5 +1,5 @@
 use Rattle.std.proofs.Common.{Some, sym, ◌≡◌}
-use Rattle.tr_console.proofs.CallLaws.{called_session, left_session, on_err, unchanged}
+use Rattle.tr_console.proofs.CallLemmas.{called_session, left_session, on_err, unchanged}
 use Rattle.tr_console.proofs.console.Console.rotate_begin.Goals as goal
 use Rattle.tr_console.specs.World.{session_named, with_session}
 use Rattle.tr_console.specs.commands.Rotate.{rotating_text}

@@ -1,6 +1,6 @@
 use Rattle.std.proofs.Common.{Some, ap, inr, sym, ◌∙◌, ◌≡◌}
-use Rattle.tr_console.proofs.CallLaws.{left, on_err}
-use Rattle.tr_console.proofs.RotateLaws.{called_archive}
+use Rattle.tr_console.proofs.CallLemmas.{left, on_err}
+use Rattle.tr_console.proofs.RotateLemmas.{called_archive}
 use Rattle.tr_console.proofs.console.Console.rotate_finish.Goals as goal
 use Rattle.tr_console.specs.World.{session_named, with_session}
 use Rattle.tr_console.specs.commands.Rotate.{archive_named, archived_text}

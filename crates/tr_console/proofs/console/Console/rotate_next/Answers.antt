@@ -1,5 +1,5 @@
 use Rattle.std.proofs.Common.{Some, refl, sym, ◌≡◌}
-use Rattle.tr_console.proofs.CallLaws.{called_step, cut_or_not, left_step, on_err, unchanged}
+use Rattle.tr_console.proofs.CallLemmas.{called_step, cut_or_not, left_step, on_err, unchanged}
 use Rattle.tr_console.proofs.console.Console.rotate_next.Goals as goal
 use Rattle.tr_console.specs.World.{session_named, with_session}
 use Rattle.tr_console.specs.commands.Rotate.{next_text}

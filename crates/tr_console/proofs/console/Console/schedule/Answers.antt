@@ -1,5 +1,5 @@
 use Rattle.std.proofs.Common.{Some, ap, inr, sym, ◌∙◌, ◌≡◌}
-use Rattle.tr_console.proofs.CallLaws.{called, left, on_err}
+use Rattle.tr_console.proofs.CallLemmas.{called, left, on_err}
 use Rattle.tr_console.proofs.console.Console.schedule.Goals as goal
 use Rattle.tr_console.specs.World.{session_named, with_session}
 use Rattle.tr_console.specs.commands.Schedule.{after_schedule_asked, schedule_asked, schedule_set, schedule_text}

@@ -1,10 +1,10 @@
 use Rattle.std.proofs.Common.{◌∙◌, None, Some, ap, sym, true≢false}
 use Rattle.std.specs.Prelude.{slice_get}
-use Rattle.tr_console.proofs.SessionLaws.{entry-is}
+use Rattle.tr_console.proofs.SessionLemmas.{entry-is}
 use Rattle.tr_console.specs.World.{World}
 use Rattle.tr_console.proofs.console.Console.session.Goals as goal
 use Rattle.tr_console.specs.Text.{Text}
-use Rattle.tr_session_book.proofs.NameLaws.{named-at}
+use Rattle.tr_session_book.proofs.NameLemmas.{named-at}
 use Rattle.tr_stream.specs.State.{StreamState}
 use Rattle.tr_terms.specs.Names.{is_name}
 

@@ -1,5 +1,5 @@
 use Rattle.std.proofs.Common.{Some, inr, sym, ◌≡◌}
-use Rattle.tr_console.proofs.CallLaws.{called_session, left, on_err}
+use Rattle.tr_console.proofs.CallLemmas.{called_session, left, on_err}
 use Rattle.tr_console.proofs.console.Console.start.Goals as goal
 use Rattle.tr_console.specs.LineFaults.{from_session}
 use Rattle.tr_console.specs.World.{session_named, with_session}

@@ -1,5 +1,5 @@
 use Rattle.std.proofs.Common.{◌≡◌, ◌∙◌, ◌∷◌, ◌++◌, [], Some, ap, refl, sym}
-use Rattle.tr_console.proofs.CallLaws.{at-some}
+use Rattle.tr_console.proofs.CallLemmas.{at-some}
 use Rattle.tr_console.proofs.console.Console.status.Goals as goal
 use Rattle.tr_console.specs.Steps.{reply_step}
 use Rattle.tr_console.specs.Text.{Text}

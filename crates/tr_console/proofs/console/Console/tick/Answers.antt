@@ -1,5 +1,5 @@
 use Rattle.std.proofs.Common.{Some, refl, sym, ◌≡◌}
-use Rattle.tr_console.proofs.CallLaws.{called, left_told, on_err, on_wants, unchanged}
+use Rattle.tr_console.proofs.CallLemmas.{called, left_told, on_err, on_wants, unchanged}
 use Rattle.tr_console.proofs.console.Console.tick.Goals as goal
 use Rattle.tr_console.specs.World.{session_named, with_session}
 use Rattle.tr_console.specs.commands.Rotate.{IsHeldUpNamed}

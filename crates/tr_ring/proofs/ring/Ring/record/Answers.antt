@@ -1,6 +1,6 @@
 use Rattle.std.proofs.Common.{rules, ◌≡◌, ◌<◌, ◌∙◌, ◌∷◌, ap, sym, length, slice_get, ◌+◌, ◌-◌, arith, List}
 use Rattle.std.proofs.lemmas.Grind.{common_steps}
-use Rattle.tr_ring.proofs.RecordLaws.{found-here, found-later, records_from}
+use Rattle.tr_ring.proofs.RecordLemmas.{found-here, found-later, records_from}
 use Rattle.tr_ring.proofs.ring.Ring.record.Goals as goal
 use Rattle.tr_ring.specs.ClosedBuffer.{ClosedBuffer}
 

@@ -1,5 +1,5 @@
 use Rattle.std.proofs.Common.{◌≡◌, slice_get}
-use Rattle.tr_ring.proofs.RecordLaws.{records_from}
+use Rattle.tr_ring.proofs.RecordLemmas.{records_from}
 use Rattle.tr_ring.proofs.ring.Ring.record.Given as goal
 use Rattle.tr_ring.specs.Ring.{ring_records}
 

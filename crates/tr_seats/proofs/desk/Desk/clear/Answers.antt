@@ -2,9 +2,9 @@ use Rattle.std.proofs.Common.{rules, ◌≡◌, ◌∙◌, ◌+◌, ◌<◌, ℕ
 use Rattle.std.proofs.lemmas.Grind.{common_steps}
 use Rattle.std.proofs.lemmas.List.{length-map}
 use Rattle.std.specs.Prelude.{slice_index, slice_set}
-use Rattle.tr_seats.proofs.ClearLaws.{refused-mode}
-use Rattle.tr_seats.proofs.DeskLaws.{desk-cleared}
-use Rattle.tr_seats.proofs.PlannedLaws.{planned-mode}
+use Rattle.tr_seats.proofs.ClearLemmas.{refused-mode}
+use Rattle.tr_seats.proofs.DeskLemmas.{desk-cleared}
+use Rattle.tr_seats.proofs.PlannedLemmas.{planned-mode}
 use Rattle.tr_seats.proofs.Rows.{amounts-raised, cleared-at, length-seats, table-there}
 use Rattle.tr_seats.proofs.desk.Desk.clear.Goals as goal
 use Rattle.tr_seats.specs.Books.{Books, books_at, cleared_books, no_books, no_table}

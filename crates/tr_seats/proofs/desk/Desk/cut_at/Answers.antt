@@ -2,7 +2,7 @@ use Rattle.std.proofs.Common.{◌≡◌, ◌∙◌, ◌+◌, ◌<◌, ℕ, Ok, a
 use Rattle.std.proofs.lemmas.Grind.{common_steps}
 use Rattle.std.proofs.lemmas.List.{length-map}
 use Rattle.std.specs.Prelude.{slice_index, slice_set}
-use Rattle.tr_seats.proofs.DeskLaws.{desk-cut, noted}
+use Rattle.tr_seats.proofs.DeskLemmas.{desk-cut, noted}
 use Rattle.tr_seats.proofs.Rows.{amounts-raised, consumed-at, cuts-at, table-there}
 use Rattle.tr_seats.proofs.desk.Desk.cut_at.Goals as goal
 use Rattle.tr_seats.specs.Books.{Books, books_at, consumed_books, cut_books, no_books, no_table}

@@ -1,6 +1,6 @@
 use Rattle.std.proofs.Common.{rules, ◌≡◌, ◌∙◌, ◌++◌, ◌∷◌, ◌≤◌, ◌<◌, [], ℕ, Ok, ap, length, subst, sym, vec_capacity}
 use Rattle.tr_ledger.specs.Ledgers.{seat_state}
-use Rattle.tr_seats.proofs.DrainerLaws.{first-more, split-made}
+use Rattle.tr_seats.proofs.DrainerLemmas.{first-more, split-made}
 use Rattle.tr_seats.proofs.drainer.DrainerBegun.with.Goals as goal
 use Rattle.tr_seats.specs.Books.{books_at}
 use Rattle.tr_seats.specs.Drainers.{AreFirst}

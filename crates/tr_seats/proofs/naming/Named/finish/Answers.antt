@@ -1,5 +1,5 @@
 use Rattle.std.proofs.Common.{rules, ◌≡◌, ◌∙◌, length, subst, sym}
-use Rattle.tr_seats.proofs.NameLaws.{desk-planned, opened-planned}
+use Rattle.tr_seats.proofs.NameLemmas.{desk-planned, opened-planned}
 use Rattle.tr_seats.proofs.naming.Named.finish.Goals as goal
 use Rattle.tr_seats.specs.Desks.{IsDesk}
 use Rattle.tr_session_book.specs.Book.{SessionBookState}

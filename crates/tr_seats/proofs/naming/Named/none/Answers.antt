@@ -1,6 +1,6 @@
 use Rattle.std.proofs.Common.{List, subst, sym}
 use Rattle.tr_ledger.specs.Ledgers.{SeatState}
-use Rattle.tr_seats.proofs.NameLaws.{named-none}
+use Rattle.tr_seats.proofs.NameLemmas.{named-none}
 use Rattle.tr_seats.proofs.naming.Named.none.Goals as goal
 use Rattle.tr_seats.specs.Plans.{AreNamed}
 use Rattle.tr_seats.specs.Slots.{ProducerState, SlotState}

@@ -2,7 +2,7 @@ use Rattle.std.proofs.Common.{rules, ◌≡◌, ◌∙◌, ◌++◌, ◌∷◌, 
 use Rattle.std.proofs.lemmas.Grind.{common_steps}
 use Rattle.std.specs.Prelude.{slice_get}
 use Rattle.tr_ledger.specs.Ledgers.{SeatState, seat_state}
-use Rattle.tr_seats.proofs.NameLaws.{named-more}
+use Rattle.tr_seats.proofs.NameLemmas.{named-more}
 use Rattle.tr_seats.proofs.naming.Named.with.Goals as goal
 use Rattle.tr_seats.specs.Plans.{AreNamed}
 use Rattle.tr_seats.specs.Slots.{ProducerState, SlotState, new_producer, slot_state}

@@ -1,6 +1,6 @@
 use Rattle.std.proofs.Common.{rules, ◌≡◌, ◌∙◌, ◌+◌, ◌≤◌, ℕ, ap, arith, drop, length, subst, sym, vec_len}
 use Rattle.std.proofs.lemmas.List.{length-map}
-use Rattle.tr_seats.proofs.NameLaws.{drop-none}
+use Rattle.tr_seats.proofs.NameLemmas.{drop-none}
 use Rattle.tr_seats.proofs.Rows.{drop-front}
 use Rattle.tr_seats.proofs.planned.Plan.build.Goals as goal
 use Rattle.tr_seats.specs.Books.{IsPlan, PlanState}

@@ -1,7 +1,7 @@
 use Rattle.std.proofs.Common.{rules, ◌≡◌, ◌∙◌, ◌+◌, ◌<◌, Ok, ap, arith, length, subst, sym}
 use Rattle.tr_ledger.specs.Ledgers.{LedgerState}
-use Rattle.tr_seats.proofs.CountLaws.{clear-totals, few-counted, refused-clear}
-use Rattle.tr_seats.proofs.SlotLaws.{books-cleared}
+use Rattle.tr_seats.proofs.CountLemmas.{clear-totals, few-counted, refused-clear}
+use Rattle.tr_seats.proofs.SlotLemmas.{books-cleared}
 use Rattle.tr_seats.proofs.slot.Slot.clear.Goals as goal
 use Rattle.tr_seats.specs.Books.{AreBooksOf, IsPlanned, books_at}
 use Rattle.tr_seats.specs.Sums.{totals_in}

@@ -1,8 +1,8 @@
 use Rattle.std.proofs.Common.{rules, ◌≡◌, ◌∙◌, ◌+◌, ◌<◌, Ok, ap, arith, length, subst, sym}
 use Rattle.std.proofs.lemmas.Grind.{common_steps}
 use Rattle.tr_ledger.specs.Ledgers.{LedgerState}
-use Rattle.tr_seats.proofs.CountLaws.{cut-totals, few-counted, refused-cut}
-use Rattle.tr_seats.proofs.SlotLaws.{books-cut}
+use Rattle.tr_seats.proofs.CountLemmas.{cut-totals, few-counted, refused-cut}
+use Rattle.tr_seats.proofs.SlotLemmas.{books-cut}
 use Rattle.tr_seats.proofs.slot.Slot.cut.Goals as goal
 use Rattle.tr_seats.specs.Books.{AreBooksOf, IsPlanned, books_at}
 use Rattle.tr_seats.specs.Sums.{totals_in}

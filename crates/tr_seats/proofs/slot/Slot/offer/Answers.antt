@@ -1,8 +1,8 @@
 use Rattle.std.proofs.Common.{rules, ◌≡◌, ◌∙◌, ◌+◌, ℕ, Ok, ap, arith, subst, sym}
 use Rattle.std.proofs.lemmas.Grind.{common_steps}
 use Rattle.tr_ledger.specs.Ledgers.{LedgerState, seat_state}
-use Rattle.tr_seats.proofs.CountLaws.{few-counted, offer-serial, offer-totals}
-use Rattle.tr_seats.proofs.SlotLaws.{books-discarded, books-stored, books-stored_over, offered-here, whole-before}
+use Rattle.tr_seats.proofs.CountLemmas.{few-counted, offer-serial, offer-totals}
+use Rattle.tr_seats.proofs.SlotLemmas.{books-discarded, books-stored, books-stored_over, offered-here, whole-before}
 use Rattle.tr_seats.proofs.slot.Slot.offer.Goals as goal
 use Rattle.tr_seats.specs.Books.{IsPlanned, books_at}
 use Rattle.tr_seats.specs.Slots.{ProducerState, slot_state}

@@ -3,9 +3,9 @@ use Rattle.std.proofs.lemmas.Grind.{common_steps}
 use Rattle.std.proofs.lemmas.List.{length-map}
 use Rattle.std.specs.Prelude.{slice_index, slice_set}
 use Rattle.tr_ledger.specs.Ledgers.{LedgerState}
-use Rattle.tr_seats.proofs.CountLaws.{few-counted, refused-take, take-totals}
+use Rattle.tr_seats.proofs.CountLemmas.{few-counted, refused-take, take-totals}
 use Rattle.tr_seats.proofs.Rows.{amounts-raised, consumed-at, length-seats, row-raised, table-there}
-use Rattle.tr_seats.proofs.SlotLaws.{books-taken}
+use Rattle.tr_seats.proofs.SlotLemmas.{books-taken}
 use Rattle.tr_seats.proofs.slot.Slot.take.Goals as goal
 use Rattle.tr_seats.specs.Books.{AreBooksOf, Books, IsPlanned, books_at, consumed_books, no_books, no_table}
 use Rattle.tr_seats.specs.Sums.{totals_in}

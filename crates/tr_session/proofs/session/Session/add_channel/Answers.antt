@@ -1,9 +1,9 @@
 use Rattle.std.proofs.Common.{◌∙◌, ap, sym, subst}
 use Rattle.std.specs.Prelude.{IsOk}
-use Rattle.tr_session.proofs.CallLaws.{channel-step}
-use Rattle.tr_session.proofs.StreamLaws.{other-book}
-use Rattle.tr_session.proofs.ResultLaws.{on-ok, on-err, if-err}
-use Rattle.tr_session.proofs.SessionLaws.{added-ok}
+use Rattle.tr_session.proofs.CallLemmas.{channel-step}
+use Rattle.tr_session.proofs.StreamLemmas.{other-book}
+use Rattle.tr_session.proofs.ResultLemmas.{on-ok, on-err, if-err}
+use Rattle.tr_session.proofs.SessionLemmas.{added-ok}
 use Rattle.tr_session.specs.Steps.{session_add_channel, with_book}
 use Rattle.tr_session.proofs.session.Session.add_channel.Goals as goal
 use Rattle.tr_session_book.specs.Book.{SessionBookState}

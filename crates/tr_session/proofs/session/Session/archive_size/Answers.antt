@@ -4,7 +4,7 @@ use Rattle.std.specs.List.{sum_by}
 use Rattle.std.specs.Option.{option_map_or}
 use Rattle.std.specs.Prelude.{slice_get}
 use Rattle.tr_book.specs.Parts.{part_bytes, part_packets, part_records}
-use Rattle.tr_session.proofs.SizeLaws.{fits-bytes, fits-count, tallies-more}
+use Rattle.tr_session.proofs.SizeLemmas.{fits-bytes, fits-count, tallies-more}
 use Rattle.tr_session.proofs.session.Session.archive_size.Goals as goal
 use Rattle.tr_stream.specs.Rules.{by_state}
 use Rattle.tr_stream.specs.State.{StreamState}

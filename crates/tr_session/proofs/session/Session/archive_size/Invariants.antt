@@ -1,4 +1,4 @@
-use Rattle.tr_session.proofs.SizeLaws.{TalliesSo}
+use Rattle.tr_session.proofs.SizeLemmas.{TalliesSo}
 use Rattle.tr_session.proofs.session.Session.archive_size.Given as goal
 
 -- the streams so far

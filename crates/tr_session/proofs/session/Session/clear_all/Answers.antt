@@ -1,5 +1,5 @@
 use Rattle.std.proofs.Common.{◌≡◌, ◌∙◌, ◌<◌, ◌^◌, ℕ, ap, arith, length, rules, subst, sym}
-use Rattle.tr_session.proofs.ClearLaws.{clear-can, clear-wants, clears-are, clears-can, clears-end, clears-more, next-same}
+use Rattle.tr_session.proofs.ClearLemmas.{clear-can, clear-wants, clears-are, clears-can, clears-end, clears-more, next-same}
 use Rattle.tr_session.proofs.session.Session.clear_all.Goals as goal
 use Rattle.tr_session.specs.Steps.{clear_first, session_clear_answer}
 use Rattle.tr_stream.specs.Rules.{by_state}

@@ -1,4 +1,4 @@
-use Rattle.tr_session.proofs.ClearLaws.{ClearsSo}
+use Rattle.tr_session.proofs.ClearLemmas.{ClearsSo}
 use Rattle.tr_session.proofs.session.Session.clear_all.Given as goal
 
 -- the streams before this one are cleared

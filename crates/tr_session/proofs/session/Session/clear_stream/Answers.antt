@@ -1,5 +1,5 @@
 use Rattle.std.proofs.Common.{◌≡◌, ◌≤◌, ◌∙◌, ◌<◌, Err, Ok, List, ap, arith, length, subst, sym}
-use Rattle.tr_session.proofs.ClearLaws.{allowed-at, allowed-clear, allowed-packets, clear-step, past-refused, refused-clear}
+use Rattle.tr_session.proofs.ClearLemmas.{allowed-at, allowed-clear, allowed-packets, clear-step, past-refused, refused-clear}
 use Rattle.tr_session.proofs.session.Session.clear_stream.Goals as goal
 use Rattle.tr_session.specs.Session.{SessionOf}
 use Rattle.tr_session_book.specs.Book.{SessionBookState}

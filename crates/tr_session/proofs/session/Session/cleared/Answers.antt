@@ -1,6 +1,6 @@
 use Rattle.std.proofs.Common.{◌≡◌, ◌≤◌, ◌<◌, ◌^◌, ℕ, Some, arith, length, refl, rules, subst, sym}
 use Rattle.std.specs.Prelude.{slice_get}
-use Rattle.tr_session.proofs.ClearLaws.{counts-all, counts-more}
+use Rattle.tr_session.proofs.ClearLemmas.{counts-all, counts-more}
 use Rattle.tr_session.proofs.session.Session.cleared.Goals as goal
 
 pub streams-init : goal.streams-init

@@ -1,4 +1,4 @@
-use Rattle.tr_session.proofs.ClearLaws.{CountsSo}
+use Rattle.tr_session.proofs.ClearLemmas.{CountsSo}
 use Rattle.tr_session.proofs.session.Session.cleared.Given as goal
 
 -- the streams so far

@@ -1,5 +1,5 @@
 use Rattle.std.proofs.Common.{◌≡◌, ◌≢◌, ◌∙◌, ◌<◌, ℕ, Err, ap, arith, refl, rules, subst}
-use Rattle.tr_session.proofs.SessionLaws.{cut_first-more}
+use Rattle.tr_session.proofs.SessionLemmas.{cut_first-more}
 use Rattle.tr_session.proofs.session.Session.cut_all.Goals as goal
 use Rattle.tr_session.specs.Steps.{cut_first}
 use Rattle.tr_session.specs.declared.faults.StepFault.TheVariants.{Cut}

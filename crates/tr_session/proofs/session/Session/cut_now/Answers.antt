@@ -1,9 +1,9 @@
 use Rattle.std.specs.Prelude.{IsOk}
 use Rattle.std.proofs.Common.{◌≡◌, ◌∙◌, ◌<◌, ℕ, List, Ok, Err, Result, ap, refl, sym, subst}
-use Rattle.tr_session_book.proofs.BookLaws.{due-within}
-use Rattle.tr_session.proofs.CallLaws.{same-session}
-use Rattle.tr_session.proofs.StreamLaws.{after-cut}
-use Rattle.tr_session.proofs.SessionLaws.{noted-due, cut-can, cut-noted, only-memory, ok-not-err}
+use Rattle.tr_session_book.proofs.BookLemmas.{due-within}
+use Rattle.tr_session.proofs.CallLemmas.{same-session}
+use Rattle.tr_session.proofs.StreamLemmas.{after-cut}
+use Rattle.tr_session.proofs.SessionLemmas.{noted-due, cut-can, cut-noted, only-memory, ok-not-err}
 use Rattle.tr_session.proofs.session.Session.cut_now.Goals as goal
 use Rattle.tr_session_book.specs.BookSteps.{cut_moment, with_cut}
 use Rattle.tr_session.specs.Session.{SessionOf}

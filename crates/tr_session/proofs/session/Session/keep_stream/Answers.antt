@@ -1,7 +1,7 @@
 use Rattle.std.proofs.Common.{◌≡◌, ◌∙◌, ◌++◌, ◌∷◌, [], List, ap, length, rules, sym, arith}
 use Rattle.std.proofs.lemmas.Grind.{common_steps}
-use Rattle.tr_session.proofs.CallLaws.{one-more, same-session}
-use Rattle.tr_session.proofs.SessionLaws.{thread-made, thread-wants}
+use Rattle.tr_session.proofs.CallLemmas.{one-more, same-session}
+use Rattle.tr_session.proofs.SessionLemmas.{thread-made, thread-wants}
 use Rattle.tr_session.proofs.session.Session.keep_stream.Goals as goal
 use Rattle.tr_session.specs.Session.{SessionOf}
 use Rattle.tr_session.specs.Steps.{session_add_thread}

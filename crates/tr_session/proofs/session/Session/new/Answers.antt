@@ -1,5 +1,5 @@
 use Rattle.std.proofs.Common.{refl}
-use Rattle.tr_session.proofs.CallLaws.{no-streams, same-session}
+use Rattle.tr_session.proofs.CallLemmas.{no-streams, same-session}
 use Rattle.tr_session.proofs.session.Session.new.Goals as goal
 use Rattle.tr_session_book.specs.Book.{new_book}
 

@@ -4,7 +4,7 @@ use Rattle.tr_session.specs.Session.{SessionOf}
 use Rattle.tr_session.specs.Steps.{session_offer_answer, session_after_offer}
 use Rattle.tr_stream.specs.Rules.{by_state}
 use Rattle.tr_stream.specs.State.{StreamState}
-use Rattle.tr_session.proofs.CallLaws.{offer-step}
+use Rattle.tr_session.proofs.CallLemmas.{offer-step}
 
 pub invariant_of-self : goal.invariant_of-self
 invariant_of-self g c =

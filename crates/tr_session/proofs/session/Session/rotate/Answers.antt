@@ -1,7 +1,7 @@
 use Rattle.std.proofs.Common.{◌≡◌, rules, sym, arith}
 use Rattle.std.proofs.lemmas.Grind.{common_steps}
 use Rattle.std.specs.Prelude.{length}
-use Rattle.tr_session.proofs.RotationLaws.{is-whole, not-refused, rotation-is}
+use Rattle.tr_session.proofs.RotationLemmas.{is-whole, not-refused, rotation-is}
 use Rattle.tr_session.proofs.session.Session.rotate.Goals as goal
 use Rattle.tr_session.specs.Session.{SessionOf}
 use Rattle.tr_session.specs.Steps.{cut_first, with_rotation}

@@ -1,7 +1,7 @@
 use Rattle.std.proofs.Common.{◌∙◌, ap, subst}
 use Rattle.std.specs.Prelude.{IsOk}
-use Rattle.tr_session.proofs.CallLaws.{begin-step}
-use Rattle.tr_session.proofs.StreamLaws.{other-book}
+use Rattle.tr_session.proofs.CallLemmas.{begin-step}
+use Rattle.tr_session.proofs.StreamLemmas.{other-book}
 use Rattle.tr_session_book.specs.BookSteps.{book_rotate_begin_answer}
 use Rattle.tr_session.specs.Steps.{session_after_rotate_begin}
 use Rattle.tr_session.proofs.session.Session.rotate_begin.Goals as goal

@@ -1,6 +1,6 @@
 use Rattle.std.proofs.Common.{refl}
-use Rattle.tr_session.proofs.CallLaws.{stepped}
-use Rattle.tr_session.proofs.StreamLaws.{finished-same}
+use Rattle.tr_session.proofs.CallLemmas.{stepped}
+use Rattle.tr_session.proofs.StreamLemmas.{finished-same}
 use Rattle.tr_session.proofs.session.Session.rotate_finish.Goals as goal
 
 pub invariant_of-self : goal.invariant_of-self

@@ -1,6 +1,6 @@
 use Rattle.std.proofs.Common.{refl}
-use Rattle.tr_session.proofs.CallLaws.{stepped}
-use Rattle.tr_session.proofs.StreamLaws.{schedule-same}
+use Rattle.tr_session.proofs.CallLemmas.{stepped}
+use Rattle.tr_session.proofs.StreamLemmas.{schedule-same}
 use Rattle.tr_session.proofs.session.Session.set_schedule.Goals as goal
 
 pub invariant_of-self : goal.invariant_of-self

@@ -1,5 +1,5 @@
 use Rattle.std.proofs.Common.{◌∙◌, List, ap, map}
-use Rattle.tr_session.proofs.ResultLaws.{if-ok}
+use Rattle.tr_session.proofs.ResultLemmas.{if-ok}
 use Rattle.tr_session.proofs.session.Session.snap_streams.Goals as goal
 use Rattle.tr_session.specs.Session.{SessionOf}
 use Rattle.tr_stream.specs.State.{StreamState}

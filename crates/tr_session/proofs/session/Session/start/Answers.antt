@@ -1,6 +1,6 @@
 use Rattle.std.proofs.Common.{map, refl, true}
-use Rattle.tr_session.proofs.CallLaws.{stepped}
-use Rattle.tr_session.proofs.StreamLaws.{after-each, switch-keeps, started-same}
+use Rattle.tr_session.proofs.CallLemmas.{stepped}
+use Rattle.tr_session.proofs.StreamLemmas.{after-each, switch-keeps, started-same}
 use Rattle.tr_session.proofs.session.Session.start.Goals as goal
 use Rattle.tr_stream.specs.StateSteps.{state_after_switch}
 

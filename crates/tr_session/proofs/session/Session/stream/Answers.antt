@@ -1,9 +1,9 @@
 use Rattle.std.proofs.Common.{◌∙◌, ap, List, subst}
 use Rattle.std.specs.Prelude.{slice_get}
-use Rattle.tr_session_book.proofs.ListLaws.{copied-item}
+use Rattle.tr_session_book.proofs.ListLemmas.{copied-item}
 use Rattle.tr_session.proofs.session.Session.stream.Goals as goal
-use Rattle.tr_session.proofs.SizeLaws.{archived-parts}
-use Rattle.tr_session.proofs.StreamLaws.{found-is}
+use Rattle.tr_session.proofs.SizeLemmas.{archived-parts}
+use Rattle.tr_session.proofs.StreamLemmas.{found-is}
 use Rattle.tr_session.specs.Session.{HasItsStreams, SessionOf}
 use Rattle.tr_stream.specs.State.{StreamState}
 

@@ -1,6 +1,6 @@
 use Rattle.std.proofs.Common.{refl}
-use Rattle.tr_session.proofs.CallLaws.{same-session}
-use Rattle.tr_session.proofs.StreamLaws.{after-one, switch-keeps}
+use Rattle.tr_session.proofs.CallLemmas.{same-session}
+use Rattle.tr_session.proofs.StreamLemmas.{after-one, switch-keeps}
 use Rattle.tr_session.proofs.session.Session.switch_stream.Goals as goal
 use Rattle.tr_session.specs.Steps.{change_at}
 use Rattle.tr_stream.specs.StateSteps.{state_after_switch}

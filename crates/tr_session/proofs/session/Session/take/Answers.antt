@@ -5,7 +5,7 @@ use Rattle.tr_session.specs.Session.{SessionOf}
 use Rattle.tr_session.specs.Steps.{session_take_answer, session_after_take}
 use Rattle.tr_stream.specs.Rules.{by_state}
 use Rattle.tr_stream.specs.State.{StreamState}
-use Rattle.tr_session.proofs.CallLaws.{take-step}
+use Rattle.tr_session.proofs.CallLemmas.{take-step}
 
 pub invariant_of-self : goal.invariant_of-self
 invariant_of-self g c =

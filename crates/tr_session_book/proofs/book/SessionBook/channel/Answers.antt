@@ -1,5 +1,5 @@
 use Rattle.std.proofs.Common.{◌∙◌, ap}
-use Rattle.tr_session_book.proofs.NameLaws.{lookup-by_name}
+use Rattle.tr_session_book.proofs.NameLemmas.{lookup-by_name}
 use Rattle.tr_session_book.proofs.book.SessionBook.channel.Goals as goal
 use Rattle.tr_session_book.specs.Book.{SessionBookState}
 use Rattle.tr_session_book.specs.BookSteps.{channel_named}

@@ -1,7 +1,7 @@
 use Rattle.std.proofs.Common.{◌∙◌, ap, sym, None, Some, true, ◌≡◌, rules, arith}
 use Rattle.std.proofs.lemmas.Grind.{common_steps}
-use Rattle.tr_session_book.proofs.BookLaws.{place-full, place-left, thread_place-is}
-use Rattle.tr_session_book.proofs.NameLaws.{lookup-by_name}
+use Rattle.tr_session_book.proofs.BookLemmas.{place-full, place-left, thread_place-is}
+use Rattle.tr_session_book.proofs.NameLemmas.{lookup-by_name}
 use Rattle.tr_session_book.proofs.book.SessionBook.channel_at.Goals as goal
 use Rattle.tr_session_book.specs.Book.{SessionBookState}
 use Rattle.tr_session_book.specs.BookSteps.{is_new, channel_named}

@@ -1,9 +1,9 @@
 use Rattle.std.proofs.Common.{◌∙◌, ◌≡◌, List, ℕ, Some, ap, subst, sym}
 use Rattle.std.specs.Prelude.{option_copied, slice_get}
-use Rattle.tr_session_book.proofs.BookLaws.{channel_of-is}
+use Rattle.tr_session_book.proofs.BookLemmas.{channel_of-is}
 use Rattle.std.specs.String.{string_bytes}
-use Rattle.tr_session_book.proofs.ListLaws.{copied-item}
-use Rattle.tr_session_book.proofs.NameLaws.{name-made, named-at}
+use Rattle.tr_session_book.proofs.ListLemmas.{copied-item}
+use Rattle.tr_session_book.proofs.NameLemmas.{name-made, named-at}
 use Rattle.tr_session_book.proofs.book.SessionBook.channel_of.Goals as goal
 use Rattle.tr_session_book.specs.Book.{SessionBookState}
 use Rattle.tr_terms.specs.Names.{is_name}

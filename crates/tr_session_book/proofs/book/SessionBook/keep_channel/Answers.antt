@@ -1,5 +1,5 @@
 use Rattle.std.proofs.Common.{◌≡◌, ◌∙◌, ◌≤◌, ap, sym, subst, arith, List, [], ◌∷◌, ◌++◌, ℕ, is_some, length, length-append}
-use Rattle.tr_session_book.proofs.NameLaws.{insert_entry-new_name, is_some-by_name, named-more}
+use Rattle.tr_session_book.proofs.NameLemmas.{insert_entry-new_name, is_some-by_name, named-more}
 use Rattle.tr_session_book.proofs.book.SessionBook.keep_channel.Goals as goal
 use Rattle.tr_session_book.specs.Book.{SessionBookState, session_book_state}
 use Rattle.tr_session_book.specs.BookSteps.{channel_named, with_channel}

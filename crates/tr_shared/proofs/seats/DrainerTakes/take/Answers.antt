@@ -1,7 +1,7 @@
 use Rattle.std.proofs.Common.{rules, ◌≡◌, subst}
 use Rattle.tr_seats.specs.Books.{IsPlanned}
 use Rattle.tr_seats.specs.Slots.{SlotState}
-use Rattle.tr_shared.proofs.ModeLaws.{take-mode}
+use Rattle.tr_shared.proofs.ModeLemmas.{take-mode}
 use Rattle.tr_shared.proofs.seats.DrainerTakes.take.Goals as goal
 
 pub returns : goal.returns

@@ -1,5 +1,5 @@
 use Rattle.std.proofs.Common.{rules, ◌≡◌}
-use Rattle.tr_shared.proofs.ModeLaws.{begin-mode}
+use Rattle.tr_shared.proofs.ModeLemmas.{begin-mode}
 use Rattle.tr_shared.proofs.shared.Shared.rotate_begin.Goals as goal
 
 pub returns-clause-mode : goal.returns-clause-mode

@@ -4,7 +4,7 @@ use Rattle.tr_seats.specs.Settling.{AddUp, IsOneEach, WereConsumed}
 use Rattle.tr_seats.specs.declared.settling.SettleError.TheVariants.{ProducerMissing}
 use Rattle.tr_session.specs.Session.{SessionOf}
 use Rattle.tr_stream.specs.State.{StreamState}
-use Rattle.tr_shared.proofs.WhyLaws.{why-missing}
+use Rattle.tr_shared.proofs.WhyLemmas.{why-missing}
 use Rattle.tr_shared.proofs.shared.Shared.settle.Goals as goal
 
 pub returns-in-Ok-clause-all : goal.returns-in-Ok-clause-all

@@ -1,6 +1,6 @@
 use Rattle.std.proofs.Common.{rules, ◌≡◌, ◌∷◌, ◌++◌, [], ℕ, length, subst, sym, arith}
 use Rattle.std.proofs.lemmas.Grind.{common_steps}
-use Rattle.tr_shared.proofs.SnapLaws.{shown-more}
+use Rattle.tr_shared.proofs.SnapLemmas.{shown-more}
 use Rattle.tr_shared.proofs.shared.Shared.snapshot.Goals as goal
 use Rattle.tr_shared.specs.Shown.{AreShown, IsShown, ShowsAll}
 

@@ -1,7 +1,7 @@
 use Rattle.std.proofs.Common.{rules, ◌≡◌, ◌∙◌, ◌∷◌, ◌++◌, [], ℕ, length, subst, sym, arith}
 use Rattle.std.proofs.lemmas.Grind.{common_steps}
 use Rattle.tr_seats.specs.Slots.{ProducerState}
-use Rattle.tr_shared.proofs.SnapLaws.{own-more, shown-more}
+use Rattle.tr_shared.proofs.SnapLemmas.{own-more, shown-more}
 use Rattle.tr_shared.proofs.shared.Shared.snapshot_with.Goals as goal
 use Rattle.tr_shared.specs.Shown.{AreShown, IsShown, OwnIsShown, ShowsAll, ShowsOwn}
 

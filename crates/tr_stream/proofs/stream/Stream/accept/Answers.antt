@@ -1,7 +1,7 @@
 use Rattle.std.proofs.Common.{rules, arith}
 use Rattle.std.proofs.lemmas.Grind.{common_steps}
 use Rattle.tr_record.specs.Records.{Entry}
-use Rattle.tr_stream.proofs.CallLaws.{kept-pushed, booked-stored, booked-over, booked-refused}
+use Rattle.tr_stream.proofs.CallLemmas.{kept-pushed, booked-stored, booked-over, booked-refused}
 use Rattle.tr_stream.proofs.stream.Stream.accept.Goals as goal
 use Rattle.tr_stream.specs.State.{StreamState}
 

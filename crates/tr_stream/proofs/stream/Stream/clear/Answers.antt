@@ -1,5 +1,5 @@
 use Rattle.std.proofs.Common.{rules}
-use Rattle.tr_stream.proofs.CallLaws.{clear-local, step-clear}
+use Rattle.tr_stream.proofs.CallLemmas.{clear-local, step-clear}
 use Rattle.tr_stream.proofs.stream.Stream.clear.Goals as goal
 
 pub returns-clause-step : goal.returns-clause-step

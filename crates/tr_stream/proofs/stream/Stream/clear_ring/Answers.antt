@@ -1,5 +1,5 @@
 use Rattle.std.proofs.Common.{rules, ◌≡◌, ◌+◌, ◌∙◌, length, ap, arith}
-use Rattle.tr_stream.proofs.CallLaws.{clear-is, clear-packets, clear-told, kept-clear_now}
+use Rattle.tr_stream.proofs.CallLemmas.{clear-is, clear-packets, clear-told, kept-clear_now}
 use Rattle.tr_stream.proofs.stream.Stream.clear_ring.Goals as goal
 use Rattle.tr_stream.specs.State.{StreamState}
 use Rattle.tr_stream.specs.StateSteps.{state_cleared, state_clear_ring}

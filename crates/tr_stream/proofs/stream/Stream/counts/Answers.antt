@@ -1,7 +1,7 @@
 use Rattle.std.proofs.Common.{rules, ◌≡◌, ◌∙◌}
 use Rattle.tr_book.specs.declared.counts.Counts.{Counts}
 use Rattle.tr_stream.proofs.Consistency.{consistent-of, nothing-gone}
-use Rattle.tr_stream.proofs.TakeLaws.{counts-are}
+use Rattle.tr_stream.proofs.TakeLemmas.{counts-are}
 use Rattle.tr_stream.proofs.stream.Stream.counts.Goals as goal
 use Rattle.tr_stream.specs.StateSteps.{state_counts}
 

@@ -1,5 +1,5 @@
 use Rattle.std.proofs.Common.{rules}
-use Rattle.tr_stream.proofs.CallLaws.{cut-local, step-cut}
+use Rattle.tr_stream.proofs.CallLemmas.{cut-local, step-cut}
 use Rattle.tr_stream.proofs.stream.Stream.cut.Goals as goal
 
 pub returns-clause-step : goal.returns-clause-step

@@ -1,7 +1,7 @@
 use Rattle.std.proofs.Common.{rules, ◌≤◌, ◌∙◌, ap, arith}
 use Rattle.std.proofs.lemmas.Grind.{common_steps}
-use Rattle.tr_stream.proofs.CallLaws.{cut-fits, cut-told, cut-is, kept-cut_now}
-use Rattle.tr_stream.proofs.SoundLaws.{closing-is_packet}
+use Rattle.tr_stream.proofs.CallLemmas.{cut-fits, cut-told, cut-is, kept-cut_now}
+use Rattle.tr_stream.proofs.SoundLemmas.{closing-is_packet}
 use Rattle.tr_stream.proofs.stream.Stream.cut_ring.Goals as goal
 use Rattle.tr_stream.specs.State.{StreamState}
 use Rattle.tr_stream.specs.StateSteps.{cut_done, state_cut_ring}

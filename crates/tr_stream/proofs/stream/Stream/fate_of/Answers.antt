@@ -1,5 +1,5 @@
 use Rattle.std.proofs.Common.{rules, ◌≡◌, ◌∙◌, Some}
-use Rattle.tr_stream.proofs.FateLaws.{fates, losses-of}
+use Rattle.tr_stream.proofs.FateLemmas.{fates, losses-of}
 use Rattle.tr_stream.proofs.stream.Stream.fate_of.Goals as goal
 use Rattle.tr_stream.specs.Fates.{state_fate}
 

@@ -1,5 +1,5 @@
 use Rattle.std.proofs.Common.{rules, Some, None}
-use Rattle.tr_stream.proofs.FateLaws.{held-closed, held-current, held-gone, held-ring}
+use Rattle.tr_stream.proofs.FateLemmas.{held-closed, held-current, held-gone, held-ring}
 use Rattle.tr_stream.proofs.stream.Stream.held_fate.Goals as goal
 
 pub returns-in-Some : goal.returns-in-Some

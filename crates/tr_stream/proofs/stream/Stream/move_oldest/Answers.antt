@@ -1,6 +1,6 @@
 use Rattle.std.proofs.Common.{rules, ◌∙◌, ap, sym, arith}
 use Rattle.std.proofs.lemmas.Grind.{common_steps}
-use Rattle.tr_stream.proofs.CallLaws.{oldest-is_packet, oldest-fits, moved-local, kept-moved}
+use Rattle.tr_stream.proofs.CallLemmas.{oldest-is_packet, oldest-fits, moved-local, kept-moved}
 use Rattle.tr_stream.proofs.stream.Stream.move_oldest.Goals as goal
 use Rattle.tr_stream.specs.State.{StreamState}
 use Rattle.tr_stream.specs.StateSteps.{state_after_take}

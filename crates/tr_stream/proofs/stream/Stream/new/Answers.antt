@@ -1,6 +1,6 @@
 use Rattle.std.proofs.Common.{rules, ◌≡◌, length, sym, subst, false}
-use Rattle.tr_stream.proofs.CallLaws.{new-is}
-use Rattle.tr_stream.proofs.KeptLaws.{kept-new}
+use Rattle.tr_stream.proofs.CallLemmas.{new-is}
+use Rattle.tr_stream.proofs.KeptLemmas.{kept-new}
 use Rattle.tr_stream.proofs.stream.Stream.new.Goals as goal
 use Rattle.tr_stream.specs.Kept.{IsKept}
 use Rattle.tr_stream.specs.State.{StreamState}

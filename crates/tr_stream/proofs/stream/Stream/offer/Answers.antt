@@ -1,6 +1,6 @@
 use Rattle.std.proofs.Common.{rules, arith}
 use Rattle.std.proofs.lemmas.Grind.{common_steps}
-use Rattle.tr_stream.proofs.CallLaws.{step-accepted}
+use Rattle.tr_stream.proofs.CallLemmas.{step-accepted}
 use Rattle.tr_stream.proofs.stream.Stream.offer.Goals as goal
 
 pub returns-clause-step : goal.returns-clause-step

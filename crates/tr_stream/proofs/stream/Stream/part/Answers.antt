@@ -1,5 +1,5 @@
 use Rattle.std.proofs.Common.{sym, ap, subst, ◌∙◌}
-use Rattle.tr_stream.proofs.PartLaws.{part-is}
+use Rattle.tr_stream.proofs.PartLemmas.{part-is}
 use Rattle.tr_stream.proofs.stream.Stream.part.Goals as goal
 use Rattle.tr_stream.specs.Chunks.{part_in}
 use Rattle.tr_stream.specs.StandsFor.{StandsFor}

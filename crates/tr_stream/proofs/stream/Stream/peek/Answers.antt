@@ -1,7 +1,7 @@
 use Rattle.std.proofs.Common.{rules, ◌≤◌, arith}
 use Rattle.std.proofs.lemmas.Grind.{common_steps}
-use Rattle.tr_stream.proofs.LookLaws.{look-some, on-err}
-use Rattle.tr_stream.proofs.SoundLaws.{closing-is_packet}
+use Rattle.tr_stream.proofs.LookLemmas.{look-some, on-err}
+use Rattle.tr_stream.proofs.SoundLemmas.{closing-is_packet}
 use Rattle.tr_stream.proofs.stream.Stream.peek.Goals as goal
 use Rattle.tr_stream.specs.State.{StreamState}
 

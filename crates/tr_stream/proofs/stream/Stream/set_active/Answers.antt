@@ -1,5 +1,5 @@
 use Rattle.std.proofs.Common.{sym, subst}
-use Rattle.tr_stream.proofs.KeptLaws.{kept-switched}
+use Rattle.tr_stream.proofs.KeptLemmas.{kept-switched}
 use Rattle.tr_stream.proofs.Refinement.{stands-switched}
 use Rattle.tr_stream.proofs.stream.Stream.set_active.Goals as goal
 use Rattle.tr_stream.specs.StandsFor.{StandsFor}

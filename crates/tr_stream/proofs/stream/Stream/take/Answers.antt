@@ -1,6 +1,6 @@
 use Rattle.std.proofs.Common.{rules, sym, arith}
 use Rattle.std.proofs.lemmas.Grind.{common_steps}
-use Rattle.tr_stream.proofs.CallLaws.{nothing-taken, step-taken}
+use Rattle.tr_stream.proofs.CallLemmas.{nothing-taken, step-taken}
 use Rattle.tr_stream.proofs.stream.Stream.take.Goals as goal
 
 pub returns-then-waiting-eq0-clause-step : goal.returns-then-waiting-eq0-clause-step

@@ -4,7 +4,7 @@ use Rattle.tr_record.specs.Records.{Entry}
 use Rattle.tr_record.specs.Whole.{entries_of}
 use Rattle.tr_subbuf.specs.Page.{IsPage}
 use Rattle.tr_subbuf.specs.SubBuffer.{sub_buffer}
-use Rattle.tr_subbuf.proofs.PageLaws.{page_none}
+use Rattle.tr_subbuf.proofs.PageLemmas.{page_none}
 use Rattle.tr_subbuf.proofs.sub_buffer.SubBuf.new.Goals as goal
 
 pub invariant_of-result : goal.invariant_of-result

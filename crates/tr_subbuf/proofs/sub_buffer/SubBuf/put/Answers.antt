@@ -6,7 +6,7 @@ use Rattle.tr_record.specs.Weight.{weight_of}
 use Rattle.tr_record.specs.Whole.{entries_of}
 use Rattle.tr_subbuf.specs.Page.{IsPage}
 use Rattle.tr_subbuf.specs.SubBuffer.{SubBuffer, has_room, sub_buffer, with_record}
-use Rattle.tr_subbuf.proofs.PageLaws.{counted_within, page_put}
+use Rattle.tr_subbuf.proofs.PageLemmas.{counted_within, page_put}
 use Rattle.tr_subbuf.proofs.sub_buffer.SubBuf.put.Goals as goal
 
 pub overflow_add-self : goal.overflow_add-self

@@ -4,7 +4,7 @@ use Rattle.tr_record.specs.Records.{Entry}
 use Rattle.tr_record.specs.Whole.{entries_of}
 use Rattle.tr_subbuf.specs.Page.{IsPage}
 use Rattle.tr_subbuf.specs.SubBuffer.{SubBuffer, empty_buffer, sub_buffer}
-use Rattle.tr_subbuf.proofs.PageLaws.{page_none}
+use Rattle.tr_subbuf.proofs.PageLemmas.{page_none}
 use Rattle.tr_subbuf.proofs.sub_buffer.SubBuf.reset.Goals as goal
 
 pub invariant_of-self : goal.invariant_of-self

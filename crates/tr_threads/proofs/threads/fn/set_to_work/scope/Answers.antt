@@ -6,8 +6,8 @@ use Rattle.std.specs.declared.thread.PromisedHandle.{PromisedHandle}
 use Rattle.tr_threads.specs.declared.threads.Ended.{Ended}
 use Rattle.tr_threads.specs.declared.threads.Task.{Task}
 use Rattle.tr_threads.specs.Pools.{IsKeptOr}
-use Rattle.tr_threads.proofs.JoinLaws.{kept_or}
-use Rattle.tr_threads.proofs.StartLaws.{AreTasks, starts_one, comes_back, before_last, is_last}
+use Rattle.tr_threads.proofs.JoinLemmas.{kept_or}
+use Rattle.tr_threads.proofs.StartLemmas.{AreTasks, starts_one, comes_back, before_last, is_last}
 use Rattle.tr_threads.proofs.threads.fn.set_to_work.scope.Goals as goal
 
 -- the last seat that was left has its thread
@@ -104,7 +104,7 @@ returns-in_default-false g c =
       memory = search rules;
     }
 
--- a thread was refused: its seat comes back, those before it were not taken, and those behind it are joined
+-- a thread was refused: its seat comes back, those before it were not taken, and those after it are joined
 pub returns-in-Err : goal.returns-in-Err
 returns-in-Err g c =
     let Handle = PromisedHandle (Ended g.row.W-Seat.Denot) (Task g.row.W.Denot g.row.W-Seat.Denot) in

@@ -1,0 +1,498 @@
+-- A clear of a stream is the history's clear.
+use Rattle.std.proofs.Common.{◌≡◌, ℕ, ◌+◌, ◌<◌, Bool, true, false, cond, eqb, List, [], ◌∷◌, ◌++◌, length, map, Ok, Err, refl, sym, ◌∙◌, ap, subst, arith, length-append}
+use Rattle.std.proofs.lemmas.Bool.Decides.{nat_tests}
+use Rattle.std.proofs.lemmas.Grind.{common_steps, flat_map-append}
+use Rattle.std.proofs.lemmas.List.{append-nil, append_cancel_right, length-map}
+use Rattle.std.proofs.lemmas.List.Sums.{sum_by-cons}
+use Rattle.std.specs.Prelude.{sum_by}
+use Rattle.tr_book.specs.Counters.{with_cleared}
+use Rattle.tr_book.specs.Parts.{PartState, clear_part, records_of}
+use Rattle.tr_book.specs.Runs.{packet_runs, runs_of}
+use Rattle.tr_book.specs.declared.runs.Run.{Run}
+use Rattle.tr_ring.specs.ClosedBuffer.{ClosedBuffer}
+use Rattle.tr_stream.proofs.ChunkLemmas.{none_wait, records-of_buffers, records_where-cons, records_in-append}
+use Rattle.tr_stream.proofs.CutLemmas.{flushed, stands-flushed, records_in-ring, ring-same}
+use Rattle.tr_stream.proofs.FormLemmas.{serials_same}
+use Rattle.tr_stream.proofs.Refinement.{chunks_below-same, parts_below-same}
+use Rattle.tr_stream.proofs.SoundLemmas.{records_of-packets}
+use Rattle.tr_stream.specs.Chunks.{buffer_runs, buffers_where, chunk_of, cleared_of, kept_of, packet_of, ring_buffers, ring_of, waiting_of}
+use Rattle.tr_stream.specs.History.{Status, Waiting, Dropped, Kept, Cleared, Block, Closed, History, is_waiting, is_dropped, is_kept, is_kept_in, is_cleared, is_consumed, is_withdrawn, blocks_where, offered_of, offers_in, records_where, times, times_in}
+use Rattle.tr_stream.specs.StandsFor.{StandsFor}
+use Rattle.tr_stream.specs.State.{StreamState, records_in}
+use Rattle.tr_stream.specs.StateSteps.{state_cleared, state_clear_answer, state_clear_ring, state_after_clear}
+use Rattle.tr_stream.specs.Steps.{clear_all, clear_blocks, cleared_status, cleared_with, close_filling, history_after_clear, history_clear_answer, history_clear_ring}
+use Rattle.tr_stream.specs.WellFormed.{NumberedFrom, WaitLast, IsWithin, AllWithinCuts, IsRecent, AllRecent, RecentLast, Covers, CoversFrom, AllUsed, LastHeld, chunks_below}
+use Rattle.tr_stream.specs.declared.answers.ClearFault.TheVariants.{SnapshotMode}
+use Rattle.tr_stream.specs.declared.config.StreamConfig.{StreamConfig}
+use Rattle.tr_terms.specs.SessionModes.{by_session_mode}
+use Rattle.tr_terms.specs.declared.session_mode.SessionMode.{SessionMode}
+use Rattle.tr_terms.specs.declared.session_mode.SessionMode.TheVariants.{Local, Snapshot}
+
+-- what a clear makes of statuses
+waits-cleared : (k : ℕ) (st : Status) → is_waiting (cleared_status k st) ≡ false
+waits-cleared k Waiting = refl
+waits-cleared k Dropped = refl
+waits-cleared k (Kept j) = either (eqb j k)
+  where
+    either : (b : Bool) → is_waiting (cond b (Cleared true) (Kept j)) ≡ false
+    either true = refl
+    either false = refl
+waits-cleared k (Cleared c) = refl
+
+dropped-cleared : (k : ℕ) (st : Status) → is_dropped (cleared_status k st) ≡ is_dropped st
+dropped-cleared k Waiting = refl
+dropped-cleared k Dropped = refl
+dropped-cleared k (Kept j) = either (eqb j k)
+  where
+    either : (b : Bool) → is_dropped (cond b (Cleared true) (Kept j)) ≡ false
+    either true = refl
+    either false = refl
+dropped-cleared k (Cleared c) = refl
+
+consumed-cleared : (k : ℕ) (st : Status) → is_consumed (cleared_status k st) ≡ is_consumed st
+consumed-cleared k Waiting = refl
+consumed-cleared k Dropped = refl
+consumed-cleared k (Kept j) = either (eqb j k)
+  where
+    either : (b : Bool) → is_consumed (cond b (Cleared true) (Kept j)) ≡ true
+    either true = refl
+    either false = refl
+consumed-cleared k (Cleared c) = refl
+
+-- what is gone after a clear
+abbrev pub is_gone : ℕ → Status → Bool
+is_gone k Waiting = true
+is_gone k Dropped = false
+is_gone k (Kept j) = eqb j k
+is_gone k (Cleared c) = true
+
+gone-cleared : (k : ℕ) (st : Status) → is_cleared (cleared_status k st) ≡ is_gone k st
+gone-cleared k Waiting = refl
+gone-cleared k Dropped = refl
+gone-cleared k (Kept j) = either (eqb j k)
+  where
+    either : (b : Bool) → is_cleared (cond b (Cleared true) (Kept j)) ≡ b
+    either true = refl
+    either false = refl
+gone-cleared k (Cleared c) = refl
+
+-- what had been consumed and is gone after it
+abbrev was_consumed : ℕ → Status → Bool
+was_consumed k Waiting = false
+was_consumed k Dropped = false
+was_consumed k (Kept j) = eqb j k
+was_consumed k (Cleared c) = c
+
+withdrawn-cleared : (k : ℕ) (st : Status) → is_withdrawn (cleared_status k st) ≡ was_consumed k st
+withdrawn-cleared k Waiting = refl
+withdrawn-cleared k Dropped = refl
+withdrawn-cleared k (Kept j) = either (eqb j k)
+  where
+    either : (b : Bool) → is_withdrawn (cond b (Cleared true) (Kept j)) ≡ b
+    either true = refl
+    either false = refl
+withdrawn-cleared k (Cleared c) = refl
+
+-- what is kept after it
+abbrev is_kept_but : ℕ → Status → Bool
+is_kept_but k Waiting = false
+is_kept_but k Dropped = false
+is_kept_but k (Kept j) = cond (eqb j k) false true
+is_kept_but k (Cleared c) = false
+
+kept-cleared : (k : ℕ) (st : Status) → is_kept (cleared_status k st) ≡ is_kept_but k st
+kept-cleared k Waiting = refl
+kept-cleared k Dropped = refl
+kept-cleared k (Kept j) = either (eqb j k)
+  where
+    either : (b : Bool) → is_kept (cond b (Cleared true) (Kept j)) ≡ cond b false true
+    either true = refl
+    either false = refl
+kept-cleared k (Cleared c) = refl
+
+-- another chunk stays
+pub other-cleared : (i k : ℕ) → eqb i k ≡ false → (st : Status) → is_kept_in i (cleared_status k st) ≡ is_kept_in i st
+other-cleared i k ne Waiting = refl
+other-cleared i k ne Dropped = refl
+other-cleared i k ne (Kept j) = either (eqb j k) refl
+  where
+    either : (b : Bool) → eqb j k ≡ b → is_kept_in i (cond b (Cleared true) (Kept j)) ≡ eqb j i
+    either true e = grind (arith, nat_tests, e, ne)
+    either false e = refl
+other-cleared i k ne (Cleared c) = refl
+
+abbrev pub never : Status → Bool
+never st = false
+
+pub current-cleared : (k : ℕ) (st : Status) → is_kept_in k (cleared_status k st) ≡ never st
+current-cleared k Waiting = refl
+current-cleared k Dropped = refl
+current-cleared k (Kept j) = either (eqb j k) refl
+  where
+    either : (b : Bool) → eqb j k ≡ b → is_kept_in k (cond b (Cleared true) (Kept j)) ≡ false
+    either true e = refl
+    either false e = e
+current-cleared k (Cleared c) = refl
+
+-- the sub-buffers of a status after it are those of another before it
+pub buffers-cleared : (after before : Status → Bool) (k discarded : ℕ) (cs : List Closed)
+    → ((st : Status) → after (cleared_status k st) ≡ before st)
+    → buffers_where after discarded (clear_blocks k cs) ≡ buffers_where before discarded cs
+buffers-cleared after before k discarded [] same = refl
+buffers-cleared after before k discarded (c ∷ cs) same =
+    let rest = buffers-cleared after before k (discarded + length c.block.discarded) cs same in
+    let here = same c.status in
+    cc
+
+records-cleared : (after before : Status → Bool) (k : ℕ) (cs : List Closed)
+    → ((st : Status) → after (cleared_status k st) ≡ before st)
+    → records_where after (clear_blocks k cs) ≡ records_where before cs
+records-cleared after before k [] same = refl
+records-cleared after before k (c ∷ cs) same =
+    grind (
+      arith,
+      common_steps,
+      records-cleared after before k cs same,
+      same c.status,
+      records_where-cons before c cs,
+      records_where-cons after (record c { status = cleared_status k c.status }) (clear_blocks k cs),
+    )
+
+blocks-cleared : (after before : Status → Bool) (k : ℕ) (cs : List Closed)
+    → ((st : Status) → after (cleared_status k st) ≡ before st)
+    → blocks_where after (clear_blocks k cs) ≡ blocks_where before cs
+blocks-cleared after before k [] same = refl
+blocks-cleared after before k (c ∷ cs) same =
+    grind (
+      arith,
+      common_steps,
+      blocks-cleared after before k cs same,
+      same c.status,
+      sum_by-cons (λ (c : Closed). cond (before c.status) 1 0) c cs,
+      sum_by-cons (λ (c : Closed). cond (after c.status) 1 0) (record c { status = cleared_status k c.status }) (clear_blocks k cs),
+    )
+
+pub none_ever : (discarded : ℕ) (cs : List Closed) → buffers_where never discarded cs ≡ []
+none_ever discarded [] = refl
+none_ever discarded (c ∷ cs) = none_ever (discarded + length c.block.discarded) cs
+
+-- what concerns only blocks stays the same
+sum-cleared : (f : Block → ℕ) (k : ℕ) (cs : List Closed)
+    → sum_by (λ (c : Closed). f c.block) (clear_blocks k cs) ≡ sum_by (λ (c : Closed). f c.block) cs
+sum-cleared f k [] = refl
+sum-cleared f k (c ∷ cs) =
+    grind (
+      arith,
+      common_steps,
+      sum-cleared f k cs,
+      sum_by-cons (λ (c : Closed). f c.block) c cs,
+      sum_by-cons (λ (c : Closed). f c.block) (record c { status = cleared_status k c.status }) (clear_blocks k cs),
+    )
+
+NumberedFrom-cleared : (n k : ℕ) (cs : List Closed) → NumberedFrom n cs → NumberedFrom n (clear_blocks k cs)
+NumberedFrom-cleared n k [] old = tt
+NumberedFrom-cleared n k (c ∷ cs) old = (old.0, NumberedFrom-cleared (n + 1) k cs old.1)
+
+length-cleared : (k : ℕ) (cs : List Closed) → length (clear_blocks k cs) ≡ length cs
+length-cleared k [] = refl
+length-cleared k (c ∷ cs) = grind (arith, common_steps, length-cleared k cs)
+
+not-true : (b : Bool) → b ≡ false → b ≡ true → ⊥
+not-true b e f = cc
+
+WaitLast-cleared : (k : ℕ) (cs : List Closed) → WaitLast (clear_blocks k cs)
+WaitLast-cleared k [] = tt
+WaitLast-cleared k (c ∷ cs) = ((λ w. absurd (not-true _ (waits-cleared k c.status) w)), WaitLast-cleared k cs)
+
+within-cleared : (cuts k : ℕ) (st : Status) → IsWithin cuts st → IsWithin cuts (cleared_status k st)
+within-cleared cuts k Waiting old = tt
+within-cleared cuts k Dropped old = tt
+within-cleared cuts k (Kept j) old = either (eqb j k)
+  where
+    either : (b : Bool) → IsWithin cuts (cond b (Cleared true) (Kept j))
+    either true = tt
+    either false = old
+within-cleared cuts k (Cleared c) old = tt
+
+AllWithinCuts-cleared : (cuts k : ℕ) (cs : List Closed) → AllWithinCuts cuts cs → AllWithinCuts cuts (clear_blocks k cs)
+AllWithinCuts-cleared cuts k [] old = tt
+AllWithinCuts-cleared cuts k (c ∷ cs) old = (within-cleared cuts k c.status old.0, AllWithinCuts-cleared cuts k cs old.1)
+
+RecentLast-cleared : (k : ℕ) (cs : List Closed) → RecentLast k (clear_blocks k cs)
+RecentLast-cleared k [] = tt
+RecentLast-cleared k (c ∷ cs) = ((λ e. absurd (not-true _ (current-cleared k c.status) e)), RecentLast-cleared k cs)
+
+AllUsed-cleared : (k : ℕ) (cs : List Closed) → AllUsed cs → AllUsed (clear_blocks k cs)
+AllUsed-cleared k [] old = tt
+AllUsed-cleared k (c ∷ cs) old = (old.0, AllUsed-cleared k cs old.1)
+
+LastHeld-cleared : (k : ℕ) (cs : List Closed) → LastHeld cs → LastHeld (clear_blocks k cs)
+LastHeld-cleared k [] old = tt
+LastHeld-cleared k (c ∷ []) old = dropped-cleared k c.status ∙ old
+LastHeld-cleared k (c ∷ d ∷ ds) old = LastHeld-cleared k (d ∷ ds) old
+
+CoversFrom-cleared : (low k : ℕ) (cs : List Closed) → CoversFrom low cs → CoversFrom low (clear_blocks k cs)
+CoversFrom-cleared low k [] old = tt
+CoversFrom-cleared low k (c ∷ cs) old = (old.0, CoversFrom-cleared (low + offers_in c.block) k cs old.1)
+
+-- after a block kept in the current chunk none is cleared, and none is kept in another
+recent-uncleared : (k : ℕ) (st : Status) → IsRecent k st → is_cleared st ≡ false
+recent-uncleared k Waiting is = refl
+recent-uncleared k Dropped is = refl
+recent-uncleared k (Kept j) is = refl
+recent-uncleared k (Cleared c) is = absurd is
+
+recent-current : (k : ℕ) (st : Status) → IsRecent k st → is_kept_but k st ≡ false
+recent-current k Waiting is = refl
+recent-current k Dropped is = refl
+recent-current k (Kept j) is = grind (arith, nat_tests, is)
+recent-current k (Cleared c) is = absurd is
+
+none_recent : (wanted : Status → Bool) (k discarded : ℕ) (cs : List Closed) → ((st : Status) → IsRecent k st → wanted st ≡ false)
+    → AllRecent k cs → buffers_where wanted discarded cs ≡ []
+none_recent wanted k discarded [] not are = refl
+none_recent wanted k discarded (c ∷ cs) not are =
+    let here = not c.status are.0 in
+    let rest = none_recent wanted k (discarded + length c.block.discarded) cs not are.1 in
+    cc
+
+-- the cleared ones come first, then those of the current chunk, then those that wait
+gone-split : (k discarded : ℕ) (cs : List Closed) → RecentLast k cs → WaitLast cs
+    → buffers_where (is_gone k) discarded cs
+    ≡ buffers_where is_cleared discarded cs
+    ++ (buffers_where (is_kept_in k) discarded cs ++ buffers_where is_waiting discarded cs)
+gone-split k discarded [] recent order = refl
+gone-split k discarded (c ∷ cs) recent order =
+    go (gone-split k (discarded + length c.block.discarded) cs recent.1 order.1) c.status refl
+  where
+    more : ℕ
+    more = discarded + length c.block.discarded
+
+    Rest : Type 0
+    Rest = buffers_where (is_gone k) more cs
+        ≡ buffers_where is_cleared more cs ++ (buffers_where (is_kept_in k) more cs ++ buffers_where is_waiting more cs)
+
+    kept : Rest → (j : ℕ) (b : Bool) → c.status ≡ Kept j → eqb j k ≡ b
+        → buffers_where (is_gone k) discarded (c ∷ cs)
+        ≡ buffers_where is_cleared discarded (c ∷ cs)
+        ++ (buffers_where (is_kept_in k) discarded (c ∷ cs) ++ buffers_where is_waiting discarded (c ∷ cs))
+    kept rest j true e f =
+        let in_it : is_kept_in k c.status ≡ true = ap (is_kept_in k) e ∙ f in
+        let none = none_recent is_cleared k more cs (recent-uncleared k) (recent.0 in_it) in
+        let there = rest in
+        cc
+    kept rest j false e f = let there = rest in cc
+
+    go : Rest → (st : Status) → c.status ≡ st
+        → buffers_where (is_gone k) discarded (c ∷ cs)
+        ≡ buffers_where is_cleared discarded (c ∷ cs)
+        ++ (buffers_where (is_kept_in k) discarded (c ∷ cs) ++ buffers_where is_waiting discarded (c ∷ cs))
+    go rest Waiting e =
+        let waits : is_waiting c.status ≡ true = ap is_waiting e in
+        let a = none_wait is_cleared more cs refl (order.0 waits) in
+        let b = none_wait (is_kept_in k) more cs refl (order.0 waits) in
+        let there = rest in
+        cc
+    go rest Dropped e = let there = rest in cc
+    go rest (Kept j) e = kept rest j (eqb j k) e refl
+    go rest (Cleared t) e = let there = rest in cc
+
+-- the kept ones of other chunks come before those of the current one
+kept-split : (k discarded : ℕ) (cs : List Closed) → RecentLast k cs
+    → buffers_where is_kept discarded cs
+    ≡ buffers_where (is_kept_but k) discarded cs ++ buffers_where (is_kept_in k) discarded cs
+kept-split k discarded [] recent = refl
+kept-split k discarded (c ∷ cs) recent =
+    go (kept-split k (discarded + length c.block.discarded) cs recent.1) c.status refl
+  where
+    more : ℕ
+    more = discarded + length c.block.discarded
+
+    Rest : Type 0
+    Rest = buffers_where is_kept more cs ≡ buffers_where (is_kept_but k) more cs ++ buffers_where (is_kept_in k) more cs
+
+    kept : Rest → (j : ℕ) (b : Bool) → c.status ≡ Kept j → eqb j k ≡ b
+        → buffers_where is_kept discarded (c ∷ cs)
+        ≡ buffers_where (is_kept_but k) discarded (c ∷ cs) ++ buffers_where (is_kept_in k) discarded (c ∷ cs)
+    kept rest j true e f =
+        let in_it : is_kept_in k c.status ≡ true = ap (is_kept_in k) e ∙ f in
+        let none = none_recent (is_kept_but k) k more cs (recent-current k) (recent.0 in_it) in
+        let there = rest in
+        cc
+    kept rest j false e f = let there = rest in cc
+
+    go : Rest → (st : Status) → c.status ≡ st
+        → buffers_where is_kept discarded (c ∷ cs)
+        ≡ buffers_where (is_kept_but k) discarded (c ∷ cs) ++ buffers_where (is_kept_in k) discarded (c ∷ cs)
+    go rest Waiting e = let there = rest in cc
+    go rest Dropped e = let there = rest in cc
+    go rest (Kept j) e = kept rest j (eqb j k) e refl
+    go rest (Cleared t) e = let there = rest in cc
+
+-- what was consumed and is gone was gone before, or was in the current chunk
+one-or-other : (k : ℕ) (st : Status) (n : ℕ)
+    → cond (was_consumed k st) n 0 ≡ cond (is_withdrawn st) n 0 + cond (is_kept_in k st) n 0
+one-or-other k Waiting n = refl
+one-or-other k Dropped n = refl
+one-or-other k (Kept j) n = omega arith
+one-or-other k (Cleared c) n = omega arith
+
+records-withdrawn : (k : ℕ) (cs : List Closed)
+    → records_where (was_consumed k) cs ≡ records_where is_withdrawn cs + records_where (is_kept_in k) cs
+records-withdrawn k [] = refl
+records-withdrawn k (c ∷ cs) =
+    omega (
+      arith,
+      records-withdrawn k cs,
+      one-or-other k c.status (length c.block.records),
+      records_where-cons (was_consumed k) c cs,
+      records_where-cons is_withdrawn c cs,
+      records_where-cons (is_kept_in k) c cs,
+    )
+
+-- packets have the runs of their sub-buffers
+pub packet_runs-are : (c : StreamConfig) (bs : List ClosedBuffer) → packet_runs (map (packet_of c) bs) ≡ buffer_runs bs
+packet_runs-are c [] = refl
+packet_runs-are c (b ∷ bs) = ap (λ (rs : List Run). runs_of b.seq b.records ++ rs) (packet_runs-are c bs)
+
+buffer_runs-append : (bs ds : List ClosedBuffer) → buffer_runs (bs ++ ds) ≡ buffer_runs bs ++ buffer_runs ds
+buffer_runs-append bs ds = flat_map-append (λ (b : ClosedBuffer). runs_of b.seq b.records) bs ds
+
+-- all that waits, and the current part, are gone but for their runs
+abbrev emptied : StreamState → StreamState
+emptied s = record s {
+  ring = record s.ring { waiting = [] };
+  parts = clear_part (buffer_runs s.ring.waiting) s.parts;
+  counters = with_cleared (records_of s.parts.current.packets + records_in s.ring.waiting)
+      (records_of s.parts.current.packets) s.counters;
+}
+
+current-packets : (s : StreamState) (h : History) → StandsFor s h
+    → s.parts.current.packets ≡ map (packet_of s.config) (chunk_of h.cuts h)
+current-packets s h is = ap (λ (p : PartState). p.packets) is.current
+
+stands-emptied : (s : StreamState) (h : History) → StandsFor s h → StandsFor (emptied s) (clear_all h)
+stands-emptied s h is =
+    let g = clear_all h in
+    let others = λ (j : ℕ) (l : j < h.cuts).
+    buffers-cleared (is_kept_in j) (is_kept_in j) h.cuts 0 h.closed (other-cleared j h.cuts (grind (arith, nat_tests, l))) in
+    let same : chunks_below h.cuts g ≡ chunks_below h.cuts h = chunks_below-same h.cuts h g others in
+    let now : chunk_of h.cuts g ≡ [] =
+    buffers-cleared (is_kept_in h.cuts) never h.cuts 0 h.closed (current-cleared h.cuts) ∙ none_ever 0 h.closed in
+    let waits : waiting_of g ≡ [] = buffers-cleared is_waiting never h.cuts 0 h.closed (waits-cleared h.cuts) ∙ none_ever 0 h.closed in
+    let gone : cleared_of g ≡ cleared_of h ++ (chunk_of h.cuts h ++ waiting_of h) =
+    buffers-cleared is_cleared (is_gone h.cuts) h.cuts 0 h.closed (gone-cleared h.cuts)
+    ∙ gone-split h.cuts 0 h.closed is.model.recent is.model.order in
+    let kept : kept_of h ≡ kept_of g ++ chunk_of h.cuts h =
+    kept-split h.cuts 0 h.closed is.model.recent
+    ∙ ap (λ (bs : List ClosedBuffer). bs ++ chunk_of h.cuts h)
+    (sym (buffers-cleared is_kept (is_kept_but h.cuts) h.cuts 0 h.closed (kept-cleared h.cuts))) in
+    let left : chunks_below h.cuts h ≡ kept_of g =
+    append_cancel_right (chunks_below h.cuts h) (kept_of g) (chunk_of h.cuts h) (is.model.chunks ∙ kept) in
+    let packets = current-packets s h is in
+    let in_part : records_of s.parts.current.packets ≡ records_where (is_kept_in h.cuts) h.closed =
+    ap records_of packets ∙ records_of-packets s.config (chunk_of h.cuts h)
+    ∙ sym (records-of_buffers (is_kept_in h.cuts) 0 h.closed) in
+    let in_wait : records_in s.ring.waiting ≡ records_where is_waiting h.closed =
+    ap records_in is.waiting ∙ sym (records-of_buffers is_waiting 0 h.closed) in
+    let all_gone : records_where is_cleared g.closed
+    ≡ records_where is_cleared h.closed + (records_where (is_kept_in h.cuts) h.closed + records_where is_waiting h.closed) =
+    let a = records-of_buffers is_cleared 0 g.closed ∙ ap records_in gone in
+    let b = records_in-append (cleared_of h) (chunk_of h.cuts h ++ waiting_of h) in
+    let c = records_in-append (chunk_of h.cuts h) (waiting_of h) in
+    let d = records-of_buffers is_cleared 0 h.closed in
+    let e = records-of_buffers (is_kept_in h.cuts) 0 h.closed in
+    let f = records-of_buffers is_waiting 0 h.closed in
+    omega (arith, a, b, c, d, e, f) in
+    record {
+      model = record {
+        numbers = NumberedFrom-cleared 0 h.cuts h.closed is.model.numbers;
+        filling = is.model.filling ∙ sym (length-cleared h.cuts h.closed);
+        order = WaitLast-cleared h.cuts h.closed;
+        kept = AllWithinCuts-cleared h.cuts h.cuts h.closed is.model.kept;
+        recent = RecentLast-cleared h.cuts h.closed;
+        used = AllUsed-cleared h.cuts h.closed is.model.used;
+        room = λ e. LastHeld-cleared h.cuts h.closed (is.model.room e);
+        covers = CoversFrom-cleared 0 h.cuts h.closed is.model.covers;
+        covers_filling = subst (λ (n : ℕ). Covers n h.filling) (sym (sum-cleared offers_in h.cuts h.closed)) is.model.covers_filling;
+        chunks = let a = same in let b = now in let c = append-nil (chunks_below h.cuts g) in let d = left in cc;
+        serials = λ n. serials_same n (offered_of h) (offered_of g) (times n h) (times n g)
+            (omega (arith, sum-cleared offers_in h.cuts h.closed)) (is.model.serials n)
+            (omega (arith, sum-cleared (times_in n) h.cuts h.closed));
+      };
+      closed = is.closed ∙ sym (parts_below-same s.config h.cuts h g others);
+      current =
+          let e = is.current in
+          let a = now in
+          cc;
+      runs =
+          let a = is.runs in
+          let b = ap packet_runs packets ∙ packet_runs-are s.config (chunk_of h.cuts h) in
+          let c = ap buffer_runs is.waiting in
+          let d = ap buffer_runs gone in
+          let e = buffer_runs-append (cleared_of h) (chunk_of h.cuts h ++ waiting_of h) in
+          let f = buffer_runs-append (chunk_of h.cuts h) (waiting_of h) in
+          cc;
+      waiting = sym waits;
+      filling = is.filling;
+      number = is.number;
+      discarded = omega (arith, is.discarded, sum-cleared (λ (b : Block). length b.discarded) h.cuts h.closed);
+      offered = omega (arith, is.offered, sum-cleared offers_in h.cuts h.closed);
+      overwritten = is.overwritten ∙ sym (records-cleared is_dropped is_dropped h.cuts h.closed (dropped-cleared h.cuts));
+      overwritten_packets =
+          is.overwritten_packets ∙ sym (blocks-cleared is_dropped is_dropped h.cuts h.closed (dropped-cleared h.cuts));
+      consumed = is.consumed ∙ sym (records-cleared is_consumed is_consumed h.cuts h.closed (consumed-cleared h.cuts));
+      cleared = omega (arith, is.cleared, all_gone, in_part, in_wait);
+      withdrawn =
+          omega (
+            arith,
+            is.withdrawn,
+            in_part,
+            records-withdrawn h.cuts h.closed,
+            records-cleared is_withdrawn (was_consumed h.cuts) h.cuts h.closed (withdrawn-cleared h.cuts),
+          );
+      last = is.last;
+      active = is.active;
+    }
+
+pub stands-clear : (s : StreamState) (h : History) → StandsFor s h → StandsFor (state_clear_ring s) (history_clear_ring h)
+stands-clear s h is =
+    let end = s.counters.last in
+    let whole = stands-emptied (flushed s.ring.current end s) (close_filling s.ring.current end h)
+    (stands-flushed s h s.ring.current end refl is) in
+    let there : StandsFor (emptied (flushed s.ring.current end s)) (history_clear_ring h) =
+    subst (λ (n : ℕ). StandsFor (emptied (flushed s.ring.current end s)) (clear_all (close_filling h.filling.records n h)))
+    is.last
+    (subst (λ (rs : List _). StandsFor (emptied (flushed s.ring.current end s)) (clear_all (close_filling rs end h)))
+    is.filling whole) in
+    subst (λ (n : ℕ). StandsFor (record (state_clear_ring s)
+    { counters = with_cleared (records_of s.parts.current.packets + n) (records_of s.parts.current.packets) s.counters })
+    (history_clear_ring h)) (records_in-ring s end) there
+
+-- a clear is the history's clear
+cleared-is : (s : StreamState) (h : History) → StandsFor s h
+    → state_cleared s ≡ cleared_with (chunk_of h.cuts h ++ ring_of h.last h)
+cleared-is s h is =
+    let packets = current-packets s h is in
+    let ring : ring_buffers s.counters.last s.ring ≡ ring_of h.last h =
+    ring-same s h s.counters.last is ∙ ap (λ (n : ℕ). ring_of n h) is.last in
+    let a : length s.parts.current.packets ≡ length (chunk_of h.cuts h) =
+    ap length packets ∙ length-map (chunk_of h.cuts h) (packet_of s.config) in
+    let b : records_of s.parts.current.packets ≡ records_in (chunk_of h.cuts h) =
+    ap records_of packets ∙ records_of-packets s.config (chunk_of h.cuts h) in
+    let c = records_in-ring s s.counters.last in
+    let d = length-append (chunk_of h.cuts h) (ring_of h.last h) in
+    let e = records_in-append (chunk_of h.cuts h) (ring_of h.last h) in
+    cc
+
+clears_in : (m : SessionMode) (s : StreamState) (h : History) → StandsFor s h
+    → (by_session_mode m (Ok (state_cleared s)) (Err SnapshotMode)
+    ≡ by_session_mode m (Ok (cleared_with (chunk_of h.cuts h ++ ring_of h.last h))) (Err SnapshotMode))
+    × StandsFor (by_session_mode m (state_clear_ring s) s) (by_session_mode m (history_clear_ring h) h)
+clears_in Snapshot s h is = (refl, is)
+clears_in Local s h is = ((let a = cleared-is s h is in cc), stands-clear s h is)
+
+pub clears : (s : StreamState) (h : History) → StandsFor s h
+    → (state_clear_answer s ≡ history_clear_answer s.config h)
+    × StandsFor (state_after_clear s) (history_after_clear s.config h)
+clears s h is = clears_in s.config.session s h is
