@@ -1,5 +1,4 @@
 pub mod Agreement
-pub mod AnswerAgreement
 pub mod ArchiveLemmas
 pub mod CallLemmas
 pub mod ColumnLemmas

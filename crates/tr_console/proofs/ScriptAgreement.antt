@@ -4,10 +4,10 @@ use Rattle.std.specs.Option.{option_map_or}
 use Rattle.tr_console.specs.World.{World}
 use Rattle.tr_command.specs.Asked.{Asked}
 use Rattle.tr_command.specs.Language.{asked_of}
-use Rattle.tr_console.proofs.AnswerAgreement.{answers-agree}
+use Rattle.tr_console.proofs.Agreement.{answers-agree}
 use Rattle.tr_console.proofs.WorldAgreement.{StepsAgree}
 use Rattle.tr_console.specs.Agreement.{WorldsAgree}
-use Rattle.tr_console.specs.Answers.{request_step}
+use Rattle.tr_console.specs.commands.{request_step}
 use Rattle.tr_console.specs.Script.{words_step, text_step, line_step, answers, world_after}
 use Rattle.tr_console.specs.Steps.{bad_line_step, skipped_step}
 use Rattle.tr_lines.specs.Lines.{text_of_line}

@@ -1,5 +1,4 @@
 pub mod Agreement
-pub mod Answers
 pub mod Lends
 pub mod LineFaults
 pub mod Replies

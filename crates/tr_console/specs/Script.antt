@@ -4,7 +4,7 @@ use Rattle.std.specs.Prelude.{ℕ, ◌+◌, List, [], ◌∷◌, ◌++◌, Optio
 use Rattle.tr_console.specs.World.{World}
 use Rattle.tr_command.specs.Asked.{Asked}
 use Rattle.tr_command.specs.Language.{asked_of}
-use Rattle.tr_console.specs.Answers.{request_step}
+use Rattle.tr_console.specs.commands.{request_step}
 use Rattle.tr_console.specs.Steps.{Step, bad_line_step, skipped_step}
 use Rattle.tr_lines.specs.Lines.{lines_of, text_of_line}
 use Rattle.tr_lines.specs.Words.{words_of, is_skipped}

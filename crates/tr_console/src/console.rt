@@ -2,30 +2,23 @@
 
 ghost use Rattle.std.specs.Borrow.{sem};
 ghost use Rattle.std.specs.Option.{option_copied_mut};
-ghost use Rattle.std.specs.Prelude.{◌≡◌, ◌≤◌, ◌∷◌, ◌++◌, [], None, IfOk, OnOk, OnErr, map, option_copied, option_map, length, slice_get};
-ghost use Rattle.tr_command.specs.Asked.{asked_by, moment_in, offset_in};
+ghost use Rattle.std.specs.Prelude.{◌≡◌, ◌∷◌, ◌++◌, [], None, IfOk, OnOk, OnErr, map, option_copied, option_map, length, slice_get};
 ghost use Rattle.tr_command.specs.Language.{asked_of};
-ghost use Rattle.tr_console.specs.Answers.{request_step};
 ghost use Rattle.tr_console.specs.Lends.{lends_session};
 ghost use Rattle.tr_console.specs.Replies.{Does};
 ghost use Rattle.tr_console.specs.Script.{asked_step, text_step};
 ghost use Rattle.tr_console.specs.World.{session_named};
 ghost use Rattle.tr_stream.specs.Rules.{by_state};
-ghost use Rattle.tr_terms.specs.Offsets.{IsOffset};
-ghost use Rattle.tr_terms.specs.declared.limits.TheConstants.{LAST_MOMENT};
 
-use crate::commands::channel::shape_of;
-use crate::commands::create::mode_of;
-use crate::commands::offer::OfferTo;
 use crate::replies::{Reply, bad_line, skipped};
 use indexmap::IndexMap;
 use std::alloc::{AllocError, Allocator, Global};
 use std::hash::{BuildHasherDefault, FoldHasher};
 use std::marker::Model;
-use tr_command::{Request, parse};
+use tr_command::parse;
 use tr_lines::{is_skipped_line, push_words};
 use tr_session::Session;
-use tr_terms::{Moment, Name};
+use tr_terms::Name;
 
 /// The sessions of a script by name, in order of creation. Contracts see a `World`.
 #[derive(Drop)]
@@ -93,69 +86,6 @@ impl<A: Allocator + Copy> Console<A> {
         match parse(clap, words)? {
             Some(request) => self.answer_request(request),
             None => bad_line(self.alloc),
-        }
-    }
-
-    /// Answers a command.
-    fn answer_request(&mut self, request: Request<'_>) -> Result<Reply<A>, AllocError>
-        requires moment { moment_in (asked_by request) ≤ LAST_MOMENT }
-        requires offset { IsOffset (offset_in (asked_by request)) }
-        ensures { IfOk result (Does (request_step by_state self.old (asked_by request.entry)) self.new) }
-    {
-        match request {
-            Request::Create {
-                session,
-                uuid,
-                offset,
-                snapshot,
-            } => self.create(session, uuid, offset, mode_of(snapshot)),
-            Request::Channel {
-                session,
-                channel,
-                size,
-                count,
-                mode,
-            } => self.add_channel(session, channel, shape_of(size, count, mode)),
-            Request::Thread { session, channel } => self.add_thread(session, channel),
-            Request::Start { session, moment } => self.start(session, Moment::within_limit(moment)),
-            Request::Stop { session } => self.stop(session),
-            Request::Offer {
-                session,
-                stream,
-                moment,
-                id,
-                text,
-                fill,
-            } => {
-                let moment = Moment::within_limit(moment);
-                self.offer(session, OfferTo { stream, moment, id }, text, fill)
-            }
-            Request::Consume { session, stream } => self.consume(session, stream),
-            Request::Clear { session } => self.clear(session),
-            Request::RotateBegin { session, moment } => {
-                self.rotate_begin(session, Moment::within_limit(moment))
-            }
-            Request::RotateNext { session } => self.rotate_next(session),
-            Request::RotateFinish { session } => self.rotate_finish(session),
-            Request::Rotate { session, moment } => {
-                self.rotate(session, Moment::within_limit(moment))
-            }
-            Request::Snapshot { session, moment } => {
-                self.snapshot(session, Moment::within_limit(moment))
-            }
-            Request::Schedule {
-                session,
-                every,
-                size,
-            } => self.schedule(session, every, size),
-            Request::Tick { session, moment } => self.tick(session, Moment::within_limit(moment)),
-            Request::Fate {
-                session,
-                stream,
-                serial,
-            } => self.fate(session, stream, serial),
-            Request::Status { session } => self.status(session),
-            Request::Archives { session } => self.archives(session),
         }
     }
 
