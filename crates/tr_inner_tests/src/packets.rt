@@ -287,13 +287,14 @@ fn assert_sizes(rt: &impl Abort, bytes: &mut [u8], rows: &[(u64, u64, Option<Pac
     }
 }
 
-/// What follows a packet: more bytes than its size can tell.
-static BEHIND: [u8; 1_048_577] = [0; 1_048_577];
+/// How many bytes follow a packet: more than its size can say.
+const MORE: usize = LARGEST_PACKET + 1;
 
 #[test]
 fn sizes(rt: HostRuntime) {
     let mut bytes = two_records(&rt, rt.alloc());
-    append(&rt, &mut bytes, &BEHIND);
+    let more = vec![in rt.alloc(); 0; MORE].expect(&rt, "memory");
+    append(&rt, &mut bytes, more.as_slice());
     assert_sizes(&rt, &mut bytes, &SIZES);
 }
 
