@@ -1,3 +1,4 @@
+pub mod Bodies
 pub mod Counters
 pub mod Parts
 pub mod Runs

@@ -1,18 +1,26 @@
 -- The packets that were consumed, in parts.
-use Rattle.std.specs.Prelude.{◌≡◌, ℕ, ◌+◌, List, [], ◌∷◌, ◌++◌, length, sum_by, slice_get, Option, Some, find, ◌==◌, if◌then◌else◌}
+use Rattle.std.specs.Prelude.{◌≡◌, ℕ, zero, suc, ◌+◌, List, [], ◌∷◌, ◌++◌, length, sum_by, slice_get, Option, Some, None, find, ◌==◌, if◌then◌else◌}
 use Rattle.std.specs.Option.{option_map}
-use Rattle.tr_book.specs.Runs.{packet_runs}
+use Rattle.tr_book.specs.Runs.{packet_runs, seq_in_runs}
 use Rattle.tr_book.specs.declared.runs.Run.{Run}
 use Rattle.tr_packet.specs.Packets.{Contents, packet_size}
 use Rattle.tr_record.specs.Records.{has_serial}
 
--- the packets of one stream in one trace chunk
+-- what is kept of packets that were released: their runs, and how many packets, records and bytes they were
+pub record Rest : Type 0 where
+  pub runs : List Run
+  pub packets : ℕ
+  pub records : ℕ
+  pub bytes : ℕ
+
+-- the packets of one stream in one trace chunk; or none, and what is kept of them once they are released
 pub record PartState : Type 0 where
   pub id : ℕ
   pub packets : List Contents
+  pub released : Option Rest
 
 abbrev pub part_state : ℕ → List Contents → PartState
-part_state id packets = record { id = id; packets = packets }
+part_state id packets = record { id = id; packets = packets; released = None }
 
 -- the closed parts in order, the current one, and the runs of the packets that were cleared
 pub record PartsState : Type 0 where
@@ -53,6 +61,31 @@ abbrev pub clear_part : List Run → PartsState → PartsState
 clear_part more s =
     parts_state s.closed (empty_part s.current.id) (s.cleared ++ (packet_runs s.current.packets ++ more))
 
+abbrev pub rest_of : List Contents → Rest
+rest_of packets = record {
+  runs = packet_runs packets;
+  packets = length packets;
+  records = records_of packets;
+  bytes = bytes_of packets;
+}
+
+-- a part whose packets these were is released
+abbrev pub released_part : ℕ → List Contents → PartState
+released_part id packets = record { id = id; packets = []; released = Some (rest_of packets) }
+
+abbrev pub release : PartState → PartState
+release p = released_part p.id p.packets
+
+-- the element at this place is changed
+abbrev pub change_at : {X : Type 0} → ℕ → (X → X) → List X → List X
+change_at i f [] = []
+change_at zero f (x ∷ xs) = f x ∷ xs
+change_at (suc i) f (x ∷ xs) = x ∷ change_at i f xs
+
+-- a closed part is released
+abbrev pub release_part : ℕ → PartsState → PartsState
+release_part k s = record s { closed = change_at k release s.closed }
+
 -- a closed part by its place, or the current one after them
 abbrev pub part_at : ℕ → PartsState → Option PartState
 part_at k s = if k == length s.closed then Some s.current else slice_get s.closed k
@@ -62,19 +95,35 @@ abbrev pub seq_among : ℕ → List Contents → Option ℕ
 seq_among n packets = option_map (λ (p : Contents). p.head.seq)
     (find (λ (p : Contents). has_serial n p.records) packets)
 
--- how many packets, records and bytes a part has
+-- how many packets, records and bytes a part has, or had before it was released
+abbrev pub packets_left : List Contents → Option Rest → ℕ
+packets_left packets None = length packets
+packets_left packets (Some rest) = rest.packets
+
 abbrev pub part_packets : PartState → ℕ
-part_packets p = length p.packets
+part_packets p = packets_left p.packets p.released
+
+abbrev pub records_left : List Contents → Option Rest → ℕ
+records_left packets None = records_of packets
+records_left packets (Some rest) = rest.records
 
 abbrev pub part_records : PartState → ℕ
-part_records p = records_of p.packets
+part_records p = records_left p.packets p.released
+
+abbrev pub bytes_left : List Contents → Option Rest → ℕ
+bytes_left packets None = bytes_of packets
+bytes_left packets (Some rest) = rest.bytes
 
 abbrev pub part_bytes : PartState → ℕ
-part_bytes p = bytes_of p.packets
+part_bytes p = bytes_left p.packets p.released
 
--- the number of its packet that has the record of a serial
+-- the number of its packet that has the record of a serial, or had it before it was released
+abbrev pub seq_left : ℕ → List Contents → Option Rest → Option ℕ
+seq_left n packets None = seq_among n packets
+seq_left n packets (Some rest) = seq_in_runs n rest.runs
+
 abbrev pub seq_in_part : ℕ → PartState → Option ℕ
-seq_in_part n p = seq_among n p.packets
+seq_in_part n p = seq_left n p.packets p.released
 
 -- the current part's number is the number of closed ones
 abbrev pub IsNumbered : PartsState → Type 0

@@ -1,8 +1,8 @@
 //! The parts of a stream.
 
-ghost use Rattle.std.specs.Prelude.{◌≡◌, ◌+◌, ◌<◌, ◌^◌, OnOk, OnErr, length, option_copied};
+ghost use Rattle.std.specs.Prelude.{◌≡◌, ◌≢◌, ◌+◌, ◌<◌, ◌^◌, [], Some, None, OnOk, OnErr, length, option_copied, slice_get};
 ghost use Rattle.tr_packet.specs.Packets.{IsPacket, contents};
-ghost use Rattle.tr_book.specs.Parts.{IsNumbered, records_of, no_parts, with_packet, with_packets, close_part, clear_part, part_at};
+ghost use Rattle.tr_book.specs.Parts.{IsNumbered, PartState, records_of, no_parts, with_packet, with_packets, change_at, close_part, clear_part, release, release_part, part_at};
 ghost use Rattle.tr_book.specs.Runs.{seq_in_runs};
 
 use crate::part::Part;
@@ -23,13 +23,14 @@ pub struct Parts<A: Allocator = Global> {
 }
 
 impl<A: Allocator> Model for Parts<A> {
+    ghost use Rattle.std.specs.Prelude.{◌≡◌, None};
     ghost use Rattle.tr_book.specs.Parts.{PartsState, IsNumbered, parts_state};
 
     ghost Value = { PartsState };
 
     ghost view = { λ s. parts_state s.closed.items s.current s.cleared };
 
-    ghost invariant = { λ s. IsNumbered (parts_state s.closed.items s.current s.cleared) };
+    ghost invariant = { λ s. IsNumbered (parts_state s.closed.items s.current s.cleared) × (s.current.released ≡ None) };
 }
 
 impl<A: Allocator> Parts<A> {
@@ -91,6 +92,22 @@ impl<A: Allocator> Parts<A> {
     }
 }
 
+/// Releases the part at this place.
+fn release_at<A: Allocator + Copy>(
+    parts: &mut Vec<Part<A>, A>,
+    alloc: A,
+    k: usize,
+) -> Result<(), AllocError>
+    requires within { k < length parts.old.items }
+    requires held { (part : PartState) → slice_get parts.old.items k ≡ Some part → part.released ≡ None }
+    ensures ok { OnOk result (parts.new.items ≡ change_at k release parts.old.items) }
+    ensures err { OnErr result (parts.new.items ≡ parts.old.items) }
+    ensures memory { OnErr result ((part : PartState) → slice_get parts.old.items k ≡ Some part → part.packets ≢ []) }
+{
+    parts[k].release(alloc)?;
+    Ok(())
+}
+
 impl<A: Allocator + Copy> Parts<A> {
     /// No closed part, and an empty current one with the number 0. It takes no memory.
     pub fn new(alloc: A) -> Parts<A>
@@ -116,6 +133,19 @@ impl<A: Allocator + Copy> Parts<A> {
         self.current.append(packets)?;
         self.closed
             .push_reserved(mem::replace(&mut self.current, next));
+        Ok(())
+    }
+
+    /// Gives up the packets of closed part `k`, and keeps what fates and sizes need. It takes memory only if the part has
+    /// packets. If an allocation fails, nothing changes.
+    pub fn release(&mut self, k: u64) -> Result<(), AllocError>
+        requires closed { k < length self.old.closed }
+        requires held { (part : PartState) → slice_get self.old.closed k ≡ Some part → part.released ≡ None }
+        ensures ok { OnOk result (self.new ≡ release_part k self.old) }
+        ensures err { OnErr result (self.new ≡ self.old) }
+        ensures memory { OnErr result ((part : PartState) → slice_get self.old.closed k ≡ Some part → part.packets ≢ []) }
+    {
+        release_at(&mut self.closed, self.alloc, k as usize)?;
         Ok(())
     }
 

@@ -1,6 +1,6 @@
 //! Runs: what is kept of packets whose records are gone.
 
-ghost use Rattle.std.specs.Prelude.{◌≡◌, [], ◌++◌, OnOk, OnErr, length};
+ghost use Rattle.std.specs.Prelude.{◌≡◌, ◌≢◌, [], ◌++◌, IfOk, OnOk, OnErr, length};
 ghost use Rattle.tr_book.specs.Runs.{is_in_run, runs_of, seq_in_runs, packet_runs};
 
 use std::alloc::{AllocError, Allocator, Global};
@@ -28,7 +28,7 @@ impl Run {
     }
 }
 
-/// The runs of cleared packets, in order. Contracts see their list.
+/// The runs of packets, in order. Contracts see their list.
 #[derive(Drop)]
 pub struct Runs<A: Allocator = Global> {
     list: Vec<Run, A>,
@@ -53,6 +53,22 @@ impl<A: Allocator> Runs<A> {
         Runs {
             list: Vec::new(alloc),
         }
+    }
+
+    /// The runs of packets, with just the room for them if there is memory for a move. It takes memory only if there are
+    /// packets.
+    pub fn of_packets(alloc: A, packets: Packets<'_>) -> Result<Runs<A>, AllocError>
+    where
+        A: Copy,
+        ensures value { IfOk result (λ runs. runs ≡ packet_runs packets.entry) }
+        ensures memory { OnErr result (packets.entry ≢ []) }
+    {
+        let mut runs = Runs::new(alloc);
+        if packets.len() > 0 {
+            runs.push_packets(packets)?;
+            runs.list.shrink_to_fit();
+        }
+        Ok(runs)
     }
 
     /// The runs, in order.

@@ -1,6 +1,7 @@
 //! Writing the files of a trace chunk.
 
 ghost use Rattle.tr_packet.specs.Metadata.{metadata_of};
+ghost use Rattle.std.specs.Prelude.{◌≡◌, None};
 ghost use Rattle.tr_chunk.specs.Files.{WritesPackets, WritesStanding, WritesText, sunk_of};
 
 use crate::faults::WriteFault;
@@ -21,8 +22,10 @@ pub fn write_standing<K: ByteSink>(sink: &mut K, text: &[u8]) -> Result<(), Writ
     Ok(())
 }
 
-/// Writes the packets of a part, one after another. It takes no memory. After W1 a prefix of them went out.
+/// Writes the packets of a part that wasn't released, one after another. It takes no memory. After W1 a prefix of them went
+/// out.
 pub fn write_part<A: Allocator, K: ByteSink>(sink: &mut K, part: &Part<A>) -> Result<(), WriteFault>
+    requires { part.now.released ≡ None }
     ensures { WritesPackets part.now.packets (sunk_of K.ByteSink sink.old) (sunk_of K.ByteSink sink.new) result }
 {
     write_standing(sink, part.text())

@@ -1,6 +1,6 @@
 //! The packets whose texts lie in memory, one after another.
 
-ghost use Rattle.std.specs.Prelude.{◌≡◌, length};
+ghost use Rattle.std.specs.Prelude.{◌≡◌, [], length};
 ghost use Rattle.std.specs.Iterator.{YieldsFirst, item_count};
 ghost use Rattle.tr_packet.specs.Texts.{AreLabelled, packets_in};
 
@@ -44,6 +44,16 @@ impl<'a> Packets<'a> {
         ensures { result ≡ packets_in labels.entry.now bytes.entry.now }
     {
         Packets { labels, bytes }
+    }
+
+    /// No packets.
+    pub fn none() -> Packets<'a>
+        ensures { result ≡ [] }
+    {
+        Packets {
+            labels: &[],
+            bytes: &[],
+        }
     }
 
     /// How many packets are left.

@@ -8,7 +8,7 @@ use Rattle.tr_seats.proofs.SlotLemmas.{if-same}
 use Rattle.tr_seats.specs.Clears.{desk_after_clear, desk_clear_answer, slot_after_clear}
 use Rattle.tr_seats.specs.Desks.{DeskState}
 use Rattle.tr_seats.specs.Slots.{SlotState}
-use Rattle.tr_session.proofs.ListLemmas.{changed_at-set}
+use Rattle.tr_book.proofs.ChangeLemmas.{changed_at-set}
 use Rattle.tr_session.specs.Session.{session_of}
 use Rattle.tr_session.specs.Steps.{change_at, clear_as_session, if_allowed, session_after_clear, session_clear_answer}
 use Rattle.tr_session_book.specs.BookSteps.{book_clear_answer, clear_allowed_at, unless_refused}

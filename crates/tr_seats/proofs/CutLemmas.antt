@@ -6,7 +6,7 @@ use Rattle.tr_seats.proofs.SlotLemmas.{if-same}
 use Rattle.tr_seats.specs.Cuts.{cut_if_due, desk_after_cut, desk_cut_answer, slot_after_cut, stream_after_cut}
 use Rattle.tr_seats.specs.Desks.{DeskState}
 use Rattle.tr_seats.specs.Slots.{SlotState}
-use Rattle.tr_session.proofs.ListLemmas.{changed_at-set}
+use Rattle.tr_book.proofs.ChangeLemmas.{changed_at-set}
 use Rattle.tr_session.specs.Session.{session_of}
 use Rattle.tr_session.specs.Steps.{after_cut_if_due, cut_answer_if_due, cut_as_step, session_after_cut, session_cut_answer}
 use Rattle.tr_session.specs.declared.faults.StepFault.TheVariants.{Session}

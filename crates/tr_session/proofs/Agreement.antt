@@ -20,7 +20,7 @@ use Rattle.tr_session.specs.Agreement.{AllAgree, CanBeMade, AllCanBeMade, Sessio
 use Rattle.tr_session_book.specs.Book.{SessionBookState}
 use Rattle.tr_session_book.specs.BookSteps.{unless_refused, is_new, is_allowed, channel_named, channel_of_geometry, book_add_channel, thread_place, with_thread, book_start_answer, with_start, book_after_start, book_stop_answer, with_stop, book_after_stop, book_switch_answer, book_rotate_begin_answer, with_pending, book_after_rotate_begin, cut_moment, with_cut, book_rotate_finish_answer, with_archive, book_after_rotate_finish, snapshot_allowed, book_snapshot_begin_answer, book_after_snapshot_begin, snap_allowed, book_schedule_answer, book_after_schedule, due_now}
 use Rattle.tr_session.specs.Session.{SessionOf}
-use Rattle.tr_session.specs.Sizes.{archive_packets, archive_bytes}
+use Rattle.tr_session.specs.Sizes.{archive_released, part_released, archive_packets, archive_bytes}
 use Rattle.tr_session.specs.Steps.{with_book, session_add_channel, next_config, session_add_stream, session_add_thread, change_at, offer_as_step, take_as_step, cut_as_step, session_offer_answer, session_after_offer, session_take_answer, session_after_take, cut_answer_if_due, after_cut_if_due, session_cut_answer, session_after_cut, snap_answer_if_allowed, session_snap_answer, session_after_switch, session_after_start, session_after_stop, session_after_rotate_begin, session_after_rotate_finish, as_next, next_in, session_next_answer, session_after_next, cut_first, cut_all_streams, rotation_answer, session_rotate_answer, session_after_rotate, snapshot_if_allowed, session_snapshot_answer, session_after_snapshot, current_sizes, tick_cause, as_ticked, session_tick_answer, session_after_tick, session_fate_answer}
 use Rattle.tr_session_book.specs.declared.archive.Archive.{Archive}
 use Rattle.tr_session_book.specs.declared.archive.Pending.{Pending}
@@ -295,6 +295,10 @@ module _ (a : SessionOf StreamState) (b : SessionOf Traced) (is : SessionsAgree 
   pub same-archive_bytes : (id : ℕ) → archive_bytes by_state id a ≡ archive_bytes by_history id b
   same-archive_bytes id = same-sum (λ s. option_map_or part_bytes (by_state.part id s) 0) (λ t. option_map_or part_bytes (by_history.part id t) 0) a.streams
       b.streams (λ s t agree. ap (λ (part : Option PartState). option_map_or part_bytes part 0) (same-parted s t id agree)) is.streams
+
+  pub same-archive_released : (id : ℕ) → archive_released by_state id a ≡ archive_released by_history id b
+  same-archive_released id = same-sum (λ s. option_map_or part_released (by_state.part id s) 0) (λ t. option_map_or part_released (by_history.part id t) 0) a.streams
+      b.streams (λ s t agree. ap (λ (part : Option PartState). option_map_or part_released part 0) (same-parted s t id agree)) is.streams
 
 -- ---- whole rotations
 

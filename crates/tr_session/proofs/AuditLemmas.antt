@@ -1,5 +1,5 @@
 -- An audit of a stream's files finds what its history says.
-use Rattle.std.proofs.Common.{◌≡◌, ℕ, ◌+◌, ◌≤◌, zero, suc, true, List, [], ◌∷◌, ◌++◌, map, Option, Some, None, refl, sym, ◌∙◌, ap, subst, arith}
+use Rattle.std.proofs.Common.{◌≡◌, ◌⊎◌, ℕ, ◌+◌, ◌≤◌, zero, suc, Bool, true, false, cond, List, [], ◌∷◌, ◌++◌, map, Option, Some, None, refl, sym, ◌∙◌, ap, ap₂, subst, inl, inr, arith}
 use Rattle.std.proofs.lemmas.Bool.Decides.{nat_tests}
 use Rattle.std.proofs.lemmas.Grind.{common_steps, flat_map-append}
 use Rattle.std.proofs.lemmas.List.{append-nil, map-append}
@@ -14,14 +14,15 @@ use Rattle.tr_record.proofs.RecordLemmas.{all_append}
 use Rattle.tr_record.specs.Records.{Entry}
 use Rattle.tr_ring.specs.ClosedBuffer.{ClosedBuffer}
 use Rattle.tr_session.proofs.GapLemmas.{low, gaps-are, numbers-packets}
-use Rattle.tr_session.specs.Audits.{packets_by_part, packets_in, files_of, LastIs, was_removed, kept_above}
-use Rattle.tr_stream.proofs.Consistency.{rising-where}
+use Rattle.tr_session.specs.Audits.{NoneReleased, left_below, left_of, packets_by_part, packets_in, files_of, LastIs, was_removed, kept_above}
+use Rattle.tr_stream.proofs.Consistency.{RecordsRise-lower, next_serial-lower, rising-where}
 use Rattle.tr_stream.proofs.FateLemmas.{parts-are}
 use Rattle.tr_stream.proofs.ModelLemmas.{well_run}
-use Rattle.tr_stream.specs.Chunks.{chunk_of, kept_of, packet_of, part_of, parts_below}
+use Rattle.tr_stream.proofs.ReleaseForms.{unreleased}
+use Rattle.tr_stream.specs.Chunks.{chunk_of, closed_part, kept_of, packet_of, part_if, parts_below}
 use Rattle.tr_stream.specs.Consistent.{Rising}
 use Rattle.tr_stream.specs.Fates.{all_parts}
-use Rattle.tr_stream.specs.History.{History, is_kept, offered_of}
+use Rattle.tr_stream.specs.History.{History, is_kept, is_released, offered_of}
 use Rattle.tr_stream.specs.Runs.{history_after_events}
 use Rattle.tr_stream.specs.Sound.{IsSound, IsUsable, CanBeSent}
 use Rattle.tr_stream.specs.StandsFor.{StandsFor}
@@ -51,25 +52,51 @@ last-is A c bs = record {
   discarded = ap (λ (ns : List ℕ). unwrap_or (last_or None ns) 0) (discarded-packets c bs);
 }
 
--- the packets of all parts are those of the kept blocks
+-- the packets of all parts are those of the kept blocks whose chunks weren't released
 pub packets-below : (c : StreamConfig) (k : ℕ) (h : History)
-    → all_of (map (λ (p : PartState). p.packets) (parts_below c k h)) ≡ map (packet_of c) (chunks_below k h)
+    → all_of (map (λ (p : PartState). p.packets) (parts_below c k h)) ≡ map (packet_of c) (left_below k h)
 packets-below c zero h = refl
 packets-below c (suc k) h =
-    let part = part_of c k (chunk_of k h) in
+    let part = closed_part c k h in
     ap all_of (map-append (λ (p : PartState). p.packets) (parts_below c k h) (part ∷ []))
     ∙ flat_map-append (λ (ps : List Contents). ps) (map (λ (p : PartState). p.packets) (parts_below c k h)) (part.packets ∷ [])
-    ∙ both (packets-below c k h) (append-nil part.packets)
-    ∙ sym (map-append (packet_of c) (chunks_below k h) (chunk_of k h))
+    ∙ both (packets-below c k h) (append-nil part.packets ∙ of-part (is_released k h))
+    ∙ sym (map-append (packet_of c) (left_below k h) (cond (is_released k h) [] (chunk_of k h)))
   where
     both : {xs ys zs ws : List Contents} → xs ≡ ys → zs ≡ ws → xs ++ zs ≡ ys ++ ws
     both e f = cc
 
-pub packets-are : (s : StreamState) (h : History) → StandsFor s h → packets_in s ≡ map (packet_of s.config) (kept_of h)
-packets-are s h is =
+    of-part : (b : Bool) → (part_if b k (map (packet_of c) (chunk_of k h))).packets ≡ map (packet_of c) (cond b [] (chunk_of k h))
+    of-part true = refl
+    of-part false = refl
+
+pub packets-left : (s : StreamState) (h : History) → StandsFor s h → packets_in s ≡ map (packet_of s.config) (left_of h)
+packets-left s h is =
     ap (λ (parts : List PartState). all_of (map (λ (p : PartState). p.packets) parts)) (parts-are s h is)
     ∙ packets-below s.config (suc h.cuts) h
-    ∙ ap (map (packet_of s.config)) is.model.chunks
+
+-- if no chunk was released, all is left
+pub all-left : (k : ℕ) (h : History) → NoneReleased k h → left_below k h ≡ chunks_below k h
+all-left zero h none = refl
+all-left (suc k) h none =
+    let here : is_released k h ≡ false = none k (omega arith) in
+    ap₂ (λ (bs ds : List ClosedBuffer). bs ++ ds) (all-left k h (λ j l. none j (omega (arith, l))))
+    (ap (λ (b : Bool). cond b [] (chunk_of k h)) here)
+
+pub packets-are : (s : StreamState) (h : History) → StandsFor s h → NoneReleased h.cuts h
+    → packets_in s ≡ map (packet_of s.config) (kept_of h)
+packets-are s h is none =
+    let current : is_released h.cuts h ≡ false = unreleased h.cuts h.cuts h.released (omega arith) is.model.released in
+    packets-left s h is
+    ∙ ap (map (packet_of s.config))
+    (ap₂ (λ (bs ds : List ClosedBuffer). bs ++ ds) (all-left h.cuts h none)
+    (ap (λ (b : Bool). cond b [] (chunk_of h.cuts h)) current) ∙ is.model.chunks)
+
+-- some of these, in order
+abbrev IsAmong : List ClosedBuffer → List ClosedBuffer → Type 0
+IsAmong [] ds = Unit {0}
+IsAmong (b ∷ bs) [] = ⊥
+IsAmong (b ∷ bs) (d ∷ ds) = ((b ≡ d) × IsAmong bs ds) ⊎ IsAmong (b ∷ bs) ds
 
 may-follow : (before : Option ℕ) (least n : ℕ) → low before ≤ least → least ≤ n → follows before n ≡ true
 may-follow None least n le more = refl
@@ -105,6 +132,68 @@ pub kept-rise : (h : History) → IsWellFormed h → Rising 0 0 (kept_of h) h.fi
 kept-rise h well = rising-where is_kept 0 0 0 0 0 h.closed h.filling.number (offered_of h) well.numbers well.covers
     (omega arith) (omega arith) (omega (arith, well.filling)) (omega arith)
 
+-- lower bounds may fall
+rising-lower : (seq low serial least : ℕ) (bs : List ClosedBuffer) (next_seq next : ℕ) → low ≤ seq → least ≤ serial
+    → Rising seq serial bs next_seq next → Rising low least bs next_seq next
+rising-lower seq low serial least [] next_seq next le le' rise = (omega (arith, le, rise.0), omega (arith, le', rise.1))
+rising-lower seq low serial least (b ∷ bs) next_seq next le le' rise = (
+  omega (arith, le, rise.0),
+  RecordsRise-lower serial least b.records le' rise.1,
+  rising-lower (b.seq + 1) (b.seq + 1) (next_serial serial b.records) (next_serial least b.records) bs next_seq next (omega arith)
+      (next_serial-lower serial least b.records le') rise.2,
+)
+
+next-above : (serial : ℕ) (es : List Entry) → RecordsRise serial es → serial ≤ next_serial serial es
+next-above serial [] rise = omega arith
+next-above serial (e ∷ es) rise = let more = next-above (e.serial + 1) es rise.1 in omega (arith, more, rise.0)
+
+-- some of those that rise, rise
+rising-among : (bs ds : List ClosedBuffer) (seq serial next_seq next : ℕ) → IsAmong bs ds → Rising seq serial ds next_seq next
+    → Rising seq serial bs next_seq next
+rising-among [] [] seq serial next_seq next among rise = rise
+rising-among [] (d ∷ ds) seq serial next_seq next among rise =
+    let rest = rising-among [] ds (d.seq + 1) (next_serial serial d.records) next_seq next tt rise.2 in
+    let above = next-above serial d.records rise.1 in
+    (omega (arith, rise.0, rest.0), omega (arith, above, rest.1))
+rising-among (b ∷ bs) [] seq serial next_seq next among rise = absurd among
+rising-among (b ∷ bs) (d ∷ ds) seq serial next_seq next (inl here) rise =
+    let rest = rising-among bs ds (d.seq + 1) (next_serial serial d.records) next_seq next here.1 rise.2 in
+    subst (λ (x : ClosedBuffer). Rising seq serial (x ∷ bs) next_seq next) (sym here.0) (rise.0, rise.1, rest)
+rising-among (b ∷ bs) (d ∷ ds) seq serial next_seq next (inr later) rise =
+    rising-lower (d.seq + 1) seq (next_serial serial d.records) serial (b ∷ bs) next_seq next (omega (arith, rise.0))
+    (next-above serial d.records rise.1)
+    (rising-among (b ∷ bs) ds (d.seq + 1) (next_serial serial d.records) next_seq next later rise.2)
+
+among-none : (ds : List ClosedBuffer) → IsAmong [] ds
+among-none ds = tt
+
+among-all : (bs : List ClosedBuffer) → IsAmong bs bs
+among-all [] = tt
+among-all (b ∷ bs) = inl (refl, among-all bs)
+
+among-append : (bs ds cs es : List ClosedBuffer) → IsAmong bs ds → IsAmong cs es → IsAmong (bs ++ cs) (ds ++ es)
+among-append [] [] cs es one two = two
+among-append [] (d ∷ ds) [] es one two = tt
+among-append [] (d ∷ ds) (c ∷ cs) es one two = inr (among-append [] ds (c ∷ cs) es tt two)
+among-append (b ∷ bs) [] cs es one two = absurd one
+among-append (b ∷ bs) (d ∷ ds) cs es (inl here) two = inl (here.0, among-append bs ds cs es here.1 two)
+among-append (b ∷ bs) (d ∷ ds) cs es (inr later) two = inr (among-append (b ∷ bs) ds cs es later two)
+
+left-among : (k : ℕ) (h : History) → IsAmong (left_below k h) (chunks_below k h)
+left-among zero h = tt
+left-among (suc k) h =
+    among-append (left_below k h) (chunks_below k h) (cond (is_released k h) [] (chunk_of k h)) (chunk_of k h) (left-among k h)
+    (either (is_released k h))
+  where
+    either : (b : Bool) → IsAmong (cond b [] (chunk_of k h)) (chunk_of k h)
+    either true = among-none (chunk_of k h)
+    either false = among-all (chunk_of k h)
+
+left-rise : (h : History) → IsWellFormed h → Rising 0 0 (left_of h) h.filling.number (offered_of h)
+left-rise h well =
+    rising-among (left_of h) (chunks_below (suc h.cuts) h) 0 0 h.filling.number (offered_of h) (left-among (suc h.cuts) h)
+    (subst (λ (bs : List ClosedBuffer). Rising 0 0 bs h.filling.number (offered_of h)) (sym well.chunks) (kept-rise h well))
+
 -- a packet belongs to its own stream
 same-bytes : (xs : List ℕ) → pointwise nat_eq xs xs ≡ true
 same-bytes [] = refl
@@ -124,22 +213,22 @@ all-sent (p ∷ parts) sent = all_append IsPacket p.packets (all_of (map (λ (p 
 
 pub passes : (s : StreamState) (h : History) → IsSound s → StandsFor s h → AreAudited s.config.uuid s.config.number (files_of s) (packets_by_part s)
 passes s h sound is =
-    let same = packets-are s h is in
-    let rise = kept-rise h is.model in
+    let same = packets-left s h is in
+    let rise = left-rise h is.model in
     record {
       texts = refl;
       sound = record {
         packets = all-sent (all_parts s.parts)
             (all_append CanBeSent s.parts.closed (s.parts.current ∷ []) sound.closed_sent (sound.current_sent, tt));
         belong = subst (λ (ps : List Contents). AllByRecursion (BelongsTo s.config.uuid s.config.number) ps) (sym same)
-            (all-own s.config (kept_of h));
+            (all-own s.config (left_of h));
         numbers = subst (λ (ps : List Contents). IsTrue (numbers_rise_after None (numbers_of ps))) (sym same)
-            (subst (λ (ns : List ℕ). IsTrue (numbers_rise_after None ns)) (sym (numbers-packets s.config (kept_of h)))
-            (rise-numbers None 0 0 (kept_of h) h.filling.number (offered_of h) (omega arith) rise));
+            (subst (λ (ns : List ℕ). IsTrue (numbers_rise_after None ns)) (sym (numbers-packets s.config (left_of h)))
+            (rise-numbers None 0 0 (left_of h) h.filling.number (offered_of h) (omega arith) rise));
         serials = subst (λ (ps : List Contents). IsTrue (serials_rise_after None (records_of_packets ps))) (sym same)
             (subst (λ (es : List Entry). IsTrue (serials_rise_after None es))
-            (sym (records-packets s.config (kept_of h)))
-            (rise-records None 0 0 (kept_of h) h.filling.number (offered_of h) (omega arith) rise));
+            (sym (records-packets s.config (left_of h)))
+            (rise-records None 0 0 (left_of h) h.filling.number (offered_of h) (omega arith) rise));
       };
     }
 

@@ -240,6 +240,8 @@ wants-memory (Err SessionFault.NotPending) = inr (λ e. cc)
 wants-memory (Err SessionFault.CutMissing) = inr (λ e. cc)
 wants-memory (Err SessionFault.NameTaken) = inr (λ e. cc)
 wants-memory (Err SessionFault.NoChannel) = inr (λ e. cc)
+wants-memory (Err SessionFault.NoArchive) = inr (λ e. cc)
+wants-memory (Err SessionFault.Released) = inr (λ e. cc)
 wants-memory (Err SessionFault.Misplaced) = inr (λ e. cc)
 
 pub begin-step : {D : Type 0} (r : Result ℕ SessionFault) (moment : ℕ) (b c : SessionBookState)

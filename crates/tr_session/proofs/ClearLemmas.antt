@@ -5,11 +5,12 @@ use Rattle.std.proofs.lemmas.List.{take_all}
 use Rattle.std.specs.List.{sum_by}
 use Rattle.std.specs.Option.{option_map_or}
 use Rattle.std.specs.Prelude.{IsOk, nat_lt, slice_get}
-use Rattle.tr_session.proofs.CallLemmas.{same-session, wants-memory}
+use Rattle.tr_session.proofs.AskedLemmas.{asked-there, next-asked}
+use Rattle.tr_session.proofs.CallLemmas.{wants-memory}
 use Rattle.tr_session.proofs.ListLemmas.{changed-next, changed_before, changed_before-all}
 use Rattle.tr_session.proofs.SessionLemmas.{at-there}
 use Rattle.tr_session.proofs.SizeLemmas.{sum-more}
-use Rattle.tr_session.proofs.StreamLemmas.{after-one, clear-keeps, mode-at}
+use Rattle.tr_session.proofs.StreamLemmas.{mode-at}
 use Rattle.tr_book.specs.declared.counts.Counts.{Counts}
 use Rattle.tr_session.specs.Session.{HasItsStreams, SessionOf, session_of}
 use Rattle.tr_session.specs.Sizes.{all_cleared}
@@ -27,47 +28,6 @@ use Rattle.tr_stream.specs.declared.answers.ClearFault.TheVariants as clear_faul
 use Rattle.tr_stream.specs.declared.answers.Cleared.{Cleared}
 use Rattle.tr_terms.specs.declared.session_mode.SessionMode.TheVariants.{Local}
 
--- ---- one stream
-
--- the book is asked where there is a stream
-pub allowed-at : (i : ℕ) (b : SessionBookState) → i < length b.threads → clear_allowed_at i b ≡ book_clear_answer b
-allowed-at i b within = let here : nat_lt i (length b.threads) ≡ true = grind (arith, nat_tests, within) in rw here refl
-
-pub past-refused : (i : ℕ) (b : SessionBookState) → length b.threads ≤ i → clear_allowed_at i b ≡ Err NoStream
-past-refused i b past = let out : nat_lt i (length b.threads) ≡ false = grind (arith, nat_tests, past) in rw out refl
-
--- what a clear that the session refuses answers, and leaves
-pub refused-clear : (i : ℕ) (s : SessionOf StreamState) (fault : SessionFault) → clear_allowed_at i s.book ≡ Err fault
-    → ((let r : Result Cleared SessionFault = Err fault in r) ≡ session_clear_answer by_state i s)
-    × (s ≡ session_after_clear by_state i s)
-refused-clear i s fault is = (rw is refl, rw is refl)
-
--- what one that it allows answers, and leaves
-pub allowed-clear : (i : ℕ) (b : SessionBookState) (ts us : List StreamState) (s : SessionOf StreamState)
-    (r : Result Cleared SessionFault) → session_of b ts ≡ s → clear_allowed_at i b ≡ Ok tt
-    → r ≡ option_map_or (λ t. clear_as_session (state_clear_answer t)) (slice_get ts i) (Err NoStream)
-    → us ≡ change_at i state_after_clear ts
-    → (r ≡ session_clear_answer by_state i s) × (session_of b us ≡ session_after_clear by_state i s)
-allowed-clear i b ts us s r view at answers streams = rw (← view) (rw at answers, rw at (rw streams refl))
-
--- and where memory may be wanting
-pub allowed-packets : (i : ℕ) (b : SessionBookState) (ts : List StreamState) (s : SessionOf StreamState)
-    → session_of b ts ≡ s → clear_allowed_at i b ≡ Ok tt
-    → ClearsPackets (option_map_or (λ t. clear_as_session (state_clear_answer t)) (slice_get ts i) (Err NoStream))
-    → ClearsPackets (session_clear_answer by_state i s)
-allowed-packets i b ts s view at packets = rw (← view) (rw at packets)
-
--- the streams stay those of the book's threads
-pub clear-step : {D : Type 0} (r : Result Cleared SessionFault) (b : SessionBookState) (ts us : List StreamState) (i : ℕ)
-    → (r ≢ Err NoMemory → D × (us ≡ change_at i state_after_clear ts)) → (r ≡ Err NoMemory → us ≡ ts)
-    → HasItsStreams (session_of b ts) → HasItsStreams (session_of b us)
-clear-step {D} r b ts us i done memory is =
-    ⊎_elim
-    (λ (wants : r ≡ Err NoMemory). same-session b b ts us refl (memory wants) is)
-    (λ (other : r ≢ Err NoMemory). same-session b b (change_at i state_after_clear ts) us refl (done other).1
-    (after-one b ts i state_after_clear clear-keeps is))
-    (wants-memory r)
-
 -- in a local session a stream can be cleared
 pub clear-can : (s : SessionOf StreamState) (i : ℕ) → HasItsStreams s → s.book.mode ≡ Local
     → book_clear_answer s.book ≡ Ok tt → i < length s.streams → IsOk (session_clear_answer by_state i s)
@@ -75,7 +35,7 @@ clear-can s i is local allowed within =
     let there = at-there i s.streams within in
     let t = there.0 in
     let at : clear_allowed_at i s.book ≡ Ok tt =
-    allowed-at i s.book (subst (λ (n : ℕ). i < n) is.as_many within) ∙ allowed in
+    asked-there i (book_clear_answer s.book) s.book (subst (λ (n : ℕ). i < n) is.as_many within) ∙ allowed in
     let clears : state_clear_answer t ≡ Ok (state_cleared t) =
     in-local t.config.session (Ok (state_cleared t)) (Err clear_fault.SnapshotMode) (mode-at s i t is there.1 ∙ local) in
     rw (at, there.1, clears) refl
@@ -93,18 +53,11 @@ clear-wants r fault can refused =
 
 -- ---- one after another
 
-changed_before-get : {X : Type 0} (f : X → X) (n : ℕ) (xs : List X) → slice_get (changed_before n f xs) n ≡ slice_get xs n
-changed_before-get f zero [] = refl
-changed_before-get f (suc n) [] = refl
-changed_before-get f zero (x ∷ xs) = refl
-changed_before-get f (suc n) (x ∷ xs) = changed_before-get f n xs
-
 -- the next stream is as it was
 pub next-same : (n : ℕ) (s : SessionOf StreamState)
     → session_clear_answer by_state n (with_first_cleared by_state n s) ≡ session_clear_answer by_state n s
-next-same n s = ap (λ (o : Option StreamState). if_allowed (clear_allowed_at n s.book)
-    (option_map_or (λ t. clear_as_session (by_state.clear_answer t)) o (Err NoStream)))
-    (changed_before-get state_after_clear n s.streams)
+next-same n s =
+    next-asked (λ t. clear_as_session (by_state.clear_answer t)) state_after_clear (clear_allowed_at n s.book) n s.book s.streams
 
 -- and is cleared
 next-cleared : (n : ℕ) (s : SessionOf StreamState) → book_clear_answer s.book ≡ Ok tt → length s.streams ≡ length s.book.threads
@@ -112,7 +65,7 @@ next-cleared : (n : ℕ) (s : SessionOf StreamState) → book_clear_answer s.boo
     → session_after_clear by_state n (with_first_cleared by_state n s) ≡ with_first_cleared by_state (suc n) s
 next-cleared n s allowed as_many within =
     let at : clear_allowed_at n s.book ≡ Ok tt =
-    allowed-at n s.book (subst (λ (m : ℕ). n < m) as_many within) ∙ allowed in
+    asked-there n (book_clear_answer s.book) s.book (subst (λ (m : ℕ). n < m) as_many within) ∙ allowed in
     ap (λ (r : Result Unit SessionFault). unless_refused r
     (let t : SessionOf StreamState =
     record { book = s.book; streams = change_at n state_after_clear (changed_before n state_after_clear s.streams) } in t)
@@ -173,7 +126,7 @@ clears-more n records s now next cleared has allowed within so told done small =
     let own : Ok cleared ≡ session_clear_answer by_state n s =
     told ∙ ap (session_clear_answer by_state n) so.is ∙ next-same n s in
     let at : clear_allowed_at n s.book ≡ Ok tt =
-    allowed-at n s.book (subst (λ (m : ℕ). n < m) has.as_many within) ∙ allowed in
+    asked-there n (book_clear_answer s.book) s.book (subst (λ (m : ℕ). n < m) has.as_many within) ∙ allowed in
     let its : Ok cleared ≡ clear_as_session (state_clear_answer there.0) = own ∙ rw (at, there.1) refl in
     let count : records_cleared (state_clear_answer there.0) ≡ cleared.records =
     records-told (state_clear_answer there.0) cleared its in

@@ -1,12 +1,15 @@
 pub mod Agreement
+pub mod AskedLemmas
 pub mod AuditLemmas
 pub mod CallLemmas
 pub mod ClearAgreement
 pub mod ClearLemmas
-pub mod PrefixLemmas
 pub mod GapLemmas
 pub mod ListLemmas
 pub mod OwnSteps
+pub mod PrefixLemmas
+pub mod ReleaseAgreement
+pub mod ReleaseLemmas
 pub mod ResultLemmas
 pub mod RotationLemmas
 pub mod RunAgreement

@@ -7,9 +7,9 @@ use Rattle.tr_session_book.specs.Book.{SessionBookState}
 use Rattle.tr_session_book.specs.BookSteps.{unless_refused, cut_moment, book_switch_answer, with_cut, snap_allowed, clear_allowed_at}
 use Rattle.tr_session.specs.Events.{session_after_event, session_after_events, book_after_event, cut_let_through, is_of, let_through, own_steps}
 use Rattle.tr_session.specs.Session.{SessionOf}
-use Rattle.tr_session.specs.Steps.{after_cut_if_due, change_at}
+use Rattle.tr_session.specs.Steps.{after_cut_if_due, change_at, release_allowed_at}
 use Rattle.tr_session.specs.declared.events.Event.{Event}
-use Rattle.tr_session.specs.declared.events.Event.TheVariants.{Offer, Take, Cut, Clear, Snap, Start, Stop, SessionStart, SessionStop, RotateBegin, RotateFinish}
+use Rattle.tr_session.specs.declared.events.Event.TheVariants.{Offer, Take, Cut, Clear, Release, Snap, Start, Stop, SessionStart, SessionStop, RotateBegin, RotateFinish}
 use Rattle.tr_session_book.specs.declared.faults.SessionFault.{SessionFault}
 use Rattle.tr_stream.specs.History.{History}
 use Rattle.tr_stream.specs.Rules.{Traced, by_history}
@@ -113,6 +113,8 @@ module _ (A : Type 0) where
       at-own i j (by_history.after_offer moment id payload) (stream.Offer moment id payload ∷ []) s.streams (λ t. refl)
   own-event i (Take j) s = at-own i j by_history.after_take (stream.Take ∷ []) s.streams (λ t. refl)
   own-event i (Cut j) s = at-cut i j (cut_moment j s.book) s
+  own-event i (Release j k) s =
+      at-unless i j (by_history.after_release k) (release_allowed_at j k s.book) (stream.Release k ∷ []) s (λ t. refl)
   own-event i (Clear j) s = at-unless i j by_history.after_clear (clear_allowed_at j s.book) (stream.Clear ∷ []) s (λ t. refl)
   own-event i (Snap j moment) s = at-snap i j moment (snap_allowed j s.book) s.streams
   own-event i (Start j) s = at-unless i j (by_history.after_switch true) (book_switch_answer true j s.book) (stream.Start ∷ []) s (λ t. refl)
@@ -127,6 +129,7 @@ module _ (A : Type 0) where
   book-event (Offer j moment id payload) s = refl
   book-event (Take j) s = refl
   book-event (Cut j) s = book-cut (cut_moment j s.book) j s
+  book-event (Release j k) s = book-unless (release_allowed_at j k s.book) s (change_at j (by_history.after_release k) s.streams)
   book-event (Clear j) s = book-unless (clear_allowed_at j s.book) s (change_at j by_history.after_clear s.streams)
   book-event (Snap j moment) s = refl
   book-event (Start j) s = book-unless (book_switch_answer true j s.book) s (change_at j (by_history.after_switch true) s.streams)

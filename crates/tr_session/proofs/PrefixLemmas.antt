@@ -16,12 +16,12 @@ use Rattle.tr_packet.specs.Order.{follows, serials_rise_after}
 use Rattle.tr_packet.specs.Packets.{Contents, IsPacket}
 use Rattle.tr_record.specs.Records.{Entry}
 use Rattle.tr_ring.specs.ClosedBuffer.{ClosedBuffer}
-use Rattle.tr_session.proofs.AuditLemmas.{gaps-within, kept-rise, packets-below, passes, rise-numbers}
+use Rattle.tr_session.proofs.AuditLemmas.{all-left, gaps-within, kept-rise, packets-below, passes, rise-numbers}
 use Rattle.tr_session.proofs.GapLemmas.{in_gap, low, numbers-packets, seqs}
-use Rattle.tr_session.specs.Audits.{files_of, is_below_one, kept_above, packets_by_part, was_removed}
+use Rattle.tr_session.specs.Audits.{NoneReleased, files_of, is_below_one, kept_above, left_below, packets_by_part, was_removed}
 use Rattle.tr_stream.proofs.FateLemmas.{parts-are}
 use Rattle.tr_stream.proofs.TakeLemmas.{length-parts_below}
-use Rattle.tr_stream.specs.Chunks.{buffers_where, chunk_of, kept_of, packet_of, part_of, parts_below}
+use Rattle.tr_stream.specs.Chunks.{buffers_where, chunk_of, closed_part, kept_of, packet_of, parts_below}
 use Rattle.tr_stream.specs.Fates.{all_parts}
 use Rattle.tr_stream.specs.History.{Cleared, Closed, Dropped, History, Kept, Status, Waiting, is_kept}
 use Rattle.tr_stream.specs.Sound.{IsSound}
@@ -93,7 +93,7 @@ parts-front c k zero h le = let none : k ≡ 0 = omega (arith, le) in ([], rw no
 parts-front c k (suc n) h le = go (cases_lt k (suc n)) (λ below. parts-front c k n h below)
   where
     next : PartState
-    next = part_of c n (chunk_of n h)
+    next = closed_part c n h
 
     go : ((k < suc n) ⊎ (suc n ≤ k)) → (k ≤ n → (rest : List PartState) × (parts_below c n h ≡ parts_below c k h ++ rest))
         → (rest : List PartState) × (parts_below c (suc n) h ≡ parts_below c k h ++ rest)
@@ -108,10 +108,10 @@ first-parts c k n h le =
     ap (take k) front.1 ∙ ap (λ (m : ℕ). take m (parts_below c k h ++ front.0)) (sym (length-parts_below c k h))
     ∙ take-append_seam (parts_below c k h) front.0
 
--- the packets of the first chunks are those of the blocks kept in them
-pub front-packets : (s : StreamState) (h : History) (k : ℕ) → StandsFor s h → k ≤ h.cuts + 1
-    → all_of (take k (packets_by_part s)) ≡ map (packet_of s.config) (chunks_below k h)
-front-packets s h k is within =
+-- the packets of the first chunks are those of the blocks kept in them, but for released ones
+pub front-left : (s : StreamState) (h : History) (k : ℕ) → StandsFor s h → k ≤ h.cuts + 1
+    → all_of (take k (packets_by_part s)) ≡ map (packet_of s.config) (left_below k h)
+front-left s h k is within =
     let packets = λ (p : PartState). p.packets in
     ap all_of (
     take-map packets k (all_parts s.parts)
@@ -119,6 +119,10 @@ front-packets s h k is within =
     ∙ ap (map packets) (first-parts s.config k (suc h.cuts) h (omega (arith, within)))
     )
     ∙ packets-below s.config k h
+
+pub front-packets : (s : StreamState) (h : History) (k : ℕ) → StandsFor s h → k ≤ h.cuts + 1 → NoneReleased k h
+    → all_of (take k (packets_by_part s)) ≡ map (packet_of s.config) (chunks_below k h)
+front-packets s h k is within none = front-left s h k is within ∙ ap (map (packet_of s.config)) (all-left k h none)
 
 -- ---- the gaps
 

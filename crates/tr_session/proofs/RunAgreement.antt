@@ -3,6 +3,7 @@ use Rattle.std.proofs.Common.{◌≡◌, ◌∙◌, ℕ, zero, suc, true, false,
 use Rattle.std.specs.Prelude.{option_map, slice_get}
 use Rattle.tr_session.proofs.Agreement.{ResultsAgree, agree-alone_started, agree-alone_stopped, agree-begun, agree-channel, agree-cut_step, agree-finished, agree-offer, agree-switch, agree-take, agree-thread, same-cut_step, same-offer, same-snap, same-take}
 use Rattle.tr_session.proofs.ClearAgreement.{agree-clear, same-clear}
+use Rattle.tr_session.proofs.ReleaseAgreement.{agree-release, same-release}
 use Rattle.tr_session.proofs.OwnSteps.{moved, own-events}
 use Rattle.tr_session.specs.Agreement.{AllAgree, SessionsAgree}
 use Rattle.tr_session_book.specs.Book.{SessionBookState}
@@ -17,7 +18,7 @@ use Rattle.tr_session.specs.declared.config.Config.{Config}
 use Rattle.tr_session.specs.declared.events.Answer.{Answer}
 use Rattle.tr_session.specs.declared.events.Answer.TheVariants as answer
 use Rattle.tr_session.specs.declared.events.Event.{Event}
-use Rattle.tr_session.specs.declared.events.Event.TheVariants.{Offer, Take, Cut, Clear, Snap, Start, Stop, SessionStart, SessionStop, RotateBegin, RotateFinish}
+use Rattle.tr_session.specs.declared.events.Event.TheVariants.{Offer, Take, Cut, Clear, Release, Snap, Start, Stop, SessionStart, SessionStop, RotateBegin, RotateFinish}
 use Rattle.tr_session_book.specs.declared.faults.SessionFault.{SessionFault}
 use Rattle.tr_stream.specs.Rules.{Traced, Agrees, by_state, by_history}
 use Rattle.tr_stream.specs.Runs.{history_after_events}
@@ -34,6 +35,7 @@ module _ {A : Type 0} (a : SessionOf StreamState) (b : SessionOf Traced) (is : S
   same-event (Take i) = ap (λ r. answer.Take r) (same-take a b is i)
   same-event (Cut i) = ap (λ r. answer.Cut r) (same-cut_step a b is i)
   same-event (Clear i) = ap (λ r. answer.Clear r) (same-clear a b is i)
+  same-event (Release i k) = ap (λ r. answer.Release r) (same-release a b is i k)
   same-event (Snap i moment) = ap (λ r. answer.Snap r) (same-snap a b is i moment)
   same-event (Start i) = ap (λ (c : SessionBookState). answer.Start (book_switch_answer true i c)) is.book
   same-event (Stop i) = ap (λ (c : SessionBookState). answer.Stop (book_switch_answer false i c)) is.book
@@ -47,6 +49,7 @@ module _ {A : Type 0} (a : SessionOf StreamState) (b : SessionOf Traced) (is : S
   agree-event (Take i) = agree-take a b is i
   agree-event (Cut i) = agree-cut_step a b is i
   agree-event (Clear i) = agree-clear a b is i
+  agree-event (Release i k) = agree-release a b is i k
   agree-event (Snap i moment) = is
   agree-event (Start i) = agree-switch a b is true i
   agree-event (Stop i) = agree-switch a b is false i

@@ -13,6 +13,7 @@ use Rattle.tr_session_book.specs.BookSteps.{is_cut}
 use Rattle.tr_stream.specs.Rules.{by_state}
 use Rattle.tr_stream.specs.State.{StreamState}
 use Rattle.tr_terms.specs.declared.limits.TheConstants.{LARGEST_PACKET, MOST_STREAMS}
+use Rattle.tr_session.specs.Sizes.{part_released}
 
 pub sum-more : {X : Type 0} (f : X → ℕ) (n : ℕ) (xs : List X) (x : X) → slice_get xs n ≡ Some x → sum_by f (take (n + 1) xs) ≡ sum_by f (take n xs) + f x
 sum-more f n [] x at = absurd cc
@@ -25,23 +26,33 @@ pub record TalliesSo (n id : ℕ) (s : SessionOf StreamState) (size : ArchiveSiz
   pub packets : size.packets ≡ sum_by (λ t. option_map_or part_packets (by_state.part id t) 0) (take n s.streams)
   pub records : size.records ≡ sum_by (λ t. option_map_or part_records (by_state.part id t) 0) (take n s.streams)
   pub bytes : size.bytes ≡ sum_by (λ t. option_map_or part_bytes (by_state.part id t) 0) (take n s.streams)
+  pub released : size.released ≡ sum_by (λ t. option_map_or part_released (by_state.part id t) 0) (take n s.streams)
   pub few : (size.packets ≤ n * 2 ^ 64) × (size.records ≤ n * 2 ^ 64) × (size.bytes ≤ n * (LARGEST_PACKET * 2 ^ 64))
+      × (size.released ≤ n)
 
 pub tallies-more : (n id : ℕ) (s : SessionOf StreamState) (size part : ArchiveSize) (t : StreamState)
     → TalliesSo n id s size → slice_get s.streams n ≡ Some t
     → part.packets ≡ option_map_or part_packets (by_state.part id t) 0 → part.records ≡ option_map_or part_records (by_state.part id t) 0
     → part.bytes ≡ option_map_or part_bytes (by_state.part id t) 0
-    → (part.packets < 2 ^ 64) × (part.records < 2 ^ 64) × (part.bytes < LARGEST_PACKET * 2 ^ 64)
+    → part.released ≡ option_map_or part_released (by_state.part id t) 0
+    → (part.packets < 2 ^ 64) × (part.records < 2 ^ 64) × (part.bytes < LARGEST_PACKET * 2 ^ 64) × (part.released ≤ 1)
     → TalliesSo (n + 1) id s (record {
       packets = size.packets + part.packets;
       records = size.records + part.records;
       bytes = size.bytes + part.bytes;
+      released = size.released + part.released;
     })
-tallies-more n id s size part t so at packets records bytes few = record {
+tallies-more n id s size part t so at packets records bytes released few = record {
   packets = let more = sum-more (λ u. option_map_or part_packets (by_state.part id u) 0) n s.streams t at in rw (so.packets, packets) (sym more);
   records = let more = sum-more (λ u. option_map_or part_records (by_state.part id u) 0) n s.streams t at in rw (so.records, records) (sym more);
   bytes = let more = sum-more (λ u. option_map_or part_bytes (by_state.part id u) 0) n s.streams t at in rw (so.bytes, bytes) (sym more);
-  few = (omega (arith, so.few.0, few.0), omega (arith, so.few.1, few.1), omega (arith, so.few.2, few.2));
+  released = let more = sum-more (λ u. option_map_or part_released (by_state.part id u) 0) n s.streams t at in rw (so.released, released) (sym more);
+  few = (
+    omega (arith, so.few.0, few.0),
+    omega (arith, so.few.1, few.1),
+    omega (arith, so.few.2, few.2),
+    omega (arith, so.few.3, few.3),
+  );
 }
 
 -- the sums fit, since there are few streams

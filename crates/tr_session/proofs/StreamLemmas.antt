@@ -5,7 +5,7 @@ use Rattle.std.proofs.lemmas.List.{length-map}
 use Rattle.std.proofs.lemmas.Option.{same_Some, slice_get_within}
 use Rattle.std.specs.Borrow.{Bor}
 use Rattle.std.specs.Prelude.{IfSome, if◌then◌else◌, nat_lt, option_copied, slice_get}
-use Rattle.tr_session.proofs.ListLemmas.{length-changed_at}
+use Rattle.tr_book.proofs.ChangeLemmas.{length-changed_at}
 use Rattle.tr_session.specs.Session.{SessionOf, IsStreamOf, HasItsStreams}
 use Rattle.tr_session.specs.Steps.{change_at}
 use Rattle.tr_session_book.specs.Book.{SessionBookState}
@@ -18,12 +18,14 @@ use Rattle.tr_session_book.specs.declared.faults.SessionFault.TheVariants.{CutMi
 use Rattle.tr_schedule.specs.Schedules.{ScheduleState}
 use Rattle.tr_ring.specs.ClosedBuffer.{ClosedBuffer}
 use Rattle.tr_stream.specs.State.{StreamState}
-use Rattle.tr_stream.specs.StateSteps.{state_entry, move_oldest, refusal_of, state_after_clear, state_clear_ring, state_after_cut, state_after_offer, state_after_take, state_after_switch, state_unless}
+use Rattle.tr_stream.specs.StateSteps.{state_entry, move_oldest, refusal_of, state_after_clear, state_clear_ring, state_after_cut, state_after_offer, state_after_take, state_after_switch, state_unless, state_after_release, release_part_unless, state_release_refusal}
 use Rattle.tr_stream.specs.declared.answers.OfferFault.{OfferFault}
 use Rattle.tr_terms.specs.declared.session_mode.SessionMode.{SessionMode}
 use Rattle.tr_terms.specs.declared.session_mode.SessionMode.TheVariants.{Local, Snapshot}
 use Rattle.tr_stream.specs.declared.config.StreamConfig.{StreamConfig}
 use Rattle.tr_terms.specs.SessionModes.{by_session_mode}
+use Rattle.tr_stream.specs.declared.answers.ReleaseFault.{ReleaseFault}
+use Rattle.tr_book.specs.Parts.{release}
 
 -- ---- streams
 
@@ -57,6 +59,14 @@ clear-keeps t = go t.config.session
         × (length (by_session_mode m (state_clear_ring t) t).parts.closed ≡ length t.parts.closed)
     go Local = (refl, refl)
     go Snapshot = (refl, refl)
+
+pub release-keeps : (k : ℕ) → Keeps (state_after_release k)
+release-keeps k t = go (state_release_refusal k t)
+  where
+    go : (refusal : Option ReleaseFault) → ((release_part_unless refusal k t).config ≡ t.config)
+        × (length (release_part_unless refusal k t).parts.closed ≡ length t.parts.closed)
+    go (Some fault) = (refl, refl)
+    go None = (refl, length-changed_at release k t.parts.closed)
 
 pub switch-keeps : (active : Bool) → Keeps (state_after_switch active)
 switch-keeps active t = (refl, refl)

@@ -1,5 +1,5 @@
 -- What an audit of a stream's files says of its history.
-use Rattle.std.specs.Prelude.{◌≡◌, ℕ, Bool, ◌&&◌, ◌||◌, nat_eq, nat_lt, List, map, None, unwrap_or}
+use Rattle.std.specs.Prelude.{◌≡◌, ◌<◌, ℕ, zero, suc, Bool, false, ◌&&◌, ◌||◌, nat_eq, nat_lt, List, [], ◌++◌, map, None, if◌then◌else◌, unwrap_or}
 use Rattle.std.specs.List.{flat_map, last_or, list_any}
 use Rattle.tr_book.specs.Parts.{PartState}
 use Rattle.tr_chunk.specs.Audit.{all_of}
@@ -9,7 +9,8 @@ use Rattle.tr_packet.specs.Packets.{Contents}
 use Rattle.tr_record.specs.Records.{Entry}
 use Rattle.tr_ring.specs.ClosedBuffer.{ClosedBuffer}
 use Rattle.tr_stream.specs.Fates.{all_parts}
-use Rattle.tr_stream.specs.History.{Closed, is_cleared, is_dropped, is_kept}
+use Rattle.tr_stream.specs.Chunks.{chunk_of}
+use Rattle.tr_stream.specs.History.{Closed, History, is_cleared, is_dropped, is_kept, is_released}
 use Rattle.tr_stream.specs.State.{StreamState}
 
 -- the packets of each part, and of all parts, in order
@@ -22,6 +23,19 @@ packets_in s = all_of (packets_by_part s)
 -- what the stream's files hold, one for each part
 abbrev pub files_of : StreamState → List (List ℕ)
 files_of s = map packets_text (packets_by_part s)
+
+-- what the chunks below a number keep that were not released, in order
+abbrev pub left_below : ℕ → History → List ClosedBuffer
+left_below zero h = []
+left_below (suc k) h = left_below k h ++ (if is_released k h then [] else chunk_of k h)
+
+-- what all chunks keep that were not released
+abbrev pub left_of : History → List ClosedBuffer
+left_of h = left_below (suc h.cuts) h
+
+-- none of the chunks below a number was released
+abbrev pub NoneReleased : ℕ → History → Type 0
+NoneReleased k h = (j : ℕ) → j < k → is_released j h ≡ false
 
 -- what an audit says of the last packet is what its sub-buffer had
 pub record LastIs {A : Type 0} (a : StreamAudit A) (bs : List ClosedBuffer) : Type 0 where

@@ -3,11 +3,11 @@ use Rattle.std.specs.Prelude.{◌≡◌, ℕ, Bool, true, false, IsOk, List, [],
 use Rattle.tr_session_book.specs.Book.{SessionBookState}
 use Rattle.tr_session_book.specs.BookSteps.{unless_refused, book_start_answer, book_after_start, book_stop_answer, book_after_stop, book_switch_answer, book_rotate_begin_answer, book_after_rotate_begin, cut_moment, book_after_note_cut, book_rotate_finish_answer, book_after_rotate_finish, snap_allowed, clear_allowed_at}
 use Rattle.tr_session.specs.Session.{SessionOf}
-use Rattle.tr_session.specs.Steps.{ClearsPackets, ShowsPackets, session_after_rotate_begin, session_after_rotate_finish, session_offer_answer, session_after_offer, session_take_answer, session_after_take, session_cut_answer, session_after_cut, session_clear_answer, session_after_clear, session_snap_answer, session_after_switch}
+use Rattle.tr_session.specs.Steps.{ClearsPackets, ReleasesPackets, ShowsPackets, session_after_rotate_begin, session_after_rotate_finish, session_offer_answer, session_after_offer, session_take_answer, session_after_take, session_cut_answer, session_after_cut, session_clear_answer, session_after_clear, release_allowed_at, session_release_answer, session_after_release, session_snap_answer, session_after_switch}
 use Rattle.tr_session.specs.declared.events.Answer.{Answer}
 use Rattle.tr_session.specs.declared.events.Answer.TheVariants as answer
 use Rattle.tr_session.specs.declared.events.Event.{Event}
-use Rattle.tr_session.specs.declared.events.Event.TheVariants.{Offer, Take, Cut, Clear, Snap, Start, Stop, SessionStart, SessionStop, RotateBegin, RotateFinish}
+use Rattle.tr_session.specs.declared.events.Event.TheVariants.{Offer, Take, Cut, Clear, Release, Snap, Start, Stop, SessionStart, SessionStop, RotateBegin, RotateFinish}
 use Rattle.tr_session_book.specs.declared.faults.SessionFault.{SessionFault}
 use Rattle.tr_session_book.specs.declared.faults.SessionFault.TheVariants.{NoMemory}
 use Rattle.tr_session.specs.declared.faults.StepFault.TheVariants as step
@@ -23,6 +23,7 @@ session_answer rules (Offer i moment id payload) s = answer.Offer (session_offer
 session_answer rules (Take i) s = answer.Take (session_take_answer rules i s)
 session_answer rules (Cut i) s = answer.Cut (session_cut_answer rules i s)
 session_answer rules (Clear i) s = answer.Clear (session_clear_answer rules i s)
+session_answer rules (Release i k) s = answer.Release (session_release_answer rules i k s)
 session_answer rules (Snap i moment) s = answer.Snap (session_snap_answer rules i moment s)
 session_answer rules (Start i) s = answer.Start (book_switch_answer true i s.book)
 session_answer rules (Stop i) s = answer.Stop (book_switch_answer false i s.book)
@@ -37,6 +38,7 @@ abbrev pub MayWantMemory : {A : Type 0} → Answer A → Answer A → Type 0
 MayWantMemory (answer.Take wanting) (answer.Take rule) = (wanting ≡ Err (step.Take take_fault.NoMemory)) × IsOk rule
 MayWantMemory (answer.Cut wanting) (answer.Cut rule) = (wanting ≡ Err (step.Cut cut_fault.NoMemory)) × IsOk rule
 MayWantMemory (answer.Clear wanting) (answer.Clear rule) = (wanting ≡ Err NoMemory) × ClearsPackets rule
+MayWantMemory (answer.Release wanting) (answer.Release rule) = (wanting ≡ Err NoMemory) × ReleasesPackets rule
 MayWantMemory (answer.Snap wanting) (answer.Snap rule) = (wanting ≡ Err NoMemory) × ShowsPackets rule
 MayWantMemory (answer.RotateBegin wanting) (answer.RotateBegin rule) = (wanting ≡ Err NoMemory) × IsOk rule
 MayWantMemory _ _ = ⊥
@@ -47,6 +49,7 @@ session_after_event rules (Offer i moment id payload) s = session_after_offer ru
 session_after_event rules (Take i) s = session_after_take rules i s
 session_after_event rules (Cut i) s = session_after_cut rules i s
 session_after_event rules (Clear i) s = session_after_clear rules i s
+session_after_event rules (Release i k) s = session_after_release rules i k s
 session_after_event rules (Snap i moment) s = s
 session_after_event rules (Start i) s = session_after_switch rules true i s
 session_after_event rules (Stop i) s = session_after_switch rules false i s
@@ -72,6 +75,7 @@ book_after_event (Offer i moment id payload) b = b
 book_after_event (Take i) b = b
 book_after_event (Cut i) b = book_after_note_cut i b
 book_after_event (Clear i) b = b
+book_after_event (Release i k) b = b
 book_after_event (Snap i moment) b = b
 book_after_event (Start i) b = b
 book_after_event (Stop i) b = b
@@ -91,6 +95,7 @@ let_through (Offer i moment id payload) b = stream.Offer moment id payload ∷ [
 let_through (Take i) b = stream.Take ∷ []
 let_through (Cut i) b = cut_let_through (cut_moment i b)
 let_through (Clear i) b = unless_refused (clear_allowed_at i b) (stream.Clear ∷ []) []
+let_through (Release i k) b = unless_refused (release_allowed_at i k b) (stream.Release k ∷ []) []
 let_through (Snap i moment) b = unless_refused (snap_allowed i b) (stream.Peek moment ∷ []) []
 let_through (Start i) b = unless_refused (book_switch_answer true i b) (stream.Start ∷ []) []
 let_through (Stop i) b = unless_refused (book_switch_answer false i b) (stream.Stop ∷ []) []
@@ -105,6 +110,7 @@ is_of i (Offer j moment id payload) = i == j
 is_of i (Take j) = i == j
 is_of i (Cut j) = i == j
 is_of i (Clear j) = i == j
+is_of i (Release j k) = i == j
 is_of i (Snap j moment) = i == j
 is_of i (Start j) = i == j
 is_of i (Stop j) = i == j

@@ -46,6 +46,7 @@ answer_wants_memory (answer.Offer result) = step_refused_memory result
 answer_wants_memory (answer.Take result) = step_refused_memory result
 answer_wants_memory (answer.Cut result) = step_refused_memory result
 answer_wants_memory (answer.Clear result) = session_refused_memory result
+answer_wants_memory (answer.Release result) = session_refused_memory result
 answer_wants_memory (answer.Snap result) = session_refused_memory result
 answer_wants_memory (answer.Start result) = session_refused_memory result
 answer_wants_memory (answer.Stop result) = session_refused_memory result

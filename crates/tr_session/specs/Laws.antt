@@ -1,7 +1,7 @@
 -- What the laws about audits cite.
 pub use Rattle.tr_chunk.specs.Audit.{AreAudited, all_of, audit_of, is_in_runs}
 pub use Rattle.tr_ring.specs.ClosedBuffer.{ClosedBuffer}
-pub use Rattle.tr_session.specs.Audits.{LastIs, files_of, is_below_one, kept_above, packets_by_part, packets_in, was_removed}
+pub use Rattle.tr_session.specs.Audits.{LastIs, NoneReleased, files_of, is_below_one, kept_above, left_below, left_of, packets_by_part, packets_in, was_removed}
 pub use Rattle.tr_stream.specs.Chunks.{kept_of, packet_of}
 pub use Rattle.tr_stream.specs.History.{History}
 pub use Rattle.tr_stream.specs.Runs.{history_after_events}

@@ -1,10 +1,14 @@
 -- How much a session's archives hold, and how much was cleared.
-use Rattle.std.specs.Prelude.{ℕ}
+use Rattle.std.specs.Prelude.{ℕ, is_some, if◌then◌else◌}
 use Rattle.std.specs.List.{sum_by}
 use Rattle.std.specs.Option.{option_map_or}
-use Rattle.tr_book.specs.Parts.{part_bytes, part_packets, part_records}
+use Rattle.tr_book.specs.Parts.{PartState, part_bytes, part_packets, part_records}
 use Rattle.tr_session.specs.Session.{SessionOf}
 use Rattle.tr_stream.specs.Rules.{StreamRules}
+
+-- one if the part was released
+abbrev pub part_released : PartState → ℕ
+part_released p = if is_some p.released then 1 else 0
 
 -- how many packets, records and bytes the parts of a chunk have over all streams; a stream without that part adds none
 abbrev pub archive_packets : {S : Type 0} → StreamRules S → ℕ → SessionOf S → ℕ
@@ -15,6 +19,10 @@ archive_records rules id s = sum_by (λ t. option_map_or part_records (rules.par
 
 abbrev pub archive_bytes : {S : Type 0} → StreamRules S → ℕ → SessionOf S → ℕ
 archive_bytes rules id s = sum_by (λ t. option_map_or part_bytes (rules.part id t) 0) s.streams
+
+-- of how many streams the part was released
+abbrev pub archive_released : {S : Type 0} → StreamRules S → ℕ → SessionOf S → ℕ
+archive_released rules id s = sum_by (λ t. option_map_or part_released (rules.part id t) 0) s.streams
 
 -- how many records were cleared over all streams
 abbrev pub all_cleared : {S : Type 0} → StreamRules S → SessionOf S → ℕ

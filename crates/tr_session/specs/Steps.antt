@@ -1,18 +1,20 @@
 -- What the calls of a session answer, and what they do to its book and its streams.
-use Rattle.std.specs.Prelude.{◌≡◌, ◌≢◌, ◌<◌, ◌+◌, ◌⊎◌, ℕ, max, Bool, true, false, nat_lt, List, [], ◌∷◌, ◌++◌, zero, suc, length, map, take, drop, Option, Some, None, Result, Ok, Err, slice_get, if◌then◌else◌}
-use Rattle.std.specs.List.{sum_by}
+use Rattle.std.specs.Prelude.{◌≡◌, ◌≢◌, ◌<◌, ◌+◌, ◌⊎◌, ℕ, max, Bool, true, false, nat_lt, List, [], ◌∷◌, ◌++◌, zero, suc, length, map, take, drop, Option, Some, None, Result, Ok, Err, is_ok, slice_get, if◌then◌else◌}
+use Rattle.std.specs.List.{list_any, sum_by}
 use Rattle.std.specs.Option.{option_map_or}
+pub use Rattle.tr_book.specs.Parts.{change_at}
 use Rattle.tr_book.specs.Snaps.{SnapState}
 use Rattle.tr_terms.specs.declared.mode.Mode.{Mode}
 use Rattle.tr_schedule.specs.declared.cause.Cause.{Cause}
 use Rattle.tr_session_book.specs.Book.{SessionBookState}
-use Rattle.tr_session_book.specs.BookSteps.{unless_refused, channel_named, book_add_channel, thread_place, with_thread, book_start_answer, book_after_start, book_stop_answer, book_after_stop, book_switch_answer, book_rotate_begin_answer, archive_ended, with_pending, book_after_rotate_begin, cut_moment, with_cut, book_rotate_finish_answer, book_after_rotate_finish, book_snapshot_begin_answer, book_after_snapshot_begin, snap_allowed, book_clear_answer, clear_allowed_at, due_now}
+use Rattle.tr_session_book.specs.BookSteps.{unless_refused, channel_named, book_add_channel, thread_place, with_thread, book_start_answer, book_after_start, book_stop_answer, book_after_stop, book_switch_answer, book_rotate_begin_answer, archive_ended, with_pending, book_after_rotate_begin, cut_moment, with_cut, book_rotate_finish_answer, book_after_rotate_finish, book_snapshot_begin_answer, book_after_snapshot_begin, snap_allowed, book_clear_answer, clear_allowed_at, book_release_answer, due_now}
 use Rattle.tr_session.specs.Session.{SessionOf, session_of}
 use Rattle.tr_session_book.specs.declared.archive.Archive.{Archive}
 use Rattle.tr_session_book.specs.declared.archive.Pending.{Pending}
 use Rattle.tr_session_book.specs.declared.channel.Channel.{Channel}
 use Rattle.tr_session_book.specs.declared.faults.SessionFault.{SessionFault}
-use Rattle.tr_session_book.specs.declared.faults.SessionFault.TheVariants.{SnapshotMode, NoStream, NoChannel, NoMemory, NotPending}
+use Rattle.tr_session_book.specs.declared.faults.SessionFault.TheVariants.{SnapshotMode, NoStream, NoChannel, NoMemory, NotPending, NoArchive}
+use Rattle.tr_session_book.specs.declared.faults.SessionFault.TheVariants.{Released as AlreadyReleased}
 use Rattle.tr_session.specs.declared.faults.StepFault.{StepFault}
 use Rattle.tr_session.specs.declared.faults.StepFault.TheVariants.{Session, Offer, Take, Cut}
 use Rattle.tr_session.specs.declared.rotation.Next.{Next}
@@ -28,6 +30,9 @@ use Rattle.tr_stream.specs.declared.answers.CutDone.{CutDone}
 use Rattle.tr_stream.specs.declared.answers.CutFault.{CutFault}
 use Rattle.tr_stream.specs.declared.answers.OfferFault.{OfferFault}
 use Rattle.tr_stream.specs.declared.answers.Offered.{Offered}
+use Rattle.tr_stream.specs.declared.answers.ReleaseFault.{ReleaseFault}
+use Rattle.tr_stream.specs.declared.answers.ReleaseFault.TheVariants as release_fault
+use Rattle.tr_stream.specs.declared.answers.Released.{Released}
 use Rattle.tr_stream.specs.declared.answers.TakeFault.{TakeFault}
 use Rattle.tr_stream.specs.declared.answers.Taken.{Taken}
 use Rattle.tr_stream.specs.declared.config.StreamConfig.{StreamConfig}
@@ -67,12 +72,6 @@ session_add_thread rules channel s =
     session_add_stream rules (channel_named channel s.book) (thread_place channel s.book) s
 
 -- ---- steps of one stream
-
--- the element at this place is changed
-abbrev pub change_at : {X : Type 0} → ℕ → (X → X) → List X → List X
-change_at i f [] = []
-change_at zero f (x ∷ xs) = f x ∷ xs
-change_at (suc i) f (x ∷ xs) = x ∷ change_at i f xs
 
 abbrev pub offer_as_step : Result Offered OfferFault → Result Offered StepFault
 offer_as_step (Ok offered) = Ok offered
@@ -163,6 +162,32 @@ session_after_clear rules i s =
 abbrev pub ClearsPackets : Result Cleared SessionFault → Type 0
 ClearsPackets (Ok cleared) = cleared.packets ≢ 0
 ClearsPackets (Err fault) = ⊥
+
+-- what a stream answers to a release, as a session answers it
+abbrev pub release_as_session : Result Released ReleaseFault → Result Released SessionFault
+release_as_session (Ok released) = Ok released
+release_as_session (Err release_fault.NoPart) = Err NoArchive
+release_as_session (Err release_fault.Released) = Err AlreadyReleased
+release_as_session (Err release_fault.NoMemory) = Err NoMemory
+
+-- whether stream i's part of archive k can be asked for
+abbrev pub release_allowed_at : ℕ → ℕ → SessionBookState → Result Unit SessionFault
+release_allowed_at i k b = if nat_lt i (length b.threads) then book_release_answer k b else Err NoStream
+
+-- a release of stream i's part of archive k, which leaves the book as it is
+abbrev pub session_release_answer : {S : Type 0} → StreamRules S → ℕ → ℕ → SessionOf S → Result Released SessionFault
+session_release_answer rules i k s =
+    if_allowed (release_allowed_at i k s.book)
+    (option_map_or (λ t. release_as_session (rules.release_answer k t)) (slice_get s.streams i) (Err NoStream))
+
+abbrev pub session_after_release : {S : Type 0} → StreamRules S → ℕ → ℕ → SessionOf S → SessionOf S
+session_after_release rules i k s =
+    unless_refused (release_allowed_at i k s.book) (record s { streams = change_at i (rules.after_release k) s.streams }) s
+
+-- the answer of a release that finds packets
+abbrev pub ReleasesPackets : Result Released SessionFault → Type 0
+ReleasesPackets (Ok released) = released.packets ≢ 0
+ReleasesPackets (Err fault) = ⊥
 
 -- stream i takes offers from now on, or takes none
 abbrev pub session_after_switch : {S : Type 0} → StreamRules S → Bool → ℕ → SessionOf S → SessionOf S
@@ -301,6 +326,36 @@ pub record IsClearedSome {S : Type 0} (rules : StreamRules S) (s t : SessionOf S
   pub within : clears < length s.streams
   pub is : t ≡ with_first_cleared rules clears s
   pub next : ClearsPackets (session_clear_answer rules clears s)
+
+-- ---- releases
+
+-- a stream's part of archive k is left
+abbrev pub has_part : {S : Type 0} → StreamRules S → ℕ → S → Bool
+has_part rules k t = is_ok (rules.release_answer k t)
+
+abbrev pub any_part_left : {S : Type 0} → StreamRules S → ℕ → List S → Result Unit SessionFault
+any_part_left rules k streams = if list_any (has_part rules k) streams then Ok tt else Err AlreadyReleased
+
+-- a whole release: archive k is there, and some stream's part of it is left
+abbrev pub session_release_all_answer : {S : Type 0} → StreamRules S → ℕ → SessionOf S → Result Unit SessionFault
+session_release_all_answer rules k s = if_allowed (book_release_answer k s.book) (any_part_left rules k s.streams)
+
+-- each stream's part is released; one that was released before stays as it is
+abbrev pub session_after_release_all : {S : Type 0} → StreamRules S → ℕ → SessionOf S → SessionOf S
+session_after_release_all rules k s =
+    unless_refused (book_release_answer k s.book) (record s { streams = map (rules.after_release k) s.streams }) s
+
+-- the first streams, this many, have released their parts, and the others are as they were
+abbrev pub with_first_released : {S : Type 0} → StreamRules S → ℕ → ℕ → SessionOf S → SessionOf S
+with_first_released rules k n s =
+    record s { streams = map (rules.after_release k) (take n s.streams) ++ drop n s.streams }
+
+-- what a release leaves after a failed allocation: the parts before one that has packets are released, and nothing else
+pub record IsReleasedSome {S : Type 0} (rules : StreamRules S) (k : ℕ) (s t : SessionOf S) : Type 0 where
+  pub releases : ℕ
+  pub within : releases < length s.streams
+  pub is : t ≡ with_first_released rules k releases s
+  pub next : ReleasesPackets (session_release_answer rules releases k s)
 
 -- ---- snapshots
 

@@ -7,7 +7,7 @@ use crate::faults::StepFault;
 use std::alloc::{Allocator, Global};
 use tr_book::StreamSnap;
 use tr_session_book::{Archive, SessionFault};
-use tr_stream::{Cleared, CutDone, Offered, Payload, Taken};
+use tr_stream::{Cleared, CutDone, Offered, Payload, Released, Taken};
 use tr_terms::Moment;
 
 /// What is done to one stream of a session, by its number, or to the session itself.
@@ -21,6 +21,8 @@ pub enum Event<A: Allocator = Global> {
     Cut(u64),
     /// A stream is cleared.
     Clear(u64),
+    /// A stream's part of an archive is released: the stream, and the archive.
+    Release(u64, u64),
     /// A stream of a snapshot session is shown at a moment.
     Snap(u64, Moment),
     /// A stream of an active session takes offers from now on.
@@ -48,6 +50,8 @@ pub enum Answer<A: Allocator = Global> {
     Cut(Result<CutDone, StepFault>),
     /// The answer to a clear of a stream.
     Clear(Result<Cleared, SessionFault>),
+    /// The answer to a release of a stream's part.
+    Release(Result<Released, SessionFault>),
     /// The answer to a snap of a stream.
     Snap(Result<StreamSnap<A>, SessionFault>),
     /// The answer to the start of a stream.
@@ -74,6 +78,7 @@ impl<A: Allocator> Answer<A> {
             Answer::Take(Err(fault)) => fault.wants_memory(),
             Answer::Cut(Err(fault)) => fault.wants_memory(),
             Answer::Clear(Err(fault)) => fault.wants_memory(),
+            Answer::Release(Err(fault)) => fault.wants_memory(),
             Answer::Snap(Err(fault)) => fault.wants_memory(),
             Answer::Start(Err(fault)) => fault.wants_memory(),
             Answer::Stop(Err(fault)) => fault.wants_memory(),

@@ -2,11 +2,11 @@
 
 ghost use Rattle.std.specs.Prelude.{◌≡◌, Err};
 ghost use Rattle.tr_session.specs.Faults.{step_fault_code, step_fault_name, step_wants_memory};
-ghost use Rattle.tr_session.specs.Steps.{clear_as_session};
+ghost use Rattle.tr_session.specs.Steps.{clear_as_session, release_as_session};
 
 use thiserror::Error;
 use tr_session_book::SessionFault;
-use tr_stream::{ClearFault, CutFault, OfferFault, TakeFault};
+use tr_stream::{ClearFault, CutFault, OfferFault, ReleaseFault, TakeFault};
 
 /// Why a step of a stream was refused: by the session, or by the stream. Nothing changed.
 #[derive(Clone, Copy, Debug, PartialEq, Eq, Error)]
@@ -70,6 +70,17 @@ pub fn clear_fault(fault: ClearFault) -> SessionFault
     match fault {
         ClearFault::SnapshotMode => SessionFault::SnapshotMode,
         ClearFault::NoMemory => SessionFault::NoMemory,
+    }
+}
+
+/// Why a session's stream doesn't release a part, as the session answers it.
+pub fn release_fault(fault: ReleaseFault) -> SessionFault
+    ensures { release_as_session (Err fault) ≡ Err result }
+{
+    match fault {
+        ReleaseFault::NoPart => SessionFault::NoArchive,
+        ReleaseFault::Released => SessionFault::Released,
+        ReleaseFault::NoMemory => SessionFault::NoMemory,
     }
 }
 

@@ -29,6 +29,7 @@ impl<A: Allocator + Copy> Session<A> {
             Event::Take(i) => Answer::Take(self.take(*i)),
             Event::Cut(i) => Answer::Cut(self.cut(*i)),
             Event::Clear(i) => Answer::Clear(self.clear_stream(*i)),
+            Event::Release(i, k) => Answer::Release(self.release_stream(*i, *k)),
             Event::Snap(i, moment) => Answer::Snap(self.snap(*i, *moment)),
             Event::Start(i) => Answer::Start(self.switch_stream(true, *i)),
             Event::Stop(i) => Answer::Stop(self.switch_stream(false, *i)),

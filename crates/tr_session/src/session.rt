@@ -3,19 +3,21 @@
 ghost use Rattle.std.specs.Prelude.{◌≡◌, ◌≢◌, ◌≤◌, ◌<◌, [], true, false, None, Some, Ok, Err, IsOk, IfSome, IfOk, OnOk, IfErr, OnErr, length, map, option_copied, slice_get};
 ghost use Rattle.tr_session_book.specs.BookSteps.{channel_named, thread_place, book_start_answer, book_after_start, book_stop_answer, book_after_stop, book_switch_answer, book_rotate_begin_answer, cut_moment, book_rotate_finish_answer, book_snapshot_begin_answer, book_after_snapshot_begin, book_schedule_answer, book_after_schedule};
 ghost use Rattle.tr_session.specs.Session.{HasArchivedParts, HasItsStreams, IsStreamOf, new_session, session_of};
-ghost use Rattle.tr_session.specs.Steps.{session_add_channel, session_add_thread, session_offer_answer, session_after_offer, session_take_answer, session_after_take, session_cut_answer, session_after_cut, session_clear_answer, session_after_clear, ClearsPackets, session_snap_answer, ShowsPackets, session_after_switch, session_after_start, session_after_stop, session_after_rotate_begin, session_after_rotate_finish, current_sizes, session_fate_answer};
+ghost use Rattle.tr_session.specs.Steps.{session_add_channel, session_add_thread, session_offer_answer, session_after_offer, session_take_answer, session_after_take, session_cut_answer, session_after_cut, session_clear_answer, session_after_clear, ClearsPackets, session_release_answer, session_after_release, ReleasesPackets, session_snap_answer, ShowsPackets, session_after_switch, session_after_start, session_after_stop, session_after_rotate_begin, session_after_rotate_finish, current_sizes, session_fate_answer};
 ghost use Rattle.tr_stream.specs.Rules.{by_state};
 ghost use Rattle.tr_stream.specs.StateSteps.{state_snap};
 ghost use Rattle.tr_terms.specs.declared.limits.TheConstants.{MOST_STREAMS};
 
 use crate::faults::StepFault;
-use crate::streams::{clear_at, cut_at, offer_at, sizes_of, snap_all, switch, switch_at, take_at};
+use crate::streams::{
+    clear_at, cut_at, offer_at, release_at, sizes_of, snap_all, switch, switch_at, take_at,
+};
 use std::alloc::{AllocError, Allocator, Global};
 use std::marker::Model;
 use tr_book::StreamSnap;
 use tr_schedule::Schedule;
 use tr_session_book::{Archive, Channel, SessionBook, SessionFault};
-use tr_stream::{Cleared, CutDone, CutFault, Fate, Offered, Stream, TakeFault, Taken};
+use tr_stream::{Cleared, CutDone, CutFault, Fate, Offered, Released, Stream, TakeFault, Taken};
 use tr_terms::{Mode, Moment, Name, OffsetMinutes, SessionMode};
 use uuid::Uuid;
 
@@ -247,6 +249,29 @@ impl<A: Allocator + Copy> Session<A> {
         }
         match self.book.clear_allowed() {
             Ok(()) => clear_at(&mut self.streams, i),
+            Err(fault) => Err(fault),
+        }
+    }
+
+    /// Gives up the packets of a stream's part of an archive. What became of their records is told as before. It takes memory
+    /// only if the part has packets.
+    ///
+    /// # Errors
+    ///
+    /// `NoStream`, `NoArchive`, `Released`, `NoMemory`: nothing changed.
+    pub fn release_stream(&mut self, i: u64, k: u64) -> Result<Released, SessionFault>
+        ensures value { result ≢ Err SessionFault.NoMemory →
+            (result ≡ session_release_answer by_state i k self.old)
+            × (self.new ≡ session_after_release by_state i k self.old) }
+        ensures no_memory { result ≡ Err SessionFault.NoMemory → self.new ≡ self.old }
+        ensures memory { result ≡ Err SessionFault.NoMemory
+            → ReleasesPackets (session_release_answer by_state i k self.old) }
+    {
+        if i >= self.streams() {
+            return Err(SessionFault::NoStream);
+        }
+        match self.book.release_allowed(k) {
+            Ok(()) => release_at(&mut self.streams, i, k),
             Err(fault) => Err(fault),
         }
     }

@@ -2,14 +2,14 @@
 
 ghost use Rattle.std.specs.Prelude.{◌≡◌, ◌≢◌, ◌<◌, Some, Err, IfOk, IsOk, length, map, option_map, slice_get};
 ghost use Rattle.std.specs.Option.{option_map_or};
-ghost use Rattle.tr_session.specs.Steps.{change_at, clear_as_session, ClearsPackets, offer_as_step, take_as_step};
-ghost use Rattle.tr_stream.specs.StateSteps.{state_offer_answer, state_after_offer, state_take_answer, state_after_take, state_cut_answer, state_after_cut, state_clear_answer, state_after_clear, state_snap, state_after_switch, state_counts};
+ghost use Rattle.tr_session.specs.Steps.{change_at, clear_as_session, ClearsPackets, release_as_session, ReleasesPackets, offer_as_step, take_as_step};
+ghost use Rattle.tr_stream.specs.StateSteps.{state_offer_answer, state_after_offer, state_take_answer, state_after_take, state_cut_answer, state_after_cut, state_clear_answer, state_after_clear, state_release_answer, state_after_release, state_snap, state_after_switch, state_counts};
 
-use crate::faults::{StepFault, clear_fault};
+use crate::faults::{StepFault, clear_fault, release_fault};
 use std::alloc::{AllocError, Allocator};
 use tr_book::StreamSnap;
 use tr_session_book::SessionFault;
-use tr_stream::{Cleared, CutDone, CutFault, Offered, Stream, TakeFault, Taken};
+use tr_stream::{Cleared, CutDone, CutFault, Offered, Released, Stream, TakeFault, Taken};
 use tr_terms::Moment;
 
 /// Lets the stream of this number take offers, or makes it refuse them.
@@ -139,6 +139,45 @@ pub fn clear_at<A: Allocator + Copy>(
         return Err(SessionFault::NoStream);
     };
     clear_one(stream)
+}
+
+/// Releases a stream's part of an archive.
+fn release_one<A: Allocator + Copy>(
+    stream: &mut Stream<A>,
+    k: u64,
+) -> Result<Released, SessionFault>
+    ensures value { result ≢ Err SessionFault.NoMemory →
+        (result ≡ release_as_session (state_release_answer k stream.old))
+        × (stream.new ≡ state_after_release k stream.old) }
+    ensures no_memory { result ≡ Err SessionFault.NoMemory → stream.new ≡ stream.old }
+    ensures memory { result ≡ Err SessionFault.NoMemory
+        → ReleasesPackets (release_as_session (state_release_answer k stream.old)) }
+{
+    match stream.release(k) {
+        Ok(released) => Ok(released),
+        Err(fault) => Err(release_fault(fault)),
+    }
+}
+
+/// Releases the part of the stream of this number.
+pub fn release_at<A: Allocator + Copy>(
+    streams: &mut Vec<Stream<A>, A>,
+    i: u64,
+    k: u64,
+) -> Result<Released, SessionFault>
+    ensures value { result ≢ Err SessionFault.NoMemory →
+        (result ≡ option_map_or (λ s. release_as_session (state_release_answer k s)) (slice_get streams.old.items i)
+        (Err SessionFault.NoStream))
+        × (streams.new.items ≡ change_at i (state_after_release k) streams.old.items) }
+    ensures no_memory { result ≡ Err SessionFault.NoMemory → streams.new.items ≡ streams.old.items }
+    ensures memory { result ≡ Err SessionFault.NoMemory →
+        ReleasesPackets (option_map_or (λ s. release_as_session (state_release_answer k s))
+        (slice_get streams.old.items i) (Err SessionFault.NoStream)) }
+{
+    let Some(stream) = streams.get_mut(i as usize) else {
+        return Err(SessionFault::NoStream);
+    };
+    release_one(stream, k)
 }
 
 /// Each stream as it is at this moment.

@@ -11,7 +11,7 @@ use Rattle.tr_book.specs.declared.runs.Run.{Run}
 use Rattle.tr_packet.proofs.OrderLemmas.{moments_hold_says}
 use Rattle.tr_packet.specs.Order.{moments_hold}
 use Rattle.tr_book.specs.Counters.{CountersState, at_moment, new_counters, with_cleared, with_consumed, with_offer, with_overwritten}
-use Rattle.tr_book.specs.Parts.{PartsState, empty_part, part_records, records_of, no_parts, with_packet, with_packets, close_part, clear_part}
+use Rattle.tr_book.specs.Parts.{PartsState, empty_part, part_records, records_of, no_parts, with_packet, with_packets, close_part, clear_part, part_packets, Rest}
 use Rattle.tr_packet.specs.Packets.{Contents, IsPacket}
 use Rattle.tr_record.specs.Records.{Entry}
 use Rattle.tr_ring.specs.ClosedBuffer.{ClosedBuffer}
@@ -49,6 +49,7 @@ use Rattle.tr_stream.specs.declared.answers.Taken.{Taken}
 use Rattle.tr_terms.specs.declared.session_mode.SessionMode.TheVariants.{Local}
 use Rattle.tr_stream.specs.declared.config.StreamConfig.{StreamConfig}
 use Rattle.tr_terms.specs.declared.limits.TheConstants.{LAST_MOMENT}
+use Rattle.tr_stream.proofs.ReleaseForms.{held-records, held-packets}
 
 -- the rest of an offer, once the ring has it
 pub kept-pushed : (s : StreamState) (moment id : ℕ) (payload : List ℕ) (e : Entry) (ring : RingState) (p : Pushed)
@@ -149,7 +150,14 @@ pub oldest-fits : (s : StreamState) (b : ClosedBuffer) → IsKept s → slice_ge
     → records_of s.parts.current.packets + length b.records < 2 ^ 64
 oldest-fits s b is first =
     let sound = is.sound in
-    omega (arith, first_few s.ring.waiting b first, sound.total, sound.consumed, sound.few)
+    omega (
+      arith,
+      first_few s.ring.waiting b first,
+      sound.total,
+      sound.consumed,
+      sound.few,
+      held-records s.parts.current sound.current_held,
+    )
 
 moved_first : (s : StreamState) (waiting : List ClosedBuffer) (b : ClosedBuffer) → slice_get waiting 0 ≡ Some b
     → move_oldest waiting s ≡ with_moved b s
@@ -244,7 +252,7 @@ cut-fits s end packets is are =
     let sound = is.sound in
     let count : records_of packets ≡ in_ring s.ring =
     ap records_of are ∙ records_of-packets s.config (ring_buffers end s.ring) ∙ records_in-ring s end in
-    omega (arith, count, sound.total, sound.consumed, sound.few)
+    omega (arith, count, sound.total, sound.consumed, sound.few, held-records s.parts.current sound.current_held)
 
 -- what a cut answers
 pub cut-told : (s : StreamState) (end k len count : ℕ) (packets : List Contents)
@@ -305,7 +313,7 @@ cut-local s new moment end done local at told moved =
 -- the rest of a clear, once the parts have the runs
 pub clear-is : (s : StreamState) (runs : List Run) (count consumed : ℕ) (ring : RingState) (parts : PartsState)
     (counters : CountersState) → ((end : ℕ) → runs ≡ buffer_runs (ring_buffers end s.ring)) → ring ≡ clear_ring s.ring
-    → parts ≡ clear_part runs s.parts → consumed ≡ records_of s.parts.current.packets → count ≡ consumed + in_ring s.ring
+    → parts ≡ clear_part runs s.parts → consumed ≡ part_records s.parts.current → count ≡ consumed + in_ring s.ring
     → counters ≡ with_cleared count consumed s.counters
     → (let t : StreamState = record {
       config = s.config;
@@ -320,7 +328,7 @@ clear-is s runs count consumed ring parts counters runs_are ring_is parts_is con
 pub kept-clear_now : (s : StreamState) (runs : List Run) (count consumed : ℕ) (ring : RingState) (parts : PartsState)
     (counters : CountersState) → s.config.session ≡ Local → IsKept s
     → ((end : ℕ) → runs ≡ buffer_runs (ring_buffers end s.ring)) → ring ≡ clear_ring s.ring
-    → parts ≡ clear_part runs s.parts → consumed ≡ records_of s.parts.current.packets → count ≡ consumed + in_ring s.ring
+    → parts ≡ clear_part runs s.parts → consumed ≡ part_records s.parts.current → count ≡ consumed + in_ring s.ring
     → counters ≡ with_cleared count consumed s.counters
     → IsKept (record { config = s.config; ring = ring; parts = parts; counters = counters; active = s.active })
 kept-clear_now s runs count consumed ring parts counters local is runs_are ring_is parts_is consumed_is count_is counters_are =
@@ -329,17 +337,17 @@ kept-clear_now s runs count consumed ring parts counters local is runs_are ring_
     (kept-clear s local is)
 
 -- what a clear answers
-pub clear-told : (s : StreamState) (len used consumed count : ℕ) → len ≡ length s.parts.current.packets
-    → ((end : ℕ) → used ≡ length (ring_buffers end s.ring)) → consumed ≡ records_of s.parts.current.packets
+pub clear-told : (s : StreamState) (len used consumed count : ℕ) → len ≡ part_packets s.parts.current
+    → ((end : ℕ) → used ≡ length (ring_buffers end s.ring)) → consumed ≡ part_records s.parts.current
     → count ≡ in_ring s.ring
     → (let d : Cleared = record { packets = len + used; records = consumed + count } in d) ≡ state_cleared s
 clear-told s len used consumed count len_is used_is consumed_is count_is = let e = used_is s.counters.last in cc
 
 -- counters have room for what a clear takes away
 pub clear-fits : (s : StreamState) → IsKept s
-    → (records_of s.parts.current.packets + in_ring s.ring < 2 ^ 62 + 1)
-    × (s.counters.cleared + (records_of s.parts.current.packets + in_ring s.ring) < 2 ^ 64)
-    × (s.counters.withdrawn + records_of s.parts.current.packets < 2 ^ 64)
+    → (part_records s.parts.current + in_ring s.ring < 2 ^ 62 + 1)
+    × (s.counters.cleared + (part_records s.parts.current + in_ring s.ring) < 2 ^ 64)
+    × (s.counters.withdrawn + part_records s.parts.current < 2 ^ 64)
 clear-fits s is =
     let sound = is.sound in (
       omega (arith, sound.total, sound.few),
@@ -361,10 +369,20 @@ packets-few (p ∷ ps) are =
     omega (arith, a, has-record p are.0, packets-few ps are.1, sum_by-cons (λ (q : Contents). length q.records) p ps)
 
 pub clear-packets : (s : StreamState) (used : ℕ) → IsKept s → used ≤ s.ring.count
-    → length s.parts.current.packets + used < 2 ^ 64
+    → part_packets s.parts.current + used < 2 ^ 64
 clear-packets s used is few =
     let sound = is.sound in
-    omega (arith, few, packets-few s.parts.current.packets sound.current_sent, sound.total, sound.few, sound.made.count, sound.config.count_high)
+    omega (
+      arith,
+      few,
+      packets-few s.parts.current.packets sound.current_sent,
+      held-packets s.parts.current sound.current_held,
+      held-records s.parts.current sound.current_held,
+      sound.total,
+      sound.few,
+      sound.made.count,
+      sound.config.count_high,
+    )
 
 -- a clear is the history's clear
 pub step-clear : (s new : StreamState) (h : History) (answer : Result Cleared ClearFault) → StandsFor s h
@@ -416,19 +434,19 @@ used-is ring end =
     last_one (e ∷ es) = grind (arith, common_steps)
 
 -- a clear that finds nothing changes nothing
-pub clear-nothing : (s : StreamState) → (state_cleared s).packets ≡ 0 → s ≡ state_clear_ring s
-clear-nothing s none =
+pub clear-nothing : (s : StreamState) → s.parts.current.released ≡ None → (state_cleared s).packets ≡ 0 → s ≡ state_clear_ring s
+clear-nothing s kept_there none =
     let used = used-is s.ring s.counters.last in
     let buffers = ring_buffers s.counters.last s.ring in
-    let here : s.parts.current.packets ≡ [] = nil_from_length s.parts.current.packets (omega (arith, none)) in
+    let here : s.parts.current.packets ≡ [] = nil_from_length s.parts.current.packets (omega (arith, none, held-packets s.parts.current kept_there)) in
     let waits : s.ring.waiting ≡ [] = nil_from_length s.ring.waiting (omega (arith, none, used)) in
     let fills : s.ring.current ≡ [] = nil_from_length s.ring.current (omega (arith, none, used)) in
     let there : buffers ≡ [] = nil_from_length buffers (omega (arith, none)) in
-    let kept : part_records s.parts.current ≡ 0 = ap records_of here in
+    let kept : part_records s.parts.current ≡ 0 = held-records s.parts.current kept_there ∙ ap records_of here in
     let held : in_ring s.ring ≡ 0 = grind (arith, common_steps, waits, fills) in
     ap (λ (r : RingState). record s { ring = r }) (same-ring s.ring waits fills)
     ∙ ap (λ (p : PartsState). record s { ring = clear_ring s.ring; parts = p })
-    (same-parts s.parts here (buffer_runs buffers) (ap buffer_runs there))
+    (same-parts s.parts kept_there here (buffer_runs buffers) (ap buffer_runs there))
     ∙ ap (λ (b : CountersState). record s { ring = clear_ring s.ring; parts = clear_part (buffer_runs buffers) s.parts; counters = b })
     (same-counters s.counters (part_records s.parts.current + in_ring s.ring) (part_records s.parts.current)
     (omega (arith, kept, held)) kept)
@@ -439,10 +457,12 @@ clear-nothing s none =
         ∙ ap (λ (es : List Entry). record r { waiting = []; current = es }) fills
         ∙ ap (λ (n : ℕ). record r { waiting = []; current = []; seq = n }) (sym (ap (seq_after r.seq) fills))
 
-    same-parts : (p : PartsState) → p.current.packets ≡ [] → (runs : List Run) → runs ≡ [] → p ≡ clear_part runs p
-    same-parts p here runs none =
+    same-parts : (p : PartsState) → p.current.released ≡ None → p.current.packets ≡ [] → (runs : List Run) → runs ≡ []
+        → p ≡ clear_part runs p
+    same-parts p held here runs none =
         let more : packet_runs p.current.packets ++ runs ≡ [] = ap (λ (rs : List Run). rs ++ runs) (ap packet_runs here) ∙ none in
         ap (λ (ps : List Contents). record p { current = record p.current { packets = ps } }) here
+        ∙ ap (λ (rest : Option Rest). record p { current = record p.current { packets = []; released = rest } }) held
         ∙ ap (λ (rs : List Run). record p { current = empty_part p.current.id; cleared = rs })
         (sym (append-nil p.cleared) ∙ ap (λ (rs : List Run). p.cleared ++ rs) (sym more))
 

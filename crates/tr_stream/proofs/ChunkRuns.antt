@@ -1,5 +1,5 @@
 -- A chunk has what was kept between its cuts.
-use Rattle.std.proofs.Common.{◌≡◌, ℕ, ◌+◌, max, Bool, true, false, cond, eqb, List, [], ◌∷◌, ◌++◌, length, take, refl, sym, ◌∙◌, ap, subst, arith}
+use Rattle.std.proofs.Common.{◌≡◌, ℕ, ◌+◌, max, Bool, true, false, cond, eqb, List, [], ◌∷◌, ◌++◌, length, take, refl, sym, ◌∙◌, ap, subst, arith, Option, Some, None}
 use Rattle.std.proofs.lemmas.Bool.Decides.{nat_tests}
 use Rattle.std.proofs.lemmas.Grind.{common_steps}
 use Rattle.std.proofs.lemmas.List.{append-nil}
@@ -15,14 +15,15 @@ use Rattle.tr_stream.specs.Chunks.{buffer_of, buffers_where, chunk_of, cleared_o
 use Rattle.tr_stream.specs.History.{Status, is_waiting, Waiting, Dropped, Kept, Closed, History, is_cleared, is_kept_in, discarded_in, discarded_of}
 use Rattle.tr_stream.specs.Runs.{history_after_event, history_after_events, kept_by, kept_after, kept_after_cuts, clears_among, cuts_among, cuts_made}
 use Rattle.tr_stream.specs.Sound.{IsUsable}
-use Rattle.tr_stream.specs.Steps.{Course, Refuse, Join, Follow, DiscardNewest, Replace, course_of, after_course, history_entry, settle_first, follow_filling, keep_oldest, history_cut_ring, history_after_cut, close_filling, keep_all, clear_all, history_clear_ring, new_history}
+use Rattle.tr_stream.specs.Steps.{Course, Refuse, Join, Follow, DiscardNewest, Replace, course_of, after_course, history_entry, settle_first, follow_filling, keep_oldest, history_cut_ring, history_after_cut, close_filling, keep_all, clear_all, history_clear_ring, new_history, release_chunk, history_after_release, release_chunk_unless, history_release_refusal}
 use Rattle.tr_stream.specs.WellFormed.{IsWellFormed, WaitLast, chunks_below}
 use Rattle.tr_terms.specs.declared.session_mode.SessionMode.{SessionMode}
 use Rattle.tr_terms.specs.declared.session_mode.SessionMode.TheVariants.{Local, Snapshot}
 use Rattle.tr_stream.specs.declared.config.StreamConfig.{StreamConfig}
 use Rattle.tr_stream.specs.declared.events.StreamEvent.{StreamEvent}
-use Rattle.tr_stream.specs.declared.events.StreamEvent.TheVariants.{Offer, Take, Cut, Clear, Peek, Start, Stop}
+use Rattle.tr_stream.specs.declared.events.StreamEvent.TheVariants.{Offer, Take, Cut, Clear, Peek, Start, Stop, Release}
 use Rattle.tr_terms.specs.SessionModes.{by_session_mode}
+use Rattle.tr_stream.specs.declared.answers.ReleaseFault.{ReleaseFault}
 
 -- a block that is closed waits
 followed : (wanted : Status → Bool) (e : Entry) (h : History) → wanted Waiting ≡ false
@@ -182,6 +183,21 @@ cleared-cut Local h end =
     other-keep_waiting is_cleared g.cuts 0 g.closed refl refl ∙ cleared-flushed h.filling.records end h
 cleared-cut Snapshot h end = refl
 
+-- a release changes no block and no cut
+same-released : {X : Type 0} (of : History → X) → ((k : ℕ) (h : History) → of (release_chunk k h) ≡ of h)
+    → (refusal : Option ReleaseFault) (k : ℕ) (h : History) → of (release_chunk_unless refusal k h) ≡ of h
+same-released of same (Some fault) k h = refl
+same-released of same None k h = same k h
+
+chunk-released : (k j : ℕ) (h : History) → chunk_of k (history_after_release j h) ≡ chunk_of k h
+chunk-released k j h = same-released (chunk_of k) (λ i g. refl) (history_release_refusal j h) j h
+
+cuts-released : (j : ℕ) (h : History) → (history_after_release j h).cuts ≡ h.cuts
+cuts-released j h = same-released (λ (g : History). g.cuts) (λ i g. refl) (history_release_refusal j h) j h
+
+cleared-released : (j : ℕ) (h : History) → cleared_of (history_after_release j h) ≡ cleared_of h
+cleared-released j h = same-released cleared_of (λ i g. refl) (history_release_refusal j h) j h
+
 module _ {A : Type 0} where
   chunk-event : (k : ℕ) (c : StreamConfig) (e : StreamEvent A) (h : History) → WaitLast h.closed
       → chunk_of k (history_after_event c e h) ≡ cond (eqb k h.cuts) (kept_by c e h (chunk_of k h)) (chunk_of k h)
@@ -191,6 +207,7 @@ module _ {A : Type 0} where
   chunk-event k c Take h order = chunk-take k c.session h order
   chunk-event k c (Cut moment) h order = chunk-cuts k c.session h (max moment h.last) order
   chunk-event k c Clear h order = chunk-clears k c.session h order
+  chunk-event k c (Release j) h order = chunk-released k j h ∙ nothing-kept (eqb k h.cuts) (chunk_of k h)
   chunk-event k c (Peek moment) h order = nothing-kept (eqb k h.cuts) (chunk_of k h)
   chunk-event k c Start h order = nothing-kept (eqb k h.cuts) (chunk_of k h)
   chunk-event k c Stop h order = nothing-kept (eqb k h.cuts) (chunk_of k h)
@@ -226,6 +243,9 @@ module _ {A : Type 0} where
   cuts-events c (Clear ∷ es) h local =
       cuts-events c es (history_after_event {A = A} c Clear h) local
       ∙ ap (λ (n : ℕ). n + cuts_among es) (cuts-cleared c.session h)
+  cuts-events c (Release k ∷ es) h local =
+      cuts-events c es (history_after_event {A = A} c (Release k) h) local
+      ∙ ap (λ (n : ℕ). n + cuts_among es) (cuts-released k h)
   cuts-events c (Peek moment ∷ es) h local = cuts-events c es h local
   cuts-events c (Start ∷ es) h local = cuts-events c es (history_after_event {A = A} c Start h) local
   cuts-events c (Stop ∷ es) h local = cuts-events c es (history_after_event {A = A} c Stop h) local
@@ -236,6 +256,7 @@ module _ {A : Type 0} where
   uncut-event c Take h snapshot = cuts-taken c.session h
   uncut-event c (Cut moment) h snapshot = ap (λ (g : History). g.cuts) (in-snapshot c.session (history_cut_ring (max moment h.last) h) h snapshot)
   uncut-event c Clear h snapshot = cuts-cleared c.session h
+  uncut-event c (Release k) h snapshot = cuts-released k h
   uncut-event c (Peek moment) h snapshot = refl
   uncut-event c Start h snapshot = refl
   uncut-event c Stop h snapshot = refl
@@ -259,6 +280,7 @@ module _ {A : Type 0} where
   kept-none c Take h kept snapshot = in-snapshot c.session (kept ++ take 1 (waiting_of h)) kept snapshot
   kept-none c (Cut moment) h kept snapshot = in-snapshot c.session (kept ++ ring_of (max moment h.last) h) kept snapshot
   kept-none c Clear h kept snapshot = in-snapshot c.session [] kept snapshot
+  kept-none c (Release k) h kept snapshot = refl
   kept-none c (Peek moment) h kept snapshot = refl
   kept-none c Start h kept snapshot = refl
   kept-none c Stop h kept snapshot = refl
@@ -282,6 +304,7 @@ module _ {A : Type 0} where
   same-cleared c Take es h none = (cleared-taken c.session h, none)
   same-cleared c (Cut moment) es h none = (cleared-cut c.session h (max moment h.last), none)
   same-cleared c Clear es h none = absurd (omega (arith, none))
+  same-cleared c (Release k) es h none = (cleared-released k h, none)
   same-cleared c (Peek moment) es h none = (refl, none)
   same-cleared c Start es h none = (refl, none)
   same-cleared c Stop es h none = (refl, none)
@@ -304,6 +327,7 @@ module _ {A : Type 0} where
   uncleared c Take h snapshot = ap cleared_of (in-snapshot c.session (keep_oldest h) h snapshot)
   uncleared c (Cut moment) h snapshot = ap cleared_of (in-snapshot c.session (history_cut_ring (max moment h.last) h) h snapshot)
   uncleared c Clear h snapshot = ap cleared_of (in-snapshot c.session (history_clear_ring h) h snapshot)
+  uncleared c (Release k) h snapshot = cleared-released k h
   uncleared c (Peek moment) h snapshot = refl
   uncleared c Start h snapshot = refl
   uncleared c Stop h snapshot = refl

@@ -6,7 +6,7 @@ use Rattle.std.proofs.lemmas.List.{append-nil, append_cancel_right, length-map}
 use Rattle.std.proofs.lemmas.List.Sums.{sum_by-cons}
 use Rattle.std.specs.Prelude.{sum_by}
 use Rattle.tr_book.specs.Counters.{with_cleared}
-use Rattle.tr_book.specs.Parts.{PartState, clear_part, records_of}
+use Rattle.tr_book.specs.Parts.{PartState, clear_part, records_of, part_records, part_packets}
 use Rattle.tr_book.specs.Runs.{packet_runs, runs_of}
 use Rattle.tr_book.specs.declared.runs.Run.{Run}
 use Rattle.tr_ring.specs.ClosedBuffer.{ClosedBuffer}
@@ -27,6 +27,7 @@ use Rattle.tr_stream.specs.declared.config.StreamConfig.{StreamConfig}
 use Rattle.tr_terms.specs.SessionModes.{by_session_mode}
 use Rattle.tr_terms.specs.declared.session_mode.SessionMode.{SessionMode}
 use Rattle.tr_terms.specs.declared.session_mode.SessionMode.TheVariants.{Local, Snapshot}
+use Rattle.tr_stream.proofs.GoneLemmas.{packet_runs-are}
 
 -- what a clear makes of statuses
 waits-cleared : (k : ℕ) (st : Status) → is_waiting (cleared_status k st) ≡ false
@@ -350,11 +351,6 @@ records-withdrawn k (c ∷ cs) =
       records_where-cons (is_kept_in k) c cs,
     )
 
--- packets have the runs of their sub-buffers
-pub packet_runs-are : (c : StreamConfig) (bs : List ClosedBuffer) → packet_runs (map (packet_of c) bs) ≡ buffer_runs bs
-packet_runs-are c [] = refl
-packet_runs-are c (b ∷ bs) = ap (λ (rs : List Run). runs_of b.seq b.records ++ rs) (packet_runs-are c bs)
-
 buffer_runs-append : (bs ds : List ClosedBuffer) → buffer_runs (bs ++ ds) ≡ buffer_runs bs ++ buffer_runs ds
 buffer_runs-append bs ds = flat_map-append (λ (b : ClosedBuffer). runs_of b.seq b.records) bs ds
 
@@ -363,13 +359,15 @@ abbrev emptied : StreamState → StreamState
 emptied s = record s {
   ring = record s.ring { waiting = [] };
   parts = clear_part (buffer_runs s.ring.waiting) s.parts;
-  counters = with_cleared (records_of s.parts.current.packets + records_in s.ring.waiting)
-      (records_of s.parts.current.packets) s.counters;
+  counters = with_cleared (part_records s.parts.current + records_in s.ring.waiting) (part_records s.parts.current) s.counters;
 }
 
 current-packets : (s : StreamState) (h : History) → StandsFor s h
     → s.parts.current.packets ≡ map (packet_of s.config) (chunk_of h.cuts h)
 current-packets s h is = ap (λ (p : PartState). p.packets) is.current
+
+current-records : (s : StreamState) (h : History) → StandsFor s h → part_records s.parts.current ≡ records_in (chunk_of h.cuts h)
+current-records s h is = ap part_records is.current ∙ records_of-packets s.config (chunk_of h.cuts h)
 
 stands-emptied : (s : StreamState) (h : History) → StandsFor s h → StandsFor (emptied s) (clear_all h)
 stands-emptied s h is =
@@ -390,9 +388,8 @@ stands-emptied s h is =
     let left : chunks_below h.cuts h ≡ kept_of g =
     append_cancel_right (chunks_below h.cuts h) (kept_of g) (chunk_of h.cuts h) (is.model.chunks ∙ kept) in
     let packets = current-packets s h is in
-    let in_part : records_of s.parts.current.packets ≡ records_where (is_kept_in h.cuts) h.closed =
-    ap records_of packets ∙ records_of-packets s.config (chunk_of h.cuts h)
-    ∙ sym (records-of_buffers (is_kept_in h.cuts) 0 h.closed) in
+    let in_part : part_records s.parts.current ≡ records_where (is_kept_in h.cuts) h.closed =
+    current-records s h is ∙ sym (records-of_buffers (is_kept_in h.cuts) 0 h.closed) in
     let in_wait : records_in s.ring.waiting ≡ records_where is_waiting h.closed =
     ap records_in is.waiting ∙ sym (records-of_buffers is_waiting 0 h.closed) in
     let all_gone : records_where is_cleared g.closed
@@ -416,11 +413,12 @@ stands-emptied s h is =
         covers = CoversFrom-cleared 0 h.cuts h.closed is.model.covers;
         covers_filling = subst (λ (n : ℕ). Covers n h.filling) (sym (sum-cleared offers_in h.cuts h.closed)) is.model.covers_filling;
         chunks = let a = same in let b = now in let c = append-nil (chunks_below h.cuts g) in let d = left in cc;
+        released = is.model.released;
         serials = λ n. serials_same n (offered_of h) (offered_of g) (times n h) (times n g)
             (omega (arith, sum-cleared offers_in h.cuts h.closed)) (is.model.serials n)
             (omega (arith, sum-cleared (times_in n) h.cuts h.closed));
       };
-      closed = is.closed ∙ sym (parts_below-same s.config h.cuts h g others);
+      closed = is.closed ∙ sym (parts_below-same s.config h.cuts h g others refl);
       current =
           let e = is.current in
           let a = now in
@@ -466,20 +464,18 @@ stands-clear s h is =
     (subst (λ (rs : List _). StandsFor (emptied (flushed s.ring.current end s)) (clear_all (close_filling rs end h)))
     is.filling whole) in
     subst (λ (n : ℕ). StandsFor (record (state_clear_ring s)
-    { counters = with_cleared (records_of s.parts.current.packets + n) (records_of s.parts.current.packets) s.counters })
+    { counters = with_cleared (part_records s.parts.current + n) (part_records s.parts.current) s.counters })
     (history_clear_ring h)) (records_in-ring s end) there
 
 -- a clear is the history's clear
 cleared-is : (s : StreamState) (h : History) → StandsFor s h
     → state_cleared s ≡ cleared_with (chunk_of h.cuts h ++ ring_of h.last h)
 cleared-is s h is =
-    let packets = current-packets s h is in
     let ring : ring_buffers s.counters.last s.ring ≡ ring_of h.last h =
     ring-same s h s.counters.last is ∙ ap (λ (n : ℕ). ring_of n h) is.last in
-    let a : length s.parts.current.packets ≡ length (chunk_of h.cuts h) =
-    ap length packets ∙ length-map (chunk_of h.cuts h) (packet_of s.config) in
-    let b : records_of s.parts.current.packets ≡ records_in (chunk_of h.cuts h) =
-    ap records_of packets ∙ records_of-packets s.config (chunk_of h.cuts h) in
+    let a : part_packets s.parts.current ≡ length (chunk_of h.cuts h) =
+    ap part_packets is.current ∙ length-map (chunk_of h.cuts h) (packet_of s.config) in
+    let b = current-records s h is in
     let c = records_in-ring s s.counters.last in
     let d = length-append (chunk_of h.cuts h) (ring_of h.last h) in
     let e = records_in-append (chunk_of h.cuts h) (ring_of h.last h) in

@@ -15,9 +15,9 @@ use Rattle.tr_stream.proofs.FateLemmas.{parts-are}
 use Rattle.tr_stream.proofs.PieceLemmas.{here, is_undropped, parts-left, held-is, pieces-buffers, pieces-cleared, pieces-held, pieces-used, pieces_of, undropped_of}
 use Rattle.tr_stream.proofs.TakeLemmas.{length-parts_below}
 use Rattle.tr_ring.specs.Ring.{seq_after}
-use Rattle.tr_stream.specs.Chunks.{buffer_runs, cleared_of, closed_if_any, buffer_of, buffers_where, chunk_of, kept_of, part_of, parts_below}
+use Rattle.tr_stream.specs.Chunks.{buffer_runs, cleared_of, closed_if_any, buffer_of, buffers_where, chunk_of, kept_of, part_of, parts_below, closed_part, packet_of}
 use Rattle.tr_stream.specs.Consistent.{HasRecord, Piece, buffers_of, Rising, CountUp, PartsFrom, first_in, first_serial, DiscardsAgree, SerialsFollow, GapsAgree, IsConsistent}
-use Rattle.tr_stream.specs.History.{Status, Waiting, Dropped, Kept, Cleared, Closed, History, is_waiting, is_dropped, is_cleared, offers_in, offers_before, offered_of, discarded_in, discarded_of, blocks_where}
+use Rattle.tr_stream.specs.History.{Status, Waiting, Dropped, Kept, Cleared, Closed, History, is_waiting, is_dropped, is_cleared, offers_in, offers_before, offered_of, discarded_in, discarded_of, blocks_where, is_released}
 use Rattle.tr_stream.specs.Kept.{IsKept}
 use Rattle.tr_stream.specs.Sound.{LosesByMode}
 use Rattle.tr_stream.specs.StandsFor.{StandsFor}
@@ -25,12 +25,14 @@ use Rattle.tr_stream.specs.State.{StreamState, in_parts}
 use Rattle.tr_stream.specs.WellFormed.{IsWellFormed, NumberedFrom, AllWait, WaitLast, RecordsRise, next_serial, StartsAt, Covers, CoversFrom, AllUsed, LastHeld}
 use Rattle.tr_stream.specs.declared.config.StreamConfig.{StreamConfig}
 use Rattle.tr_terms.specs.declared.session_mode.SessionMode.TheVariants.{Snapshot}
+use Rattle.tr_stream.proofs.ReleaseForms.{if-id}
 
 -- parts have the numbers of their chunks
 parts_from : (c : StreamConfig) (k : ℕ) (h : History) → PartsFrom 0 (parts_below c k h)
 parts_from c zero h = tt
-parts_from c (suc k) h = parts-push 0 (parts_below c k h) (part_of c k (chunk_of k h)) (parts_from c k h)
-    (let e = length-parts_below c k h in omega (arith, e))
+parts_from c (suc k) h = parts-push 0 (parts_below c k h) (closed_part c k h) (parts_from c k h)
+    (let e = length-parts_below c k h in
+    omega (arith, e, if-id (is_released k h) k (map (packet_of c) (chunk_of k h))))
   where
     parts-push : (n : ℕ) (ps : List PartState) (p : PartState) → PartsFrom n ps → p.id ≡ n + length ps → PartsFrom n (ps ++ p ∷ [])
     parts-push n [] p old new = (grind (arith, common_steps, new), tt)
@@ -40,11 +42,11 @@ offers_before-cons : (c : Closed) (cs : List Closed) → offers_before (c ∷ cs
 offers_before-cons c cs = sum_by-cons (λ (c : Closed). offers_in c.block) c cs
 
 -- lower bounds may fall
-RecordsRise-lower : (low low' : ℕ) (rs : List Entry) → low' ≤ low → RecordsRise low rs → RecordsRise low' rs
+pub RecordsRise-lower : (low low' : ℕ) (rs : List Entry) → low' ≤ low → RecordsRise low rs → RecordsRise low' rs
 RecordsRise-lower low low' [] le rise = tt
 RecordsRise-lower low low' (r ∷ rs) le rise = (omega (arith, rise.0), rise.1)
 
-next_serial-lower : (low low' : ℕ) (rs : List Entry) → low' ≤ low → next_serial low' rs ≤ next_serial low rs
+pub next_serial-lower : (low low' : ℕ) (rs : List Entry) → low' ≤ low → next_serial low' rs ≤ next_serial low rs
 next_serial-lower low low' [] le = le
 next_serial-lower low low' (r ∷ rs) le = omega arith
 

@@ -13,7 +13,7 @@ use Rattle.tr_stream.proofs.ChunkLemmas.{buffers_where-push, records_where-push,
 use Rattle.tr_stream.proofs.CutForms.{NumberedFrom-keep_waiting, length-keep_waiting, WaitLast-keep_waiting, AllWithinCuts-keep_waiting, AllWithinCuts-more, none_above, AllUsed-keep_waiting, LastHeld-push, LastHeld-keep_waiting, CoversFrom-keep_waiting, Covers-none}
 use Rattle.tr_stream.proofs.FormLemmas.{NumberedFrom-push, WaitLast-push, AllWithinCuts-push, RecentLast-push, RecentLast-new, serials_same, AllUsed-push, CoversFrom-push}
 use Rattle.tr_stream.proofs.Refinement.{chunks_same, chunks_below-same, parts_below-same, kept_in, kept_in-same}
-use Rattle.tr_stream.specs.Chunks.{chunk_of, waiting_of, kept_of, cleared_of, buffer_runs, packet_of, part_of, parts_below, closed_if_any, ring_of, ring_buffers}
+use Rattle.tr_stream.specs.Chunks.{chunk_of, waiting_of, kept_of, cleared_of, buffer_runs, packet_of, part_of, parts_below, closed_if_any, ring_of, ring_buffers, closed_part}
 use Rattle.tr_stream.specs.History.{Waiting, Block, Closed, History, is_waiting, is_dropped, is_kept, is_kept_in, is_cleared, is_consumed, is_withdrawn, offers_in, offers_before, offered_of, times_in, times}
 use Rattle.tr_stream.specs.StandsFor.{StandsFor}
 use Rattle.tr_stream.specs.State.{StreamState, records_in, in_ring}
@@ -25,6 +25,7 @@ use Rattle.tr_terms.specs.declared.session_mode.SessionMode.{SessionMode}
 use Rattle.tr_terms.specs.declared.session_mode.SessionMode.TheVariants.{Local, Snapshot}
 use Rattle.tr_stream.specs.declared.config.StreamConfig.{StreamConfig}
 use Rattle.tr_terms.specs.SessionModes.{by_session_mode}
+use Rattle.tr_stream.proofs.ReleaseForms.{AreClosed-more, held-part, unreleased}
 
 -- all that waits is in the current part, which is closed
 abbrev kept_all : StreamState → StreamState
@@ -38,7 +39,7 @@ kept_all s = record s {
 chunks_below-more : (k : ℕ) (h : History) → chunks_below (k + 1) h ≡ chunks_below k h ++ chunk_of k h
 chunks_below-more k h = let e : k + 1 ≡ suc k = omega arith in ap (λ (n : ℕ). chunks_below n h) e
 
-parts_below-more : (c : StreamConfig) (k : ℕ) (h : History) → parts_below c (k + 1) h ≡ parts_below c k h ++ part_of c k (chunk_of k h) ∷ []
+parts_below-more : (c : StreamConfig) (k : ℕ) (h : History) → parts_below c (k + 1) h ≡ parts_below c k h ++ closed_part c k h ∷ []
 parts_below-more c k h = let e : k + 1 ≡ suc k = omega arith in ap (λ (n : ℕ). parts_below c n h) e
 
 -- a part with the packets of all that waits
@@ -75,6 +76,7 @@ stands-kept_all s h is =
             new-keep_waiting is_kept h.cuts 0 h.closed refl refl is.model.order in let e =
             append_assoc (chunks_below h.cuts h) (chunk_of h.cuts h) (waiting_of h) in let f = is.model.chunks in let k =
             above in cc;
+        released = AreClosed-more h.cuts (h.cuts + 1) h.released (omega arith) is.model.released;
         serials = λ n. serials_same n (offered_of h) (offered_of g) (times n h) (times n g)
             (omega (arith, sum-keep_waiting offers_in h.cuts h.closed)) (is.model.serials n)
             (omega (arith, sum-keep_waiting (times_in n) h.cuts h.closed));
@@ -84,7 +86,9 @@ stands-kept_all s h is =
           (part-grown s.config h.cuts s.parts.current (chunk_of h.cuts h) (waiting_of h) (chunk_of h.cuts g) _
           is.current (ap (map (packet_of s.config)) is.waiting) now)
           ∙ ap (λ (ps : List PartState). ps ++ part_of s.config h.cuts (chunk_of h.cuts g) ∷ [])
-          (is.closed ∙ sym (parts_below-same s.config h.cuts h g others))
+          (is.closed ∙ sym (parts_below-same s.config h.cuts h g others refl))
+          ∙ ap (λ (q : PartState). parts_below s.config h.cuts g ++ q ∷ [])
+          (sym (held-part s.config h.cuts g (unreleased h.cuts h.cuts h.released (omega arith) is.model.released)))
           ∙ sym (parts_below-more s.config h.cuts g);
       current = let e = is.current in let a = above in cc;
       runs = is.runs ∙ ap buffer_runs (sym (other-keep_waiting is_cleared h.cuts 0 h.closed refl refl));
@@ -126,9 +130,10 @@ stands-flushed s h [] end e is = record {
     covers = is.model.covers;
     covers_filling = is.model.covers_filling;
     chunks = chunks_same h (record h { last = end }) (λ j. refl) refl is.model.chunks;
+    released = is.model.released;
     serials = is.model.serials;
   };
-  closed = is.closed ∙ parts_below-same s.config h.cuts (record h { last = end }) h (λ j l. refl);
+  closed = is.closed ∙ parts_below-same s.config h.cuts (record h { last = end }) h (λ j l. refl) refl;
   current = is.current;
   runs = is.runs;
   waiting = append-nil s.ring.waiting ∙ is.waiting;
@@ -162,11 +167,12 @@ stands-flushed s h (r ∷ rs) end e is =
         covers = CoversFrom-push 0 h.closed b is.model.covers (subst (λ (n : ℕ). Covers n h.filling) (omega arith) is.model.covers_filling);
         covers_filling = Covers-none (offers_before (h.closed ++ b ∷ [])) (h.filling.number + 1);
         chunks = chunks_same h g (λ j. same j) (buffers_where-push is_kept 0 h.closed b ∙ append-nil (kept_of h)) is.model.chunks;
+        released = is.model.released;
         serials = λ n. serials_same n (offered_of h) (offered_of g) (times n h) (times n g)
             (grind (arith, common_steps, offers)) (is.model.serials n)
             (omega (arith, sum_by_push (λ (c : Closed). times_in n c.block) h.closed b));
       };
-      closed = is.closed ∙ sym (parts_below-same s.config h.cuts h g (λ j l. same j));
+      closed = is.closed ∙ sym (parts_below-same s.config h.cuts h g (λ j l. same j) refl);
       current = is.current ∙ ap (part_of s.config h.cuts) (sym (same h.cuts));
       runs = is.runs ∙ ap buffer_runs (sym (buffers_where-push is_cleared 0 h.closed b ∙ append-nil (cleared_of h)));
       waiting = grind (arith, common_steps, is.waiting, is.discarded, is.number, is.filling, buffers_where-push is_waiting 0 h.closed b);

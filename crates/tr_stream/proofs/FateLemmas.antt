@@ -1,5 +1,5 @@
 -- A serial's fate by what a stream holds is its fate by the history.
-use Rattle.std.proofs.Common.{◌≡◌, ℕ, ◌+◌, ◌≤◌, ◌<◌, zero, suc, Bool, true, false, cond, eqb, List, [], ◌∷◌, ◌++◌, length, map, Option, Some, None, refl, sym, ◌∙◌, ap, subst, inl, inr, arith}
+use Rattle.std.proofs.Common.{◌≡◌, ℕ, ◌+◌, ◌≤◌, ◌<◌, zero, suc, Bool, true, false, cond, eqb, List, [], ◌∷◌, ◌++◌, length, map, Option, Some, None, refl, sym, ◌∙◌, ap, subst, inl, inr, arith, ap₂}
 use Rattle.std.proofs.lemmas.Bool.{cases_eq}
 use Rattle.std.proofs.lemmas.Bool.Decides.{nat_tests}
 use Rattle.std.proofs.lemmas.Grind.{common_steps}
@@ -7,7 +7,7 @@ use Rattle.std.proofs.lemmas.List.Sums.{sum_by-cons, count_by-le-length}
 use Rattle.std.specs.List.{list_any}
 use Rattle.std.specs.Option.{option_map, option_or, unwrap_or}
 use Rattle.std.specs.Prelude.{sum_by, count_by, nat_lt}
-use Rattle.tr_book.specs.Parts.{PartState, seq_among}
+use Rattle.tr_book.specs.Parts.{PartState, seq_among, seq_in_part}
 use Rattle.tr_book.specs.Runs.{seq_in_runs}
 use Rattle.tr_terms.specs.declared.mode.Mode.{Mode}
 use Rattle.tr_terms.specs.declared.mode.Mode.TheVariants as mode
@@ -16,9 +16,9 @@ use Rattle.tr_ring.specs.ClosedBuffer.{ClosedBuffer}
 use Rattle.tr_ring.specs.Ring.{seq_waiting, seq_of}
 use Rattle.tr_stream.proofs.ChunkLemmas.{records_where-cons, discarded_in-cons}
 use Rattle.tr_stream.proofs.GoneLemmas.{runs-have}
-use Rattle.tr_stream.specs.Chunks.{buffers_where, chunk_of, cleared_of, waiting_of, packet_of, part_of, parts_below}
+use Rattle.tr_stream.specs.Chunks.{buffers_where, chunk_of, cleared_of, waiting_of, packet_of, part_of, parts_below, closed_part}
 use Rattle.tr_stream.specs.Fates.{is_discarded_in, holder, status_fate, holder_fate, history_fate, all_parts, fate_in_parts, fate_in_runs, fate_in_ring, held_fate, loss_of, state_fate}
-use Rattle.tr_stream.specs.History.{Status, Waiting, Dropped, Kept, Cleared, Block, Closed, History, is_waiting, is_dropped, is_kept_in, is_cleared, discarded_in, records_where, discarded_of, times_in}
+use Rattle.tr_stream.specs.History.{Status, Waiting, Dropped, Kept, Cleared, Block, Closed, History, is_waiting, is_dropped, is_kept_in, is_cleared, discarded_in, records_where, discarded_of, times_in, is_released}
 use Rattle.tr_stream.specs.Kept.{IsKept}
 use Rattle.tr_stream.specs.Sound.{LosesByMode}
 use Rattle.tr_stream.specs.StandsFor.{StandsFor}
@@ -28,6 +28,7 @@ use Rattle.tr_stream.specs.declared.config.StreamConfig.{StreamConfig}
 use Rattle.tr_stream.specs.declared.fate.Fate.{Fate}
 use Rattle.tr_stream.specs.declared.fate.Fate.TheVariants.{Discarded, Overwritten, InRing, InChunk}
 use Rattle.tr_stream.specs.declared.fate.Fate.TheVariants as fate
+use Rattle.tr_stream.proofs.ReleaseForms.{if-seq, if-id, current-held}
 
 counts_any : {X : Type 0} (p : X → Bool) (xs : List X) → list_any p xs ≡ true → 0 < count_by p xs
 counts_any p [] any = cc
@@ -219,13 +220,13 @@ seq_among-packets n c (b ∷ bs) = grind (arith, common_steps, seq_among-packets
 -- one more part
 fate_in_parts-push : (n : ℕ) (parts : List PartState) (part : PartState)
     → fate_in_parts n (parts ++ part ∷ [])
-    ≡ option_or (fate_in_parts n parts) (option_map (InChunk part.id) (seq_among n part.packets))
-fate_in_parts-push n [] part = or_none (option_map (InChunk part.id) (seq_among n part.packets))
+    ≡ option_or (fate_in_parts n parts) (option_map (InChunk part.id) (seq_in_part n part))
+fate_in_parts-push n [] part = or_none (option_map (InChunk part.id) (seq_in_part n part))
   where
     or_none : (a : Option Fate) → option_or a None ≡ a
     or_none (Some fate) = refl
     or_none None = refl
-fate_in_parts-push n (p ∷ parts) part = or_before (option_map (InChunk p.id) (seq_among n p.packets)) _ _ _ (fate_in_parts-push n parts part)
+fate_in_parts-push n (p ∷ parts) part = or_before (option_map (InChunk p.id) (seq_in_part n p)) _ _ _ (fate_in_parts-push n parts part)
   where
     or_before : (a b c d : Option Fate) → b ≡ option_or c d → option_or a b ≡ option_or (option_or a c) d
     or_before (Some fate) b c d e = refl
@@ -235,9 +236,12 @@ fate_in_parts-push n (p ∷ parts) part = or_before (option_map (InChunk p.id) (
 fate_in_chunks : (n k : ℕ) (c : StreamConfig) (h : History)
     → fate_in_parts n (parts_below c (suc k) h)
     ≡ option_or (fate_in_parts n (parts_below c k h)) (option_map (InChunk k) (seq_waiting n (chunk_of k h)))
-fate_in_chunks n k c h = fate_in_parts-push n (parts_below c k h) (part_of c k (chunk_of k h))
-    ∙ ap (λ (q : Option ℕ). option_or (fate_in_parts n (parts_below c k h)) (option_map (InChunk k) q))
-    (seq_among-packets n c (chunk_of k h))
+fate_in_chunks n k c h =
+    let ps = map (packet_of c) (chunk_of k h) in
+    let found = if-seq n (is_released k h) k ps ∙ seq_among-packets n c (chunk_of k h) in
+    fate_in_parts-push n (parts_below c k h) (closed_part c k h)
+    ∙ ap₂ (λ (i : ℕ) (q : Option ℕ). option_or (fate_in_parts n (parts_below c k h)) (option_map (InChunk i) q))
+    (if-id (is_released k h) k ps) found
 
 -- a chunk that has the serial, and the fate that it gives
 abbrev InSomeChunk : ℕ → History → Fate → Type 0
@@ -370,7 +374,10 @@ loss_fate s h n mode.Overwrite e is losses below not = overwritten_fate s h n is
 
 -- the parts of a stream are the chunks up to its cuts
 pub parts-are : (s : StreamState) (h : History) → StandsFor s h → all_parts s.parts ≡ parts_below s.config (suc h.cuts) h
-parts-are s h is = let a = is.closed in let b = is.current in cc
+parts-are s h is =
+    let a = is.closed in
+    let b : s.parts.current ≡ closed_part s.config h.cuts h = is.current ∙ sym (current-held s.config h is.model) in
+    ap₂ (λ (ps : List PartState) (p : PartState). ps ++ p ∷ []) a b
 
 -- by where the record is found
 by_place : (s : StreamState) (h : History) (n : ℕ) (part : Option Fate) (gone waits : Option ℕ) (fills : Bool) → StandsFor s h
@@ -419,25 +426,25 @@ behind_parts n s = option_or (fate_in_runs n s.parts) (fate_in_ring n s.ring)
 -- what the search does
 in_all_parts : (n : ℕ) (s : StreamState)
     → held_fate n s ≡ option_or (option_or (fate_in_parts n s.parts.closed)
-    (option_map (InChunk s.parts.current.id) (seq_among n s.parts.current.packets))) (behind_parts n s)
+    (option_map (InChunk s.parts.current.id) (seq_in_part n s.parts.current))) (behind_parts n s)
 in_all_parts n s = ap (λ (f : Option Fate). option_or f (behind_parts n s)) (fate_in_parts-push n s.parts.closed s.parts.current)
 
 pub held-closed : (n : ℕ) (s : StreamState) (fate : Fate) → fate_in_parts n s.parts.closed ≡ Some fate → Some fate ≡ held_fate n s
 held-closed n s fate there =
     sym (in_all_parts n s ∙ ap (λ (f : Option Fate). option_or
-    (option_or f (option_map (InChunk s.parts.current.id) (seq_among n s.parts.current.packets))) (behind_parts n s))
+    (option_or f (option_map (InChunk s.parts.current.id) (seq_in_part n s.parts.current))) (behind_parts n s))
     there)
 
 pub held-current : (n : ℕ) (s : StreamState) (k q : ℕ) → fate_in_parts n s.parts.closed ≡ None
-    → seq_among n s.parts.current.packets ≡ Some q → k ≡ s.parts.current.id → Some (InChunk k q) ≡ held_fate n s
+    → seq_in_part n s.parts.current ≡ Some q → k ≡ s.parts.current.id → Some (InChunk k q) ≡ held_fate n s
 held-current n s k q none there at = sym (in_all_parts n s ∙ (let a = none in let b = there in let c = at in cc))
 
 pub held-gone : (n : ℕ) (s : StreamState) (q : ℕ) → fate_in_parts n s.parts.closed ≡ None
-    → seq_among n s.parts.current.packets ≡ None → seq_in_runs n s.parts.cleared ≡ Some q → Some (fate.Cleared q) ≡ held_fate n s
+    → seq_in_part n s.parts.current ≡ None → seq_in_runs n s.parts.cleared ≡ Some q → Some (fate.Cleared q) ≡ held_fate n s
 held-gone n s q none not there = sym (in_all_parts n s ∙ (let a = none in let b = not in let c = there in cc))
 
 pub held-ring : (n : ℕ) (s : StreamState) (q : Option ℕ) → fate_in_parts n s.parts.closed ≡ None
-    → seq_among n s.parts.current.packets ≡ None → seq_in_runs n s.parts.cleared ≡ None → seq_of n s.ring ≡ q
+    → seq_in_part n s.parts.current ≡ None → seq_in_runs n s.parts.cleared ≡ None → seq_of n s.ring ≡ q
     → option_map InRing q ≡ held_fate n s
 held-ring n s q none not gone there = sym (in_all_parts n s ∙ (let a = none in let b = not in let d = gone in let c = there in cc))
 

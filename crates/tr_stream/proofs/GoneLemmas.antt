@@ -1,16 +1,19 @@
 -- Which serials are in runs, and how many.
-use Rattle.std.proofs.Common.{◌≡◌, ℕ, ◌+◌, ◌-◌, Bool, true, false, cond, eqb, leb, ltb, List, [], ◌∷◌, ◌++◌, length, Option, Some, refl, sym, ◌∙◌, ap, arith}
+use Rattle.std.proofs.Common.{◌≡◌, ℕ, ◌+◌, ◌-◌, Bool, true, false, cond, eqb, leb, ltb, List, [], ◌∷◌, ◌++◌, length, map, Option, Some, refl, sym, ◌∙◌, ap, arith}
 use Rattle.std.proofs.lemmas.Bool.Decides.{nat_tests}
 use Rattle.std.proofs.lemmas.Grind.{common_steps}
 use Rattle.std.proofs.lemmas.List.Sums.{sum_by-append, sum_by-cons}
 use Rattle.std.specs.Prelude.{◌&&◌, ◌||◌, sum_by}
-use Rattle.tr_book.specs.Runs.{run_of, runs_of, runs_on, seq_in_runs}
+use Rattle.tr_book.specs.Parts.{seq_among}
+use Rattle.tr_book.specs.Runs.{packet_runs, run_of, runs_of, runs_on, seq_in_runs}
 use Rattle.tr_book.specs.declared.runs.Run.{Run}
+use Rattle.tr_packet.specs.Packets.{Contents}
 use Rattle.tr_record.specs.Records.{Entry, has_serial}
 use Rattle.tr_ring.specs.ClosedBuffer.{ClosedBuffer}
 use Rattle.tr_ring.specs.Ring.{seq_waiting}
-use Rattle.tr_stream.specs.Chunks.{buffer_runs}
+use Rattle.tr_stream.specs.Chunks.{buffer_runs, packet_of}
 use Rattle.tr_stream.specs.State.{records_in}
+use Rattle.tr_stream.specs.declared.config.StreamConfig.{StreamConfig}
 
 abbrev is_in : ℕ → ℕ → ℕ → Bool
 is_in n first count = leb first n && ltb (n - first) count
@@ -90,6 +93,24 @@ runs-have n (b ∷ bs) =
         → cond (has_serial n b.records) (Some b.seq) (seq_waiting n bs) ≡ seq_waiting n (b ∷ bs)
     first_of true e = rw e refl
     first_of false e = rw e refl
+
+-- and so do the runs of packets
+pub packets-have : (n : ℕ) (ps : List Contents) → seq_in_runs n (packet_runs ps) ≡ seq_among n ps
+packets-have n [] = refl
+packets-have n (p ∷ ps) =
+    of-has n p.head.seq p.records (packet_runs ps)
+    ∙ ap (λ (q : Option ℕ). cond (has_serial n p.records) (Some p.head.seq) q) (packets-have n ps)
+    ∙ first_of (has_serial n p.records) refl
+  where
+    first_of : (h : Bool) → has_serial n p.records ≡ h
+        → cond (has_serial n p.records) (Some p.head.seq) (seq_among n ps) ≡ seq_among n (p ∷ ps)
+    first_of true e = rw e refl
+    first_of false e = rw e refl
+
+-- packets have the runs of their sub-buffers
+pub packet_runs-are : (c : StreamConfig) (bs : List ClosedBuffer) → packet_runs (map (packet_of c) bs) ≡ buffer_runs bs
+packet_runs-are c [] = refl
+packet_runs-are c (b ∷ bs) = ap (λ (rs : List Run). runs_of b.seq b.records ++ rs) (packet_runs-are c bs)
 
 -- runs have as many records as their sub-buffers had
 on-count : (seq first count : ℕ) (es : List Entry) → sum_by (λ (r : Run). r.count) (runs_on seq first count es) ≡ count + length es

@@ -152,6 +152,7 @@ kept-new c config size count = record {
     packets = tt;
     filling = open-none 0 0;
     unconsumed = λ e. refl;
+    current_held = refl;
     closed_sent = tt;
     current_sent = tt;
   };

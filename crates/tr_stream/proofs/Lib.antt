@@ -16,6 +16,8 @@ pub mod OpenLemmas
 pub mod PartLemmas
 pub mod PieceLemmas
 pub mod Refinement
+pub mod ReleaseForms
+pub mod ReleaseLemmas
 pub mod RuleLemmas
 pub mod RunLemmas
 pub mod SessionLemmas

@@ -21,7 +21,8 @@ use Rattle.tr_stream.specs.Steps.{new_history}
 use Rattle.tr_stream.specs.WellFormed.{IsWellFormed, NumberedFrom, AllWait, WaitLast}
 use Rattle.tr_stream.specs.declared.config.StreamConfig.{StreamConfig}
 use Rattle.tr_stream.specs.declared.events.StreamEvent.{StreamEvent}
-use Rattle.tr_stream.specs.declared.events.StreamEvent.TheVariants.{Offer, Take, Cut, Clear, Peek, Start, Stop}
+use Rattle.tr_stream.specs.declared.events.StreamEvent.TheVariants.{Offer, Take, Cut, Clear, Peek, Start, Stop, Release}
+use Rattle.tr_stream.proofs.ReleaseLemmas.{releases}
 
 -- what a stream that stands for a history would hold
 abbrev held_by : StreamConfig → History → StreamState
@@ -112,6 +113,7 @@ module _ {A : Type 0} where
   well_event c Take h usable well = (takes (held_by c h) h (stands c h well)).1.model
   well_event c (Cut moment) h usable well = (cuts (held_by c h) h moment (stands c h well)).1.model
   well_event c Clear h usable well = (clears (held_by c h) h (stands c h well)).1.model
+  well_event c (Release k) h usable well = (releases (held_by c h) h k (stands c h well)).1.model
   well_event c (Peek moment) h usable well = well
   well_event c Start h usable well = (stands-switched (held_by c h) h true (stands c h well)).model
   well_event c Stop h usable well = (stands-switched (held_by c h) h false (stands c h well)).model

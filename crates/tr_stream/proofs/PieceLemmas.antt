@@ -1,23 +1,25 @@
 -- What is held and what was cleared, put together again.
-use Rattle.std.proofs.Common.{◌≡◌, ◌≢◌, ℕ, ◌+◌, zero, suc, Bool, true, false, cond, eqb, List, [], ◌∷◌, ◌++◌, length, map, refl, sym, ◌∙◌, ap, subst, append_assoc, arith}
+use Rattle.std.proofs.Common.{◌≡◌, ◌≢◌, ℕ, ◌+◌, zero, suc, Bool, true, false, cond, eqb, List, [], ◌∷◌, ◌++◌, length, map, refl, sym, ◌∙◌, ap, subst, append_assoc, arith, None, Option}
 use Rattle.std.proofs.lemmas.Grind.{common_steps}
-use Rattle.std.proofs.lemmas.List.{append-nil}
+use Rattle.std.proofs.lemmas.List.{append-nil, length-map}
 use Rattle.std.specs.List.{AllByRecursion, flat_map}
-use Rattle.tr_book.specs.Parts.{PartState}
+use Rattle.tr_book.specs.Parts.{PartState, Rest}
 use Rattle.tr_book.specs.Runs.{run_of, runs_of, runs_on}
 use Rattle.tr_book.specs.declared.runs.Run.{Run}
 use Rattle.tr_record.specs.Records.{Entry}
 use Rattle.tr_ring.specs.ClosedBuffer.{ClosedBuffer}
 use Rattle.tr_stream.proofs.ChunkLemmas.{none_wait}
 use Rattle.tr_stream.proofs.FateLemmas.{parts-are}
-use Rattle.tr_stream.specs.Chunks.{buffer_runs, closed_if_any, closed_part, buffer_of, buffers_where, waiting_of, chunk_of, kept_of, packet_of, parts_below, ring_buffers}
-use Rattle.tr_stream.specs.Consistent.{HasRecord, IsConsistent, IsLeftOf, PartsLeft, Piece, buffers_of, held_among, cleared_among, buffer_in}
+use Rattle.tr_stream.specs.Chunks.{buffer_runs, closed_if_any, closed_part, buffer_of, buffers_where, waiting_of, chunk_of, kept_of, packet_of, parts_below, ring_buffers, part_if}
+use Rattle.tr_stream.specs.Consistent.{HasRecord, IsConsistent, IsLeftOf, PartsLeft, Piece, buffers_of, held_among, cleared_among, buffer_in, AreLeftOf}
 use Rattle.tr_stream.specs.Fates.{all_parts}
-use Rattle.tr_stream.specs.History.{Status, Waiting, Dropped, Kept, Cleared, Closed, History, is_waiting, is_kept, is_cleared, discarded_of}
+use Rattle.tr_stream.specs.History.{Status, Waiting, Dropped, Kept, Cleared, Closed, History, is_waiting, is_kept, is_cleared, discarded_of, is_released}
 use Rattle.tr_stream.specs.StandsFor.{StandsFor}
 use Rattle.tr_stream.specs.State.{StreamState}
 use Rattle.tr_stream.specs.WellFormed.{AllUsed, WaitLast, chunks_below}
 use Rattle.tr_stream.specs.declared.config.StreamConfig.{StreamConfig}
+use Rattle.tr_stream.proofs.GoneLemmas.{packet_runs-are}
+use Rattle.tr_stream.proofs.SoundLemmas.{records_of-packets}
 
 -- a block that is held, or was cleared
 abbrev pub is_undropped : Status → Bool
@@ -66,11 +68,17 @@ left-push (q ∷ qs) p bs own left is = (
   left-push qs p left.1 own left.4 is,
 )
 
+-- a part is what is left of its chunk, released or not
+if-left : (c : StreamConfig) (k : ℕ) (bs : List ClosedBuffer) (b : Bool) → IsLeftOf (part_if b k (map (packet_of c) bs)) bs
+if-left c k bs false = buffer_in-packets c bs
+if-left c k bs true =
+    record { runs = packet_runs-are c bs; packets = length-map bs (packet_of c); records = records_of-packets c bs }
+
 -- the parts of the chunks below a number are what is left of these chunks
 left-below : (c : StreamConfig) (k : ℕ) (h : History) → PartsLeft (parts_below c k h) (chunks_below k h)
 left-below c zero h = refl
 left-below c (suc k) h = left-push (parts_below c k h) (closed_part c k h) (chunks_below k h) (chunk_of k h) (left-below c k h)
-    (buffer_in-packets c (chunk_of k h))
+    (if-left c k (chunk_of k h) (is_released k h))
 
 -- the parts are what is left of all that is kept
 pub parts-left : (s : StreamState) (h : History) → StandsFor s h → PartsLeft (all_parts s.parts) (kept_of h)
@@ -96,9 +104,17 @@ held-is s h is =
 abbrev pub buffers_in : List PartState → List ClosedBuffer
 buffers_in parts = flat_map (λ (p : PartState). map buffer_in p.packets) parts
 
-left-is : (ps : List PartState) (bs : List ClosedBuffer) → PartsLeft ps bs → bs ≡ buffers_in ps
-left-is [] bs left = left
-left-is (p ∷ ps) bs left = let here = left.2 in let own = left.3 in let more = left-is ps left.1 left.4 in cc
+-- parts that were not released
+abbrev pub AreHeld : List PartState → Type 0
+AreHeld parts = AllByRecursion (λ (p : PartState). p.released ≡ None) parts
+
+left-is : (ps : List PartState) (bs : List ClosedBuffer) → AreHeld ps → PartsLeft ps bs → bs ≡ buffers_in ps
+left-is [] bs held left = left
+left-is (p ∷ ps) bs held left =
+    let here = left.2 in
+    let own : map buffer_in p.packets ≡ left.0 = subst (λ (rest : Option Rest). AreLeftOf p.packets rest left.0) held.0 left.3 in
+    let more = left-is ps left.1 held.1 left.4 in
+    cc
 
 -- all that is held: the packets of the parts in order, and then the ring
 abbrev pub held_buffers : StreamState → List ClosedBuffer
@@ -201,7 +217,8 @@ all-held (p ∷ ps) used none = either p.cleared refl (all-held ps used.1)
         subst (λ (b : Bool). buffers_of (p ∷ ps) ≡ cond b (held_among ps) (p.buffer ∷ held_among ps)) (sym e)
         (ap (λ (bs : List ClosedBuffer). p.buffer ∷ bs) (rest there))
 
-pub none-cleared : (s : StreamState) (is : IsConsistent s) → s.parts.cleared ≡ [] → buffers_of is.pieces ≡ held_buffers s
-none-cleared s is none =
+pub none-cleared : (s : StreamState) (is : IsConsistent s) → AreHeld (all_parts s.parts) → s.parts.cleared ≡ []
+    → buffers_of is.pieces ≡ held_buffers s
+none-cleared s is held none =
     all-held is.pieces is.are.used (is.are.cleared ∙ none) ∙ is.are.held
-    ∙ ap (λ (bs : List ClosedBuffer). bs ++ ring_buffers s.counters.last s.ring) (left-is (all_parts s.parts) is.are.kept is.are.left)
+    ∙ ap (λ (bs : List ClosedBuffer). bs ++ ring_buffers s.counters.last s.ring) (left-is (all_parts s.parts) is.are.kept held is.are.left)

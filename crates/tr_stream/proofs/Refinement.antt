@@ -1,5 +1,5 @@
 -- Each inner step of a stream is a step of the history.
-use Rattle.std.proofs.Common.{◌≡◌, ◌≢◌, ℕ, ◌+◌, ◌<◌, zero, suc, Bool, true, false, cond, eqb, List, [], ◌∷◌, ◌++◌, length, map, take, refl, sym, ◌∙◌, ap, subst, append_assoc, arith}
+use Rattle.std.proofs.Common.{◌≡◌, ◌≢◌, ℕ, ◌+◌, ◌<◌, zero, suc, Bool, true, false, cond, eqb, List, [], ◌∷◌, ◌++◌, length, map, take, refl, sym, ◌∙◌, ap, subst, append_assoc, arith, ap₂}
 use Rattle.std.proofs.lemmas.Bool.Decides.{nat_tests}
 use Rattle.std.proofs.lemmas.Grind.{common_steps}
 use Rattle.std.proofs.lemmas.List.{append-nil}
@@ -11,14 +11,15 @@ use Rattle.tr_ring.specs.Ring.{join_current, follow_current, discard_newest, dro
 use Rattle.tr_ring.specs.ClosedBuffer.{ClosedBuffer}
 use Rattle.tr_stream.proofs.ChunkLemmas.{buffers_where-push, waiting-settle_first, other-settle_first, new-settle_first, records_where-push, blocks_where-push, records-settle_first, other_records-settle_first, blocks-settle_first, other_blocks-settle_first, sum-settle_first}
 use Rattle.tr_stream.proofs.FormLemmas.{NumberedFrom-push, NumberedFrom-settle_first, length-settle_first, WaitLast-push, WaitLast-settle_first, AllWithinCuts-push, AllWithinCuts-settle_first, RecentLast-push, RecentLast-settle_first, serials_more, serials_same, AllUsed-push, AllUsed-settle_first, LastHeld-settle_first, nil-push, Covers-join, Covers-discard, Covers-one, CoversFrom-push, CoversFrom-settle_first, offers_before-push}
-use Rattle.tr_stream.specs.Chunks.{chunk_of, waiting_of, kept_of, cleared_of, buffer_runs, packet_of, part_of, parts_below}
-use Rattle.tr_stream.specs.History.{Status, Waiting, Dropped, Kept, Block, Closed, History, is_waiting, is_dropped, is_kept, is_kept_in, is_cleared, is_consumed, is_withdrawn, offers_in, offers_before, offered_of, times_in, times}
+use Rattle.tr_stream.specs.Chunks.{chunk_of, waiting_of, kept_of, cleared_of, buffer_runs, packet_of, part_of, parts_below, closed_part, part_if}
+use Rattle.tr_stream.specs.History.{Status, Waiting, Dropped, Kept, Block, Closed, History, is_waiting, is_dropped, is_kept, is_kept_in, is_cleared, is_consumed, is_withdrawn, offers_in, offers_before, offered_of, times_in, times, is_released}
 use Rattle.tr_stream.specs.StandsFor.{StandsFor}
 use Rattle.tr_stream.specs.State.{StreamState, records_in}
 use Rattle.tr_stream.specs.StateSteps.{state_after_switch}
 use Rattle.tr_stream.specs.Steps.{follow_filling, settle_first, after_course, Join, DiscardNewest, history_after_switch}
 use Rattle.tr_stream.specs.WellFormed.{IsWellFormed, IsWithin, IsRecent, Covers, LastHeld, chunks_below}
 use Rattle.tr_stream.specs.declared.config.StreamConfig.{StreamConfig}
+use Rattle.std.specs.List.{list_any}
 
 -- a record is in the ring, and counted
 abbrev pub with_joined : Entry → StreamState → StreamState
@@ -49,11 +50,14 @@ chunks_below-same (suc k) h g same =
     cc
 
 pub parts_below-same : (c : StreamConfig) (k : ℕ) (h g : History) → ((j : ℕ) → j < k → chunk_of j g ≡ chunk_of j h)
-    → parts_below c k g ≡ parts_below c k h
-parts_below-same c zero h g same = refl
-parts_below-same c (suc k) h g same =
-    let e = parts_below-same c k h g (λ j l. same j (omega arith)) in
+    → g.released ≡ h.released → parts_below c k g ≡ parts_below c k h
+parts_below-same c zero h g same released = refl
+parts_below-same c (suc k) h g same released =
+    let e = parts_below-same c k h g (λ j l. same j (omega arith)) released in
     let f : chunk_of k g ≡ chunk_of k h = same k (omega arith) in
+    let r : is_released k g ≡ is_released k h = ap (list_any (λ (j : ℕ). eqb j k)) released in
+    let m : closed_part c k g ≡ closed_part c k h =
+    ap₂ (λ (b : Bool) (bs : List ClosedBuffer). part_if b k (map (packet_of c) bs)) r f in
     cc
 
 times-joined : (n : ℕ) (h : History) (e : Entry) → times n (after_course Join e h) ≡ times n h + cond (eqb e.serial n) 1 0
@@ -85,11 +89,12 @@ stands-joined s h e next is = record {
     covers = is.model.covers;
     covers_filling = Covers-join (offers_before h.closed) h.filling e next is.model.covers_filling;
     chunks = chunks_same h (after_course Join e h) (λ j. refl) refl is.model.chunks;
+    released = is.model.released;
     serials =
         λ n. serials_more n e.serial (offered_of h) (offered_of (after_course Join e h)) (times n h)
         (times n (after_course Join e h)) next (grind (arith, common_steps)) (is.model.serials n) (times-joined n h e);
   };
-  closed = is.closed ∙ parts_below-same s.config h.cuts (after_course Join e h) h (λ j l. refl);
+  closed = is.closed ∙ parts_below-same s.config h.cuts (after_course Join e h) h (λ j l. refl) refl;
   current = is.current;
   runs = is.runs;
   waiting = is.waiting;
@@ -121,12 +126,13 @@ stands-discarded s h e used next is = record {
     covers_filling =
         Covers-discard (offers_before h.closed) h.filling e.serial (λ none. used (is.filling ∙ none)) is.model.covers_filling;
     chunks = chunks_same h (after_course DiscardNewest e h) (λ j. refl) refl is.model.chunks;
+    released = is.model.released;
     serials =
         λ n. serials_more n e.serial (offered_of h) (offered_of (after_course DiscardNewest e h)) (times n h)
         (times n (after_course DiscardNewest e h)) next (grind (arith, common_steps)) (is.model.serials n)
         (times-discarded n h e);
   };
-  closed = is.closed ∙ parts_below-same s.config h.cuts (after_course DiscardNewest e h) h (λ j l. refl);
+  closed = is.closed ∙ parts_below-same s.config h.cuts (after_course DiscardNewest e h) h (λ j l. refl) refl;
   current = is.current;
   runs = is.runs;
   waiting = is.waiting;
@@ -171,11 +177,12 @@ stands-followed s h e used next is =
             (next ∙ sym (offers_before-push h.closed (closed_now e h)));
         chunks = chunks_same h (follow_filling e h) (λ j. chunk_of-followed_by j e h)
             (buffers_where-push is_kept 0 h.closed (closed_now e h) ∙ append-nil (kept_of h)) is.model.chunks;
+        released = is.model.released;
         serials = λ n. serials_more n e.serial (offered_of h) (offered_of (follow_filling e h)) (times n h)
             (times n (follow_filling e h)) next (grind (arith, common_steps, offers)) (is.model.serials n)
             (omega (arith, sum_by_push (λ (c : Closed). times_in n c.block) h.closed (closed_now e h)));
       };
-      closed = is.closed ∙ sym (parts_below-same s.config h.cuts h (follow_filling e h) (λ j l. chunk_of-followed_by j e h));
+      closed = is.closed ∙ sym (parts_below-same s.config h.cuts h (follow_filling e h) (λ j l. chunk_of-followed_by j e h) refl);
       current = is.current ∙ ap (part_of s.config h.cuts) (sym (chunk_of-followed_by h.cuts e h));
       runs = is.runs ∙ ap buffer_runs (sym (buffers_where-push is_cleared 0 h.closed (closed_now e h) ∙ append-nil (cleared_of h)));
       waiting = grind (
@@ -219,6 +226,7 @@ settled_well status h room stops within recent chunks is = record {
   covers = CoversFrom-settle_first 0 status h.closed is.covers;
   covers_filling = subst (λ (n : ℕ). Covers n h.filling) (sym (sum-settle_first offers_in status h.closed)) is.covers_filling;
   chunks = chunks;
+  released = is.released;
   serials = λ n. serials_same n (offered_of h) (offered_of (settled status h)) (times n h) (times n (settled status h))
       (omega (arith, sum-settle_first offers_in status h.closed)) (is.serials n)
       (omega (arith, sum-settle_first (times_in n) status h.closed));
@@ -260,7 +268,7 @@ stands-moved s h b bs oldest is =
           cc)
           is.model;
       closed = is.closed ∙ sym (parts_below-same s.config h.cuts h g
-          (λ j l. other-settle_first (is_kept_in j) (Kept h.cuts) 0 h.closed (kept_in j h.cuts l) refl));
+          (λ j l. other-settle_first (is_kept_in j) (Kept h.cuts) 0 h.closed (kept_in j h.cuts l) refl) refl);
       current =
           let p : map (packet_of s.config) (chunk_of h.cuts g) ≡ map (packet_of s.config) (chunk_of h.cuts h) ++ packet_of s.config b ∷ [] =
           ap (map (packet_of s.config)) (grown ∙ ap (λ (ws : List ClosedBuffer). chunk_of h.cuts h ++ take 1 ws) waiting)
@@ -296,7 +304,7 @@ stands-without_oldest s h used is some =
       model = settled_well Dropped h (λ none. absurd (used (is.filling ∙ none))) refl tt tt
           (chunks_same h g (λ j. other-settle_first (is_kept_in j) Dropped 0 h.closed refl refl)
           (other-settle_first is_kept Dropped 0 h.closed refl refl) is.model.chunks) is.model;
-      closed = is.closed ∙ sym (parts_below-same s.config h.cuts h g (λ j l. other-settle_first (is_kept_in j) Dropped 0 h.closed refl refl));
+      closed = is.closed ∙ sym (parts_below-same s.config h.cuts h g (λ j l. other-settle_first (is_kept_in j) Dropped 0 h.closed refl refl) refl);
       current = is.current ∙ ap (part_of s.config h.cuts) (sym (other-settle_first (is_kept_in h.cuts) Dropped 0 h.closed refl refl));
       runs = is.runs ∙ ap buffer_runs (sym (other-settle_first is_cleared Dropped 0 h.closed refl refl));
       waiting = grind (arith, is.waiting, waiting-settle_first Dropped 0 h.closed refl);
@@ -334,9 +342,10 @@ stands-switched s h active is = record {
     covers = is.model.covers;
     covers_filling = is.model.covers_filling;
     chunks = chunks_same h (history_after_switch active h) (λ j. refl) refl is.model.chunks;
+    released = is.model.released;
     serials = is.model.serials;
   };
-  closed = is.closed ∙ parts_below-same s.config h.cuts (history_after_switch active h) h (λ j l. refl);
+  closed = is.closed ∙ parts_below-same s.config h.cuts (history_after_switch active h) h (λ j l. refl) refl;
   current = is.current;
   runs = is.runs;
   waiting = is.waiting;

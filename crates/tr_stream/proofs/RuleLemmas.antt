@@ -19,8 +19,8 @@ use Rattle.tr_stream.specs.Rules.{Traced, Agrees, by_state, by_history}
 use Rattle.tr_stream.specs.Sound.{IsMade, LosesByMode}
 use Rattle.tr_stream.specs.StandsFor.{StandsFor}
 use Rattle.tr_stream.specs.State.{StreamState}
-use Rattle.tr_stream.specs.StateSteps.{state_entry, refusal_of, state_unless, state_after_offer, move_oldest, state_cut_ring, state_clear_ring, overwrites, state_with_offer}
-use Rattle.tr_stream.specs.Steps.{history_after_offer, keep_oldest, history_after_take, history_cut_ring, history_after_cut, history_clear_ring, history_after_clear}
+use Rattle.tr_stream.specs.StateSteps.{state_entry, refusal_of, state_unless, state_after_offer, move_oldest, state_cut_ring, state_clear_ring, overwrites, state_with_offer, state_release_refusal, release_part_unless}
+use Rattle.tr_stream.specs.Steps.{history_after_offer, keep_oldest, history_after_take, history_cut_ring, history_after_cut, history_clear_ring, history_after_clear, history_after_release}
 use Rattle.tr_stream.specs.declared.answers.OfferFault.{OfferFault}
 use Rattle.tr_terms.specs.declared.session_mode.SessionMode.{SessionMode}
 use Rattle.tr_terms.specs.declared.session_mode.SessionMode.TheVariants.{Local, Snapshot}
@@ -28,6 +28,9 @@ use Rattle.tr_stream.specs.declared.config.StreamConfig.{StreamConfig}
 use Rattle.tr_subbuf.specs.SubBuffer.{has_room}
 use Rattle.tr_terms.specs.SessionModes.{by_session_mode}
 use Rattle.tr_terms.specs.declared.limits.TheConstants.{SMALLEST_SUB_BUFFER}
+use Rattle.tr_stream.proofs.ReleaseLemmas.{releases}
+use Rattle.tr_stream.specs.declared.answers.ReleaseFault.{ReleaseFault}
+use Rattle.tr_stream.specs.History.{History}
 
 -- a push leaves the ring as it was made
 chosen : {X : Type 0} (f : RingState → X) (x : X) (room free over : Bool) (a b c d : RingState) → f a ≡ x → f b ≡ x
@@ -185,6 +188,25 @@ agree-clear_ring Local s t is = record {
 pub agree-cleared : (s : StreamState) (t : Traced) → Agrees s t → Agrees (by_state.after_clear s) (by_history.after_clear t)
 agree-cleared s t is = subst (λ (c : StreamConfig). Agrees (by_state.after_clear s)
     (record t { history = history_after_clear c t.history })) is.config (agree-clear_ring s.config.session s t is)
+
+-- a release
+pub same-released : (s : StreamState) (t : Traced) (k : ℕ) → Agrees s t → by_state.release_answer k s ≡ by_history.release_answer k t
+same-released s t k is = rw (← is.config) ((releases s t.history k is.stands).0)
+
+agree-part : (refusal : Option ReleaseFault) (s : StreamState) (t : Traced) (k : ℕ) (g : History) → Agrees s t
+    → StandsFor (release_part_unless refusal k s) g → Agrees (release_part_unless refusal k s) (record t { history = g })
+agree-part (Some fault) s t k g is stands =
+    record { config = is.config; made = is.made; losses = is.losses; stands = stands }
+agree-part None s t k g is stands = record {
+  config = is.config;
+  made = record { size = is.made.size; count = is.made.count; mode = is.made.mode; size_low = is.made.size_low; count_low = is.made.count_low };
+  losses = record { discarding = is.losses.discarding; overwriting = is.losses.overwriting };
+  stands = stands;
+}
+
+pub agree-released : (s : StreamState) (t : Traced) (k : ℕ) → Agrees s t → Agrees (by_state.after_release k s) (by_history.after_release k t)
+agree-released s t k is =
+    agree-part (state_release_refusal k s) s t k (history_after_release k t.history) is (releases s t.history k is.stands).1
 
 -- a peek
 pub same-snapped : (s : StreamState) (t : Traced) (moment : ℕ) → Agrees s t → by_state.snap moment s ≡ by_history.snap moment t

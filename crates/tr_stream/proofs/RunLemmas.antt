@@ -16,6 +16,8 @@ use Rattle.tr_stream.specs.declared.config.StreamConfig.{StreamConfig}
 use Rattle.tr_stream.specs.declared.events.StreamAnswer.{StreamAnswer}
 use Rattle.tr_stream.specs.declared.events.StreamAnswer.TheVariants as answer
 use Rattle.tr_stream.specs.declared.events.StreamEvent.{StreamEvent}
+use Rattle.tr_stream.specs.declared.answers.Released.{Released}
+use Rattle.tr_stream.specs.declared.answers.ReleaseFault.{ReleaseFault}
 
 -- the session lets one cut through as it does another
 pub cut-let : (session : SessionMode) (a b : CutDone) (fault : CutFault)
@@ -27,6 +29,9 @@ cut-let Snapshot a b fault is = is
 module _ {A : Type 0} where
   pub clear-answered : (a b : Result Cleared ClearFault) → a ≡ b → (let r : StreamAnswer A = answer.Clear a in r) ≡ answer.Clear b
   clear-answered a b e = ap (λ (x : Result Cleared ClearFault). (let r : StreamAnswer A = answer.Clear x in r)) e
+
+  pub release-answered : (a b : Result Released ReleaseFault) → a ≡ b → (let r : StreamAnswer A = answer.Release a in r) ≡ answer.Release b
+  release-answered a b e = ap (λ (x : Result Released ReleaseFault). (let r : StreamAnswer A = answer.Release x in r)) e
 
   pub cut-answered : (a b : Result CutDone CutFault) → a ≡ b → (let r : StreamAnswer A = answer.Cut a in r) ≡ answer.Cut b
   cut-answered a b e = ap (λ (x : Result CutDone CutFault). (let r : StreamAnswer A = answer.Cut x in r)) e

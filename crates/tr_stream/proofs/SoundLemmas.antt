@@ -5,7 +5,7 @@ use Rattle.std.proofs.lemmas.Grind.{common_steps}
 use Rattle.std.proofs.lemmas.List.Sums.{sum_by_push, sum_by-cons, sum_by-append}
 use Rattle.tr_terms.specs.declared.mode.Mode.{Mode}
 use Rattle.tr_terms.specs.declared.mode.Mode.TheVariants.{Discard, Overwrite}
-use Rattle.tr_book.specs.Parts.{PartState, records_of}
+use Rattle.tr_book.specs.Parts.{PartState, records_of, part_records}
 use Rattle.tr_packet.specs.Packets.{Contents, IsPacket}
 use Rattle.tr_record.proofs.RecordLemmas.{all_append, all_push}
 use Rattle.tr_record.specs.Records.{Entry, Fits}
@@ -26,6 +26,7 @@ use Rattle.tr_stream.specs.StateSteps.{state_after_switch, state_cut_ring, state
 use Rattle.tr_terms.specs.declared.session_mode.SessionMode.TheVariants.{Local}
 use Rattle.tr_stream.specs.declared.config.StreamConfig.{StreamConfig}
 use Rattle.tr_terms.specs.declared.limits.TheConstants.{LAST_MOMENT, SMALLEST_PACKET}
+use Rattle.tr_stream.proofs.ReleaseForms.{held-records}
 
 are-push : (c : StreamConfig) (bs : List ClosedBuffer) (b : ClosedBuffer) → ArePackets c bs → IsPacket (packet_of c b) → ArePackets c (bs ++ b ∷ [])
 are-push c [] b old new = (new, tt)
@@ -84,6 +85,7 @@ sound-joined s e is next room = record {
   filling = open-joined s.counters.offered s.counters.last s.ring.current e next.fits next.serial next.moment
       (omega (arith, room, is.config.size_high)) is.filling;
   unconsumed = is.unconsumed;
+  current_held = is.current_held;
   closed_sent = is.closed_sent;
   current_sent = is.current_sent;
 }
@@ -116,6 +118,7 @@ sound-discarded s moment is left le in_time mode = record {
   packets = is.packets;
   filling = open-discarded s.counters.offered s.counters.last moment s.ring.current le in_time is.filling;
   unconsumed = is.unconsumed;
+  current_held = is.current_held;
   closed_sent = is.closed_sent;
   current_sent = is.current_sent;
 }
@@ -148,6 +151,7 @@ sound-followed s e is next used small room = record {
       (closing-is_packet s e.moment is used next.moment next.fits.moment);
   filling = open-one s.counters.offered e next.fits next.serial (grind (arith, common_steps, small, is.config.size_high));
   unconsumed = is.unconsumed;
+  current_held = is.current_held;
   closed_sent = is.closed_sent;
   current_sent = is.current_sent;
 }
@@ -174,6 +178,7 @@ sound-without_oldest s is some mode = record {
   packets = are-drop s.config s.ring.waiting is.packets;
   filling = is.filling;
   unconsumed = is.unconsumed;
+  current_held = is.current_held;
   closed_sent = is.closed_sent;
   current_sent = is.current_sent;
 }
@@ -191,10 +196,8 @@ sound-moved s b bs oldest local is = record {
   made = record { size = is.made.size; count = is.made.count; mode = is.made.mode; size_low = is.made.size_low; count_low = is.made.count_low };
   few = is.few;
   in_time = is.in_time;
-  total =
-      let more = sum_by_push (λ (p : Contents). length p.records) s.parts.current.packets (packet_of s.config b) in
-      grind (arith, is.total, one b bs s.ring.waiting oldest, more);
-  consumed = omega (arith, is.consumed, sum_by_push (λ (p : Contents). length p.records) s.parts.current.packets (packet_of s.config b));
+  total = omega (arith, is.total, one b bs s.ring.waiting oldest, grown);
+  consumed = omega (arith, is.consumed, grown);
   withdrawn = is.withdrawn;
   numbers = is.numbers;
   dropped = grind (arith, common_steps, is.dropped, length-drop 1 s.ring.waiting);
@@ -205,10 +208,21 @@ sound-moved s b bs oldest local is = record {
   packets = are-drop s.config s.ring.waiting is.packets;
   filling = is.filling;
   unconsumed = λ e. absurd (not-both s.config.session local e);
+  current_held = is.current_held;
   closed_sent = is.closed_sent;
   current_sent = all_push IsPacket s.parts.current.packets (packet_of s.config b) is.current_sent
       (first-packet s.config b bs (subst (λ (ws : List ClosedBuffer). ArePackets s.config ws) oldest is.packets));
 }
+  where
+    -- the current part has the packet's records more
+    grown : part_records (with_moved b s).parts.current ≡ part_records s.parts.current + length b.records
+    grown =
+        omega (
+          arith,
+          held-records s.parts.current is.current_held,
+          held-records (with_moved b s).parts.current is.current_held,
+          sum_by_push (λ (p : Contents). length p.records) s.parts.current.packets (packet_of s.config b),
+        )
 
 pub sound-switched : (s : StreamState) (active : Bool) → IsSound s → IsSound (state_after_switch active s)
 sound-switched s active is =
@@ -229,6 +243,7 @@ sound-switched s active is =
       packets = is.packets;
       filling = is.filling;
       unconsumed = is.unconsumed;
+      current_held = is.current_held;
       closed_sent = is.closed_sent;
       current_sent = is.current_sent;
     }
@@ -298,6 +313,7 @@ sound-cut s end local is later in_time = record {
   packets = tt;
   filling = open-none s.counters.offered end;
   unconsumed = λ e. absurd (not-both s.config.session local e);
+  current_held = refl;
   closed_sent = all_push CanBeSent s.parts.closed (record s.parts.current
       { packets = s.parts.current.packets ++ map (packet_of s.config) (ring_buffers end s.ring) }) is.closed_sent
       (all_append IsPacket s.parts.current.packets (map (packet_of s.config) (ring_buffers end s.ring)) is.current_sent
@@ -310,9 +326,9 @@ sound-cut s end local is later in_time = record {
         let ps = map (packet_of s.config) (ring_buffers end s.ring) in
         let part = sum_by-append (λ (p : Contents). length p.records) s.parts.current.packets ps in
         let count = records_of-packets s.config (ring_buffers end s.ring) ∙ records_in-ring s end in
-        let closed = sum_by_push (λ (part : PartState). records_of part.packets) s.parts.closed
-        (record s.parts.current { packets = s.parts.current.packets ++ ps }) in
-        omega (arith, part, count, closed)
+        let grown : PartState = record s.parts.current { packets = s.parts.current.packets ++ ps } in
+        let closed = sum_by_push part_records s.parts.closed grown in
+        omega (arith, part, count, closed, held-records s.parts.current is.current_held, held-records grown is.current_held)
 
 -- a clear
 pub sound-clear : (s : StreamState) → s.config.session ≡ Local → IsSound s → IsSound (state_clear_ring s)
@@ -333,6 +349,7 @@ sound-clear s local is = record {
   packets = tt;
   filling = open-none s.counters.offered s.counters.last;
   unconsumed = λ e. absurd (not-both s.config.session local e);
+  current_held = refl;
   closed_sent = is.closed_sent;
   current_sent = tt;
 }

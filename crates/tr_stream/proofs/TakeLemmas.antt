@@ -1,16 +1,16 @@
 -- A new stream begins a history, a take is the history's take, and the counts are the history's.
-use Rattle.std.proofs.Common.{◌≡◌, ℕ, ◌+◌, zero, suc, List, [], ◌∷◌, length, Err, refl, sym, ◌∙◌, ap, subst, arith}
+use Rattle.std.proofs.Common.{◌≡◌, ℕ, ◌+◌, zero, suc, List, [], ◌∷◌, length, Err, refl, sym, ◌∙◌, ap, subst, arith, map}
 use Rattle.std.proofs.lemmas.Bool.Decides.{nat_tests}
 use Rattle.std.proofs.lemmas.Grind.{common_steps}
 use Rattle.std.proofs.lemmas.List.Sums.{sum_by_push}
 use Rattle.std.specs.Prelude.{sum_by}
-use Rattle.tr_book.specs.Parts.{PartState, records_of}
+use Rattle.tr_book.specs.Parts.{PartState, records_of, part_records}
 use Rattle.tr_ring.specs.ClosedBuffer.{ClosedBuffer}
 use Rattle.tr_stream.proofs.ChunkLemmas.{records-of_buffers, records_in-append}
 use Rattle.tr_stream.proofs.SoundLemmas.{records_of-packets}
 use Rattle.tr_stream.proofs.Refinement.{stands-moved}
-use Rattle.tr_stream.specs.Chunks.{buffers_where, chunk_of, part_of, parts_below, waiting_of}
-use Rattle.tr_stream.specs.History.{Status, Kept, Closed, History, is_kept, is_waiting, records_where}
+use Rattle.tr_stream.specs.Chunks.{buffers_where, chunk_of, part_of, parts_below, waiting_of, closed_part, packet_of}
+use Rattle.tr_stream.specs.History.{Status, Kept, Closed, History, is_kept, is_waiting, records_where, is_released}
 use Rattle.tr_stream.specs.StandsFor.{StandsFor}
 use Rattle.tr_stream.specs.State.{StreamState, in_parts, records_in}
 use Rattle.tr_stream.specs.WellFormed.{chunks_below}
@@ -21,6 +21,7 @@ use Rattle.tr_terms.specs.declared.session_mode.SessionMode.{SessionMode}
 use Rattle.tr_terms.specs.declared.session_mode.SessionMode.TheVariants.{Local, Snapshot}
 use Rattle.tr_stream.specs.declared.config.StreamConfig.{StreamConfig}
 use Rattle.tr_terms.specs.SessionModes.{by_session_mode}
+use Rattle.tr_stream.proofs.ReleaseForms.{if-records}
 
 -- a new stream stands for a history that begins
 pub starts : (c : StreamConfig) → StandsFor (new_state c) new_history
@@ -36,6 +37,7 @@ starts c = record {
     covers = tt;
     covers_filling = record { starts = refl; rise = tt; within = omega arith };
     chunks = refl;
+    released = tt;
     serials = λ n. grind (arith, nat_tests);
   };
   closed = refl;
@@ -85,21 +87,23 @@ length-parts_below c (suc k) h = grind (arith, common_steps, length-parts_below 
 
 -- the parts have the records that are kept
 parts-records : (c : StreamConfig) (k : ℕ) (h : History)
-    → sum_by (λ (p : PartState). records_of p.packets) (parts_below c k h) ≡ records_in (chunks_below k h)
+    → sum_by part_records (parts_below c k h) ≡ records_in (chunks_below k h)
 parts-records c zero h = refl
 parts-records c (suc k) h =
     omega (
       arith,
       parts-records c k h,
-      sum_by_push (λ (p : PartState). records_of p.packets) (parts_below c k h) (part_of c k (chunk_of k h)),
+      sum_by_push part_records (parts_below c k h) (closed_part c k h),
+      if-records (is_released k h) k (map (packet_of c) (chunk_of k h)),
       records_of-packets c (chunk_of k h),
       records_in-append (chunks_below k h) (chunk_of k h),
     )
 
 pub kept-records : (s : StreamState) (h : History) → StandsFor s h → in_parts s.parts ≡ records_where is_kept h.closed
 kept-records s h is =
-    let a = ap (sum_by (λ (p : PartState). records_of p.packets)) is.closed ∙ parts-records s.config h.cuts h in
-    let b = ap (λ (p : PartState). records_of p.packets) is.current ∙ records_of-packets s.config (chunk_of h.cuts h) in
+    let a = ap (sum_by part_records) is.closed ∙ parts-records s.config h.cuts h in
+    let b : part_records s.parts.current ≡ records_in (chunk_of h.cuts h) =
+    ap part_records is.current ∙ records_of-packets s.config (chunk_of h.cuts h) in
     let c = ap records_in is.model.chunks in
     let d = records_in-append (chunks_below h.cuts h) (chunk_of h.cuts h) in
     let e = records-of_buffers is_kept 0 h.closed in

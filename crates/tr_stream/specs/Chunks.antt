@@ -1,14 +1,14 @@
 -- The ring and the trace chunks of a history: its blocks, by what became of them, and their packets.
 use Rattle.std.specs.Prelude.{ℕ, ◌+◌, zero, suc, Bool, List, [], ◌∷◌, ◌++◌, length, map, nat_le, Option, Some, None, if◌then◌else◌}
 use Rattle.std.specs.List.{flat_map}
-use Rattle.tr_book.specs.Parts.{PartState, part_state}
+use Rattle.tr_book.specs.Parts.{PartState, part_state, released_part}
 use Rattle.tr_book.specs.Runs.{runs_of}
 use Rattle.tr_book.specs.declared.runs.Run.{Run}
 use Rattle.tr_packet.specs.Packets.{Contents}
 use Rattle.tr_record.specs.Records.{Entry}
 use Rattle.tr_ring.specs.ClosedBuffer.{ClosedBuffer, closed_buffer}
 use Rattle.tr_ring.specs.Ring.{RingState}
-use Rattle.tr_stream.specs.History.{Status, Closed, History, is_waiting, is_kept, is_kept_in, is_cleared, discarded_of}
+use Rattle.tr_stream.specs.History.{Status, Closed, History, is_waiting, is_kept, is_kept_in, is_cleared, is_released, discarded_of}
 use Rattle.tr_stream.specs.declared.config.StreamConfig.{StreamConfig}
 
 -- the sub-buffer of a closed block, with the number of records discarded before the block
@@ -82,9 +82,13 @@ packet_of c b = record {
 abbrev pub part_of : StreamConfig → ℕ → List ClosedBuffer → PartState
 part_of c k buffers = part_state k (map (packet_of c) buffers)
 
+-- the part of a chunk, which may have been released
+abbrev pub part_if : Bool → ℕ → List Contents → PartState
+part_if released k packets = if released then released_part k packets else part_state k packets
+
 -- the part of a closed chunk
 abbrev pub closed_part : StreamConfig → ℕ → History → PartState
-closed_part c k h = part_of c k (chunk_of k h)
+closed_part c k h = part_if (is_released k h) k (map (packet_of c) (chunk_of k h))
 
 -- the parts of the chunks below a number, in order
 abbrev pub parts_below : StreamConfig → ℕ → History → List PartState
@@ -93,4 +97,4 @@ parts_below c (suc k) h = parts_below c k h ++ closed_part c k h ∷ []
 
 -- the part of a chunk, if it was begun
 abbrev pub part_in : StreamConfig → ℕ → History → Option PartState
-part_in c k h = if nat_le k h.cuts then Some (part_of c k (chunk_of k h)) else None
+part_in c k h = if nat_le k h.cuts then Some (closed_part c k h) else None

@@ -1,7 +1,7 @@
 -- What a stream value shows by itself: each offer is in one place, and what is absent is what was lost.
-use Rattle.std.specs.Prelude.{◌≡◌, ◌≢◌, ℕ, ◌+◌, ◌≤◌, ◌↔◌, Bool, List, [], ◌∷◌, ◌++◌, length, map, sum_by, if◌then◌else◌}
+use Rattle.std.specs.Prelude.{◌≡◌, ◌≢◌, ℕ, ◌+◌, ◌≤◌, ◌↔◌, Bool, List, [], ◌∷◌, ◌++◌, length, map, sum_by, Option, Some, None, if◌then◌else◌}
 use Rattle.std.specs.List.{AllByRecursion}
-use Rattle.tr_book.specs.Parts.{PartState}
+use Rattle.tr_book.specs.Parts.{PartState, Rest}
 use Rattle.tr_book.specs.declared.runs.Run.{Run}
 use Rattle.tr_terms.specs.declared.mode.Mode.TheVariants.{Discard, Overwrite}
 use Rattle.tr_packet.specs.Packets.{Contents}
@@ -10,16 +10,26 @@ use Rattle.tr_ring.specs.ClosedBuffer.{ClosedBuffer, closed_buffer}
 use Rattle.tr_ring.specs.Ring.{seq_after}
 use Rattle.tr_stream.specs.Chunks.{ring_buffers, buffer_runs}
 use Rattle.tr_stream.specs.Fates.{all_parts}
-use Rattle.tr_stream.specs.State.{StreamState}
+use Rattle.tr_stream.specs.State.{StreamState, records_in}
 use Rattle.tr_stream.specs.WellFormed.{RecordsRise, next_serial}
 
 -- the sub-buffer that a packet was
 abbrev pub buffer_in : Contents → ClosedBuffer
 buffer_in p = closed_buffer p.head.seq p.head.end p.head.lost p.records
 
--- a part is what is left of these sub-buffers: its packets give them back
+-- what is kept of these sub-buffers after a release: their runs, and how many they were and had records
+pub record IsRestOf (rest : Rest) (buffers : List ClosedBuffer) : Type 0 where
+  pub runs : rest.runs ≡ buffer_runs buffers
+  pub packets : rest.packets ≡ length buffers
+  pub records : rest.records ≡ records_in buffers
+
+abbrev pub AreLeftOf : List Contents → Option Rest → List ClosedBuffer → Type 0
+AreLeftOf packets None buffers = map buffer_in packets ≡ buffers
+AreLeftOf packets (Some rest) buffers = IsRestOf rest buffers
+
+-- a part is what is left of these sub-buffers: its packets give them back, or what is kept of these is theirs
 abbrev pub IsLeftOf : PartState → List ClosedBuffer → Type 0
-IsLeftOf p buffers = map buffer_in p.packets ≡ buffers
+IsLeftOf p buffers = AreLeftOf p.packets p.released buffers
 
 -- parts are what is left of these, one part after another
 abbrev pub PartsLeft : List PartState → List ClosedBuffer → Type 0

@@ -6,6 +6,8 @@ use Rattle.tr_stream.specs.declared.answers.CutFault.{CutFault}
 use Rattle.tr_stream.specs.declared.answers.CutFault.TheVariants as cut
 use Rattle.tr_stream.specs.declared.answers.OfferFault.{OfferFault}
 use Rattle.tr_stream.specs.declared.answers.OfferFault.TheVariants as offer
+use Rattle.tr_stream.specs.declared.answers.ReleaseFault.{ReleaseFault}
+use Rattle.tr_stream.specs.declared.answers.ReleaseFault.TheVariants as release
 use Rattle.tr_stream.specs.declared.answers.TakeFault.{TakeFault}
 use Rattle.tr_stream.specs.declared.answers.TakeFault.TheVariants as take
 
@@ -48,3 +50,13 @@ clear_fault_code clear.NoMemory = codes "X2"
 abbrev pub clear_fault_name : ClearFault → List ℕ
 clear_fault_name clear.SnapshotMode = codes "SnapshotMode"
 clear_fault_name clear.NoMemory = codes "NoMemory"
+
+abbrev pub release_fault_code : ReleaseFault → List ℕ
+release_fault_code release.NoPart = codes "Y1"
+release_fault_code release.Released = codes "Y2"
+release_fault_code release.NoMemory = codes "Y3"
+
+abbrev pub release_fault_name : ReleaseFault → List ℕ
+release_fault_name release.NoPart = codes "NoPart"
+release_fault_name release.Released = codes "Released"
+release_fault_name release.NoMemory = codes "NoMemory"

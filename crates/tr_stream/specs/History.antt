@@ -1,4 +1,5 @@
 -- The history of a stream: every block that it ever filled, and what became of each. No block is ever removed.
+use Rattle.std.specs.List.{list_any}
 use Rattle.std.specs.Prelude.{ℕ, ◌+◌, Bool, true, false, ◌==◌, List, length, sum_by, count_by, if◌then◌else◌}
 use Rattle.tr_record.specs.Records.{Entry}
 
@@ -22,11 +23,13 @@ pub record Closed : Type 0 where
   pub end : ℕ
   pub status : Status
 
--- the closed blocks in order, and the one that is filling; the cuts; the last stored moment; whether offers are taken
+-- the closed blocks in order, and the one that is filling; the cuts; the chunks that were released; the last stored moment;
+-- whether offers are taken
 pub record History : Type 0 where
   pub closed : List Closed
   pub filling : Block
   pub cuts : ℕ
+  pub released : List ℕ
   pub last : ℕ
   pub active : Bool
 
@@ -109,3 +112,7 @@ times_in n b = count_by (λ (r : Entry). r.serial == n) b.records + count_by (λ
 -- how often it is any block's
 abbrev pub times : ℕ → History → ℕ
 times n h = sum_by (λ (c : Closed). times_in n c.block) h.closed + times_in n h.filling
+
+-- the chunk of this number was released
+abbrev pub is_released : ℕ → History → Bool
+is_released k h = list_any (λ (j : ℕ). j == k) h.released

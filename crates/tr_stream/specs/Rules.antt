@@ -9,14 +9,16 @@ use Rattle.tr_stream.specs.History.{History}
 use Rattle.tr_stream.specs.Sound.{IsMade, LosesByMode}
 use Rattle.tr_stream.specs.StandsFor.{StandsFor}
 use Rattle.tr_stream.specs.State.{StreamState}
-use Rattle.tr_stream.specs.StateSteps.{new_state, state_offer_answer, state_after_offer, state_take_answer, state_after_take, state_cut_answer, state_after_cut, state_clear_answer, state_after_clear, state_after_switch, state_snap, state_counts}
-use Rattle.tr_stream.specs.Steps.{new_history, history_offer_answer, history_after_offer, history_take_answer, history_after_take, history_cut_answer, history_after_cut, history_clear_answer, history_after_clear, history_after_switch, history_snap, history_counts}
+use Rattle.tr_stream.specs.StateSteps.{new_state, state_offer_answer, state_after_offer, state_take_answer, state_after_take, state_cut_answer, state_after_cut, state_clear_answer, state_after_clear, state_release_answer, state_after_release, state_after_switch, state_snap, state_counts}
+use Rattle.tr_stream.specs.Steps.{new_history, history_offer_answer, history_after_offer, history_take_answer, history_after_take, history_cut_answer, history_after_cut, history_clear_answer, history_after_clear, history_release_answer, history_after_release, history_after_switch, history_snap, history_counts}
 use Rattle.tr_stream.specs.declared.answers.ClearFault.{ClearFault}
 use Rattle.tr_stream.specs.declared.answers.Cleared.{Cleared}
 use Rattle.tr_stream.specs.declared.answers.CutDone.{CutDone}
 use Rattle.tr_stream.specs.declared.answers.CutFault.{CutFault}
 use Rattle.tr_stream.specs.declared.answers.OfferFault.{OfferFault}
 use Rattle.tr_stream.specs.declared.answers.Offered.{Offered}
+use Rattle.tr_stream.specs.declared.answers.ReleaseFault.{ReleaseFault}
+use Rattle.tr_stream.specs.declared.answers.Released.{Released}
 use Rattle.tr_stream.specs.declared.answers.TakeFault.{TakeFault}
 use Rattle.tr_stream.specs.declared.answers.Taken.{Taken}
 use Rattle.tr_stream.specs.declared.config.StreamConfig.{StreamConfig}
@@ -32,6 +34,8 @@ pub record StreamRules (S : Type 0) : Type 0 where
   pub after_cut : ℕ → S → S
   pub clear_answer : S → Result Cleared ClearFault
   pub after_clear : S → S
+  pub release_answer : ℕ → S → Result Released ReleaseFault
+  pub after_release : ℕ → S → S
   pub after_switch : Bool → S → S
   pub snap : ℕ → S → SnapState
   pub counts : S → Counts
@@ -55,6 +59,8 @@ by_state = record {
   after_cut = state_after_cut;
   clear_answer = state_clear_answer;
   after_clear = state_after_clear;
+  release_answer = state_release_answer;
+  after_release = state_after_release;
   after_switch = state_after_switch;
   snap = state_snap;
   counts = state_counts;
@@ -74,6 +80,8 @@ by_history = record {
   after_cut = λ moment t. record t { history = history_after_cut t.config moment t.history };
   clear_answer = λ t. history_clear_answer t.config t.history;
   after_clear = λ t. record t { history = history_after_clear t.config t.history };
+  release_answer = λ k t. history_release_answer t.config k t.history;
+  after_release = λ k t. record t { history = history_after_release k t.history };
   after_switch = λ active t. record t { history = history_after_switch active t.history };
   snap = λ moment t. history_snap t.config moment t.history;
   counts = λ t. history_counts t.config t.history;

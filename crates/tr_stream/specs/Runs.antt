@@ -3,12 +3,12 @@ use Rattle.std.specs.Prelude.{◌≢◌, ℕ, ◌+◌, max, true, false, ◌==�
 use Rattle.tr_ring.specs.ClosedBuffer.{ClosedBuffer}
 use Rattle.tr_stream.specs.Chunks.{waiting_of, ring_of}
 use Rattle.tr_stream.specs.History.{History}
-use Rattle.tr_stream.specs.Steps.{ClearsSome, history_after_offer, history_offer_answer, history_after_take, history_take_answer, history_after_cut, history_cut_answer, history_after_clear, history_clear_answer, history_snap, history_after_switch}
+use Rattle.tr_stream.specs.Steps.{ClearsSome, ReleasesSome, history_after_offer, history_offer_answer, history_after_take, history_take_answer, history_after_cut, history_cut_answer, history_after_clear, history_clear_answer, history_after_release, history_release_answer, history_snap, history_after_switch}
 use Rattle.tr_stream.specs.declared.config.StreamConfig.{StreamConfig}
 use Rattle.tr_stream.specs.declared.events.StreamAnswer.{StreamAnswer}
 use Rattle.tr_stream.specs.declared.events.StreamAnswer.TheVariants as answer
 use Rattle.tr_stream.specs.declared.events.StreamEvent.{StreamEvent}
-use Rattle.tr_stream.specs.declared.events.StreamEvent.TheVariants.{Offer, Take, Cut, Clear, Peek, Start, Stop}
+use Rattle.tr_stream.specs.declared.events.StreamEvent.TheVariants.{Offer, Take, Cut, Clear, Release, Peek, Start, Stop}
 use Rattle.tr_terms.specs.SessionModes.{by_session_mode}
 
 -- the history after a call
@@ -17,6 +17,7 @@ history_after_event c (Offer moment id payload) h = history_after_offer c moment
 history_after_event c Take h = history_after_take c h
 history_after_event c (Cut moment) h = history_after_cut c moment h
 history_after_event c Clear h = history_after_clear c h
+history_after_event c (Release k) h = history_after_release k h
 history_after_event c (Peek moment) h = h
 history_after_event c Start h = history_after_switch true h
 history_after_event c Stop h = history_after_switch false h
@@ -27,17 +28,19 @@ history_answer c (Offer moment id payload) h = answer.Offer (history_offer_answe
 history_answer c Take h = answer.Take (history_take_answer c h)
 history_answer c (Cut moment) h = answer.Cut (history_cut_answer c moment h)
 history_answer c Clear h = answer.Clear (history_clear_answer c h)
+history_answer c (Release k) h = answer.Release (history_release_answer c k h)
 history_answer c (Peek moment) h = answer.Peek (Ok (history_snap c moment h))
 history_answer c Start h = answer.Start
 history_answer c Stop h = answer.Stop
 
--- the answers before which an allocation may fail: of a take or a cut that isn't refused, of a clear that finds packets, and
--- of a peek that shows some
+-- the answers before which an allocation may fail: of a take or a cut that isn't refused, of a clear or a release that finds
+-- packets, and of a peek that shows some
 abbrev pub MayTakeMemory : {A : Type 0} → StreamAnswer A → Type 0
 MayTakeMemory (answer.Offer told) = ⊥
 MayTakeMemory (answer.Take told) = IsOk told
 MayTakeMemory (answer.Cut told) = IsOk told
 MayTakeMemory (answer.Clear told) = ClearsSome told
+MayTakeMemory (answer.Release told) = ReleasesSome told
 MayTakeMemory (answer.Peek (Ok snap)) = snap.packets ≢ []
 MayTakeMemory (answer.Peek (Err fault)) = ⊥
 MayTakeMemory answer.Start = ⊥
@@ -59,6 +62,7 @@ kept_by c (Offer moment id payload) h kept = kept
 kept_by c Take h kept = by_session_mode c.session (kept ++ take 1 (waiting_of h)) kept
 kept_by c (Cut moment) h kept = by_session_mode c.session (kept ++ ring_of (max moment h.last) h) kept
 kept_by c Clear h kept = by_session_mode c.session [] kept
+kept_by c (Release k) h kept = kept
 kept_by c (Peek moment) h kept = kept
 kept_by c Start h kept = kept
 kept_by c Stop h kept = kept

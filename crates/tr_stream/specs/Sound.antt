@@ -1,5 +1,5 @@
 -- What is true of every stream value, by itself.
-use Rattle.std.specs.Prelude.{◌≡◌, ◌≢◌, ℕ, ◌+◌, ◌^◌, ◌≤◌, ◌<◌, min, List, [], ◌∷◌, length}
+use Rattle.std.specs.Prelude.{◌≡◌, ◌≢◌, ℕ, ◌+◌, ◌^◌, ◌≤◌, ◌<◌, min, List, [], ◌∷◌, length, None}
 use Rattle.std.specs.List.{AllByRecursion}
 use Rattle.tr_book.specs.Parts.{PartState, no_parts}
 use Rattle.tr_terms.specs.declared.mode.Mode.TheVariants.{Discard, Overwrite}
@@ -76,6 +76,8 @@ pub record IsSound (s : StreamState) : Type 0 where
   pub filling : IsOpen s.counters.offered s.counters.last s.ring.current
   -- in a snapshot session nothing was consumed, nothing was cut, and nothing was cleared
   pub unconsumed : s.config.session ≡ Snapshot → s.parts ≡ no_parts
+  -- the current part has its packets
+  pub current_held : s.parts.current.released ≡ None
   -- what was consumed can be sent
   pub closed_sent : AllByRecursion CanBeSent s.parts.closed
   pub current_sent : CanBeSent s.parts.current

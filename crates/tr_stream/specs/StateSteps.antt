@@ -1,7 +1,8 @@
 -- What each call does to what a stream holds, and what it answers.
-use Rattle.std.specs.Prelude.{ℕ, ◌+◌, ◌-◌, ◌^◌, max, min, Bool, true, false, nat_lt, nat_le, not, List, [], ◌∷◌, length, map, Option, Some, None, Result, Ok, Err, if◌then◌else◌}
+use Rattle.std.specs.Option.{option_map_or}
+use Rattle.std.specs.Prelude.{ℕ, ◌+◌, ◌-◌, ◌^◌, max, min, Bool, true, false, nat_lt, nat_le, not, List, [], ◌∷◌, length, map, Option, Some, None, Result, Ok, Err, is_some, slice_get, if◌then◌else◌}
 use Rattle.tr_book.specs.Counters.{CountersState, new_counters, with_consumed, with_cleared, at_moment}
-use Rattle.tr_book.specs.Parts.{no_parts, part_bytes, part_packets, part_records, with_packet, with_packets, close_part, clear_part}
+use Rattle.tr_book.specs.Parts.{PartState, no_parts, part_bytes, part_packets, part_records, with_packet, with_packets, close_part, clear_part, release_part}
 use Rattle.tr_book.specs.Snaps.{SnapState, snap_state}
 use Rattle.tr_book.specs.declared.counts.Counts.{Counts}
 use Rattle.tr_record.specs.Records.{Entry, entry}
@@ -16,7 +17,7 @@ use Rattle.tr_stream.specs.State.{StreamState, in_ring, in_parts, stream_state}
 use Rattle.tr_stream.specs.declared.answers.ClearFault.{ClearFault}
 use Rattle.tr_stream.specs.declared.answers.ClearFault.TheVariants as clear_fault
 use Rattle.tr_stream.specs.declared.answers.Cleared.{Cleared}
-use Rattle.tr_stream.specs.Steps.{taken_from, done_with}
+use Rattle.tr_stream.specs.Steps.{taken_from, done_with, released_unless}
 use Rattle.tr_stream.specs.declared.answers.CutDone.{CutDone}
 use Rattle.tr_stream.specs.declared.answers.CutFault.{CutFault}
 use Rattle.tr_stream.specs.declared.answers.CutFault.TheVariants as cut_fault
@@ -24,6 +25,9 @@ use Rattle.tr_stream.specs.declared.answers.OfferFault.{OfferFault}
 use Rattle.tr_stream.specs.declared.answers.OfferFault.TheVariants.{Inactive, TooBig, Spent}
 use Rattle.tr_stream.specs.declared.answers.Offered.{Offered}
 use Rattle.tr_stream.specs.declared.answers.Offered.TheVariants.{Stored, StoredOver, Discarded}
+use Rattle.tr_stream.specs.declared.answers.ReleaseFault.{ReleaseFault}
+use Rattle.tr_stream.specs.declared.answers.ReleaseFault.TheVariants as release_fault
+use Rattle.tr_stream.specs.declared.answers.Released.{Released}
 use Rattle.tr_stream.specs.declared.answers.TakeFault.{TakeFault}
 use Rattle.tr_stream.specs.declared.answers.TakeFault.TheVariants as take_fault
 use Rattle.tr_stream.specs.declared.answers.Taken.{Taken}
@@ -139,6 +143,33 @@ state_clear_answer s = by_session_mode s.config.session (Ok (state_cleared s)) (
 
 abbrev pub state_after_clear : StreamState → StreamState
 state_after_clear s = by_session_mode s.config.session (state_clear_ring s) s
+
+-- why a part isn't released: it isn't closed, or it was released before
+abbrev pub part_refusal : Option PartState → Option ReleaseFault
+part_refusal None = Some release_fault.NoPart
+part_refusal (Some p) = if is_some p.released then Some release_fault.Released else None
+
+abbrev pub state_release_refusal : ℕ → StreamState → Option ReleaseFault
+state_release_refusal k s = part_refusal (slice_get s.parts.closed k)
+
+-- what a closed part has
+abbrev pub size_of_part : Option PartState → Released
+size_of_part part = record {
+  packets = option_map_or part_packets part 0;
+  records = option_map_or part_records part 0;
+  bytes = option_map_or part_bytes part 0;
+}
+
+-- a release of a closed part
+abbrev pub state_release_answer : ℕ → StreamState → Result Released ReleaseFault
+state_release_answer k s = released_unless (state_release_refusal k s) (size_of_part (slice_get s.parts.closed k))
+
+abbrev pub release_part_unless : Option ReleaseFault → ℕ → StreamState → StreamState
+release_part_unless (Some fault) k s = s
+release_part_unless None k s = record s { parts = release_part k s.parts }
+
+abbrev pub state_after_release : ℕ → StreamState → StreamState
+state_after_release k s = release_part_unless (state_release_refusal k s) k s
 
 -- what a peek shows of the stream at a moment
 abbrev pub state_snap : ℕ → StreamState → SnapState

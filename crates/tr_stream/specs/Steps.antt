@@ -1,5 +1,5 @@
 -- What each call does to the history, and what it answers.
-use Rattle.std.specs.Prelude.{◌≢◌, ℕ, ◌+◌, ◌-◌, ◌^◌, ◌==◌, max, min, Bool, true, false, nat_lt, nat_le, not, List, [], ◌∷◌, ◌++◌, length, map, Result, Ok, Err, if◌then◌else◌}
+use Rattle.std.specs.Prelude.{◌≢◌, ℕ, ◌+◌, ◌-◌, ◌^◌, ◌==◌, max, min, Bool, true, false, nat_lt, nat_le, not, List, [], ◌∷◌, ◌++◌, length, map, Option, Some, None, Result, Ok, Err, if◌then◌else◌}
 use Rattle.tr_book.specs.Parts.{bytes_of}
 use Rattle.tr_book.specs.Snaps.{SnapState, snap_state}
 use Rattle.tr_book.specs.declared.counts.Counts.{Counts}
@@ -9,7 +9,7 @@ use Rattle.tr_record.specs.Records.{Entry, entry}
 use Rattle.tr_record.specs.Weight.{weight_of}
 use Rattle.tr_ring.specs.ClosedBuffer.{ClosedBuffer}
 use Rattle.tr_stream.specs.Chunks.{waiting_of, ring_of, chunk_of, packet_of}
-use Rattle.tr_stream.specs.History.{Status, Waiting, Dropped, Kept, Cleared, Closed, History, is_waiting, is_dropped, is_kept, is_cleared, is_consumed, is_withdrawn, offered_of, discarded_of, records_where, blocks_where}
+use Rattle.tr_stream.specs.History.{Status, Waiting, Dropped, Kept, Cleared, Closed, History, is_waiting, is_dropped, is_kept, is_cleared, is_consumed, is_withdrawn, is_released, offered_of, discarded_of, records_where, blocks_where}
 use Rattle.tr_stream.specs.State.{records_in}
 use Rattle.tr_stream.specs.declared.answers.ClearFault.{ClearFault}
 use Rattle.tr_stream.specs.declared.answers.ClearFault.TheVariants as clear_fault
@@ -21,6 +21,9 @@ use Rattle.tr_stream.specs.declared.answers.OfferFault.{OfferFault}
 use Rattle.tr_stream.specs.declared.answers.OfferFault.TheVariants.{Inactive, TooBig, Spent}
 use Rattle.tr_stream.specs.declared.answers.Offered.{Offered}
 use Rattle.tr_stream.specs.declared.answers.Offered.TheVariants.{Stored, StoredOver, Discarded}
+use Rattle.tr_stream.specs.declared.answers.ReleaseFault.{ReleaseFault}
+use Rattle.tr_stream.specs.declared.answers.ReleaseFault.TheVariants as release_fault
+use Rattle.tr_stream.specs.declared.answers.Released.{Released}
 use Rattle.tr_stream.specs.declared.answers.TakeFault.{TakeFault}
 use Rattle.tr_stream.specs.declared.answers.TakeFault.TheVariants as take_fault
 use Rattle.tr_stream.specs.declared.answers.Taken.{Taken}
@@ -34,6 +37,7 @@ new_history = record {
   closed = [];
   filling = record { number = 0; records = []; discarded = [] };
   cuts = 0;
+  released = [];
   last = 0;
   active = false;
 }
@@ -193,6 +197,43 @@ history_clear_answer c h =
 abbrev pub ClearsSome : Result ClearedCounts ClearFault → Type 0
 ClearsSome (Ok cleared) = cleared.packets ≢ 0
 ClearsSome (Err fault) = ⊥
+
+-- how many packets, records and bytes a release gives up
+abbrev pub released_with : StreamConfig → List ClosedBuffer → Released
+released_with c buffers = record {
+  packets = length buffers;
+  records = records_in buffers;
+  bytes = bytes_of (map (packet_of c) buffers);
+}
+
+-- why a chunk isn't released: it isn't closed, or it was released before
+abbrev pub history_release_refusal : ℕ → History → Option ReleaseFault
+history_release_refusal k h =
+    if nat_le h.cuts k then Some release_fault.NoPart
+    else (if is_released k h then Some release_fault.Released else None)
+
+abbrev pub released_unless : Option ReleaseFault → Released → Result Released ReleaseFault
+released_unless (Some fault) released = Err fault
+released_unless None released = Ok released
+
+-- a chunk is released. It keeps its blocks, so what became of each record stays known
+abbrev pub history_release_answer : StreamConfig → ℕ → History → Result Released ReleaseFault
+history_release_answer c k h = released_unless (history_release_refusal k h) (released_with c (chunk_of k h))
+
+abbrev pub release_chunk : ℕ → History → History
+release_chunk k h = record h { released = k ∷ h.released }
+
+abbrev pub release_chunk_unless : Option ReleaseFault → ℕ → History → History
+release_chunk_unless (Some fault) k h = h
+release_chunk_unless None k h = release_chunk k h
+
+abbrev pub history_after_release : ℕ → History → History
+history_after_release k h = release_chunk_unless (history_release_refusal k h) k h
+
+-- the answer of a release that finds packets
+abbrev pub ReleasesSome : Result Released ReleaseFault → Type 0
+ReleasesSome (Ok released) = released.packets ≢ 0
+ReleasesSome (Err fault) = ⊥
 
 -- what a peek shows of the stream at a moment: the filling block, if it has a record, as if it were closed
 abbrev pub history_snap : StreamConfig → ℕ → History → SnapState

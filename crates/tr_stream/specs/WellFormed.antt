@@ -1,5 +1,5 @@
 -- What is true of every history that calls lead to.
-use Rattle.std.specs.Prelude.{◌≡◌, ◌≢◌, ℕ, ◌+◌, ◌≤◌, zero, suc, nat_lt, true, false, List, [], ◌∷◌, ◌++◌, length, if◌then◌else◌}
+use Rattle.std.specs.Prelude.{◌≡◌, ◌≢◌, ℕ, ◌+◌, ◌≤◌, ◌<◌, zero, suc, nat_lt, true, false, List, [], ◌∷◌, ◌++◌, length, if◌then◌else◌}
 use Rattle.tr_record.specs.Records.{Entry}
 use Rattle.tr_ring.specs.ClosedBuffer.{ClosedBuffer}
 use Rattle.tr_stream.specs.Chunks.{chunk_of, kept_of}
@@ -88,6 +88,11 @@ abbrev pub chunks_below : ℕ → History → List ClosedBuffer
 chunks_below zero h = []
 chunks_below (suc k) h = chunks_below k h ++ chunk_of k h
 
+-- chunks of which each is closed
+abbrev pub AreClosed : ℕ → List ℕ → Type 0
+AreClosed cuts [] = Unit {0}
+AreClosed cuts (k ∷ ks) = (k < cuts) × AreClosed cuts ks
+
 pub record IsWellFormed (h : History) : Type 0 where
   pub numbers : NumberedFrom 0 h.closed
   pub filling : h.filling.number ≡ length h.closed
@@ -102,5 +107,6 @@ pub record IsWellFormed (h : History) : Type 0 where
   pub covers_filling : Covers (offers_before h.closed) h.filling
   -- the chunks in order have the kept blocks in order
   pub chunks : chunks_below h.cuts h ++ chunk_of h.cuts h ≡ kept_of h
+  pub released : AreClosed h.cuts h.released
   -- each serial below the next is in one place
   pub serials : (n : ℕ) → times n h ≡ (if nat_lt n (offered_of h) then 1 else 0)

@@ -1,7 +1,7 @@
 //! What a stream's calls answer.
 
 ghost use Rattle.std.specs.Prelude.{◌≡◌};
-ghost use Rattle.tr_stream.specs.Faults.{clear_fault_code, clear_fault_name, cut_fault_code, cut_fault_name, offer_fault_code, offer_fault_name, take_fault_code, take_fault_name};
+ghost use Rattle.tr_stream.specs.Faults.{clear_fault_code, clear_fault_name, cut_fault_code, cut_fault_name, offer_fault_code, offer_fault_name, release_fault_code, release_fault_name, take_fault_code, take_fault_name};
 
 use std::alloc::AllocError;
 use thiserror::Error;
@@ -248,5 +248,65 @@ impl From<AllocError> for ClearFault {
 
     fn from(_error: AllocError) -> ClearFault {
         ClearFault::NoMemory
+    }
+}
+
+/// What a release gave up.
+#[derive(Clone, Copy, Debug, PartialEq, Eq)]
+pub struct Released {
+    /// How many packets.
+    pub packets: u64,
+    /// How many records they had.
+    pub records: u64,
+    /// How many bytes their texts had.
+    pub bytes: u128,
+}
+
+/// Why a release was refused. The stream is as it was.
+#[derive(Clone, Copy, Debug, PartialEq, Eq, Error)]
+pub enum ReleaseFault {
+    /// No closed part has this number.
+    #[error("Y1 NoPart")]
+    NoPart,
+    /// The part was released before.
+    #[error("Y2 Released")]
+    Released,
+    /// An allocation failed.
+    #[error("Y3 NoMemory")]
+    NoMemory,
+}
+
+impl ReleaseFault {
+    /// The code that answers and documents call it by.
+    pub fn code(&self) -> &'static str
+        ensures { result.now ≡ release_fault_code self.now }
+    {
+        match self {
+            ReleaseFault::NoPart => "Y1",
+            ReleaseFault::Released => "Y2",
+            ReleaseFault::NoMemory => "Y3",
+        }
+    }
+
+    /// Its name, as answers print it.
+    pub fn name(&self) -> &'static str
+        ensures { result.now ≡ release_fault_name self.now }
+    {
+        match self {
+            ReleaseFault::NoPart => "NoPart",
+            ReleaseFault::Released => "Released",
+            ReleaseFault::NoMemory => "NoMemory",
+        }
+    }
+}
+
+impl From<AllocError> for ReleaseFault {
+    ghost use Rattle.std.specs.Prelude.{◌≡◌};
+    ghost use Rattle.tr_stream.specs.declared.answers.ReleaseFault.TheVariants.{NoMemory};
+
+    ghost from_gives = { λ _ fault. fault ≡ NoMemory };
+
+    fn from(_error: AllocError) -> ReleaseFault {
+        ReleaseFault::NoMemory
     }
 }

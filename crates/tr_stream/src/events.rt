@@ -1,7 +1,8 @@
 //! A stream's calls as values.
 
 use crate::answers::{
-    ClearFault, Cleared, CutDone, CutFault, OfferFault, Offered, TakeFault, Taken,
+    ClearFault, Cleared, CutDone, CutFault, OfferFault, Offered, ReleaseFault, Released, TakeFault,
+    Taken,
 };
 use crate::payload::Payload;
 use std::alloc::{AllocError, Allocator, Global};
@@ -19,6 +20,8 @@ pub enum StreamEvent<A: Allocator = Global> {
     Cut(Moment),
     /// A clear of the ring and of the current part.
     Clear,
+    /// A release of a closed part, by its number.
+    Release(u64),
     /// A peek at a moment.
     Peek(Moment),
     /// The stream takes offers from now on.
@@ -38,6 +41,8 @@ pub enum StreamAnswer<A: Allocator = Global> {
     Cut(Result<CutDone, CutFault>),
     /// The answer to a clear.
     Clear(Result<Cleared, ClearFault>),
+    /// The answer to a release.
+    Release(Result<Released, ReleaseFault>),
     /// The answer to a peek.
     Peek(Result<StreamSnap<A>, AllocError>),
     /// The answer to a start, which is never refused.

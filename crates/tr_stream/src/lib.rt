@@ -12,7 +12,10 @@ mod payload;
 mod run;
 mod stream;
 
-pub use answers::{ClearFault, Cleared, CutDone, CutFault, OfferFault, Offered, TakeFault, Taken};
+pub use answers::{
+    ClearFault, Cleared, CutDone, CutFault, OfferFault, Offered, ReleaseFault, Released, TakeFault,
+    Taken,
+};
 pub use config::StreamConfig;
 pub use events::{StreamAnswer, StreamEvent};
 pub use fate::Fate;

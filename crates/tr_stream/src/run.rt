@@ -6,14 +6,14 @@ ghost use Rattle.tr_stream.specs.Runs.{MayTakeMemory, history_after_event, histo
 ghost use Rattle.tr_stream.specs.StandsFor.{StandsFor};
 ghost use Rattle.tr_stream.specs.Steps.{new_history};
 
-use crate::answers::{ClearFault, CutFault, TakeFault};
+use crate::answers::{ClearFault, CutFault, ReleaseFault, TakeFault};
 use crate::config::StreamConfig;
 use crate::events::{StreamAnswer, StreamEvent};
 use crate::stream::Stream;
 use std::alloc::{AllocError, Allocator};
 
-/// One call. A failed allocation ends it and leaves the stream as it was. It ends a take or a cut that isn't refused, a clear
-/// or a peek that finds packets, and no other call.
+/// One call. A failed allocation ends it and leaves the stream as it was. It ends a take or a cut that isn't refused, a
+/// clear, a release or a peek that finds packets, and no other call.
 fn step<A: Allocator + Copy>(
     stream: &mut Stream<A>,
     event: &StreamEvent<A>,
@@ -51,6 +51,13 @@ fn step<A: Allocator + Copy>(
                 return Err(AllocError);
             }
             Ok(StreamAnswer::Clear(answer))
+        }
+        StreamEvent::Release(k) => {
+            let answer = stream.release(*k);
+            if answer == Err(ReleaseFault::NoMemory) {
+                return Err(AllocError);
+            }
+            Ok(StreamAnswer::Release(answer))
         }
         StreamEvent::Peek(moment) => {
             let snap = stream.peek(*moment)?;

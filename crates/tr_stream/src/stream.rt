@@ -1,10 +1,11 @@
 //! One stream: a ring of sub-buffers, and the parts that it is consumed into.
 
 ghost use Rattle.std.specs.Prelude.{◌≡◌, ◌≢◌, ◌+◌, ◌-◌, ◌≤◌, ◌<◌, [], Some, Ok, Err, IsOk, IfOk, OnOk, OnErr, length, option_copied, slice_get};
-ghost use Rattle.tr_stream.specs.Calls.{part_in, IsConsistent, history_fate, state_fate, held_fate, History, IsKept, IsSound, StandsFor, in_ring, in_parts, new_state, overwrites, refusal_of, state_entry, state_with_offer, offered_as, state_offer_answer, state_after_offer, state_take_answer, state_after_take, cut_done, state_cut_answer, state_cut_ring, state_after_cut, ClearsSome, state_cleared, state_clear_answer, state_clear_ring, state_after_clear, state_after_switch, state_snap, state_counts, new_history, history_offer_answer, history_after_offer, history_take_answer, history_after_take, history_cut_answer, history_after_cut, history_clear_answer, history_after_clear, history_after_switch, history_snap, history_counts, part_at, push_answer, ring_records, history_ring};
+ghost use Rattle.tr_stream.specs.Calls.{part_in, IsConsistent, history_fate, state_fate, held_fate, History, IsKept, IsSound, StandsFor, in_ring, in_parts, new_state, overwrites, refusal_of, state_entry, state_with_offer, offered_as, state_offer_answer, state_after_offer, state_take_answer, state_after_take, cut_done, state_cut_answer, state_cut_ring, state_after_cut, ClearsSome, ReleasesSome, state_cleared, state_clear_answer, state_clear_ring, state_after_clear, state_release_answer, state_after_release, state_after_switch, state_snap, state_counts, new_history, history_offer_answer, history_after_offer, history_take_answer, history_after_take, history_cut_answer, history_after_cut, history_clear_answer, history_after_clear, history_release_answer, history_after_release, history_after_switch, history_snap, history_counts, part_at, push_answer, ring_records, history_ring};
 
 use crate::answers::{
-    ClearFault, Cleared, CutDone, CutFault, OfferFault, Offered, TakeFault, Taken,
+    ClearFault, Cleared, CutDone, CutFault, OfferFault, Offered, ReleaseFault, Released, TakeFault,
+    Taken,
 };
 use crate::config::StreamConfig;
 use crate::fate::{Fate, fate_in_parts, loss};
@@ -256,7 +257,7 @@ impl<A: Allocator + Copy> Stream<A> {
     {
         let consumed = self.parts.current().records();
         let cleared = Cleared {
-            packets: self.parts.current().packets().len() as u64 + used(&self.ring),
+            packets: self.parts.current().packet_count() + used(&self.ring),
             records: consumed + self.in_ring(),
         };
         if cleared.packets == 0 {
@@ -267,6 +268,37 @@ impl<A: Allocator + Copy> Stream<A> {
         self.ring.clear();
         self.counters.note_cleared(cleared.records, consumed);
         Ok(cleared)
+    }
+
+    /// Gives up the packets of closed part `k`, and keeps which serials each had: fates, counts and sizes are told as before.
+    /// The current part isn't closed. It takes memory only if the part has packets. A release that is refused, also because
+    /// an allocation failed, changes nothing.
+    pub fn release(&mut self, k: u64) -> Result<Released, ReleaseFault>
+        ensures value { result ≢ Err ReleaseFault.NoMemory
+            → (result ≡ state_release_answer k self.old) × (self.new ≡ state_after_release k self.old) }
+        ensures step { (h : History) → StandsFor self.old h → result ≢ Err ReleaseFault.NoMemory →
+            (result ≡ history_release_answer self.old.config k h)
+            × StandsFor self.new (history_after_release k h) }
+        ensures no_memory { result ≡ Err ReleaseFault.NoMemory → self.new ≡ self.old }
+        ensures config { self.new.config ≡ self.old.config }
+        ensures memory { result ≡ Err ReleaseFault.NoMemory → ReleasesSome (state_release_answer k self.old) }
+    {
+        match self.releasable(k) {
+            Ok(released) => Ok(self.release_closed(k, released)?),
+            Err(fault) => Err(fault),
+        }
+    }
+
+    /// Gives up the packets of a closed part, which has these.
+    fn release_closed(&mut self, k: u64, released: Released) -> Result<Released, AllocError>
+        requires { state_release_answer k self.old ≡ Ok released }
+        ensures answer { IfOk result (λ r. r ≡ released) }
+        ensures ok { OnOk result (self.new ≡ state_after_release k self.old) }
+        ensures err { OnErr result (self.new ≡ self.old) }
+        ensures memory { OnErr result (released.packets ≢ 0) }
+    {
+        self.parts.release(k)?;
+        Ok(released)
     }
 
     /// What the stream has now: how many offers it accepted, how many records it discarded, and copies of the packets that
@@ -324,6 +356,24 @@ impl<A: Allocator> Stream<A> {
             return Some(OfferFault::Spent);
         }
         None
+    }
+
+    /// What closed part `k` would give up, or why it can't be released.
+    fn releasable(&self, k: u64) -> Result<Released, ReleaseFault>
+        ensures value { result ≡ state_release_answer k self.now }
+        ensures reason { result ≢ Err ReleaseFault.NoMemory }
+    {
+        let Some(part) = self.parts.closed().get(k as usize) else {
+            return Err(ReleaseFault::NoPart);
+        };
+        if part.is_released() {
+            return Err(ReleaseFault::Released);
+        }
+        Ok(Released {
+            packets: part.packet_count(),
+            records: part.records(),
+            bytes: part.bytes(),
+        })
     }
 
     /// Lets the stream take offers, or makes it refuse them.

@@ -1,5 +1,6 @@
 use Rattle.std.proofs.Common.{refl}
-use Rattle.tr_session.proofs.ListLemmas.{changed_at-past, changed_at-set, lent-none, lent-some}
+use Rattle.tr_book.proofs.ChangeLemmas.{changed_at-past, changed_at-set}
+use Rattle.tr_session.proofs.ListLemmas.{lent-none, lent-some}
 use Rattle.tr_session.proofs.streams.clear_at.Goals as goal
 use Rattle.tr_stream.specs.StateSteps.{state_after_clear}
 

@@ -1,7 +1,7 @@
 use Rattle.std.proofs.Common.{◌∙◌, Some, ap, sym, length, refl}
 use Rattle.std.proofs.lemmas.Option.{slice_get_read}
 use Rattle.std.specs.Prelude.{option_map}
-use Rattle.tr_session.proofs.ListLemmas.{changed_at-set}
+use Rattle.tr_book.proofs.ChangeLemmas.{changed_at-set}
 use Rattle.tr_session.proofs.streams.cut_at.Goals as goal
 use Rattle.tr_stream.specs.StateSteps.{state_cut_answer, state_after_cut}
 

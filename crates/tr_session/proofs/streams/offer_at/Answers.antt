@@ -1,4 +1,5 @@
-use Rattle.tr_session.proofs.ListLemmas.{changed_at-set, changed_at-past, lent-none, lent-some}
+use Rattle.tr_book.proofs.ChangeLemmas.{changed_at-set, changed_at-past}
+use Rattle.tr_session.proofs.ListLemmas.{lent-none, lent-some}
 use Rattle.tr_session.proofs.streams.offer_at.Goals as goal
 use Rattle.tr_stream.specs.StateSteps.{state_after_offer}
 

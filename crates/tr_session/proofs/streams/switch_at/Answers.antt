@@ -1,6 +1,6 @@
 use Rattle.std.proofs.Common.{length, refl}
 use Rattle.std.proofs.lemmas.Option.{slice_get_read}
-use Rattle.tr_session.proofs.ListLemmas.{changed_at-set}
+use Rattle.tr_book.proofs.ChangeLemmas.{changed_at-set}
 use Rattle.tr_session.proofs.streams.switch_at.Goals as goal
 use Rattle.tr_stream.specs.StateSteps.{state_after_switch}
 

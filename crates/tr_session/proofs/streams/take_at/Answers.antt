@@ -1,6 +1,7 @@
 use Rattle.std.proofs.Common.{refl, arith}
 use Rattle.std.proofs.lemmas.Grind.{common_steps}
-use Rattle.tr_session.proofs.ListLemmas.{changed_at-set, changed_at-past, lent-none, lent-some}
+use Rattle.tr_book.proofs.ChangeLemmas.{changed_at-set, changed_at-past}
+use Rattle.tr_session.proofs.ListLemmas.{lent-none, lent-some}
 use Rattle.tr_session.proofs.streams.take_at.Goals as goal
 use Rattle.tr_stream.specs.StateSteps.{state_after_take}
 

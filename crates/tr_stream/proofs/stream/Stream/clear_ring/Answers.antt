@@ -1,6 +1,7 @@
 use Rattle.std.proofs.Common.{rules, ◌≡◌, ◌+◌, ◌∙◌, length, ap, arith}
 use Rattle.tr_stream.proofs.CallLemmas.{clear-is, clear-packets, clear-told, kept-clear_now}
 use Rattle.tr_stream.proofs.stream.Stream.clear_ring.Goals as goal
+use Rattle.tr_book.specs.Parts.{part_packets}
 use Rattle.tr_stream.specs.State.{StreamState}
 use Rattle.tr_stream.specs.StateSteps.{state_cleared, state_clear_ring}
 
@@ -13,7 +14,7 @@ overflow_add-cleared g c =
       counters = c.self.inside.counters;
       active = c.self.inside.active;
     } in
-    let len_is : c.len.result ≡ length s.parts.current.packets = search rules in
+    let len_is : c.packet_count.result ≡ part_packets s.parts.current = search rules in
     omega (arith, len_is, clear-packets s c.used.result c.self.invariant c.used.ensures.few)
 
 pub invariant_of-self-2 : goal.invariant_of-self-2
@@ -38,7 +39,7 @@ returns-clause-answer g c =
       counters = c.self.inside.counters;
       active = c.self.inside.active;
     } in
-    clear-told s c.len.result c.used.result c.records-consumed.result c.in_ring.result (search rules)
+    clear-told s c.packet_count.result c.used.result c.records-consumed.result c.in_ring.result (search rules)
     c.used.ensures.value (search rules) (search rules)
     ∙ ap state_cleared c.self.view_is
 

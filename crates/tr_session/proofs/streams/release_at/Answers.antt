@@ -1,0 +1,22 @@
+use Rattle.std.proofs.Common.{refl}
+use Rattle.tr_book.proofs.ChangeLemmas.{changed_at-past, changed_at-set}
+use Rattle.tr_session.proofs.ListLemmas.{lent-none, lent-some}
+use Rattle.tr_session.proofs.streams.release_at.Goals as goal
+use Rattle.tr_stream.specs.StateSteps.{state_after_release}
+
+pub returns-in_default-clause-value : goal.returns-in_default-clause-value
+returns-in_default-clause-value g c = λ _.
+    let none = lent-none c.args.streams.now.items c.args.i c.in_default.ensures.item in
+    (rw none refl, changed_at-past (state_after_release c.args.k) c.args.i c.args.streams.now.items none)
+
+pub returns-clause-value : goal.returns-clause-value
+returns-clause-value g c = λ not_memory.
+    let xs = c.args.streams.now.items in
+    let at = lent-some xs c.args.i c.in-Some.stream c.in-Some.ensures.item in
+    let did = c.release_one.ensures.value not_memory in
+    (rw at did.0, changed_at-set (state_after_release c.args.k) c.args.i xs c.in-Some.stream.now c.release_one.new.stream at did.1)
+
+pub returns-clause-memory : goal.returns-clause-memory
+returns-clause-memory g c = λ memory.
+    let at = lent-some c.args.streams.now.items c.args.i c.in-Some.stream c.in-Some.ensures.item in
+    rw at (c.release_one.ensures.memory memory)
