@@ -89,6 +89,8 @@ read-limits reader.Fate rows = then-limits (session_given rows) _ (λ session _.
     last-limits (number_given (codes "serial") most_u64 rows) _ (λ serial _. neither)))
 read-limits reader.Status rows = read_of_session-limits rows _ (λ session. neither)
 read-limits reader.Archives rows = read_of_session-limits rows _ (λ session. neither)
+read-limits reader.Release rows = then-limits (session_given rows) _
+    (λ session _. last-limits (number_given (codes "archive") most_u64 rows) _ (λ archive _. neither))
 
 asked_as-limits : (name : Text) (rows : List Row) → HasLimits (read_command name rows)
 asked_as-limits name rows = go (command_named name)

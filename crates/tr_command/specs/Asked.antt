@@ -33,6 +33,7 @@ pub data Asked : Type 0 where
   Tick : (session : Text) (moment : ℕ) → Asked
   Status : (session : Text) → Asked
   Archives : (session : Text) → Asked
+  Release : (session : Text) (archive : ℕ) → Asked
 
 abbrev pub asked_by : Request → Asked
 asked_by (request.Create session uuid offset snapshot) = Create session.now uuid.now offset snapshot
@@ -53,6 +54,7 @@ asked_by (request.Schedule session every size) = Schedule session.now every size
 asked_by (request.Tick session moment) = Tick session.now moment
 asked_by (request.Status session) = Status session.now
 asked_by (request.Archives session) = Archives session.now
+asked_by (request.Release session archive) = Release session.now archive
 
 -- the moment of a request, 0 if it has none
 abbrev pub moment_in : Asked → ℕ
@@ -128,6 +130,10 @@ read reader.Fate rows =
     Fate session stream serial)))
 read reader.Status rows = of_session Status rows
 read reader.Archives rows = of_session Archives rows
+read reader.Release rows =
+    and_then (session_given rows) (λ session.
+    and_last (number_given (codes "archive") most_u64 rows) (λ archive.
+    Release session archive))
 
 -- a command of a script: its name, its arguments, and what reads their values
 pub record Command : Type 0 where
@@ -164,6 +170,7 @@ commands =
     ∷ command "fate" ("session" ∷ "stream" ∷ "serial" ∷ []) [] [] reader.Fate
     ∷ command "status" ("session" ∷ []) [] [] reader.Status
     ∷ command "archives" ("session" ∷ []) [] [] reader.Archives
+    ∷ command "release" ("session" ∷ "archive" ∷ []) [] [] reader.Release
     ∷ []
 
 -- the command of this name

@@ -44,6 +44,7 @@ pub enum Reader {
     Fate,
     Status,
     Archives,
+    Release,
 }
 
 /// Every command.
@@ -157,6 +158,11 @@ const COMMANDS: &[CommandRow] = &[
         arguments: &[Placed("session")],
         reader: Reader::Archives,
     },
+    CommandRow {
+        name: "release",
+        arguments: &[Placed("session"), Placed("archive")],
+        reader: Reader::Release,
+    },
 ];
 
 /// The table of commands. A line's first word is looked up here, and so is the command that clap entered.
@@ -209,6 +215,7 @@ fn read<'a>(reader: Reader, matches: &ArgMatches<'a>) -> Option<Request<'a>>
         Reader::Fate => fate_request(matches),
         Reader::Status => status_request(matches),
         Reader::Archives => archives_request(matches),
+        Reader::Release => release_request(matches),
     }
 }
 
@@ -385,4 +392,12 @@ fn archives_request<'a>(matches: &ArgMatches<'a>) -> Option<Request<'a>>
 {
     let session = text_given(matches, "session")?;
     Some(Request::Archives { session })
+}
+
+fn release_request<'a>(matches: &ArgMatches<'a>) -> Option<Request<'a>>
+    ensures { option_map asked_by result ≡ read Reader.Release (rows_of (found_of matches.now)) }
+{
+    let session = text_given(matches, "session")?;
+    let archive = number_given(matches, "archive", u64::MAX)?;
+    Some(Request::Release { session, archive })
 }

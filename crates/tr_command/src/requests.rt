@@ -108,4 +108,9 @@ pub enum Request<'a> {
     Archives {
         session: &'a str,
     },
+    /// `release SESSION ARCHIVE`, the number of the archive
+    Release {
+        session: &'a str,
+        archive: u64,
+    },
 }

@@ -15,7 +15,7 @@ use Rattle.tr_session_book.specs.declared.archive.Archive.{Archive}
 use Rattle.tr_session_book.specs.declared.archive.Pending.{Pending}
 use Rattle.tr_session_book.specs.declared.channel.Channel.{Channel}
 use Rattle.tr_session_book.specs.declared.faults.SessionFault.{SessionFault}
-use Rattle.tr_session_book.specs.declared.faults.SessionFault.TheVariants.{SnapshotMode, NotSnapshotMode, NeverStarted, RotationPending, AlreadyRotated, AlreadyActive, NotActive, NoStream, DiscardInSnapshot, AlreadyStarted, BadGeometry, TooMany, NotPending, CutMissing, NameTaken, NoChannel}
+use Rattle.tr_session_book.specs.declared.faults.SessionFault.TheVariants.{SnapshotMode, NotSnapshotMode, NeverStarted, RotationPending, AlreadyRotated, AlreadyActive, NotActive, NoStream, DiscardInSnapshot, AlreadyStarted, BadGeometry, TooMany, NotPending, CutMissing, NameTaken, NoChannel, NoArchive}
 use Rattle.tr_session_book.specs.declared.state.State.{State}
 use Rattle.tr_session_book.specs.declared.state.State.TheVariants.{New, Active, Inactive}
 use Rattle.tr_terms.specs.SessionModes.{by_session_mode}
@@ -277,6 +277,12 @@ book_clear_answer b = by_session_mode b.mode (local_clear b) (Err SnapshotMode)
 -- whether stream i can be cleared
 abbrev pub clear_allowed_at : ℕ → SessionBookState → Result Unit SessionFault
 clear_allowed_at i b = if nat_lt i (length b.threads) then book_clear_answer b else Err NoStream
+
+-- ---- releases
+
+-- whether archive k is there to be released; the chunk of a pending rotation is no archive yet
+abbrev pub book_release_answer : ℕ → SessionBookState → Result Unit SessionFault
+book_release_answer k b = if nat_lt k (length b.archives) then Ok tt else Err NoArchive
 
 -- ---- schedules
 

@@ -1,7 +1,7 @@
 -- Why calls of a session are refused, as answers print it.
 use Rattle.std.specs.Prelude.{ℕ, Bool, true, false, List, codes}
 use Rattle.tr_session_book.specs.declared.faults.SessionFault.{SessionFault}
-use Rattle.tr_session_book.specs.declared.faults.SessionFault.TheVariants.{SnapshotMode, NotSnapshotMode, NeverStarted, RotationPending, AlreadyRotated, AlreadyActive, NotActive, NoStream, DiscardInSnapshot, AlreadyStarted, BadGeometry, TooMany, NotPending, CutMissing, NameTaken, NoMemory, NoChannel, Misplaced}
+use Rattle.tr_session_book.specs.declared.faults.SessionFault.TheVariants.{SnapshotMode, NotSnapshotMode, NeverStarted, RotationPending, AlreadyRotated, AlreadyActive, NotActive, NoStream, DiscardInSnapshot, AlreadyStarted, BadGeometry, TooMany, NotPending, CutMissing, NameTaken, NoMemory, NoChannel, NoArchive, Released, Misplaced}
 
 abbrev pub session_fault_code : SessionFault → List ℕ
 session_fault_code SnapshotMode = codes "S1"
@@ -21,6 +21,8 @@ session_fault_code CutMissing = codes "S14"
 session_fault_code NameTaken = codes "S15"
 session_fault_code NoMemory = codes "S16"
 session_fault_code NoChannel = codes "S17"
+session_fault_code NoArchive = codes "S18"
+session_fault_code Released = codes "S19"
 session_fault_code Misplaced = codes "S20"
 
 abbrev pub session_fault_name : SessionFault → List ℕ
@@ -41,6 +43,8 @@ session_fault_name CutMissing = codes "CutMissing"
 session_fault_name NameTaken = codes "NameTaken"
 session_fault_name NoMemory = codes "NoMemory"
 session_fault_name NoChannel = codes "NoChannel"
+session_fault_name NoArchive = codes "NoArchive"
+session_fault_name Released = codes "Released"
 session_fault_name Misplaced = codes "Misplaced"
 
 -- an allocation failed
@@ -62,4 +66,6 @@ session_wants_memory NotPending = false
 session_wants_memory CutMissing = false
 session_wants_memory NameTaken = false
 session_wants_memory NoChannel = false
+session_wants_memory NoArchive = false
+session_wants_memory Released = false
 session_wants_memory Misplaced = false

@@ -20,6 +20,7 @@ use uuid::Uuid;
 
 mod clears;
 mod readers;
+mod releases;
 mod schedules;
 mod snapshots;
 

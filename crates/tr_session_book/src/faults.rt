@@ -6,8 +6,9 @@ ghost use Rattle.tr_session_book.specs.Faults.{session_fault_code, session_fault
 use std::alloc::AllocError;
 use thiserror::Error;
 
-/// Why a call was refused. The book and a `Session` are as they were, except that `rotate` and `tick` may leave a rotation
-/// pending after `NoMemory`. What a call of a shared session leaves stands at that call.
+/// Why a call was refused. The book and a `Session` are as they were, except that after `NoMemory` a `rotate` or a `tick` may
+/// leave a rotation pending, a `clear` some streams cleared, and a `release` some parts released. What a call of a shared
+/// session leaves stands at that call.
 #[derive(Clone, Copy, Debug, PartialEq, Eq, Error)]
 pub enum SessionFault {
     /// A snapshot session isn't rotated.
@@ -61,6 +62,12 @@ pub enum SessionFault {
     /// There is no channel of this name.
     #[error("S17 NoChannel")]
     NoChannel,
+    /// There is no archive of this number. The chunk of a pending rotation is none yet.
+    #[error("S18 NoArchive")]
+    NoArchive,
+    /// The parts of the archive were already released.
+    #[error("S19 Released")]
+    Released,
     /// Another stream is in the place of one of the session's. No call of a book or of a `Session` answers it: it is for those
     /// who keep streams by number.
     #[error("S20 Misplaced")]
@@ -90,6 +97,8 @@ impl SessionFault {
             SessionFault::NameTaken => "S15",
             SessionFault::NoMemory => "S16",
             SessionFault::NoChannel => "S17",
+            SessionFault::NoArchive => "S18",
+            SessionFault::Released => "S19",
             SessionFault::Misplaced => "S20",
         }
     }
@@ -116,6 +125,8 @@ impl SessionFault {
             SessionFault::NameTaken => "NameTaken",
             SessionFault::NoMemory => "NoMemory",
             SessionFault::NoChannel => "NoChannel",
+            SessionFault::NoArchive => "NoArchive",
+            SessionFault::Released => "Released",
             SessionFault::Misplaced => "Misplaced",
         }
     }
