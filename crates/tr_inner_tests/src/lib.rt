@@ -20,3 +20,5 @@ mod packing;
 mod sessions;
 #[cfg(test)]
 mod streams;
+#[cfg(test)]
+mod tallies;

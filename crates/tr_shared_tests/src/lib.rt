@@ -16,3 +16,5 @@ mod plans;
 mod seats;
 #[cfg(test)]
 mod shared;
+#[cfg(test)]
+mod tallies;

@@ -1,0 +1,92 @@
+//! Tellers.
+
+ghost use Rattle.std.specs.Prelude.{◌≡◌, ◌≤◌};
+ghost use Rattle.tr_tally.specs.Tallies.{note_state, teller_state};
+
+use crate::note::Note;
+use crate::rule::{Count, Notes, Publishes, WORDS_APART};
+use crate::words::{Token, Words};
+use std::alloc::{Allocator, Global};
+use std::marker::{Brand, Model};
+use std::sync::Arc;
+
+/// Publishes the counts of one stream, which never fall. Contracts see a `TellerState`.
+#[derive(Drop)]
+pub struct Teller<A: Allocator = Global> {
+    pub(crate) words: Arc<Words<A>, A>,
+    pub(crate) token: Token,
+    pub(crate) stream: usize,
+    pub(crate) count: u64,
+}
+
+impl<A: Allocator> Model for Teller<A> {
+    ghost use Rattle.std.specs.Arc.{arc_value};
+    ghost use Rattle.std.specs.Prelude.{◌≡◌, ◌<◌, []};
+    ghost use Rattle.tr_tally.specs.Tallies.{TellerState, teller_state};
+    ghost use Rattle.tr_tally.specs.Views.{counts_in, last_of, teller_view};
+
+    ghost Value = { TellerState };
+
+    ghost view = { λ t. teller_state t.token.table_id t.stream t.count };
+
+    ghost invariant = { λ t. (t.token.me ≡ (teller_view t.stream (counts_in t.token.me.0), []))
+        × (last_of (counts_in t.token.me.0) ≡ t.count) × (t.stream < (arc_value t.words).streams)
+        × (t.token.table_id ≡ (arc_value t.words).table) };
+}
+
+impl<A: Allocator> Teller<A> {
+    /// The number of its stream.
+    pub fn stream(&self) -> usize
+        ensures { result ≡ self.now.stream }
+    {
+        self.stream
+    }
+
+    /// The count that it published last, or 0.
+    pub fn count(&self) -> u64
+        ensures { result ≡ self.now.count }
+    {
+        self.count
+    }
+
+    /// Publishes a count, no less than the last: from now on watchers read it. It costs one locked instruction, and none in a
+    /// tally that was made for no watchers.
+    #[inline(always)]
+    pub fn publish(&mut self, n: u64)
+        requires { self.old.count ≤ n }
+        ensures { self.new ≡ teller_state self.old.table self.old.stream n }
+    {
+        self.publish_known::<Brand>(n);
+    }
+
+    /// Publishes a count that contracts know by a type too.
+    #[inline(always)]
+    fn publish_known<K: Count>(&mut self, n: u64)
+        requires rises { self.old.count ≤ n }
+        requires count { n ≡ K.count }
+        ensures { self.new ≡ teller_state self.old.table self.old.stream n }
+    {
+        let words: &Words<A> = &self.words;
+        let shared = &words.table.shared;
+        if words.asked.watchers > 0 {
+            shared.store::<Publishes<K>>(&mut self.token, WORDS_APART * self.stream, n);
+        } else {
+            shared.load::<Publishes<K>>(&mut self.token, 0);
+        }
+        self.count = n;
+    }
+
+    /// A note of its last published count.
+    pub fn note(&mut self) -> Note
+        ensures teller { self.new ≡ self.old }
+        ensures note { result ≡ note_state self.old.table self.old.stream self.old.count }
+    {
+        let words: &Words<A> = &self.words;
+        let token = words.table.shared.split_seat::<Notes>(&mut self.token);
+        Note {
+            token,
+            stream: self.stream,
+            count: self.count,
+        }
+    }
+}
