@@ -6,6 +6,7 @@ pub mod Consume
 pub mod Create
 pub mod Fate
 pub mod Offer
+pub mod Release
 pub mod Rotate
 pub mod Schedule
 pub mod Snapshot
@@ -22,6 +23,7 @@ use Rattle.tr_console.proofs.Agreement.Consume.{consume-agree}
 use Rattle.tr_console.proofs.Agreement.Create.{create-agree}
 use Rattle.tr_console.proofs.Agreement.Fate.{fate-agree}
 use Rattle.tr_console.proofs.Agreement.Offer.{offer-agree}
+use Rattle.tr_console.proofs.Agreement.Release.{release-agree}
 use Rattle.tr_console.proofs.Agreement.Rotate.{rotate-agree, rotate_begin-agree, rotate_finish-agree, rotate_next-agree}
 use Rattle.tr_console.proofs.Agreement.Schedule.{schedule-agree}
 use Rattle.tr_console.proofs.Agreement.Snapshot.{snapshot-agree}
@@ -58,3 +60,4 @@ answers-agree (ask.Tick session moment) v w is = tick-agree v w session moment i
 answers-agree (ask.Fate session stream serial) v w is = fate-agree v w session stream serial is
 answers-agree (ask.Status session) v w is = status-agree v w session is
 answers-agree (ask.Archives session) v w is = archives-agree v w session is
+answers-agree (ask.Release session archive) v w is = release-agree v w session archive is

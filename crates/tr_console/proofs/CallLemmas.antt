@@ -103,6 +103,8 @@ memory_or_not (Err session.NotPending) = inr (λ e. cc)
 memory_or_not (Err session.CutMissing) = inr (λ e. cc)
 memory_or_not (Err session.NameTaken) = inr (λ e. cc)
 memory_or_not (Err session.NoChannel) = inr (λ e. cc)
+memory_or_not (Err session.NoArchive) = inr (λ e. cc)
+memory_or_not (Err session.Released) = inr (λ e. cc)
 memory_or_not (Err session.Misplaced) = inr (λ e. cc)
 
 pub session_kept : (f : SessionFault) → session_wants_memory f ≡ false → f ≢ session.NoMemory

@@ -6,6 +6,7 @@ pub mod Consume
 pub mod Create
 pub mod Fate
 pub mod Offer
+pub mod Release
 pub mod Rotate
 pub mod Schedule
 pub mod Snapshot
@@ -24,6 +25,7 @@ use Rattle.tr_console.specs.commands.Consume.{consume_step}
 use Rattle.tr_console.specs.commands.Create.{create_step, mode_asked}
 use Rattle.tr_console.specs.commands.Fate.{fate_step}
 use Rattle.tr_console.specs.commands.Offer.{offer_step}
+use Rattle.tr_console.specs.commands.Release.{release_step}
 use Rattle.tr_console.specs.commands.Rotate.{rotate_begin_step, rotate_finish_step, rotate_next_step, rotate_step}
 use Rattle.tr_console.specs.commands.Schedule.{schedule_step}
 use Rattle.tr_console.specs.commands.Snapshot.{snapshot_step}
@@ -52,3 +54,4 @@ request_step rules w (ask.Tick session moment) = tick_step rules w session momen
 request_step rules w (ask.Fate session stream serial) = fate_step rules w session stream serial
 request_step rules w (ask.Status session) = status_step rules w session
 request_step rules w (ask.Archives session) = archives_step rules w session
+request_step rules w (ask.Release session archive) = release_step rules w session archive

@@ -15,6 +15,7 @@ mod consume;
 mod create;
 mod fate;
 mod offer;
+mod release;
 mod rotate;
 mod schedule;
 mod snapshot;
@@ -93,6 +94,7 @@ impl<A: Allocator + Copy> Console<A> {
             } => self.fate(session, stream, serial),
             Request::Status { session } => self.status(session),
             Request::Archives { session } => self.archives(session),
+            Request::Release { session, archive } => self.release(session, archive),
         }
     }
 }

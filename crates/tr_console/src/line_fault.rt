@@ -9,7 +9,8 @@ use tr_session::StepFault;
 use tr_session_book::SessionFault;
 
 /// Why a line is refused: by the console, by a session, or by a stream. Nothing changed, except that a rotation whose
-/// allocation failed may be pending, and that of a clear whose allocation failed the first streams may be cleared.
+/// allocation failed may be pending, that of a clear whose allocation failed the first streams may be cleared, and that of a
+/// release whose allocation failed some parts may be released.
 #[derive(Clone, Copy, Debug, PartialEq, Eq, Error)]
 pub(crate) enum LineFault {
     /// There is no session of this name.

@@ -9,7 +9,9 @@ use Rattle.tr_export.specs.Paths.{folder_of, path_of}
 use Rattle.tr_export.specs.declared.made.Made.TheVariants.{Folder, File}
 use Rattle.tr_packet.specs.Metadata.{metadata_of}
 use Rattle.tr_session.specs.Session.{SessionOf}
+use Rattle.tr_session.specs.Sizes.{archive_released}
 use Rattle.tr_session_book.specs.declared.archive.Archive.{Archive}
+use Rattle.tr_stream.specs.Rules.{by_state}
 use Rattle.tr_stream.specs.State.{StreamState}
 
 module _ (folder : List ℕ) (id : ℕ) (s : SessionOf StreamState) where
@@ -80,13 +82,20 @@ module _ (folder : List ℕ) (id : ℕ) (s : SessionOf StreamState) where
       front_after start one after (Folder folder ∷ [])
       (metadata_file folder s ++ stream_files folder id s (length s.streams)) (chunk_made folder id s) refl first next
 
--- a chunk in the folder of an archive's name
-pub archive_whole : (start after : Option Makings) (dir name : List ℕ) (s : SessionOf StreamState) (a : Archive)
-    (folder : List ℕ) → folder ≡ folder_of dir name (archive_name_text a.begin a.end s.book.offset a.id)
-    → after ≡ and_then_made start (chunk_made folder a.id s) → after ≡ and_then_made start (archive_made dir name s a)
-archive_whole start after dir name s a folder at made = made ∙ ap (λ (f : List ℕ). and_then_made start (chunk_made f a.id s)) at
+module _ (dir name : List ℕ) (s : SessionOf StreamState) (a : Archive) where
+  -- an archive that has all its parts is a chunk in the folder of its name
+  held-made : archive_released by_state a.id s ≡ 0
+      → chunk_made (folder_of dir name (archive_name_text a.begin a.end s.book.offset a.id)) a.id s ≡ archive_made dir name s a
+  held-made held = rw held refl
 
-pub archive_cut : (start after : Option Makings) (dir name : List ℕ) (s : SessionOf StreamState) (a : Archive)
-    (folder : List ℕ) → folder ≡ folder_of dir name (archive_name_text a.begin a.end s.book.offset a.id)
-    → MadePrefix start after (chunk_made folder a.id s) → MadePrefix start after (archive_made dir name s a)
-archive_cut start after dir name s a folder at made = subst (λ (f : List ℕ). MadePrefix start after (chunk_made f a.id s)) at made
+  pub archive_whole : (start after : Option Makings) (folder : List ℕ) → archive_released by_state a.id s ≡ 0
+      → folder ≡ folder_of dir name (archive_name_text a.begin a.end s.book.offset a.id)
+      → after ≡ and_then_made start (chunk_made folder a.id s) → after ≡ and_then_made start (archive_made dir name s a)
+  archive_whole start after folder held at made =
+      made ∙ ap (λ (f : List ℕ). and_then_made start (chunk_made f a.id s)) at ∙ ap (and_then_made start) (held-made held)
+
+  pub archive_cut : (start after : Option Makings) (folder : List ℕ) → archive_released by_state a.id s ≡ 0
+      → folder ≡ folder_of dir name (archive_name_text a.begin a.end s.book.offset a.id)
+      → MadePrefix start after (chunk_made folder a.id s) → MadePrefix start after (archive_made dir name s a)
+  archive_cut start after folder held at made =
+      subst (λ (ms : Makings). MadePrefix start after ms) (ap (λ (f : List ℕ). chunk_made f a.id s) at ∙ held-made held) made

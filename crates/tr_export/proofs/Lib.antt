@@ -1,3 +1,4 @@
 pub mod ArchiveLemmas
 pub mod FileLemmas
+pub mod HeldLemmas
 pub mod MakingLemmas

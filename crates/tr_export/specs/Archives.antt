@@ -1,5 +1,5 @@
 -- What a session's archives are on a disk.
-use Rattle.std.specs.Prelude.{◌≡◌, ℕ, zero, suc, List, [], ◌∷◌, ◌++◌, codes, length, slice_get, Option, Some, None, option_and_then}
+use Rattle.std.specs.Prelude.{◌≡◌, ℕ, zero, suc, List, [], ◌∷◌, ◌++◌, codes, length, slice_get, Option, Some, None, option_and_then, ◌==◌, if◌then◌else◌}
 use Rattle.std.specs.List.{flat_map}
 use Rattle.tr_book.specs.Parts.{PartState, part_at}
 use Rattle.tr_chunk.specs.ArchiveName.{archive_name_text}
@@ -10,7 +10,9 @@ use Rattle.tr_export.specs.declared.made.Made.TheVariants.{Folder, File}
 use Rattle.tr_packet.specs.Metadata.{metadata_of}
 use Rattle.tr_session_book.specs.BookSteps.{channel_of}
 use Rattle.tr_session.specs.Session.{SessionOf}
+use Rattle.tr_session.specs.Sizes.{archive_released}
 use Rattle.tr_session_book.specs.declared.archive.Archive.{Archive}
+use Rattle.tr_stream.specs.Rules.{by_state}
 use Rattle.tr_stream.specs.State.{StreamState}
 
 -- a part's packets, in the file with the name of its stream's channel and number
@@ -45,10 +47,13 @@ metadata_file folder s = File (path_of folder (codes "metadata")) (metadata_of s
 abbrev pub chunk_made : List ℕ → ℕ → SessionOf StreamState → Makings
 chunk_made folder id s = Folder folder ∷ (metadata_file folder s ++ stream_files folder id s (length s.streams))
 
--- an archive in the folder of its name
+-- an archive in the folder of its name; none if the part of any stream is released
 abbrev pub archive_made : List ℕ → List ℕ → SessionOf StreamState → Archive → Makings
-archive_made dir name s a = chunk_made (folder_of dir name (archive_name_text a.begin a.end s.book.offset a.id)) a.id s
+archive_made dir name s a =
+    if archive_released by_state a.id s == 0 then
+    chunk_made (folder_of dir name (archive_name_text a.begin a.end s.book.offset a.id)) a.id s
+    else []
 
--- each archive in order, without a pending one and the current chunk
+-- each archive in order that has all its parts, without a pending one and the current chunk
 abbrev pub archives_made : List ℕ → List ℕ → SessionOf StreamState → Makings
 archives_made dir name s = flat_map (archive_made dir name s) s.book.archives

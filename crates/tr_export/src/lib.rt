@@ -1,4 +1,5 @@
-//! A session's archives on disk: the folder of each, with the metadata text and a file for each stream.
+//! A session's archives on disk: the folder of each that has all its parts, with the metadata text and a file for each
+//! stream.
 #![tactic(auto)]
 
 mod counting;

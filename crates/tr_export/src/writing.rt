@@ -1,12 +1,14 @@
 //! Writing a session's archives.
 
-ghost use Rattle.std.specs.Prelude.{◌≡◌, ◌∷◌, [], length, OnOk, OnErr};
+ghost use Rattle.std.specs.Prelude.{◌≡◌, ◌∷◌, [], None, length, OnOk, OnErr};
 ghost use Rattle.tr_chunk.specs.Files.{packets_text};
 ghost use Rattle.tr_export.specs.Archives.{stream_file, stream_files, chunk_made, archive_made, archives_made};
 ghost use Rattle.tr_export.specs.Failures.{FailedByWrite};
 ghost use Rattle.tr_export.specs.Making.{and_then_made, MadePrefix};
 ghost use Rattle.tr_export.specs.declared.made.Made.TheVariants.{File};
 ghost use Rattle.tr_packet.specs.Metadata.{metadata_of};
+ghost use Rattle.tr_session.specs.Sizes.{archive_released};
+ghost use Rattle.tr_stream.specs.Rules.{by_state};
 
 use crate::disk::Disk;
 use crate::faults::ExportFault;
@@ -47,6 +49,7 @@ fn write_part_file<A: Allocator, D: Disk>(
     path: &str,
     part: &Part<A>,
 ) -> Result<(), ExportFault>
+    requires { part.now.released ≡ None }
     ensures ok { OnOk result (D.made disk.new ≡ and_then_made (D.made disk.old)
         (File path.now (packets_text part.now.packets) ∷ [])) }
     ensures err { OnErr result
@@ -71,6 +74,7 @@ fn write_stream<A: Allocator, B: Allocator + Copy, D: Disk>(
     session: &Session<A>,
     i: u64,
 ) -> Result<(), ExportFault>
+    requires { archive_released by_state id session.now ≡ 0 }
     ensures ok { OnOk result (D.made disk.new ≡ and_then_made (D.made disk.old)
         (stream_file folder.now id session.now i)) }
     ensures err { OnErr result
@@ -99,6 +103,7 @@ fn write_streams<A: Allocator, B: Allocator + Copy, D: Disk>(
     id: u64,
     session: &Session<A>,
 ) -> Result<(), ExportFault>
+    requires { archive_released by_state id session.now ≡ 0 }
     ensures ok { OnOk result (D.made disk.new ≡ and_then_made (D.made disk.old)
         (stream_files folder.now id session.now (length session.now.streams))) }
     ensures err { OnErr result
@@ -120,6 +125,7 @@ fn write_chunk<A: Allocator, B: Allocator + Copy, D: Disk>(
     id: u64,
     session: &Session<A>,
 ) -> Result<(), ExportFault>
+    requires { archive_released by_state id session.now ≡ 0 }
     ensures ok { OnOk result (D.made disk.new ≡ and_then_made (D.made disk.old)
         (chunk_made folder.now id session.now)) }
     ensures err { OnErr result
@@ -132,7 +138,7 @@ fn write_chunk<A: Allocator, B: Allocator + Copy, D: Disk>(
     write_streams(alloc, disk, folder, id, session)
 }
 
-/// Writes an archive to the folder of its name.
+/// Writes an archive to the folder of its name, unless the part of any stream was released.
 fn write_archive<A: Allocator, B: Allocator + Copy, D: Disk>(
     alloc: B,
     disk: &mut D,
@@ -147,6 +153,10 @@ fn write_archive<A: Allocator, B: Allocator + Copy, D: Disk>(
         (MadePrefix (D.made disk.old) (D.made disk.new) (archive_made dir.now name.now session.now archive)) }
     ensures failures { FailedByWrite (D.failures disk.old) (D.failures disk.new) result }
 {
+    let size = session.archive_size(archive.id);
+    if size.released != 0 {
+        return Ok(());
+    }
     let offset = session.book().offset();
     let own_name = archive_name(alloc, archive.begin, archive.end, offset, archive.id)?;
     let folder = archive_folder(alloc, dir, name, own_name.as_str())?;
@@ -155,8 +165,9 @@ fn write_archive<A: Allocator, B: Allocator + Copy, D: Disk>(
 
 /// Writes each archive of a session, in order: the folder `DIR/NAME/archives/ARCHIVE` (see `archive_name`), in it the
 /// file `metadata`, and for each stream the file `CHANNEL_NUMBER` with the packets of its part of that chunk, empty if
-/// there are none. What isn't an archive yet, the current chunk and a pending rotation's, isn't written. Folders that don't
-/// exist are made, and files that exist are emptied before they are written.
+/// there are none. What isn't an archive yet, the current chunk and a pending rotation's, isn't written, and neither is an
+/// archive of which the part of any stream was released: it gets no folder. Folders that don't exist are made, and files that
+/// exist are emptied before they are written.
 ///
 /// # Errors
 ///

@@ -16,7 +16,7 @@ use Rattle.tr_shared.specs.Shown.{IsShownFrom}
 use Rattle.tr_snapshot.specs.Snapshots.{entries_shown}
 use Rattle.tr_stream.specs.Chunks.{closed_if_any, packet_of, ring_buffers}
 use Rattle.tr_stream.specs.Consistent.{CountUp, GapsAgree, IsConsistent, SerialsFollow, buffers_of, first_in}
-use Rattle.tr_stream.proofs.PieceLemmas.{buffers_in, none-cleared}
+use Rattle.tr_stream.proofs.PieceLemmas.{AreHeld, buffers_in, none-cleared}
 use Rattle.tr_stream.specs.Fates.{all_parts}
 use Rattle.tr_stream.specs.Sound.{IsSound}
 use Rattle.tr_stream.specs.State.{StreamState, in_parts, in_ring}
@@ -124,7 +124,7 @@ module _ (moment : ℕ) (s : StreamState) (sound : IsSound s) (is : IsConsistent
   none = sound.unconsumed session
 
   held : buffers_of is.pieces ≡ ring_buffers s.counters.last s.ring
-  held = none-cleared s is (ap (λ (p : PartsState). p.cleared) none)
+  held = none-cleared s is (subst (λ (p : PartsState). AreHeld (all_parts p)) (sym none) (refl, tt)) (ap (λ (p : PartsState). p.cleared) none)
       ∙ ap (λ (p : PartsState). buffers_in (all_parts p) ++ ring_buffers s.counters.last s.ring) none
 
   shown : entries_shown (state_snap moment s) ≡ ring_records s.ring

@@ -1,29 +1,38 @@
 -- `archives` by what streams hold, and by their histories.
-use Rattle.std.proofs.Common.{List, [], ap, codes, refl, ℕ, ℤ, ◌++◌, ◌∙◌, ◌∷◌, ◌≡◌}
+use Rattle.std.proofs.Common.{List, [], ap, codes, length, refl, ℕ, ℤ, ◌++◌, ◌∙◌, ◌∷◌, ◌≡◌}
 use Rattle.std.specs.Fmt.{decimal}
 use Rattle.tr_console.proofs.WorldAgreement.{StepsAgree, at-agree}
 use Rattle.tr_console.specs.Agreement.{WorldsAgree}
 use Rattle.tr_console.specs.Text.{Text}
 use Rattle.tr_console.specs.World.{World}
-use Rattle.tr_console.specs.commands.Archives.{archive_line, archive_lines, archives_step, archives_text, lines_or_none}
+use Rattle.tr_console.specs.commands.Archives.{archive_line, archive_lines, archives_step, archives_text, lines_or_none, released_mark}
 use Rattle.tr_console.specs.commands.Rotate.{archive_text}
-use Rattle.tr_session.proofs.Agreement.{same-archive_bytes, same-archive_packets}
+use Rattle.tr_session.proofs.Agreement.{same-archive_bytes, same-archive_packets, same-archive_released, same-length}
 use Rattle.tr_session.specs.Agreement.{SessionsAgree}
 use Rattle.tr_session.specs.Session.{SessionOf}
-use Rattle.tr_session.specs.Sizes.{archive_bytes, archive_packets}
+use Rattle.tr_session.specs.Sizes.{archive_bytes, archive_packets, archive_released}
 use Rattle.tr_session_book.specs.declared.archive.Archive.{Archive}
 use Rattle.tr_stream.specs.Rules.{Traced, by_history, by_state}
 use Rattle.tr_stream.specs.State.{StreamState}
 
+same-mark : (a : SessionOf StreamState) (b : SessionOf Traced) (id : ℕ) → SessionsAgree a b
+    → released_mark (length a.streams) (archive_released by_state id a) ≡ released_mark (length b.streams) (archive_released by_history id b)
+same-mark a b id is =
+    ap (λ n. released_mark n (archive_released by_state id a)) (same-length a.streams b.streams is.streams)
+    ∙ ap (released_mark (length b.streams)) (same-archive_released a b is id)
+
 same-archive : (a : SessionOf StreamState) (b : SessionOf Traced) (archive : Archive) → SessionsAgree a b
     → archive_line by_state a archive ≡ archive_line by_history b archive
 same-archive a b archive is =
-    let line : ℤ → ℕ → ℕ → Text =
-    λ offset packets bytes. archive_text offset archive
-    ++ (codes " packets " ++ (decimal packets ++ (codes " bytes " ++ decimal bytes))) in
-    ap (λ k. line k.offset (archive_packets by_state archive.id a) (archive_bytes by_state archive.id a)) is.book
-    ∙ ap (λ n. line b.book.offset n (archive_bytes by_state archive.id a)) (same-archive_packets a b is archive.id)
-    ∙ ap (λ n. line b.book.offset (archive_packets by_history archive.id b) n) (same-archive_bytes a b is archive.id)
+    let line : ℤ → ℕ → ℕ → Text → Text =
+    λ offset packets bytes mark. archive_text offset archive
+    ++ (codes " packets " ++ (decimal packets ++ (codes " bytes " ++ (decimal bytes ++ mark)))) in
+    let mark = released_mark (length a.streams) (archive_released by_state archive.id a) in
+    ap (λ k. line k.offset (archive_packets by_state archive.id a) (archive_bytes by_state archive.id a) mark) is.book
+    ∙ ap (λ n. line b.book.offset n (archive_bytes by_state archive.id a) mark) (same-archive_packets a b is archive.id)
+    ∙ ap (λ n. line b.book.offset (archive_packets by_history archive.id b) n mark) (same-archive_bytes a b is archive.id)
+    ∙ ap (line b.book.offset (archive_packets by_history archive.id b) (archive_bytes by_history archive.id b))
+    (same-mark a b archive.id is)
 
 same-lines : (a : SessionOf StreamState) (b : SessionOf Traced) (archives : List Archive) → SessionsAgree a b
     → archive_lines by_state a archives ≡ archive_lines by_history b archives

@@ -3,7 +3,7 @@
 ghost use Rattle.std.specs.Prelude.{◌≡◌, ◌∷◌, ◌++◌, [], IfOk, OnOk};
 ghost use Rattle.std.specs.String.{string_bytes};
 ghost use Rattle.tr_console.specs.Replies.{Does};
-ghost use Rattle.tr_console.specs.commands.Archives.{archive_line, archives_step, archives_text};
+ghost use Rattle.tr_console.specs.commands.Archives.{archive_line, archives_step, archives_text, released_mark};
 ghost use Rattle.tr_stream.specs.Rules.{by_state};
 
 use crate::console::Console;
@@ -14,6 +14,17 @@ use std::fmt::Write;
 use tr_chunk::archive_name;
 use tr_session::Session;
 use tr_session_book::Archive;
+
+/// What the line of an archive ends with, by how many streams there are and of how many its part is released.
+fn released_mark(streams: u64, released: u64) -> &'static str
+    ensures { result.now ≡ released_mark streams released }
+{
+    if streams != 0 && released == streams {
+        " released"
+    } else {
+        ""
+    }
+}
 
 /// Adds the line of an archive.
 fn push_archive<A: Allocator + Copy>(
@@ -31,7 +42,8 @@ fn push_archive<A: Allocator + Copy>(
     let size = session.archive_size(id);
     let packets = size.packets;
     let bytes = size.bytes;
-    match write!(text, "{id} {name} packets {packets} bytes {bytes}\n") {
+    let mark = released_mark(session.streams(), size.released);
+    match write!(text, "{id} {name} packets {packets} bytes {bytes}{mark}\n") {
         Ok(()) => Ok(()),
         Err(_) => Err(AllocError),
     }

@@ -6,12 +6,13 @@ use std::process::Abort;
 use tr_command::parse;
 
 /// An empty word is no number, and is one word more.
-static BAD: [&str; 5] = [
+static BAD: [&str; 6] = [
     "fate s 0 ",
     "snapshot s ",
     "consume s ",
     "tick s ",
     "clear s ",
+    "release s ",
 ];
 
 /// Asserts that these words ask for nothing.

@@ -58,6 +58,26 @@ static CLEARS: [Asks<'static>; 3] = [
     clear!("clear -- -x", "-x"),
 ];
 
+/// A line, and the session and the number of the archive that it releases.
+macro_rules! release {
+    ($line:expr, $session:expr, $archive:expr $(,)?) => {
+        (
+            $line,
+            Request::Release {
+                session: $session,
+                archive: $archive,
+            },
+        )
+    };
+}
+
+static RELEASES: [Asks<'static>; 4] = [
+    release!("release s 0", "s", 0),
+    release!("release s 18446744073709551615", "s", MOST),
+    release!("release release 007", "release", 7),
+    release!("release -- -x 1", "-x", 1),
+];
+
 static STARTS: [Asks<'static>; 1] = [(
     "start s 9000000000000000000",
     Request::Start {
@@ -67,11 +87,12 @@ static STARTS: [Asks<'static>; 1] = [(
 )];
 
 #[test]
-fn reads_starts_stops_consumes_and_clears(rt: HostRuntime) {
+fn reads_starts_stops_consumes_clears_and_releases(rt: HostRuntime) {
     assert_each_asks(&rt, rt.alloc(), &STARTS);
     assert_each_asks(&rt, rt.alloc(), &STOPS);
     assert_each_asks(&rt, rt.alloc(), &CONSUMES);
     assert_each_asks(&rt, rt.alloc(), &CLEARS);
+    assert_each_asks(&rt, rt.alloc(), &RELEASES);
 }
 
 /// A line, and the session, the text and the fill of an offer of the record 7 to stream 0 at moment 1.
