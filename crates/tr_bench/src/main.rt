@@ -1,5 +1,5 @@
 //! What `bench/run` measures of the daemon's own crates: parsing alone, offers to one stream, alone and under its lock,
-//! reading packets again, and rotations.
+//! reading packets again, rotations, and what archives leave that are released.
 //!
 //! `tr_bench parse` reads and parses the lines of a script from standard input, and carries none of them out.
 //! `tr_bench offers CASE ROUNDS` makes 100,000 offers to a new stream, ROUNDS times.
@@ -9,13 +9,16 @@
 //! decode or audit them ROUNDS times, the last in feeds of 64 KiB.
 //! `tr_bench fill LENGTH ROUNDS` fills the rings of a new session with records with payloads of LENGTH bytes, ROUNDS times;
 //! `tr_bench rotate LENGTH ROUNDS` rotates each of these sessions too, and also prints how long the quickest rotation took.
-//! All print what they counted and, except for `fill`, a sum over all answers that they got.
+//! `tr_bench release LENGTH ROUNDS` rotates a session of one stream ROUNDS times, each time with one record with a payload of
+//! LENGTH bytes, and releases each archive; `tr_bench keep LENGTH ROUNDS` does the same and releases none.
+//! All print what they counted and, except for `fill`, `release` and `keep`, a sum over all answers that they got.
 #![tactic(auto)]
 
 mod cases;
 mod lines;
 mod offers;
 mod packets;
+mod releases;
 mod rotations;
 mod shared;
 mod sums;
@@ -146,6 +149,26 @@ fn fill(rt: &impl Print, alloc: Global, length: u64, rounds: u64) -> io::Result<
     }
 }
 
+fn archive(
+    rt: &impl Print,
+    alloc: Global,
+    length: u64,
+    rounds: u64,
+    keeps: bool,
+) -> io::Result<ExitCode> {
+    let payload = vec![in alloc; 0x61; length as usize]?;
+    match releases::rounds(alloc, &payload, rounds, keeps) {
+        Ok(t) => {
+            println!(rt;
+                "archives {} packets {} records {} bytes {} released {}",
+                t.archives, t.packets, t.records, t.bytes, t.released
+            )?;
+            Ok(ExitCode::SUCCESS)
+        }
+        Err(fault) => stopped(rt, fault),
+    }
+}
+
 /// Reads packets from the input, and reads them again in this many rounds.
 fn read(
     rt: &impl Print,
@@ -178,7 +201,7 @@ fn run_two(
     }
 }
 
-/// Does what three words ask for, which is to make offers or to fill rings.
+/// Does what three words ask for, which is to make offers, to fill rings or to rotate.
 fn run_three(
     rt: &(impl Print + Wait + CpuClock),
     alloc: Global,
@@ -191,6 +214,9 @@ fn run_three(
         ("offers" | "shared", Some(case), _) => offer(rt, alloc, what, &case, rounds),
         ("fill", _, Some(length)) => fill(rt, alloc, length, rounds),
         ("rotate", _, Some(length)) => rotate(rt, alloc, length, rounds),
+        ("keep" | "release", _, Some(length)) => {
+            archive(rt, alloc, length, rounds, what == "keep")
+        }
         _ => Ok(ExitCode::from(2)),
     }
 }

@@ -57,7 +57,7 @@ impl From<StepFault> for RotateFault {
     }
 }
 
-fn moment(nanoseconds: u64) -> Moment {
+pub fn moment(nanoseconds: u64) -> Moment {
     Moment::new(nanoseconds).unwrap_or(Moment::zero())
 }
 
@@ -93,12 +93,17 @@ fn fill(session: &mut Session, payload: &[u8]) -> Result<(), RotateFault> {
     Ok(())
 }
 
-/// A session that was started at moment 0; each of its rings is full of records with this payload.
-fn full_session(alloc: Global, payload: &[u8]) -> Result<Session, RotateFault> {
+/// A session without channels.
+pub fn new_session(alloc: Global) -> Result<Session, RotateFault> {
     let Some(offset) = OffsetMinutes::new(0) else {
         return Err(RotateFault::NoOffset);
     };
-    let mut session = Session::new(alloc, Uuid::from_u128(1), offset, SessionMode::Local);
+    Ok(Session::new(alloc, Uuid::from_u128(1), offset, SessionMode::Local))
+}
+
+/// A session that was started at moment 0; each of its rings is full of records with this payload.
+fn full_session(alloc: Global, payload: &[u8]) -> Result<Session, RotateFault> {
+    let mut session = new_session(alloc)?;
     begin(&mut session)?;
     fill(&mut session, payload)?;
     Ok(session)

@@ -15,7 +15,7 @@ use tr_chunk::{
     write_metadata, write_part,
 };
 use tr_packet::{Head, Packet, PacketFault, encode_packet, metadata_text};
-use tr_record::{MemorySink, Rec, WriterSink};
+use tr_record::{ByteSink, MemorySink, Rec, WriterSink};
 use tr_terms::Name;
 use tr_testing::{FailsAfter, Filling, moment};
 use uuid::Uuid;
@@ -77,10 +77,16 @@ fn parts(rt: &impl Abort, alloc: Global) -> Parts {
     parts
 }
 
+/// Writes a part that wasn't released.
+fn write_held(rt: &impl Abort, sink: &mut impl ByteSink, part: &Part) -> Result<(), WriteFault> {
+    assert!(rt; !part.is_released());
+    write_part(sink, part)
+}
+
 /// The file of the current part, which is written to a sink that is flushed at this size.
 fn file_of(rt: &impl Abort, alloc: Global, parts: &Parts, size: usize) -> Vec<u8> {
     let mut sink = MemorySink::new(alloc, size);
-    write_part(&mut sink, parts.current()).expect(rt, "a file");
+    write_held(rt, &mut sink, parts.current()).expect(rt, "a file");
     sink.into_bytes()
 }
 
@@ -242,7 +248,7 @@ static WRITES: [(u64, Result<(), WriteFault>); 5] = [
 /// Asserts what writing a part answers if the sink takes this many bytes.
 fn assert_write(rt: &impl Abort, part: &Part, bytes: u64, want: Result<(), WriteFault>) {
     let mut sink = WriterSink::new(FailsAfter::new(bytes));
-    assert_same(rt, (bytes, write_part(&mut sink, part)), (bytes, want));
+    assert_same(rt, (bytes, write_held(rt, &mut sink, part)), (bytes, want));
 }
 
 #[test]
@@ -260,7 +266,7 @@ fn assert_front(rt: &impl Abort, alloc: Global, part: &Part, texts: &[u8], room:
         room,
         failures: 0,
     };
-    let answer = write_part(&mut sink, part);
+    let answer = write_held(rt, &mut sink, part);
     let wanted = (room, Err(WriteFault::Write), 1);
     assert_same(rt, (room, answer, sink.failures), wanted);
     let front = texts.get(..room).expect(rt, "more bytes");

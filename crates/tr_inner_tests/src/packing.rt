@@ -22,7 +22,7 @@ pub fn put(rt: &impl Abort, alloc: Global, texts: &mut PacketTexts, packet: &Pac
 pub fn put_in_part(rt: &impl Abort, alloc: Global, parts: &mut Parts, packet: &Packet) {
     let bytes = encode_packet(alloc, packet).expect(rt, "memory");
     let (view, _) = decode_packet(&bytes).expect(rt, "a packet");
-    assert!(rt; parts.current().records() < 1000);
+    assert!(rt; !parts.current().is_released() && parts.current().records() < 1000);
     assert!(rt; view.count() < 1000);
     let put = parts.push(view.head(), view.count(), &view.records());
     put.expect(rt, "memory");

@@ -3,6 +3,7 @@
 mod audits;
 mod channels;
 mod clears;
+mod releases;
 mod rotations;
 mod runs;
 mod snapshots;
@@ -15,7 +16,7 @@ use std::process::Abort;
 use tr_schedule::{Cause, Schedule};
 use tr_session::{Next, Session, StepFault, Ticked};
 use tr_session_book::{Archive, SessionFault, State};
-use tr_stream::{Cleared, CutDone, Fate, Offered, Taken};
+use tr_stream::{Cleared, CutDone, Fate, Offered, Released, Taken};
 use tr_terms::{Mode, Name, OffsetMinutes, SessionMode};
 use tr_testing::moment;
 use uuid::Uuid;
@@ -56,6 +57,10 @@ enum Step {
     Clear(u64, Result<Cleared, SessionFault>),
     /// A clear of the session, and how many records it answers.
     ClearAll(Result<u128, SessionFault>),
+    /// A release of a stream's part of an archive.
+    Release(u64, u64, Result<Released, SessionFault>),
+    /// A release of an archive.
+    ReleaseAll(u64, Result<(), SessionFault>),
     /// How many of a stream's records are cleared, and how many are in its chunks.
     Kept(u64, (u64, u64)),
     /// A tick at this moment, and the rotation that it made.
@@ -73,8 +78,10 @@ enum Step {
     State(State),
     /// How many archives there are.
     Archives(usize),
-    /// The packets, records and bytes of an archive.
+    /// The packets, records and bytes of an archive of which nothing is released.
     Size(u64, (u128, u128, u128)),
+    /// The same of an archive, and of how many streams the part is released.
+    Left(u64, (u128, u128, u128), u64),
 }
 
 static PAYLOAD: [u8; 153] = [0x61; 153];
@@ -163,6 +170,8 @@ fn assert_rotation_step<A: Allocator + Copy>(
         Step::Finish(want) => assert_at(rt, place, row(session.rotate_finish()), want),
         Step::Clear(i, want) => assert_at(rt, place, session.clear_stream(i), want),
         Step::ClearAll(want) => assert_at(rt, place, session.clear(), want),
+        Step::Release(i, k, want) => assert_at(rt, place, session.release_stream(i, k), want),
+        Step::ReleaseAll(k, want) => assert_at(rt, place, session.release(k), want),
         Step::Kept(i, want) => {
             let counts = session.stream(i).expect(rt, "a stream").counts();
             assert_at(rt, place, (counts.cleared, counts.in_chunks), want);
@@ -173,12 +182,23 @@ fn assert_rotation_step<A: Allocator + Copy>(
         Step::ChunkBegin(at) => assert_at(rt, place, session.book().begin().get(), at),
         Step::Archives(count) => assert_at(rt, place, session.book().archives().len(), count),
         Step::State(state) => assert_at(rt, place, session.book().state(), state),
-        Step::Size(id, want) => {
-            let size = session.archive_size(id);
-            assert_at(rt, place, (size.packets, size.records, size.bytes), want);
-        }
+        Step::Size(id, want) => assert_size(rt, session, place, id, (want, 0)),
+        Step::Left(id, want, released) => assert_size(rt, session, place, id, (want, released)),
         _ => panic!(rt; "a step without a call, {place:?}"),
     }
+}
+
+/// Asserts how much an archive holds, and of how many streams the part is released.
+fn assert_size<A: Allocator + Copy>(
+    rt: &impl Abort,
+    session: &Session<A>,
+    place: Place,
+    id: u64,
+    want: ((u128, u128, u128), u64),
+) {
+    let size = session.archive_size(id);
+    let found = ((size.packets, size.records, size.bytes), size.released);
+    assert_at(rt, place, found, want);
 }
 
 fn assert_added<A: Allocator + Copy>(

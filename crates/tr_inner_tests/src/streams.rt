@@ -4,6 +4,7 @@ mod calls;
 mod clears;
 mod looks;
 mod memory;
+mod releases;
 mod rings;
 mod runs;
 
@@ -14,8 +15,8 @@ use tr_book::{Counts, StreamSnap};
 use tr_packet::{Head, PacketView, Packets};
 use tr_record::RecView;
 use tr_stream::{
-    ClearFault, Cleared, CutDone, CutFault, Fate, OfferFault, Offered, Stream, StreamConfig,
-    TakeFault, Taken,
+    ClearFault, Cleared, CutDone, CutFault, Fate, OfferFault, Offered, ReleaseFault, Released,
+    Stream, StreamConfig, TakeFault, Taken,
 };
 use tr_terms::{Geometry, Mode, SessionMode};
 use tr_testing::moment;
@@ -48,6 +49,8 @@ enum Step {
     /// A cut at this moment.
     Cut(u64, Result<CutDone, CutFault>),
     Clear(Result<Cleared, ClearFault>),
+    /// A release of the part with this number.
+    Release(u64, Result<Released, ReleaseFault>),
     /// A peek at this moment. It shows the offers, the discarded records and the packets.
     Peek(u64, (u64, u64), &'static [PacketRow]),
     /// The fate of the record with this serial.
@@ -55,8 +58,10 @@ enum Step {
     Counts(Counts),
     /// The records of the ring, the oldest first.
     Ring(&'static [Row]),
-    /// The bytes, the records and the packets of the part with this number.
+    /// The bytes, the records and the packets of the part with this number, which wasn't released.
     Part(u64, (u128, u64), &'static [PacketRow]),
+    /// What is kept of the part with this number, which was released: how much it had.
+    Rest(u64, Released),
     /// There is no part with this number.
     NoPart(u64),
 }
@@ -119,6 +124,7 @@ fn assert_step(rt: &impl Abort, stream: &mut Stream, place: Place, step: &Step) 
         Step::Take(want) => assert_at(rt, place, stream.take(), want),
         Step::Cut(at, want) => assert_at(rt, place, stream.cut(moment(at)), want),
         Step::Clear(want) => assert_at(rt, place, stream.clear(), want),
+        Step::Release(k, want) => assert_at(rt, place, stream.release(k), want),
         Step::Peek(at, counts, rows) => {
             let snap = stream.peek(moment(at)).expect(rt, "a look");
             assert_look(rt, place, &snap, counts, rows);
@@ -137,11 +143,32 @@ fn assert_seen(rt: &impl Abort, stream: &Stream, place: Place, step: &Step) {
             let part = stream.part(number).expect(rt, "a part");
             assert_at(rt, place, part.id(), number);
             assert_at(rt, place, (part.bytes(), part.records()), size);
+            let count = rows.len() as u64;
+            assert_at(
+                rt,
+                place,
+                (part.is_released(), part.packet_count()),
+                (false, count),
+            );
             assert_packets(rt, place, part.packets(), rows);
         }
+        Step::Rest(number, had) => assert_rest(rt, stream, place, number, had),
         Step::NoPart(number) => assert_at(rt, place, stream.part(number).is_none(), true),
         _ => panic!(rt; "nothing to see, {place:?}"),
     }
+}
+
+/// Asserts that the part of this number was released, and what it had: it has no packets now, and an empty text.
+fn assert_rest(rt: &impl Abort, stream: &Stream, place: Place, number: u64, had: Released) {
+    let part = stream.part(number).expect(rt, "a part");
+    assert_at(rt, place, (part.id(), part.is_released()), (number, true));
+    let found = Released {
+        packets: part.packet_count(),
+        records: part.records(),
+        bytes: part.bytes(),
+    };
+    assert_at(rt, place, found, had);
+    assert_at(rt, place, (part.packets().len(), part.text().len()), (0, 0));
 }
 
 /// Offers a payload of `len` bytes with the id 7.

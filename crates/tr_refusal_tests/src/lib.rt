@@ -2,7 +2,7 @@
 //! documentation says, and the same call made again with memory gives the ordinary answer. There are two ways:
 //!
 //! - each request of a call for memory is refused in turn: it is made with no request granted, with one, with two, and so on
-//!   until none is refused. A call is refused if and only if one of its requests was;
+//!   until none is refused. A call is refused if and only if one of its requests was that it can't do without;
 //! - the call is made with no free memory, with 16 bytes, with 32, and so on until it has enough: so each request is refused that
 //!   wants more than those before it. Shared sessions are tested this way alone.
 //!

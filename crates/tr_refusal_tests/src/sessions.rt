@@ -4,6 +4,7 @@ mod alike;
 mod clears;
 mod events;
 mod free;
+mod releases;
 mod rotations;
 mod shared;
 mod single;
@@ -17,7 +18,7 @@ use tr_schedule::{Cause, Schedule};
 use tr_session::{Next, Session, StepFault, Ticked};
 use tr_session_book::{Archive, SessionFault};
 use tr_snapshot::Snapshot;
-use tr_stream::{Cleared, CutDone, Offered, Taken};
+use tr_stream::{Cleared, CutDone, Offered, Released, Taken};
 use tr_terms::{Mode, Moment, Name, OffsetMinutes, SessionMode};
 use tr_testing::{Rationed, moment};
 use uuid::Uuid;
@@ -87,6 +88,7 @@ enum Told {
     Taken(Result<Taken, StepFault>),
     Cut(Result<CutDone, StepFault>),
     Cleared(Result<Cleared, SessionFault>),
+    Released(Result<Released, SessionFault>),
     Next(Result<Next, StepFault>),
     /// Also how many cuts the rotation has made that is held up.
     Archived(Result<Chunk, SessionFault>, Option<u64>),
@@ -373,4 +375,14 @@ const THREE: [Step; 5] = [
     Step::Start,
     Step::Offers(0, 7),
     Step::Offers(2, 1),
+];
+
+/// The same, in an archive. What the first one has of it are three packets of 228 bytes and one of 154.
+const ARCHIVED: [Step; 6] = [
+    Step::Channel("c"),
+    Step::Threads("c", 3),
+    Step::Start,
+    Step::Offers(0, 7),
+    Step::Offers(2, 1),
+    Step::Rotate(50),
 ];

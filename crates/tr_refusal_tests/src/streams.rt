@@ -4,14 +4,16 @@ mod runs;
 
 use crate::scarce::{UNIT, new_heap};
 use crate::turns::{Call, assert_same, only, refuse_each, refuse_each_request};
-use Asked::{Clear, Cut, Peek, Take};
-use Before::{Clears, Cuts, Offers, Pairs, Takes};
+use Asked::{Clear, Cut, Peek, Release, Take};
+use Before::{Clears, CutAll, Cuts, Offers, Pairs, Takes};
 use linked_list_allocator::LocalHeap;
 use std::alloc::{AllocError, Allocator, Global};
 use std::process::Abort;
 use tr_book::Part;
 use tr_record::RecView;
-use tr_stream::{ClearFault, Cleared, CutDone, CutFault, Stream, TakeFault, Taken};
+use tr_stream::{
+    ClearFault, Cleared, CutDone, CutFault, ReleaseFault, Released, Stream, TakeFault, Taken,
+};
 use tr_terms::{Geometry, Mode, Moment, SessionMode};
 use tr_testing::{Rationed, moment};
 use uuid::Uuid;
@@ -38,12 +40,12 @@ fn assert_same_records<A: Allocator>(rt: &impl Abort, one: &Stream<A>, other: &S
     }
 }
 
-/// A part's number, its records, its packets, its bytes and their text.
-fn part_shown<A: Allocator>(part: &Part<A>) -> (u64, u64, usize, u128, &[u8]) {
+/// A part's number, whether it was released, its packets, its records, its bytes and their text.
+fn part_shown<A: Allocator>(part: &Part<A>) -> ((u64, bool), (u64, usize), u64, u128, &[u8]) {
     (
-        part.id(),
+        (part.id(), part.is_released()),
+        (part.packet_count(), part.packets().len()),
         part.records(),
-        part.packets().len(),
         part.bytes(),
         part.text(),
     )
@@ -88,6 +90,8 @@ enum Asked {
     /// A cut at moment 100.
     Cut(CutDone),
     Clear(Cleared),
+    /// A release of part 0, and which of its requests for memory is that for less room, if it makes one.
+    Release(Released, Option<usize>),
     /// A look, and how many bytes it shows.
     Peek(usize),
 }
@@ -98,6 +102,7 @@ enum Told {
     Taken(Result<Taken, TakeFault>),
     Cut(Result<CutDone, CutFault>),
     Cleared(Result<Cleared, ClearFault>),
+    Released(Result<Released, ReleaseFault>),
     /// The bytes that a look shows. None without memory.
     Peeked(Option<usize>),
 }
@@ -112,6 +117,8 @@ enum Before {
     Takes(u64),
     /// Cuts, each of a ring of one record.
     Cuts(u64),
+    /// A cut of what the ring holds.
+    CutAll,
     /// Clears, each of a ring of one record.
     Clears(u64),
 }
@@ -170,6 +177,9 @@ fn prepare<A: Allocator + Copy>(rt: &impl Abort, stream: &mut Stream<A>, before:
         Pairs(count) => offer_pairs(stream, count),
         Takes(count) => take_many(rt, stream, count),
         Cuts(count) => cut_many(rt, stream, count),
+        CutAll => {
+            stream.cut(moment(0)).expect(rt, "a cut");
+        }
         Clears(count) => clear_many(rt, stream, count),
     }
 }
@@ -213,6 +223,7 @@ impl<A: Allocator + Copy> Call<A> for Row {
             Take(_) => Told::Taken(object.take()),
             Cut(_) => Told::Cut(object.cut(Moment::within_limit(100))),
             Clear(_) => Told::Cleared(object.clear()),
+            Release(..) => Told::Released(object.release(0)),
             Peek(_) => Told::Peeked(match object.peek(Moment::within_limit(100)) {
                 Ok(snap) => Some(snap.text().len()),
                 Err(_) => None,
@@ -225,6 +236,7 @@ impl<A: Allocator + Copy> Call<A> for Row {
             Take(taken) => Told::Taken(Ok(taken)),
             Cut(done) => Told::Cut(Ok(done)),
             Clear(cleared) => Told::Cleared(Ok(cleared)),
+            Release(released, _) => Told::Released(Ok(released)),
             Peek(bytes) => Told::Peeked(Some(bytes)),
         }
     }
@@ -235,8 +247,17 @@ impl<A: Allocator + Copy> Call<A> for Row {
             Cut(_) => only(number, Told::Cut(Err(CutFault::NoMemory))),
             Clear(Cleared { packets: 0, .. }) => None,
             Clear(_) => only(number, Told::Cleared(Err(ClearFault::NoMemory))),
+            Release(Released { packets: 0, .. }, _) => None,
+            Release(..) => only(number, Told::Released(Err(ReleaseFault::NoMemory))),
             Peek(0) => None,
             Peek(_) => only(number, Told::Peeked(None)),
+        }
+    }
+
+    fn spares(&self, request: usize) -> bool {
+        match self.asked {
+            Release(_, less_room) => less_room == Some(request),
+            _ => false,
         }
     }
 
@@ -246,7 +267,7 @@ impl<A: Allocator + Copy> Call<A> for Row {
 }
 
 /// Packets have a list, with room for four at first, and their bytes, whose room doubles when they grow. Runs have a list too.
-static ROWS: [Row; 15] = [
+static ROWS: [Row; 21] = [
     Row {
         ring: (2, Mode::Discard),
         before: &[Offers(3)],
@@ -377,6 +398,84 @@ static ROWS: [Row; 15] = [
             packets: 0,
             records: 0,
         }),
+    },
+    // three packets of 228 bytes and one of 154: four runs, which fill their first room
+    Row {
+        ring: (4, Mode::Discard),
+        before: &[Offers(7), CutAll],
+        asked: Release(
+            Released {
+                packets: 4,
+                records: 7,
+                bytes: 838,
+            },
+            None,
+        ),
+    },
+    // three runs, which move to less room
+    Row {
+        ring: (4, Mode::Discard),
+        before: &[Offers(5), CutAll],
+        asked: Release(
+            Released {
+                packets: 3,
+                records: 5,
+                bytes: 610,
+            },
+            Some(1),
+        ),
+    },
+    // eight runs, which fill their second room: of a packet of 256 bytes, and of seven records in 248 bytes
+    Row {
+        ring: (2, Mode::Discard),
+        before: &[Pairs(7), CutAll],
+        asked: Release(
+            Released {
+                packets: 2,
+                records: 8,
+                bytes: 504,
+            },
+            None,
+        ),
+    },
+    // five runs, which move to less room: four of the records are in 176 bytes
+    Row {
+        ring: (2, Mode::Discard),
+        before: &[Pairs(4), CutAll],
+        asked: Release(
+            Released {
+                packets: 2,
+                records: 5,
+                bytes: 432,
+            },
+            Some(2),
+        ),
+    },
+    // other parts, cleared packets and the ring stay
+    Row {
+        ring: (4, Mode::Discard),
+        before: &[Cuts(3), Clears(1), Offers(7), Takes(2)],
+        asked: Release(
+            Released {
+                packets: 1,
+                records: 1,
+                bytes: 154,
+            },
+            Some(1),
+        ),
+    },
+    // a part without packets takes no memory
+    Row {
+        ring: (4, Mode::Discard),
+        before: &[CutAll, Offers(7)],
+        asked: Release(
+            Released {
+                packets: 0,
+                records: 0,
+                bytes: 0,
+            },
+            None,
+        ),
     },
 ];
 

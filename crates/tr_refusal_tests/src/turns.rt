@@ -40,6 +40,12 @@ pub(crate) trait Call<A: Allocator + Copy> {
     /// The refusal of this number, of those that it answers in turn if it gets more and more memory. None if there are no more.
     fn refusal(&self, number: usize) -> Option<Self::Answer>;
 
+    /// Whether the call can do without its request of this number, from 0 on, and without all after it: that is a move to
+    /// less room. None can, if nothing else is said.
+    fn spares(&self, _request: usize) -> bool {
+        false
+    }
+
     /// Asserts that two of its objects can't be told apart by what they show.
     fn assert_alike(&self, rt: &impl Abort, one: &Self::Object, other: &Self::Object);
 
@@ -97,7 +103,7 @@ fn assert_left<A: Allocator + Copy, C: Call<A>>(
 }
 
 /// Makes a call of which so many requests for memory are granted and the later ones refused, asserts that it is refused if and
-/// only if one of its requests was, and what stands after it. Its first answer.
+/// only if one of its requests was that it can't do without, and what stands after it. Its first answer.
 fn make_rationed<'h, C: Call<&'h Rationed>>(
     rt: &impl Abort,
     memory: &'h Rationed,
@@ -109,7 +115,13 @@ fn make_rationed<'h, C: Call<&'h Rationed>>(
     memory.limit(requests as u64);
     let answer = call.make(rt, &mut object);
     let refused = memory.lift();
-    assert_at(rt, requests, answer == call.granted(rt), refused == 0);
+    let (granted, spares) = (answer == call.granted(rt), call.spares(requests));
+    assert_at(
+        rt,
+        requests,
+        (granted, refused > 0 && granted),
+        (refused == 0 || spares, spares),
+    );
     assert_left(rt, call, answer, (&mut object, &mut other), requests);
     answer
 }

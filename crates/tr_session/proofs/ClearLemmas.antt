@@ -1,10 +1,8 @@
 -- A whole clear of a session: one stream after another.
-use Rattle.std.proofs.Common.{◌≡◌, ◌≢◌, ◌∙◌, ℕ, ◌+◌, ◌*◌, ◌^◌, ◌≤◌, ◌<◌, zero, suc, true, false, List, [], ◌∷◌, length, map, take, Option, Some, Result, Ok, Err, ap, arith, refl, subst, sym, ⊎_elim}
-use Rattle.std.proofs.lemmas.Bool.Decides.{nat_tests}
+use Rattle.std.proofs.Common.{◌≡◌, ◌≢◌, ◌∙◌, ℕ, ◌+◌, ◌*◌, ◌^◌, ◌≤◌, ◌<◌, zero, suc, List, length, map, take, Some, Result, Ok, Err, ap, arith, refl, subst, sym, ⊎_elim}
 use Rattle.std.proofs.lemmas.List.{take_all}
 use Rattle.std.specs.List.{sum_by}
-use Rattle.std.specs.Option.{option_map_or}
-use Rattle.std.specs.Prelude.{IsOk, nat_lt, slice_get}
+use Rattle.std.specs.Prelude.{IsOk, slice_get}
 use Rattle.tr_session.proofs.AskedLemmas.{asked-there, next-asked}
 use Rattle.tr_session.proofs.CallLemmas.{wants-memory}
 use Rattle.tr_session.proofs.ListLemmas.{changed-next, changed_before, changed_before-all}
@@ -12,12 +10,11 @@ use Rattle.tr_session.proofs.SessionLemmas.{at-there}
 use Rattle.tr_session.proofs.SizeLemmas.{sum-more}
 use Rattle.tr_session.proofs.StreamLemmas.{mode-at}
 use Rattle.tr_book.specs.declared.counts.Counts.{Counts}
-use Rattle.tr_session.specs.Session.{HasItsStreams, SessionOf, session_of}
+use Rattle.tr_session.specs.Session.{HasItsStreams, SessionOf}
 use Rattle.tr_session.specs.Sizes.{all_cleared}
-use Rattle.tr_session.specs.Steps.{ClearsPackets, IsClearedSome, and_records, change_at, clear_as_session, clear_first, clear_first_answer, cleared_in_all, if_allowed, records_cleared, session_after_clear, session_clear_answer, with_first_cleared}
-use Rattle.tr_session_book.specs.Book.{SessionBookState}
+use Rattle.tr_session.specs.Steps.{ClearsPackets, IsClearedSome, and_records, change_at, clear_as_session, clear_first, clear_first_answer, cleared_in_all, records_cleared, session_after_clear, session_clear_answer, with_first_cleared}
 use Rattle.tr_session_book.specs.BookSteps.{book_clear_answer, clear_allowed_at, unless_refused}
-use Rattle.tr_session_book.specs.declared.faults.SessionFault.TheVariants.{NoMemory, NoStream}
+use Rattle.tr_session_book.specs.declared.faults.SessionFault.TheVariants.{NoMemory}
 use Rattle.tr_session_book.specs.declared.faults.SessionFault.{SessionFault}
 use Rattle.tr_stream.proofs.SessionLemmas.{in-local}
 use Rattle.tr_stream.specs.Rules.{by_state}

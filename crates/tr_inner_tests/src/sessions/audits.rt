@@ -1,6 +1,7 @@
 //! The audit of the files that streams leave.
 
-use super::{PAYLOAD, assert_same};
+use super::Step::{Channel, Offers as Made, ReleaseAll, Rotate, Start, Threads};
+use super::{PAYLOAD, Step, after, assert_same};
 use std::alloc::Global;
 use std::process::Abort;
 use tr_chunk::{AuditCause, AuditFault, audit_stream, write_part};
@@ -44,7 +45,13 @@ fn file(rt: &impl Abort, alloc: Global, (mode, before, after, cut): Life) -> Vec
     let _ = stream.take();
     make_offers(rt, &mut stream, after);
     let _ = stream.cut(moment(cut));
-    let part = stream.part(0).expect(rt, "a part");
+    part_file(rt, alloc, &stream, 0)
+}
+
+/// The file of a part of a stream, which wasn't released.
+fn part_file(rt: &impl Abort, alloc: Global, stream: &Stream, id: u64) -> Vec<u8> {
+    let part = stream.part(id).expect(rt, "a part");
+    assert!(rt; !part.is_released());
     let mut sink = MemorySink::new(alloc, 1);
     write_part(&mut sink, part).expect(rt, "a file");
     sink.into_bytes()
@@ -87,9 +94,9 @@ const OVERWRITTEN: Told = Told {
     last_lost: 0,
 };
 
-/// Asserts what the audit of a file says.
-fn assert_audited(rt: &impl Abort, alloc: Global, bytes: &[u8], told: &Told) {
-    let audit = audit_stream(alloc, &Uuid::from_u128(1), 0, &[bytes]).expect(rt, "an audit");
+/// Asserts what the audit says of a file of the trace with this identifier.
+fn assert_audited(rt: &impl Abort, alloc: Global, uuid: &Uuid, bytes: &[u8], told: &Told) {
+    let audit = audit_stream(alloc, uuid, 0, &[bytes]).expect(rt, "an audit");
     assert_same(
         rt,
         (audit.packets, audit.records),
@@ -112,7 +119,7 @@ fn the_audit_finds_what_was_discarded_and_overwritten(rt: HostRuntime) {
     ] {
         let bytes = file(&rt, rt.alloc(), life);
         assert_same(&rt, bytes.len(), size);
-        assert_audited(&rt, rt.alloc(), &bytes, &told);
+        assert_audited(&rt, rt.alloc(), &Uuid::from_u128(1), &bytes, &told);
     }
 }
 
@@ -148,4 +155,36 @@ fn the_audit_names_the_packet_at_fault(rt: HostRuntime) {
     let bad = AuditCause::Packet(PacketFault::BadMagic);
     assert_fault(&rt, rt.alloc(), &[&bytes], Some((0, 0, bad)));
     assert_fault(&rt, rt.alloc(), &[], None);
+}
+
+/// Two archives of one stream, each of two packets of two records, of which the first is released.
+static FIRST_RELEASED: [Step; 8] = [
+    Channel("c", (256, 2, Mode::Discard), Ok(())),
+    Threads("c", 0, 1),
+    Start(0, Ok(())),
+    Made(1, 5, 50),
+    Rotate(10, Ok((0, 0, 10))),
+    Made(11, 15, 50),
+    Rotate(20, Ok((1, 10, 20))),
+    ReleaseAll(0, Ok(())),
+];
+
+/// What is found of the second one alone: the two packets before it are absent.
+const SECOND: Told = Told {
+    packets: 2,
+    records: 4,
+    gaps: &[(0, 2)],
+    last_seq: 3,
+    last_serial: 7,
+    last_lost: 0,
+};
+
+#[test]
+fn the_audit_passes_what_a_release_left(rt: HostRuntime) {
+    let session = after(&rt, rt.alloc(), SessionMode::Local, &FIRST_RELEASED);
+    let stream = session.stream(0).expect(&rt, "a stream");
+    let bytes = part_file(&rt, rt.alloc(), stream, 1);
+    assert_same(&rt, bytes.len(), 456);
+    assert_audited(&rt, rt.alloc(), &Uuid::nil(), &bytes, &SECOND);
+    drop(session);
 }

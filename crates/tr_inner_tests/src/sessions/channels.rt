@@ -255,7 +255,7 @@ fn assert_named(rt: &impl Abort, alloc: Global, fault: StepFault, text: &str) {
 }
 
 /// The faults of a session, and what they print.
-static FAULTS: [(SessionFault, &str); 18] = [
+static FAULTS: [(SessionFault, &str); 20] = [
     (SessionFault::SnapshotMode, "S1 SnapshotMode"),
     (SessionFault::NotSnapshotMode, "S2 NotSnapshotMode"),
     (SessionFault::NeverStarted, "S3 NeverStarted"),
@@ -273,6 +273,8 @@ static FAULTS: [(SessionFault, &str); 18] = [
     (SessionFault::NameTaken, "S15 NameTaken"),
     (SessionFault::NoMemory, "S16 NoMemory"),
     (SessionFault::NoChannel, "S17 NoChannel"),
+    (SessionFault::NoArchive, "S18 NoArchive"),
+    (SessionFault::Released, "S19 Released"),
     (SessionFault::Misplaced, "S20 Misplaced"),
 ];
 

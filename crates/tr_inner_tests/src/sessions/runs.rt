@@ -2,15 +2,15 @@
 
 use super::{Place, Row, Step, assert_archives, assert_at, assert_same, assert_steps, row};
 use Call::{
-    Clear, Cut, Offer, RotateBegin, RotateFinish, SessionStart, SessionStop, Snap, Start, Stop,
-    Take,
+    Clear, Cut, Offer, Release, RotateBegin, RotateFinish, SessionStart, SessionStop, Snap, Start,
+    Stop, Take,
 };
 use std::alloc::Global;
 use std::process::Abort;
 use tr_session::{Answer, ChannelConfig, Config, Event, Session, StepFault, run_session};
 use tr_session_book::SessionFault;
 use tr_snapshot::{count, oldest_serial};
-use tr_stream::{Cleared, CutDone, Fate, Offered, Payload, Taken};
+use tr_stream::{Cleared, CutDone, Fate, Offered, Payload, Released, Taken};
 use tr_terms::{Mode, Name, OffsetMinutes, SessionMode};
 use tr_testing::moment;
 use uuid::Uuid;
@@ -60,6 +60,8 @@ enum Call {
     Take(u64, Result<Taken, StepFault>),
     Cut(u64, Result<CutDone, StepFault>),
     Clear(u64, Result<Cleared, SessionFault>),
+    /// A release of a stream's part of an archive.
+    Release(u64, u64, Result<Released, SessionFault>),
     RotateBegin(u64, Result<u64, SessionFault>),
     RotateFinish(Result<Row, SessionFault>),
     /// A look at a stream at this moment. It shows the offers, the discarded records, the oldest serial, and how many
@@ -81,6 +83,7 @@ fn event(rt: &impl Abort, alloc: Global, call: &Call) -> Event {
         Take(i, _) => Event::Take(i),
         Cut(i, _) => Event::Cut(i),
         Clear(i, _) => Event::Clear(i),
+        Release(i, k, _) => Event::Release(i, k),
         RotateBegin(at, _) => Event::RotateBegin(moment(at)),
         RotateFinish(_) => Event::RotateFinish,
         Snap(i, at, _) => Event::Snap(i, moment(at)),
@@ -94,6 +97,7 @@ fn assert_answer(rt: &impl Abort, place: Place, answer: &Answer, call: &Call) {
         (Answer::Take(found), Take(_, want)) => assert_at(rt, place, *found, want),
         (Answer::Cut(found), Cut(_, want)) => assert_at(rt, place, *found, want),
         (Answer::Clear(found), Clear(_, want)) => assert_at(rt, place, *found, want),
+        (Answer::Release(found), Release(_, _, want)) => assert_at(rt, place, *found, want),
         (Answer::Start(found), Start(_, want)) => assert_at(rt, place, *found, want),
         (Answer::Stop(found), Stop(_, want)) => assert_at(rt, place, *found, want),
         (Answer::SessionStart(found), SessionStart(_, want)) => assert_at(rt, place, *found, want),
@@ -292,6 +296,46 @@ static CLEARED_FATES: [Step; 2] = [
 #[test]
 fn clears_of_streams(rt: HostRuntime) {
     assert_fates(&rt, rt.alloc(), 15, &CLEARED, &CLEARED_FATES);
+}
+
+/// What a release of a packet of one record gives up.
+const ONE_RELEASED: Released = Released {
+    packets: 1,
+    records: 1,
+    bytes: 154,
+};
+
+/// Releases of parts between other events, and those that are refused.
+static RELEASED: [Call; 17] = [
+    Release(0, 0, Err(SessionFault::NoArchive)),
+    SessionStart(0, Ok(())),
+    Start(0, Ok(())),
+    Start(1, Ok(())),
+    Offer(0, 1, Ok(Offered::Stored { serial: 0, seq: 0 })),
+    Offer(1, 1, Ok(Offered::Stored { serial: 0, seq: 0 })),
+    RotateBegin(10, Ok(0)),
+    Cut(0, Ok(ONE_CUT)),
+    Release(0, 0, Err(SessionFault::NoArchive)),
+    Cut(1, Ok(ONE_CUT)),
+    RotateFinish(Ok((0, 0, 10))),
+    Release(2, 0, Err(SessionFault::NoStream)),
+    Release(1, 1, Err(SessionFault::NoArchive)),
+    Release(1, 0, Ok(ONE_RELEASED)),
+    Release(1, 0, Err(SessionFault::Released)),
+    Offer(1, 11, Ok(Offered::Stored { serial: 1, seq: 1 })),
+    Release(0, 0, Ok(ONE_RELEASED)),
+];
+
+/// Where their records are at the end.
+static RELEASED_FATES: [Step; 3] = [
+    Step::Fate(0, 0, Ok(Some(Fate::InChunk { chunk: 0, seq: 0 }))),
+    Step::Fate(1, 0, Ok(Some(Fate::InChunk { chunk: 0, seq: 0 }))),
+    Step::Left(0, (2, 2, 308), 2),
+];
+
+#[test]
+fn releases_of_parts(rt: HostRuntime) {
+    assert_fates(&rt, rt.alloc(), 17, &RELEASED, &RELEASED_FATES);
 }
 
 /// Two looks, after six offers and after a seventh.

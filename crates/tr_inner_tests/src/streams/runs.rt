@@ -1,18 +1,18 @@
 //! A list of calls and its answers, worked by hand: sub-buffers of 256 bytes, two to a ring, in discard mode.
 
-use super::Step::{self, Clear, Cut, Offer, Peek, Start, Stop, Take};
+use super::Step::{self, Clear, Cut, Offer, Peek, Release, Start, Stop, Take};
 use super::{PAYLOAD, PacketRow, Place, assert_at, assert_lists, assert_look, assert_same, small};
 use std::alloc::Global;
 use std::process::Abort;
 use tr_stream::{
-    Cleared, CutDone, Offered, Payload, Stream, StreamAnswer, StreamEvent, TakeFault, Taken,
-    run_stream,
+    Cleared, CutDone, Offered, Payload, ReleaseFault, Released, Stream, StreamAnswer, StreamEvent,
+    TakeFault, Taken, run_stream,
 };
 use tr_terms::{Mode, SessionMode};
 use tr_testing::moment;
 
 /// The offer at 3 closes the first packet, and record 4 is discarded. Record 6 fills a sub-buffer.
-static CALLS: [Step; 19] = [
+static CALLS: [Step; 22] = [
     Start,
     Offer(1, 50, Ok(Offered::Stored { serial: 0, seq: 0 })),
     Offer(2, 50, Ok(Offered::Stored { serial: 1, seq: 0 })),
@@ -54,6 +54,16 @@ static CALLS: [Step; 19] = [
             records: 3,
         }),
     ),
+    Release(
+        0,
+        Ok(Released {
+            packets: 2,
+            records: 5,
+            bytes: 484,
+        }),
+    ),
+    Release(0, Err(ReleaseFault::Released)),
+    Release(1, Err(ReleaseFault::NoPart)),
     Peek(12, (6, 1), &[]),
     Offer(13, 152, Ok(Offered::Stored { serial: 6, seq: 2 })),
     Offer(14, 50, Ok(Offered::Stored { serial: 7, seq: 3 })),
@@ -87,6 +97,7 @@ fn event(rt: &impl Abort, alloc: Global, call: &Step) -> StreamEvent {
         Take(_) => StreamEvent::Take,
         Cut(at, _) => StreamEvent::Cut(moment(at)),
         Clear(_) => StreamEvent::Clear,
+        Release(k, _) => StreamEvent::Release(k),
         Peek(at, _, _) => StreamEvent::Peek(moment(at)),
         _ => panic!(rt; "a step that is no call"),
     }
@@ -99,6 +110,7 @@ fn assert_answer(rt: &impl Abort, place: Place, answer: &StreamAnswer, call: &St
         (StreamAnswer::Take(found), Take(want)) => assert_at(rt, place, *found, want),
         (StreamAnswer::Cut(found), Cut(_, want)) => assert_at(rt, place, *found, want),
         (StreamAnswer::Clear(found), Clear(want)) => assert_at(rt, place, *found, want),
+        (StreamAnswer::Release(found), Release(_, want)) => assert_at(rt, place, *found, want),
         (StreamAnswer::Peek(Ok(snap)), Peek(_, counts, rows)) => {
             assert_look(rt, place, snap, counts, rows);
         }

@@ -1,14 +1,14 @@
 //! Events of a session, one at a time and in a list.
 
 use super::alike::assert_same_session;
-use super::{NO_MEMORY, Step, THREE, Told, make_steps, new_session, numbers};
+use super::{ARCHIVED, NO_MEMORY, Step, THREE, Told, make_steps, new_session, numbers};
 use crate::sessions::single::BEGUN;
 use crate::turns::{Call, assert_same, refuse_each_request};
 use std::alloc::{Allocator, Global};
 use std::process::Abort;
 use tr_session::{Answer, ChannelConfig, Config, Event, Session, StepFault, run_session};
 use tr_session_book::SessionFault;
-use tr_stream::{Cleared, CutDone, CutFault, Payload, TakeFault, Taken};
+use tr_stream::{Cleared, CutDone, CutFault, Payload, Released, TakeFault, Taken};
 use tr_terms::{Mode, Name, OffsetMinutes, SessionMode};
 use tr_testing::{Rationed, moment};
 use uuid::Uuid;
@@ -21,6 +21,8 @@ enum Happens {
     Take,
     Cut,
     Clear,
+    /// A release of stream 0's part of archive 0.
+    Release,
     Snap,
     Start,
     Stop,
@@ -37,6 +39,7 @@ fn event<A: Allocator>(alloc: A, happens: Happens) -> Event<A> {
         Happens::Take => Event::Take(0),
         Happens::Cut => Event::Cut(0),
         Happens::Clear => Event::Clear(0),
+        Happens::Release => Event::Release(0, 0),
         Happens::Snap => Event::Snap(0, moment(100)),
         Happens::Start => Event::Start(0),
         Happens::Stop => Event::Stop(0),
@@ -54,6 +57,7 @@ fn shown<A: Allocator>(answer: &Answer<A>) -> Told {
         Answer::Take(answer) => Told::Taken(*answer),
         Answer::Cut(answer) => Told::Cut(*answer),
         Answer::Clear(answer) => Told::Cleared(*answer),
+        Answer::Release(answer) => Told::Released(*answer),
         Answer::Snap(Ok(snap)) => {
             let (packets, bytes) = (snap.packets().len() as u64, snap.text().len() as u64);
             Told::Shown(Ok((100, packets, bytes)))
@@ -140,7 +144,7 @@ const CUT: [Step; 9] = [
     Step::Next,
 ];
 
-static ROWS: [Row; 10] = [
+static ROWS: [Row; 11] = [
     Row {
         mode: SessionMode::Local,
         steps: &THREE,
@@ -150,6 +154,17 @@ static ROWS: [Row; 10] = [
             records: 7,
         })),
         refused: Some(Told::Cleared(Err(NO_MEMORY))),
+    },
+    Row {
+        mode: SessionMode::Local,
+        steps: &ARCHIVED,
+        happens: Happens::Release,
+        granted: Told::Released(Ok(Released {
+            packets: 4,
+            records: 7,
+            bytes: 838,
+        })),
+        refused: Some(Told::Released(Err(NO_MEMORY))),
     },
     Row {
         mode: SessionMode::Local,

@@ -5,8 +5,8 @@ use crate::turns::{Call, assert_same, only, refuse_each_request};
 use std::alloc::{AllocError, Allocator};
 use std::process::Abort;
 use tr_stream::{
-    ClearFault, Cleared, CutDone, CutFault, OfferFault, Offered, Payload, Stream, StreamAnswer,
-    StreamConfig, StreamEvent, TakeFault, Taken, run_stream,
+    ClearFault, Cleared, CutDone, CutFault, OfferFault, Offered, Payload, ReleaseFault, Released,
+    Stream, StreamAnswer, StreamConfig, StreamEvent, TakeFault, Taken, run_stream,
 };
 use tr_terms::{Geometry, Mode, SessionMode};
 use tr_testing::{Rationed, moment};
@@ -19,6 +19,7 @@ enum Said {
     Take(Result<Taken, TakeFault>),
     Cut(Result<CutDone, CutFault>),
     Clear(Result<Cleared, ClearFault>),
+    Release(Result<Released, ReleaseFault>),
     /// The bytes that a look shows.
     Peek(Option<usize>),
     Start,
@@ -32,6 +33,7 @@ fn shown<A: Allocator>(answer: &StreamAnswer<A>) -> Said {
         StreamAnswer::Take(answer) => Said::Take(*answer),
         StreamAnswer::Cut(answer) => Said::Cut(*answer),
         StreamAnswer::Clear(answer) => Said::Clear(*answer),
+        StreamAnswer::Release(answer) => Said::Release(*answer),
         StreamAnswer::Peek(Ok(snap)) => Said::Peek(Some(snap.text().len())),
         StreamAnswer::Peek(Err(_)) => Said::Peek(None),
         StreamAnswer::Start => Said::Start,
@@ -60,11 +62,13 @@ enum Asked {
     Peek,
     Clear,
     Cut,
+    /// A release of part 0.
+    Release,
     Stop,
 }
 
-/// Each call, so that those which ask for memory have packets.
-static LIST: [Asked; 12] = [
+/// Each call, so that those which ask for memory have packets. The release's four runs fill their room.
+static LIST: [Asked; 20] = [
     Asked::Start,
     Asked::Offer,
     Asked::Offer,
@@ -75,7 +79,15 @@ static LIST: [Asked; 12] = [
     Asked::Peek,
     Asked::Clear,
     Asked::Offer,
+    Asked::Offer,
+    Asked::Offer,
+    Asked::Offer,
+    Asked::Offer,
+    Asked::Offer,
+    Asked::Offer,
+    Asked::Offer,
     Asked::Cut,
+    Asked::Release,
     Asked::Stop,
 ];
 
@@ -91,6 +103,7 @@ fn event<A: Allocator>(rt: &impl Abort, alloc: A, asked: Asked) -> StreamEvent<A
         Asked::Peek => StreamEvent::Peek(moment(5)),
         Asked::Clear => StreamEvent::Clear,
         Asked::Cut => StreamEvent::Cut(moment(5)),
+        Asked::Release => StreamEvent::Release(0),
         Asked::Stop => StreamEvent::Stop,
     }
 }

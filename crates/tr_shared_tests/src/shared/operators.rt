@@ -89,6 +89,7 @@ fn assert_audited(rt: &impl Abort, alloc: Global, stream: &Stream, number: u64, 
     let mut sink = MemorySink::new(alloc, 65_536);
     for id in 0..archives {
         let part = stream.part(id).expect(rt, "a part");
+        assert!(rt; !part.is_released());
         write_part(&mut sink, part).expect(rt, "a file");
     }
     let file = sink.into_bytes();

@@ -1,6 +1,6 @@
 use Rattle.std.proofs.Common.{rules, ◌≡◌, ◌≢◌, ◌∙◌, ◌<◌, ◌+◌, ℕ, Bool, false, Err, List, ap, arith, length, subst, sym}
 use Rattle.std.specs.List.{list_any}
-use Rattle.std.specs.Prelude.{◌||◌, is_ok}
+use Rattle.std.specs.Prelude.{◌||◌}
 use Rattle.tr_session.proofs.ReleaseLemmas.{ReleasesSo, releases-all, releases-end, releases-more, releases-nothing}
 use Rattle.tr_session.proofs.session.Session.release_all.Goals as goal
 use Rattle.tr_session.specs.Session.{SessionOf}
