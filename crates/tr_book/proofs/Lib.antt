@@ -1,2 +1,4 @@
 pub mod BookLemmas
 pub mod ChangeLemmas
+pub mod PlaceLemmas
+pub mod SearchLemmas

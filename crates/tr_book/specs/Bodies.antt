@@ -1,6 +1,6 @@
 -- What a part has of its packets, as it is kept.
-use Rattle.std.specs.Prelude.{◌≡◌, ◌≤◌, ◌*◌, ℕ, List, [], Option, Some, None}
-use Rattle.tr_book.specs.Parts.{PartState, Rest, part_state, records_of}
+use Rattle.std.specs.Prelude.{◌≡◌, ◌≤◌, ◌*◌, ℕ, [], Some}
+use Rattle.tr_book.specs.Parts.{PartState, part_state, records_of}
 use Rattle.tr_book.specs.declared.part.Body.{Body}
 use Rattle.tr_book.specs.declared.part.Body.TheVariants.{Held, Released}
 use Rattle.tr_terms.specs.declared.limits.TheConstants.{LARGEST_PACKET}

@@ -1,5 +1,5 @@
 -- The packets that were consumed, in parts.
-use Rattle.std.specs.Prelude.{◌≡◌, ℕ, zero, suc, ◌+◌, List, [], ◌∷◌, ◌++◌, length, sum_by, slice_get, Option, Some, None, find, ◌==◌, if◌then◌else◌}
+use Rattle.std.specs.Prelude.{◌≡◌, ℕ, zero, suc, ◌+◌, List, [], ◌∷◌, ◌++◌, length, sum_by, slice_get, Option, Some, None, find, ◌==◌, nat_le, if◌then◌else◌}
 use Rattle.std.specs.Option.{option_map}
 use Rattle.tr_book.specs.Runs.{packet_runs, seq_in_runs}
 use Rattle.tr_book.specs.declared.runs.Run.{Run}
@@ -22,14 +22,17 @@ pub record PartState : Type 0 where
 abbrev pub part_state : ℕ → List Contents → PartState
 part_state id packets = record { id = id; packets = packets; released = None }
 
--- the closed parts in order, the current one, and the runs of the packets that were cleared
+-- the closed parts in order, the current one, and the runs of the packets that were cleared; and the serials at which the
+-- parts after the first one began
 pub record PartsState : Type 0 where
   pub closed : List PartState
   pub current : PartState
   pub cleared : List Run
+  pub starts : List ℕ
 
-abbrev pub parts_state : List PartState → PartState → List Run → PartsState
-parts_state closed current cleared = record { closed = closed; current = current; cleared = cleared }
+abbrev pub parts_state : List PartState → PartState → List Run → List ℕ → PartsState
+parts_state closed current cleared starts =
+    record { closed = closed; current = current; cleared = cleared; starts = starts }
 
 abbrev pub bytes_of : List Contents → ℕ
 bytes_of packets = sum_by packet_size packets
@@ -42,7 +45,7 @@ abbrev pub empty_part : ℕ → PartState
 empty_part id = part_state id []
 
 abbrev pub no_parts : PartsState
-no_parts = parts_state [] (empty_part 0) []
+no_parts = parts_state [] (empty_part 0) [] []
 
 -- the packet is added at the end of the current part
 abbrev pub with_packet : Contents → PartsState → PartsState
@@ -52,14 +55,15 @@ with_packet p s = record s { current = record s.current { packets = s.current.pa
 abbrev pub with_packets : List Contents → PartsState → PartsState
 with_packets ps s = record s { current = record s.current { packets = s.current.packets ++ ps } }
 
--- the current part joins the closed ones, and the next one begins
-abbrev pub close_part : PartsState → PartsState
-close_part s = parts_state (s.closed ++ s.current ∷ []) (empty_part (s.current.id + 1)) s.cleared
+-- the current part joins the closed ones, and the next one begins at this serial
+abbrev pub close_part : ℕ → PartsState → PartsState
+close_part next s =
+    parts_state (s.closed ++ s.current ∷ []) (empty_part (s.current.id + 1)) s.cleared (s.starts ++ next ∷ [])
 
 -- the current part is emptied, and the runs of its packets are kept after the others, and these after them
 abbrev pub clear_part : List Run → PartsState → PartsState
 clear_part more s =
-    parts_state s.closed (empty_part s.current.id) (s.cleared ++ (packet_runs s.current.packets ++ more))
+    parts_state s.closed (empty_part s.current.id) (s.cleared ++ (packet_runs s.current.packets ++ more)) s.starts
 
 abbrev pub rest_of : List Contents → Rest
 rest_of packets = record {
@@ -128,3 +132,8 @@ seq_in_part n p = seq_left n p.packets p.released
 -- the current part's number is the number of closed ones
 abbrev pub IsNumbered : PartsState → Type 0
 IsNumbered s = s.current.id ≡ length s.closed
+
+-- the place of the part in which a serial is, if it is in one: the last one that began at it or before
+abbrev pub place_in : ℕ → List ℕ → ℕ
+place_in n [] = 0
+place_in n (s ∷ starts) = if nat_le s n then place_in n starts + 1 else 0

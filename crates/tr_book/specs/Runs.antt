@@ -1,5 +1,5 @@
 -- What is kept of packets whose records are gone: which serials each had.
-use Rattle.std.specs.Prelude.{ℕ, ◌+◌, ◌-◌, Bool, ◌==◌, ◌&&◌, nat_le, nat_lt, List, [], ◌∷◌, Option, find, if◌then◌else◌}
+use Rattle.std.specs.Prelude.{ℕ, ◌+◌, ◌-◌, ◌≤◌, Bool, ◌==◌, ◌&&◌, nat_le, nat_lt, List, [], ◌∷◌, Option, find, if◌then◌else◌}
 use Rattle.std.specs.List.{flat_map}
 use Rattle.std.specs.Option.{option_map}
 use Rattle.tr_book.specs.declared.runs.Run.{Run}
@@ -32,3 +32,8 @@ is_in_run n r = nat_le r.first n && nat_lt (n - r.first) r.count
 -- the number of the packet that had the record of a serial
 abbrev pub seq_in_runs : ℕ → List Run → Option ℕ
 seq_in_runs n runs = option_map (λ (r : Run). r.seq) (find (λ (r : Run). is_in_run n r) runs)
+
+-- each run begins after the one before has ended
+abbrev pub RunsRise : ℕ → List Run → Type 0
+RunsRise low [] = Unit {0}
+RunsRise low (r ∷ rs) = (low ≤ r.first) × RunsRise (r.first + r.count) rs

@@ -2,8 +2,9 @@
 
 ghost use Rattle.std.specs.Prelude.{◌≡◌, ◌≢◌, ◌+◌, ◌<◌, ◌^◌, [], Some, None, OnOk, OnErr, length, option_copied, slice_get};
 ghost use Rattle.tr_packet.specs.Packets.{IsPacket, contents};
-ghost use Rattle.tr_book.specs.Parts.{IsNumbered, PartState, records_of, no_parts, with_packet, with_packets, change_at, close_part, clear_part, release, release_part, part_at};
-ghost use Rattle.tr_book.specs.Runs.{seq_in_runs};
+ghost use Rattle.std.specs.List.Sorted.{IsNonDecreasing};
+ghost use Rattle.tr_book.specs.Parts.{IsNumbered, PartState, records_of, no_parts, with_packet, with_packets, change_at, close_part, clear_part, place_in, release, release_part, part_at};
+ghost use Rattle.tr_book.specs.Runs.{RunsRise, seq_in_runs};
 
 use crate::part::Part;
 use crate::runs::Runs;
@@ -20,6 +21,8 @@ pub struct Parts<A: Allocator = Global> {
     closed: Vec<Part<A>, A>,
     current: Part<A>,
     cleared: Runs<A>,
+    // the serials at which the parts after the first one began
+    starts: Vec<u64, A>,
 }
 
 impl<A: Allocator> Model for Parts<A> {
@@ -28,9 +31,10 @@ impl<A: Allocator> Model for Parts<A> {
 
     ghost Value = { PartsState };
 
-    ghost view = { λ s. parts_state s.closed.items s.current s.cleared };
+    ghost view = { λ s. parts_state s.closed.items s.current s.cleared s.starts.items };
 
-    ghost invariant = { λ s. IsNumbered (parts_state s.closed.items s.current s.cleared) × (s.current.released ≡ None) };
+    ghost invariant = { λ s. IsNumbered (parts_state s.closed.items s.current s.cleared s.starts.items)
+        × (s.current.released ≡ None) };
 }
 
 impl<A: Allocator> Parts<A> {
@@ -59,11 +63,20 @@ impl<A: Allocator> Parts<A> {
         self.closed.as_slice()
     }
 
-    /// The number of the cleared packet that had the record of this serial.
+    /// The number of the cleared packet that had the record of this serial, if the runs of cleared packets rise. It looks at
+    /// few of them.
     pub fn seq_cleared(&self, serial: u64) -> Option<u64>
-        ensures { result ≡ seq_in_runs serial self.now.cleared }
+        ensures { RunsRise 0 self.now.cleared → result ≡ seq_in_runs serial self.now.cleared }
     {
-        self.cleared.seq_of(serial)
+        self.cleared.search(serial)
+    }
+
+    /// The place of the part that has the record of this serial, if one has it: the last part that began at this serial or
+    /// before. It looks at few of them, if serials rise.
+    pub fn place_of(&self, serial: u64) -> u64
+        ensures { IsNonDecreasing self.now.starts → result ≡ place_in serial self.now.starts }
+    {
+        self.starts.partition_point(|start| *start <= serial) as u64
     }
 
     /// How many parts are closed.
@@ -118,21 +131,24 @@ impl<A: Allocator + Copy> Parts<A> {
             closed: Vec::new(alloc),
             current: Part::new(alloc, 0),
             cleared: Runs::new(alloc),
+            starts: Vec::new(alloc),
         }
     }
 
-    /// Moves packets to the end of the current part, in order, closes it and begins the next one. If an allocation fails,
-    /// nothing changes.
-    pub fn cut(&mut self, packets: PacketTexts<A>) -> Result<(), AllocError>
+    /// Moves packets to the end of the current part, in order, closes it and begins the next one, at serial `next`. If an
+    /// allocation fails, nothing changes.
+    pub fn cut(&mut self, packets: PacketTexts<A>, next: u64) -> Result<(), AllocError>
         requires { records_of self.old.current.packets + records_of packets < 2 ^ 64 }
-        ensures ok { OnOk result (self.new ≡ close_part (with_packets packets self.old)) }
+        ensures ok { OnOk result (self.new ≡ close_part next (with_packets packets self.old)) }
         ensures err { OnErr result (self.new ≡ self.old) }
     {
         self.closed.reserve(1)?;
-        let next = Part::new(self.alloc, self.current.id() + 1);
+        self.starts.reserve(1)?;
+        let begun = Part::new(self.alloc, self.current.id() + 1);
         self.current.append(packets)?;
         self.closed
-            .push_reserved(mem::replace(&mut self.current, next));
+            .push_reserved(mem::replace(&mut self.current, begun));
+        self.starts.push_reserved(next);
         Ok(())
     }
 

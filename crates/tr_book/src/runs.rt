@@ -1,7 +1,7 @@
 //! Runs: what is kept of packets whose records are gone.
 
 ghost use Rattle.std.specs.Prelude.{◌≡◌, ◌≢◌, [], ◌++◌, IfOk, OnOk, OnErr, length};
-ghost use Rattle.tr_book.specs.Runs.{is_in_run, runs_of, seq_in_runs, packet_runs};
+ghost use Rattle.tr_book.specs.Runs.{RunsRise, is_in_run, runs_of, seq_in_runs, packet_runs};
 
 use std::alloc::{AllocError, Allocator, Global};
 use std::marker::Model;
@@ -86,6 +86,18 @@ impl<A: Allocator> Runs<A> {
             .iter()
             .find(|run| run.has(serial))
             .map(|run| run.seq)
+    }
+
+    /// The same for runs that rise: it looks at few of them.
+    pub fn search(&self, serial: u64) -> Option<u64>
+        ensures { RunsRise 0 self.now → result ≡ seq_in_runs serial self.now }
+    {
+        let after = self.list.partition_point(|run| run.first <= serial);
+        if after == 0 {
+            return None;
+        }
+        let run = self.list[after - 1];
+        if run.has(serial) { Some(run.seq) } else { None }
     }
 
     /// Adds the runs of the records of a packet with this number, of which there are `count`, at the end.

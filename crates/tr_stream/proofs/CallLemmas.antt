@@ -267,7 +267,7 @@ cut-told s end k len count packets are chunk_is len_is count_is =
 -- the rest of a cut, once the parts have the packets
 pub cut-is : (s : StreamState) (end count : ℕ) (packets : List Contents) (ring : RingState) (parts : PartsState)
     (noted_ counters : CountersState) → packets ≡ map (packet_of s.config) (ring_buffers end s.ring)
-    → ring ≡ clear_ring s.ring → parts ≡ close_part (with_packets packets s.parts) → count ≡ in_ring s.ring
+    → ring ≡ clear_ring s.ring → parts ≡ close_part s.counters.offered (with_packets packets s.parts) → count ≡ in_ring s.ring
     → noted_ ≡ with_consumed count s.counters → counters ≡ at_moment end noted_
     → (let t : StreamState = record {
       config = s.config;
@@ -281,7 +281,7 @@ cut-is s end count packets ring parts noted_ counters packets_are ring_is parts_
 pub kept-cut_now : (s : StreamState) (end count : ℕ) (packets : List Contents) (ring : RingState) (parts : PartsState)
     (noted_ counters : CountersState) → s.config.session ≡ Local → IsKept s → s.counters.last ≤ end → end ≤ LAST_MOMENT
     → packets ≡ map (packet_of s.config) (ring_buffers end s.ring) → ring ≡ clear_ring s.ring
-    → parts ≡ close_part (with_packets packets s.parts) → count ≡ in_ring s.ring → noted_ ≡ with_consumed count s.counters
+    → parts ≡ close_part s.counters.offered (with_packets packets s.parts) → count ≡ in_ring s.ring → noted_ ≡ with_consumed count s.counters
     → counters ≡ at_moment end noted_
     → IsKept (record { config = s.config; ring = ring; parts = parts; counters = counters; active = s.active })
 kept-cut_now s end count packets ring parts noted_ counters local is later in_time packets_are ring_is parts_is count_is first then =

@@ -6,9 +6,8 @@ use Rattle.std.proofs.lemmas.List.{append-nil, append_cancel_right, length-map}
 use Rattle.std.proofs.lemmas.List.Sums.{sum_by-cons}
 use Rattle.std.specs.Prelude.{sum_by}
 use Rattle.tr_book.specs.Counters.{with_cleared}
-use Rattle.tr_book.specs.Parts.{PartState, clear_part, records_of, part_records, part_packets}
+use Rattle.tr_book.specs.Parts.{PartState, clear_part, part_records, part_packets}
 use Rattle.tr_book.specs.Runs.{packet_runs, runs_of}
-use Rattle.tr_book.specs.declared.runs.Run.{Run}
 use Rattle.tr_ring.specs.ClosedBuffer.{ClosedBuffer}
 use Rattle.tr_stream.proofs.ChunkLemmas.{none_wait, records-of_buffers, records_where-cons, records_in-append}
 use Rattle.tr_stream.proofs.CutLemmas.{flushed, stands-flushed, records_in-ring, ring-same}
@@ -23,7 +22,6 @@ use Rattle.tr_stream.specs.StateSteps.{state_cleared, state_clear_answer, state_
 use Rattle.tr_stream.specs.Steps.{clear_all, clear_blocks, cleared_status, cleared_with, close_filling, history_after_clear, history_clear_answer, history_clear_ring}
 use Rattle.tr_stream.specs.WellFormed.{NumberedFrom, WaitLast, IsWithin, AllWithinCuts, IsRecent, AllRecent, RecentLast, Covers, CoversFrom, AllUsed, LastHeld, chunks_below}
 use Rattle.tr_stream.specs.declared.answers.ClearFault.TheVariants.{SnapshotMode}
-use Rattle.tr_stream.specs.declared.config.StreamConfig.{StreamConfig}
 use Rattle.tr_terms.specs.SessionModes.{by_session_mode}
 use Rattle.tr_terms.specs.declared.session_mode.SessionMode.{SessionMode}
 use Rattle.tr_terms.specs.declared.session_mode.SessionMode.TheVariants.{Local, Snapshot}

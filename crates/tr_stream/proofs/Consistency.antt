@@ -1,11 +1,13 @@
 -- A stream that stands for a history is consistent.
-use Rattle.std.proofs.Common.{◌≡◌, ◌≢◌, ℕ, ◌+◌, ◌≤◌, ◌<◌, zero, suc, Bool, true, false, cond, List, [], ◌∷◌, ◌++◌, length, map, refl, sym, ◌∙◌, ap, subst, arith, length-append}
+use Rattle.std.proofs.Common.{◌≡◌, ◌≢◌, ℕ, ◌+◌, ◌≤◌, ◌<◌, zero, suc, Bool, true, false, cond, eqb, List, [], ◌∷◌, ◌++◌, length, map, refl, sym, ◌∙◌, ap, subst, arith, length-append}
+use Rattle.std.proofs.lemmas.Bool.Decides.{nat_tests}
 use Rattle.std.proofs.lemmas.Grind.{common_steps}
 use Rattle.std.proofs.lemmas.List.{append-nil, length-map}
 use Rattle.std.proofs.lemmas.List.Sums.{sum_by-cons}
 use Rattle.std.specs.List.{AllByRecursion}
 use Rattle.std.specs.Prelude.{sum_by}
 use Rattle.tr_book.specs.Parts.{PartState, PartsState, no_parts}
+use Rattle.tr_book.specs.Runs.{RunsRise, run_of, runs_of, runs_on}
 use Rattle.tr_record.specs.Records.{Entry}
 use Rattle.tr_ring.specs.ClosedBuffer.{ClosedBuffer}
 use Rattle.tr_book.specs.declared.runs.Run.{Run}
@@ -15,7 +17,7 @@ use Rattle.tr_stream.proofs.FateLemmas.{parts-are}
 use Rattle.tr_stream.proofs.PieceLemmas.{here, is_undropped, parts-left, held-is, pieces-buffers, pieces-cleared, pieces-held, pieces-used, pieces_of, undropped_of}
 use Rattle.tr_stream.proofs.TakeLemmas.{length-parts_below}
 use Rattle.tr_ring.specs.Ring.{seq_after}
-use Rattle.tr_stream.specs.Chunks.{buffer_runs, cleared_of, closed_if_any, buffer_of, buffers_where, chunk_of, kept_of, part_of, parts_below, closed_part, packet_of}
+use Rattle.tr_stream.specs.Chunks.{buffer_runs, cleared_of, closed_if_any, buffer_of, buffers_where, chunk_of, kept_of, parts_below, closed_part, packet_of}
 use Rattle.tr_stream.specs.Consistent.{HasRecord, Piece, buffers_of, Rising, CountUp, PartsFrom, first_in, first_serial, DiscardsAgree, SerialsFollow, GapsAgree, IsConsistent}
 use Rattle.tr_stream.specs.History.{Status, Waiting, Dropped, Kept, Cleared, Closed, History, is_waiting, is_dropped, is_cleared, offers_in, offers_before, offered_of, discarded_in, discarded_of, blocks_where, is_released}
 use Rattle.tr_stream.specs.Kept.{IsKept}
@@ -471,3 +473,51 @@ nothing-gone s t same is snapshot =
     sym (consistent-of s t same is).gone ∙ ap (λ (p : PartsState). sum_by (λ (r : Run). r.count) p.cleared) none in
     let parts : in_parts s.parts ≡ 0 = ap in_parts none in
     (omega (arith, kept.sound.consumed, kept.sound.withdrawn, cleared, parts), cleared)
+
+-- ---- runs
+
+runs-lower : (low least : ℕ) (rs : List Run) → least ≤ low → RunsRise low rs → RunsRise least rs
+runs-lower low least [] le rise = tt
+runs-lower low least (r ∷ rs) le rise = (omega (arith, le, rise.0), rise.1)
+
+-- the runs of records that rise, and later ones, rise
+on-rise : (seq first count : ℕ) (es : List Entry) (rest : List Run) → RecordsRise (first + count) es
+    → RunsRise (next_serial (first + count) es) rest → RunsRise first (runs_on seq first count es ++ rest)
+on-rise seq first count [] rest rise later = (omega arith, later)
+on-rise seq first count (e ∷ es) rest rise later =
+    by_test (eqb e.serial (first + count)) refl
+    (λ (same : e.serial ≡ first + count).
+    let one : e.serial + 1 ≡ first + (count + 1) = omega (arith, same) in
+    on-rise seq first (count + 1) es rest (subst (λ (low : ℕ). RecordsRise low es) one rise.1)
+    (subst (λ (low : ℕ). RunsRise (next_serial low es) rest) one later))
+    (on-rise seq e.serial 1 es rest rise.1 later)
+  where
+    by_test : (b : Bool) → eqb e.serial (first + count) ≡ b
+        → (e.serial ≡ first + count → RunsRise first (runs_on seq first (count + 1) es ++ rest))
+        → RunsRise e.serial (runs_on seq e.serial 1 es ++ rest)
+        → RunsRise first (cond b (runs_on seq first (count + 1) es) (run_of seq first count ∷ runs_on seq e.serial 1 es) ++ rest)
+    by_test true f longer other = longer (grind (arith, nat_tests, f))
+    by_test false f longer other =
+        (omega arith, runs-lower e.serial (first + count) (runs_on seq e.serial 1 es ++ rest) rise.0 other)
+
+of-rise : (seq low : ℕ) (es : List Entry) (rest : List Run) → RecordsRise low es → RunsRise (next_serial low es) rest
+    → RunsRise low (runs_of seq es ++ rest)
+of-rise seq low [] rest rise later = later
+of-rise seq low (e ∷ es) rest rise later =
+    runs-lower e.serial low (runs_on seq e.serial 1 es ++ rest) rise.0 (on-rise seq e.serial 1 es rest rise.1 later)
+
+buffers-rise : (seq serial : ℕ) (bs : List ClosedBuffer) (next_seq next : ℕ) → Rising seq serial bs next_seq next
+    → RunsRise serial (buffer_runs bs)
+buffers-rise seq serial [] next_seq next rise = tt
+buffers-rise seq serial (b ∷ bs) next_seq next rise =
+    of-rise b.seq serial b.records (buffer_runs bs) rise.1
+    (buffers-rise (b.seq + 1) (next_serial serial b.records) bs next_seq next rise.2)
+
+-- the runs of a stream that stands for a history rise
+pub runs-rise : (s : StreamState) (h : History) → StandsFor s h → RunsRise 0 s.parts.cleared
+runs-rise s h is =
+    let well = is.model in
+    subst (λ (rs : List Run). RunsRise 0 rs) (sym is.runs)
+    (buffers-rise 0 0 (cleared_of h) h.filling.number (offered_of h)
+    (rising-where is_cleared 0 0 0 0 0 h.closed h.filling.number (offered_of h) well.numbers well.covers (omega arith)
+    (omega arith) (omega (arith, well.filling)) (omega arith)))

@@ -31,7 +31,7 @@ use Rattle.tr_stream.proofs.ReleaseForms.{AreClosed-more, held-part, unreleased}
 abbrev kept_all : StreamState → StreamState
 kept_all s = record s {
   ring = record s.ring { waiting = [] };
-  parts = close_part (with_packets (map (packet_of s.config) s.ring.waiting) s.parts);
+  parts = close_part s.counters.offered (with_packets (map (packet_of s.config) s.ring.waiting) s.parts);
   counters = with_consumed (records_in s.ring.waiting) s.counters;
 }
 

@@ -16,8 +16,8 @@ use Rattle.tr_ring.specs.ClosedBuffer.{ClosedBuffer}
 use Rattle.tr_ring.specs.Ring.{seq_waiting, seq_of}
 use Rattle.tr_stream.proofs.ChunkLemmas.{records_where-cons, discarded_in-cons}
 use Rattle.tr_stream.proofs.GoneLemmas.{runs-have}
-use Rattle.tr_stream.specs.Chunks.{buffers_where, chunk_of, cleared_of, waiting_of, packet_of, part_of, parts_below, closed_part}
-use Rattle.tr_stream.specs.Fates.{is_discarded_in, holder, status_fate, holder_fate, history_fate, all_parts, fate_in_parts, fate_in_runs, fate_in_ring, held_fate, loss_of, state_fate}
+use Rattle.tr_stream.specs.Chunks.{buffers_where, chunk_of, cleared_of, waiting_of, packet_of, parts_below, closed_part}
+use Rattle.tr_stream.specs.Fates.{is_discarded_in, holder, status_fate, holder_fate, history_fate, all_parts, fate_in_parts, held_fate, loss_of, state_fate}
 use Rattle.tr_stream.specs.History.{Status, Waiting, Dropped, Kept, Cleared, Block, Closed, History, is_waiting, is_dropped, is_kept_in, is_cleared, discarded_in, records_where, discarded_of, times_in, is_released}
 use Rattle.tr_stream.specs.Kept.{IsKept}
 use Rattle.tr_stream.specs.Sound.{LosesByMode}
@@ -213,7 +213,7 @@ none_holds n [] never = refl
 none_holds n (c ∷ cs) never = grind (arith, common_steps, none_holds n cs, held_times-cons n c cs, has_counts n c.block.records)
 
 -- a packet has its sub-buffer's number and records
-seq_among-packets : (n : ℕ) (c : StreamConfig) (bs : List ClosedBuffer) → seq_among n (map (packet_of c) bs) ≡ seq_waiting n bs
+pub seq_among-packets : (n : ℕ) (c : StreamConfig) (bs : List ClosedBuffer) → seq_among n (map (packet_of c) bs) ≡ seq_waiting n bs
 seq_among-packets n c [] = refl
 seq_among-packets n c (b ∷ bs) = grind (arith, common_steps, seq_among-packets n c bs)
 
@@ -419,34 +419,17 @@ fates s h n is losses = by_test (nat_lt n s.counters.offered) refl
     by_test true below = rw below (accepted_fate s h n is losses (grind (arith, nat_tests, below)))
     by_test false above = grind (arith, nat_tests, is.offered, above)
 
--- what is after the parts
-abbrev behind_parts : ℕ → StreamState → Option Fate
-behind_parts n s = option_or (fate_in_runs n s.parts) (fate_in_ring n s.ring)
+-- what the search among the parts finds comes first, then the runs, then the ring
+pub held-part : (n : ℕ) (s : StreamState) (fate : Fate) → fate_in_parts n (all_parts s.parts) ≡ Some fate → Some fate ≡ held_fate n s
+held-part n s fate there = rw there refl
 
--- what the search does
-in_all_parts : (n : ℕ) (s : StreamState)
-    → held_fate n s ≡ option_or (option_or (fate_in_parts n s.parts.closed)
-    (option_map (InChunk s.parts.current.id) (seq_in_part n s.parts.current))) (behind_parts n s)
-in_all_parts n s = ap (λ (f : Option Fate). option_or f (behind_parts n s)) (fate_in_parts-push n s.parts.closed s.parts.current)
+pub held-gone : (n : ℕ) (s : StreamState) (q : ℕ) → fate_in_parts n (all_parts s.parts) ≡ None
+    → seq_in_runs n s.parts.cleared ≡ Some q → Some (fate.Cleared q) ≡ held_fate n s
+held-gone n s q none there = rw (none, there) refl
 
-pub held-closed : (n : ℕ) (s : StreamState) (fate : Fate) → fate_in_parts n s.parts.closed ≡ Some fate → Some fate ≡ held_fate n s
-held-closed n s fate there =
-    sym (in_all_parts n s ∙ ap (λ (f : Option Fate). option_or
-    (option_or f (option_map (InChunk s.parts.current.id) (seq_in_part n s.parts.current))) (behind_parts n s))
-    there)
-
-pub held-current : (n : ℕ) (s : StreamState) (k q : ℕ) → fate_in_parts n s.parts.closed ≡ None
-    → seq_in_part n s.parts.current ≡ Some q → k ≡ s.parts.current.id → Some (InChunk k q) ≡ held_fate n s
-held-current n s k q none there at = sym (in_all_parts n s ∙ (let a = none in let b = there in let c = at in cc))
-
-pub held-gone : (n : ℕ) (s : StreamState) (q : ℕ) → fate_in_parts n s.parts.closed ≡ None
-    → seq_in_part n s.parts.current ≡ None → seq_in_runs n s.parts.cleared ≡ Some q → Some (fate.Cleared q) ≡ held_fate n s
-held-gone n s q none not there = sym (in_all_parts n s ∙ (let a = none in let b = not in let c = there in cc))
-
-pub held-ring : (n : ℕ) (s : StreamState) (q : Option ℕ) → fate_in_parts n s.parts.closed ≡ None
-    → seq_in_part n s.parts.current ≡ None → seq_in_runs n s.parts.cleared ≡ None → seq_of n s.ring ≡ q
-    → option_map InRing q ≡ held_fate n s
-held-ring n s q none not gone there = sym (in_all_parts n s ∙ (let a = none in let b = not in let d = gone in let c = there in cc))
+pub held-ring : (n : ℕ) (s : StreamState) (q : Option ℕ) → fate_in_parts n (all_parts s.parts) ≡ None
+    → seq_in_runs n s.parts.cleared ≡ None → seq_of n s.ring ≡ q → option_map InRing q ≡ held_fate n s
+held-ring n s q none gone there = rw (none, gone, there) refl
 
 -- a kept value loses records as its mode says
 pub losses-of : (s t : StreamState) → t ≡ s → IsKept t → LosesByMode s

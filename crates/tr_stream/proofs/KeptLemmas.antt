@@ -12,6 +12,7 @@ use Rattle.tr_stream.proofs.ClearLemmas.{stands-clear}
 use Rattle.tr_stream.proofs.CutLemmas.{stands-cut}
 use Rattle.tr_stream.proofs.OfferLemmas.{IsAccepted, accepted, not_empty, joins, follows, discards, replaces, offers}
 use Rattle.tr_stream.proofs.OpenLemmas.{open-none}
+use Rattle.tr_stream.proofs.PlacedLemmas.{nothing-in, placed-clear_ring, placed-cut_ring, placed-offered, placed-oldest}
 use Rattle.tr_stream.proofs.Refinement.{without_oldest, stands-switched}
 use Rattle.tr_stream.proofs.SoundLemmas.{sound-clear, sound-cut, IsNext, sound-joined, sound-discarded, sound-followed, sound-without_oldest, sound-moved, sound-switched}
 use Rattle.tr_stream.proofs.TakeLemmas.{starts, taken}
@@ -98,6 +99,7 @@ pub kept-offered : (s : StreamState) (moment id : ℕ) (payload : List ℕ) → 
     → IsKept (state_after_offer moment id payload s)
 kept-offered s moment id payload offer is = record {
   sound = sound-unless s moment id payload (refusal_of (length payload) s) refl offer is.sound;
+  placed = placed-offered s (state_entry moment id payload s) (refusal_of (length payload) s) refl is.placed;
   history = (history_after_offer s.config moment id payload is.history.0, (offers s is.history.0 moment id payload is.sound.made is.history.1).1);
 }
 
@@ -109,6 +111,7 @@ sound-oldest s (b ∷ bs) waiting_is local is = sound-moved s b bs waiting_is lo
 pub kept-oldest : (s : StreamState) → s.config.session ≡ Local → IsKept s → IsKept (move_oldest s.ring.waiting s)
 kept-oldest s local is = record {
   sound = sound-oldest s s.ring.waiting refl local is.sound;
+  placed = placed-oldest s s.ring.waiting refl is.sound.current_held is.placed;
   history = (keep_oldest is.history.0, taken s is.history.0 s.ring.waiting refl is.history.1);
 }
 
@@ -117,18 +120,21 @@ pub kept-cut : (s : StreamState) (end : ℕ) → s.config.session ≡ Local → 
 kept-cut s end local later in_time is =
     record {
       sound = sound-cut s end local is.sound later in_time;
+      placed = placed-cut_ring s end is.sound.current_held is.placed;
       history = (history_cut_ring end is.history.0, stands-cut s is.history.0 end is.history.1);
     }
 
 pub kept-clear : (s : StreamState) → s.config.session ≡ Local → IsKept s → IsKept (state_clear_ring s)
 kept-clear s local is = record {
   sound = sound-clear s local is.sound;
+  placed = placed-clear_ring s is.placed;
   history = (history_clear_ring is.history.0, stands-clear s is.history.0 is.history.1);
 }
 
 pub kept-switched : (s : StreamState) (active : Bool) → IsKept s → IsKept (state_after_switch active s)
 kept-switched s active is = record {
   sound = sound-switched s active is.sound;
+  placed = record { parts = is.placed.parts; begun = is.placed.begun; ring = is.placed.ring };
   history = (history_after_switch active is.history.0, stands-switched s is.history.0 active is.history.1);
 }
 
@@ -156,5 +162,6 @@ kept-new c config size count = record {
     closed_sent = tt;
     current_sent = tt;
   };
+  placed = record { parts = (refl, λ n seq e. absurd (nothing-in n 0 seq e)); begun = omega arith; ring = (tt, tt) };
   history = (new_history, starts c);
 }

@@ -15,6 +15,7 @@ pub mod OfferLemmas
 pub mod OpenLemmas
 pub mod PartLemmas
 pub mod PieceLemmas
+pub mod PlacedLemmas
 pub mod Refinement
 pub mod ReleaseForms
 pub mod ReleaseLemmas

@@ -41,6 +41,7 @@ held_by c h = record {
     closed = parts_below c h.cuts h;
     current = part_of c h.cuts (chunk_of h.cuts h);
     cleared = buffer_runs (cleared_of h);
+    starts = [];
   };
   counters = record {
     offered = offered_of h;

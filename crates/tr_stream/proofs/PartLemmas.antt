@@ -5,14 +5,14 @@ use Rattle.std.proofs.lemmas.Grind.{common_steps}
 use Rattle.std.specs.Prelude.{slice_get}
 use Rattle.tr_book.specs.Parts.{PartState, part_at}
 use Rattle.tr_stream.proofs.TakeLemmas.{length-parts_below}
-use Rattle.tr_stream.specs.Chunks.{chunk_of, part_of, part_in, parts_below, closed_part}
+use Rattle.tr_stream.specs.Chunks.{part_in, parts_below, closed_part}
 use Rattle.tr_stream.specs.History.{History}
 use Rattle.tr_stream.specs.StandsFor.{StandsFor}
 use Rattle.tr_stream.specs.State.{StreamState}
 use Rattle.tr_stream.specs.declared.config.StreamConfig.{StreamConfig}
 use Rattle.tr_stream.proofs.ReleaseForms.{current-held}
 
-get-push : (xs : List PartState) (x : PartState) (k : ℕ) → slice_get (xs ++ x ∷ []) k ≡ cond (eqb k (length xs)) (Some x) (slice_get xs k)
+pub get-push : (xs : List PartState) (x : PartState) (k : ℕ) → slice_get (xs ++ x ∷ []) k ≡ cond (eqb k (length xs)) (Some x) (slice_get xs k)
 get-push [] x zero = refl
 get-push [] x (suc k) = grind (arith, nat_tests)
 get-push (y ∷ xs) x zero = grind (arith, nat_tests, common_steps)

@@ -1,8 +1,8 @@
 -- Parts that may have been released, and chunks that weren't.
-use Rattle.std.proofs.Common.{◌≡◌, ℕ, ◌+◌, ◌≤◌, ◌<◌, Bool, true, false, cond, eqb, List, [], ◌∷◌, length, map, Option, Some, None, refl, sym, ◌∙◌, ap, arith}
+use Rattle.std.proofs.Common.{◌≡◌, ℕ, ◌≤◌, Bool, true, false, eqb, List, [], ◌∷◌, length, map, None, refl, ap, arith}
 use Rattle.std.proofs.lemmas.Bool.Decides.{nat_tests}
 use Rattle.std.specs.List.{list_any}
-use Rattle.tr_book.specs.Parts.{PartState, bytes_left, bytes_of, packets_left, part_bytes, part_packets, part_records, part_state, records_left, records_of, seq_among, seq_in_part}
+use Rattle.tr_book.specs.Parts.{PartState, bytes_left, bytes_of, packets_left, part_bytes, part_packets, part_records, records_left, records_of, seq_among, seq_in_part}
 use Rattle.tr_packet.specs.Packets.{Contents}
 use Rattle.tr_stream.proofs.GoneLemmas.{packets-have}
 use Rattle.tr_stream.specs.Chunks.{chunk_of, closed_part, packet_of, part_if, part_of}

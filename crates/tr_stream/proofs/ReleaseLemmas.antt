@@ -1,15 +1,15 @@
 -- A release is the history's release, and it leaves a stream sound.
-use Rattle.std.proofs.Common.{◌≡◌, ◌≢◌, ℕ, ◌+◌, ◌<◌, ◌≤◌, zero, suc, Bool, true, false, cond, eqb, leb, List, [], ◌∷◌, ◌++◌, length, map, Option, Some, None, Result, Ok, Err, refl, sym, ◌∙◌, ap, ap₂, subst, arith}
+use Rattle.std.proofs.Common.{◌≡◌, ℕ, ◌+◌, ◌<◌, zero, suc, Bool, true, false, cond, eqb, leb, List, [], ◌∷◌, ◌++◌, length, map, Option, Some, None, Result, Ok, Err, refl, sym, ◌∙◌, ap, ap₂, subst, arith}
 use Rattle.std.proofs.lemmas.Bool.Decides.{nat_tests}
 use Rattle.std.proofs.lemmas.Grind.{common_steps}
 use Rattle.std.proofs.lemmas.List.{length-map}
 use Rattle.std.proofs.lemmas.List.Sums.{sum_by-cons}
-use Rattle.std.specs.List.{AllByRecursion, list_any}
-use Rattle.std.specs.Option.{option_map_or}
+use Rattle.std.specs.List.{AllByRecursion}
 use Rattle.std.specs.Prelude.{is_some, slice_get, sum_by}
 use Rattle.tr_book.specs.Parts.{PartState, change_at, part_bytes, part_packets, part_records, release, release_part, released_part, no_parts, PartsState}
 use Rattle.tr_packet.specs.Packets.{Contents}
 use Rattle.tr_stream.proofs.PartLemmas.{below-is}
+use Rattle.tr_stream.proofs.PlacedLemmas.{placed-release}
 use Rattle.tr_stream.proofs.Refinement.{chunks_same}
 use Rattle.tr_stream.proofs.ReleaseForms.{held-records, if-bytes, if-packets, if-records}
 use Rattle.tr_stream.proofs.SoundLemmas.{records_of-packets}
@@ -19,9 +19,9 @@ use Rattle.tr_stream.specs.History.{History, is_released}
 use Rattle.tr_stream.specs.Kept.{IsKept}
 use Rattle.tr_stream.specs.Sound.{CanBeSent, IsSound}
 use Rattle.tr_stream.specs.StandsFor.{StandsFor}
-use Rattle.tr_stream.specs.State.{StreamState, in_parts}
+use Rattle.tr_stream.specs.State.{StreamState}
 use Rattle.tr_stream.specs.StateSteps.{part_refusal, release_part_unless, size_of_part, state_after_release, state_release_answer, state_release_refusal}
-use Rattle.tr_stream.specs.Steps.{ReleasesSome, history_after_release, history_release_answer, history_release_refusal, release_chunk, release_chunk_unless, released_unless, released_with}
+use Rattle.tr_stream.specs.Steps.{history_after_release, history_release_answer, history_release_refusal, release_chunk, release_chunk_unless, released_unless, released_with}
 use Rattle.tr_stream.specs.declared.answers.ReleaseFault.{ReleaseFault}
 use Rattle.tr_stream.specs.declared.answers.ReleaseFault.TheVariants as fault
 use Rattle.tr_stream.specs.declared.answers.Released.{Released}
@@ -286,7 +286,7 @@ kept-released s k p at held is =
     sym (if-released (is_released k h) k (map (packet_of s.config) (chunk_of k h)))
     ∙ ap (λ (q : PartState). is_some q.released) (part-found (leb (k + 1) h.cuts) (sym (part-at s h k is.history.1) ∙ at))
     ∙ ap is_some held in
-    record { sound = sound-released s k p at held is.sound; history = (release_chunk k h, stands-released s h k closed new is.history.1) }
+    record { sound = sound-released s k p at held is.sound; placed = placed-release s k p at held is.placed; history = (release_chunk k h, stands-released s h k closed new is.history.1) }
   where
     by_test : (b : Bool) → leb (k + 1) is.history.0.cuts ≡ b
         → cond b (Some (closed_part s.config k is.history.0)) None ≡ Some p → k < is.history.0.cuts

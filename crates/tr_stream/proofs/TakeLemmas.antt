@@ -4,12 +4,12 @@ use Rattle.std.proofs.lemmas.Bool.Decides.{nat_tests}
 use Rattle.std.proofs.lemmas.Grind.{common_steps}
 use Rattle.std.proofs.lemmas.List.Sums.{sum_by_push}
 use Rattle.std.specs.Prelude.{sum_by}
-use Rattle.tr_book.specs.Parts.{PartState, records_of, part_records}
+use Rattle.tr_book.specs.Parts.{part_records}
 use Rattle.tr_ring.specs.ClosedBuffer.{ClosedBuffer}
 use Rattle.tr_stream.proofs.ChunkLemmas.{records-of_buffers, records_in-append}
 use Rattle.tr_stream.proofs.SoundLemmas.{records_of-packets}
 use Rattle.tr_stream.proofs.Refinement.{stands-moved}
-use Rattle.tr_stream.specs.Chunks.{buffers_where, chunk_of, part_of, parts_below, waiting_of, closed_part, packet_of}
+use Rattle.tr_stream.specs.Chunks.{buffers_where, chunk_of, parts_below, waiting_of, closed_part, packet_of}
 use Rattle.tr_stream.specs.History.{Status, Kept, Closed, History, is_kept, is_waiting, records_where, is_released}
 use Rattle.tr_stream.specs.StandsFor.{StandsFor}
 use Rattle.tr_stream.specs.State.{StreamState, in_parts, records_in}

@@ -3,7 +3,7 @@ pub use Rattle.tr_book.specs.Parts.{part_at}
 pub use Rattle.tr_ring.specs.Ring.{push_answer, ring_records}
 pub use Rattle.tr_stream.specs.Chunks.{history_ring, part_in, ring_buffers, buffer_runs}
 pub use Rattle.tr_stream.specs.Consistent.{IsConsistent}
-pub use Rattle.tr_stream.specs.Fates.{history_fate, state_fate, held_fate}
+pub use Rattle.tr_stream.specs.Fates.{all_parts, fate_in_parts, history_fate, state_fate, held_fate}
 pub use Rattle.tr_stream.specs.History.{History}
 pub use Rattle.tr_stream.specs.Kept.{IsKept}
 pub use Rattle.tr_stream.specs.Sound.{IsSound}

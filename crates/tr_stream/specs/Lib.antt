@@ -6,6 +6,7 @@ pub mod Faults
 pub mod History
 pub mod Kept
 pub mod Laws
+pub mod Placed
 pub mod Rules
 pub mod Runs
 pub mod Sound

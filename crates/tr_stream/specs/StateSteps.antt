@@ -108,7 +108,7 @@ state_after_take s = by_session_mode s.config.session (move_oldest s.ring.waitin
 abbrev pub state_cut_ring : ℕ → StreamState → StreamState
 state_cut_ring end s = record s {
   ring = clear_ring s.ring;
-  parts = close_part (with_packets (map (packet_of s.config) (ring_buffers end s.ring)) s.parts);
+  parts = close_part s.counters.offered (with_packets (map (packet_of s.config) (ring_buffers end s.ring)) s.parts);
   counters = at_moment end (with_consumed (in_ring s.ring) s.counters);
 }
 

@@ -1,14 +1,14 @@
 //! One stream: a ring of sub-buffers, and the parts that it is consumed into.
 
 ghost use Rattle.std.specs.Prelude.{◌≡◌, ◌≢◌, ◌+◌, ◌-◌, ◌≤◌, ◌<◌, [], Some, Ok, Err, IsOk, IfOk, OnOk, OnErr, length, option_copied, slice_get};
-ghost use Rattle.tr_stream.specs.Calls.{part_in, IsConsistent, history_fate, state_fate, held_fate, History, IsKept, IsSound, StandsFor, in_ring, in_parts, new_state, overwrites, refusal_of, state_entry, state_with_offer, offered_as, state_offer_answer, state_after_offer, state_take_answer, state_after_take, cut_done, state_cut_answer, state_cut_ring, state_after_cut, ClearsSome, ReleasesSome, state_cleared, state_clear_answer, state_clear_ring, state_after_clear, state_release_answer, state_after_release, state_after_switch, state_snap, state_counts, new_history, history_offer_answer, history_after_offer, history_take_answer, history_after_take, history_cut_answer, history_after_cut, history_clear_answer, history_after_clear, history_release_answer, history_after_release, history_after_switch, history_snap, history_counts, part_at, push_answer, ring_records, history_ring};
+ghost use Rattle.tr_stream.specs.Calls.{part_in, IsConsistent, history_fate, all_parts, fate_in_parts, state_fate, held_fate, History, IsKept, IsSound, StandsFor, in_ring, in_parts, new_state, overwrites, refusal_of, state_entry, state_with_offer, offered_as, state_offer_answer, state_after_offer, state_take_answer, state_after_take, cut_done, state_cut_answer, state_cut_ring, state_after_cut, ClearsSome, ReleasesSome, state_cleared, state_clear_answer, state_clear_ring, state_after_clear, state_release_answer, state_after_release, state_after_switch, state_snap, state_counts, new_history, history_offer_answer, history_after_offer, history_take_answer, history_after_take, history_cut_answer, history_after_cut, history_clear_answer, history_after_clear, history_release_answer, history_after_release, history_after_switch, history_snap, history_counts, part_at, push_answer, ring_records, history_ring};
 
 use crate::answers::{
     ClearFault, Cleared, CutDone, CutFault, OfferFault, Offered, ReleaseFault, Released, TakeFault,
     Taken,
 };
 use crate::config::StreamConfig;
-use crate::fate::{Fate, fate_in_parts, loss};
+use crate::fate::{Fate, loss};
 use crate::packing::{move_to_part, ring_packets, ring_runs, used};
 use std::alloc::{AllocError, Allocator, Global};
 use std::marker::Model;
@@ -218,7 +218,7 @@ impl<A: Allocator + Copy> Stream<A> {
             packets: packets.len() as u64,
             records: self.in_ring(),
         };
-        self.parts.cut(packets)?;
+        self.parts.cut(packets, self.counters.offered())?;
         self.ring.clear();
         self.counters.note_consumed(done.records);
         self.counters.note_moment(end);
@@ -432,16 +432,29 @@ impl<A: Allocator> Stream<A> {
         }
     }
 
+    /// The trace chunk that the record with this serial is in, if it is in one: only one part can have it, by where parts
+    /// began.
+    fn chunk_fate(&self, serial: u64) -> Option<Fate>
+        ensures { result ≡ fate_in_parts serial (all_parts self.now.parts) }
+    {
+        let Some(part) = self.parts.part(self.parts.place_of(serial)) else {
+            unreachable!()
+        };
+        match part.seq_of(serial) {
+            Some(seq) => Some(Fate::InChunk {
+                chunk: part.id(),
+                seq,
+            }),
+            None => None,
+        }
+    }
+
     /// Where the record with this serial is held, or was cleared, if anywhere.
     fn held_fate(&self, serial: u64) -> Option<Fate>
         ensures { result ≡ held_fate serial self.now }
     {
-        if let Some(fate) = fate_in_parts(self.parts.closed(), serial) {
+        if let Some(fate) = self.chunk_fate(serial) {
             return Some(fate);
-        }
-        if let Some(seq) = self.parts.current().seq_of(serial) {
-            let chunk = self.parts.current().id();
-            return Some(Fate::InChunk { chunk, seq });
         }
         if let Some(seq) = self.parts.seq_cleared(serial) {
             return Some(Fate::Cleared { seq });

@@ -32,12 +32,12 @@ fn push(rt: &impl Abort, alloc: Global, parts: &mut Parts, seq: u64, len: usize)
     put_in_part(rt, alloc, parts, &packet(rt, alloc, seq, 1000, 1000, len));
 }
 
-/// Cuts after packets.
-fn cut(rt: &impl Abort, parts: &mut Parts, packets: PacketTexts)
+/// Cuts after packets; the next part begins at this serial.
+fn cut(rt: &impl Abort, parts: &mut Parts, packets: PacketTexts, next: u64)
     requires { records_of packets ≤ 2 }
 {
-    assert!(rt; parts.current().records() < 1000);
-    parts.cut(packets).expect(rt, "a cut");
+    assert!(rt; !parts.current().is_released() && parts.current().records() < 1000);
+    parts.cut(packets, next).expect(rt, "a cut");
 }
 
 /// Asserts the number of a part, its records and its bytes.
@@ -77,15 +77,38 @@ fn assert_only_closed(rt: &impl Abort, parts: &Parts) {
 fn a_cut_closes_the_part_behind_its_packets(rt: HostRuntime) {
     let mut parts = Parts::new(rt.alloc());
     push(&rt, rt.alloc(), &mut parts, 0, 50);
-    cut(&rt, &mut parts, only(&rt, rt.alloc(), 1, 64));
+    cut(&rt, &mut parts, only(&rt, rt.alloc(), 1, 64), 4);
     assert_same(&rt, parts.cuts(), 1);
     assert_part(&rt, parts.current(), (1, 0, 0));
     push(&rt, rt.alloc(), &mut parts, 2, 50);
     assert_only_closed(&rt, &parts);
     assert_part_at(&rt, &parts, 1, 2, 228);
-    cut(&rt, &mut parts, PacketTexts::new(rt.alloc()));
+    cut(&rt, &mut parts, PacketTexts::new(rt.alloc()), 6);
     assert_part_at(&rt, &parts, 2, 0, 0);
     assert_same(&rt, parts.part(3).is_none(), true);
+}
+
+/// Serials, and which part was the current one when each was offered: the second one had no offer.
+static PLACES: [(u64, u64); 7] = [
+    (0, 0),
+    (3, 0),
+    (4, 2),
+    (5, 2),
+    (6, 3),
+    (7, 3),
+    (u64::MAX, 3),
+];
+
+#[test]
+fn a_part_is_found_by_where_parts_began(rt: HostRuntime) {
+    let mut parts = Parts::new(rt.alloc());
+    assert_same(&rt, parts.place_of(0), 0);
+    cut(&rt, &mut parts, only(&rt, rt.alloc(), 0, 50), 4);
+    cut(&rt, &mut parts, PacketTexts::new(rt.alloc()), 4);
+    cut(&rt, &mut parts, only(&rt, rt.alloc(), 2, 50), 6);
+    for (serial, place) in &PLACES {
+        assert_same(&rt, (*serial, parts.place_of(*serial)), (*serial, *place));
+    }
 }
 
 /// The numbers of packets, and the serials of their records. Serials are missed within the first and within the last, and the
@@ -188,6 +211,7 @@ fn runs_end_where_serials_are_missed_and_with_their_packets(rt: HostRuntime) {
     for (serial, seq, has) in &HOLDERS {
         let found = (*serial, runs.seq_of(*serial), last.has(*serial));
         assert_same(&rt, found, (*serial, *seq, *has));
+        assert_same(&rt, (*serial, runs.search(*serial)), (*serial, *seq));
     }
 }
 
@@ -215,7 +239,7 @@ fn clear(rt: &impl Abort, alloc: Global, parts: &mut Parts, seq: u64) {
 fn a_clear_keeps_runs_and_closed_parts(rt: HostRuntime) {
     let mut parts = Parts::new(rt.alloc());
     push(&rt, rt.alloc(), &mut parts, 0, 50);
-    cut(&rt, &mut parts, only(&rt, rt.alloc(), 1, 64));
+    cut(&rt, &mut parts, only(&rt, rt.alloc(), 1, 64), 4);
     push(&rt, rt.alloc(), &mut parts, 2, 50);
     clear(&rt, rt.alloc(), &mut parts, 3);
     clear(&rt, rt.alloc(), &mut parts, 4);

@@ -7,5 +7,5 @@ use Rattle.tr_book.proofs.part.Part.release.Goals as goal
 pub invariant_of-self : goal.invariant_of-self
 invariant_of-self g c =
     let many : c.self.inside.records ≡ records_of c.in-Held.texts =
-        subst (λ body. IsBodyOf c.self.inside.records body) c.in-Held.is c.self.invariant in
+    subst (λ body. IsBodyOf c.self.inside.records body) c.in-Held.is c.self.invariant in
     omega (arith, small c.in-Held.texts c.packets.ensures.are, c.bytes-bytes.ensures.size, many)

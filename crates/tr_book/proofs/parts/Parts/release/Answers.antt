@@ -1,11 +1,12 @@
 use Rattle.std.proofs.Common.{◌∙◌, ap, length, sym}
 use Rattle.tr_book.proofs.ChangeLemmas.{length-changed_at}
 use Rattle.tr_book.proofs.parts.Parts.release.Goals as goal
-use Rattle.tr_book.specs.Parts.{PartState, release}
+use Rattle.tr_book.specs.Parts.{release}
 
 pub invariant_of-self-2 : goal.invariant_of-self-2
-invariant_of-self-2 g c =
-    (c.self.invariant.0
-    ∙ sym (length-changed_at release c.args.k c.self.inside.closed.items)
-    ∙ sym (ap (λ parts. length parts) c.in_ok-release_at.ensures.ok),
-    c.self.invariant.1)
+invariant_of-self-2 g c = (
+  c.self.invariant.0
+      ∙ sym (length-changed_at release c.args.k c.self.inside.closed.items)
+      ∙ sym (ap (λ parts. length parts) c.in_ok-release_at.ensures.ok),
+  c.self.invariant.1,
+)

@@ -1,4 +1,4 @@
-use Rattle.std.proofs.Common.{rules, ◌≡◌, ◌+◌, ◌∙◌, length, ap, arith}
+use Rattle.std.proofs.Common.{rules, ◌≡◌, ◌+◌, ◌∙◌, ap, arith}
 use Rattle.tr_stream.proofs.CallLemmas.{clear-is, clear-packets, clear-told, kept-clear_now}
 use Rattle.tr_stream.proofs.stream.Stream.clear_ring.Goals as goal
 use Rattle.tr_book.specs.Parts.{part_packets}

@@ -1,22 +1,44 @@
 use Rattle.std.proofs.Common.{rules, Some, None}
-use Rattle.tr_stream.proofs.FateLemmas.{held-closed, held-current, held-gone, held-ring}
+use Rattle.tr_stream.proofs.Consistency.{runs-rise}
+use Rattle.tr_stream.proofs.FateLemmas.{held-gone, held-part, held-ring}
 use Rattle.tr_stream.proofs.stream.Stream.held_fate.Goals as goal
+use Rattle.tr_stream.specs.State.{StreamState}
 
 pub returns-in-Some : goal.returns-in-Some
-returns-in-Some g c = held-closed c.args.serial c.args.self.now c.in-Some.fate (search rules)
-
-pub returns-in-Some-seq_of : goal.returns-in-Some-seq_of
-returns-in-Some-seq_of g c =
-    held-current c.args.serial c.args.self.now c.id-chunk.result c.in-Some-seq_of.seq (search rules) (search rules) (search rules)
+returns-in-Some g c = held-part c.args.serial c.args.self.now c.in-Some.fate (search rules)
 
 pub returns-in-Some-seq_cleared : goal.returns-in-Some-seq_cleared
 returns-in-Some-seq_cleared g c =
-    held-gone c.args.serial c.args.self.now c.in-Some-seq_cleared.seq (search rules) (search rules) (search rules)
+    let s : StreamState = record {
+      config = c.self.inside.config;
+      ring = c.self.inside.ring;
+      parts = c.self.inside.parts;
+      counters = c.self.inside.counters;
+      active = c.self.inside.active;
+    } in
+    let found = c.seq_cleared.ensures (runs-rise s c.self.invariant.history.0 c.self.invariant.history.1) in
+    held-gone c.args.serial c.args.self.now c.in-Some-seq_cleared.seq (search rules) (search (rules, found))
 
-pub returns-in-Some-seq_of-2 : goal.returns-in-Some-seq_of-2
-returns-in-Some-seq_of-2 g c =
-    held-ring c.args.serial c.args.self.now (Some c.in-Some-seq_of-2.seq) (search rules) (search rules) (search rules) (search rules)
+pub returns-in-Some-seq_of : goal.returns-in-Some-seq_of
+returns-in-Some-seq_of g c =
+    let s : StreamState = record {
+      config = c.self.inside.config;
+      ring = c.self.inside.ring;
+      parts = c.self.inside.parts;
+      counters = c.self.inside.counters;
+      active = c.self.inside.active;
+    } in
+    let found = c.seq_cleared.ensures (runs-rise s c.self.invariant.history.0 c.self.invariant.history.1) in
+    held-ring c.args.serial c.args.self.now (Some c.in-Some-seq_of.seq) (search rules) (search (rules, found)) (search rules)
 
 pub returns-in-None : goal.returns-in-None
 returns-in-None g c =
-    held-ring c.args.serial c.args.self.now None (search rules) (search rules) (search rules) (search rules)
+    let s : StreamState = record {
+      config = c.self.inside.config;
+      ring = c.self.inside.ring;
+      parts = c.self.inside.parts;
+      counters = c.self.inside.counters;
+      active = c.self.inside.active;
+    } in
+    let found = c.seq_cleared.ensures (runs-rise s c.self.invariant.history.0 c.self.invariant.history.1) in
+    held-ring c.args.serial c.args.self.now None (search rules) (search (rules, found)) (search rules)

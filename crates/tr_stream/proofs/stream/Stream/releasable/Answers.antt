@@ -1,4 +1,4 @@
-use Rattle.std.proofs.Common.{rules, ◌≡◌, ◌∙◌, List, false, length, refl, true, Some, None, ap, sym}
+use Rattle.std.proofs.Common.{rules, ◌≡◌, ◌∙◌, List, false, length, refl, true, ap, sym}
 use Rattle.std.proofs.lemmas.Option.{slice_get_past, slice_get_read}
 use Rattle.std.specs.Prelude.{is_some, slice_get}
 use Rattle.tr_book.specs.Parts.{PartState}
