@@ -44,7 +44,7 @@ fn turn(session: &mut Session, payload: &[u8], at: u64, keeps: bool) -> Result<(
 }
 
 /// What all archives of a session hold.
-fn archived(session: &Session) -> Archived {
+fn held_by(session: &Session) -> Archived {
     let mut all = Archived {
         archives: 0,
         packets: 0,
@@ -76,5 +76,5 @@ pub fn rounds(
     for at in 0..rounds {
         turn(&mut session, payload, at, keeps)?;
     }
-    Ok(archived(&session))
+    Ok(held_by(&session))
 }
