@@ -1,11 +1,11 @@
 -- The program's command line, as clap sees it, and what its words ask for.
-use Rattle.std.specs.Prelude.{ℕ, List, [], ◌∷◌, ◌≤◌, Option, Some, None, String, map, nat_le, option_map, option_and_then, codes, string_bytes, if◌then◌else◌}
+use Rattle.std.specs.Prelude.{ℕ, Bool, List, [], ◌∷◌, ◌≤◌, Option, Some, None, String, map, nat_le, option_map, option_and_then, codes, string_bytes, if◌then◌else◌}
 use Rattle.std.specs.Borrow.{Bor}
 use Rattle.std.specs.Str.{bytes_eq}
 use Rattle.clap.specs.Words.{App, Row, Text, first_of, new_app, with_subcommand}
-use Rattle.tr_command.specs.CommandLine.{line_app, option, place}
+use Rattle.tr_command.specs.CommandLine.{flag, line_app, option, place}
 use Rattle.tr_command.specs.Language.{entered_by}
-use Rattle.tr_command.specs.Reading.{and_last, and_then, number_given}
+use Rattle.tr_command.specs.Reading.{and_last, and_then, has_flag, number_given}
 use Rattle.tr_terms.specs.declared.limits.TheConstants.{MOST_FEEDERS, MOST_RECORDS, MOST_WORKERS}
 use Rattle.tr_command.specs.declared.invocation.Job.{Job}
 use Rattle.tr_command.specs.declared.invocation.Job.TheVariants as job
@@ -17,7 +17,7 @@ Folder = Option Text
 -- a job with its text in place of a reference to it
 pub data Task : Type 0 where
   Script : (out : Folder) → Task
-  Load : (threads records workers : ℕ) (out : Folder) → Task
+  Load : (threads records workers : ℕ) (watch : Bool) (out : Folder) → Task
   Audit : (dir : Text) → Task
 
 -- a folder by its text
@@ -26,13 +26,13 @@ folder_named out = option_map (λ d. d.now) out
 
 abbrev pub task_of : Job → Task
 task_of (job.Script out) = Script (folder_named out)
-task_of (job.Load threads records workers out) = Load threads records workers (folder_named out)
+task_of (job.Load threads records workers watch out) = Load threads records workers watch (folder_named out)
 task_of (job.Audit dir) = Audit dir.now
 
 -- the numbers of a load lie within their limits
 abbrev pub IsWithinLimits : Job → Type 0
 IsWithinLimits (job.Script out) = Unit
-IsWithinLimits (job.Load threads records workers out) =
+IsWithinLimits (job.Load threads records workers watch out) =
     ((1 ≤ threads) × (threads ≤ MOST_FEEDERS)) × (records ≤ MOST_RECORDS) × ((1 ≤ workers) × (workers ≤ MOST_WORKERS))
 IsWithinLimits (job.Audit dir) = Unit
 
@@ -40,10 +40,10 @@ IsWithinLimits (job.Audit dir) = Unit
 abbrev pub script_run_app : App
 script_run_app = line_app (codes "script") (option (codes "out") ∷ [])
 
--- `load --threads T --records R --workers W [--out DIR]`
+-- `load --threads T --records R --workers W [--watch] [--out DIR]`
 abbrev pub load_app : App
 load_app = line_app (codes "load")
-    (option (codes "threads") ∷ option (codes "records") ∷ option (codes "workers") ∷ option (codes "out") ∷ [])
+    (option (codes "threads") ∷ option (codes "records") ∷ option (codes "workers") ∷ flag (codes "watch") ∷ option (codes "out") ∷ [])
 
 -- `audit DIR`
 abbrev pub audit_app : App
@@ -73,7 +73,8 @@ load_given rows =
     and_then (count_given (codes "threads") 1 MOST_FEEDERS rows) (λ threads.
     and_then (count_given (codes "records") 0 MOST_RECORDS rows) (λ records.
     and_then (count_given (codes "workers") 1 MOST_WORKERS rows) (λ workers.
-    and_last (folder_given (first_of (codes "out") rows)) (λ out. Load threads records workers out))))
+    and_last (folder_given (first_of (codes "out") rows)) (λ out.
+    Load threads records workers (has_flag (codes "watch") rows) out))))
 
 -- the folder to audit, if its name isn't empty
 abbrev pub audit_given : List Row → Option Task

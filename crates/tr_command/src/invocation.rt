@@ -5,10 +5,10 @@ ghost use Rattle.std.specs.Vec.Iter.{into_iter_items};
 ghost use Rattle.clap.specs.Words.{app_of, first_of, found_of, rows_of};
 ghost use Rattle.tr_command.specs.Invocation.{IsWithinLimits, audit_given, count_given, folder_given, folder_named, job_named, job_of, load_given, program_app, script_given, task_of, words_of};
 
-use crate::arguments::Argument::{self, Named, Placed};
+use crate::arguments::Argument::{self, Flag, Named, Placed};
 use crate::command_lines::{command_of, joined};
 use crate::parsing::matches_of;
-use crate::values::{number_given, text_given};
+use crate::values::{has_flag, number_given, text_given};
 use clap::{ArgMatches, Command};
 use std::alloc::{AllocError, Global};
 use std::env::Args;
@@ -30,6 +30,8 @@ pub enum Job<'a> {
         records: u64,
         /// How many workers drain them meanwhile: 1 to `MOST_WORKERS`.
         workers: u64,
+        /// Whether a watcher reads how many records are offered, and says so.
+        watch: bool,
         /// The folder for the archives, if one is named.
         out: Option<&'a str>,
     },
@@ -43,11 +45,12 @@ pub enum Job<'a> {
 /// `script [--out DIR]`.
 static SCRIPT: [Argument; 1] = [Named("out")];
 
-/// `load --threads T --records R --workers W [--out DIR]`.
-static LOAD: [Argument; 4] = [
+/// `load --threads T --records R --workers W [--watch] [--out DIR]`.
+static LOAD: [Argument; 5] = [
     Named("threads"),
     Named("records"),
     Named("workers"),
+    Flag("watch"),
     Named("out"),
 ];
 
@@ -146,7 +149,7 @@ fn script_given<'a>(matches: &ArgMatches<'a>) -> Option<Job<'a>>
     Some(Job::Script { out })
 }
 
-/// A load of these numbers, with its archives below a folder, if one is named.
+/// A load of these numbers, watched if that is asked for, with its archives below a folder, if one is named.
 fn load_given<'a>(matches: &ArgMatches<'a>) -> Option<Job<'a>>
     ensures value { option_map task_of result ≡ load_given (rows_of (found_of matches.now)) }
     ensures within { IfSome result IsWithinLimits }
@@ -154,11 +157,13 @@ fn load_given<'a>(matches: &ArgMatches<'a>) -> Option<Job<'a>>
     let threads = count_given(matches, "threads", 1, MOST_FEEDERS as u64)?;
     let records = count_given(matches, "records", 0, MOST_RECORDS)?;
     let workers = count_given(matches, "workers", 1, MOST_WORKERS as u64)?;
+    let watch = has_flag(matches, "watch");
     let out = folder_given(matches, "out")?;
     Some(Job::Load {
         threads,
         records,
         workers,
+        watch,
         out,
     })
 }

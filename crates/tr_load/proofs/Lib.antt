@@ -1,3 +1,4 @@
 pub mod LoadLemmas
 pub mod TellLemmas
+pub mod WatchLemmas
 pub mod WorkLemmas

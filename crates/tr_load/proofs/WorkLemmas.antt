@@ -63,7 +63,7 @@ found_has records test (log ∷ logs) found have is =
     one_found (λ (l : Log). length l.items ≡ records) (test log) log found (find test logs) is (have 0 log (omega arith))
     (λ other. found_has records test logs found (λ k d low. have (suc k) d (omega (arith, low))) other)
 
-sum_same : {A : Type 0} (f : A → ℕ) (xs : List A) (n : ℕ) → ((i : ℕ) (x : A) → i < length xs → slice_get xs i ≡ Some x → f x ≡ n)
+pub sum_same : {A : Type 0} (f : A → ℕ) (xs : List A) (n : ℕ) → ((i : ℕ) (x : A) → i < length xs → slice_get xs i ≡ Some x → f x ≡ n)
     → sum_by f xs ≡ length xs * n
 sum_same f [] n each = sym (zero-mul n)
 sum_same f (x ∷ xs) n each =

@@ -45,8 +45,9 @@ StopsShort text out out_now Write = WentOut out.taken out_now.taken text × (out
 StopsShort text out out_now NoMemory = out_now ≡ out
 
 -- the text goes out, and then the archives are written; or the text doesn't go out as a whole, and nothing is made
-abbrev pub TellsLoad : Option (List ℕ) → ℕ → SessionOf StreamState → Result Report Mismatch → Sunk → Sunk → DiskState → DiskState
+abbrev pub TellsLoad : Option (List ℕ) → ℕ → SessionOf StreamState → Result Report Mismatch → Option ℕ → Sunk → Sunk → DiskState → DiskState
     → Result (Unit {0}) ExportFault → Type 0
-TellsLoad dir threads session outcome out out_now disk disk_now result =
-    GoesOn dir (outcome_text threads outcome) session out out_now disk disk_now result
-    ⊎ ((fault : ExportFault) × (result ≡ Err fault) × StopsShort (outcome_text threads outcome) out out_now fault × (disk_now ≡ disk))
+TellsLoad dir threads session outcome watched out out_now disk disk_now result =
+    GoesOn dir (outcome_text threads outcome watched) session out out_now disk disk_now result
+    ⊎ ((fault : ExportFault) × (result ≡ Err fault) × StopsShort (outcome_text threads outcome watched) out out_now fault
+    × (disk_now ≡ disk))

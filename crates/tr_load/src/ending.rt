@@ -16,7 +16,8 @@ pub(crate) fn parted<N: Names>(
     alloc: Global,
     fed: Vec<LoggedProducer<Producer<N>>>,
 ) -> Result<(Vec<Producer<N>>, Vec<Log>), AllocError>
-    ensures { IfOk result (λ r. r.1.items ≡ map (λ b. log_in b.producer.number b.log.items) fed.items) }
+    ensures logs { IfOk result (λ r. r.1.items ≡ map (λ b. log_in b.producer.number b.log.items) fed.items) }
+    ensures producers { IfOk result (λ r. r.0.items ≡ map (λ b. b.producer) fed.items) }
 {
     let mut producers = Vec::with_capacity(alloc, fed.len())?;
     let mut logs = Vec::with_capacity(alloc, fed.len())?;
@@ -72,9 +73,11 @@ pub(crate) fn settled<N: Names>(
     drainers: Vec<Drainer<N>>,
     logs: &[Log],
     records: u64,
+    watched: Option<u128>,
 ) -> Result<Loaded, LoadFault>
-    ensures { IfOk result (λ l. IsJudged logs.now l.settled.streams l.outcome × IsSessionOf N.plan l.settled
+    ensures judged { IfOk result (λ l. IsJudged logs.now l.settled.streams l.outcome × IsSessionOf N.plan l.settled
         × IsEnded records l.settled.book × AllHave records logs.now) }
+    ensures watched { IfOk result (λ l. l.watched ≡ watched) }
 {
     let Ok((settled, _)) = shared.settle(producers, drainers) else {
         return Err(LoadFault::Misplaced);
@@ -83,5 +86,9 @@ pub(crate) fn settled<N: Names>(
         return Err(LoadFault::Misplaced);
     }
     let outcome = judged(&settled, logs);
-    Ok(Loaded { settled, outcome })
+    Ok(Loaded {
+        settled,
+        outcome,
+        watched,
+    })
 }

@@ -7,15 +7,18 @@ mod gate;
 mod loaded;
 mod pace;
 mod plan;
+mod progress;
 mod running;
 mod sides;
 mod target;
 mod telling;
 mod texts;
+mod watching;
 mod works;
 
 pub use loaded::{LoadFault, Loaded};
 pub use plan::load_plan;
+pub use progress::{NoProgress, Progress};
 pub use running::load;
 pub use telling::tell_load;
 pub use texts::outcome_text;

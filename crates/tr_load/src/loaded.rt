@@ -13,6 +13,8 @@ pub struct Loaded {
     pub settled: Settled,
     /// Where its records are, or what is wrong with its first stream that doesn't agree with its feeder's log.
     pub outcome: Result<Report, Mismatch>,
+    /// What a watcher learned of how many records were offered, if there was one.
+    pub watched: Option<u128>,
 }
 
 /// Why a load was not settled.

@@ -6,7 +6,7 @@ ghost use Rattle.tr_load.specs.Plans.{load_session};
 use crate::loaded::LoadFault;
 use std::alloc::Global;
 use tr_session::{ChannelConfig, Config};
-use tr_shared::{Plan, plan};
+use tr_shared::{Plan, plan_watched};
 use tr_terms::{Mode, Name, OffsetMinutes, SessionMode};
 use uuid::Uuid;
 
@@ -20,14 +20,15 @@ const COUNT: u64 = 2;
 const IDENTIFIER: [u8; 16] = [0, 0, 0, 0, 0, 0, 64, 0, 128, 0, 0, 0, 0, 0, 0, 1];
 
 /// The plan of a load's session: local, at offset 0, with the channel `load` of this many streams, each with `COUNT` sub-buffers of
-/// `SIZE` bytes, in discard mode.
+/// `SIZE` bytes, in discard mode, and with this many watchers.
 ///
 /// # Errors
 ///
 /// `NoMemory`. `Misplaced` if there are more than `MOST_STREAMS` threads.
-pub fn load_plan(alloc: Global, threads: u64) -> Result<Plan, LoadFault>
+pub fn load_plan(alloc: Global, threads: u64, watchers: usize) -> Result<Plan, LoadFault>
     ensures session { IfOk result (λ p. load_session threads ≡ Ok p.session) }
     ensures books { IfOk result (λ p. length p.books ≡ length p.session.streams) }
+    ensures watched { IfOk result (λ p. p.tally.watchers ≡ watchers) }
 {
     let Some(name) = Name::new("load") else {
         unreachable!()
@@ -50,5 +51,5 @@ pub fn load_plan(alloc: Global, threads: u64) -> Result<Plan, LoadFault>
         mode: SessionMode::Local,
         channels,
     };
-    Ok(plan(alloc, &config)?)
+    Ok(plan_watched(alloc, &config, watchers)?)
 }

@@ -6,14 +6,14 @@ use tr_pool::Target;
 use tr_shared::{Drainer, Names, Shared, Takes};
 use tr_stream::{TakeFault, Taken};
 
-/// A session, and the paces of the workers that take from it: each is told what its worker takes.
+/// A session, and the paces of the workers that take from it: each notes that its worker takes.
 #[derive(Drop)]
-pub(crate) struct Watched<'a, N: Names> {
+pub(crate) struct Paced<'a, N: Names> {
     pub(crate) shared: &'a Shared<N>,
     pub(crate) paces: &'a [Pace],
 }
 
-impl<'a, N: Names> Watched<'a, N> {
+impl<'a, N: Names> Paced<'a, N> {
     /// The pace of the worker whose stream this is: the stream of number `i` is that of the worker of number `i` modulo the
     /// number of workers.
     fn pace(&self, i: usize) -> Option<&Pace> {
@@ -21,7 +21,7 @@ impl<'a, N: Names> Watched<'a, N> {
     }
 }
 
-impl<'a, N: Names> Target for Watched<'a, N> {
+impl<'a, N: Names> Target for Paced<'a, N> {
     ghost use Rattle.std.specs.Prelude.{length};
     ghost use Rattle.tr_shared.specs.Calls.{IsTaken};
 

@@ -47,10 +47,11 @@ pub fn tell_load<K: ByteSink, D: Disk>(
     loaded: &Loaded,
 ) -> Result<(), ExportFault>
     ensures { TellsLoad (option_map (λ d. d.now) dir.entry) threads loaded.now.settled loaded.now.outcome
+        loaded.now.watched
         (sunk_of K.ByteSink out.old) (sunk_of K.ByteSink out.new) (disk_of D.Disk disk.old) (disk_of D.Disk disk.new)
         result }
 {
-    let Ok(text) = outcome_text(alloc, threads, &loaded.outcome) else {
+    let Ok(text) = outcome_text(alloc, threads, &loaded.outcome, loaded.watched) else {
         return Err(ExportFault::NoMemory);
     };
     if put_all(out, text.as_bytes()).is_err() {

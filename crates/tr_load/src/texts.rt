@@ -2,7 +2,7 @@
 
 ghost use Rattle.std.specs.Prelude.{◌≡◌, ◌++◌, IfOk, OnOk};
 ghost use Rattle.std.specs.String.{string_bytes};
-ghost use Rattle.tr_load.specs.Texts.{line, mismatch_text, outcome_text, report_text};
+ghost use Rattle.tr_load.specs.Texts.{line, mismatch_text, outcome_text, report_end, report_text};
 
 use std::alloc::{AllocError, Global};
 use std::fmt::Write;
@@ -18,9 +18,24 @@ fn push_line(text: &mut String, words: &str, number: u128) -> Result<(), AllocEr
     }
 }
 
+/// Adds what a watcher learned, if there was one, and that the logs agree.
+fn push_end(text: &mut String, watched: Option<u128>) -> Result<(), AllocError>
+    ensures { OnOk result (string_bytes text.new ≡ string_bytes text.old ++ report_end watched) }
+{
+    if let Some(offered) = watched {
+        push_line(text, "watched", offered)?;
+    }
+    text.push_str("reconciled\n")
+}
+
 /// The text of a load whose logs agree.
-fn report_text(alloc: Global, threads: u64, report: &Report) -> Result<String, AllocError>
-    ensures { IfOk result (λ text. string_bytes text ≡ report_text threads report.now) }
+fn report_text(
+    alloc: Global,
+    threads: u64,
+    report: &Report,
+    watched: Option<u128>,
+) -> Result<String, AllocError>
+    ensures { IfOk result (λ text. string_bytes text ≡ report_text threads report.now watched) }
 {
     let mut text = String::new(alloc);
     push_line(&mut text, "threads", u128::from(threads))?;
@@ -29,7 +44,7 @@ fn report_text(alloc: Global, threads: u64, report: &Report) -> Result<String, A
     push_line(&mut text, "overwritten", report.overwritten)?;
     push_line(&mut text, "in ring", report.in_ring)?;
     push_line(&mut text, "in chunks", report.in_chunks)?;
-    text.push_str("reconciled\n")?;
+    push_end(&mut text, watched)?;
     Ok(text)
 }
 
@@ -47,7 +62,7 @@ fn mismatch_text(alloc: Global, mismatch: Mismatch) -> Result<String, AllocError
 }
 
 /// What is said of a load of this many threads, each line with its line feed: how many threads there were and where the records
-/// are, a line for each number, and `reconciled`; or one line with the mismatch.
+/// are, a line for each number, what a watcher learned, if there was one, and `reconciled`; or one line with the mismatch.
 ///
 /// # Errors
 ///
@@ -56,11 +71,12 @@ pub fn outcome_text(
     alloc: Global,
     threads: u64,
     outcome: &Result<Report, Mismatch>,
+    watched: Option<u128>,
 ) -> Result<String, AllocError>
-    ensures { IfOk result (λ text. string_bytes text ≡ outcome_text threads outcome.now) }
+    ensures { IfOk result (λ text. string_bytes text ≡ outcome_text threads outcome.now watched) }
 {
     match outcome {
-        Ok(report) => report_text(alloc, threads, report),
+        Ok(report) => report_text(alloc, threads, report, watched),
         Err(mismatch) => mismatch_text(alloc, *mismatch),
     }
 }

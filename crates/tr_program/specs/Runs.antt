@@ -1,5 +1,5 @@
 -- What a run of the program does.
-use Rattle.std.specs.Prelude.{◌≡◌, ◌⊎◌, ℕ, [], List, Option, Some, None, Result, Ok, Err}
+use Rattle.std.specs.Prelude.{◌≡◌, ◌⊎◌, ℕ, Bool, is_some, [], List, Option, Some, None, Result, Ok, Err}
 use Rattle.tr_console.specs.World.{World}
 use Rattle.tr_chunk.specs.Files.{Sunk, WentOut}
 use Rattle.tr_console.specs.Runs.{AnsweredSome, BrokeOff, Ran, WentTooFar, WroteSome}
@@ -94,10 +94,10 @@ abbrev pub HasNoSession : List ℕ → Option Tree → Type 0
 HasNoSession dir tree = (t : Tree) → tree ≡ Some t → sessions_of t dir ≡ []
 
 -- what a settled load came to was told to an output and a disk, and the ending says with which result
-pub record EndsTold (dir : Folder) (threads : ℕ) (session : SessionOf StreamState) (outcome : Result Report Mismatch)
+pub record EndsTold (dir : Folder) (threads : ℕ) (session : SessionOf StreamState) (outcome : Result Report Mismatch) (watched : Option ℕ)
     (out out_now : Sunk) (disk disk_now : DiskState) (ending : Ending) : Type 0 where
   pub told : Result (Unit {0}) ExportFault
-  pub tells : TellsLoad dir threads session outcome out out_now disk disk_now told
+  pub tells : TellsLoad dir threads session outcome watched out out_now disk disk_now told
   pub ends : ending ≡ ending_of_told outcome told
 
 -- the host before a run and after it
@@ -160,21 +160,23 @@ module _ (old new : Host) where
   EndsAs dir ReadOrWrite = EndsByFault dir
   EndsAs dir NoMemory = EndsByMemory dir
 
-  -- a load was settled, judged by its feeders' logs, and told
-  pub record HasLoaded (threads records : ℕ) (dir : Folder) (ending : Ending) : Type 0 where
+  -- a load was settled, judged by its feeders' logs, watched if that was asked for, and told
+  pub record HasLoaded (threads records : ℕ) (watch : Bool) (dir : Folder) (ending : Ending) : Type 0 where
     pub session : SessionOf StreamState
     pub outcome : Result Report Mismatch
-    pub loaded : IsLoaded threads records session outcome
-    pub told : EndsTold dir threads session outcome (output_of old) (output_of new) (disk_in old) (disk_in new) ending
+    pub watched : Option ℕ
+    pub asked : is_some watched ≡ watch
+    pub loaded : IsLoaded threads records session outcome watched
+    pub told : EndsTold dir threads session outcome watched (output_of old) (output_of new) (disk_in old) (disk_in new) ending
 
   -- a load wasn't settled
   abbrev pub HasNotLoaded : Ending → Type 0
   HasNotLoaded ending = ((fault : LoadFault) × (ending ≡ ending_of_load fault)) × IsUntouched
 
   -- a load was settled and told, or it wasn't settled and nothing was put out or made; it reads nothing
-  abbrev pub EndsLoad : (threads records : ℕ) → Folder → Ending → Type 0
-  EndsLoad threads records dir ending =
-      (new.given ≡ old.given) × (HasLoaded threads records dir ending ⊎ HasNotLoaded ending)
+  abbrev pub EndsLoad : (threads records : ℕ) → Bool → Folder → Ending → Type 0
+  EndsLoad threads records watch dir ending =
+      (new.given ≡ old.given) × (HasLoaded threads records watch dir ending ⊎ HasNotLoaded ending)
 
   -- an audit of a folder; it reads no input and makes nothing, so neither fails
   pub record EndsAudit (dir : List ℕ) (folders folders_now : FoldersState) (ending : Ending) : Type 0 where
@@ -213,7 +215,7 @@ IsTold ending old new = IsPut (message_of ending) old new
 abbrev pub EndsSo : Outside → Outside → Option Task → Ending → Type 0
 EndsSo old new None ending = IsNoRun old.host new.host ending
 EndsSo old new (Some (Script dir)) ending = EndsAs old.host new.host dir ending
-EndsSo old new (Some (Load threads records workers dir)) ending = EndsLoad old.host new.host threads records dir ending
+EndsSo old new (Some (Load threads records workers watch dir)) ending = EndsLoad old.host new.host threads records watch dir ending
 EndsSo old new (Some (Audit dir)) ending = EndsAudit old.host new.host dir old.folders new.folders ending
 
 -- the same: its status and its line say how
@@ -227,7 +229,7 @@ pub record HasEnded (asked : Option Task) (old new : Outside) (told told_now : S
 abbrev pub LacksArchives : Option Task → FoldersState → FoldersState → Type 0
 LacksArchives None old new = ⊥
 LacksArchives (Some (Script dir)) old new = ⊥
-LacksArchives (Some (Load threads records workers dir)) old new = ⊥
+LacksArchives (Some (Load threads records workers watch dir)) old new = ⊥
 LacksArchives (Some (Audit dir)) old new = (new.failures ≡ once_more old.failures) ⊎ HasNoSession dir old.tree
 
 -- what a status of 3 says

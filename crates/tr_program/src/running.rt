@@ -25,7 +25,7 @@ use tr_command::{Job, collected, job_of, with_program, words_behind};
 use tr_console::{Console, run_script};
 use tr_export::{Disk, ExportFault, write_archives};
 use tr_folders::Folders;
-use tr_load::{Loaded, load, tell_load};
+use tr_load::{Loaded, Progress, load, tell_load};
 use tr_record::{ByteSink, ByteSource, put_all};
 use tr_survey::survey;
 
@@ -88,7 +88,7 @@ fn end_load<K: ByteSink, D: Disk>(
     threads: u64,
     loaded: &Loaded,
 ) -> Ending
-    ensures ends { EndsTold (option_map (λ d. d.now) dir.entry) threads loaded.now.settled loaded.now.outcome
+    ensures ends { EndsTold (option_map (λ d. d.now) dir.entry) threads loaded.now.settled loaded.now.outcome loaded.now.watched
         (sunk_of K.ByteSink out.old) (sunk_of K.ByteSink out.new) (disk_of D.Disk disk.old) (disk_of D.Disk disk.new)
         result }
     ensures fault { result ≡ Ending.ReadOrWrite
@@ -118,7 +118,14 @@ fn end_audit<K: ByteSink, F: Folders>(
 }
 
 /// Does what the words ask for.
-fn end<R: Threads + Wait + Clock + Sync, S: ByteSource, K: ByteSink, D: Disk, F: Folders>(
+fn end<
+    R: Threads + Wait + Clock + Sync,
+    S: ByteSource,
+    K: ByteSink,
+    D: Disk,
+    F: Folders,
+    P: Progress + Sync,
+>(
     rt: &R,
     alloc: Global,
     words: &[&str],
@@ -126,6 +133,7 @@ fn end<R: Threads + Wait + Clock + Sync, S: ByteSource, K: ByteSink, D: Disk, F:
     out: &mut K,
     disk: &mut D,
     folders: &mut F,
+    progress: &P,
 ) -> Ending
     ensures ends { EndsSo (outside_of S.ByteSource K.ByteSink D.Disk F.Folders input.old out.old disk.old folders.old)
         (outside_of S.ByteSource K.ByteSink D.Disk F.Folders input.new out.new disk.new folders.new)
@@ -154,10 +162,19 @@ fn end<R: Threads + Wait + Clock + Sync, S: ByteSource, K: ByteSink, D: Disk, F:
                     threads,
                     records,
                     workers,
+                    watch,
                     out: dir,
                 },
             ),
-        ) => match load(rt, alloc, threads as usize, records, workers as usize) {
+        ) => match load(
+            rt,
+            alloc,
+            threads as usize,
+            records,
+            workers as usize,
+            watch,
+            progress,
+        ) {
             Ok(loaded) => end_load(alloc, out, disk, dir, threads, &loaded),
             Err(fault) => Ending::of_load(fault),
         },
@@ -186,7 +203,7 @@ fn tell<E: ByteSink>(ending: Ending, err: &mut E) -> u8
 /// are made only once the input was read to its end and answered whole, or a load was told whole; if one can't be made, those
 /// before it stay, and a prefix of its own folder and files.
 ///
-/// Only a load starts threads and waits for them.
+/// Only a load starts threads and waits for them. If it is watched, it says by `progress` how far it is.
 pub fn run<
     R: Threads + Wait + Clock + Sync,
     S: ByteSource,
@@ -194,6 +211,7 @@ pub fn run<
     E: ByteSink,
     D: Disk,
     F: Folders,
+    P: Progress + Sync,
 >(
     rt: &R,
     alloc: Global,
@@ -203,6 +221,7 @@ pub fn run<
     err: &mut E,
     disk: &mut D,
     folders: &mut F,
+    progress: &P,
 ) -> u8
     ensures ends { HasEnded (job_asked (map (λ w. w.now) words.now))
         (outside_of S.ByteSource K.ByteSink D.Disk F.Folders input.old out.old disk.old folders.old)
@@ -217,7 +236,9 @@ pub fn run<
         (outside_of S.ByteSource K.ByteSink D.Disk F.Folders input.old out.old disk.old folders.old)
         (outside_of S.ByteSource K.ByteSink D.Disk F.Folders input.new out.new disk.new folders.new) }
 {
-    let ending = end(rt, alloc, words, input, out, disk, folders);
+    let ending = end(
+        rt, alloc, words, input, out, disk, folders, progress,
+    );
     tell(ending, err)
 }
 
@@ -229,6 +250,7 @@ fn run_arguments<
     E: ByteSink,
     D: Disk,
     F: Folders,
+    P: Progress + Sync,
 >(
     rt: &R,
     alloc: Global,
@@ -238,6 +260,7 @@ fn run_arguments<
     err: &mut E,
     disk: &mut D,
     folders: &mut F,
+    progress: &P,
 ) -> u8
     ensures ends { HasEnded (job_asked (words_of (into_iter_items given)))
         (outside_of S.ByteSource K.ByteSink D.Disk F.Folders input.old out.old disk.old folders.old)
@@ -256,7 +279,17 @@ fn run_arguments<
         return tell(Ending::NoMemory, err);
     };
     match words_behind(alloc, given.as_slice()) {
-        Ok(words) => run(rt, alloc, words.as_slice(), input, out, err, disk, folders),
+        Ok(words) => run(
+            rt,
+            alloc,
+            words.as_slice(),
+            input,
+            out,
+            err,
+            disk,
+            folders,
+            progress,
+        ),
         Err(_) => tell(Ending::NoMemory, err),
     }
 }
@@ -270,6 +303,7 @@ pub fn run_given<
     E: ByteSink,
     D: Disk,
     F: Folders,
+    P: Progress + Sync,
 >(
     rt: &R,
     alloc: Global,
@@ -279,6 +313,7 @@ pub fn run_given<
     err: &mut E,
     disk: &mut D,
     folders: &mut F,
+    progress: &P,
 ) -> u8
     ensures ends { HasEnded (option_and_then (λ arguments. job_asked (words_of (into_iter_items arguments))) (result_ok given))
         (outside_of S.ByteSource K.ByteSink D.Disk F.Folders input.old out.old disk.old folders.old)
@@ -295,7 +330,9 @@ pub fn run_given<
         (outside_of S.ByteSource K.ByteSink D.Disk F.Folders input.new out.new disk.new folders.new) }
 {
     match given {
-        Ok(given) => run_arguments(rt, alloc, given, input, out, err, disk, folders),
+        Ok(given) => run_arguments(
+            rt, alloc, given, input, out, err, disk, folders, progress,
+        ),
         Err(error) => tell(Ending::of_arguments(error.kind()), err),
     }
 }

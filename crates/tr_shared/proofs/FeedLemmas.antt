@@ -1,5 +1,5 @@
 -- What a feeder's log says of its producer.
-use Rattle.std.proofs.Common.{◌≡◌, ◌∙◌, ◌+◌, List, [], ◌∷◌, ◌++◌, Result, Ok, Err, ap, arith, if◌then◌else◌, length, refl, sym}
+use Rattle.std.proofs.Common.{◌≡◌, ◌∙◌, ◌+◌, List, [], ◌∷◌, ◌++◌, Result, Ok, Err, ap, arith, if◌then◌else◌, length, refl, subst, sym}
 use Rattle.std.proofs.lemmas.List.{length-append}
 use Rattle.std.specs.List.{FoldsTo}
 use Rattle.std.specs.Prelude.{is_ok}
@@ -40,6 +40,18 @@ goes before after (item ∷ work) did =
       rest.1 ∙ ap (λ (p : ProducerState). p.number) did.1.1.0 ∙ same-number did.1.0 before.0,
     )
 
+-- what was offered is published after each offer
+publishes : (before after : ProducerState × List Item) (work : List Item) → FoldsTo (OffersOne IsOffered) before work after
+    → before.0.published ≡ before.0.offered → after.0.published ≡ after.0.offered
+publishes before after [] did is = subst (λ s. s.0.published ≡ s.0.offered) did is
+publishes before after (item ∷ work) did is =
+    publishes did.0 after work did.2
+    (ap (λ (p : ProducerState). p.published) did.1.1.0 ∙ sym (ap (λ (p : ProducerState). p.offered) did.1.1.0))
+
 pub fed-offers : (p q : ProducerState) (work log : List Item) → IsFed IsOffered p work q log → HasOffered (length log) p q
 fed-offers p q work log fed =
-    let all = goes (p, []) (q, log) work fed in (omega (arith, all.0), all.1)
+    let all = goes (p, []) (q, log) work fed in record {
+      offered = omega (arith, all.0);
+      number = all.1;
+      published = publishes (p, []) (q, log) work fed;
+    }

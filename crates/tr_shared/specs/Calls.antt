@@ -72,6 +72,9 @@ pub record IsTakeFrom (plan : PlanState) (before : List ℕ) (i : ℕ) (answer :
   pub some : IfOk answer (λ (taken : Taken). 1 ≤ taken.count)
   pub mode : (config : StreamConfig) → IsPlanned plan i config → IsTakeOf config.session answer
 
--- a producer has offered this many records more, and still offers to the same stream
-abbrev pub HasOffered : ℕ → ProducerState → ProducerState → Type 0
-HasOffered count before after = (after.offered ≡ before.offered + count) × (after.number ≡ before.number)
+-- a producer has offered so many records more, still offers to the same stream, and has published what it offered, if it had
+-- before
+pub record HasOffered (count : ℕ) (before after : ProducerState) : Type 0 where
+  pub offered : after.offered ≡ before.offered + count
+  pub number : after.number ≡ before.number
+  pub published : before.published ≡ before.offered → after.published ≡ after.offered

@@ -17,8 +17,8 @@ pub fn every_rotation()
         → session_in (cut_slots n s) ≡ cut_first by_state n (session_in s) }
 {}
 
-/// A producer that a feeder had has offered as many records more as the feeder's log has items, all to the same stream. Does
-/// nothing.
+/// A producer that a feeder had has offered as many records more as the feeder's log has items, all to the same stream, and has
+/// published what it offered. Does nothing.
 pub fn every_feed()
     ensures { (p q : ProducerState) (work log : List Item) → IsFed IsOffered p work q log → HasOffered (length log) p q }
 {}
