@@ -22,6 +22,10 @@ report_text threads report watched =
     ++ (line (codes "in ring") report.in_ring ++ (line (codes "in chunks") report.in_chunks
     ++ report_end watched)))))
 
+-- how many records were offered so far
+abbrev pub progress_text : ℕ → List ℕ
+progress_text offered = codes "tracerd: " ++ (decimal offered ++ (codes " records offered" ++ 10 ∷ []))
+
 -- the stream that is wrong, and the serial of its record or that its log is
 abbrev pub mismatch_text : Mismatch → List ℕ
 mismatch_text (WrongRecord stream serial) =

@@ -21,5 +21,5 @@ pub use plan::load_plan;
 pub use progress::{NoProgress, Progress};
 pub use running::load;
 pub use telling::tell_load;
-pub use texts::outcome_text;
+pub use texts::{outcome_text, progress_text};
 pub use works::load_work;

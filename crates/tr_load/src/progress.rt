@@ -10,6 +10,7 @@ pub trait Progress {
 }
 
 /// Nobody looks.
+#[derive(Clone, Copy)]
 pub struct NoProgress;
 
 impl Progress for NoProgress {

@@ -39,11 +39,7 @@ fn drainers<N: Names>(
 }
 
 /// A load on the session of a plan, with a watcher if one was planned.
-fn run<
-    N: Names + Send + Sync,
-    R: Threads + Wait + Clock + Sync,
-    P: Progress + Sync,
->(
+fn run<N: Names + Send + Sync, R: Threads + Wait + Clock + Sync, P: Progress + Sync>(
     rt: &R,
     alloc: Global,
     plan: Plan,

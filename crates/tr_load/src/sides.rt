@@ -111,10 +111,7 @@ pub(crate) fn run_watched<
         return (run_threads(rt, alloc, shared, crew, paces), None);
     };
     if !progress.is_shown() {
-        return (
-            run_threads(rt, alloc, shared, crew, paces),
-            Some(watcher),
-        );
+        return (run_threads(rt, alloc, shared, crew, paces), Some(watcher));
     }
     let has_ended = AtomicBool::new(false);
     let (ran, watcher) = join(

@@ -2,7 +2,7 @@
 
 ghost use Rattle.std.specs.Prelude.{◌≡◌, ◌++◌, IfOk, OnOk};
 ghost use Rattle.std.specs.String.{string_bytes};
-ghost use Rattle.tr_load.specs.Texts.{line, mismatch_text, outcome_text, report_end, report_text};
+ghost use Rattle.tr_load.specs.Texts.{line, mismatch_text, outcome_text, progress_text, report_end, report_text};
 
 use std::alloc::{AllocError, Global};
 use std::fmt::Write;
@@ -58,6 +58,18 @@ fn mismatch_text(alloc: Global, mismatch: Mismatch) -> Result<String, AllocError
         }
         Mismatch::LogLength { stream } => format!(in alloc; "mismatch stream {stream} log\n")?,
     };
+    Ok(text)
+}
+
+/// What is said of a load that goes on, with its line feed: how many records were offered so far.
+///
+/// # Errors
+///
+/// Out of memory.
+pub fn progress_text(alloc: Global, offered: u128) -> Result<String, AllocError>
+    ensures { IfOk result (λ text. string_bytes text ≡ progress_text offered) }
+{
+    let text = format!(in alloc; "tracerd: {offered} records offered\n")?;
     Ok(text)
 }
 

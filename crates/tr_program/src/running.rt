@@ -236,9 +236,7 @@ pub fn run<
         (outside_of S.ByteSource K.ByteSink D.Disk F.Folders input.old out.old disk.old folders.old)
         (outside_of S.ByteSource K.ByteSink D.Disk F.Folders input.new out.new disk.new folders.new) }
 {
-    let ending = end(
-        rt, alloc, words, input, out, disk, folders, progress,
-    );
+    let ending = end(rt, alloc, words, input, out, disk, folders, progress);
     tell(ending, err)
 }
 
@@ -330,9 +328,7 @@ pub fn run_given<
         (outside_of S.ByteSource K.ByteSink D.Disk F.Folders input.new out.new disk.new folders.new) }
 {
     match given {
-        Ok(given) => run_arguments(
-            rt, alloc, given, input, out, err, disk, folders, progress,
-        ),
+        Ok(given) => run_arguments(rt, alloc, given, input, out, err, disk, folders, progress),
         Err(error) => tell(Ending::of_arguments(error.kind()), err),
     }
 }

@@ -8,7 +8,7 @@ use std::sync::Wait;
 use std::test::*;
 use std::thread::Threads;
 use std::time::Clock;
-use tr_load::{LoadFault, Loaded, load, load_work, outcome_text};
+use tr_load::{LoadFault, Loaded, NoProgress, load, load_work, outcome_text};
 use tr_pool::{Items, Log, Mismatch, PoolError, Report, reconcile};
 use tr_terms::limits::{MOST_FEEDERS, MOST_RECORDS, MOST_WORKERS};
 
@@ -22,7 +22,7 @@ fn loaded<R: Threads + Wait + Clock + Abort + Sync>(
 ) -> Loaded {
     assert!(rt; threads <= MOST_FEEDERS && records <= MOST_RECORDS);
     assert!(rt; 1 <= workers && workers <= MOST_WORKERS);
-    load(rt, alloc, threads, records, workers).expect(rt, "a load")
+    load(rt, alloc, threads, records, workers, false, &NoProgress).expect(rt, "a load")
 }
 
 /// How many records of a load two rings hold: each has two sub-buffers of 65,536 bytes, with a head of 80 and records of 32. The
@@ -110,7 +110,7 @@ static MISMATCHES: [(u64, Result<Report, Mismatch>, &str); 2] = [
 #[test]
 fn mismatches_are_told_in_a_line(rt: HostRuntime) {
     for (threads, outcome, expected) in &MISMATCHES {
-        let text = outcome_text(rt.alloc(), *threads, outcome).expect(&rt, "memory");
+        let text = outcome_text(rt.alloc(), *threads, outcome, Some(7)).expect(&rt, "memory");
         assert_same(&rt, text.as_str(), expected);
     }
 }

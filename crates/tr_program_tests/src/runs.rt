@@ -10,6 +10,7 @@ use std::io;
 use std::test::*;
 use tr_export::MemoryDisk;
 use tr_folders::MemoryFolders;
+use tr_load::NoProgress;
 use tr_program::run_given;
 use tr_record::{MemorySink, MemorySource};
 
@@ -33,6 +34,7 @@ fn arguments_without_memory_are_told(rt: HostRuntime) {
         &mut err,
         &mut disk,
         &mut no_folders(alloc),
+        &NoProgress,
     );
     assert_same(&rt, (status, disk.made().len()), (4, 0));
     assert_same(&rt, out.into_bytes().is_empty(), true);

@@ -1,11 +1,11 @@
 //! The session under its locks.
 
-ghost use Rattle.std.specs.Prelude.{◌≡◌, ◌+◌, ◌<◌, ◌≤◌, ◌↔◌, IfErr, IfOk, length, replicate, sum_by, vec_capacity, vec_len};
+ghost use Rattle.std.specs.Prelude.{◌≡◌, ◌+◌, ◌<◌, ◌≤◌, ◌↔◌, All, IfErr, IfOk, length, replicate, sum_by, vec_capacity, vec_len};
 ghost use Rattle.tr_seats.specs.Settling.{AddUp, AreTheirs, IsOneEach, IsSessionOf, WereConsumed};
 ghost use Rattle.tr_seats.specs.Slots.{AreNew};
 ghost use Rattle.tr_seats.specs.Sums.{totals_of};
 ghost use Rattle.tr_shared.specs.Calls.{AreOffersOf, HaveTaken, IsDrainerFault, IsStartFault, IsStopFault};
-ghost use Rattle.tr_tally.specs.Tallies.{new_watchers};
+ghost use Rattle.tr_tally.specs.Tallies.{WatcherState, new_watchers};
 
 use crate::faults::SettleFault;
 use std::alloc::{Allocator, Global};
@@ -39,11 +39,7 @@ struct Places<N: Names, A: Allocator = Global> {
 }
 
 /// A shared session, the producers of its streams, and watchers.
-type BuiltWatched<N, A> = (
-    Shared<N, A>,
-    Vec<Producer<N, A>, A>,
-    Vec<Watcher<A>, A>,
-);
+type BuiltWatched<N, A> = (Shared<N, A>, Vec<Producer<N, A>, A>, Vec<Watcher<A>, A>);
 
 impl<N: Names, A: Allocator + Copy> Shared<N, A> {
     /// The session that a `Names` names, to be shared, and the producer of each stream, in order of number, with nothing
@@ -72,6 +68,7 @@ impl<N: Names, A: Allocator + Copy> Shared<N, A> {
         ensures producers { IfOk result (λ r. AreNew (length plan.books) r.1.items) }
         ensures watchers { IfOk result
             (λ r. r.2.items ≡ new_watchers plan.tally.table (length plan.books) plan.tally.watchers) }
+        ensures tally { IfOk result (λ r. All (λ (w : WatcherState). w.table ≡ N.plan.tally.table) r.2.items) }
         ensures memory { IfErr result (λ fault. fault ≡ SessionFault.NoMemory) }
     {
         let (opened, producers, watchers) = plan.build_watched::<N>()?;

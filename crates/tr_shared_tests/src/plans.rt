@@ -4,7 +4,7 @@ use std::alloc::Global;
 use std::fmt::Debug;
 use std::process::Abort;
 use std::test::*;
-use tr_seats::{Plan, plan};
+use tr_seats::{Plan, plan, plan_watched};
 use tr_session::{ChannelConfig, Config};
 use tr_session_book::SessionFault;
 use tr_terms::{Mode, Name, OffsetMinutes, SessionMode};
@@ -37,15 +37,15 @@ pub(crate) fn last<T: Drop>(rt: &impl Abort, items: &mut Vec<T>) -> T {
 /// The longest payload is what all others are the front of.
 pub(crate) static PAYLOAD: [u8; 153] = [0x61; 153];
 
-/// What planning a session answers: one channel `c` with this many threads, of two sub-buffers of this many bytes each.
-pub(crate) fn plan_with(
+/// A session of one channel `c` with so many threads, of two sub-buffers of so many bytes each.
+fn config_with(
     rt: &impl Abort,
     alloc: Global,
     session: SessionMode,
     mode: Mode,
     size: u64,
     threads: u64,
-) -> Result<Plan, SessionFault> {
+) -> Config<'static> {
     let offset = OffsetMinutes::new(0).expect(rt, "an offset");
     let name = Name::new("c").expect(rt, "a name");
     let channel = ChannelConfig {
@@ -56,13 +56,30 @@ pub(crate) fn plan_with(
         threads,
     };
     let channels = vec![in alloc; channel].expect(rt, "memory");
-    let config = Config {
+    Config {
         uuid: Uuid::nil(),
         offset,
         mode: session,
         channels,
-    };
-    plan(alloc, &config)
+    }
+}
+
+/// What planning a session answers: one channel `c` with this many threads, of two sub-buffers of this many bytes each.
+pub(crate) fn plan_with(
+    rt: &impl Abort,
+    alloc: Global,
+    session: SessionMode,
+    mode: Mode,
+    size: u64,
+    threads: u64,
+) -> Result<Plan, SessionFault> {
+    plan(alloc, &config_with(rt, alloc, session, mode, size, threads))
+}
+
+/// A plan of two overwriting streams with so many watchers.
+pub(crate) fn plan_of_watched(rt: &impl Abort, alloc: Global, watchers: usize) -> Plan {
+    let config = config_with(rt, alloc, SessionMode::Local, Mode::Overwrite, 256, 2);
+    plan_watched(alloc, &config, watchers).expect(rt, "a plan")
 }
 
 /// A plan of this many streams with two sub-buffers of 256 bytes each.

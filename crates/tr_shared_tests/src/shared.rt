@@ -8,6 +8,7 @@ mod operators;
 mod rotating;
 mod snapshots;
 mod threads;
+mod watching;
 
 use crate::plans::{PAYLOAD, assert_same, granted, last, plan_of, plan_with, push};
 use std::alloc::Global;

@@ -1,6 +1,9 @@
 //! The daemon's program: answers a script of commands, runs a load, or audits archives.
 #![tactic(auto)]
 
+mod progress;
+
+use crate::progress::OnStandardError;
 use std::alloc::Global;
 use std::io::IsTerminal;
 use std::process::ExitCode;
@@ -35,6 +38,7 @@ fn main(rt: HostRuntime) -> ExitCode {
         &mut err,
         &mut disk,
         &mut folders,
+        &OnStandardError { rt: &rt },
     );
     ExitCode::from(status)
 }

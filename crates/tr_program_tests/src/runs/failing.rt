@@ -9,6 +9,7 @@ use std::sync::Wait;
 use std::thread::Threads;
 use std::time::Clock;
 use tr_export::Disk;
+use tr_load::NoProgress;
 use tr_program::run;
 use tr_record::{ByteSink, ByteSource, Failed, MemorySink, MemorySource};
 use tr_testing::{Breaking, Filling};
@@ -162,6 +163,7 @@ fn ends<R: Threads + Wait + Clock + Sync, S: ByteSource, K: ByteSink>(
         &mut err,
         &mut disk,
         &mut folders,
+        &NoProgress,
     );
     (status, disk.left, err.into_bytes().as_slice() == FAULT)
 }
@@ -303,6 +305,7 @@ fn a_fault_that_cannot_be_told_keeps_its_status(rt: HostRuntime) {
         &mut err,
         &mut disk,
         &mut folders,
+        &NoProgress,
     );
     assert_same(&rt, status, 3);
     assert!(rt; err.taken.as_slice() == b"tracerd".as_slice());

@@ -10,6 +10,7 @@ use std::thread::Threads;
 use std::time::Clock;
 use tr_export::MemoryDisk;
 use tr_folders::{Folders, ReadFault};
+use tr_load::NoProgress;
 use tr_program::run;
 use tr_record::{MemorySink, MemorySource};
 
@@ -78,6 +79,7 @@ fn audited<R: Threads + Wait + Clock + Sync>(
         &mut err,
         &mut disk,
         &mut Unreadable { fault, failures: 0 },
+        &NoProgress,
     );
     let untouched = disk.made().is_empty() && out.into_bytes().is_empty();
     (

@@ -57,7 +57,7 @@ returns-clause-loaded g c =
     let parted = c.in_ok-producers.ensures.producers in
     let handed : c.as_mut_slice.result.now ≡ map (λ (b : Fed). b.producer) fed = c.as_mut_slice.ensures.value ∙ parted in
     let learned : AllHave c.args.records c.as_slice-2.result.now
-        → IfSome c.learned-watched.result (λ n. c.args.threads * c.args.records ≤ n) =
+    → IfSome c.learned-watched.result (λ n. c.args.threads * c.args.records ≤ n) =
     λ have. learned-too c.learned-watched.result (sum_by (λ (p : ProducerState). p.published) c.as_mut_slice.result.now)
     (c.args.threads * c.args.records) c.learned-watched.ensures.learned
     (ap (sum_by (λ (p : ProducerState). p.published)) handed
@@ -65,7 +65,7 @@ returns-clause-loaded g c =
     c.args.threads c.args.records (back ∙ same ∙ asked) many new (λ i p w b low. did i p w b (omega (arith, low, asked, all)))
     (subst (λ ls. AllHave c.args.records ls) logs have)) in
     let P : Loaded → Type 0 = λ l. IsJudged c.as_slice-2.result.now l.settled.streams l.outcome × IsSessionOf plan l.settled
-        × IsEnded c.args.records l.settled.book × AllHave c.args.records c.as_slice-2.result.now in
+    × IsEnded c.args.records l.settled.book × AllHave c.args.records c.as_slice-2.result.now in
     if_ok_too (λ l. P l × (l.watched ≡ c.learned-watched.result))
     (λ l. IsLoaded c.args.threads c.args.records l.settled l.outcome l.watched) c.settled.result
     (λ l is. record {
