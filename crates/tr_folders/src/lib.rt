@@ -4,7 +4,7 @@
 //!
 //! ```
 //! let mut folders = MemoryFolders::new(alloc, folders, files, 7);  // gives its bytes in pieces of 7
-//! let count = read_front(&mut folders, &mut buffer)?;            // until the buffer is full or the file ends
+//! let count = read_front(&mut folders, &mut buffer)?;              // until the buffer is full or the file ends
 //! ```
 //!
 //! # What is proved
