@@ -14,3 +14,4 @@ pub mod Rows
 pub mod SettledLemmas
 pub mod SlotLemmas
 pub mod SumLemmas
+pub mod TellerLemmas

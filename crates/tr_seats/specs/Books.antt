@@ -4,6 +4,7 @@ use Rattle.atomic_table.specs.Seated.{TableId}
 use Rattle.tr_ledger.specs.Ledgers.{LedgerState, ledger_state}
 use Rattle.tr_session.specs.Session.{HasItsStreams, SessionOf, new_session}
 use Rattle.tr_stream.specs.State.{StreamState}
+use Rattle.tr_tally.specs.Tallies.{TallyState, tally_state}
 use Rattle.tr_stream.specs.declared.config.StreamConfig.{StreamConfig}
 use Rattle.tr_terms.specs.declared.limits.TheConstants.{SMALLEST_PACKET}
 use Rattle.tr_terms.specs.declared.mode.Mode.TheVariants.{Overwrite}
@@ -32,13 +33,14 @@ books_of offered discarded overwritten overwritten_packets consumed cuts cleared
   cleared = cleared;
 }
 
--- the session as it was configured, and the books of its streams, in order of number
+-- the session as it was configured, the books of its streams, in order of number, and the tally of what they are offered
 pub record PlanState : Type 0 where
   pub session : SessionOf StreamState
   pub books : List Books
+  pub tally : TallyState
 
-abbrev pub plan_state : SessionOf StreamState → List Books → PlanState
-plan_state session books = record { session = session; books = books }
+abbrev pub plan_state : SessionOf StreamState → List Books → TallyState → PlanState
+plan_state session books tally = record { session = session; books = books; tally = tally }
 
 abbrev pub no_table : TableId
 no_table = record { words = 0; slots = 0; views_name = 0; atom = 0; block = 0; offset = 0; slot_names = [] }
@@ -47,7 +49,7 @@ abbrev pub no_books : Books
 no_books = books_of no_table no_table no_table no_table no_table no_table no_table
 
 abbrev pub no_plan : PlanState
-no_plan = plan_state (new_session [] (pos 0) Local) []
+no_plan = plan_state (new_session [] (pos 0) Local) [] (tally_state no_table 0 0)
 
 -- the books of the stream of this number
 abbrev pub books_at : List Books → ℕ → Books
@@ -89,8 +91,9 @@ abbrev pub AreOverwriting : SessionMode → List StreamState → Type 0
 AreOverwriting mode streams =
     mode ≡ Snapshot → (i : ℕ) (t : StreamState) → slice_get streams i ≡ Some t → t.config.mode ≡ Overwrite
 
--- a plan has books for each stream of its session
+-- a plan has books for each stream of its session, and a tally of them
 pub record IsPlan (plan : PlanState) : Type 0 where
   pub books : length plan.books ≡ length plan.session.streams
   pub session : HasItsStreams plan.session
   pub overwriting : AreOverwriting plan.session.book.mode plan.session.streams
+  pub tally : plan.tally.streams ≡ length plan.books

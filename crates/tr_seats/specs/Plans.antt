@@ -1,5 +1,6 @@
 -- What a plan makes of its session.
-use Rattle.std.specs.Prelude.{◌≡◌, ◌≤◌, ℕ, suc, List, [], ◌∷◌, Some, length, map, replicate, slice_get, take}
+use Rattle.std.specs.Prelude.{◌≡◌, ◌≤◌, ◌+◌, ℕ, suc, List, [], ◌∷◌, Some, length, map, replicate, slice_get, take}
+use Rattle.atomic_table.specs.Seated.{TableId}
 use Rattle.tr_ledger.specs.Ledgers.{LedgerState, SeatState, ledger_state, seat_state}
 use Rattle.tr_seats.specs.Books.{Books, PlanState, cleared_books, consumed_books, cut_books}
 use Rattle.tr_seats.specs.Desks.{desk_state}
@@ -8,14 +9,16 @@ use Rattle.tr_seats.specs.Slots.{AreNew, AreSeatsOf, ProducerState, SlotState, a
 use Rattle.tr_seats.specs.Sums.{totals_in}
 use Rattle.tr_seats.specs.declared.totals.Totals.{Totals}
 use Rattle.tr_stream.specs.State.{StreamState}
+use Rattle.tr_tally.specs.Tallies.{TellerState, teller_state}
 
--- a stream before its first call, and the tables of its books
+-- a stream before its first call, the tables of its books, and its teller
 pub record PlannedState : Type 0 where
   pub stream : StreamState
   pub books : Books
+  pub teller : TellerState
 
-abbrev pub planned_state : StreamState → Books → PlannedState
-planned_state stream books = record { stream = stream; books = books }
+abbrev pub planned_state : StreamState → Books → TellerState → PlannedState
+planned_state stream books teller = record { stream = stream; books = books; teller = teller }
 
 abbrev pub no_totals : Totals
 no_totals = record {
@@ -52,12 +55,20 @@ opened_of plan = opened_state
     (replicate (length plan.books) 0))
     (slots_from 0 plan.session.streams)
 
--- the streams of these, and their books
+-- the streams of these, their books, and their tellers
 abbrev pub streams_in : List PlannedState → List StreamState
 streams_in planned = map (λ (p : PlannedState). p.stream) planned
 
 abbrev pub books_in : List PlannedState → List Books
 books_in planned = map (λ (p : PlannedState). p.books) planned
+
+abbrev pub tellers_in : List PlannedState → List TellerState
+tellers_in planned = map (λ (p : PlannedState). p.teller) planned
+
+-- these are the tellers of the streams from this one on, and have published nothing
+abbrev pub AreTellersFrom : ℕ → TableId → List TellerState → Type 0
+AreTellersFrom k table tellers =
+    (i : ℕ) (t : TellerState) → slice_get tellers i ≡ Some t → t ≡ teller_state table (k + i) 0
 
 -- the first streams of a plan in their slots, with their producers and the desk's seats
 pub record AreNamed (plan : PlanState) (slots : List SlotState) (producers : List ProducerState)

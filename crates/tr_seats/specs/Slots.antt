@@ -26,26 +26,28 @@ pub record SlotState : Type 0 where
 abbrev pub slot_state : ℕ → StreamState → ℕ → SlotState
 slot_state number stream made = record { number = number; stream = stream; made = made }
 
--- what a producer's seats say of the offers to its stream
+-- what a producer's seats say of the offers to its stream, and how many of these its teller has published
 pub record ProducerState : Type 0 where
   pub number : ℕ
   pub offered : ℕ
   pub discarded : ℕ
   pub overwritten : ℕ
   pub overwritten_packets : ℕ
+  pub published : ℕ
 
-abbrev pub producer_state : (number offered discarded overwritten overwritten_packets : ℕ) → ProducerState
-producer_state number offered discarded overwritten overwritten_packets = record {
+abbrev pub producer_state : (number offered discarded overwritten overwritten_packets published : ℕ) → ProducerState
+producer_state number offered discarded overwritten overwritten_packets published = record {
   number = number;
   offered = offered;
   discarded = discarded;
   overwritten = overwritten;
   overwritten_packets = overwritten_packets;
+  published = published;
 }
 
 -- the producer of a stream to which nothing was offered
 abbrev pub new_producer : ℕ → ProducerState
-new_producer number = producer_state number 0 0 0 0
+new_producer number = producer_state number 0 0 0 0 0
 
 -- ---- offers
 
@@ -68,6 +70,10 @@ producer_after (Ok (StoredOver serial seq gone_seq gone_count)) p = record p {
 }
 producer_after (Ok (Discarded serial)) p = record p { offered = p.offered + 1; discarded = p.discarded + 1 }
 producer_after (Err fault) p = p
+
+-- its teller publishes how many records were offered
+abbrev pub with_all_published : ProducerState → ProducerState
+with_all_published p = record p { published = p.offered }
 
 -- the serial that an accepted offer got
 abbrev pub serial_of : Offered → ℕ

@@ -5,6 +5,7 @@ ghost use Rattle.tr_seats.specs.Books.{IsPlan};
 ghost use Rattle.tr_seats.specs.Plans.{AreUnused, opened_of};
 ghost use Rattle.tr_ledger.specs.Ledgers.{seat_state};
 ghost use Rattle.tr_seats.specs.Slots.{AreNew, new_producer, slot_state};
+ghost use Rattle.tr_tally.specs.Tallies.{teller_state};
 
 use crate::desk::Desk;
 use crate::names::Names;
@@ -22,7 +23,7 @@ use tr_stream::Stream;
 #[derive(Drop)]
 pub(crate) struct Named<N: Names, A: Allocator = Global> {
     slots: Vec<Slot<N, A>, A>,
-    producers: Vec<Producer<N>, A>,
+    producers: Vec<Producer<N, A>, A>,
     consumed: Vec<Seat, A>,
     cuts: Vec<Seat, A>,
     cleared: Vec<Seat, A>,
@@ -58,6 +59,7 @@ impl<N: Names, A: Allocator + Copy> Named<N, A> {
     pub(crate) fn with(self, planned: PlannedStream<A>) -> Result<Named<N, A>, AllocError>
         requires stream { slice_get N.plan.session.streams self ≡ Some planned.stream }
         requires books { slice_get N.plan.books self ≡ Some planned.books }
+        requires teller { planned.teller ≡ teller_state N.plan.tally.table self 0 }
         ensures { IfOk result (λ n. n ≡ self + 1) }
     {
         let Named {
@@ -88,7 +90,7 @@ impl<N: Names, A: Allocator + Copy> Named<N, A> {
         alloc: A,
         book: SessionBook<A>,
         room: Vec<Stream<A>, A>,
-    ) -> (Opened<N, A>, Vec<Producer<N>, A>)
+    ) -> (Opened<N, A>, Vec<Producer<N, A>, A>)
         requires all { self ≡ length N.plan.books }
         requires plan { IsPlan N.plan × AreUnused N.plan.session.streams }
         requires book { book ≡ N.plan.session.book }
@@ -127,9 +129,10 @@ struct DeskSeats {
 fn named_as<N: Names, A: Allocator>(
     number: usize,
     planned: PlannedStream<A>,
-) -> (Slot<N, A>, Producer<N>, DeskSeats)
+) -> (Slot<N, A>, Producer<N, A>, DeskSeats)
     requires stream { slice_get N.plan.session.streams number ≡ Some planned.stream }
     requires books { slice_get N.plan.books number ≡ Some planned.books }
+    requires teller { planned.teller ≡ teller_state N.plan.tally.table number 0 }
     ensures slot { result.0 ≡ slot_state number planned.stream 0 }
     ensures producer { result.1 ≡ new_producer number }
     ensures consumed { result.2.consumed ≡ seat_state planned.books.consumed 0 1 }
@@ -145,6 +148,7 @@ fn named_as<N: Names, A: Allocator>(
         consumed: (consumed, consumed_seat),
         cuts: (cuts, cut_seat),
         cleared: (cleared, cleared_seat),
+        teller,
     } = planned;
     let producer = Producer {
         number,
@@ -152,6 +156,7 @@ fn named_as<N: Names, A: Allocator>(
         discarded: discarded_seat,
         overwritten: overwritten_seat,
         overwritten_packets: packets_seat,
+        teller,
         of: PhantomData,
     };
     let slot = Slot {

@@ -48,7 +48,7 @@ pub struct Unsettled<N: Names, A: Allocator = Global> {
     /// The session.
     pub opened: Opened<N, A>,
     /// The producers that were given.
-    pub producers: Vec<Producer<N>, A>,
+    pub producers: Vec<Producer<N, A>, A>,
     /// The drainers that were given.
     pub drainers: Vec<Drainer<N, A>, A>,
 }
@@ -101,7 +101,7 @@ impl<N: Names, A: Allocator + Copy> Opened<N, A> {
     /// that was given comes back as it was.
     pub fn settle(
         self,
-        producers: Vec<Producer<N>, A>,
+        producers: Vec<Producer<N, A>, A>,
         drainers: Vec<Drainer<N, A>, A>,
     ) -> Result<(Settled<A>, Totals), Unsettled<N, A>>
         ensures may { IfOk result (λ r. CanSettle producers.items (length drainers.items) self) }

@@ -3,6 +3,7 @@
 ghost use Rattle.std.specs.Prelude.{◌≡◌, IfErr, IfOk, length};
 ghost use Rattle.tr_seats.specs.Plans.{IsOpened, IsUnused, opened_of, planned_state};
 ghost use Rattle.tr_seats.specs.Slots.{AreNew};
+ghost use Rattle.tr_tally.specs.Tallies.{new_watchers};
 
 use crate::both::both;
 use crate::names::Names;
@@ -14,9 +15,10 @@ use std::marker::Model;
 use tr_ledger::{Ledger, Seat};
 use tr_session_book::{SessionBook, SessionFault};
 use tr_stream::Stream;
+use tr_tally::{Tally, Teller, Watcher};
 
-/// A stream on which nothing was done, with its books and their whole seats, which nothing names yet. Contracts see a
-/// `PlannedState`.
+/// A stream on which nothing was done, with its books and their whole seats, which nothing names yet, and with its teller.
+/// Contracts see a `PlannedState`.
 #[derive(Drop)]
 pub(crate) struct PlannedStream<A: Allocator = Global> {
     pub(crate) stream: Stream<A>,
@@ -27,6 +29,7 @@ pub(crate) struct PlannedStream<A: Allocator = Global> {
     pub(crate) consumed: (Ledger<A>, Seat),
     pub(crate) cuts: (Ledger<A>, Seat),
     pub(crate) cleared: (Ledger<A>, Seat),
+    pub(crate) teller: Teller<A>,
 }
 
 impl<A: Allocator> Model for PlannedStream<A> {
@@ -36,7 +39,7 @@ impl<A: Allocator> Model for PlannedStream<A> {
     ghost Value = { PlannedState };
 
     ghost view = { λ p. planned_state p.stream (books_of p.offered.0.table p.discarded.0.table p.overwritten.0.table
-        p.overwritten_packets.0.table p.consumed.0.table p.cuts.0.table p.cleared.0.table) };
+        p.overwritten_packets.0.table p.consumed.0.table p.cuts.0.table p.cleared.0.table) p.teller };
 
     ghost invariant = { λ p. IsUnused p.stream × IsOpened p.offered.0 p.offered.1
         × IsOpened p.discarded.0 p.discarded.1 × IsOpened p.overwritten.0 p.overwritten.1
@@ -58,19 +61,22 @@ fn three_books<A: Allocator + Copy>(
 }
 
 impl<A: Allocator> PlannedStream<A> {
-    /// Opens the books of a stream on which nothing was done.
-    pub(crate) fn open(alloc: A, stream: Stream<A>) -> Result<PlannedStream<A>, AllocError>
+    /// Opens the books of a stream on which nothing was done, beside its teller.
+    pub(crate) fn open(
+        alloc: A,
+        stream: Stream<A>,
+        teller: Teller<A>,
+    ) -> Result<PlannedStream<A>, AllocError>
     where
         A: Copy,
         requires { IsUnused stream }
-        ensures { IfOk result (λ p. p.stream ≡ stream) }
+        ensures stream { IfOk result (λ p. p.stream ≡ stream) }
+        ensures teller { IfOk result (λ p. p.teller ≡ teller) }
     {
-        let (stream, books) = both(stream, three_books(alloc))?;
-        let ((stream, books), others) = both((stream, books), three_books(alloc))?;
-        let ((stream, books, others), cleared) = both(
-            (stream, books, others),
-            Ledger::open(alloc),
-        )?;
+        let (held, books) = both((stream, teller), three_books(alloc))?;
+        let ((held, books), others) = both((held, books), three_books(alloc))?;
+        let ((held, books, others), cleared) = both((held, books, others), Ledger::open(alloc))?;
+        let (stream, teller) = held;
         let (offered, discarded, overwritten) = books;
         let (overwritten_packets, consumed, cuts) = others;
         Ok(PlannedStream {
@@ -82,31 +88,42 @@ impl<A: Allocator> PlannedStream<A> {
             consumed,
             cuts,
             cleared,
+            teller,
         })
     }
 }
 
-/// A session before its first call: its book, and its streams with their books. Contracts see a `PlanState`.
+/// A session before its first call: its book, its streams with their books, and the tally of what these are offered, with its
+/// watchers. Contracts see a `PlanState`.
 #[derive(Drop)]
 pub struct Plan<A: Allocator = Global> {
     pub(crate) alloc: A,
     pub(crate) book: SessionBook<A>,
     pub(crate) streams: Vec<PlannedStream<A>, A>,
+    pub(crate) tally: Tally<A>,
+    pub(crate) watchers: Vec<Watcher<A>, A>,
 }
 
 impl<A: Allocator> Model for Plan<A> {
+    ghost use Rattle.std.specs.Prelude.{◌≡◌};
     ghost use Rattle.tr_seats.specs.Books.{IsPlan, PlanState, plan_state};
-    ghost use Rattle.tr_seats.specs.Plans.{AreUnused, PlannedState, books_in, streams_in};
+    ghost use Rattle.tr_seats.specs.Plans.{AreTellersFrom, AreUnused, PlannedState, books_in, streams_in, tellers_in};
     ghost use Rattle.tr_session.specs.Session.{session_of};
+    ghost use Rattle.tr_tally.specs.Tallies.{new_watchers};
 
     ghost Value = { PlanState };
 
-    ghost view = { λ p. plan_state (session_of p.book (streams_in p.streams.items)) (books_in p.streams.items) };
+    ghost view = { λ p.
+        plan_state (session_of p.book (streams_in p.streams.items)) (books_in p.streams.items) p.tally };
 
     ghost invariant = { λ p.
-        IsPlan (plan_state (session_of p.book (streams_in p.streams.items)) (books_in p.streams.items))
-        × AreUnused (streams_in p.streams.items) };
+        IsPlan (plan_state (session_of p.book (streams_in p.streams.items)) (books_in p.streams.items) p.tally)
+        × AreUnused (streams_in p.streams.items) × AreTellersFrom 0 p.tally.table (tellers_in p.streams.items)
+        × (p.watchers.items ≡ new_watchers p.tally.table p.tally.streams p.tally.watchers) };
 }
+
+/// A session out of its locks, the producers of its streams, and watchers.
+type Watched<N, A> = (Opened<N, A>, Vec<Producer<N, A>, A>, Vec<Watcher<A>, A>);
 
 impl<A: Allocator + Copy> Plan<A> {
     /// The session that a `Names` names, out of its locks, and the producer of each stream, in order of number, with nothing
@@ -115,22 +132,42 @@ impl<A: Allocator + Copy> Plan<A> {
     /// # Errors
     ///
     /// `NoMemory`: the plan is gone.
-    pub fn build<N: Names>(self) -> Result<(Opened<N, A>, Vec<Producer<N>, A>), SessionFault>
+    pub fn build<N: Names>(self) -> Result<(Opened<N, A>, Vec<Producer<N, A>, A>), SessionFault>
         requires { self ≡ N.plan }
         ensures opened { IfOk result (λ r. r.0 ≡ opened_of self) }
         ensures producers { IfOk result (λ r. AreNew (length self.books) r.1.items) }
+        ensures memory { IfErr result (λ fault. fault ≡ SessionFault.NoMemory) }
+    {
+        let (opened, producers, _) = self.build_watched::<N>()?;
+        Ok((opened, producers))
+    }
+
+    /// The same, with the watchers that were planned.
+    ///
+    /// # Errors
+    ///
+    /// `NoMemory`: the plan is gone.
+    pub fn build_watched<N: Names>(self) -> Result<Watched<N, A>, SessionFault>
+        requires { self ≡ N.plan }
+        ensures opened { IfOk result (λ r. r.0 ≡ opened_of self) }
+        ensures producers { IfOk result (λ r. AreNew (length self.books) r.1.items) }
+        ensures watchers { IfOk result
+            (λ r. r.2.items ≡ new_watchers self.tally.table (length self.books) self.tally.watchers) }
         ensures memory { IfErr result (λ fault. fault ≡ SessionFault.NoMemory) }
     {
         let Plan {
             alloc,
             book,
             streams,
+            tally: _,
+            watchers,
         } = self;
         let room = Vec::with_capacity(alloc, streams.len())?;
         let mut named = Named::none(alloc);
         for planned in streams {
             named = named.with(planned)?;
         }
-        Ok(named.finish(alloc, book, room))
+        let (opened, producers) = named.finish(alloc, book, room);
+        Ok((opened, producers, watchers))
     }
 }

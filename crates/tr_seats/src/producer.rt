@@ -1,40 +1,47 @@
 //! The seats of a stream's offers.
 
 ghost use Rattle.std.specs.Prelude.{◌≡◌, ◌<◌, length};
+ghost use Rattle.tr_seats.specs.Slots.{with_all_published};
+ghost use Rattle.tr_tally.specs.Tallies.{note_state};
 
 use crate::names::Names;
+use std::alloc::{Allocator, Global};
 use std::marker::{Model, PhantomData};
 use tr_ledger::Seat;
+use tr_tally::{Note, Teller};
 
-/// The producer of one stream: it alone moves the totals of that stream's offers. Contracts see a `ProducerState`.
+/// The producer of one stream: it alone moves the totals of that stream's offers, and publishes how many were accepted.
+/// Contracts see a `ProducerState`.
 #[derive(Drop)]
-pub struct Producer<N: Names> {
+pub struct Producer<N: Names, A: Allocator = Global> {
     pub(crate) number: usize,
     pub(crate) offered: Seat,
     pub(crate) discarded: Seat,
     pub(crate) overwritten: Seat,
     pub(crate) overwritten_packets: Seat,
+    pub(crate) teller: Teller<A>,
     pub(crate) of: PhantomData<N>,
 }
 
-impl<N: Names> Model for Producer<N> {
+impl<N: Names, A: Allocator> Model for Producer<N, A> {
     ghost use Rattle.std.specs.Prelude.{◌≡◌, ◌<◌, length};
     ghost use Rattle.tr_seats.specs.Books.{books_at};
-    ghost use Rattle.tr_seats.specs.Seats.{AreSeatsOfProducer};
+    ghost use Rattle.tr_seats.specs.Seats.{AreSeatsOfProducer, IsTellerOf};
     ghost use Rattle.tr_seats.specs.Slots.{ProducerState, producer_state};
 
     ghost Value = { ProducerState };
 
     ghost view = { λ p. producer_state p.number p.offered.amount p.discarded.amount p.overwritten.amount
-        p.overwritten_packets.amount };
+        p.overwritten_packets.amount p.teller.count };
 
-    // it has the whole seats of its stream's books
+    // it has the whole seats of its stream's books, and the stream's teller
     ghost invariant = { λ p. (p.number < length N.plan.books)
         × AreSeatsOfProducer (books_at N.plan.books p.number) p.offered p.discarded p.overwritten
-        p.overwritten_packets };
+        p.overwritten_packets
+        × IsTellerOf N.plan.tally p.number p.offered.amount p.teller };
 }
 
-impl<N: Names> Producer<N> {
+impl<N: Names, A: Allocator> Producer<N, A> {
     /// The number of its stream.
     pub fn stream(&self) -> usize
         ensures number { result ≡ self.now.number }
@@ -69,5 +76,23 @@ impl<N: Names> Producer<N> {
         ensures { result ≡ self.now.overwritten_packets }
     {
         self.overwritten_packets.amount()
+    }
+
+    /// Publishes how many of its offers were accepted, so that watchers read it. It waits for nobody. An offer by
+    /// `Producer::offer` of a shared session has done so when it returns.
+    #[inline(always)]
+    pub fn publish(&mut self)
+        ensures { self.new ≡ with_all_published self.old }
+    {
+        let offered = self.offered();
+        self.teller.publish(offered);
+    }
+
+    /// A note of how many accepted offers it published last: a watcher that learns of it answers no less.
+    pub fn note(&mut self) -> Note
+        ensures producer { self.new ≡ self.old }
+        ensures note { result ≡ note_state N.plan.tally.table self.old.number self.old.published }
+    {
+        self.teller.note()
     }
 }

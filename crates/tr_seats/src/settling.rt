@@ -63,14 +63,14 @@ impl SettleError {
 }
 
 /// How many of the producers are of this stream.
-fn count_of<N: Names>(producers: &[Producer<N>], i: usize) -> usize
+fn count_of<N: Names, A: Allocator>(producers: &[Producer<N, A>], i: usize) -> usize
     ensures { result ≡ count_by (λ (p : ProducerState). p.number == i) producers.now }
 {
     producers.iter().filter(|p| p.stream() == i).count()
 }
 
 /// Whether there is one producer for each stream.
-fn has_one_each<N: Names>(producers: &[Producer<N>], streams: usize) -> bool
+fn has_one_each<N: Names, A: Allocator>(producers: &[Producer<N, A>], streams: usize) -> bool
     ensures { IsTrue result ↔ IsOneEach streams producers.now }
 {
     for i in 0..streams {
@@ -109,7 +109,7 @@ fn are_in_place<N: Names, A: Allocator>(slots: &[Slot<N, A>]) -> bool
 pub(crate) fn why_not<N: Names, A: Allocator>(
     desk: &Desk<N, A>,
     slots: &[Slot<N, A>],
-    producers: &[Producer<N>],
+    producers: &[Producer<N, A>],
     drainers: usize,
 ) -> Option<SettleError>
     ensures { MatchOption result
@@ -163,7 +163,10 @@ fn sums<N: Names, A: Allocator>(slots: &[Slot<N, A>]) -> Totals
 }
 
 /// Changes nothing, and shows that each producer's numbers are its stream's own.
-fn audit_producers<N: Names, A: Allocator>(slots: &mut [Slot<N, A>], producers: &mut [Producer<N>])
+fn audit_producers<N: Names, A: Allocator>(
+    slots: &mut [Slot<N, A>],
+    producers: &mut [Producer<N, A>],
+)
     requires { (length slots.old ≡ length N.plan.books) × AreInPlace slots.old }
     ensures same { (slots.new ≡ slots.old) × (producers.new ≡ producers.old) }
     ensures there { (k : ℕ) (p : ProducerState) → k < length producers.old
@@ -293,7 +296,7 @@ fn join_drainers<N: Names, A: Allocator>(
 /// Joins all seats. What they have is what the streams count.
 fn join_all<N: Names, A: Allocator>(
     slots: &mut [Slot<N, A>],
-    producers: &mut [Producer<N>],
+    producers: &mut [Producer<N, A>],
     mine: &mut [Seat],
     cuts: &mut [Seat],
     cleared: &mut [Seat],
@@ -350,7 +353,7 @@ pub(crate) fn settle_all<N: Names, A: Allocator + Copy>(
     alloc: A,
     desk: Desk<N, A>,
     mut slots: Vec<Slot<N, A>, A>,
-    mut producers: Vec<Producer<N>, A>,
+    mut producers: Vec<Producer<N, A>, A>,
     drainers: Vec<Drainer<N, A>, A>,
     room: Vec<Stream<A>, A>,
 ) -> (Settled<A>, Totals)

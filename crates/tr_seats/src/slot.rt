@@ -64,7 +64,7 @@ impl<N: Names, A: Allocator + Copy> Slot<N, A> {
     #[inline(always)]
     pub fn offer(
         &mut self,
-        producer: &mut Producer<N>,
+        producer: &mut Producer<N, A>,
         moment: Moment,
         id: u32,
         payload: &[u8],
@@ -208,7 +208,7 @@ impl<N: Names, A: Allocator> Slot<N, A> {
     }
 
     /// Changes nothing, and shows that the numbers of the stream's producer are the stream's own.
-    pub fn audit(&mut self, producer: &mut Producer<N>)
+    pub fn audit(&mut self, producer: &mut Producer<N, A>)
         requires { producer.old.number ≡ self.old.number }
         ensures same { (self.new ≡ self.old) × (producer.new ≡ producer.old) }
         ensures own { IsOwn producer.old (totals_in self.old.stream) }

@@ -12,7 +12,7 @@ pub struct SettleFault<N: Names, A: Allocator = Global> {
     /// The session, with its streams in order of number.
     pub shared: Shared<N, A>,
     /// The producers that were given.
-    pub producers: Vec<Producer<N>, A>,
+    pub producers: Vec<Producer<N, A>, A>,
     /// The drainers that were given.
     pub drainers: Vec<Drainer<N, A>, A>,
 }

@@ -125,8 +125,10 @@ pub use shared::Shared;
 pub use tr_schedule::{Cause, Schedule, ScheduleFault};
 pub use tr_seats::{
     Desk, Drainer, MOST_DRAINERS, Names, Plan, Producer, SettleError, Settled, Slot, Totals, plan,
+    plan_watched,
 };
 pub use tr_session::{ChannelConfig, Config, Next, StepFault, Ticked};
 pub use tr_session_book::{Archive, Pending, SessionFault, State};
 pub use tr_stream::{OfferFault, Offered, TakeFault, Taken};
+pub use tr_tally::{Note, Watcher};
 pub use tr_terms::{Geometry, GeometryFault, Mode, Moment, Name, OffsetMinutes, SessionMode};

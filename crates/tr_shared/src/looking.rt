@@ -64,7 +64,7 @@ pub(crate) fn look<N: Names, A: Allocator + Copy>(
 /// Those of `look`.
 pub(crate) fn look_with<N: Names, A: Allocator + Copy>(
     slot: &mut Slot<N, A>,
-    producer: &mut Producer<N>,
+    producer: &mut Producer<N, A>,
     moment: Moment,
 ) -> Result<StreamSnap<A>, SessionFault>
     requires plan { IsPlan N.plan }

@@ -19,7 +19,8 @@ pub trait Offers<N: Names, A: Allocator> {
     ghost offered: { Self → ℕ → ℕ → List ℕ → Result Offered OfferFault → Self → Type 0 };
 
     /// Offers a record to the seat's stream, as `Slot::offer` does, under that stream's lock alone: when its event happened,
-    /// the kind of the event, and its bytes.
+    /// the kind of the event, and its bytes. When the lock is given back, a producer publishes how many of its offers were
+    /// accepted.
     ///
     /// # Errors
     ///
@@ -54,7 +55,7 @@ pub trait Takes<N: Names, A: Allocator> {
         ensures { taken self.old i result self.new };
 }
 
-impl<N: Names, A: Allocator + Copy> Offers<N, A> for Producer<N> {
+impl<N: Names, A: Allocator + Copy> Offers<N, A> for Producer<N, A> {
     ghost use Rattle.tr_shared.specs.Calls.{IsOfferTo};
 
     ghost offered = { IsOfferTo N.plan };
@@ -73,7 +74,11 @@ impl<N: Names, A: Allocator + Copy> Offers<N, A> for Producer<N> {
             Some(slot) => slot,
             None => lock.lock(rt),
         };
-        slot.offer(self, moment, id, payload)
+        let answer = slot.offer(self, moment, id, payload);
+        // watchers may read the count once others may take the lock
+        drop(slot);
+        self.publish();
+        answer
     }
 }
 

@@ -5,6 +5,7 @@ ghost use Rattle.tr_seats.specs.Settling.{AddUp, AreTheirs, IsOneEach, IsSession
 ghost use Rattle.tr_seats.specs.Slots.{AreNew};
 ghost use Rattle.tr_seats.specs.Sums.{totals_of};
 ghost use Rattle.tr_shared.specs.Calls.{AreOffersOf, HaveTaken, IsDrainerFault, IsStartFault, IsStopFault};
+ghost use Rattle.tr_tally.specs.Tallies.{new_watchers};
 
 use crate::faults::SettleFault;
 use std::alloc::{Allocator, Global};
@@ -14,6 +15,7 @@ use tr_seats::{
 };
 use tr_session_book::SessionFault;
 use tr_stream::Stream;
+use tr_tally::Watcher;
 use tr_terms::{Moment, SessionMode};
 
 /// A session that threads share by reference: its desk, and each of its streams, under locks.
@@ -36,6 +38,13 @@ struct Places<N: Names, A: Allocator = Global> {
         × (length N.plan.books ≤ vec_capacity room) },
 }
 
+/// A shared session, the producers of its streams, and watchers.
+type BuiltWatched<N, A> = (
+    Shared<N, A>,
+    Vec<Producer<N, A>, A>,
+    Vec<Watcher<A>, A>,
+);
+
 impl<N: Names, A: Allocator + Copy> Shared<N, A> {
     /// The session that a `Names` names, to be shared, and the producer of each stream, in order of number, with nothing
     /// offered. All that settling needs is reserved.
@@ -43,15 +52,33 @@ impl<N: Names, A: Allocator + Copy> Shared<N, A> {
     /// # Errors
     ///
     /// `NoMemory`: the plan is gone.
-    pub fn build(plan: Plan<A>) -> Result<(Shared<N, A>, Vec<Producer<N>, A>), SessionFault>
+    pub fn build(plan: Plan<A>) -> Result<(Shared<N, A>, Vec<Producer<N, A>, A>), SessionFault>
         requires { plan ≡ N.plan }
         ensures producers { IfOk result (λ r. AreNew (length plan.books) r.1.items) }
         ensures memory { IfErr result (λ fault. fault ≡ SessionFault.NoMemory) }
     {
-        let (opened, producers) = plan.build::<N>()?;
+        let (shared, producers, _) = Shared::build_watched(plan)?;
+        Ok((shared, producers))
+    }
+
+    /// The same, with the watchers that were planned: they read how many records each stream was offered while producers offer,
+    /// wait for nobody, and may outlive the session.
+    ///
+    /// # Errors
+    ///
+    /// `NoMemory`: the plan is gone.
+    pub fn build_watched(plan: Plan<A>) -> Result<BuiltWatched<N, A>, SessionFault>
+        requires { plan ≡ N.plan }
+        ensures producers { IfOk result (λ r. AreNew (length plan.books) r.1.items) }
+        ensures watchers { IfOk result
+            (λ r. r.2.items ≡ new_watchers plan.tally.table (length plan.books) plan.tally.watchers) }
+        ensures memory { IfErr result (λ fault. fault ≡ SessionFault.NoMemory) }
+    {
+        let (opened, producers, watchers) = plan.build_watched::<N>()?;
         let (alloc, desk, slots, room) = opened.into_parts();
         let locks = Vec::with_capacity(alloc, slots.len())?;
-        Ok((Shared::close(alloc, desk, slots, room, locks), producers))
+        let shared = Shared::close(alloc, desk, slots, room, locks);
+        Ok((shared, producers, watchers))
     }
 
     /// A drainer of this session, which took nothing yet.
@@ -190,7 +217,7 @@ impl<N: Names, A: Allocator + Copy> Shared<N, A> {
     /// Those of `Opened::settle`: all that was given comes back, the streams in order of number.
     pub fn settle(
         self,
-        producers: Vec<Producer<N>, A>,
+        producers: Vec<Producer<N, A>, A>,
         drainers: Vec<Drainer<N, A>, A>,
     ) -> Result<(Settled<A>, Totals), SettleFault<N, A>>
         ensures planned { IfOk result (λ r. IsSessionOf N.plan r.0) }

@@ -48,7 +48,7 @@ impl<N: Names, A: Allocator + Copy> Shared<N, A> {
     pub fn snapshot_with(
         &self,
         rt: &impl Wait,
-        producer: &mut Producer<N>,
+        producer: &mut Producer<N, A>,
         moment: Moment,
     ) -> Result<Snapshot<A>, SessionFault>
         ensures same { producer.new ≡ producer.old }
@@ -91,7 +91,7 @@ impl<N: Names, A: Allocator + Copy> Shared<N, A> {
     fn look_beside(
         &self,
         rt: &impl Wait,
-        producer: &mut Producer<N>,
+        producer: &mut Producer<N, A>,
         i: usize,
         moment: Moment,
     ) -> Result<StreamSnap<A>, SessionFault>

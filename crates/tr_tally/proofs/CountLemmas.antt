@@ -5,7 +5,8 @@ use Rattle.std.proofs.lemmas.Grind.{get_or_default_zero}
 use Rattle.std.proofs.lemmas.List.{get_or_push, length_push}
 use Rattle.std.proofs.lemmas.List.Elements.{Contains-append_left}
 use Rattle.std.proofs.lemmas.List.Sorted.{IsNonDecreasingBy-push}
-use Rattle.tr_tally.specs.Views.{IsAmong, Rise, last_of}
+use Rattle.std.specs.Prelude.{Bool}
+use Rattle.tr_tally.specs.Views.{AreWatchers, IsAmong, IsListed, Rise, last_of}
 
 pub last_of-push : (counts : List ℕ) (n : ℕ) → last_of (counts ++ n ∷ []) ≡ n
 last_of-push counts n = get_or_push (0 ∷ counts) n 0 (length (counts ++ n ∷ [])) (omega (arith, length_push counts n))
@@ -61,3 +62,17 @@ at-each P i here else j =
     (λ (t : (eqb j i ≡ true) × (j ≡ i)). subst P (sym t.1) here)
     (λ (t : (eqb j i ≡ false) × (j ≢ i)). else j t.1)
     (eqb_tells j i)
+
+-- what a teller's view lists, and its count
+pub listed-within : (is_watched : Bool) (counts : List ℕ) (count : ℕ) → IsListed is_watched counts count → last_of counts ≤ count
+listed-within true counts count is = omega (arith, is)
+listed-within false counts count is = is
+
+pub listed-last : (is_watched : Bool) (counts : List ℕ) (count watchers : ℕ) → IsListed is_watched counts count
+    → AreWatchers is_watched watchers → 0 < watchers → last_of counts ≡ count
+listed-last true counts count watchers is some watched = is
+listed-last false counts count watchers is none watched = absurd (omega (arith, none, watched))
+
+pub some-watchers : (is_watched : Bool) (watchers : ℕ) → AreWatchers is_watched watchers → is_watched ≡ true → 0 < watchers
+some-watchers true watchers some is = some
+some-watchers false watchers none is = cc

@@ -275,6 +275,17 @@ module _ (asked : Asked) (words : List ℕ) (views : List View) (h : IsTold aske
       subst (λ u. IsTold asked after (set views id (with_count n u))) (sym is)
       (publishes asked words views h id stream n published after up (at ∙ ap (λ (u : View). some u) is) long here others)
 
+  -- the last count is published again by a load, which leaves the words as they are
+  pub lists-as : (stream n : ℕ) (published : List ℕ) → v ≡ teller_view stream published → last_of published ≤ n
+      → (0 < asked.watchers → (last_of published ≡ n) × (stream < asked.streams))
+      → IsTold asked (set words 0 (slice_index words 0)) (set views id (with_count n v))
+  lists-as stream n published is up last =
+      let mine = subst (Fits h.counts h.teller id) is (h.each id v at) in
+      subst (λ ws. IsTold asked ws (set views id (with_count n v))) (sym (set-get_or words 0 0))
+      (publishes-as stream n published words is up refl
+      (λ watched. h.words_are watched stream (last watched).1 ∙ ap last_of mine.1 ∙ (last watched).0)
+      (λ _ _ _ _. refl))
+
   -- where the words are as a load leaves them
   pub reads-as : (answers : List ℕ) (stream : ℕ) → v ≡ watcher_view answers → 0 < asked.watchers → stream < asked.streams
       → length answers ≡ asked.streams

@@ -34,3 +34,11 @@ stream_at-word_of stream = omega arith
 
 pub word_of-apart : (i j : ℕ) → j ≢ i → word_of j ≢ word_of i
 word_of-apart i j apart e = apart (omega (arith, e))
+
+-- and a stream has one, if there are any
+pub has-its-word : (asked : Asked) (words stream : ℕ) → words ≡ words_for asked → stream < asked.streams → HasWord words stream
+has-its-word asked words stream is lt = has (asked.watchers) (is)
+  where
+    has : (watchers : ℕ) → words ≡ words_by asked.streams watchers → HasWord words stream
+    has zero is many = absurd (omega (arith, is, many))
+    has (suc watchers) is many = omega (arith, is, lt)

@@ -1,5 +1,5 @@
 -- What the tokens of a tally's table know, and the rule of one tally.
-use Rattle.std.specs.Prelude.{◌≡◌, ℕ, zero, suc, ◌+◌, ◌*◌, ◌/◌, ◌<◌, ◌≤◌, List, [], ◌∷◌, ◌++◌, length, replicate, max, slice_index, slice_set}
+use Rattle.std.specs.Prelude.{◌≡◌, ℕ, Bool, true, false, zero, suc, ◌+◌, ◌*◌, ◌/◌, ◌<◌, ◌≤◌, List, [], ◌∷◌, ◌++◌, length, replicate, max, slice_index, slice_set}
 use Rattle.std.specs.List.{Contains}
 use Rattle.std.specs.List.Sorted.{IsNonDecreasing}
 use mathlib.Core.Option.{some}
@@ -40,6 +40,16 @@ last_of counts = slice_index (0 ∷ counts) (length counts)
 
 abbrev pub IsAmong : ℕ → List ℕ → Type 0
 IsAmong count counts = Contains (0 ∷ counts) count
+
+-- whether there are watchers
+abbrev pub AreWatchers : Bool → ℕ → Type 0
+AreWatchers true watchers = 0 < watchers
+AreWatchers false watchers = watchers ≡ 0
+
+-- a teller's count is the last that its view lists; if nobody watches, the list may lack the last ones until a note is asked for
+abbrev pub IsListed : Bool → List ℕ → ℕ → Type 0
+IsListed true counts count = last_of counts ≡ count
+IsListed false counts count = last_of counts ≤ count
 
 -- ---- the rule
 

@@ -53,12 +53,14 @@ impl<A: Allocator + Copy> Opener<A> {
     {
         let shared = Arc::try_clone(&self.words)?;
         let words: &Words<A> = &shared;
+        let is_watched = words.asked.watchers > 0;
         let token = words.table.shared.split_seat::<Tellers>(&mut self.token);
         Ok(Teller {
             words: shared,
             token,
             stream,
             count: 0,
+            is_watched,
         })
     }
 

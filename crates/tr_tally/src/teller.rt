@@ -17,20 +17,23 @@ pub struct Teller<A: Allocator = Global> {
     pub(crate) token: Token,
     pub(crate) stream: usize,
     pub(crate) count: u64,
+    /// Whether there are watchers.
+    pub(crate) is_watched: bool,
 }
 
 impl<A: Allocator> Model for Teller<A> {
     ghost use Rattle.std.specs.Arc.{arc_value};
     ghost use Rattle.std.specs.Prelude.{◌≡◌, ◌<◌, []};
     ghost use Rattle.tr_tally.specs.Tallies.{TellerState, teller_state};
-    ghost use Rattle.tr_tally.specs.Views.{counts_in, last_of, teller_view};
+    ghost use Rattle.tr_tally.specs.Views.{AreWatchers, IsListed, counts_in, teller_view};
 
     ghost Value = { TellerState };
 
     ghost view = { λ t. teller_state t.token.table_id t.stream t.count };
 
     ghost invariant = { λ t. (t.token.me ≡ (teller_view t.stream (counts_in t.token.me.0), []))
-        × (last_of (counts_in t.token.me.0) ≡ t.count) × (t.stream < (arc_value t.words).streams)
+        × IsListed t.is_watched (counts_in t.token.me.0) t.count × AreWatchers t.is_watched (arc_value t.words).watchers
+        × (t.stream < (arc_value t.words).streams)
         × (t.token.table_id ≡ (arc_value t.words).table) };
 }
 
@@ -49,8 +52,8 @@ impl<A: Allocator> Teller<A> {
         self.count
     }
 
-    /// Publishes a count, no less than the last: from now on watchers read it. It costs one locked instruction, and none in a
-    /// tally that was made for no watchers.
+    /// Publishes a count, no less than the last: from now on watchers read it. It costs one locked instruction, and none if it
+    /// is the last one again, or in a tally that was made for no watchers.
     #[inline(always)]
     pub fn publish(&mut self, n: u64)
         requires { self.old.count ≤ n }
@@ -66,14 +69,17 @@ impl<A: Allocator> Teller<A> {
         requires count { n ≡ K.count }
         ensures { self.new ≡ teller_state self.old.table self.old.stream n }
     {
-        let words: &Words<A> = &self.words;
-        let shared = &words.table.shared;
-        if words.asked.watchers > 0 {
-            shared.store::<Publishes<K>>(&mut self.token, WORDS_APART * self.stream, n);
+        if self.is_watched {
+            if self.count != n {
+                let words: &Words<A> = &self.words;
+                let shared = &words.table.shared;
+                shared.store::<Publishes<K>>(&mut self.token, WORDS_APART * self.stream, n);
+                self.count = n;
+            }
         } else {
-            shared.load::<Publishes<K>>(&mut self.token, 0);
+            // nobody can read it: it is listed when a note is asked for
+            self.count = n;
         }
-        self.count = n;
     }
 
     /// A note of its last published count.
@@ -81,8 +87,20 @@ impl<A: Allocator> Teller<A> {
         ensures teller { self.new ≡ self.old }
         ensures note { result ≡ note_state self.old.table self.old.stream self.old.count }
     {
+        self.note_known::<Brand>()
+    }
+
+    /// A note of its last published count, which contracts know by a type too.
+    fn note_known<K: Count>(&mut self) -> Note
+        requires { self.old.count ≡ K.count }
+        ensures teller { self.new ≡ self.old }
+        ensures note { result ≡ note_state self.old.table self.old.stream self.old.count }
+    {
         let words: &Words<A> = &self.words;
-        let token = words.table.shared.split_seat::<Notes>(&mut self.token);
+        let shared = &words.table.shared;
+        // where nobody watches, the count is listed only now
+        shared.load::<Publishes<K>>(&mut self.token, 0);
+        let token = shared.split_seat::<Notes>(&mut self.token);
         Note {
             token,
             stream: self.stream,

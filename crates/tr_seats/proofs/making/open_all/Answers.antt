@@ -1,45 +1,64 @@
-use Rattle.std.proofs.Common.{rules, ◌≡◌, ◌∙◌, ◌+◌, ◌<◌, ◌≤◌, ◌++◌, ◌∷◌, [], ℕ, ap, arith, drop, get_or, length, subst, sym, take}
-use Rattle.std.proofs.lemmas.List.{length_push, map-append, take_more}
-use Rattle.std.proofs.lemmas.Option.{get_or_from_slice_get}
-use Rattle.tr_seats.proofs.NameLemmas.{drop-none, take-all}
+use Rattle.std.proofs.Common.{◌≡◌, ◌∙◌, ◌≤◌, ⊎_elim, drop, inl, inr, length, subst, sym, take}
+use Rattle.std.specs.Iterator.Adapters.{zip_first, zip_second}
+use Rattle.tr_seats.proofs.NameLemmas.{take-all}
 use Rattle.tr_seats.proofs.Rows.{drop-front}
+use Rattle.tr_seats.proofs.TellerLemmas.{all-made, left-after, made-more, made-within}
 use Rattle.tr_seats.proofs.making.open_all.Goals as goal
-use Rattle.tr_seats.specs.Plans.{PlannedState, streams_in}
+use Rattle.tr_seats.specs.Plans.{PlannedState, streams_in, tellers_in}
 
 pub open-requires : goal.open-requires
 open-requires g c =
-    let k = length c.loop-stream.yielded in
-    let t = drop-front c.args.streams.items k c.in-Some.stream c.next.new.self.rest.items
-    (c.loop-stream.invariant.2 ∙ c.in-Some.ensures.steps.0) in
-    c.requires k c.in-Some.stream t.0
+    let k = length c.streams.planned.items in
+    let left = c.streams.invariant.0 ∙ c.in-Some.ensures.steps.0.0 in
+    c.requires.unused k c.in-Some.stream (drop-front c.args.streams.items k c.in-Some.stream (zip_first c.next.new.self).rest.items left).0
 
-pub loop-stream-preserved : goal.loop-stream-preserved
-loop-stream-preserved g c =
-    let streams = c.args.streams.items in
-    let k : ℕ = length c.loop-stream.yielded in
-    let x = c.in-Some.stream in
-    let t = drop-front streams k x c.next.new.self.rest.items (c.loop-stream.invariant.2 ∙ c.in-Some.ensures.steps.0) in
-    let n : length (c.loop-stream.yielded ++ x ∷ []) ≡ k + 1 = length_push c.loop-stream.yielded x in
+pub streams-preserved : goal.streams-preserved
+streams-preserved g c =
+    let made = c.streams.planned.items in
     let p = c.in_ok-open.field-0 in
-    let items : c.push.new.self.items ≡ c.loop-stream.planned.items ++ p ∷ [] = search rules in
-    let same : p.stream ≡ x = c.in_ok-open.ensures in
-    let lt : k < length streams = omega (arith, t.2) in
-    let there : get_or streams k x ≡ x = get_or_from_slice_get streams k x x t.0 in
-    let more : streams_in c.push.new.self.items ≡ take (k + 1) streams =
-    ap streams_in items ∙ map-append (λ (y : PlannedState). y.stream) c.loop-stream.planned.items (p ∷ [])
-    ∙ (λ j. c.loop-stream.invariant.4 j ++ (same ∙ sym there) j ∷ []) ∙ sym (take_more streams k x lt) in (
-      tt,
-      tt,
-      ap (λ (m : ℕ). drop m streams) n ∙ t.1,
-      subst (λ (m : ℕ). m ≤ length streams) (sym n) t.2,
-      more ∙ ap (λ (m : ℕ). take m streams) (sym n),
+    let was = c.streams.invariant in
+    let streams = c.args.streams.items in
+    let tellers = c.args.tellers.items in
+    let of_stream = λ (p : PlannedState). p.stream in
+    let of_teller = λ (p : PlannedState). p.teller in
+    let first = was.0 ∙ c.in-Some.ensures.steps.0.0 in
+    let second = was.1 ∙ c.in-Some.ensures.steps.1.0 in
+    let rest_first = (zip_first c.next.new.self).rest.items in
+    let rest_second = (zip_second c.next.new.self).rest.items in
+    let s = c.in-Some.stream in
+    let t = c.in-Some.teller in
+    let same : p.stream ≡ s = c.in_ok-open.ensures.stream in
+    let own : p.teller ≡ t = c.in_ok-open.ensures.teller in
+    subst (λ items.
+    (drop (length items) streams ≡ rest_first) × (drop (length items) tellers ≡ rest_second) × (length items ≤ length streams)
+    × (length items ≤ length tellers) × (streams_in items ≡ take (length items) streams)
+    × (tellers_in items ≡ take (length items) tellers)) (sym c.in_ok-push.ensures.items) (
+      left-after of_stream made p streams rest_first s same first,
+      left-after of_teller made p tellers rest_second t own second,
+      made-within of_stream made p streams rest_first s same first,
+      made-within of_teller made p tellers rest_second t own second,
+      made-more of_stream made p streams rest_first s same first was.4,
+      made-more of_teller made p tellers rest_second t own second was.5,
     )
 
-pub returns : goal.returns
-returns g c =
-    let streams = c.args.streams.items in
-    let k : ℕ = length c.loop-stream.yielded in
-    let left = c.loop-stream.stream-iterator.rest in
-    let none : length left.items ≡ 0 = sym left.ok.0 ∙ c.in-None.ensures.steps.0 in
-    let all : k ≡ length streams = drop-none streams left.items k c.loop-stream.invariant.2 none c.loop-stream.invariant.3 in
-    c.loop-stream.invariant.4 ∙ take-all streams k all
+pub returns-clause-streams : goal.returns-clause-streams
+returns-clause-streams g c =
+    let k = length c.streams.planned.items in
+    let was = c.streams.invariant in
+    let all : k ≡ length c.args.streams.items =
+    all-made c.args.streams.items (zip_first c.streams.stream-iterator).rest.items c.args.tellers.items
+    (zip_second c.streams.stream-iterator).rest.items k c.requires.each was.0 was.1 was.2 was.3
+    (⊎_elim (λ e. inl (sym (zip_first c.streams.stream-iterator).rest.ok.0 ∙ e.1.0))
+    (λ e. inr (sym (zip_second c.streams.stream-iterator).rest.ok.0 ∙ e.1.0)) c.in-None.ensures.steps) in
+    was.4 ∙ take-all c.args.streams.items k all
+
+pub returns-clause-tellers : goal.returns-clause-tellers
+returns-clause-tellers g c =
+    let k = length c.streams.planned.items in
+    let was = c.streams.invariant in
+    let all : k ≡ length c.args.streams.items =
+    all-made c.args.streams.items (zip_first c.streams.stream-iterator).rest.items c.args.tellers.items
+    (zip_second c.streams.stream-iterator).rest.items k c.requires.each was.0 was.1 was.2 was.3
+    (⊎_elim (λ e. inl (sym (zip_first c.streams.stream-iterator).rest.ok.0 ∙ e.1.0))
+    (λ e. inr (sym (zip_second c.streams.stream-iterator).rest.ok.0 ∙ e.1.0)) c.in-None.ensures.steps) in
+    was.5 ∙ take-all c.args.tellers.items k (all ∙ c.requires.each)

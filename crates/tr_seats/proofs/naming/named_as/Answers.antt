@@ -1,9 +1,10 @@
-use Rattle.std.proofs.Common.{◌≡◌, ◌∙◌, Some, ap, sym}
+use Rattle.std.proofs.Common.{◌≡◌, ◌∙◌, ◌≤◌, Some, ap, arith, sym}
 use Rattle.std.proofs.lemmas.Option.{get_or_from_slice_get, slice_get_within}
 use Rattle.tr_seats.proofs.NameLemmas.{books-opened, planned-there, seats-opened}
 use Rattle.tr_seats.proofs.naming.named_as.Goals as goal
 use Rattle.tr_seats.specs.Books.{Books, books_at, no_books}
 use Rattle.tr_seats.specs.Plans.{PlannedState}
+use Rattle.tr_tally.specs.Tallies.{TellerState}
 
 pub invariant_of-slot : goal.invariant_of-slot
 invariant_of-slot g c =
@@ -29,10 +30,16 @@ invariant_of-producer g c =
     let is = c.planned.invariant in
     let here : books_at plan.books c.args.number ≡ c.args.planned.books =
     get_or_from_slice_get plan.books c.args.number c.args.planned.books no_books c.requires.books in
-    let books = ap (λ (p : PlannedState). p.books) c.planned.view_is ∙ sym here in (
+    let books = ap (λ (p : PlannedState). p.books) c.planned.view_is ∙ sym here in
+    let teller = ap (λ (p : PlannedState). p.teller) c.planned.view_is ∙ c.requires.teller in (
       slice_get_within plan.books c.args.number c.args.planned.books c.requires.books,
       seats-opened (books_at plan.books c.args.number) in_it.offered.0 in_it.discarded.0 in_it.overwritten.0
           in_it.overwritten_packets.0 in_it.offered.1 in_it.discarded.1 in_it.overwritten.1 in_it.overwritten_packets.1
           (ap (λ (b : Books). b.offered) books) (ap (λ (b : Books). b.discarded) books) (ap (λ (b : Books). b.overwritten) books)
           (ap (λ (b : Books). b.overwritten_packets) books) is.1 is.2 is.3 is.4,
+      record {
+        table_is = ap (λ (t : TellerState). t.table) teller;
+        stream_is = ap (λ (t : TellerState). t.stream) teller;
+        within = omega (arith, ap (λ (t : TellerState). t.count) teller);
+      },
     )

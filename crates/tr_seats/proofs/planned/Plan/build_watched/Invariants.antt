@@ -1,6 +1,6 @@
 use Rattle.std.proofs.Common.{◌≡◌, ◌≤◌, length, drop}
-use Rattle.tr_seats.proofs.planned.Plan.build.Given as goal
-use Rattle.tr_seats.specs.Plans.{books_in, streams_in}
+use Rattle.tr_seats.proofs.planned.Plan.build_watched.Given as goal
+use Rattle.tr_seats.specs.Plans.{AreTellersFrom, books_in, streams_in, tellers_in}
 
 -- those that are left are those of the plan that have no name yet
 abbrev pub invariant-loop-planned : goal.invariant-loop-planned
@@ -9,3 +9,4 @@ invariant-loop-planned g l =
     × (drop l.named g.N.Names.plan.books ≡ books_in l.planned-iterator.rest.items)
     × (drop l.named g.N.Names.plan.session.streams ≡ streams_in l.planned-iterator.rest.items)
     × (l.named ≤ length g.N.Names.plan.books)
+    × AreTellersFrom l.named g.N.Names.plan.tally.table (tellers_in l.planned-iterator.rest.items)
