@@ -20,11 +20,11 @@
 //!
 //! # What is only tested
 //!
-//! That threads run at once, and that a load's workers take anything. That a load ends isn't claimed, since it waits for locks. Not promised by `load` are how many workers there are,
-//! when they end, how fast they go, and that anything was taken before the rotation; that the session was stopped before it
-//! was rotated; and which fault it answers. So these bodies pass: `load` or `load_plan` that always answers a fault; a load
-//! that is rotated and then stopped; within the crate, a gate that never ends a worker, and a take that isn't made and
-//! answers that nothing waits.
+//! That threads run at once, and that a load's workers take anything. That a load ends isn't claimed, since it waits for
+//! locks. Not promised by `load` are how many workers there are, when they end, how fast they go, and that anything was taken
+//! before the rotation; that the session was stopped before it was rotated; and which fault it answers. So these bodies pass:
+//! `load` or `load_plan` that always answers a fault; a load that is rotated and then stopped; within the crate, a gate that
+//! never ends a worker, and a take that isn't made and answers that nothing waits.
 //!
 //! Examples show loads whose records all fit and are in chunks as a whole, with the whole text, with fewer and with more
 //! workers than streams, and with 256 streams; one without records; and the files of a load's archive. Tests show that of
