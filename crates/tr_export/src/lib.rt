@@ -26,7 +26,8 @@
 //! # What is only tested
 //!
 //! The three lines that reach the real file system (`HostFiles`): another path, a missing folder or a missing flush there
-//! would pass. Runs of the program show each (`examples/exports`, `.ci/under-fire`).
+//! would pass. Runs of the program show each (`examples/exports`, `.ci/under-fire`). So would another piece size of
+//! `MemoryDisk::new`: how bytes are cut is no part of the meaning.
 #![tactic(auto)]
 
 mod counting;

@@ -41,7 +41,8 @@
 //!
 //! - that memory is there, and that a survey which answers `NoMemory` had to;
 //! - that after a fault all went out that was reported before it (the clause is of some prefix);
-//! - how many bytes of an archive's metadata are read, beyond those that the recorder writes;
+//! - how many bytes of an archive's metadata are read (`MOST_METADATA`, which clauses name), beyond those that the recorder
+//!   writes;
 //! - that the folder of a session's archives is the one that tr_export writes to, which `examples/audit` shows.
 #![tactic(auto)]
 
