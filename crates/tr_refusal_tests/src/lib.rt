@@ -1,4 +1,4 @@
-//! The tests in which calls are refused memory. The answer names the refusal, what stands after it is what the call's
+//! The tests in which calls are refused memory. The answer names the refusal, what is left after it is what the call's
 //! documentation says, and the same call made again with memory gives the ordinary answer. There are two ways:
 //!
 //! - each request of a call for memory is refused in turn: it is made with no request granted, with one, with two, and so on
