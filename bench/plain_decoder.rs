@@ -59,7 +59,7 @@ fn u32_at<const N: usize>(bytes: &[u8; N], at: usize) -> u32 {
     u32::from_le_bytes(bytes[at..at + 4].try_into().expect("four bytes"))
 }
 
-/// The record in front, and the bytes behind it.
+/// The record in front, and the bytes after it.
 fn read_record(bytes: &[u8]) -> Option<(Record<'_>, &[u8])> {
     let (fields, rest) = bytes.split_first_chunk::<24>()?;
     let (payload, rest) = rest.split_at_checked(u32_at(fields, 20) as usize)?;
@@ -168,7 +168,7 @@ struct Audit {
 }
 
 impl Audit {
-    /// Adds a packet behind those that were audited.
+    /// Adds a packet after those that were audited.
     fn add(&mut self, uuid: &[u8; 16], stream: u64, packet: &Packet) -> Result<(), AuditFault> {
         let head = &packet.head;
         if head.uuid != *uuid || head.stream != stream {

@@ -2,7 +2,7 @@
 //!
 //!     plain_stream offers CASE ROUNDS
 //!
-//! Its offers are those of `plain_ring`. A take writes a packet's header and copies the sub-buffer's page behind it, as
+//! Its offers are those of `plain_ring`. A take writes a packet's header and copies the sub-buffer's page after it, as
 //! tr_stream does. It prints what tr_bench prints. It has no proof, and it ends if an allocation fails.
 #![forbid(unsafe_code)]
 

@@ -1,4 +1,20 @@
 //! What a stream keeps beside its ring: counters, and the packets of its parts. And what a snapshot shows of a stream.
+//!
+//! A part is what one stream adds to one trace chunk. Of packets that were cleared or released only runs are kept: the
+//! packet's number, and which serials it had.
+//!
+//! # Example
+//!
+//! ```
+//! parts.cut(packets, accepted)?;  // closes the current part with these packets, and begins the next
+//! parts.release(0)?;              // part 0 gives up its packets, and keeps their runs
+//! ```
+//!
+//! # What is proved
+//!
+//! - Parts are lists of packets with their sums. A released part has no packets, and the sums that it had.
+//! - A packet's runs are as long as they can be and in order, and none goes over two packets.
+//! - A call for which an allocation fails leaves the parts as they were.
 #![tactic(auto)]
 
 mod book;

@@ -1,4 +1,29 @@
 //! The files of trace chunks: their names, what is written to them, and the audit of what they hold.
+//!
+//! # Example
+//!
+//! ```
+//! write_part(&mut sink, part)?;                            // a stream's file: the texts of the part's packets
+//! let found = audit_stream(alloc, &uuid, 0, &[&file])?;    // whole packets with rising numbers, or the first fault
+//! ```
+//!
+//! # What is proved
+//!
+//! - A stream's file is the texts of a part's packets; a part that was released isn't written. Writing it takes no memory. If
+//!   the sink fails, what is written is a prefix of them.
+//! - An archive's name has the civil date and time of its moments, at the session's offset.
+//! - An audit of anyone's bytes succeeds if and only if they are whole packets of the stream with rising numbers and serials,
+//!   and no allocation fails. Otherwise it names the first packet at fault.
+//! - The same holds if the bytes come in feeds of any sizes (`AuditReader`). Then the audit holds one packet's bytes at most,
+//!   and an allocation may fail only where numbers are absent or at a packet of more than 65,536 bytes. A bad header is
+//!   reported once its 80 bytes are there, and all else once the packet is whole.
+//!
+//! # What is only tested
+//!
+//! Nothing beside the proofs. Tests add a file of two packets, whole, cut to each of the 484 shorter lengths and with each of
+//! its 484 bytes inverted: 968 files, each read whole and in feeds of 1, 7 and 1,000 bytes, with its whole audit or its first
+//! fault. They also add a header that is judged at its last byte, a piece that ends within a packet, pieces in another order,
+//! and a sink that fails after N bytes.
 #![tactic(auto)]
 
 mod archive_names;

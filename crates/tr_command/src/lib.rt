@@ -2,7 +2,22 @@
 //! Clap's definition of a simple command decides every corner; [`parse`] is proved against it.
 //! Every command has its [`Request`]: those that lay a session out, start and stop it, those for its streams, rotations whole
 //! and step by step, snapshots, schedules and their ticks, and questions.
-//! Also the program's own command line ([`job_of`]), and what somebody at a terminal is told before a run that takes long.
+//! Also the program's own command line ([`job_of`]), and what a terminal shows before a run that takes long.
+//!
+//! # Example
+//!
+//! ```
+//! let request = parse(alloc, &["offer", "s", "0", "1", "7", "--fill", "50"])?;  // None for a bad line
+//! ```
+//!
+//! # What is proved
+//!
+//! - What the words of a line ask for is decided by clap's own definition.
+//! - So is what the program's words ask for, by clap's definition of `script [--out DIR]`, `load --threads T --records R
+//!   --workers W [--out DIR]` and `audit DIR`. The numbers of a load are within its limits.
+//! - What a terminal shows before a long load is its definition's text.
+//!
+//! Each is said of an answer; a failed allocation is answered as itself.
 #![tactic(auto)]
 
 mod arguments;

@@ -1,4 +1,10 @@
-//! The examples, computed by the definitions alone.
+//! The examples, computed by the definitions alone, without any code.
+//!
+//! # What is proved
+//!
+//! - For each script in `examples/` itself the definitions give the answer that was worked out by hand. Those in its
+//!   subfolders are only run.
+//! - They do the same for a packet's bytes, for archives' names, and for two files with their audits.
 #![tactic(auto)]
 
 ghost use Rattle.std.specs.Prelude.{◌≡◌, ◌∷◌, [], Some, None, codes, drop, length, map, neg_ℤ, option_map, pos, slice_get, take};

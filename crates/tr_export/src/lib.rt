@@ -1,5 +1,33 @@
 //! A session's archives on disk: the folder of each that has all its parts, with the metadata text and a file for each
 //! stream.
+//!
+//! # Example
+//!
+//! ```
+//! let mut disk = SystemDisk::new(HostFiles::new(&rt));
+//! write_archives(alloc, &mut disk, "DIR", &name, &session)?;  // DIR/NAME/archives/..
+//! ```
+//!
+//! # What is proved
+//!
+//! For every disk that reports what it makes:
+//!
+//! - For each archive in order of which no part was released, its folder, its metadata and a file for each stream are made,
+//!   with exactly the texts of that stream's packets.
+//! - If the disk fails or an allocation fails, a prefix of this is made, and then at most one broken file: the one that comes
+//!   next.
+//! - No other file is opened.
+//!
+//! And for every disk:
+//!
+//! - A write fault is answered if and only if the disk or one of its files failed in that call.
+//! - The program's disk is proved over every file system that reports what it makes.
+//!
+//! # What is only tested
+//!
+//! The three lines that reach the real file system (`HostFiles`): another path, a missing folder or a missing flush there
+//! would pass. Runs of the program show each (`examples/exports`, `.ci/under-fire`). So would another piece size of
+//! `MemoryDisk::new`: how bytes are cut is no part of the meaning.
 #![tactic(auto)]
 
 mod counting;

@@ -1,5 +1,36 @@
 //! The load: feeders that offer the same records in each run, and workers that drain them meanwhile, on one session; and the
 //! text that says where the records are.
+//!
+//! # Example
+//!
+//! ```
+//! let loaded = load(rt, alloc, threads, records, workers)?;  // settled, and judged by its feeders' logs
+//! ```
+//!
+//! # What is proved
+//!
+//! - What each feeder is to offer is its definition's, item for item.
+//! - A load that was settled is judged by its feeders' logs, each of which is that feeder's whole work, since its stream
+//!   accepted every offer: they agree, the report has the sums over the streams, and as many records were offered as the load
+//!   was asked for; or the first stream at fault is named.
+//! - Its session is stopped, and was rotated once, at the moment that is the number of records. No clause says which of the
+//!   two came first.
+//! - The report is exactly the text that its definition gives. Put to an output, it is written first; the archives of the
+//!   session follow even if the logs don't agree.
+//!
+//! # What is only tested
+//!
+//! That threads run at once, and that a load's workers take anything. That a load ends isn't claimed, since it waits for
+//! locks. Not promised by `load` are how many workers there are, when they end, how fast they go, and that anything was taken
+//! before the rotation; that the session was stopped before it was rotated; and which fault it answers. So these bodies pass:
+//! `load` or `load_plan` that always answers a fault; a load that is rotated and then stopped; within the crate, a gate that
+//! never ends a worker, and a take that isn't made and answers that nothing waits.
+//!
+//! Examples show loads whose records all fit and are in chunks as a whole, with the whole text, with fewer and with more
+//! workers than streams, and with 256 streams; one without records; and the files of a load's archive. Tests show that of
+//! 100,000 records that one feeder offers more are in chunks than the last rotation and one round of the worker leave there,
+//! so the worker goes on taking while they are offered, and the load agrees; the texts of both mismatches; a load that is
+//! reported and archived, and an output that fails, after which nothing is made.
 #![tactic(auto)]
 
 mod ending;

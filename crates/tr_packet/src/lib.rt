@@ -1,4 +1,25 @@
 //! Packets of one stream: what they hold, the bytes that they are written as, and how these are read again.
+//!
+//! The text of a packet is its bytes, as `docs/FORMATS.md` lays them out.
+//!
+//! # Example
+//!
+//! ```
+//! let (packet, length) = decode_packet(bytes)?;  // borrows the bytes, and takes no memory
+//! for record in packet.records() {}
+//! ```
+//!
+//! # What is proved
+//!
+//! - A packet's bytes are exactly its text. A packet is read if and only if the input begins with such a text, whatever
+//!   follows. Otherwise the first fault of a fixed order is named.
+//! - No packet's text begins another, so bytes begin with one packet at most.
+//! - The metadata text is byte for byte the documented one.
+//!
+//! # What is only tested
+//!
+//! Nothing beside the proofs. Tests add the 105 bytes of a worked packet, a damaged byte at each place of a packet of two
+//! records, and each fault before the later ones. The gate compares an archive's metadata with the text of `docs/FORMATS.md`.
 #![tactic(auto)]
 
 mod decoding;

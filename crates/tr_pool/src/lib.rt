@@ -1,5 +1,27 @@
-//! A pool of feeders and workers on a shared session: feeders offer records and log what is accepted, workers take packets, and
-//! what was logged is reconciled with what the settled session holds.
+//! A pool of feeders and workers on a shared session: feeders offer records and log what is accepted, workers take packets,
+//! and what was logged is reconciled with what the settled session holds.
+//!
+//! # Example
+//!
+//! ```
+//! match reconcile(&settled, &logs) {
+//!     Ok(report) => {}     // each record that the session holds is the one that its feeder logged
+//!     Err(mismatch) => {}  // the first stream at fault, and its least serial that is wrong
+//! }
+//! ```
+//!
+//! # What is proved
+//!
+//! - A producer of a shared session has offered as many records more as its feeder's log has items (`every_feed` of
+//!   tr_shared).
+//! - A settled session and the logs agree if and only if each stream's first log has an item for each of its offers, and each
+//!   record that the stream holds has the id and the payload of the item at its serial, and no lesser moment. Otherwise the
+//!   first stream at fault is named.
+//! - `reconcile` takes no memory.
+//!
+//! # What is only tested
+//!
+//! Nothing beside the proofs. Tests add a log that agrees, one with another id, a shorter one, and no log.
 #![tactic(auto)]
 
 mod judging;

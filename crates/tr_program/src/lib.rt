@@ -1,4 +1,54 @@
 //! The program: its run over any input, output, disk and folders, and how that ends.
+//!
+//! # Example
+//!
+//! `main` of tracerd is one call of `run_given`, with standard input, output and error and the file system.
+//!
+//! # What is proved
+//!
+//! For any arguments, input, output, disk and folders:
+//!
+//! - The words ask for a run of a script or for a load, with the folder for the archives if one is named, or for the audit of
+//!   a folder, or they are a bad command line, by clap's definition.
+//! - The run ends as what the words ask for does. Its exit status and the one line that standard error gets agree.
+//! - A script at 0 and 1: the input was read to its end and answered whole, and the archives of every session were made below
+//!   the folder, if one is named. Of these two, the status is 1 if and only if a line was refused.
+//! - A load at 0 and 1: it was settled and judged by its feeders' logs, its text went out whole, and then the archives were
+//!   made below the folder, if one is named. The status is 0 if and only if the logs agree. Or, at 1, a call of it was
+//!   refused, and nothing was put out or made.
+//! - A bad command line, or arguments that can't be taken, end at 2, or at 4 if an allocation fails. Then nothing was read,
+//!   answered or made. Nothing else ends at 2.
+//! - A script at 3: either the input failed, or the script was too long, or the output failed, and nothing was made; or the
+//!   input was read to its end and answered whole, and then the disk failed: a prefix of the archives was made below the
+//!   folder, and the next file may be broken.
+//! - At every status but 3 neither the input nor the output nor the disk nor reading of folders failed.
+//! - A load at 3: it was settled, and the output failed and nothing was made, or the text went out whole and the disk failed.
+//!   At 4 nothing was put out or made, or the text went out whole and a prefix of the archives was made. A load reads
+//!   nothing.
+//! - An audit at 0 and 1: the folder was surveyed whole, and the status is 0 if and only if nothing is wrong. At 3 it has no
+//!   session, or reading or writing failed, and at 3 and 4 a prefix of a survey went out. An audit reads no input and makes
+//!   nothing.
+//! - A script at 4: nothing was read, answered or made; or some of the lines that were read are answered, and nothing was
+//!   made; or all was read and answered, and a prefix of the archives was made.
+//!
+//! What was read, answered and made is said for inputs, outputs, disks and folders that report it. For standard input,
+//! standard output and a real folder it is not. A run of a script has nothing to wait for: `end_script` gets no runtime, so
+//! it can't.
+//!
+//! # What is only tested
+//!
+//! Tests show each way to end at status 3, with its line, with no call of the disk after a script that broke off, and with 3
+//! before 1; a load whose output fails after none, some or all but one of its bytes, and one whose disk fails at its first or
+//! its last call. Of status 4 they show only the arguments, since `run` takes its memory from `Global`.
+//!
+//! Runs of the program show which words are a bad command line, a load's numbers among them: beyond their limits, with a
+//! sign, missing or given twice (`examples/command-lines`); the files of a script's archives and of a load's
+//! (`examples/exports`); a load with its whole text (`examples/load*`), and what it says at a terminal; and how the program
+//! ends where its surroundings fail it (`.ci/under-fire`).
+//!
+//! Not promised are how many workers a load has, and all that `load` doesn't promise; so a load that is always refused, at
+//! status 1, meets the contract. Tests show that it isn't. `main` has no clause. That standard input, output and error are
+//! each in their place, and that the status is `run_given`'s, is shown by the program's stored run and by the examples.
 #![tactic(auto)]
 
 mod ending;

@@ -1,4 +1,4 @@
-//! The tests of what stands on everything else: loads and their logs (tr_load), and runs of the program in which its
+//! The tests of what uses everything else: loads and their logs (tr_load), and runs of the program in which its
 //! surroundings fail it (tr_program). Whole runs are in `examples`.
 #![tactic(auto)]
 

@@ -1,4 +1,26 @@
 //! Records of a trace and their bytes, and the traits by which bytes come in and go out.
+//!
+//! The text of a record is its bytes, as `docs/FORMATS.md` lays them out.
+//!
+//! # Example
+//!
+//! ```
+//! put_rec(&mut bytes, &record)?;             // appends the record's text
+//! let found = read_rec(&bytes);  // the record and its length, or None
+//! ```
+//!
+//! # What is proved
+//!
+//! - A record's bytes are exactly its text. A record is read if and only if the input begins with such a text.
+//! - `put_all` gives all bytes to a sink, which didn't fail then, or a prefix of them to a sink that failed in that call.
+//!
+//! # What is only tested
+//!
+//! That a read or a write that is interrupted is a failure and isn't tried again, and that no failure is made up: the
+//! standard library's readers and writers report none, so a `get` or `put` that tries again, or fails without having asked,
+//! meets its contract. So does a `flush` that does nothing or passes over a failure, and a `MemorySink::put` that fails
+//! though memory is there. A test counts the flushes, and tests show each of these. Of real files and terminals nothing is
+//! known.
 #![tactic(auto)]
 
 mod bytes;

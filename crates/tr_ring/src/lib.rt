@@ -1,6 +1,20 @@
 //! A ring of sub-buffers: the current one takes records, the closed ones wait to be consumed, and the pages of those that
-//! were are used again.
+//! were consumed are used again.
 //! If none is free, either the newest record is discarded or the oldest closed sub-buffer is overwritten.
+//!
+//! # Example
+//!
+//! ```
+//! let mut ring = Ring::new(alloc, 4_096, 4, false)?;       // discards when it is full
+//! let pushed = ring.push(moment, id, serial, payload);     // takes no memory
+//! ```
+//!
+//! # What is proved
+//!
+//! - A push is one of four cases and nothing else: the record joins the current sub-buffer; it begins a new one, which
+//!   follows the current one; the oldest sub-buffer is overwritten; or the record is discarded.
+//! - The ring takes all its pages when it is made, and uses each again once its records are consumed, overwritten or cleared.
+//!   So a push takes no memory, and has no answer for a failed allocation.
 #![tactic(auto)]
 
 mod closed;

@@ -1,4 +1,22 @@
 //! Schedules: when a rotation of a session is due.
+//!
+//! # Example
+//!
+//! ```
+//! let schedule = Schedule::new(Some(100), Some(4_096))?;       // after 100 nanoseconds, or at 4,096 bytes
+//! let cause = schedule.due(chunk_begin, now, &current_sizes);  // the timer, the size, or none
+//! ```
+//!
+//! # What is proved
+//!
+//! - A rotation is due by the timer if the chunk is as old as the period or older; else by size if the sum of the sizes is at
+//!   the limit or above; else it isn't due. The sum stops at the greatest 64-bit number.
+//! - A period or a limit of zero is refused.
+//!
+//! # What is only tested
+//!
+//! Nothing beside the proofs. Tests add a period and a limit one below and at their numbers, a moment before the chunk's
+//! beginning, and sums beyond the greatest number.
 #![tactic(auto)]
 
 mod cause;

@@ -1,5 +1,53 @@
-//! A session apart, as its locks guard it: streams with their books, the producers and drainers that share these, and the
+//! A session apart, as its locks guard it: streams with their ledgers, the producers and drainers that share these, and the
 //! settling of all seats. Nothing here waits: each call is lent the values that it changes.
+//!
+//! The desk has the session's book, and a slot for each stream has the stream and its seven ledgers. A producer has the whole
+//! seats of the offers to its stream, and a drainer a seat of what is consumed of each.
+//!
+//! # Example
+//!
+//! ```
+//! let (mut opened, producers) = plan(alloc, &config)?.build::<N>()?;
+//! let offered = slot.offer(&mut producer, moment, id, payload)?;  // moves the stream and the producer's seats
+//! ```
+//!
+//! # What is proved
+//!
+//! - Whenever a slot is at rest, its stream is sound and is the one that was planned for its number, and the totals of its
+//!   seven ledgers are what the stream counts. This is shown of four of them with the producer at hand, of the consumed and
+//!   the cleared records of each stream once the session is settled, and of the cuts with the desk at hand.
+//! - For any history that a stream represents, a call on its slot or the desk answers what the history's step answers, and
+//!   the stream then represents the next history. If an allocation fails, nothing changed.
+//! - An offer answers and steps as the stream's does, and moves its producer's seats by what was answered; its serial is what
+//!   the producer had offered. Only a payload that fits no sub-buffer is too big, and a stream is spent only if its producer
+//!   has offered 2^62 records.
+//! - A take answers and steps as the stream's does, and adds the number of records taken, at least one, to the drainer's seat
+//!   of that stream.
+//! - A cut is the session's rule on its desk and one slot: at the pending rotation's end, in order of stream. What it moves
+//!   goes to the desk's seats. Each stream has as many closed chunks as there are archives, and one more if the pending
+//!   rotation has cut it.
+//! - A clear is the session's rule on its desk and one slot, if the desk's book allows it, and adds the records that it
+//!   removed to the desk's count of cleared ones.
+//! - A call for another stream than the slot's is refused as `Misplaced`; no call assumes that it isn't.
+//! - A plan is refused as a session's channels and threads are. What is built of it has one producer for each stream, in
+//!   order, with nothing offered.
+//! - A session is settled if and only if there is one producer for each stream, every drainer that was begun, each stream in
+//!   its place, and no stream gave a seat to another number of drainers. Otherwise all comes back as it was, with the first
+//!   of these that is missing. It takes no memory.
+//! - What is settled is a session again, the one that was planned. Each producer's numbers are those of its own stream. What
+//!   was consumed of a stream is what the desk's and the drainers' seats of it have, and what was cleared of it what another
+//!   seat of the desk has. The totals are the sums over its streams, and the sums over all seats. What was offered is
+//!   discarded, overwritten, cleared, in a ring or in a part, and what was consumed is in a part or was cleared since.
+//!
+//! That a slot and a seat are of one plan is no refusal: both have the plan as a parameter of their type (`Names`), so a seat
+//! of another session isn't accepted.
+//!
+//! # What is only tested
+//!
+//! Nothing beside the proofs. Tests add the answers and the producer's numbers of a ring that fills, in both modes; a take,
+//! and what is `Misplaced`; a session that isn't settled without a producer, without a drainer, and with its streams in each
+//! other's place, and is settled after that, with its totals; a rotation of two streams at the desk, what is refused on its
+//! way, and the settling of what it moved.
 #![tactic(auto)]
 
 mod both;

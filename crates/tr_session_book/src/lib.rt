@@ -1,5 +1,18 @@
-//! The book of a recording session: what it keeps beside its streams. Its channels and threads, what it allows, its
-//! moments, its rotations, archives and schedule; each call is proved to be a rule of the session.
+//! The book of a recording session: what it keeps beside its streams. Its channels and threads, what it allows, its moments,
+//! its rotations, archives and schedule; each call is proved to be a rule of the session.
+//!
+//! # Example
+//!
+//! ```
+//! book.add_channel(&name, 4_096, 4, Mode::Discard)?;  // before the first start alone
+//! let chunk = book.rotate_begin(moment)?;             // the chunk that this rotation closes
+//! ```
+//!
+//! # What is proved
+//!
+//! - Each call is a rule of the session, with the refusals in their order. A refused call changes nothing.
+//! - Only a local session has a pending rotation, and its end takes no memory.
+//! - Archives are numbered by their places, from 0 on.
 #![tactic(auto)]
 
 mod archive;

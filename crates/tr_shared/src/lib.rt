@@ -1,6 +1,109 @@
 //! A session that many threads share. Its desk and each of its streams lie under a lock of their own: the desk's is taken
 //! first, and then at most one stream's. Producers and drainers are seats that their threads own, so that an offer or a take
 //! waits for its stream alone.
+//!
+//! # Example
+//!
+//! `crates/tr_embed/src/main.rt` is a whole program.
+//!
+//! ```
+//! let (shared, producers) = Shared::<N>::build(plan(alloc, &config)?)?;
+//! let answer = producer.offer(rt, &shared, moment, id, payload);  // by the thread that owns this producer
+//! let (settled, totals) = shared.settle(producers, drainers)?;    // once all threads are done
+//! ```
+//!
+//! # What is proved
+//!
+//! Nothing can be said of a value under a lock but its type's invariant. So what a call does exactly is proved of the call of
+//! tr_seats that is lent the values. Each call here takes the locks and makes that call, and its own contract speaks of what
+//! its caller keeps: the answer and the seats.
+//!
+//! - An offer moves its producer's seats by what was answered, and a take the drainer's seat of that stream, whatever other
+//!   threads do meanwhile.
+//! - An operator starts, stops, schedules, rotates, clears and ticks the session while its threads run, one hold of the
+//!   desk's lock after another. Each call is refused only by the codes that it names.
+//! - A snapshot shows at the place of each number what some sound stream of the plan has at the snapshot's own moment:
+//!   serials that follow each other up to the last offered one. Of a producer that is lent to it, it shows a stream with just
+//!   that producer's counts.
+//! - For its mode a snapshot session refuses schedules, clears, rotations and the beginning of one, and a local one
+//!   snapshots; neither is so refused in the other kind of session. In a snapshot session, too, a tick is idle, no rotation
+//!   goes on or ends, and nothing is taken.
+//! - Only its sole owner can settle it, and no lock is taken. It is refused for a missing producer if and only if there isn't
+//!   one for each stream. Each stream has just what its producer offered, and at least what the drainers took of it; the
+//!   totals are the sums over its streams.
+//! - If it isn't settled, producers and drainers come back as they were, and the session is shared again.
+//!
+//! Within the crate the same is proved of what is lent to operators: which stream the pending rotation cuts next, its cut, a
+//! rotation that begins if it is due, and the beginning of a snapshot are each equal to a definition (`next_of`, `cut_next`,
+//! `begin_if_due`, `begin_snapshot`), and what is shown of a slot is `state_snap` (`look`). When E2 and E3 come, and that the
+//! totals, and what was consumed of each stream, are the sums over all seats, the desk's too, is proved of `Opened::settle`,
+//! which `Shared::settle` calls with the values out of their locks.
+//!
+//! # What is only tested
+//!
+//! Contracts can't name a value under a lock. So only tests show that each call forwards to the call below and adds no
+//! refusals. Which locks a call holds, and from when to when, can be read in its few lines of code, and is in no contract: an
+//! offer and a take hold one stream's lock and no other; an operator holds the desk's, and then one stream's at most. Not
+//! promised by a call that takes a lock are:
+//!
+//! - that an offer hands on its moment, id and payload;
+//! - the sub-buffer's and the chunk's number in an answer;
+//! - when an offer is `Inactive` or a take has `Nothing`, and that nothing is `Misplaced`, beyond what `Slot` says;
+//! - that a start, a stop, a schedule or a step of a rotation does anything;
+//! - when a tick of a local session rotates, and the numbers, moments and causes in operators' answers;
+//! - how much later than the moment given a snapshot's is;
+//! - that the other streams of a snapshot are shown with all their records, and the ids and payloads of any;
+//! - in which order the streams of a session lie that isn't settled, and which stream `hold_stream` holds;
+//! - which lock is held from when to when, and that a wait ends.
+//!
+//! So these bodies meet the contracts:
+//!
+//! - an offer or a take that is always refused, and an offer of another record;
+//! - a start, a stop, a schedule or a rotation that only answers, a start at another moment, and an operator's call, a
+//!   drainer, a `build` or a snapshot that is always refused;
+//! - a tick that is always idle, and a snapshot without packets (except of its producer's stream);
+//! - a `hold_stream` that holds nothing, or the desk too;
+//! - a `settle` that is always refused by E2 or E3 once all producers are there;
+//! - a `build` or a `settle` that does something more at the desk or to the slots, as to set a schedule or to stop the
+//!   session.
+//!
+//! For these, tests (tr_shared_tests) show:
+//!
+//! - a session's offers between start and stop, and what is refused, a payload that is too long for a session that isn't
+//!   started as one that takes no offers;
+//! - that a start and a stop which are refused switch no stream, and that the first archive begins at the first start;
+//! - the moments, ids and payloads of a ring's records after settling, the longest payload among them;
+//! - as many drainers as there may be, and one more;
+//! - a session that isn't settled without a producer and without a drainer, goes on after that, and is settled with all;
+//! - four producers' threads and two drainers' on four streams, in both modes, settled with what the threads counted;
+//! - a rotation between whose cuts records are offered and taken, one of a stopped session, and ticks by period and by size,
+//!   each with the answers of the same script; snapshots of three streams, and those of `examples/snapshot.script`, with the
+//!   producer and without it;
+//! - four producers' threads, two drainers' and two operators', which rotate and tick, in both modes: the archives are
+//!   numbered one after another and hold all that was consumed, and each stream's files pass an audit whose gaps are the
+//!   overwritten packets;
+//! - that a snapshot shows all streams, with the producer of any of them or without one (`snapshots.rt`): of three streams,
+//!   of which one has overwritten packets, each packet with its number, its beginning, its end and its records; an open
+//!   packet ends at the moment that is stored, even if the snapshot was asked for at an earlier one, or at its stream's last
+//!   moment if that is later.
+//!
+//! And of threads that meet at one session of four streams, each test failing by a name of its own and bounded in turns
+//! (`contention`):
+//!
+//! - two operators rotate 100 times each while four producers offer and a drainer takes: each answer is an archive or S4, and
+//!   the archives of both together are those of the settled book, each once;
+//! - in each of 100 rotations two operators cut until all is cut: together they cut streams 0 to 3, once each;
+//! - while the last stream is held, two threads start the session, and later two stop it: none is answered before the hold
+//!   ends, and then one is refused, as after the other;
+//! - while stream 0 is held, a rotation and a take from it are begun, and 100 offers and 100 takes of stream 1 are answered
+//!   before the hold ends, and that take isn't;
+//! - a session isn't settled without a producer (E1), without a producer and a drainer (E1), or without a drainer (E2), and
+//!   is settled with what came back.
+//!
+//! Nothing but these tests shows that a hold of a stream leaves the other streams and the desk free, and that a start and a
+//! stop hold the desk until the last stream is switched. No test can show that a snapshot holds the desk until all streams
+//! are shown, that a tick asks and begins under one hold, or that a whole rotation lets it go between its steps: the one that
+//! waits can't be told from one that isn't there yet.
 #![tactic(auto)]
 
 mod clearing;

@@ -1,5 +1,46 @@
 //! One stream of records: a ring of sub-buffers, and the parts that it is consumed into.
 //! Each call is proved to be a step of the stream's history.
+//!
+//! A history has every block (what one sub-buffer got) that the stream ever filled, and forgets none. `docs/MODEL.md` begins
+//! with an example.
+//!
+//! # Example
+//!
+//! ```
+//! let offered = stream.offer(moment, id, payload)?;  // stored, stored over the oldest packet, or discarded
+//! let taken = stream.take()?;                        // the oldest closed sub-buffer becomes a packet
+//! let fate = stream.fate_of(serial);                 // where that record is, or how it was lost
+//! ```
+//!
+//! # What is proved
+//!
+//! - A stream represents a history. Each offer, take, cut, clear, release, look, start and stop is the step of that history,
+//!   and each answer is the history's.
+//! - So are the stream's counts, its parts, the records of its ring by their places, and the fate of each serial. The stream
+//!   keeps no list of what it lost. Of what was cleared or released it keeps which serials each packet had.
+//! - A clear removes what the ring and the current chunk hold, and nothing else: closed chunks stay as they are, no number
+//!   and no serial is used again, and what was discarded stays discarded.
+//! - A release gives up the packets of a closed chunk, once, and nothing else: what became of each record, and how many
+//!   packets, records and bytes the chunk had, is answered as before.
+//! - A call for which an allocation fails changes nothing.
+//! - An offer takes no memory. Whether it is accepted depends on nothing but whether the stream takes offers, the payload's
+//!   length, and how many offers were accepted before.
+//! - `run_stream` says the same of every list of calls.
+//!
+//! What a stream holds says what it lost (`Stream::counts`, `every_run`):
+//!
+//! - Numbers and serials rise, those of cleared packets among them.
+//! - In discard mode, each packet's `events_discarded` is exactly the number of serials that are absent until the next
+//!   packet. In overwrite mode, serials are absent exactly where packet numbers are.
+//! - In every run each accepted offer is in exactly one place, and a trace chunk has what was consumed between its cuts and
+//!   not cleared since.
+//! - In a snapshot session nothing is ever consumed, cut or cleared.
+//!
+//! # What is only tested
+//!
+//! That a list of calls ends with "out of memory" only if an allocation failed. Tests add worked examples of each call, a
+//! look's packets that are read again, and 100,000 offers in each mode with no byte of memory left: none is refused or moves
+//! a byte of the heap, and a take after them is out of memory.
 #![tactic(auto)]
 
 mod answers;

@@ -1,4 +1,25 @@
 //! Tallies: for each stream a count that its teller publishes, and that watchers read while it does. No call waits.
+//!
+//! # Example
+//!
+//! ```
+//! let (_, mut tellers, mut watchers) = Tally::new(alloc, 2, 1)?;  // two streams, one watcher
+//! tellers[0].publish(7);
+//! let count = watchers[0].read(0);                                // a count that was published on stream 0
+//! ```
+//!
+//! # What is proved
+//!
+//! - What a watcher answers for a stream is a count that was published there, or 0, and never less than what it answered
+//!   before.
+//! - A note has what its teller had published last, and a watcher that learns of it answers no less.
+//! - Only `new` takes memory, and no call waits: none has a handle by which it could.
+//!
+//! # What is only tested
+//!
+//! That a watcher reads what was published last: a watcher that keeps a copy of its last answers and gives these for ever
+//! meets the clauses of `read`. Tests show it alone and in threads, until each watcher has seen the last counts. No clause
+//! says how far apart words lie in memory, or that a publish stores nothing in a tally without watchers.
 #![tactic(auto)]
 
 mod note;

@@ -1,4 +1,4 @@
-//! What the tests of several crates share. No crate of the program stands on it.
+//! What the tests of several crates share. No crate of the program uses it.
 #![tactic(auto)]
 
 mod breaking;

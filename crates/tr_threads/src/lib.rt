@@ -1,4 +1,49 @@
 //! Threads at work: workers that take packets from streams, and feeders that offer records to them and log what is accepted.
+//!
+//! Threads begin together: each waits to read the word, which is given once all are started. So a thread that can't be
+//! started never leaves work half done.
+//!
+//! # Example
+//!
+//! ```
+//! let (fed, drainers) = feed_and_drain(rt, alloc, feeders, workers)?;  // all seats come back, in order
+//! ```
+//!
+//! # What is proved
+//!
+//! - Each worker takes from its streams in rounds, each time after a gate let it, and ends when the gate doesn't. All seats
+//!   come back, in order, also if a thread or memory is missing.
+//! - Each feeder offers its work in order, every item with its moment, its id and its payload; its log has the items that
+//!   were accepted, and no others. All producers come back, in order, also if a thread or memory is missing.
+//! - The same holds of each if both are side by side in one pool, as in a load.
+//!
+//! All this is proved for everything that can be taken from and offered to (`Target`, `Intake`), of which a shared session is
+//! one instance. Their relations are known to none of these calls, so an answer can only be that of a call that was made with
+//! these values.
+//!
+//! # What is only tested
+//!
+//! That a shared session's offers and takes reach the stream under its lock; that threads run at once. Not promised are:
+//!
+//! - when a thread or memory is missing: a call that always answers so, and gives all seats back, meets its contract;
+//! - that no thread did its work if another was missing;
+//! - that a gate is called after a turn, and with which; how many feeders are at work, which `feed_and_drain` counts for its
+//!   gate;
+//! - that an offer or a take is accepted.
+//!
+//! Tests (tr_shared_tests: `feeding.rt`, `gates.rt`, `intakes.rt`) show:
+//!
+//! - records of all lengths come through, with their moments, ids and payloads, all in one packet, and all were offered;
+//! - an intake that refuses some of two feeders' items was offered all of them, and the logs have the others;
+//! - two workers that wait for each other at their first turn both take;
+//! - three workers of two streams, one of two, and none: each asks its gate before a turn, takes, and reports the same turn
+//!   to the gate after it, in order, until the gate ends it; the one without a stream asks nothing; where there are none,
+//!   none come back, and nothing is missing;
+//! - a worker and two feeders wait for each other: the offers until the gate was asked, and the gate until both feeders are
+//!   at their first offer. Two feeders are counted as at work then, and once none is, all their work is offered.
+//!
+//! In no test does an allocation of a pool fail, since it takes its memory from the C library alone. What comes back then is
+//! proved (`memory`), and runs of the program with too little memory end as stated (`.ci/under-fire`).
 #![tactic(auto)]
 
 mod draining;
