@@ -5,6 +5,8 @@
 //! `tr_bench offers CASE ROUNDS` makes 100,000 offers to a new stream, ROUNDS times.
 //! `tr_bench shared CASE ROUNDS` makes the same offers to the stream of a new shared session, and settles it, ROUNDS times.
 //! No packet is taken there, so CASE isn't `taken`.
+//! `tr_bench threads CASE THREADS WATCHERS ROUNDS` makes them to each of THREADS streams, each in a thread of its own, of a
+//! session with WATCHERS watchers, which don't read.
 //! `tr_bench decode ROUNDS`, `tr_bench audit ROUNDS` and `tr_bench feed ROUNDS` read packets from standard input, and then
 //! decode or audit them ROUNDS times, the last in feeds of 64 KiB.
 //! `tr_bench fill LENGTH ROUNDS` fills the rings of a new session with records with payloads of LENGTH bytes, ROUNDS times;
@@ -30,10 +32,12 @@ use std::alloc::Global;
 use std::fmt::Debug;
 use std::process::ExitCode;
 use std::sync::Wait;
+use std::thread::Threads;
 use std::time::CpuClock;
 use std::{env, io};
 use tr_command::number;
 use tr_record::ReaderSource;
+use tr_terms::limits::MOST_STREAMS;
 
 /// Tells why the rounds stopped.
 fn stopped(rt: &impl Print, fault: impl Debug + Drop) -> io::Result<ExitCode> {
@@ -185,6 +189,9 @@ fn read(
     }
 }
 
+/// The most watchers.
+const MOST_WATCHERS: u64 = 64;
+
 /// The most rounds.
 const MOST_ROUNDS: u64 = 1_000_000;
 
@@ -221,9 +228,32 @@ fn run_three(
     }
 }
 
+/// Makes offers in threads.
+fn run_threads(
+    rt: &(impl Print + Threads + Wait + Sync),
+    alloc: Global,
+    case: &str,
+    (threads, watchers, rounds): (&str, &str, &str),
+) -> io::Result<ExitCode> {
+    let given = (
+        Case::named(case),
+        number(threads, MOST_STREAMS as u64),
+        number(watchers, MOST_WATCHERS),
+        number(rounds, MOST_ROUNDS),
+    );
+    let (Some(case), Some(threads), Some(watchers), Some(rounds)) = given else {
+        return Ok(ExitCode::from(2));
+    };
+    if case.takes {
+        return Ok(ExitCode::from(2));
+    }
+    let done = shared::all_rounds_of_threads(rt, alloc, &case, threads, watchers as usize, rounds);
+    report(rt, done)
+}
+
 /// Does what the words after the program's name ask for.
 fn run(
-    rt: &(impl Print + Wait + CpuClock),
+    rt: &(impl Print + Threads + Wait + CpuClock + Sync),
     alloc: Global,
     input: impl io::Read + Drop,
     words: &[&str],
@@ -232,6 +262,9 @@ fn run(
         ["parse"] => parse(rt, alloc, input),
         [what, rounds] => run_two(rt, alloc, input, (what, rounds)),
         [what, detail, rounds] => run_three(rt, alloc, (what, detail, rounds)),
+        ["threads", case, threads, watchers, rounds] => {
+            run_threads(rt, alloc, case, (threads, watchers, rounds))
+        }
         _ => Ok(ExitCode::from(2)),
     }
 }
