@@ -4,7 +4,7 @@
 //! # Example
 //!
 //! ```
-//! let loaded = load(rt, alloc, threads, records, workers)?;  // settled, and judged by its feeders' logs
+//! let loaded = load(rt, alloc, threads, records, workers, watch, &NoProgress)?;  // settled, and judged by its feeders' logs
 //! ```
 //!
 //! # What is proved
@@ -15,6 +15,7 @@
 //!   was asked for; or the first stream at fault is named.
 //! - Its session is stopped, and was rotated once, at the moment that is the number of records. No clause says which of the
 //!   two came first.
+//! - If it is watched, a watcher learned of no fewer records than were offered.
 //! - The report is exactly the text that its definition gives. Put to an output, it is written first; the archives of the
 //!   session follow even if the logs don't agree.
 //!
@@ -22,7 +23,8 @@
 //!
 //! That threads run at once, and that a load's workers take anything. That a load ends isn't claimed, since it waits for
 //! locks. Not promised by `load` are how many workers there are, when they end, how fast they go, and that anything was taken
-//! before the rotation; that the session was stopped before it was rotated; and which fault it answers. So these bodies pass:
+//! before the rotation; that the session was stopped before it was rotated; that a watcher learned of no more than was
+//! offered, and that it says anything meanwhile; and which fault it answers. So these bodies pass:
 //! `load` or `load_plan` that always answers a fault; a load that is rotated and then stopped; within the crate, a gate that
 //! never ends a worker, and a take that isn't made and answers that nothing waits.
 //!

@@ -20,6 +20,9 @@
 //!
 //! - An offer moves its producer's seats by what was answered, and a take the drainer's seat of that stream, whatever other
 //!   threads do meanwhile.
+//! - When an offer returns, its producer has published how many of its offers were accepted, also if this one was refused.
+//!   Watchers, if any were planned, read that while producers offer: a count that was published, and never less than before;
+//!   no less than a note's once they learned of it. They wait for no lock, and outlive the session.
 //! - An operator starts, stops, schedules, rotates, clears and ticks the session while its threads run, one hold of the
 //!   desk's lock after another. Each call is refused only by the codes that it names.
 //! - A snapshot shows at the place of each number what some sound stream of the plan has at the snapshot's own moment:
@@ -75,6 +78,8 @@
 //! - the moments, ids and payloads of a ring's records after settling, the longest payload among them;
 //! - as many drainers as there may be, and one more;
 //! - a session that isn't settled without a producer and without a drainer, goes on after that, and is settled with all;
+//! - a watcher that reads while two producers' threads offer, one that reads a stream whose lock another thread holds, and one
+//!   that reads and learns after the session is settled;
 //! - four producers' threads and two drainers' on four streams, in both modes, settled with what the threads counted;
 //! - a rotation between whose cuts records are offered and taken, one of a stopped session, and ticks by period and by size,
 //!   each with the answers of the same script; snapshots of three streams, and those of `examples/snapshot.script`, with the
