@@ -1,0 +1,8 @@
+use Rattle.tr_journal.proofs.Wholes.{all-of, alone}
+use Rattle.tr_journal.proofs.laws.every_journal.Goals as goal
+
+pub returns-clause-whole : goal.returns-clause-whole
+returns-clause-whole g c journal seat is whole = all-of journal.made journal.lines _ is whole
+
+pub returns-clause-alone : goal.returns-clause-alone
+returns-clause-alone g c kind who lines only = alone kind who lines only
