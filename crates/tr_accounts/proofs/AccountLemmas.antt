@@ -27,7 +27,7 @@ use Rattle.tr_terms.specs.declared.session_mode.SessionMode.{SessionMode}
 use Rattle.tr_terms.specs.declared.session_mode.SessionMode.TheVariants.{Local, Snapshot}
 use Rattle.tr_accounts.proofs.HoldLemmas.{holds-new}
 use Rattle.tr_accounts.proofs.OfferedLemmas.{keeps-clear, keeps-cut, keeps-look, keeps-offer, keeps-release, keeps-switch, keeps-take}
-use Rattle.tr_accounts.specs.Accounts.{IsAccounted}
+use Rattle.tr_accounts.specs.Accounts.{IsAccounted, history_of}
 use Rattle.tr_accounts.specs.Holds.{HoldsOffers}
 use Rattle.tr_accounts.specs.StreamSteps.{accepted_in, answers_in, calls_in, clear_step, cut_step, look_step, offer_step, release_step, switch_step, take_step}
 use Rattle.tr_accounts.specs.declared.step.StreamStep.{StreamStep}
@@ -86,9 +86,8 @@ module _ {A : Type 0} where
   answers-push c [] e h = refl
   answers-push c (d ∷ ds) e h = ap (λ told. history_answer c d h ∷ told) (answers-push c ds e (history_after_event c d h))
 
-  -- the history that a stream stands for, by its steps
-  abbrev pub history_in : List (StreamStep A) → StreamState → History
-  history_in steps s = history_after_events s.config (calls_in steps) new_history
+  abbrev history_in : List (StreamStep A) → StreamState → History
+  history_in steps s = history_of s.config steps
 
   more : (steps : List (StreamStep A)) (s t : StreamState) (step : StreamStep A) → IsAccounted steps s → t.config ≡ s.config
       → StandsFor t (history_after_event s.config step.call (history_in steps s))

@@ -3,3 +3,4 @@ pub mod Holds
 pub mod Logs
 pub mod Seats
 pub mod StreamSteps
+pub mod Takes

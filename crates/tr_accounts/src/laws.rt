@@ -1,12 +1,14 @@
 //! What each call of a stream keeps, if it is noted; and what the seats of its journal have.
 
-ghost use Rattle.std.specs.Prelude.{◌≡◌, ◌++◌, ◌∷◌, [], ℕ, Bool, List, Result, Some, if◌then◌else◌, is_ok, length, slice_get};
+ghost use Rattle.std.specs.Prelude.{◌≡◌, ◌++◌, ◌∷◌, [], ℕ, Bool, List, Result, Some, if◌then◌else◌, is_ok, length, map, slice_get};
 ghost use Rattle.std.specs.List.{AllByRecursion};
-ghost use Rattle.tr_accounts.specs.Accounts.{IsAccounted};
+ghost use Rattle.std.specs.List.Sorted.{IsStrictlyIncreasing};
+ghost use Rattle.tr_accounts.specs.Accounts.{IsAccounted, history_of};
 ghost use Rattle.tr_accounts.specs.Holds.{HoldsOffers, IsRecordOf, held_records};
 ghost use Rattle.tr_accounts.specs.Logs.{items_of};
 ghost use Rattle.tr_accounts.specs.Seats.{AreTheirs, HasRole, desk_seat, is_offer, is_operation, producer_seat, role_of, steps_of};
-ghost use Rattle.tr_accounts.specs.StreamSteps.{AcceptedOffer, accepted_in, clear_step, cut_step, look_step, offer_step, release_step, switch_step, take_step};
+ghost use Rattle.tr_accounts.specs.StreamSteps.{AcceptedOffer, accepted_in, clear_step, cut_step, look_step, offer_step, release_step, switch_step, take_step, taken_in};
+ghost use Rattle.tr_accounts.specs.Takes.{WasTaken};
 ghost use Rattle.tr_accounts.specs.declared.step.StreamStep.{StreamStep};
 ghost use Rattle.tr_journal.specs.Views.{all_done, done_by, line};
 ghost use Rattle.tr_journal.specs.declared.rule.Line.{Line};
@@ -68,4 +70,19 @@ pub fn every_log<A: Allocator, X>()
         (payload : List ℕ) (told : Result Offered OfferFault) → log ≡ items_of item (accepted_in steps)
         → (if is_ok told then log ++ item moment id payload ∷ [] else log)
         ≡ items_of item (accepted_in (steps ++ offer_step moment id payload told ∷ [])) }
+{}
+
+/// The takes of a stream are its packets in order: their numbers rise, each had as many records as was told, and is kept in
+/// the chunk that was told or was cleared since; so it is with what one seat's holder took of them. Does nothing.
+pub fn every_take<A: Allocator>()
+    ensures rise { (steps : List (StreamStep A)) (s : StreamState) → IsAccounted steps s → IsKept s
+        → IsStrictlyIncreasing (map (λ t. t.seq) (taken_in steps)) }
+    ensures were { (steps : List (StreamStep A)) (s : StreamState) → IsAccounted steps s → IsKept s
+        → AllByRecursion (WasTaken (history_of s.config steps)) (taken_in steps) }
+    ensures own_rise { (lines : List (Line (StreamStep A))) (s : StreamState) (who : ℕ)
+        → IsAccounted (all_done lines) s → IsKept s
+        → IsStrictlyIncreasing (map (λ t. t.seq) (taken_in (done_by who lines))) }
+    ensures own_were { (lines : List (Line (StreamStep A))) (s : StreamState) (who : ℕ)
+        → IsAccounted (all_done lines) s → IsKept s
+        → AllByRecursion (WasTaken (history_of s.config (all_done lines))) (taken_in (done_by who lines)) }
 {}

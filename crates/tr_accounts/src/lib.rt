@@ -3,7 +3,9 @@
 #![tactic(auto)]
 
 mod laws;
+mod notes;
 mod step;
 
-pub use laws::{every_call, every_log, every_seat};
+pub use laws::{every_call, every_log, every_seat, every_take};
+pub use notes::{note_clear, note_cut, note_look, note_offer, note_switch, note_take};
 pub use step::StreamStep;
