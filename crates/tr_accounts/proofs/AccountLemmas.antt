@@ -1,4 +1,5 @@
 -- Each call of a stream, noted, keeps that the stream is what its steps lead to.
+use Rattle.std.specs.Global.{Global}
 use Rattle.std.proofs.Common.{◌≡◌, ℕ, Bool, true, false, List, [], ◌∷◌, ◌++◌, max, Option, Some, None, Ok, refl, sym, ap, ◌∙◌, subst}
 use Rattle.std.proofs.lemmas.List.{map-append}
 use Rattle.tr_book.specs.Snaps.{SnapState}
@@ -75,78 +76,77 @@ config-release s k = release-config (state_release_refusal k s) s k
 
 -- ---- one call more
 
-module _ {A : Type 0} where
-  events-push : (c : StreamConfig) (es : List (StreamEvent A)) (e : StreamEvent A) (h : History)
-      → history_after_events c (es ++ e ∷ []) h ≡ history_after_event c e (history_after_events c es h)
-  events-push c [] e h = refl
-  events-push c (d ∷ ds) e h = events-push c ds e (history_after_event c d h)
+events-push : (c : StreamConfig) (es : List (StreamEvent Global)) (e : StreamEvent Global) (h : History)
+    → history_after_events c (es ++ e ∷ []) h ≡ history_after_event c e (history_after_events c es h)
+events-push c [] e h = refl
+events-push c (d ∷ ds) e h = events-push c ds e (history_after_event c d h)
 
-  answers-push : (c : StreamConfig) (es : List (StreamEvent A)) (e : StreamEvent A) (h : History)
-      → history_answers c (es ++ e ∷ []) h ≡ history_answers c es h ++ history_answer c e (history_after_events c es h) ∷ []
-  answers-push c [] e h = refl
-  answers-push c (d ∷ ds) e h = ap (λ told. history_answer c d h ∷ told) (answers-push c ds e (history_after_event c d h))
+answers-push : (c : StreamConfig) (es : List (StreamEvent Global)) (e : StreamEvent Global) (h : History)
+    → history_answers c (es ++ e ∷ []) h ≡ history_answers c es h ++ history_answer c e (history_after_events c es h) ∷ []
+answers-push c [] e h = refl
+answers-push c (d ∷ ds) e h = ap (λ told. history_answer c d h ∷ told) (answers-push c ds e (history_after_event c d h))
 
-  abbrev history_in : List (StreamStep A) → StreamState → History
-  history_in steps s = history_of s.config steps
+abbrev history_in : List StreamStep → StreamState → History
+history_in steps s = history_of s.config steps
 
-  more : (steps : List (StreamStep A)) (s t : StreamState) (step : StreamStep A) → IsAccounted steps s → t.config ≡ s.config
-      → StandsFor t (history_after_event s.config step.call (history_in steps s))
-      → step.answer ≡ history_answer s.config step.call (history_in steps s) → HoldsOffers (accepted_in (steps ++ step ∷ [])) t
-      → IsAccounted (steps ++ step ∷ []) t
-  more steps s t step was same stands told holds =
-      let calls : calls_in (steps ++ step ∷ []) ≡ calls_in steps ++ step.call ∷ [] = map-append (λ (p : StreamStep A). p.call) steps (step ∷ []) in
-      let answers : answers_in (steps ++ step ∷ []) ≡ answers_in steps ++ step.answer ∷ [] = map-append (λ (p : StreamStep A). p.answer) steps (step ∷ []) in
-      let after : history_after_events s.config (calls_in (steps ++ step ∷ [])) new_history ≡ history_after_event s.config step.call (history_in steps s) =
-      ap (λ es. history_after_events s.config es new_history) calls ∙ events-push s.config (calls_in steps) step.call new_history in
-      let all : answers_in (steps ++ step ∷ []) ≡ history_answers s.config (calls_in (steps ++ step ∷ [])) new_history =
-      answers ∙ ap (λ told. told ++ step.answer ∷ []) was.answered
-      ∙ ap (λ (a : StreamAnswer A). history_answers s.config (calls_in steps) new_history ++ a ∷ []) told
-      ∙ sym (answers-push s.config (calls_in steps) step.call new_history)
-      ∙ sym (ap (λ es. history_answers s.config es new_history) calls) in
-      record {
-        stands = subst (λ (c : StreamConfig). StandsFor t (history_after_events c (calls_in (steps ++ step ∷ [])) new_history)) (sym same)
-            (subst (StandsFor t) (sym after) stands);
-        answered = subst (λ (c : StreamConfig). answers_in (steps ++ step ∷ []) ≡ history_answers c (calls_in (steps ++ step ∷ [])) new_history) (sym same) all;
-        holds = holds;
-      }
+more : (steps : List StreamStep) (s t : StreamState) (step : StreamStep) → IsAccounted steps s → t.config ≡ s.config
+    → StandsFor t (history_after_event s.config step.call (history_in steps s))
+    → step.answer ≡ history_answer s.config step.call (history_in steps s) → HoldsOffers (accepted_in (steps ++ step ∷ [])) t
+    → IsAccounted (steps ++ step ∷ []) t
+more steps s t step was same stands told holds =
+    let calls : calls_in (steps ++ step ∷ []) ≡ calls_in steps ++ step.call ∷ [] = map-append (λ (p : StreamStep). p.call) steps (step ∷ []) in
+    let answers : answers_in (steps ++ step ∷ []) ≡ answers_in steps ++ step.answer ∷ [] = map-append (λ (p : StreamStep). p.answer) steps (step ∷ []) in
+    let after : history_after_events s.config (calls_in (steps ++ step ∷ [])) new_history ≡ history_after_event s.config step.call (history_in steps s) =
+    ap (λ es. history_after_events s.config es new_history) calls ∙ events-push s.config (calls_in steps) step.call new_history in
+    let all : answers_in (steps ++ step ∷ []) ≡ history_answers s.config (calls_in (steps ++ step ∷ [])) new_history =
+    answers ∙ ap (λ told. told ++ step.answer ∷ []) was.answered
+    ∙ ap (λ (a : StreamAnswer Global). history_answers s.config (calls_in steps) new_history ++ a ∷ []) told
+    ∙ sym (answers-push s.config (calls_in steps) step.call new_history)
+    ∙ sym (ap (λ es. history_answers s.config es new_history) calls) in
+    record {
+      stands = subst (λ (c : StreamConfig). StandsFor t (history_after_events c (calls_in (steps ++ step ∷ [])) new_history)) (sym same)
+          (subst (StandsFor t) (sym after) stands);
+      answered = subst (λ (c : StreamConfig). answers_in (steps ++ step ∷ []) ≡ history_answers c (calls_in (steps ++ step ∷ [])) new_history) (sym same) all;
+      holds = holds;
+    }
 
-  -- a new stream has no step
-  pub accounts-new : (s : StreamState) → StandsFor s new_history → IsAccounted {A = A} [] s
-  accounts-new s stands = record { stands = stands; answered = refl; holds = holds-new s stands }
+-- a new stream has no step
+pub accounts-new : (s : StreamState) → StandsFor s new_history → IsAccounted [] s
+accounts-new s stands = record { stands = stands; answered = refl; holds = holds-new s stands }
 
-  module _ (steps : List (StreamStep A)) (s : StreamState) (was : IsAccounted steps s) where
-    pub accounts-offer : (moment id : ℕ) (payload : List ℕ) → IsKept s
-        → IsAccounted (steps ++ offer_step moment id payload (state_offer_answer moment id payload s) ∷ []) (state_after_offer moment id payload s)
-    accounts-offer moment id payload kept =
-        let step = offers s (history_in steps s) moment id payload kept.sound.made was.stands in
-        more steps s _ (offer_step moment id payload (state_offer_answer moment id payload s)) was (config-offer s moment id payload) step.1 (ap answer.Offer step.0) (keeps-offer steps s was.holds moment id payload)
+module _ (steps : List StreamStep) (s : StreamState) (was : IsAccounted steps s) where
+  pub accounts-offer : (moment id : ℕ) (payload : List ℕ) → IsKept s
+      → IsAccounted (steps ++ offer_step moment id payload (state_offer_answer moment id payload s) ∷ []) (state_after_offer moment id payload s)
+  accounts-offer moment id payload kept =
+      let step = offers s (history_in steps s) moment id payload kept.sound.made was.stands in
+      more steps s _ (offer_step moment id payload (state_offer_answer moment id payload s)) was (config-offer s moment id payload) step.1 (ap answer.Offer step.0) (keeps-offer steps s was.holds moment id payload)
 
-    pub accounts-take : IsAccounted (steps ++ take_step (state_take_answer s) ∷ []) (state_after_take s)
-    accounts-take =
-        let step = takes s (history_in steps s) was.stands in
-        more steps s _ (take_step (state_take_answer s)) was (config-take s) step.1 (ap answer.Take step.0) (keeps-take steps s was.holds)
+  pub accounts-take : IsAccounted (steps ++ take_step (state_take_answer s) ∷ []) (state_after_take s)
+  accounts-take =
+      let step = takes s (history_in steps s) was.stands in
+      more steps s _ (take_step (state_take_answer s)) was (config-take s) step.1 (ap answer.Take step.0) (keeps-take steps s was.holds)
 
-    pub accounts-cut : (moment : ℕ) → IsAccounted (steps ++ cut_step moment (state_cut_answer moment s) ∷ []) (state_after_cut moment s)
-    accounts-cut moment =
-        let step = cuts s (history_in steps s) moment was.stands in
-        more steps s _ (cut_step moment (state_cut_answer moment s)) was (config-cut s moment) step.1 (ap answer.Cut step.0) (keeps-cut steps s was.holds moment)
+  pub accounts-cut : (moment : ℕ) → IsAccounted (steps ++ cut_step moment (state_cut_answer moment s) ∷ []) (state_after_cut moment s)
+  accounts-cut moment =
+      let step = cuts s (history_in steps s) moment was.stands in
+      more steps s _ (cut_step moment (state_cut_answer moment s)) was (config-cut s moment) step.1 (ap answer.Cut step.0) (keeps-cut steps s was.holds moment)
 
-    pub accounts-clear : IsAccounted (steps ++ clear_step (state_clear_answer s) ∷ []) (state_after_clear s)
-    accounts-clear =
-        let step = clears s (history_in steps s) was.stands in
-        more steps s _ (clear_step (state_clear_answer s)) was (config-clear s) step.1 (ap answer.Clear step.0) (keeps-clear steps s was.holds)
+  pub accounts-clear : IsAccounted (steps ++ clear_step (state_clear_answer s) ∷ []) (state_after_clear s)
+  accounts-clear =
+      let step = clears s (history_in steps s) was.stands in
+      more steps s _ (clear_step (state_clear_answer s)) was (config-clear s) step.1 (ap answer.Clear step.0) (keeps-clear steps s was.holds)
 
-    pub accounts-release : (k : ℕ) → IsAccounted (steps ++ release_step k (state_release_answer k s) ∷ []) (state_after_release k s)
-    accounts-release k =
-        let step = releases s (history_in steps s) k was.stands in
-        more steps s _ (release_step k (state_release_answer k s)) was (config-release s k) step.1 (ap answer.Release step.0) (keeps-release steps s was.holds k)
+  pub accounts-release : (k : ℕ) → IsAccounted (steps ++ release_step k (state_release_answer k s) ∷ []) (state_after_release k s)
+  accounts-release k =
+      let step = releases s (history_in steps s) k was.stands in
+      more steps s _ (release_step k (state_release_answer k s)) was (config-release s k) step.1 (ap answer.Release step.0) (keeps-release steps s was.holds k)
 
-    pub accounts-switch : (active : Bool) → IsAccounted (steps ++ switch_step active ∷ []) (state_after_switch active s)
-    accounts-switch true = more steps s _ (switch_step true) was refl (stands-switched s (history_in steps s) true was.stands) refl (keeps-switch steps s was.holds true)
-    accounts-switch false = more steps s _ (switch_step false) was refl (stands-switched s (history_in steps s) false was.stands) refl (keeps-switch steps s was.holds false)
+  pub accounts-switch : (active : Bool) → IsAccounted (steps ++ switch_step active ∷ []) (state_after_switch active s)
+  accounts-switch true = more steps s _ (switch_step true) was refl (stands-switched s (history_in steps s) true was.stands) refl (keeps-switch steps s was.holds true)
+  accounts-switch false = more steps s _ (switch_step false) was refl (stands-switched s (history_in steps s) false was.stands) refl (keeps-switch steps s was.holds false)
 
-    pub accounts-look : (moment : ℕ) → IsAccounted (steps ++ look_step moment (state_snap moment s) ∷ []) s
-    accounts-look moment =
-        more steps s s (look_step moment (state_snap moment s)) was refl was.stands
-        (ap (λ (snap : SnapState). answer.Peek (Ok snap)) (snaps s (history_in steps s) moment was.stands))
-        (keeps-look steps s was.holds moment (state_snap moment s))
+  pub accounts-look : (moment : ℕ) → IsAccounted (steps ++ look_step moment (state_snap moment s) ∷ []) s
+  accounts-look moment =
+      more steps s s (look_step moment (state_snap moment s)) was refl was.stands
+      (ap (λ (snap : SnapState). answer.Peek (Ok snap)) (snaps s (history_in steps s) moment was.stands))
+      (keeps-look steps s was.holds moment (state_snap moment s))

@@ -1,5 +1,5 @@
 -- The calls of a stream keep that it holds what was offered.
-use Rattle.std.proofs.Common.{◌≡◌, ℕ, zero, suc, ◌+◌, ◌≤◌, Bool, true, false, List, [], ◌∷◌, ◌++◌, length, map, max, Option, Some, None, Ok, Err, refl, sym, subst, ◌∙◌, arith, length-append, if◌then◌else◌}
+use Rattle.std.proofs.Common.{◌≡◌, ℕ, zero, suc, ◌+◌, ◌≤◌, Bool, true, false, List, [], ◌∷◌, ◌++◌, length, map, max, Option, Some, None, Ok, Err, refl, sym, ap, subst, ◌∙◌, arith, length-append, if◌then◌else◌}
 use Rattle.std.specs.Prelude.{nat_lt}
 use Rattle.std.specs.List.{AllByRecursion, flat_map}
 use Rattle.tr_book.specs.Counters.{CountersState}
@@ -15,7 +15,7 @@ use Rattle.tr_stream.specs.Chunks.{closed_if_any, packet_of, ring_buffers}
 use Rattle.tr_stream.specs.Fates.{all_parts}
 use Rattle.tr_stream.specs.StandsFor.{StandsFor}
 use Rattle.tr_stream.specs.State.{StreamState}
-use Rattle.tr_stream.specs.StateSteps.{counters_after_push, move_oldest, refusal_of, release_part_unless, state_after_release, state_release_refusal, state_after_clear, state_after_cut, state_after_offer, state_after_switch, state_after_take, state_answer_unless, state_clear_ring, state_cut_ring, state_entry, state_offer_answer, state_unless}
+use Rattle.tr_stream.specs.StateSteps.{counters_after_push, move_oldest, offered_as, refusal_of, release_part_unless, state_after_release, state_release_refusal, state_after_clear, state_after_cut, state_after_offer, state_after_switch, state_after_take, state_answer_unless, state_clear_ring, state_cut_ring, state_entry, state_offer_answer, state_unless}
 use Rattle.tr_stream.specs.declared.answers.OfferFault.{OfferFault}
 use Rattle.tr_stream.specs.declared.answers.Offered.{Offered}
 use Rattle.tr_stream.specs.declared.answers.ReleaseFault.{ReleaseFault}
@@ -25,8 +25,8 @@ use Rattle.tr_terms.specs.SessionModes.{by_session_mode}
 use Rattle.tr_terms.specs.declared.session_mode.SessionMode.{SessionMode}
 use Rattle.tr_terms.specs.declared.session_mode.SessionMode.TheVariants.{Local, Snapshot}
 use Rattle.tr_accounts.proofs.Lists.{all-back, all-both, all-flat, all-front, all-more, all-nested, all-rest, get-front, get-last}
-use Rattle.tr_accounts.specs.Holds.{HoldsOffers, IsOffered, held_records, packet_records, parts_records}
-use Rattle.tr_accounts.specs.StreamSteps.{AcceptedOffer}
+use Rattle.tr_accounts.specs.Holds.{ArePlaced, HoldsOffers, IsOffered, held_records, packet_records, parts_records}
+use Rattle.tr_accounts.specs.StreamSteps.{AcceptedOffer, serial_of}
 
 -- ---- a stream's records, by where they are
 
@@ -170,6 +170,28 @@ count-unless : (s : StreamState) (e : Entry) (refused : Option OfferFault) (answ
 count-unless s e (Some fault) answer is = absurd cc
 count-unless s e None answer is = one_more (push_answer e s.ring) e.moment s.counters
 
+serial-is : (n : ℕ) (p : Pushed) → serial_of (offered_as n p) ≡ n
+serial-is n (pushed.Stored seq) = refl
+serial-is n (pushed.StoredOver seq gone_seq gone_count) = refl
+serial-is n pushed.Refused = refl
+
+serial-unless : (s : StreamState) (e : Entry) (refused : Option OfferFault) (answer : Offered) → state_answer_unless refused e s ≡ Ok answer
+    → serial_of answer ≡ s.counters.offered
+serial-unless s e (Some fault) answer is = absurd cc
+serial-unless s e None answer is =
+    let same : offered_as s.counters.offered (push_answer e s.ring) ≡ answer = cc in
+    ap serial_of (sym same) ∙ serial-is s.counters.offered (push_answer e s.ring)
+
+-- an accepted offer has as its serial how many there were before it
+pub offer-serial : (os : List AcceptedOffer) (s : StreamState) (moment id : ℕ) (payload : List ℕ) (answer : Offered) → HoldsOffers os s
+    → state_offer_answer moment id payload s ≡ Ok answer → serial_of answer ≡ length os
+offer-serial os s moment id payload answer h is =
+    serial-unless s (state_entry moment id payload s) (refusal_of (length payload) s) answer is ∙ h.many
+
+placed-push : (n : ℕ) (os : List AcceptedOffer) (o : AcceptedOffer) → ArePlaced n os → serial_of o.answer ≡ n + length os → ArePlaced n (os ++ o ∷ [])
+placed-push n [] o h is = (is ∙ omega arith, tt)
+placed-push n (p ∷ ps) o h is = (h.0, placed-push (n + 1) ps o h.1 (is ∙ omega arith))
+
 -- an accepted offer is one more, and what is held is still what was offered
 pub holds-accepted : (os : List AcceptedOffer) (s : StreamState) (moment id : ℕ) (payload : List ℕ) (answer : Offered) → HoldsOffers os s
     → state_offer_answer moment id payload s ≡ Ok answer
@@ -183,6 +205,7 @@ holds-accepted os s moment id payload answer h is =
     let refused = refusal_of (length payload) s in
     record {
       many = count-unless s e refused answer is ∙ omega (arith, h.many, length-append os (o ∷ []));
+      placed = placed-push 0 os o h.placed (offer-serial os s moment id payload answer h is ∙ omega arith);
       held = from_places (IsOffered (os ++ o ∷ [])) (state_after_offer moment id payload s)
           (held-unless (IsOffered (os ++ o ∷ [])) s e refused new (by_place (IsOffered (os ++ o ∷ [])) s held));
     }
@@ -200,7 +223,7 @@ offer-refused s moment id payload fault is = unless-same s (state_entry moment i
 -- calls that offer nothing
 module _ (os : List AcceptedOffer) (s : StreamState) (h : HoldsOffers os s) where
   same-held : (t : StreamState) → t.counters.offered ≡ s.counters.offered → AllHeld (IsOffered os) t → HoldsOffers os t
-  same-held t count held = record { many = count ∙ h.many; held = from_places (IsOffered os) t held }
+  same-held t count held = record { many = count ∙ h.many; placed = h.placed; held = from_places (IsOffered os) t held }
 
   count-oldest : (waiting : List ClosedBuffer) → (move_oldest waiting s).counters.offered ≡ s.counters.offered
   count-oldest [] = refl
@@ -246,6 +269,7 @@ release-unless os s k None h =
     let places = by_place (IsOffered os) s h.held in
     record {
       many = h.many;
+      placed = h.placed;
       held = from_places (IsOffered os) (release_part_unless None k s)
           (record { waiting = places.waiting; current = places.current; closed = changed (IsOffered os) s.parts.closed k places.closed; part = places.part });
     }
@@ -257,6 +281,7 @@ holds-release os s k h = release-unless os s k (state_release_refusal k s) h
 pub holds-new : (s : StreamState) → StandsFor s new_history → HoldsOffers [] s
 holds-new s h = record {
   many = h.offered;
+  placed = tt;
   held = from_places (IsOffered []) s (record {
     waiting = subst (λ (bs : List ClosedBuffer). AllInBuffers (IsOffered []) bs) (sym h.waiting) tt;
     current = subst (λ (es : List Entry). AllByRecursion (IsOffered []) es) (sym h.filling) tt;

@@ -1,4 +1,5 @@
 -- How the closed blocks of a history change: none goes, none is another, and what was settled stays settled.
+use Rattle.std.specs.Global.{Global}
 use Rattle.std.proofs.Common.{◌≡◌, ◌⊎◌, inl, inr, ⊎_elim, ℕ, zero, suc, ◌≤◌, Bool, true, false, eqb, List, [], ◌∷◌, ◌++◌, length, Option, Some, None, refl, sym, ap, ◌∙◌, subst, arith, if◌then◌else◌}
 use Rattle.std.specs.Prelude.{slice_get}
 use Rattle.tr_record.specs.Records.{Entry}
@@ -123,16 +124,15 @@ later-release : (refused : Option ReleaseFault) (k : ℕ) (h : History) → Late
 later-release (Some fault) k h = later-same h.closed
 later-release None k h = later-same h.closed
 
-module _ {A : Type 0} where
-  pub later-event : (c : StreamConfig) (e : StreamEvent A) (h : History) → Later h.closed (history_after_event c e h).closed
-  later-event c (Offer moment id payload) h = later-course (course_of c h (length payload)) (history_entry h moment id payload) h
-  later-event c Take h = later-take c.session h
-  later-event c (Cut moment) h = later-cut c.session _ h
-  later-event c Clear h = later-clear c.session h
-  later-event c (Release k) h = later-release (history_release_refusal k h) k h
-  later-event c (Peek moment) h = later-same h.closed
-  later-event c Start h = later-same h.closed
-  later-event c Stop h = later-same h.closed
+pub later-event : (c : StreamConfig) (e : StreamEvent Global) (h : History) → Later h.closed (history_after_event c e h).closed
+later-event c (Offer moment id payload) h = later-course (course_of c h (length payload)) (history_entry h moment id payload) h
+later-event c Take h = later-take c.session h
+later-event c (Cut moment) h = later-cut c.session _ h
+later-event c Clear h = later-clear c.session h
+later-event c (Release k) h = later-release (history_release_refusal k h) k h
+later-event c (Peek moment) h = later-same h.closed
+later-event c Start h = later-same h.closed
+later-event c Stop h = later-same h.closed
 
 -- ---- what stays true of later blocks
 

@@ -1,5 +1,6 @@
 pub mod AccountLemmas
 pub mod HoldLemmas
+pub mod JournalLemmas
 pub mod Later
 pub mod Lists
 pub mod LogLemmas

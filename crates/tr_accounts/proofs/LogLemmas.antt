@@ -43,16 +43,15 @@ module _ {X : Type 0} (item : ℕ → ℕ → List ℕ → X) where
             (λ e is. (is.0, get-map f os e.serial is.0 is.1, is.2)) (held_records s) h.held,
       )
 
-  module _ {A : Type 0} where
-    -- an item is logged if its offer is accepted
-    pub logs-offer : (steps : List (StreamStep A)) (log : List X) (moment id : ℕ) (payload : List ℕ) (told : Result Offered OfferFault)
-        → log ≡ items_of item (accepted_in steps)
-        → (if is_ok told then log ++ item moment id payload ∷ [] else log)
-        ≡ items_of item (accepted_in (steps ++ offer_step moment id payload told ∷ []))
-    logs-offer steps log moment id payload (Ok offered) was =
-        let f : AcceptedOffer → X = λ o. item o.moment o.id o.payload in
-        ap (λ xs. xs ++ item moment id payload ∷ []) was
-        ∙ sym (map-append f (accepted_in steps) (record { moment = moment; id = id; payload = payload; answer = offered } ∷ []))
-        ∙ sym (ap (items_of item) (accepted-push steps (offer_step moment id payload (Ok offered))))
-    logs-offer steps log moment id payload (Err fault) was =
-        was ∙ sym (ap (items_of item) (accepted-same steps (offer_step moment id payload (Err fault)) refl))
+  -- an item is logged if its offer is accepted
+  pub logs-offer : (steps : List StreamStep) (log : List X) (moment id : ℕ) (payload : List ℕ) (told : Result Offered OfferFault)
+      → log ≡ items_of item (accepted_in steps)
+      → (if is_ok told then log ++ item moment id payload ∷ [] else log)
+      ≡ items_of item (accepted_in (steps ++ offer_step moment id payload told ∷ []))
+  logs-offer steps log moment id payload (Ok offered) was =
+      let f : AcceptedOffer → X = λ o. item o.moment o.id o.payload in
+      ap (λ xs. xs ++ item moment id payload ∷ []) was
+      ∙ sym (map-append f (accepted_in steps) (record { moment = moment; id = id; payload = payload; answer = offered } ∷ []))
+      ∙ sym (ap (items_of item) (accepted-push steps (offer_step moment id payload (Ok offered))))
+  logs-offer steps log moment id payload (Err fault) was =
+      was ∙ sym (ap (items_of item) (accepted-same steps (offer_step moment id payload (Err fault)) refl))

@@ -1,4 +1,5 @@
 -- What the seats of a stream's journal have, if each noted its own calls.
+use Rattle.std.specs.Global.{Global}
 use Rattle.std.proofs.Common.{◌≡◌, ◌≢◌, ℕ, Bool, true, false, eqb, List, [], ◌∷◌, ◌++◌, Option, None, ⊎_elim, refl, sym, ap, arith, eq-eqb, ne_eqb}
 use Rattle.std.proofs.lemmas.Bool.Decides.{eqb_tells}
 use Rattle.tr_journal.proofs.Wholes.{alone}
@@ -27,44 +28,43 @@ operations_are Offers who is = sym (ne_eqb who 1 (λ e. omega (arith, is, e)))
 operations_are Takes who is = sym (ne_eqb who 1 (λ e. omega (arith, is, e)))
 operations_are Operates who is = sym (eq-eqb who 1 is)
 
-module _ {A : Type 0} where
-  -- the steps of that role are what the seat noted
-  theirs : (wanted : Role → Bool) (seat : ℕ) → IsOf wanted seat → (lines : List (Line (StreamStep A))) → AreTheirs lines
-      → steps_of wanted (all_done lines) ≡ done_by seat lines
-  theirs wanted seat is [] h = refl
-  theirs wanted seat is (l ∷ ls) h =
-      let same = is (role_of l.done.call) l.who h.0 in
-      let rest = theirs wanted seat is ls h.1 in
-      ⊎_elim
-      (λ (t : (eqb l.who seat ≡ true) × (l.who ≡ seat)). rw (same, t.0) (ap (λ ss. l.done ∷ ss) rest))
-      (λ (t : (eqb l.who seat ≡ false) × (l.who ≢ seat)). rw (same, t.0) rest)
-      (eqb_tells l.who seat)
+-- the steps of that role are what the seat noted
+theirs : (wanted : Role → Bool) (seat : ℕ) → IsOf wanted seat → (lines : List (Line StreamStep)) → AreTheirs lines
+    → steps_of wanted (all_done lines) ≡ done_by seat lines
+theirs wanted seat is [] h = refl
+theirs wanted seat is (l ∷ ls) h =
+    let same = is (role_of l.done.call) l.who h.0 in
+    let rest = theirs wanted seat is ls h.1 in
+    ⊎_elim
+    (λ (t : (eqb l.who seat ≡ true) × (l.who ≡ seat)). rw (same, t.0) (ap (λ ss. l.done ∷ ss) rest))
+    (λ (t : (eqb l.who seat ≡ false) × (l.who ≢ seat)). rw (same, t.0) rest)
+    (eqb_tells l.who seat)
 
-  pub offers-theirs : (lines : List (Line (StreamStep A))) → AreTheirs lines → steps_of is_offer (all_done lines) ≡ done_by producer_seat lines
-  offers-theirs lines h = theirs is_offer producer_seat offers_are lines h
+pub offers-theirs : (lines : List (Line StreamStep)) → AreTheirs lines → steps_of is_offer (all_done lines) ≡ done_by producer_seat lines
+offers-theirs lines h = theirs is_offer producer_seat offers_are lines h
 
-  pub operations-theirs : (lines : List (Line (StreamStep A))) → AreTheirs lines → steps_of is_operation (all_done lines) ≡ done_by desk_seat lines
-  operations-theirs lines h = theirs is_operation desk_seat operations_are lines h
+pub operations-theirs : (lines : List (Line StreamStep)) → AreTheirs lines → steps_of is_operation (all_done lines) ≡ done_by desk_seat lines
+operations-theirs lines h = theirs is_operation desk_seat operations_are lines h
 
-  -- only an offer is an accepted offer
-  not_accepted : (call : StreamEvent A) (told : StreamAnswer A) (who : ℕ) → HasRole (role_of call) who → who ≢ producer_seat → accepted_of call told ≡ None
-  not_accepted (Offer moment id payload) told who is apart = absurd (apart is)
-  not_accepted Take told who is apart = refl
-  not_accepted (Cut moment) told who is apart = refl
-  not_accepted Clear told who is apart = refl
-  not_accepted (Release k) told who is apart = refl
-  not_accepted (Peek moment) told who is apart = refl
-  not_accepted Start told who is apart = refl
-  not_accepted Stop told who is apart = refl
+-- only an offer is an accepted offer
+not_accepted : (call : StreamEvent Global) (told : StreamAnswer Global) (who : ℕ) → HasRole (role_of call) who → who ≢ producer_seat → accepted_of call told ≡ None
+not_accepted (Offer moment id payload) told who is apart = absurd (apart is)
+not_accepted Take told who is apart = refl
+not_accepted (Cut moment) told who is apart = refl
+not_accepted Clear told who is apart = refl
+not_accepted (Release k) told who is apart = refl
+not_accepted (Peek moment) told who is apart = refl
+not_accepted Start told who is apart = refl
+not_accepted Stop told who is apart = refl
 
-  pub accepted-theirs : (lines : List (Line (StreamStep A))) → AreTheirs lines → accepted_in (all_done lines) ≡ accepted_in (done_by producer_seat lines)
-  accepted-theirs lines h =
-      let kind : StreamStep A → Option AcceptedOffer = λ step. accepted_of step.call step.answer in
-      let only : IsOnlyBy producer_seat kind lines =
-      all-more (λ (l : Line (StreamStep A)). HasRole (role_of l.done.call) l.who) (λ (l : Line (StreamStep A)). l.who ≢ producer_seat → kind l.done ≡ None)
-      (λ l is apart. not_accepted l.done.call l.done.answer l.who is apart) lines h in
-      alone kind producer_seat lines only
+pub accepted-theirs : (lines : List (Line StreamStep)) → AreTheirs lines → accepted_in (all_done lines) ≡ accepted_in (done_by producer_seat lines)
+accepted-theirs lines h =
+    let kind : StreamStep → Option AcceptedOffer = λ step. accepted_of step.call step.answer in
+    let only : IsOnlyBy producer_seat kind lines =
+    all-more (λ (l : Line StreamStep). HasRole (role_of l.done.call) l.who) (λ (l : Line StreamStep). l.who ≢ producer_seat → kind l.done ≡ None)
+    (λ l is apart. not_accepted l.done.call l.done.answer l.who is apart) lines h in
+    alone kind producer_seat lines only
 
-  pub theirs-push : (lines : List (Line (StreamStep A))) (who : ℕ) (step : StreamStep A) → AreTheirs lines → HasRole (role_of step.call) who
-      → AreTheirs (lines ++ line who step ∷ [])
-  theirs-push lines who step h is = all-both (λ (l : Line (StreamStep A)). HasRole (role_of l.done.call) l.who) lines (line who step ∷ []) h (is, tt)
+pub theirs-push : (lines : List (Line StreamStep)) (who : ℕ) (step : StreamStep) → AreTheirs lines → HasRole (role_of step.call) who
+    → AreTheirs (lines ++ line who step ∷ [])
+theirs-push lines who step h is = all-both (λ (l : Line StreamStep). HasRole (role_of l.done.call) l.who) lines (line who step ∷ []) h (is, tt)

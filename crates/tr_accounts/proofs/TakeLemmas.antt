@@ -1,4 +1,5 @@
 -- What a stream's takes gave: packets whose numbers rise, each of which is kept in its chunk or was cleared.
+use Rattle.std.specs.Global.{Global}
 use Rattle.std.proofs.Common.{◌≡◌, ◌≢◌, ℕ, zero, suc, ◌+◌, ◌<◌, ◌≤◌, Bool, true, false, eqb, List, [], ◌∷◌, length, map, Option, Some, None, Result, Ok, Err, ⊎_elim, refl, sym, ap, ◌∙◌, subst, arith}
 use Rattle.std.proofs.lemmas.Bool.Decides.{eqb_tells}
 use Rattle.std.specs.Prelude.{filter_map, slice_get, slice_index}
@@ -123,103 +124,102 @@ take_in Local h t well is =
     }
 take_in Snapshot h t well is = absurd cc
 
-module _ {A : Type 0} where
-  abbrev given : List (StreamAnswer A) → List Taken
-  given told = filter_map taken_of told
+abbrev given : List (StreamAnswer Global) → List Taken
+given told = filter_map taken_of told
 
-  -- a taken packet stays taken
-  still : (c : StreamConfig) (es : List (StreamEvent A)) (h : History) (t : Taken) → WasTaken h t → WasTaken (history_after_events c es h) t
-  still c [] h t was = was
-  still c (e ∷ es) h t was =
-      still c es (history_after_event c e h) t (still-taken h.closed (history_after_event c e h).closed t (later-event c e h) was)
+-- a taken packet stays taken
+still : (c : StreamConfig) (es : List (StreamEvent Global)) (h : History) (t : Taken) → WasTaken h t → WasTaken (history_after_events c es h) t
+still c [] h t was = was
+still c (e ∷ es) h t was =
+    still c es (history_after_event c e h) t (still-taken h.closed (history_after_event c e h).closed t (later-event c e h) was)
 
-  record AreTaken (c : StreamConfig) (es : List (StreamEvent A)) (h : History) : Type 0 where
-    pub rise : RisesFrom (settled h.closed) (seqs (given (history_answers c es h)))
-    pub were : AllByRecursion (WasTaken (history_after_events c es h)) (given (history_answers c es h))
+record AreTaken (c : StreamConfig) (es : List (StreamEvent Global)) (h : History) : Type 0 where
+  pub rise : RisesFrom (settled h.closed) (seqs (given (history_answers c es h)))
+  pub were : AllByRecursion (WasTaken (history_after_events c es h)) (given (history_answers c es h))
 
-  -- a call that takes nothing
-  skips : (c : StreamConfig) (e : StreamEvent A) (es : List (StreamEvent A)) (h : History) → taken_of (history_answer c e h) ≡ None
-      → AreTaken c es (history_after_event c e h) → AreTaken c (e ∷ es) h
-  skips c e es h none rest =
-      let up = settled-later h.closed (history_after_event c e h).closed (later-event c e h) in
-      record { rise = rw none (rises-lower _ _ _ up rest.rise); were = rw none rest.were }
+-- a call that takes nothing
+skips : (c : StreamConfig) (e : StreamEvent Global) (es : List (StreamEvent Global)) (h : History) → taken_of (history_answer c e h) ≡ None
+    → AreTaken c es (history_after_event c e h) → AreTaken c (e ∷ es) h
+skips c e es h none rest =
+    let up = settled-later h.closed (history_after_event c e h).closed (later-event c e h) in
+    record { rise = rw none (rises-lower _ _ _ up rest.rise); were = rw none rest.were }
 
-  takes-one : (c : StreamConfig) (es : List (StreamEvent A)) (h : History) (told : Result Taken TakeFault) → history_take_answer c h ≡ told
-      → IsWellFormed h → AreTaken c es (history_after_take c h) → AreTaken c (Take ∷ es) h
-  takes-one c es h (Err fault) is well rest = skips c Take es h (ap (λ r. taken_of {A = A} (answer.Take r)) is) rest
-  takes-one c es h (Ok t) is well rest =
-      let one = take_in c.session h t well is in
-      let told : taken_of {A = A} (answer.Take (history_take_answer c h)) ≡ Some t = ap (λ r. taken_of {A = A} (answer.Take r)) is in
-      record {
-        rise = rw told (omega (arith, one.seq), rises-lower _ _ _ (omega (arith, one.seq, one.more)) rest.rise);
-        were = rw told (still c es (history_after_take c h) t one.was, rest.were);
-      }
+takes-one : (c : StreamConfig) (es : List (StreamEvent Global)) (h : History) (told : Result Taken TakeFault) → history_take_answer c h ≡ told
+    → IsWellFormed h → AreTaken c es (history_after_take c h) → AreTaken c (Take ∷ es) h
+takes-one c es h (Err fault) is well rest = skips c Take es h (ap (λ r. taken_of (answer.Take r)) is) rest
+takes-one c es h (Ok t) is well rest =
+    let one = take_in c.session h t well is in
+    let told : taken_of (answer.Take (history_take_answer c h)) ≡ Some t = ap (λ r. taken_of (answer.Take r)) is in
+    record {
+      rise = rw told (omega (arith, one.seq), rises-lower _ _ _ (omega (arith, one.seq, one.more)) rest.rise);
+      were = rw told (still c es (history_after_take c h) t one.was, rest.were);
+    }
 
-  all_taken : (c : StreamConfig) (es : List (StreamEvent A)) (h : History) → IsUsable c → IsWellFormed h → AreTaken c es h
-  all_taken c [] h usable well = record { rise = tt; were = tt }
-  all_taken c (e ∷ es) h usable well = by_call e (all_taken c es (history_after_event c e h) usable (well_event c e h usable well))
-    where
-      by_call : (d : StreamEvent A) → AreTaken c es (history_after_event c d h) → AreTaken c (d ∷ es) h
-      by_call (Offer moment id payload) rest = skips c (Offer moment id payload) es h refl rest
-      by_call Take rest = takes-one c es h (history_take_answer c h) refl well rest
-      by_call (Cut moment) rest = skips c (Cut moment) es h refl rest
-      by_call Clear rest = skips c Clear es h refl rest
-      by_call (Release k) rest = skips c (Release k) es h refl rest
-      by_call (Peek moment) rest = skips c (Peek moment) es h refl rest
-      by_call Start rest = skips c Start es h refl rest
-      by_call Stop rest = skips c Stop es h refl rest
+all_taken : (c : StreamConfig) (es : List (StreamEvent Global)) (h : History) → IsUsable c → IsWellFormed h → AreTaken c es h
+all_taken c [] h usable well = record { rise = tt; were = tt }
+all_taken c (e ∷ es) h usable well = by_call e (all_taken c es (history_after_event c e h) usable (well_event c e h usable well))
+  where
+    by_call : (d : StreamEvent Global) → AreTaken c es (history_after_event c d h) → AreTaken c (d ∷ es) h
+    by_call (Offer moment id payload) rest = skips c (Offer moment id payload) es h refl rest
+    by_call Take rest = takes-one c es h (history_take_answer c h) refl well rest
+    by_call (Cut moment) rest = skips c (Cut moment) es h refl rest
+    by_call Clear rest = skips c Clear es h refl rest
+    by_call (Release k) rest = skips c (Release k) es h refl rest
+    by_call (Peek moment) rest = skips c (Peek moment) es h refl rest
+    by_call Start rest = skips c Start es h refl rest
+    by_call Stop rest = skips c Stop es h refl rest
 
-  given-steps : (steps : List (StreamStep A)) → given (answers_in steps) ≡ taken_in steps
-  given-steps [] = refl
-  given-steps (p ∷ ps) = ap (cons_option (taken_of p.answer)) (given-steps ps)
+given-steps : (steps : List StreamStep) → given (answers_in steps) ≡ taken_in steps
+given-steps [] = refl
+given-steps (p ∷ ps) = ap (cons_option (taken_of p.answer)) (given-steps ps)
 
-  pub rises-all : (steps : List (StreamStep A)) (s : StreamState) → IsAccounted steps s → IsUsable s.config → RisesFrom 0 (seqs (taken_in steps))
-  rises-all steps s is usable =
-      let all = all_taken s.config (calls_in steps) new_history usable (starts s.config).model in
-      subst (λ ts. RisesFrom 0 (seqs ts)) (sym (ap given is.answered) ∙ given-steps steps) all.rise
+pub rises-all : (steps : List StreamStep) (s : StreamState) → IsAccounted steps s → IsUsable s.config → RisesFrom 0 (seqs (taken_in steps))
+rises-all steps s is usable =
+    let all = all_taken s.config (calls_in steps) new_history usable (starts s.config).model in
+    subst (λ ts. RisesFrom 0 (seqs ts)) (sym (ap given is.answered) ∙ given-steps steps) all.rise
 
-  pub were-all : (steps : List (StreamStep A)) (s : StreamState) → IsAccounted steps s → IsUsable s.config
-      → AllByRecursion (WasTaken (history_of s.config steps)) (taken_in steps)
-  were-all steps s is usable =
-      let all = all_taken s.config (calls_in steps) new_history usable (starts s.config).model in
-      subst (AllByRecursion (WasTaken (history_of s.config steps))) (sym (ap given is.answered) ∙ given-steps steps) all.were
+pub were-all : (steps : List StreamStep) (s : StreamState) → IsAccounted steps s → IsUsable s.config
+    → AllByRecursion (WasTaken (history_of s.config steps)) (taken_in steps)
+were-all steps s is usable =
+    let all = all_taken s.config (calls_in steps) new_history usable (starts s.config).model in
+    subst (AllByRecursion (WasTaken (history_of s.config steps))) (sym (ap given is.answered) ∙ given-steps steps) all.were
 
-  -- what one seat's holder took of it
-  rises-own : (who low : ℕ) (ls : List (Line (StreamStep A))) → RisesFrom low (seqs (taken_in (all_done ls))) → RisesFrom low (seqs (taken_in (done_by who ls)))
-  rises-own who low [] h = tt
-  rises-own who low (l ∷ ls) h = by_take (λ m k. rises-own who m ls k) (taken_of l.done.answer) refl
-    where
-      by_take : ((m : ℕ) → RisesFrom m (seqs (taken_in (all_done ls))) → RisesFrom m (seqs (taken_in (done_by who ls))))
-          → (o : Option Taken) → taken_of l.done.answer ≡ o → RisesFrom low (seqs (taken_in (done_by who (l ∷ ls))))
-      by_take rest None e =
-          ⊎_elim
-          (λ (t : (eqb l.who who ≡ true) × (l.who ≡ who)). rw t.0 (rw e (rest low (rw e at h))))
-          (λ (t : (eqb l.who who ≡ false) × (l.who ≢ who)). rw t.0 (rest low (rw e at h)))
-          (eqb_tells l.who who)
-      by_take rest (Some taken) e =
-          let k : RisesFrom low (taken.seq ∷ seqs (taken_in (all_done ls))) = rw e at h in
-          ⊎_elim
-          (λ (t : (eqb l.who who ≡ true) × (l.who ≡ who)). rw t.0 (rw e (k.0, rest (taken.seq + 1) k.1)))
-          (λ (t : (eqb l.who who ≡ false) × (l.who ≢ who)). rw t.0 (rest low (rises-lower low (taken.seq + 1) _ (omega (arith, k.0)) k.1)))
-          (eqb_tells l.who who)
+-- what one seat's holder took of it
+rises-own : (who low : ℕ) (ls : List (Line StreamStep)) → RisesFrom low (seqs (taken_in (all_done ls))) → RisesFrom low (seqs (taken_in (done_by who ls)))
+rises-own who low [] h = tt
+rises-own who low (l ∷ ls) h = by_take (λ m k. rises-own who m ls k) (taken_of l.done.answer) refl
+  where
+    by_take : ((m : ℕ) → RisesFrom m (seqs (taken_in (all_done ls))) → RisesFrom m (seqs (taken_in (done_by who ls))))
+        → (o : Option Taken) → taken_of l.done.answer ≡ o → RisesFrom low (seqs (taken_in (done_by who (l ∷ ls))))
+    by_take rest None e =
+        ⊎_elim
+        (λ (t : (eqb l.who who ≡ true) × (l.who ≡ who)). rw t.0 (rw e (rest low (rw e at h))))
+        (λ (t : (eqb l.who who ≡ false) × (l.who ≢ who)). rw t.0 (rest low (rw e at h)))
+        (eqb_tells l.who who)
+    by_take rest (Some taken) e =
+        let k : RisesFrom low (taken.seq ∷ seqs (taken_in (all_done ls))) = rw e at h in
+        ⊎_elim
+        (λ (t : (eqb l.who who ≡ true) × (l.who ≡ who)). rw t.0 (rw e (k.0, rest (taken.seq + 1) k.1)))
+        (λ (t : (eqb l.who who ≡ false) × (l.who ≢ who)). rw t.0 (rest low (rises-lower low (taken.seq + 1) _ (omega (arith, k.0)) k.1)))
+        (eqb_tells l.who who)
 
-  were-own : (P : Taken → Type 0) (who : ℕ) (ls : List (Line (StreamStep A))) → AllByRecursion P (taken_in (all_done ls)) → AllByRecursion P (taken_in (done_by who ls))
-  were-own P who [] h = tt
-  were-own P who (l ∷ ls) h = by_take (λ k. were-own P who ls k) (taken_of l.done.answer) refl
-    where
-      by_take : (AllByRecursion P (taken_in (all_done ls)) → AllByRecursion P (taken_in (done_by who ls)))
-          → (o : Option Taken) → taken_of l.done.answer ≡ o → AllByRecursion P (taken_in (done_by who (l ∷ ls)))
-      by_take rest None e =
-          ⊎_elim
-          (λ (t : (eqb l.who who ≡ true) × (l.who ≡ who)). rw t.0 (rw e (rest (rw e at h))))
-          (λ (t : (eqb l.who who ≡ false) × (l.who ≢ who)). rw t.0 (rest (rw e at h)))
-          (eqb_tells l.who who)
-      by_take rest (Some taken) e =
-          let k : AllByRecursion P (taken ∷ taken_in (all_done ls)) = rw e at h in
-          ⊎_elim
-          (λ (t : (eqb l.who who ≡ true) × (l.who ≡ who)). rw t.0 (rw e (k.0, rest k.1)))
-          (λ (t : (eqb l.who who ≡ false) × (l.who ≢ who)). rw t.0 (rest k.1))
-          (eqb_tells l.who who)
+were-own : (P : Taken → Type 0) (who : ℕ) (ls : List (Line StreamStep)) → AllByRecursion P (taken_in (all_done ls)) → AllByRecursion P (taken_in (done_by who ls))
+were-own P who [] h = tt
+were-own P who (l ∷ ls) h = by_take (λ k. were-own P who ls k) (taken_of l.done.answer) refl
+  where
+    by_take : (AllByRecursion P (taken_in (all_done ls)) → AllByRecursion P (taken_in (done_by who ls)))
+        → (o : Option Taken) → taken_of l.done.answer ≡ o → AllByRecursion P (taken_in (done_by who (l ∷ ls)))
+    by_take rest None e =
+        ⊎_elim
+        (λ (t : (eqb l.who who ≡ true) × (l.who ≡ who)). rw t.0 (rw e (rest (rw e at h))))
+        (λ (t : (eqb l.who who ≡ false) × (l.who ≢ who)). rw t.0 (rest (rw e at h)))
+        (eqb_tells l.who who)
+    by_take rest (Some taken) e =
+        let k : AllByRecursion P (taken ∷ taken_in (all_done ls)) = rw e at h in
+        ⊎_elim
+        (λ (t : (eqb l.who who ≡ true) × (l.who ≡ who)). rw t.0 (rw e (k.0, rest k.1)))
+        (λ (t : (eqb l.who who ≡ false) × (l.who ≢ who)). rw t.0 (rest k.1))
+        (eqb_tells l.who who)
 
 rise-at : (low : ℕ) (ns : List ℕ) (k : ℕ) → RisesFrom low ns → suc k < length ns → slice_index ns k < slice_index ns (suc k)
 rise-at low [] k h lt = absurd (omega arith)
@@ -233,20 +233,19 @@ increasing low ns h k lt = let e : k + 1 ≡ suc k = omega arith in rw e (rise-a
 usable : (s : StreamState) → IsKept s → IsUsable s.config
 usable s kept = record { size = kept.sound.made.size_low; count = kept.sound.made.count_low }
 
-module _ {A : Type 0} where
-  pub all-rise : (steps : List (StreamStep A)) (s : StreamState) → IsAccounted steps s → IsKept s → IsStrictlyIncreasing (seqs (taken_in steps))
-  all-rise steps s is kept = increasing 0 (seqs (taken_in steps)) (rises-all steps s is (usable s kept))
+pub all-rise : (steps : List StreamStep) (s : StreamState) → IsAccounted steps s → IsKept s → IsStrictlyIncreasing (seqs (taken_in steps))
+all-rise steps s is kept = increasing 0 (seqs (taken_in steps)) (rises-all steps s is (usable s kept))
 
-  pub all-were : (steps : List (StreamStep A)) (s : StreamState) → IsAccounted steps s → IsKept s
-      → AllByRecursion (WasTaken (history_of s.config steps)) (taken_in steps)
-  all-were steps s is kept = were-all steps s is (usable s kept)
+pub all-were : (steps : List StreamStep) (s : StreamState) → IsAccounted steps s → IsKept s
+    → AllByRecursion (WasTaken (history_of s.config steps)) (taken_in steps)
+all-were steps s is kept = were-all steps s is (usable s kept)
 
-  pub own-rise : (lines : List (Line (StreamStep A))) (s : StreamState) (who : ℕ) → IsAccounted (all_done lines) s → IsKept s
-      → IsStrictlyIncreasing (seqs (taken_in (done_by who lines)))
-  own-rise lines s who is kept =
-      increasing 0 (seqs (taken_in (done_by who lines))) (rises-own who 0 lines (rises-all (all_done lines) s is (usable s kept)))
+pub own-rise : (lines : List (Line StreamStep)) (s : StreamState) (who : ℕ) → IsAccounted (all_done lines) s → IsKept s
+    → IsStrictlyIncreasing (seqs (taken_in (done_by who lines)))
+own-rise lines s who is kept =
+    increasing 0 (seqs (taken_in (done_by who lines))) (rises-own who 0 lines (rises-all (all_done lines) s is (usable s kept)))
 
-  pub own-were : (lines : List (Line (StreamStep A))) (s : StreamState) (who : ℕ) → IsAccounted (all_done lines) s → IsKept s
-      → AllByRecursion (WasTaken (history_of s.config (all_done lines))) (taken_in (done_by who lines))
-  own-were lines s who is kept =
-      were-own (WasTaken (history_of s.config (all_done lines))) who lines (were-all (all_done lines) s is (usable s kept))
+pub own-were : (lines : List (Line StreamStep)) (s : StreamState) (who : ℕ) → IsAccounted (all_done lines) s → IsKept s
+    → AllByRecursion (WasTaken (history_of s.config (all_done lines))) (taken_in (done_by who lines))
+own-were lines s who is kept =
+    were-own (WasTaken (history_of s.config (all_done lines))) who lines (were-all (all_done lines) s is (usable s kept))

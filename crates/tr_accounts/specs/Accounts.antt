@@ -11,12 +11,12 @@ use Rattle.tr_accounts.specs.StreamSteps.{accepted_in, answers_in, calls_in}
 use Rattle.tr_accounts.specs.declared.step.StreamStep.{StreamStep}
 
 -- the history that steps' calls lead to
-abbrev pub history_of : {A : Type 0} → StreamConfig → List (StreamStep A) → History
+abbrev pub history_of : StreamConfig → List StreamStep → History
 history_of c steps = history_after_events c (calls_in steps) new_history
 
 -- a stream stands for the history of just these steps' calls, each answered as it does in that history, and the stream holds
 -- what was offered and nothing else
-pub record IsAccounted {A : Type 0} (steps : List (StreamStep A)) (s : StreamState) : Type 0 where
+pub record IsAccounted (steps : List StreamStep) (s : StreamState) : Type 0 where
   pub stands : StandsFor s (history_of s.config steps)
   pub answered : answers_in steps ≡ history_answers s.config (calls_in steps) new_history
   pub holds : HoldsOffers (accepted_in steps) s

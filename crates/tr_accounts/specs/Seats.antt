@@ -1,9 +1,13 @@
 -- The seats of a stream's journal: which of them notes which calls.
+use Rattle.std.specs.Global.{Global}
 use Rattle.std.specs.Prelude.{◌≡◌, ◌<◌, ℕ, Bool, true, false, List, filter}
 use Rattle.std.specs.List.{AllByRecursion}
+use Rattle.tr_journal.specs.Views.{all_done}
 use Rattle.tr_journal.specs.declared.rule.Line.{Line}
+use Rattle.tr_stream.specs.State.{StreamState}
 use Rattle.tr_stream.specs.declared.events.StreamEvent.{StreamEvent}
 use Rattle.tr_stream.specs.declared.events.StreamEvent.TheVariants.{Offer, Take}
+use Rattle.tr_accounts.specs.Accounts.{IsAccounted}
 use Rattle.tr_accounts.specs.declared.step.StreamStep.{StreamStep}
 
 -- the first seat is the producer's, the next one the desk's, and all later ones are drainers'
@@ -19,7 +23,7 @@ pub data Role : Type 0 where
   Takes : Role
   Operates : Role
 
-abbrev pub role_of : {A : Type 0} → StreamEvent A → Role
+abbrev pub role_of : StreamEvent Global → Role
 role_of (Offer moment id payload) = Offers
 role_of Take = Takes
 role_of call = Operates
@@ -30,7 +34,7 @@ HasRole Takes who = desk_seat < who
 HasRole Operates who = who ≡ desk_seat
 
 -- each step is noted by a seat whose call it is
-abbrev pub AreTheirs : {A : Type 0} → List (Line (StreamStep A)) → Type 0
+abbrev pub AreTheirs : List (Line StreamStep) → Type 0
 AreTheirs lines = AllByRecursion (λ l. HasRole (role_of l.done.call) l.who) lines
 
 -- the steps of one role, in order
@@ -46,5 +50,10 @@ abbrev pub is_operation : Role → Bool
 is_operation Operates = true
 is_operation role = false
 
-abbrev pub steps_of : {A : Type 0} → (Role → Bool) → List (StreamStep A) → List (StreamStep A)
+abbrev pub steps_of : (Role → Bool) → List StreamStep → List StreamStep
 steps_of wanted steps = filter (λ step. wanted (role_of step.call)) steps
+
+-- a stream's journal: the stream is what its steps lead to, and each was noted by a seat whose call it is
+pub record IsJournalOf (lines : List (Line StreamStep)) (s : StreamState) : Type 0 where
+  pub accounted : IsAccounted (all_done lines) s
+  pub theirs : AreTheirs lines

@@ -1,10 +1,9 @@
 //! What a stream's journal has.
 
-use std::alloc::{Allocator, Global};
 use tr_stream::{StreamAnswer, StreamEvent};
 
 /// A call of a stream, and what it answered. No value of it is ever made.
-pub struct StreamStep<A: Allocator = Global> {
-    pub call: StreamEvent<A>,
-    pub answer: StreamAnswer<A>,
+pub struct StreamStep {
+    pub call: StreamEvent,
+    pub answer: StreamAnswer,
 }

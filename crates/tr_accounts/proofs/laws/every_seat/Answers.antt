@@ -1,14 +1,12 @@
-use Rattle.tr_accounts.proofs.SeatLemmas.{accepted-theirs, offers-theirs, operations-theirs, theirs-push}
+use Rattle.tr_accounts.proofs.JournalLemmas.{journal-holds}
+use Rattle.tr_accounts.proofs.SeatLemmas.{offers-theirs, operations-theirs}
 use Rattle.tr_accounts.proofs.laws.every_seat.Goals as goal
 
 pub returns-clause-offers : goal.returns-clause-offers
-returns-clause-offers g c = offers-theirs
+returns-clause-offers c lines s was = offers-theirs lines was.theirs
 
-pub returns-clause-accepted : goal.returns-clause-accepted
-returns-clause-accepted g c = accepted-theirs
+pub returns-clause-holds : goal.returns-clause-holds
+returns-clause-holds c = journal-holds
 
 pub returns-clause-operations : goal.returns-clause-operations
-returns-clause-operations g c = operations-theirs
-
-pub returns-clause-more : goal.returns-clause-more
-returns-clause-more g c = theirs-push
+returns-clause-operations c lines s was = operations-theirs lines was.theirs
