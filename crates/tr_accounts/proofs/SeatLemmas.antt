@@ -1,16 +1,17 @@
 -- What the seats of a stream's journal have, if each noted its own calls.
 use Rattle.std.specs.Global.{Global}
-use Rattle.std.proofs.Common.{◌≡◌, ◌≢◌, ℕ, Bool, true, false, eqb, List, [], ◌∷◌, ◌++◌, Option, None, ⊎_elim, refl, sym, ap, arith, eq-eqb, ne_eqb}
-use Rattle.std.proofs.lemmas.Bool.Decides.{eqb_tells}
-use Rattle.tr_journal.proofs.Wholes.{alone}
-use Rattle.tr_journal.specs.Views.{all_done, done_by, line}
-use Rattle.tr_journal.specs.Whole.{IsOnlyBy}
+use Rattle.std.proofs.Common.{◌≡◌, ◌≢◌, ℕ, Bool, true, false, eqb, List, [], ◌∷◌, ◌++◌, Option, None, ⊎_elim, refl, sym, ap, arith, eq-eqb, ne_eqb, length, subst, cond, filter, nat_lt, ◌∙◌}
+use Rattle.std.proofs.lemmas.Bool.Decides.{eqb_tells, nat_tests}
+use Rattle.tr_journal.proofs.Wholes.{all-of-among, alone}
+use Rattle.tr_journal.specs.Views.{ArePartsOf, all_done, done_by, line}
+use Rattle.tr_journal.specs.Whole.{AreAllOf, IsOnlyBy}
 use Rattle.tr_journal.specs.declared.rule.Line.{Line}
+use Rattle.tr_journal.specs.declared.rule.Part.{Part}
 use Rattle.tr_stream.specs.declared.events.StreamAnswer.{StreamAnswer}
 use Rattle.tr_stream.specs.declared.events.StreamEvent.{StreamEvent}
 use Rattle.tr_stream.specs.declared.events.StreamEvent.TheVariants.{Offer, Take, Cut, Clear, Release, Peek, Start, Stop}
 use Rattle.tr_accounts.proofs.Lists.{all-both, all-more}
-use Rattle.tr_accounts.specs.Seats.{AreTheirs, HasRole, Offers, Operates, Role, Takes, desk_seat, is_offer, is_operation, producer_seat, role_of, steps_of}
+use Rattle.tr_accounts.specs.Seats.{AreTheirs, HasRole, Offers, Operates, Role, Takes, desk_seat, drainer_parts, is_offer, is_operation, is_take, producer_seat, role_of, steps_of, take_lines}
 use Rattle.tr_accounts.specs.StreamSteps.{AcceptedOffer, accepted_in, accepted_of}
 use Rattle.tr_accounts.specs.declared.step.StreamStep.{StreamStep}
 
@@ -68,3 +69,24 @@ accepted-theirs lines h =
 pub theirs-push : (lines : List (Line StreamStep)) (who : ℕ) (step : StreamStep) → AreTheirs lines → HasRole (role_of step.call) who
     → AreTheirs (lines ++ line who step ∷ [])
 theirs-push lines who step h is = all-both (λ (l : Line StreamStep). HasRole (role_of l.done.call) l.who) lines (line who step ∷ []) h (is, tt)
+
+-- ---- takes
+
+takes_are : (role : Role) (who : ℕ) → HasRole role who → is_take role ≡ nat_lt desk_seat who
+takes_are Offers who is = grind (arith, nat_tests, is)
+takes_are Takes who is = grind (arith, nat_tests, is)
+takes_are Operates who is = grind (arith, nat_tests, is)
+
+takes-theirs : (lines : List (Line StreamStep)) → AreTheirs lines → filter (λ l. nat_lt desk_seat l.who) lines ≡ take_lines lines
+takes-theirs [] h = refl
+takes-theirs (l ∷ ls) h =
+    let rest = takes-theirs ls h.1 in
+    let same = takes_are (role_of l.done.call) l.who h.0 in
+    ap (λ b. cond b (l ∷ filter (λ k. nat_lt desk_seat k.who) ls) (filter (λ k. nat_lt desk_seat k.who) ls)) (sym same)
+    ∙ ap (λ ks. cond (is_take (role_of l.done.call)) (l ∷ ks) ks) rest
+
+-- each take is in one drainer's part, and in one alone
+pub takes-all : (made : ℕ) (lines : List (Line StreamStep)) (parts : List (Part StreamStep)) → AreTheirs lines → ArePartsOf made lines parts
+    → length parts ≡ made → AreAllOf (take_lines lines) (drainer_parts parts)
+takes-all made lines parts each are whole =
+    subst (λ ls. AreAllOf ls (drainer_parts parts)) (takes-theirs lines each) (all-of-among (nat_lt desk_seat) made lines parts are whole)

@@ -1,9 +1,10 @@
 -- The seats of a stream's journal: which of them notes which calls.
 use Rattle.std.specs.Global.{Global}
-use Rattle.std.specs.Prelude.{◌≡◌, ◌<◌, ℕ, Bool, true, false, List, filter}
+use Rattle.std.specs.Prelude.{◌≡◌, ◌<◌, ℕ, Bool, true, false, nat_lt, List, filter}
 use Rattle.std.specs.List.{AllByRecursion}
 use Rattle.tr_journal.specs.Views.{all_done}
 use Rattle.tr_journal.specs.declared.rule.Line.{Line}
+use Rattle.tr_journal.specs.declared.rule.Part.{Part}
 use Rattle.tr_stream.specs.State.{StreamState}
 use Rattle.tr_stream.specs.declared.events.StreamEvent.{StreamEvent}
 use Rattle.tr_stream.specs.declared.events.StreamEvent.TheVariants.{Offer, Take}
@@ -52,6 +53,13 @@ is_operation role = false
 
 abbrev pub steps_of : (Role → Bool) → List StreamStep → List StreamStep
 steps_of wanted steps = filter (λ step. wanted (role_of step.call)) steps
+
+-- the lines with takes, and the parts of drainers' seats
+abbrev pub take_lines : List (Line StreamStep) → List (Line StreamStep)
+take_lines lines = filter (λ l. is_take (role_of l.done.call)) lines
+
+abbrev pub drainer_parts : List (Part StreamStep) → List (Part StreamStep)
+drainer_parts parts = filter (λ p. nat_lt desk_seat p.who) parts
 
 -- a stream's journal: the stream is what its steps lead to, and each was noted by a seat whose call it is
 pub record IsJournalOf (lines : List (Line StreamStep)) (s : StreamState) : Type 0 where

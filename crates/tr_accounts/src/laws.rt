@@ -6,11 +6,13 @@ ghost use Rattle.std.specs.List.Sorted.{IsStrictlyIncreasing};
 ghost use Rattle.tr_accounts.specs.Accounts.{IsAccounted, history_of};
 ghost use Rattle.tr_accounts.specs.Holds.{HoldsOffers, IsRecordOf, held_records};
 ghost use Rattle.tr_accounts.specs.Logs.{items_of};
-ghost use Rattle.tr_accounts.specs.Seats.{IsJournalOf, desk_seat, is_offer, is_operation, producer_seat, steps_of};
+ghost use Rattle.tr_accounts.specs.Seats.{IsJournalOf, desk_seat, drainer_parts, is_offer, is_operation, producer_seat, steps_of, take_lines};
 ghost use Rattle.tr_accounts.specs.StreamSteps.{AcceptedOffer, accepted_in, clear_step, cut_step, look_step, offer_step, release_step, switch_step, take_step, taken_in};
 ghost use Rattle.tr_accounts.specs.Takes.{WasTaken};
 ghost use Rattle.tr_accounts.specs.declared.step.StreamStep.{StreamStep};
+ghost use Rattle.tr_journal.specs.Journals.{IsSeatOf, IsWhole, JournalState, SeatState, parts_of};
 ghost use Rattle.tr_journal.specs.Views.{all_done, done_by, line};
+ghost use Rattle.tr_journal.specs.Whole.{AreAllOf};
 ghost use Rattle.tr_journal.specs.declared.rule.Line.{Line};
 ghost use Rattle.tr_stream.specs.Kept.{IsKept};
 ghost use Rattle.tr_stream.specs.StandsFor.{StandsFor};
@@ -44,7 +46,8 @@ pub fn every_call()
 {}
 
 /// What the seats of a stream's journal have: the offers in it, refused ones too, are what the producer's seat noted, and the
-/// stream holds those that were accepted; the operations are what the desk's seat noted. Does nothing.
+/// stream holds those that were accepted; the operations are what the desk's seat noted; and if all seats that were made are
+/// joined in one, each take is in one drainer's part, and in one alone. Does nothing.
 pub fn every_seat()
     ensures offers { (lines : List (Line StreamStep)) (s : StreamState) → IsJournalOf lines s
         → steps_of is_offer (all_done lines) ≡ done_by producer_seat lines }
@@ -52,6 +55,9 @@ pub fn every_seat()
         → HoldsOffers (accepted_in (done_by producer_seat lines)) s }
     ensures operations { (lines : List (Line StreamStep)) (s : StreamState) → IsJournalOf lines s
         → steps_of is_operation (all_done lines) ≡ done_by desk_seat lines }
+    ensures takes { (journal : JournalState StreamStep) (seat : SeatState StreamStep) (s : StreamState)
+        → IsJournalOf journal.lines s → IsSeatOf journal seat → IsWhole journal seat
+        → AreAllOf (take_lines journal.lines) (drainer_parts (parts_of seat)) }
 {}
 
 /// A log of a stream's accepted offers agrees with the stream: it has as many items as the stream counts offers, and each

@@ -1,6 +1,6 @@
 -- What all seats of a journal have together, and what one seat has alone.
 use Rattle.std.proofs.Common.{◌≡◌, ◌≢◌, ◌<◌, ◌+◌, ℕ, suc, Bool, true, false, cond, eqb, List, [], ◌∷◌, length, sum_by, Option, ⊎_elim, refl, sym, ap, subst, ◌∙◌, arith, ne_eqb}
-use Rattle.std.specs.Prelude.{filter_map}
+use Rattle.std.specs.Prelude.{filter, filter_map}
 use Rattle.std.specs.List.{AllByRecursion, Contains, IsDistinct, cons_option, list_any}
 use Rattle.std.proofs.lemmas.Bool.Decides.{eqb_tells}
 use Rattle.std.proofs.lemmas.List.Sums.{sum_by-cons}
@@ -135,6 +135,98 @@ module _ {E : Type 0} where
         (all-more (λ (l : Line E). l.who < made) (λ (l : Line E). list_any (eqb l.who) (numbers_of ps) ≡ true) (λ l lt. found made lines ps are whole l.who lt) lines are.numbered)
         ∙ sym (many-own made lines ps are.each);
   }
+
+  -- ---- some of the seats
+
+  module _ (test : ℕ → Bool) where
+    abbrev pub lines_of : List (Line E) → List (Line E)
+    lines_of ls = filter (λ l. test l.who) ls
+
+    abbrev pub parts_among : List (Part E) → List (Part E)
+    parts_among ps = filter (λ p. test p.who) ps
+
+    all-among : (P : Part E → Type 0) (ps : List (Part E)) → AllByRecursion P ps → AllByRecursion P (parts_among ps)
+    all-among P [] h = tt
+    all-among P (p ∷ ps) h = by_test (test p.who) (all-among P ps h.1)
+      where
+        by_test : (b : Bool) → AllByRecursion P (parts_among ps) → AllByRecursion P (cond b (p ∷ parts_among ps) (parts_among ps))
+        by_test true rest = (h.0, rest)
+        by_test false rest = rest
+
+    apart-among : (ps : List (Part E)) → AreApart ps → AreApart (parts_among ps)
+    apart-among [] h = tt
+    apart-among (p ∷ ps) h = by_test (test p.who) (all-among (λ q. p.who ≢ q.who) ps h.0) (apart-among ps h.1)
+      where
+        by_test : (b : Bool) → AllByRecursion (λ q. p.who ≢ q.who) (parts_among ps) → AreApart (parts_among ps)
+            → AreApart (cond b (p ∷ parts_among ps) (parts_among ps))
+        by_test true apart rest = (apart, rest)
+        by_test false apart rest = rest
+
+    found-among : (n : ℕ) → test n ≡ true → (ps : List (Part E)) → list_any (eqb n) (numbers_of ps) ≡ true
+        → list_any (eqb n) (numbers_of (parts_among ps)) ≡ true
+    found-among n mine_is [] h = h
+    found-among n mine_is (p ∷ ps) h =
+        ⊎_elim
+        (λ (t : (eqb n p.who ≡ true) × (n ≡ p.who)). let mine : test p.who ≡ true = ap test (sym t.1) ∙ mine_is in rw mine (rw t.0 refl))
+        (λ (t : (eqb n p.who ≡ false) × (n ≢ p.who)). by_test (test p.who) (found-among n mine_is ps (rw t.0 at h)) t.0)
+        (eqb_tells n p.who)
+      where
+        by_test : (b : Bool) → list_any (eqb n) (numbers_of (parts_among ps)) ≡ true → eqb n p.who ≡ false
+            → list_any (eqb n) (numbers_of (cond b (p ∷ parts_among ps) (parts_among ps))) ≡ true
+        by_test true rest other = rw other rest
+        by_test false rest other = rest
+
+    all-lines : (P : Line E → Type 0) (ls : List (Line E)) → AllByRecursion (λ l. test l.who ≡ true → P l) ls → AllByRecursion P (lines_of ls)
+    all-lines P [] h = tt
+    all-lines P (l ∷ ls) h = by_test (test l.who) refl (all-lines P ls h.1)
+      where
+        by_test : (b : Bool) → test l.who ≡ b → AllByRecursion P (lines_of ls) → AllByRecursion P (cond b (l ∷ lines_of ls) (lines_of ls))
+        by_test true e rest = (h.0 e, rest)
+        by_test false e rest = rest
+
+    done-among : (who : ℕ) → test who ≡ true → (ls : List (Line E)) → done_by who (lines_of ls) ≡ done_by who ls
+    done-among who mine_is [] = refl
+    done-among who mine_is (l ∷ ls) =
+        ⊎_elim
+        (λ (t : (eqb l.who who ≡ true) × (l.who ≡ who)).
+        let mine : test l.who ≡ true = ap test t.1 ∙ mine_is in
+        rw mine (rw t.0 (ap (λ ds. l.done ∷ ds) (done-among who mine_is ls))))
+        (λ (t : (eqb l.who who ≡ false) × (l.who ≢ who)). by_test (test l.who) (done-among who mine_is ls) t.0)
+        (eqb_tells l.who who)
+      where
+        by_test : (b : Bool) → done_by who (lines_of ls) ≡ done_by who ls → eqb l.who who ≡ false
+            → done_by who (cond b (l ∷ lines_of ls) (lines_of ls)) ≡ done_by who (l ∷ ls)
+        by_test true rest other = rw other rest
+        by_test false rest other = rw other rest
+
+    own-among : (made : ℕ) (ls : List (Line E)) (ps : List (Part E)) → AllByRecursion (IsPartOf made ls) ps
+        → sum_by (λ (p : Part E). length p.own) (parts_among ps) ≡ many_by (lines_of ls) (parts_among ps)
+    own-among made ls [] each = refl
+    own-among made ls (p ∷ ps) each = by_test (test p.who) refl (own-among made ls ps each.1)
+      where
+        by_test : (b : Bool) → test p.who ≡ b
+            → sum_by (λ (q : Part E). length q.own) (parts_among ps) ≡ many_by (lines_of ls) (parts_among ps)
+            → sum_by (λ (q : Part E). length q.own) (cond b (p ∷ parts_among ps) (parts_among ps))
+            ≡ many_by (lines_of ls) (cond b (p ∷ parts_among ps) (parts_among ps))
+        by_test true e rest =
+            let a = sum_by-cons (λ (q : Part E). length q.own) p (parts_among ps) in
+            let b = sum_by-cons (λ (q : Part E). length (done_by q.who (lines_of ls))) p (parts_among ps) in
+            omega (arith, a, b, ap length (each.0.1 ∙ sym (done-among p.who e ls)), rest)
+        by_test false e rest = rest
+
+    pub all-of-among : (made : ℕ) (ls : List (Line E)) (ps : List (Part E)) → ArePartsOf made ls ps → length ps ≡ made
+        → AreAllOf (lines_of ls) (parts_among ps)
+    all-of-among made ls ps are whole =
+        let has : (l : Line E) → l.who < made → test l.who ≡ true → list_any (eqb l.who) (numbers_of (parts_among ps)) ≡ true =
+        λ l lt mine_is. found-among l.who mine_is ps (found made ls ps are whole l.who lt) in
+        let have = all-lines (λ l. list_any (eqb l.who) (numbers_of (parts_among ps)) ≡ true) ls
+        (all-more (λ (l : Line E). l.who < made) (λ (l : Line E). test l.who ≡ true → list_any (eqb l.who) (numbers_of (parts_among ps)) ≡ true)
+        has ls are.numbered) in
+        record {
+          each = all-more (λ (l : Line E). list_any (eqb l.who) (numbers_of (parts_among ps)) ≡ true) (λ (l : Line E). Contains (numbers_of (parts_among ps)) l.who)
+              (λ l mine_is. Contains-from_any same_if l.who (numbers_of (parts_among ps)) mine_is) (lines_of ls) have;
+          once = many-all (parts_among ps) (apart-among ps are.apart) (lines_of ls) have ∙ sym (own-among made ls ps are.each);
+        }
 
   -- ---- what one seat has alone
 
