@@ -202,12 +202,13 @@ fn round_of_threads<N: Names + Send + Sync, R: Threads + Wait + Sync>(
     shared.start(rt, Moment::zero())?;
     let (producers, sum) = fed_together(rt, alloc, &shared, producers, total.sum)?;
     drop(watchers);
+    let streams = shared.streams();
     let settled = settled(alloc, shared, producers)?;
     let mut total = Total { sum, ..total };
-    let mut k = 0;
-    while let Some(stream) = settled.session().stream(k) {
-        total = total.with(stream, total.sum);
-        k += 1;
+    for k in 0..streams {
+        if let Some(stream) = settled.session().stream(k) {
+            total = total.with(stream, total.sum);
+        }
     }
     Ok(total)
 }
