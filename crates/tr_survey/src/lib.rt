@@ -1,34 +1,35 @@
-//! The survey of a folder of archives: what the audit of each stream's files finds, session by session, as a text.
+//! The survey of a folder of archives: what they hold and what is wrong with them, session by session, as a text.
 //!
 //! Below the folder stands `SESSION/archives/ARCHIVE/FILE` for each session, archive and file. A name that isn't of a session,
-//! an archive or a stream's file is passed over, and so is a file in place of a folder. What the text says where several things
-//! are wrong:
+//! an archive or a stream's file is passed over, and so is a file in place of a folder. The text is a function of what stands
+//! there (`survey_of`), and so is the number of faults, one for each line that begins with `fault`:
 //!
-//! - Each archive without `metadata`, or whose metadata name no identifier or another one than the session's, has a line and counts
-//!   one. The session's identifier is that of the first archive that names one. If none does, its streams aren't audited.
-//! - A stream is audited over the archives in order, up to the first thing that is wrong with it: a file that an archive lacks, or
-//!   a packet at fault. That is its one line, and counts one.
-//! - Of metadata the first `MOST_METADATA` bytes are looked at. The identifier may be written in any form that a UUID has.
-//! - A folder `archives` without an archive is a session with `uuid none archives 0`, and no fault.
-//! - If two archives end in the same number, the one whose name is first by bytes is first. If two channels have a stream
-//!   of the same number, each is a stream.
+//! - `Heads` says what is wrong with archives as they stand there: numbers that are missing or there twice, an archive that
+//!   doesn't begin when the one before it ends, metadata that aren't the recorder's of the session's identifier, and streams that
+//!   have no file anywhere.
+//! - `Streams` says what is told packet by packet: numbers that are absent and records that were discarded, and between which
+//!   packets; a packet at fault, after which the next file is judged anew; a file that isn't there or can't be read.
+//! - The session's identifier is the one that most archives' metadata name. If none name one, its streams aren't audited.
 #![tactic(auto)]
 
 mod faults;
-mod findings;
+mod files;
+mod heads;
 mod laws;
 mod lines;
 mod listing;
 mod names;
 mod naming;
 mod numbers;
+mod packets;
 mod paths;
 mod sessions;
 mod streams;
 mod surveying;
+mod tally;
 mod writing;
 
-pub use faults::SurveyFault;
+pub use faults::{SurveyFault, Surveyed};
 pub use laws::{
     a_file_is_named_for_its_stream, an_archive_is_named_for_its_number, metadata_name_their_trace,
 };
