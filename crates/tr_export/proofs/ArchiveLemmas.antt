@@ -38,49 +38,42 @@ module _ (folder : List ℕ) (id : ℕ) (s : SessionOf StreamState) where
       front_before start after (stream_files folder id s (suc i)) up.0 (stream_files folder id s (length s.streams))
       (ap (stream_files folder id s) all ∙ up.1) next
 
-  -- the folder and the metadata
-  headed : (start one two : Option Makings) (path uuid : List ℕ) → path ≡ path_of folder (codes "metadata")
-      → uuid ≡ s.book.uuid → one ≡ and_then_made start (Folder folder ∷ [])
-      → two ≡ and_then_made one (File path (metadata_of uuid) ∷ []) → two ≡ and_then_made start (Folder folder ∷ metadata_file folder s)
-  headed start one two path uuid at of first second =
-      let text : File path (metadata_of uuid) ∷ [] ≡ metadata_file folder s =
-      ap (λ (p : List ℕ). File p (metadata_of uuid) ∷ []) at
-      ∙ ap (λ (u : List ℕ). File (path_of folder (codes "metadata")) (metadata_of u) ∷ []) of in
-      made_after start one two (Folder folder ∷ []) (metadata_file folder s) first (second ∙ ap (and_then_made one) text)
+  abbrev files : Makings
+  files = stream_files folder id s (length s.streams)
 
-  -- and all streams
+  metadata_is : (path uuid : List ℕ) → path ≡ path_of folder (codes "metadata") → uuid ≡ s.book.uuid
+      → File path (metadata_of uuid) ∷ [] ≡ metadata_file folder s
+  metadata_is path uuid at of =
+      ap (λ (p : List ℕ). File p (metadata_of uuid) ∷ []) at
+      ∙ ap (λ (u : List ℕ). File (path_of folder (codes "metadata")) (metadata_of u) ∷ []) of
+
+  -- the folder and all streams
+  pub filled : (start one two : Option Makings) → one ≡ and_then_made start (Folder folder ∷ []) → two ≡ and_then_made one files
+      → two ≡ and_then_made start (Folder folder ∷ files)
+  filled start one two first second = made_after start one two (Folder folder ∷ []) files first second
+
+  -- and the metadata
   pub chunk_whole : (start one two after : Option Makings) (path uuid : List ℕ) → path ≡ path_of folder (codes "metadata")
-      → uuid ≡ s.book.uuid → one ≡ and_then_made start (Folder folder ∷ [])
-      → two ≡ and_then_made one (File path (metadata_of uuid) ∷ [])
-      → after ≡ and_then_made two (stream_files folder id s (length s.streams))
-      → after ≡ and_then_made start (chunk_made folder id s)
+      → uuid ≡ s.book.uuid → one ≡ and_then_made start (Folder folder ∷ []) → two ≡ and_then_made one files
+      → after ≡ and_then_made two (File path (metadata_of uuid) ∷ []) → after ≡ and_then_made start (chunk_made folder id s)
   chunk_whole start one two after path uuid at of first second third =
-      made_after start two after (Folder folder ∷ metadata_file folder s) (stream_files folder id s (length s.streams))
-      (headed start one two path uuid at of first second) third
+      made_after start two after (Folder folder ∷ files) (metadata_file folder s) (filled start one two first second)
+      (third ∙ ap (and_then_made two) (metadata_is path uuid at of))
 
-  -- and a prefix of the streams' files
+  -- and a prefix of the metadata
   pub chunk_cut : (start one two after : Option Makings) (path uuid : List ℕ) → path ≡ path_of folder (codes "metadata")
-      → uuid ≡ s.book.uuid → one ≡ and_then_made start (Folder folder ∷ [])
-      → two ≡ and_then_made one (File path (metadata_of uuid) ∷ [])
-      → MadePrefix two after (stream_files folder id s (length s.streams))
-      → MadePrefix start after (chunk_made folder id s)
+      → uuid ≡ s.book.uuid → one ≡ and_then_made start (Folder folder ∷ []) → two ≡ and_then_made one files
+      → MadePrefix two after (File path (metadata_of uuid) ∷ []) → MadePrefix start after (chunk_made folder id s)
   chunk_cut start one two after path uuid at of first second made =
-      front_after start two after (Folder folder ∷ metadata_file folder s) (stream_files folder id s (length s.streams))
-      (chunk_made folder id s) refl (headed start one two path uuid at of first second) made
+      front_after start two after (Folder folder ∷ files) (metadata_file folder s) (chunk_made folder id s) refl
+      (filled start one two first second) (subst (λ (ms : Makings). MadePrefix two after ms) (metadata_is path uuid at of) made)
 
-  -- the folder, and a prefix of the metadata
-  pub metadata_cut : (start one after : Option Makings) (path uuid : List ℕ) → path ≡ path_of folder (codes "metadata")
-      → uuid ≡ s.book.uuid → one ≡ and_then_made start (Folder folder ∷ [])
-      → MadePrefix one after (File path (metadata_of uuid) ∷ []) → MadePrefix start after (chunk_made folder id s)
-  metadata_cut start one after path uuid at of first made =
-      let text : File path (metadata_of uuid) ∷ [] ≡ metadata_file folder s =
-      ap (λ (p : List ℕ). File p (metadata_of uuid) ∷ []) at
-      ∙ ap (λ (u : List ℕ). File (path_of folder (codes "metadata")) (metadata_of u) ∷ []) of in
-      let next = front_before one after (metadata_file folder s) (stream_files folder id s (length s.streams))
-      (metadata_file folder s ++ stream_files folder id s (length s.streams)) refl
-      (subst (λ (ms : Makings). MadePrefix one after ms) text made) in
-      front_after start one after (Folder folder ∷ [])
-      (metadata_file folder s ++ stream_files folder id s (length s.streams)) (chunk_made folder id s) refl first next
+  -- the folder, and a prefix of the streams' files
+  pub files_cut : (start one after : Option Makings) → one ≡ and_then_made start (Folder folder ∷ []) → MadePrefix one after files
+      → MadePrefix start after (chunk_made folder id s)
+  files_cut start one after first made =
+      front_after start one after (Folder folder ∷ []) (files ++ metadata_file folder s) (chunk_made folder id s) refl first
+      (front_before one after files (metadata_file folder s) (files ++ metadata_file folder s) refl made)
 
 module _ (dir name : List ℕ) (s : SessionOf StreamState) (a : Archive) where
   -- an archive that has all its parts is a chunk in the folder of its name

@@ -39,13 +39,13 @@ abbrev pub stream_files : List ℕ → ℕ → SessionOf StreamState → ℕ →
 stream_files folder id s zero = []
 stream_files folder id s (suc i) = stream_files folder id s i ++ stream_file folder id s i
 
--- the metadata file beside them
+-- the metadata file after them
 abbrev pub metadata_file : List ℕ → SessionOf StreamState → Makings
 metadata_file folder s = File (path_of folder (codes "metadata")) (metadata_of s.book.uuid) ∷ []
 
--- the trace chunk of this number in a folder: the folder, the metadata, and a file for each stream
+-- the trace chunk of this number in a folder: the folder, a file for each stream, and last the metadata
 abbrev pub chunk_made : List ℕ → ℕ → SessionOf StreamState → Makings
-chunk_made folder id s = Folder folder ∷ (metadata_file folder s ++ stream_files folder id s (length s.streams))
+chunk_made folder id s = Folder folder ∷ (stream_files folder id s (length s.streams) ++ metadata_file folder s)
 
 -- an archive in the folder of its name; none if the part of any stream is released
 abbrev pub archive_made : List ℕ → List ℕ → SessionOf StreamState → Archive → Makings

@@ -117,7 +117,7 @@ fn write_streams<A: Allocator, B: Allocator + Copy, D: Disk>(
     Ok(())
 }
 
-/// Writes chunk `id` to a folder: the metadata text, and a file for each stream.
+/// Writes chunk `id` to a folder: a file for each stream, and then the metadata text, so that a folder without it isn't whole.
 fn write_chunk<A: Allocator, B: Allocator + Copy, D: Disk>(
     alloc: B,
     disk: &mut D,
@@ -134,8 +134,8 @@ fn write_chunk<A: Allocator, B: Allocator + Copy, D: Disk>(
 {
     let metadata = file_path(alloc, folder, "metadata")?;
     disk.make_folder(folder)?;
-    write_metadata_file(alloc, disk, metadata.as_str(), &session.book().uuid())?;
-    write_streams(alloc, disk, folder, id, session)
+    write_streams(alloc, disk, folder, id, session)?;
+    write_metadata_file(alloc, disk, metadata.as_str(), &session.book().uuid())
 }
 
 /// Writes an archive to the folder of its name, unless the part of any stream was released.
@@ -163,9 +163,9 @@ fn write_archive<A: Allocator, B: Allocator + Copy, D: Disk>(
     write_chunk(alloc, disk, folder.as_str(), archive.id, session)
 }
 
-/// Writes each archive of a session, in order: the folder `DIR/NAME/archives/ARCHIVE` (see `archive_name`), in it the
-/// file `metadata`, and for each stream the file `CHANNEL_NUMBER` with the packets of its part of that chunk, empty if
-/// there are none. What isn't an archive yet, the current chunk and a pending rotation's, isn't written, and neither is an
+/// Writes each archive of a session, in order: the folder `DIR/NAME/archives/ARCHIVE` (see `archive_name`), in it for each
+/// stream the file `CHANNEL_NUMBER` with the packets of its part of that chunk, empty if there are none, and last the file
+/// `metadata`. What isn't an archive yet, the current chunk and a pending rotation's, isn't written, and neither is an
 /// archive of which the part of any stream was released: it gets no folder. Folders that don't exist are made, and files that
 /// exist are emptied before they are written.
 ///

@@ -6,9 +6,12 @@ use thiserror::Error;
 /// Why a folder or a file isn't read.
 #[derive(Clone, Copy, Debug, PartialEq, Eq, Error)]
 pub enum ReadFault {
-    /// It can't be read.
+    /// It can't be read, or, of a file, not any further. This is what stands there, and no failure.
     #[error("a folder or a file can't be read")]
-    Read,
+    Unreadable,
+    /// As many bytes of files were given as are ever given.
+    #[error("too much was read")]
+    TooMuch,
     /// An allocation failed.
     #[error("no memory")]
     NoMemory,

@@ -36,7 +36,7 @@ impl<'a, R: Files + Alloc + Clone + Drop> HostFolders<'a, R> {
         }
     }
 
-    /// Counts a fault, if it isn't want of memory.
+    /// Counts a fault, if it is a failure.
     fn counted(&mut self, fault: ReadFault) -> ReadFault
         ensures fault { result ≡ fault }
         ensures given { ⟦<HostFolders<'a, R> as Folders>⟧.given self.new ≡ ⟦<HostFolders<'a, R> as Folders>⟧.given self.old }
@@ -44,8 +44,8 @@ impl<'a, R: Files + Alloc + Clone + Drop> HostFolders<'a, R> {
             ≡ read_failures fault (⟦<HostFolders<'a, R> as Folders>⟧.failures self.old) }
     {
         match fault {
-            ReadFault::Read => self.failures = self.failures.wrapping_add(1),
-            ReadFault::NoMemory => {}
+            ReadFault::TooMuch => self.failures = self.failures.wrapping_add(1),
+            ReadFault::Unreadable | ReadFault::NoMemory => {}
         }
         fault
     }
@@ -59,7 +59,7 @@ fn is_absence(error: &Error) -> bool {
 fn fault_of(error: &Error) -> ReadFault {
     match error.kind() {
         ErrorKind::OutOfMemory => ReadFault::NoMemory,
-        _ => ReadFault::Read,
+        _ => ReadFault::Unreadable,
     }
 }
 
@@ -147,7 +147,7 @@ impl<R: Files + Alloc + Clone + Drop> Folders for HostFolders<'_, R> {
             Err(fault) => return Err(self.counted(fault)),
         };
         if count as u64 >= MOST_BYTES - self.given {
-            return Err(self.counted(ReadFault::Read));
+            return Err(self.counted(ReadFault::TooMuch));
         }
         self.given += count as u64;
         Ok(count)

@@ -1,7 +1,9 @@
 //! Reading the file that is open.
 
-ghost use Rattle.std.specs.Prelude.{◌≡◌, ◌≤◌, ℕ, List, Some, IfOk, length, take};
+ghost use Rattle.std.specs.Prelude.{◌≡◌, ◌<◌, ◌≤◌, Some, IfOk, IfErr, false, true, length, take};
 ghost use Rattle.tr_folders.specs.Failures.{after_reading};
+ghost use Rattle.tr_folders.specs.Tree.{File};
+ghost use Rattle.tr_folders.specs.declared.faults.ReadFault.TheVariants.{Unreadable};
 
 use crate::faults::ReadFault;
 use crate::folders::Folders;
@@ -13,8 +15,12 @@ use crate::folders::Folders;
 /// Those of `Folders::read`: what was read before is lost.
 pub fn read_front<F: Folders>(folders: &mut F, buffer: &mut [u8]) -> Result<usize, ReadFault>
     ensures count { IfOk result (λ n. n ≤ length buffer.new) }
-    ensures front { IfOk result (λ n. (bytes : List ℕ) → F.left folders.old ≡ Some bytes
-        → take n buffer.new ≡ take (length buffer.old) bytes) }
+    ensures front { IfOk result (λ n. (file : File) → F.left folders.old ≡ Some file
+        → take n buffer.new ≡ take (length buffer.old) file.bytes) }
+    ensures whole { IfOk result (λ n. (file : File) → F.left folders.old ≡ Some file
+        → length file.bytes < length buffer.old → file.breaks ≡ false) }
+    ensures broken { IfErr result (λ fault. fault ≡ Unreadable → (file : File) → F.left folders.old ≡ Some file
+        → (length file.bytes < length buffer.old) × (file.breaks ≡ true)) }
     ensures len { length buffer.new ≡ length buffer.old }
     ensures tree { F.tree folders.new ≡ F.tree folders.old }
     ensures failures { F.failures folders.new ≡ after_reading result (F.failures folders.old) }

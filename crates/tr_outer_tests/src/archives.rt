@@ -118,8 +118,8 @@ type Item<'a> = (&'a str, usize, &'a str);
 /// All that is made of `rotated`.
 static ONE_ARCHIVE: [Item<'static>; 3] = [
     ("folder", 0, FOLDER),
-    ("file", 1082, METADATA),
     ("file", 484, STREAM),
+    ("file", 1082, METADATA),
 ];
 
 /// What was made at this place.
@@ -168,9 +168,9 @@ fn an_archive_is_a_folder_with_its_files(rt: HostRuntime) {
     for piece in [7, 4096] {
         let disk = written(&rt, rt.alloc(), piece, &session);
         assert_made(&rt, &disk, &ONE_ARCHIVE);
-        assert_same(&rt, bytes_at(&disk, 1), text.as_bytes());
-        assert_packet(&rt, bytes_at(&disk, 2), 0, 0);
-        assert_packet(&rt, bytes_at(&disk, 2), 228, 1);
+        assert_packet(&rt, bytes_at(&disk, 1), 0, 0);
+        assert_packet(&rt, bytes_at(&disk, 1), 228, 1);
+        assert_same(&rt, bytes_at(&disk, 2), text.as_bytes());
     }
     drop(session);
 }
@@ -178,13 +178,13 @@ fn an_archive_is_a_folder_with_its_files(rt: HostRuntime) {
 /// Two archives of two streams.
 static TWO_ARCHIVES: [Item<'static>; 8] = [
     ("folder", 0, FOLDER),
-    ("file", 1082, METADATA),
     ("file", 0, STREAM),
     ("file", 0, SECOND_STREAM),
+    ("file", 1082, METADATA),
     ("folder", 0, NEXT_FOLDER),
-    ("file", 1082, NEXT_METADATA),
     ("file", 0, NEXT_STREAM),
     ("file", 104, NEXT_SECOND_STREAM),
+    ("file", 1082, NEXT_METADATA),
 ];
 
 // the second chunk has a record of stream 1 alone, and stream 0 has a file without bytes there

@@ -8,7 +8,7 @@ use std::process::Abort;
 use tr_folders::MemoryFolders;
 use tr_packet::{Head, Packet, encode_packet, metadata_text};
 use tr_record::{MemorySink, Rec};
-use tr_survey::survey;
+use tr_survey::{Surveyed, survey};
 use tr_terms::Moment;
 use uuid::Uuid;
 
@@ -27,13 +27,18 @@ fn text(rt: &impl Abort, alloc: Global, parts: &[&str]) -> String {
     text
 }
 
-/// The bytes of packets of the trace 1, each with its number and the serials of its records.
-fn packets(rt: &impl Abort, alloc: Global, stream: u64, rows: &[(u64, &[u64])]) -> Vec<u8> {
+/// A packet of a stream: its number, how many records were discarded by its end, the moment of all that is in it, and the serials
+/// of its records.
+type Row = (u64, u64, u64, &'static [u64]);
+
+/// The bytes of packets of the trace 1.
+fn packets(rt: &impl Abort, alloc: Global, stream: u64, rows: &[Row]) -> Vec<u8> {
     let mut bytes = Vec::new(alloc);
-    for (seq, serials) in rows {
+    for (seq, lost, moment, serials) in rows {
+        let moment = Moment::new(*moment).expect(rt, "a moment");
         let mut records = Vec::new(alloc);
         for serial in serials.iter() {
-            let record = Rec::copy_of(alloc, *serial, Moment::zero(), 7, &[0x61; 50]);
+            let record = Rec::copy_of(alloc, *serial, moment, 7, &[0x61; 50]);
             records
                 .push(record.expect(rt, "memory"))
                 .expect(rt, "memory");
@@ -41,10 +46,10 @@ fn packets(rt: &impl Abort, alloc: Global, stream: u64, rows: &[(u64, &[u64])]) 
         let head = Head {
             uuid: uuid(1),
             stream,
-            begin: Moment::zero(),
-            end: Moment::zero(),
+            begin: moment,
+            end: moment,
             seq: *seq,
-            lost: 0,
+            lost: *lost,
         };
         let packet = Packet::checked(head, records).expect(rt, "a packet");
         let packet = encode_packet(alloc, &packet).expect(rt, "memory");
@@ -62,6 +67,7 @@ struct Room<'a, R: Abort> {
     alloc: Global,
     folders: Vec<(String, Vec<String>)>,
     files: Vec<(String, Vec<u8>)>,
+    hidden: Vec<String>,
 }
 
 impl<'a, R: Abort> Room<'a, R> {
@@ -71,6 +77,7 @@ impl<'a, R: Abort> Room<'a, R> {
             alloc,
             folders: Vec::new(alloc),
             files: Vec::new(alloc),
+            hidden: Vec::new(alloc),
         }
     }
 
@@ -83,7 +90,13 @@ impl<'a, R: Abort> Room<'a, R> {
     }
 
     fn kept(self, piece: usize) -> MemoryFolders {
-        MemoryFolders::new(self.alloc, self.folders, self.files, piece)
+        MemoryFolders::with_hidden(self.alloc, self.folders, self.files, self.hidden, piece)
+    }
+
+    /// What stands at this path can't be read, or not to its end.
+    fn hide(&mut self, path: &[&str]) {
+        let path = text(self.rt, self.alloc, path);
+        self.hidden.push(path).expect(self.rt, "memory");
     }
 
     fn folder(&mut self, path: &[&str], names: &[&str]) {
@@ -114,7 +127,7 @@ impl<'a, R: Abort> Room<'a, R> {
         self.file(archive, "metadata", text.into_bytes());
     }
 
-    fn packets(&mut self, archive: &str, name: &str, stream: u64, rows: &[(u64, &[u64])]) {
+    fn packets(&mut self, archive: &str, name: &str, stream: u64, rows: &[Row]) {
         let bytes = packets(self.rt, self.alloc, stream, rows);
         self.file(archive, name, bytes);
     }
@@ -136,7 +149,7 @@ impl<'a, R: Abort> Room<'a, R> {
         let mut folders = self.kept(piece);
         let mut sink = MemorySink::new(alloc, 7);
         let found = survey(alloc, &mut folders, &mut sink, "d");
-        assert_same(rt, found, Ok(Some(faults)));
+        assert_same(rt, found, Ok(Surveyed::Faults(faults)));
         let found = String::from_utf8(sink.into_bytes()).expect(rt, "text");
         assert_same(rt, found.as_str(), expected);
     }
@@ -151,7 +164,7 @@ enum Thing {
     /// The metadata of an archive, which name this identifier.
     Metadata(&'static str, u8),
     /// A file of an archive with packets of a stream, as `packets` takes them.
-    Packets(&'static str, &'static str, u64, &'static [(u64, &'static [u64])]),
+    Packets(&'static str, &'static str, u64, &'static [Row]),
 }
 
 impl<'a, R: Abort> Room<'a, R> {
@@ -184,15 +197,15 @@ static EXAMPLE: [Thing; 10] = [
     Thing::Archive("1", &["c_2", "metadata", "c_0", "c_1"]),
     Thing::Metadata("1", 1),
     Thing::Packets("1", "c_1", 1, &[]),
-    Thing::Packets("0", "c_0", 0, &[(1, &[0, 2]), (3, &[4, 5])]),
-    Thing::Packets("1", "c_0", 0, &[(4, &[8, 9])]),
-    Thing::Packets("1", "c_2", 2, &[(2, &[3])]),
+    Thing::Packets("0", "c_0", 0, &[(1, 0, 0, &[0, 2]), (3, 0, 0, &[4, 5])]),
+    Thing::Packets("1", "c_0", 0, &[(4, 0, 0, &[8, 9])]),
+    Thing::Packets("1", "c_2", 2, &[(2, 0, 0, &[3])]),
 ];
 
 /// The worked example: two archives, three streams, one of which is cut off in its second packet.
 fn worked<'a, R: Abort>(rt: &'a R, alloc: Global) -> Room<'a, R> {
     let mut room = furnished(rt, alloc, &EXAMPLE);
-    let mut cut = packets(rt, alloc, 2, &[(0, &[0, 1]), (1, &[2])]);
+    let mut cut = packets(rt, alloc, 2, &[(0, 0, 0, &[0, 1]), (1, 0, 0, &[2])]);
     cut.truncate(300);
     room.file("0", "c_2", cut);
     room
@@ -200,11 +213,12 @@ fn worked<'a, R: Abort>(rt: &'a R, alloc: Global) -> Room<'a, R> {
 
 const WORKED: &str = "\
 session s uuid 00000000-0000-0000-0000-000000000001 archives 2
-stream 0 c packets 3 records 6 absent 2 lost 0 last 4 9
-gap 0 0 1
-gap 0 2 1
+gap 0 0 1 before 0 0
+gap 0 2 1 between 0 0 and 0 0
+stream 0 c packets 3 records 6 absent 2 lost 0 last 4 9 from 0 to 0
 stream 1 c packets 0 records 0 absent 0 lost 0 last none
 fault 2 19700101T000000+0000-19700101T000000+0000-0 228 A1 Packet P1 Short
+stream 2 c packets 2 records 3 absent 0 lost 0 last 2 3 from 0 to 0
 faulty 1
 ";
 
@@ -217,18 +231,19 @@ fn worked_example(rt: HostRuntime) {
 
 static WHOLE: [Thing; 7] = [
     Thing::Session(&["9", "10"]),
-    Thing::Archive("9", &["metadata", "a_b_2_3"]),
+    Thing::Archive("9", &["metadata", "a_b_2_0"]),
     Thing::Metadata("9", 1),
-    Thing::Packets("9", "a_b_2_3", 3, &[(0, &[0])]),
-    Thing::Archive("10", &["metadata", "a_b_2_3"]),
+    Thing::Packets("9", "a_b_2_0", 0, &[(0, 0, 0, &[0])]),
+    Thing::Archive("10", &["metadata", "a_b_2_0"]),
     Thing::Metadata("10", 1),
-    Thing::Packets("10", "a_b_2_3", 3, &[(1, &[1])]),
+    Thing::Packets("10", "a_b_2_0", 0, &[(1, 0, 0, &[1])]),
 ];
 
 #[test]
 fn nothing_wrong(rt: HostRuntime) {
     let expected = "session s uuid 00000000-0000-0000-0000-000000000001 archives 2
-stream 3 a_b_2 packets 2 records 2 absent 0 lost 0 last 1 1
+deleted archives 0 9
+stream 0 a_b_2 packets 2 records 2 absent 0 lost 0 last 1 1 from 0 to 0
 whole
 ";
     furnished(&rt, rt.alloc(), &WHOLE).says(64, expected, 0);
@@ -273,10 +288,12 @@ fn other_names(rt: HostRuntime) {
     room.add_file(path, Vec::new(rt.alloc()));
     let expected = "session r uuid none archives 0
 session s uuid 00000000-0000-0000-0000-000000000001 archives 1
+deleted archives 0 7
+fault 19700101T000000+0000-19700101T000000-0130-7 other metadata
 stream 0 c packets 0 records 0 absent 0 lost 0 last none
-whole
+faulty 1
 ";
-    room.says(64, expected, 0);
+    room.says(64, expected, 1);
 }
 
 static METADATA: [Thing; 11] = [
@@ -293,14 +310,14 @@ static METADATA: [Thing; 11] = [
     Thing::Metadata("3", 2),
 ];
 
-/// The first archive that names an identifier gives the session's.
+/// Of identifiers that as many archives name, the first is the session's.
 #[test]
 fn metadata_at_fault(rt: HostRuntime) {
     let mut room = furnished(&rt, rt.alloc(), &METADATA);
     let other = text(&rt, rt.alloc(), &["uuid = 1;\n"]);
     room.file("1", "metadata", other.into_bytes());
     let expected = "session s uuid 00000000-0000-0000-0000-000000000001 archives 4
-fault 19700101T000000+0000-19700101T000000+0000-0 no metadata
+fault 19700101T000000+0000-19700101T000000+0000-0 unfinished
 fault 19700101T000000+0000-19700101T000000+0000-1 no uuid
 fault 19700101T000000+0000-19700101T000000+0000-3 another uuid
 stream 0 c packets 0 records 0 absent 0 lost 0 last none
@@ -318,7 +335,7 @@ static NO_METADATA: [Thing; 3] = [
 #[test]
 fn no_identifier(rt: HostRuntime) {
     let expected = "session s uuid none archives 1
-fault 19700101T000000+0000-19700101T000000+0000-0 no metadata
+fault 19700101T000000+0000-19700101T000000+0000-0 unfinished
 faulty 1
 ";
     furnished(&rt, rt.alloc(), &NO_METADATA).says(64, expected, 1);
@@ -332,26 +349,127 @@ static AT_FAULT: [Thing; 14] = [
     Thing::Archive("0", &["c_0", "c_1", "c_3"]),
     Thing::Archive("1", &["c_0", "c_3"]),
     Thing::Archive("2", &["c_0", "c_1", "d_2"]),
-    Thing::Packets("0", "c_0", 0, &[(0, &[0])]),
-    Thing::Packets("1", "c_0", 0, &[(1, &[1]), (1, &[2])]),
+    Thing::Packets("0", "c_0", 0, &[(0, 0, 0, &[0])]),
+    Thing::Packets("1", "c_0", 0, &[(1, 0, 0, &[1]), (1, 0, 0, &[2])]),
     Thing::Packets("2", "c_0", 0, &[]),
     Thing::Packets("0", "c_1", 1, &[]),
     Thing::Packets("2", "c_1", 1, &[]),
     Thing::Packets("2", "d_2", 2, &[]),
-    Thing::Packets("0", "c_3", 4, &[(0, &[0])]),
+    Thing::Packets("0", "c_3", 4, &[(0, 0, 0, &[0])]),
 ];
 
-/// Of each stream the first thing that is wrong, in order of archives.
+/// Each file is judged, anew after a fault.
 #[test]
 fn streams_at_fault(rt: HostRuntime) {
     let expected = "session s uuid 00000000-0000-0000-0000-000000000001 archives 3
 fault 0 19700101T000000+0000-19700101T000000+0000-1 154 A2 NumberRepeat
+stream 0 c packets 2 records 2 absent 0 lost 0 last 1 1 from 0 to 0
 fault 1 19700101T000000+0000-19700101T000000+0000-1 no file
+stream 1 c packets 0 records 0 absent 0 lost 0 last none
 fault 2 19700101T000000+0000-19700101T000000+0000-0 no file
+fault 2 19700101T000000+0000-19700101T000000+0000-1 no file
+stream 2 d packets 0 records 0 absent 0 lost 0 last none
 fault 3 19700101T000000+0000-19700101T000000+0000-0 0 A4 Foreign
-faulty 4
+fault 3 19700101T000000+0000-19700101T000000+0000-1 no file
+fault 3 19700101T000000+0000-19700101T000000+0000-2 no file
+stream 3 c packets 0 records 0 absent 0 lost 0 last none
+faulty 7
 ";
-    furnished(&rt, rt.alloc(), &AT_FAULT).says(64, expected, 4);
+    furnished(&rt, rt.alloc(), &AT_FAULT).says(64, expected, 7);
+}
+
+static OUT_OF_ORDER: [&str; 6] = [
+    "19700101T000010+0000-19700101T000020+0000-2",
+    "19700101T000020+0000-19700101T000030+0000-3",
+    "19700101T000020+0000-19700101T000040+0000-3",
+    "19700101T000041+0000-19700101T000050+0000-4",
+    "19700101T000060+0000-19700101T000070+0000-6",
+    "19700101T000070+0000-19700101T000080+0000-9",
+];
+
+/// Numbers that are missing or there twice, an archive that doesn't begin when the one before it ends, and streams without a file.
+#[test]
+fn archives_out_of_order(rt: HostRuntime) {
+    let mut room = Room::new(&rt, rt.alloc());
+    room.folder(&["d"], &["s"]);
+    room.folder(&["d/s/archives"], &OUT_OF_ORDER);
+    for archive in &OUT_OF_ORDER {
+        room.folder(&["d/s/archives/", archive], &["c_2", "c_5"]);
+        for name in ["/c_2", "/c_5"] {
+            let path = text(&rt, rt.alloc(), &["d/s/archives/", archive, name]);
+            room.add_file(path, Vec::new(rt.alloc()));
+        }
+        let path = text(&rt, rt.alloc(), &["d/s/archives/", archive, "/metadata"]);
+        let metadata = metadata_text(rt.alloc(), &uuid(1)).expect(&rt, "memory");
+        room.add_file(path, metadata.into_bytes());
+    }
+    let expected = "session s uuid 00000000-0000-0000-0000-000000000001 archives 6
+deleted archives 0 2
+fault 19700101T000020+0000-19700101T000040+0000-3 number twice
+fault 19700101T000041+0000-19700101T000050+0000-4 begins elsewhere
+fault archives 5 1 missing
+fault archives 7 2 missing
+fault streams 0 2 missing
+fault streams 3 2 missing
+stream 2 c packets 0 records 0 absent 0 lost 0 last none
+stream 5 c packets 0 records 0 absent 0 lost 0 last none
+faulty 6
+";
+    room.says(64, expected, 6);
+}
+
+static DISCARDING: [Thing; 7] = [
+    Thing::Session(&["0", "1"]),
+    Thing::Metadata("0", 1),
+    Thing::Metadata("1", 1),
+    Thing::Archive("0", &["c_0"]),
+    Thing::Archive("1", &["c_0"]),
+    Thing::Packets("0", "c_0", 0, &[(0, 3, 5, &[0]), (1, 3, 6, &[1])]),
+    Thing::Packets("1", "c_0", 0, &[(4, 7, 8, &[9]), (5, 6, 9, &[10])]),
+];
+
+/// Where records were discarded and numbers are absent, and a count of discarded records that falls.
+#[test]
+fn losses(rt: HostRuntime) {
+    let expected = "session s uuid 00000000-0000-0000-0000-000000000001 archives 2
+lost 0 3 before 0 5
+gap 0 2 2 between 0 6 and 1 8
+lost 0 4 between 0 6 and 1 8
+fault 0 19700101T000000+0000-19700101T000000+0000-1 154 lost falls
+stream 0 c packets 4 records 4 absent 2 lost 6 last 5 10 from 5 to 9
+cleared or missing 0 2
+faulty 1
+";
+    furnished(&rt, rt.alloc(), &DISCARDING).says(64, expected, 1);
+}
+
+/// What can't be read is told, and the rest too.
+#[test]
+fn unreadable_things(rt: HostRuntime) {
+    let mut room = furnished(&rt, rt.alloc(), &DISCARDING);
+    room.folder(&["d"], &["s", "t"]);
+    room.hide(&["d/s/archives/", STAMPS, "0/metadata"]);
+    room.hide(&["d/s/archives/", STAMPS, "0/c_0"]);
+    room.hide(&["d/s/archives/", STAMPS, "1"]);
+    room.hide(&["d/t/archives"]);
+    let expected = "session s uuid none archives 2
+fault 19700101T000000+0000-19700101T000000+0000-0 unreadable
+fault 19700101T000000+0000-19700101T000000+0000-1 unreadable
+faulty 2
+";
+    room.says(64, expected, 2);
+}
+
+#[test]
+fn a_root_that_cannot_be_read(rt: HostRuntime) {
+    let alloc = rt.alloc();
+    let mut room = furnished(&rt, alloc, &DISCARDING);
+    room.hide(&["d"]);
+    let mut sink = MemorySink::new(alloc, 7);
+    let mut folders = room.kept(64);
+    let found = survey(alloc, &mut folders, &mut sink, "d");
+    assert_same(&rt, found, Ok(Surveyed::Unlisted));
+    assert_same(&rt, sink.into_bytes().len(), 0);
 }
 
 #[test]
@@ -365,7 +483,7 @@ fn no_session(rt: HostRuntime) {
         let mut sink = MemorySink::new(alloc, 7);
         let mut folders = room.kept(64);
         let found = survey(alloc, &mut folders, &mut sink, "d");
-        assert_same(&rt, found, Ok(None));
+        assert_same(&rt, found, Ok(Surveyed::NoSession));
         assert_same(&rt, sink.into_bytes().len(), 0);
     }
 }

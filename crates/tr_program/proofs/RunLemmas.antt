@@ -1,17 +1,22 @@
 -- How runs end that read and wrote nothing, and audits that found no session.
-use Rattle.std.proofs.Common.{◌≡◌, ℕ, zero, suc, refl, inl, inr, List, [], Option, Some, None, Result, Ok, Err}
+use Rattle.std.proofs.Common.{◌≡◌, ◌⊎◌, ℕ, zero, suc, refl, inl, inr, List, [], Option, Some, None, Result, Ok, Err}
 use Rattle.tr_folders.specs.Tree.{Tree}
 use Rattle.tr_load.specs.declared.loaded.LoadFault.TheVariants as load
 use Rattle.tr_chunk.specs.Files.{Sunk}
-use Rattle.tr_survey.proofs.PrefixLemmas.{nothing_told}
-use Rattle.tr_survey.specs.Sessions.{sessions_of}
+use Rattle.tr_record.specs.Bytes.{once_more}
+use Rattle.tr_survey.proofs.PrefixLemmas.{front_nothing}
+use Rattle.tr_survey.proofs.SurveyLemmas.{said_no_session, said_unlisted}
+use Rattle.tr_survey.specs.Failures.{reads_after, writes_after}
+use Rattle.tr_survey.specs.Sessions.{sessions_of, survey_of}
 use Rattle.tr_survey.specs.declared.faults.SurveyFault.{SurveyFault}
 use Rattle.tr_survey.specs.declared.faults.SurveyFault.TheVariants as survey
+use Rattle.tr_survey.specs.declared.faults.Surveyed.{Surveyed}
+use Rattle.tr_survey.specs.declared.faults.Surveyed.TheVariants as surveyed
 use Rattle.tr_command.specs.Invocation.{Script, Load, Audit, Task}
 use Rattle.tr_program.specs.Endings.{ending_of_survey}
-use Rattle.tr_program.specs.Runs.{EndsSo, FoldersState, HasAudited, HasNoSession, Outside, TellsAudit}
+use Rattle.tr_program.specs.Runs.{CannotBeRead, EndsSo, FoldersState, HasAudited, HasNoSession, Outside, TellsAudit}
 use Rattle.tr_program.specs.declared.ending.Ending.{Ending}
-use Rattle.tr_program.specs.declared.ending.Ending.TheVariants.{NoSession, NoMemory}
+use Rattle.tr_program.specs.declared.ending.Ending.TheVariants.{NoSession, NoMemory, ReadOrWrite}
 
 -- without memory nothing was begun
 pub ends_without_memory : (asked : Option Task) (o : Outside) → EndsSo o o asked NoMemory
@@ -19,19 +24,20 @@ ends_without_memory None o = (inr refl, (refl, refl, refl))
 ends_without_memory (Some (Script dir)) o = inl (refl, refl, refl)
 ends_without_memory (Some (Load threads records workers dir)) o = (refl, inr ((load.NoMemory, refl), (refl, refl, refl)))
 ends_without_memory (Some (Audit dir)) o = record {
-  audited = record { result = Err survey.NoMemory; ends = refl; tells = λ t known. nothing_told t dir o.host.taken; reads = refl; writes = refl };
+  audited = record { result = Err survey.NoMemory; ends = refl; tells = λ t known. front_nothing (survey_of t dir).text o.host.taken; reads = refl; writes = refl };
   given = refl;
   made = refl;
   inputs = refl;
   disks = refl;
 }
 
-found_none : (t : Tree) (dir : List ℕ) (result : Result (Option ℕ) SurveyFault) (before now : Option (List ℕ)) → NoSession ≡ ending_of_survey result
+found_none : (t : Tree) (dir : List ℕ) (result : Result Surveyed SurveyFault) (before now : Option (List ℕ)) → NoSession ≡ ending_of_survey result
     → TellsAudit t dir result before now → sessions_of t dir ≡ []
-found_none t dir (Ok None) before now e tells = tells.0
-found_none t dir (Ok (Some zero)) before now e tells = absurd cc
-found_none t dir (Ok (Some (suc n))) before now e tells = absurd cc
-found_none t dir (Err survey.Read) before now e tells = absurd cc
+found_none t dir (Ok surveyed.Unlisted) before now e tells = absurd cc
+found_none t dir (Ok surveyed.NoSession) before now e tells = said_no_session t dir tells.state_is
+found_none t dir (Ok (surveyed.Faults zero)) before now e tells = absurd cc
+found_none t dir (Ok (surveyed.Faults (suc n))) before now e tells = absurd cc
+found_none t dir (Err survey.TooMuch) before now e tells = absurd cc
 found_none t dir (Err survey.Write) before now e tells = absurd cc
 found_none t dir (Err survey.NoMemory) before now e tells = absurd cc
 
@@ -39,3 +45,26 @@ pub no_session : (dir : List ℕ) (folders folders_now : FoldersState) (out out_
     → HasAudited dir folders folders_now out out_now ending → ending ≡ NoSession → HasNoSession dir folders.tree
 no_session dir folders folders_now out out_now ending audited is t known =
     found_none t dir audited.result out.taken out_now.taken (rw is at audited.ends) (audited.tells t known)
+
+-- why an audit ends as if reading or writing failed
+abbrev Why : List ℕ → FoldersState → FoldersState → Sunk → Sunk → Type 0
+Why dir folders folders_now out out_now =
+    (out_now.failures ≡ once_more out.failures) ⊎ ((folders_now.failures ≡ once_more folders.failures) ⊎ CannotBeRead dir folders.tree)
+
+why : (dir : List ℕ) (folders folders_now : FoldersState) (out out_now : Sunk) (result : Result Surveyed SurveyFault) → ReadOrWrite ≡ ending_of_survey result
+    → ((t : Tree) → folders.tree ≡ Some t → TellsAudit t dir result out.taken out_now.taken)
+    → folders_now.failures ≡ reads_after result folders.failures → out_now.failures ≡ writes_after result out.failures
+    → Why dir folders folders_now out out_now
+why dir folders folders_now out out_now (Ok surveyed.Unlisted) e tells reads writes =
+    inr (inr (λ t known. said_unlisted t dir (tells t known).state_is))
+why dir folders folders_now out out_now (Ok surveyed.NoSession) e tells reads writes = absurd cc
+why dir folders folders_now out out_now (Ok (surveyed.Faults zero)) e tells reads writes = absurd cc
+why dir folders folders_now out out_now (Ok (surveyed.Faults (suc n))) e tells reads writes = absurd cc
+why dir folders folders_now out out_now (Err survey.TooMuch) e tells reads writes = inr (inl reads)
+why dir folders folders_now out out_now (Err survey.Write) e tells reads writes = inl writes
+why dir folders folders_now out out_now (Err survey.NoMemory) e tells reads writes = absurd cc
+
+pub audit_fault : (dir : List ℕ) (folders folders_now : FoldersState) (out out_now : Sunk) (ending : Ending)
+    → HasAudited dir folders folders_now out out_now ending → ending ≡ ReadOrWrite → Why dir folders folders_now out out_now
+audit_fault dir folders folders_now out out_now ending audited is =
+    why dir folders folders_now out out_now audited.result (rw is at audited.ends) audited.tells audited.reads audited.writes

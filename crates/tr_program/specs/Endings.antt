@@ -12,6 +12,8 @@ use Rattle.tr_pool.specs.declared.report.Mismatch.{Mismatch}
 use Rattle.tr_pool.specs.declared.report.Report.{Report}
 use Rattle.tr_survey.specs.declared.faults.SurveyFault.{SurveyFault}
 use Rattle.tr_survey.specs.declared.faults.SurveyFault.TheVariants as survey
+use Rattle.tr_survey.specs.declared.faults.Surveyed.{Surveyed}
+use Rattle.tr_survey.specs.declared.faults.Surveyed.TheVariants as surveyed
 use Rattle.tr_program.specs.declared.ending.Ending.{Ending}
 use Rattle.tr_program.specs.declared.ending.Ending.TheVariants.{Done, Refused, Faulty, BadCommandLine, ReadOrWrite, NoSession, NoMemory}
 
@@ -68,14 +70,15 @@ abbrev pub ending_of_told : Result Report Mismatch → Result (Unit {0}) ExportF
 ending_of_told outcome (Ok done) = ending_of_outcome outcome
 ending_of_told outcome (Err fault) = ending_of_export fault
 
--- an audit that came to its end: there is no session, or this many faults
-abbrev pub ending_of_audit : Option ℕ → Ending
-ending_of_audit None = NoSession
-ending_of_audit (Some zero) = Done
-ending_of_audit (Some (suc n)) = Faulty
+-- an audit that came to its end: the folder can't be read, or has no session, or there are this many faults
+abbrev pub ending_of_audit : Surveyed → Ending
+ending_of_audit surveyed.Unlisted = ReadOrWrite
+ending_of_audit surveyed.NoSession = NoSession
+ending_of_audit (surveyed.Faults zero) = Done
+ending_of_audit (surveyed.Faults (suc n)) = Faulty
 
-abbrev pub ending_of_survey : Result (Option ℕ) SurveyFault → Ending
-ending_of_survey (Ok found) = ending_of_audit found
-ending_of_survey (Err survey.Read) = ReadOrWrite
+abbrev pub ending_of_survey : Result Surveyed SurveyFault → Ending
+ending_of_survey (Ok said) = ending_of_audit said
+ending_of_survey (Err survey.TooMuch) = ReadOrWrite
 ending_of_survey (Err survey.Write) = ReadOrWrite
 ending_of_survey (Err survey.NoMemory) = NoMemory

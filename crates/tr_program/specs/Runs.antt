@@ -20,9 +20,9 @@ use Rattle.tr_record.specs.declared.bytes.ByteSource as Source
 use Rattle.tr_session.specs.Session.{SessionOf}
 use Rattle.tr_stream.specs.State.{StreamState}
 use Rattle.tr_survey.specs.Failures.{reads_after, writes_after}
-use Rattle.tr_survey.specs.Fronts.{HasToldPrefix}
-use Rattle.tr_survey.specs.Sessions.{TellsFolder, sessions_of}
+use Rattle.tr_survey.specs.Sessions.{HasToldPrefix, TellsFolder, sessions_of}
 use Rattle.tr_survey.specs.declared.faults.SurveyFault.{SurveyFault}
+use Rattle.tr_survey.specs.declared.faults.Surveyed.{Surveyed}
 use Rattle.tr_command.specs.Invocation.{Folder, Script, Load, Audit, Task}
 use Rattle.tr_program.specs.Endings.{ending_of_load, ending_of_refused, ending_of_survey, ending_of_told, message_of, status_of}
 use Rattle.tr_program.specs.Exports.{IsMadeBelow, all_made}
@@ -77,13 +77,13 @@ outside_of source sink disks ghosts input out disk folders = record {
 }
 
 -- what is told of a folder by an audit with this result, before which this was out, and after which that is
-abbrev pub TellsAudit : Tree → List ℕ → Result (Option ℕ) SurveyFault → Option (List ℕ) → Option (List ℕ) → Type 0
-TellsAudit t dir (Ok found) before now = TellsFolder t dir found before now
+abbrev pub TellsAudit : Tree → List ℕ → Result Surveyed SurveyFault → Option (List ℕ) → Option (List ℕ) → Type 0
+TellsAudit t dir (Ok said) before now = TellsFolder t dir said before now
 TellsAudit t dir (Err fault) before now = HasToldPrefix t dir before now
 
 -- what stands in a folder was told to an output, or a front of it, and the ending says how many faults there are, or why not
 pub record HasAudited (dir : List ℕ) (folders folders_now : FoldersState) (out out_now : Sunk) (ending : Ending) : Type 0 where
-  pub result : Result (Option ℕ) SurveyFault
+  pub result : Result Surveyed SurveyFault
   pub ends : ending ≡ ending_of_survey result
   pub tells : (t : Tree) → folders.tree ≡ Some t → TellsAudit t dir result out.taken out_now.taken
   pub reads : folders_now.failures ≡ reads_after result folders.failures
@@ -92,6 +92,10 @@ pub record HasAudited (dir : List ℕ) (folders folders_now : FoldersState) (out
 -- no session stands in a folder, as far as is known
 abbrev pub HasNoSession : List ℕ → Option Tree → Type 0
 HasNoSession dir tree = (t : Tree) → tree ≡ Some t → sessions_of t dir ≡ []
+
+-- a folder can't be read, as far as is known
+abbrev pub CannotBeRead : List ℕ → Option Tree → Type 0
+CannotBeRead dir tree = (t : Tree) → tree ≡ Some t → t.is_hidden dir ≡ true
 
 -- what a settled load came to was told to an output and a disk, and the ending says with which result
 pub record EndsTold (dir : Folder) (threads : ℕ) (session : SessionOf StreamState) (outcome : Result Report Mismatch) (watched : Option ℕ)
@@ -225,12 +229,13 @@ pub record HasEnded (asked : Option Task) (old new : Outside) (told told_now : S
   pub line : IsTold ending told told_now
   pub ends : EndsSo old new asked ending
 
--- an audit is asked for, and reading failed, or there is no session
+-- an audit is asked for, and reading failed, or the folder can't be read or has no session
 abbrev pub LacksArchives : Option Task → FoldersState → FoldersState → Type 0
 LacksArchives None old new = ⊥
 LacksArchives (Some (Script dir)) old new = ⊥
 LacksArchives (Some (Load threads records workers watch dir)) old new = ⊥
-LacksArchives (Some (Audit dir)) old new = (new.failures ≡ once_more old.failures) ⊎ HasNoSession dir old.tree
+LacksArchives (Some (Audit dir)) old new =
+    (new.failures ≡ once_more old.failures) ⊎ (CannotBeRead dir old.tree ⊎ HasNoSession dir old.tree)
 
 -- what a status of 3 says
 abbrev pub HasFault : Option Task → Outside → Outside → Type 0

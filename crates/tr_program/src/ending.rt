@@ -8,7 +8,7 @@ use tr_console::ScriptFault;
 use tr_export::ExportFault;
 use tr_load::LoadFault;
 use tr_pool::{Mismatch, Report};
-use tr_survey::SurveyFault;
+use tr_survey::{SurveyFault, Surveyed};
 
 /// How a run of the program ends.
 #[derive(Clone, Copy, Debug, PartialEq, Eq)]
@@ -120,14 +120,16 @@ impl Ending {
     }
 
     /// How an audit that came to its end ends the program, or one that didn't.
-    pub fn of_survey(survey: Result<Option<u64>, SurveyFault>) -> Ending
+    pub fn of_survey(survey: Result<Surveyed, SurveyFault>) -> Ending
         ensures { result ≡ ending_of_survey survey }
     {
         match survey {
-            Ok(None) => Ending::NoSession,
-            Ok(Some(0)) => Ending::Done,
-            Ok(Some(_)) => Ending::Faulty,
-            Err(SurveyFault::Read | SurveyFault::Write) => Ending::ReadOrWrite,
+            Ok(Surveyed::NoSession) => Ending::NoSession,
+            Ok(Surveyed::Faults(0)) => Ending::Done,
+            Ok(Surveyed::Faults(_)) => Ending::Faulty,
+            Ok(Surveyed::Unlisted) | Err(SurveyFault::TooMuch | SurveyFault::Write) => {
+                Ending::ReadOrWrite
+            }
             Err(SurveyFault::NoMemory) => Ending::NoMemory,
         }
     }

@@ -1,12 +1,12 @@
+pub mod BytesLemmas
 pub mod FileNameLemmas
-pub mod FindLemmas
-pub mod PrefixLemmas
+pub mod HeadLemmas
 pub mod ListingLemmas
 pub mod MetadataLemmas
 pub mod MetadataTextLemmas
 pub mod NameLemmas
 pub mod NumberLemmas
-pub mod PieceLemmas
+pub mod PrefixLemmas
 pub mod StampLemmas
 pub mod SurveyLemmas
 pub mod TellLemmas

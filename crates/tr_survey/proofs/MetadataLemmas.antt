@@ -1,11 +1,14 @@
 -- The identifier that the lines of metadata name, line by line.
-use Rattle.std.proofs.Common.{◌≡◌, ◌+◌, ℕ, suc, Bool, true, false, not, cond, ltb, refl, sym, ap, ◌∙◌, arith, List, [], ◌∷◌, length, take, drop, drop-drop, Option, Some, None}
+use Rattle.std.proofs.Common.{◌≡◌, ◌+◌, ◌<◌, ◌&&◌, ℕ, suc, Bool, true, false, not, cond, ltb, refl, sym, ap, ◌∙◌, arith, List, [], ◌∷◌, length, take, drop, drop-drop, Option, Some, None}
 use Rattle.std.specs.List.{onto_first, position, position_or_len, slice_split}
 use Rattle.std.specs.Option.{option_or}
-use Rattle.std.proofs.lemmas.Bool.{ltb-true, ltb-false}
+use Rattle.std.proofs.lemmas.Bool.{lt-ltb, ltb-true, ltb-false}
 use Rattle.std.proofs.lemmas.List.Splits.{slice_split_first}
 use Rattle.std.proofs.lemmas.List.Sums.{prefix_len-le-length}
-use Rattle.tr_survey.specs.Metadata.{ends_line, named, naming_in, uuid_in, uuid_in_line, uuid_in_lines}
+use Rattle.tr_folders.specs.Tree.{File}
+use Rattle.tr_survey.specs.Metadata.{ends_line, named, naming_by, naming_in, uuid_in, uuid_in_line, uuid_in_lines}
+use Rattle.tr_survey.specs.declared.naming.Naming.{Naming}
+use Rattle.tr_survey.specs.declared.naming.Naming.TheVariants.{Unreadable}
 use Rattle.tr_terms.specs.declared.limits.TheConstants.{MOST_METADATA}
 
 abbrev end_of : List ℕ → ℕ
@@ -64,7 +67,26 @@ not_in_line bytes line more rest end some is-line is-more is-rest none =
     ∙ ap (λ o. option_or o (uuid_in (drop (end + 1) bytes))) (none ∙ ap uuid_in_line is-line)
     ∙ sym (next_line bytes end some)
 
--- what the first bytes of a file name
-pub named_by : (file : Option (List ℕ)) (bytes front : List ℕ) (uuid : Option (List ℕ)) → file ≡ Some bytes → front ≡ take MOST_METADATA bytes
-    → uuid ≡ uuid_in front → named uuid ≡ naming_in file
-named_by file bytes front uuid is is-front found = ap named (found ∙ ap uuid_in is-front) ∙ ap naming_in (sym is)
+-- what bytes name that are some
+pub named_some : (bytes : List ℕ) (uuid : Option (List ℕ)) → (length bytes ≡ 0 → ⊥) → uuid ≡ uuid_in bytes → named bytes uuid ≡ naming_by bytes
+named_some [] uuid some is = absurd (some refl)
+named_some (b ∷ bytes) uuid some is = ap (named (b ∷ bytes)) is
+
+-- the open file is read as metadata up to its end or as far as it counts
+pub read_whole : (file : File) (front : List ℕ) (naming : Naming) → front ≡ take MOST_METADATA file.bytes
+    → (length file.bytes < MOST_METADATA → file.breaks ≡ false) → naming ≡ naming_by front → naming ≡ naming_in (Some file)
+read_whole file front naming is whole found = found ∙ ap naming_by is ∙ by_test (ltb (length file.bytes) MOST_METADATA) refl
+  where
+    by_test : (test : Bool) → ltb (length file.bytes) MOST_METADATA ≡ test
+        → naming_by (take MOST_METADATA file.bytes)
+        ≡ cond (ltb (length file.bytes) MOST_METADATA && file.breaks) Unreadable (naming_by (take MOST_METADATA file.bytes))
+    by_test true e =
+        ap (λ (t : Bool). cond t Unreadable (naming_by (take MOST_METADATA file.bytes)))
+        (sym (ap (λ (t : Bool). t && file.breaks) e ∙ whole (ltb-true (length file.bytes) MOST_METADATA e)))
+    by_test false e =
+        ap (λ (t : Bool). cond t Unreadable (naming_by (take MOST_METADATA file.bytes))) (sym (ap (λ (t : Bool). t && file.breaks) e))
+
+pub read_broken : (file : File) → (length file.bytes < MOST_METADATA) × (file.breaks ≡ true) → Unreadable ≡ naming_in (Some file)
+read_broken file broken =
+    ap (λ (t : Bool). cond t Unreadable (naming_by (take MOST_METADATA file.bytes)))
+    (sym (ap (λ (t : Bool). t && file.breaks) (lt-ltb _ _ broken.0) ∙ broken.1))

@@ -1,5 +1,5 @@
 -- The metadata of a trace are read as naming its identifier.
-use Rattle.std.proofs.Common.{◌≡◌, ℕ, ◌-◌, ◌<◌, ◌≤◌, Bool, true, false, not, cond, inl, refl, sym, ap, ◌∙◌, arith, List, [], ◌∷◌, ◌++◌, length, Option, Some, None, All, append_assoc, length-append}
+use Rattle.std.proofs.Common.{◌≡◌, ℕ, ◌-◌, ◌<◌, ◌≤◌, Bool, true, false, not, cond, eqb, eq-eqb, inl, refl, sym, ap, ◌∙◌, arith, List, [], ◌∷◌, ◌++◌, length, Option, Some, None, All, append_assoc, length-append}
 use Rattle.std.specs.Prelude.{codes}
 use Rattle.std.specs.List.{list_all, onto_first, slice_split}
 use Rattle.std.specs.Option.{option_and_then, option_or}
@@ -15,8 +15,11 @@ use Rattle.uuid.proofs.RoundTrips.{parses_hyphenated}
 use Rattle.uuid.proofs.TextLemmas.{by_index_at, by_index_length}
 use Rattle.uuid.specs.Text.{digit_place, hex_digit, hyphenated_text, is_hyphen_place, lower, nibble, parsed}
 use Rattle.tr_packet.specs.Metadata.{clock_text, event_text, lines, metadata_of, packet_header_text, preface_text, stream_text}
-use Rattle.tr_survey.specs.Metadata.{ends_line, named, naming_in, quoted, uuid_in, uuid_in_line, uuid_in_lines}
-use Rattle.tr_survey.specs.declared.naming.Naming.TheVariants.{Named}
+use Rattle.std.specs.Cmp.Lexicographic.{pointwise}
+use Rattle.tr_folders.specs.Kept.{file_of}
+use Rattle.tr_survey.proofs.MetadataLemmas.{read_whole}
+use Rattle.tr_survey.specs.Metadata.{ends_line, named, naming_by, naming_in, quoted, uuid_in, uuid_in_line, uuid_in_lines}
+use Rattle.tr_survey.specs.declared.naming.Naming.TheVariants.{Named, Other}
 use Rattle.tr_terms.specs.declared.limits.TheConstants.{MOST_METADATA}
 
 -- ---- the identifier
@@ -133,9 +136,29 @@ metadata_parts uuid =
     regroup preface_text (lines (codes "trace {" ∷ codes "  major = 1;" ∷ codes "  minor = 8;" ∷ [])) (codes "  uuid = \"")
     (hyphenated_text lower uuid) (codes "\";") packet_header_text (clock_text ++ (stream_text ++ event_text))
 
-named_by_line : (bytes text uuid : List ℕ) → bytes ≡ front ++ (10 ∷ (line_of text ++ (10 ∷ behind))) → length text ≡ 36
-    → uuid_in (line_of text) ≡ Some uuid → naming_in (Some bytes) ≡ Named uuid
-named_by_line bytes text uuid parts long found =
+uuid_of_line : (bytes text uuid : List ℕ) → bytes ≡ front ++ (10 ∷ (line_of text ++ (10 ∷ behind)))
+    → uuid_in (line_of text) ≡ Some uuid → uuid_in bytes ≡ Some uuid
+uuid_of_line bytes text uuid parts found =
+    ap uuid_in parts
+    ∙ named_before_or_behind front (line_of text ++ (10 ∷ behind))
+    ∙ ap (λ (o : Option (List ℕ)). option_or o (uuid_in (line_of text ++ (10 ∷ behind)))) none_in_front
+    ∙ named_before_or_behind (line_of text) behind
+    ∙ ap (λ (o : Option (List ℕ)). option_or o (uuid_in behind)) found
+
+pointwise-same : (xs : List ℕ) → pointwise eqb xs xs ≡ true
+pointwise-same [] = refl
+pointwise-same (x ∷ xs) = also _ _ (eq-eqb x x refl) (pointwise-same xs)
+
+-- the recorder's text is known as such
+by_own_text : (bytes uuid : List ℕ) → bytes ≡ metadata_of uuid → (length bytes ≡ 0 → ⊥) → uuid_in bytes ≡ Some uuid → naming_by bytes ≡ Named uuid
+by_own_text [] uuid is some found = absurd (some refl)
+by_own_text (b ∷ bytes) uuid is some found =
+    ap (named (b ∷ bytes)) found
+    ∙ ap (λ (t : Bool). cond t (Named uuid) (Other uuid)) (ap (λ (l : List ℕ). pointwise eqb l (metadata_of uuid)) is ∙ pointwise-same (metadata_of uuid))
+
+named_by_line : (bytes text uuid : List ℕ) → bytes ≡ front ++ (10 ∷ (line_of text ++ (10 ∷ behind))) → bytes ≡ metadata_of uuid → length text ≡ 36
+    → uuid_in (line_of text) ≡ Some uuid → naming_in (Some (file_of bytes false)) ≡ Named uuid
+named_by_line bytes text uuid parts own long found =
     let short : length bytes ≤ MOST_METADATA = omega (
       arith,
       ap length parts,
@@ -145,14 +168,13 @@ named_by_line bytes text uuid parts long found =
       front_short,
       behind_short,
     ) in
-    ap (λ (l : List ℕ). named (uuid_in l)) (take_all MOST_METADATA bytes short ∙ parts)
-    ∙ ap named (named_before_or_behind front (line_of text ++ (10 ∷ behind))
-    ∙ ap (λ (o : Option (List ℕ)). option_or o (uuid_in (line_of text ++ (10 ∷ behind)))) none_in_front
-    ∙ named_before_or_behind (line_of text) behind
-    ∙ ap (λ (o : Option (List ℕ)). option_or o (uuid_in behind)) found)
+    let some : length bytes ≡ 0 → ⊥ = λ none. omega (arith, none, ap length parts, length-append front (10 ∷ (line_of text ++ (10 ∷ behind)))) in
+    sym (read_whole (file_of bytes false) bytes (naming_by bytes) (sym (take_all MOST_METADATA bytes short)) (λ _. refl) refl)
+    ∙ by_own_text bytes uuid own some (uuid_of_line bytes text uuid parts found)
 
-pub metadata_are_of_trace : (uuid : List ℕ) → length uuid ≡ 16 → All (λ b. b < 256) uuid → naming_in (Some (metadata_of uuid)) ≡ Named uuid
+pub metadata_are_of_trace : (uuid : List ℕ) → length uuid ≡ 16 → All (λ b. b < 256) uuid
+    → naming_in (Some (file_of (metadata_of uuid) false)) ≡ Named uuid
 metadata_are_of_trace uuid long small =
     let text = hyphenated_text lower uuid in
     let found = in_line_of text uuid (long_so uuid) (text_stays uuid) (parses_hyphenated lower uuid (inl refl) long small) in
-    named_by_line (metadata_of uuid) text uuid (metadata_parts uuid) (long_so uuid) found
+    named_by_line (metadata_of uuid) text uuid (metadata_parts uuid) refl (long_so uuid) found

@@ -1,121 +1,235 @@
--- What is told of streams and sessions, one after another.
-use Rattle.std.proofs.Common.{◌≡◌, ◌+◌, ◌<◌, ℕ, zero, suc, Bool, cond, refl, sym, ap, subst, ◌∙◌, arith, List, [], ◌∷◌, ◌++◌, length, map, take, get_or, Option, append-nil, add-zero, zero-add}
-use Rattle.std.specs.List.{AllByRecursion, count_by, flat_map, zip}
-use Rattle.std.proofs.lemmas.Grind.{flat_map-append}
-use Rattle.std.proofs.lemmas.List.{map-append}
-use Rattle.std.proofs.lemmas.List.Sums.{sum_by-append}
+-- What is told of a stream's files, one step after another.
+use Rattle.std.proofs.Common.{◌≡◌, ◌≢◌, ◌+◌, ◌<◌, ◌≤◌, ℕ, zero, suc, refl, sym, ap, subst, ◌∙◌, arith, Bool, true, false, List, [], ◌∷◌, ◌++◌, length, map, drop, get_or, Option, Some, None, append-nil, append_assoc, drop-drop}
+use Rattle.std.proofs.lemmas.List.{length-append, length-drop}
+use Rattle.tr_chunk.proofs.WaitingLemmas.{nothing_waits}
 use Rattle.tr_chunk.specs.Audit.{capped_count}
+use Rattle.tr_folders.specs.Kept.{file_of}
+use Rattle.tr_folders.specs.Tree.{File, IsBroken, Reads, Tree}
 use Rattle.tr_record.specs.Bytes.{and_then_bytes}
-use Rattle.tr_record.proofs.ByteLemmas.{and_then_bytes-append, and_then_bytes-none}
-use Rattle.tr_survey.specs.Findings.{Finds, files_of, finding_text, is_faulty}
-use Rattle.tr_survey.specs.Metadata.{first_named}
+use Rattle.tr_record.proofs.ByteLemmas.{and_then_bytes-append}
+use Rattle.tr_survey.specs.Listing.{key_of}
 use Rattle.tr_survey.specs.Order.{Numbered}
-use Rattle.tr_survey.specs.Sessions.{StreamFound, TellsAll, TellsNamed, TellsStreams, archives_at_fault, head_text}
-use Rattle.tr_folders.specs.Tree.{Tree}
-use Rattle.tr_survey.specs.declared.findings.Finding.{Finding}
-use Rattle.tr_survey.specs.declared.naming.Naming.{Naming}
+use Rattle.tr_survey.specs.Prefix.{GoesOn, IsPrefixOut, IsTold}
+use Rattle.tr_survey.specs.Steps.{AreFew, HasGone, IsHeld}
+use Rattle.tr_survey.specs.Streams.{Place, bytes_told, file_in, file_told, files_told, left_told, place, stream_told, streams_told, unreadable_told}
+use Rattle.tr_survey.specs.Told.{Told, and_then, told}
+use Rattle.tr_survey.specs.declared.tally.Tally.{Tally}
+use Rattle.tr_survey.specs.declared.names.Numbered as value
+use Rattle.tr_survey.proofs.BytesLemmas.{broken_step, end_step}
+use Rattle.tr_survey.proofs.PrefixLemmas.{front_longer, front_nothing, front_then, from_place, goes_both, goes_start, goes_text, goes_to, goes_told}
 
-pub all-append : {X : Type 0} (P : X → Type 0) (xs ys : List X) → AllByRecursion P xs → AllByRecursion P ys → AllByRecursion P (xs ++ ys)
-all-append P [] ys none all = all
-all-append P (x ∷ xs) ys all more = (all.0, all-append P xs ys all.1 more)
+-- ---- held bytes
 
--- what is seen of a list's front, one element more
-pub seen_more : {A B : Type 0} (f : A → B) (xs : List A) (i : ℕ) (x : A) → i < length xs → x ≡ get_or xs i x
-    → map f (take (i + 1) xs) ≡ map f (take i xs) ++ f x ∷ []
-seen_more f [] i x within is = absurd (omega arith)
-seen_more f (y ∷ xs) zero x within is = ap (λ a. f a ∷ []) (sym is)
-seen_more f (y ∷ xs) (suc i) x within is =
-    let next : suc i + 1 ≡ suc (i + 1) = omega arith in
-    let here : i < length xs = omega arith in
-    ap (λ (n : ℕ). map f (take n (y ∷ xs))) next ∙ ap (λ l. f y ∷ l) (seen_more f xs i x here is)
+pub gone_none : (at : Place) (s : Tally) (offset n : ℕ) (held rest : List ℕ) (breaks : Bool) (before : Option (List ℕ)) → length (held ++ rest) < n
+    → HasGone at s offset n held rest breaks before before s offset held
+gone_none at s offset n held rest breaks before enough = record { most = n; enough = enough; goes = goes_start _ before }
 
--- a count that stops at the greatest u64, of two parts
-pub capped-more : (n m k : ℕ) → n ≡ capped_count m → capped_count (n + k) ≡ capped_count (m + k)
-capped-more n m k is = rw is (omega arith)
-
-pub more_out : (before now after : Option (List ℕ)) (text line : List ℕ) → now ≡ and_then_bytes before text → after ≡ and_then_bytes now line
-    → after ≡ and_then_bytes before (text ++ line)
-more_out before now after text line out then =
-    then ∙ ap (λ (known : Option (List ℕ)). and_then_bytes known line) out ∙ and_then_bytes-append before text line
-
--- ---- streams
-
--- this is told of these streams so far
-pub record ToldSoFar (t : Tree) (folder uuid : List ℕ) (archives streams : List Numbered) (n : ℕ) (before now : Option (List ℕ)) : Type 0 where
-  pub text : List ℕ
-  pub faults : ℕ
-  pub tells : TellsStreams t folder uuid archives streams text faults
-  pub count : n ≡ capped_count faults
-  pub out : now ≡ and_then_bytes before text
-
-pub told_nothing : (t : Tree) (folder uuid : List ℕ) (archives : List Numbered) (before : Option (List ℕ)) → ToldSoFar t folder uuid archives [] 0 before before
-told_nothing t folder uuid archives before = record {
-  text = [];
-  faults = 0;
-  tells = record { founds = []; of_streams = refl; found = tt; text_is = refl; faults_is = refl };
-  count = refl;
-  out = sym (and_then_bytes-none before);
-}
-
-pub tells_more : (t : Tree) (folder uuid : List ℕ) (archives streams : List Numbered) (stream : Numbered) (finding : Finding) (text : List ℕ) (faults : ℕ)
-    → TellsStreams t folder uuid archives streams text faults → Finds uuid stream.number (files_of t folder stream archives) finding
-    → TellsStreams t folder uuid archives (streams ++ stream ∷ []) (text ++ finding_text archives stream finding) (faults + cond (is_faulty finding) 1 0)
-tells_more t folder uuid archives streams stream finding text faults tells finds =
-    let one : StreamFound = record { stream = stream; finding = finding } in
-    let lines = λ (f : StreamFound). finding_text archives f.stream f.finding in
-    record {
-      founds = tells.founds ++ one ∷ [];
-      of_streams = map-append (λ (f : StreamFound). f.stream) tells.founds (one ∷ []) ∙ ap (λ (l : List Numbered). l ++ stream ∷ []) tells.of_streams;
-      found = all-append _ tells.founds (one ∷ []) tells.found (finds, tt);
-      text_is =
-          ap (λ (l : List ℕ). l ++ finding_text archives stream finding) tells.text_is
-          ∙ ap (λ (l : List ℕ). flat_map lines tells.founds ++ l) (sym (append-nil (finding_text archives stream finding)))
-          ∙ sym (flat_map-append lines tells.founds (one ∷ []));
-      faults_is =
-          ap (λ (n : ℕ). n + cond (is_faulty finding) 1 0) tells.faults_is
-          ∙ ap (λ (n : ℕ). count_by (λ (f : StreamFound). is_faulty f.finding) tells.founds + n) (sym (zero-add (cond (is_faulty finding) 1 0)))
-          ∙ sym (sum_by-append (λ (f : StreamFound). cond (is_faulty f.finding) 1 0) tells.founds (one ∷ []));
-    }
-
-pub told_more : (t : Tree) (folder uuid : List ℕ) (archives streams more : List Numbered) (stream : Numbered) (finding : Finding) (n m : ℕ) (faulty : Bool)
-    (before now after : Option (List ℕ)) → ToldSoFar t folder uuid archives streams n before now → more ≡ streams ++ stream ∷ []
-    → Finds uuid stream.number (files_of t folder stream archives) finding → faulty ≡ is_faulty finding → m ≡ capped_count (n + cond faulty 1 0)
-    → after ≡ and_then_bytes now (finding_text archives stream finding) → ToldSoFar t folder uuid archives more m before after
-told_more t folder uuid archives streams more stream finding n m faulty before now after told is finds is-faulty count out = record {
-  text = told.text ++ finding_text archives stream finding;
-  faults = told.faults + cond (is_faulty finding) 1 0;
-  tells =
-      subst (λ (l : List Numbered). TellsStreams t folder uuid archives l (told.text ++ finding_text archives stream finding) (told.faults + cond (is_faulty finding) 1 0))
-      (sym is) (tells_more t folder uuid archives streams stream finding told.text told.faults told.tells finds);
-  count =
-      count ∙ ap (λ (b : Bool). capped_count (n + cond b 1 0)) is-faulty ∙ capped-more n told.faults (cond (is_faulty finding) 1 0) told.count;
-  out = more_out before now after told.text (finding_text archives stream finding) told.out out;
-}
-
--- ---- a session
-
--- what is told of a session by its archives and what their metadata name
-pub named_tells : (t : Tree) (session folder : List ℕ) (archives : List Numbered) (namings : List Naming) (uuid : Option (List ℕ)) (streams_text : List ℕ)
-    (streams_at_fault n : ℕ) (start head now : Option (List ℕ)) → uuid ≡ first_named namings → TellsAll t folder uuid archives streams_text streams_at_fault
-    → head ≡ and_then_bytes start (head_text session uuid archives namings) → now ≡ and_then_bytes head streams_text
-    → n ≡ capped_count (archives_at_fault uuid (zip archives namings) + streams_at_fault)
-    → (text : List ℕ) × (faults : ℕ) × TellsNamed t session folder archives namings text faults × (n ≡ capped_count faults) × (now ≡ and_then_bytes start text)
-named_tells t session folder archives namings uuid streams_text streams_at_fault n start head now is tells head_out out count = (
-  head_text session uuid archives namings ++ streams_text,
-  archives_at_fault uuid (zip archives namings) + streams_at_fault,
-  record {
-    streams_text = streams_text;
-    streams_at_fault = streams_at_fault;
-    streams = subst (λ (u : Option (List ℕ)). TellsAll t folder u archives streams_text streams_at_fault) is tells;
-    text_is = ap (λ (u : Option (List ℕ)). head_text session u archives namings ++ streams_text) is;
-    faults_is = ap (λ (u : Option (List ℕ)). archives_at_fault u (zip archives namings) + streams_at_fault) is;
-  },
-  count,
-  more_out start head now (head_text session uuid archives namings) streams_text head_out out,
+gone_by : (at : Place) (whole : Told Tally) (s t : Tally) (offset further size most : ℕ) (left rest : List ℕ) (breaks : Bool)
+    (before mid now : Option (List ℕ)) → length (left ++ rest) < most → GoesOn whole (bytes_told most at s offset (left ++ rest) breaks) before mid
+    → 0 < size → size ≤ length left
+    → ((m : ℕ) → GoesOn (bytes_told (suc m) at s offset (left ++ rest) breaks) (bytes_told m at t further (drop size left ++ rest) breaks) mid now)
+    → (m : ℕ) × (length (drop size left ++ rest) < m) × GoesOn whole (bytes_told m at t further (drop size left ++ rest) breaks) before now
+gone_by at whole s t offset further size zero left rest breaks before mid now enough goes some within then = absurd (omega arith)
+gone_by at whole s t offset further size (suc m) left rest breaks before mid now enough goes some within then = (
+  m,
+  (let a = length-append left rest in let b = length-append (drop size left) rest in let d = length-drop size left in omega (arith, enough, some, within, a, b, d)),
+  goes_both whole _ _ before mid now goes (then m),
 )
 
-pub capped-zero : (n m : ℕ) → n ≡ capped_count m → n ≡ capped_count (m + 0)
-capped-zero n m is = is ∙ ap capped_count (sym (add-zero m))
+pub gone_more : (at : Place) (s : Tally) (offset n : ℕ) (held rest : List ℕ) (breaks : Bool) (before mid now : Option (List ℕ)) (t u : Tally)
+    (further size i : ℕ) → HasGone at s offset n held rest breaks before mid t further (drop i held) → 0 < size → size ≤ length (drop i held)
+    → ((m : ℕ) (rest : List ℕ) (breaks : Bool)
+    → GoesOn (bytes_told (suc m) at t further (drop i held ++ rest) breaks)
+    (bytes_told m at u (capped_count (further + size)) (drop size (drop i held) ++ rest) breaks) mid now)
+    → HasGone at s offset n held rest breaks before now u (capped_count (further + size)) (drop (i + size) held)
+gone_more at s offset n held rest breaks before mid now t u further size i gone some within then =
+    let next = gone_by at _ t u further (capped_count (further + size)) size gone.most (drop i held) rest breaks before mid now gone.enough gone.goes some within
+    (λ m. then m rest breaks) in
+    let whole : HasGone at s offset n held rest breaks before now u (capped_count (further + size)) (drop size (drop i held)) =
+    record { most = next.0; enough = next.1; goes = next.2 } in
+    subst (λ (l : List ℕ). HasGone at s offset n held rest breaks before now u (capped_count (further + size)) l) (drop-drop size i held) whole
 
-pub capped-sum : (n m a b : ℕ) → n ≡ capped_count a → m ≡ capped_count b → capped_count (n + m) ≡ capped_count (a + b)
-capped-sum n m a b e f = rw (e, f) (omega arith)
+told_by : (at : Place) (whole : Told Tally) (s t : Tally) (offset most : ℕ) (left rest : List ℕ) (breaks : Bool) (before mid now : Option (List ℕ))
+    → length (left ++ rest) < most → GoesOn whole (bytes_told most at s offset (left ++ rest) breaks) before mid
+    → ((m : ℕ) → IsTold (bytes_told (suc m) at s offset (left ++ rest) breaks) mid now t) → IsTold whole before now t
+told_by at whole s t offset zero left rest breaks before mid now enough goes then = absurd (omega arith)
+told_by at whole s t offset (suc m) left rest breaks before mid now enough goes then = goes_told whole _ before mid now t goes (then m)
+
+pub gone_stopped : (at : Place) (s : Tally) (offset n : ℕ) (held rest : List ℕ) (breaks : Bool) (before mid now : Option (List ℕ)) (t u : Tally)
+    (further : ℕ) (left : List ℕ) → HasGone at s offset n held rest breaks before mid t further left
+    → ((m : ℕ) (rest : List ℕ) (breaks : Bool) → IsTold (bytes_told (suc m) at t further (left ++ rest) breaks) mid now u)
+    → IsTold (bytes_told n at s offset (held ++ rest) breaks) before now u
+gone_stopped at s offset n held rest breaks before mid now t u further left gone then =
+    told_by at _ t u further gone.most left rest breaks before mid now gone.enough gone.goes (λ m. then m rest breaks)
+
+front_by : (at : Place) (whole : Told Tally) (s : Tally) (offset most : ℕ) (left rest : List ℕ) (breaks : Bool) (before mid now : Option (List ℕ))
+    → length (left ++ rest) < most → GoesOn whole (bytes_told most at s offset (left ++ rest) breaks) before mid
+    → ((m : ℕ) → IsPrefixOut (bytes_told (suc m) at s offset (left ++ rest) breaks).text mid now) → IsPrefixOut whole.text before now
+front_by at whole s offset zero left rest breaks before mid now enough goes then = absurd (omega arith)
+front_by at whole s offset (suc m) left rest breaks before mid now enough goes then = goes.front now (then m)
+
+pub gone_front : (at : Place) (s : Tally) (offset n : ℕ) (held rest : List ℕ) (breaks : Bool) (before mid now : Option (List ℕ)) (t : Tally)
+    (further : ℕ) (left : List ℕ) → HasGone at s offset n held rest breaks before mid t further left
+    → ((m : ℕ) (rest : List ℕ) (breaks : Bool) → IsPrefixOut (bytes_told (suc m) at t further (left ++ rest) breaks).text mid now)
+    → IsPrefixOut (bytes_told n at s offset (held ++ rest) breaks).text before now
+gone_front at s offset n held rest breaks before mid now t further left gone then =
+    front_by at _ t further gone.most left rest breaks before mid now gone.enough gone.goes (λ m. then m rest breaks)
+
+-- nothing more went out
+pub goes_nothing : {S : Type 0} (whole rest : Told S) (before now : Option (List ℕ)) → GoesOn whole rest before now → IsPrefixOut whole.text before now
+goes_nothing whole rest before now goes = goes.front now (front_nothing rest.text now)
+
+-- ---- a file
+
+-- of an open file this is held, and what comes after it is left
+pub record ReadSoFar (whole : Told Tally) (at : Place) (breaks : Bool) (before now : Option (List ℕ)) (left : Option File) (s : Tally) (offset : ℕ)
+    (held : List ℕ) : Type 0 where
+  pub rest : List ℕ
+  pub left_is : left ≡ Some (file_of rest breaks)
+  pub most : ℕ
+  pub enough : length (held ++ rest) < most
+  pub goes : GoesOn whole (bytes_told most at s offset (held ++ rest) breaks) before now
+
+pub read_start : (at : Place) (s : Tally) (file : File) (before : Option (List ℕ)) (left : Option File) → left ≡ Some file
+    → ReadSoFar (file_told at s (Some file)) at file.breaks before before left s 0 []
+read_start at s file before left is = record {
+  rest = file.bytes;
+  left_is = is;
+  most = suc (length file.bytes);
+  enough = omega arith;
+  goes = goes_start _ before;
+}
+
+pub read_more : (whole : Told Tally) (at : Place) (breaks : Bool) (before now : Option (List ℕ)) (left after : Option File) (s : Tally) (offset : ℕ)
+    (held given more : List ℕ) → more ≡ held ++ given → (so_far : ReadSoFar whole at breaks before now left s offset held)
+    → ((file : File) → left ≡ Some file → Reads file given after) → ReadSoFar whole at breaks before now after s offset more
+read_more whole at breaks before now left after s offset held given more is so_far reads =
+    let step = reads (file_of so_far.rest breaks) so_far.left_is in
+    let same : held ++ so_far.rest ≡ more ++ step.rest =
+    ap (λ (l : List ℕ). held ++ l) step.is ∙ sym (append_assoc held given step.rest) ∙ ap (λ (l : List ℕ). l ++ step.rest) (sym is) in
+    record {
+      rest = step.rest;
+      left_is = step.left_is;
+      most = so_far.most;
+      enough = subst (λ (l : List ℕ). length l < so_far.most) same so_far.enough;
+      goes = goes_to whole _ _ before now (ap (λ (l : List ℕ). bytes_told so_far.most at s offset l breaks) same) so_far.goes;
+    }
+
+pub read_told : (whole : Told Tally) (at : Place) (breaks : Bool) (before mid now : Option (List ℕ)) (left after : Option File) (s t : Tally)
+    (offset further : ℕ) (held kept : List ℕ) → ReadSoFar whole at breaks before mid left s offset held → after ≡ left
+    → IsHeld at s offset held false mid now t further kept → ReadSoFar whole at breaks before now after t further kept
+read_told whole at breaks before mid now left after s t offset further held kept so_far same is =
+    let gone = is.1 so_far.most so_far.rest breaks so_far.enough in
+    record {
+      rest = so_far.rest;
+      left_is = same ∙ so_far.left_is;
+      most = gone.most;
+      enough = gone.enough;
+      goes = goes_both whole _ _ before mid now so_far.goes gone.goes;
+    }
+
+pub read_stopped : (whole : Told Tally) (at : Place) (breaks : Bool) (before mid now : Option (List ℕ)) (left : Option File) (s t : Tally)
+    (offset further : ℕ) (held kept : List ℕ) → ReadSoFar whole at breaks before mid left s offset held
+    → IsHeld at s offset held true mid now t further kept → IsTold whole before now t
+read_stopped whole at breaks before mid now left s t offset further held kept so_far is =
+    goes_told whole _ before mid now t so_far.goes (is so_far.most so_far.rest breaks so_far.enough)
+
+pub read_front : (whole : Told Tally) (at : Place) (breaks : Bool) (before mid now : Option (List ℕ)) (left : Option File) (s : Tally)
+    (offset : ℕ) (held : List ℕ) → ReadSoFar whole at breaks before mid left s offset held
+    → ((n : ℕ) (rest : List ℕ) (breaks : Bool) → length (held ++ rest) < n → IsPrefixOut (bytes_told n at s offset (held ++ rest) breaks).text mid now)
+    → IsPrefixOut whole.text before now
+read_front whole at breaks before mid now left s offset held so_far front =
+    so_far.goes.front now (front so_far.most so_far.rest breaks so_far.enough)
+
+pub read_nothing : (whole : Told Tally) (at : Place) (breaks : Bool) (before now : Option (List ℕ)) (left : Option File) (s : Tally)
+    (offset : ℕ) (held : List ℕ) → ReadSoFar whole at breaks before now left s offset held → IsPrefixOut whole.text before now
+read_nothing whole at breaks before now left s offset held so_far = goes_nothing whole _ before now so_far.goes
+
+end_by : (at : Place) (s : Tally) (offset most : ℕ) (held : List ℕ) → length (held ++ []) < most → AreFew held
+    → bytes_told most at s offset (held ++ []) false ≡ left_told at s offset held
+end_by at s offset zero held enough few = absurd (omega arith)
+end_by at s offset (suc m) held enough few =
+    ap (λ (l : List ℕ). bytes_told (suc m) at s offset l false) (append-nil held) ∙ end_step m at s offset held few
+
+pub read_end : (whole : Told Tally) (at : Place) (breaks : Bool) (before now : Option (List ℕ)) (left after : Option File) (s : Tally) (offset : ℕ)
+    (held : List ℕ) → (so_far : ReadSoFar whole at breaks before now left s offset held) → AreFew held
+    → ((file : File) → left ≡ Some file → Reads file [] after) → GoesOn whole (left_told at s offset held) before now
+read_end whole at breaks before now left after s offset held so_far few reads =
+    let step = reads (file_of so_far.rest breaks) so_far.left_is in
+    let none : so_far.rest ≡ [] = step.is ∙ (step.end refl).0 in
+    let ends : breaks ≡ false = (step.end refl).1 in
+    let enough = subst (λ (l : List ℕ). length (held ++ l) < so_far.most) none so_far.enough in
+    goes_to whole _ _ before now
+    (ap (λ (l : List ℕ). bytes_told so_far.most at s offset (held ++ l) breaks) none
+    ∙ ap (λ (b : Bool). bytes_told so_far.most at s offset (held ++ []) b) ends
+    ∙ end_by at s offset so_far.most held enough few)
+    so_far.goes
+
+broken_by : (at : Place) (s : Tally) (offset most : ℕ) (held : List ℕ) → length (held ++ []) < most → AreFew held
+    → bytes_told most at s offset (held ++ []) true ≡ unreadable_told at s
+broken_by at s offset zero held enough few = absurd (omega arith)
+broken_by at s offset (suc m) held enough few =
+    ap (λ (l : List ℕ). bytes_told (suc m) at s offset l true) (append-nil held) ∙ broken_step m at s offset held few
+
+pub read_broken : (whole : Told Tally) (at : Place) (breaks : Bool) (before now : Option (List ℕ)) (left : Option File) (s : Tally) (offset : ℕ)
+    (held : List ℕ) → (so_far : ReadSoFar whole at breaks before now left s offset held) → AreFew held
+    → ((file : File) → left ≡ Some file → IsBroken file) → GoesOn whole (unreadable_told at s) before now
+read_broken whole at breaks before now left s offset held so_far few breaking =
+    let broken = breaking (file_of so_far.rest breaks) so_far.left_is in
+    let enough = subst (λ (l : List ℕ). length (held ++ l) < so_far.most) broken.0 so_far.enough in
+    goes_to whole _ _ before now
+    (ap (λ (l : List ℕ). bytes_told so_far.most at s offset (held ++ l) breaks) broken.0
+    ∙ ap (λ (b : Bool). bytes_told so_far.most at s offset (held ++ []) b) broken.1
+    ∙ broken_by at s offset so_far.most held enough few)
+    so_far.goes
+
+-- ---- one part and the next, which goes on with what the first came to
+
+pub both_told : {R S : Type 0} (first : Told R) (second : R → Told S) (r : R) (before mid now : Option (List ℕ)) (state : S) → IsTold first before mid r
+    → IsTold (second r) mid now state → IsTold (and_then first.text (second first.state)) before now state
+both_told {R = R} {S = S} first second r before mid now state is then =
+    let same = is.state_is in
+    record {
+      out =
+          then.out ∙ ap (λ (known : Option (List ℕ)). and_then_bytes known (second r).text) is.out
+          ∙ and_then_bytes-append before first.text (second r).text
+          ∙ ap (λ (x : R). and_then_bytes before (first.text ++ (second x).text)) same;
+      state_is = then.state_is ∙ ap (λ (x : R). (second x).state) same;
+    }
+
+pub second_front : {R S : Type 0} (first : Told R) (second : R → Told S) (r : R) (before mid now : Option (List ℕ)) → IsTold first before mid r
+    → IsPrefixOut (second r).text mid now → IsPrefixOut (and_then first.text (second first.state)).text before now
+second_front {R = R} first second r before mid now is front =
+    subst (λ (x : R). IsPrefixOut (first.text ++ (second x).text) before now) is.state_is
+    (front_then first.text (second r).text before mid now is.out front)
+
+-- of a list of parts the next one is told
+pub goes_next : {R S : Type 0} (whole : Told S) (first : Told R) (second : R → Told S) (r : R) (before mid now : Option (List ℕ))
+    → GoesOn whole (and_then first.text (second first.state)) before mid → IsTold first mid now r → GoesOn whole (second r) before now
+goes_next whole first second r before mid now goes is =
+    goes_to whole (second first.state) (second r) before now (ap second (sym is.state_is))
+    (goes_both whole _ _ before mid now goes (goes_text first.text (second first.state) mid now is.out))
+
+-- the first of two texts went out in part
+pub first_of_two : (first more whole : List ℕ) (before now : Option (List ℕ)) → whole ≡ first ++ more → IsPrefixOut first before now → IsPrefixOut whole before now
+first_of_two first more whole before now is front = subst (λ (l : List ℕ). IsPrefixOut l before now) (sym is) (front_longer first more before now front)
+
+-- a stream's files from a place on
+pub files_at : (t : Tree) (folder uuid : List ℕ) (stream : Numbered) (s : Tally) (xs : List value.Numbered) (i : ℕ) (x : value.Numbered) → i < length xs
+    → x ≡ get_or xs i x → files_told t folder uuid stream s (map key_of (drop i xs)) ≡ files_told t folder uuid stream s (key_of x ∷ map key_of (drop (i + 1) xs))
+files_at t folder uuid stream s xs i x within is = ap (files_told t folder uuid stream s) (from_place key_of xs i x within is)
+
+pub streams_at : (t : Tree) (folder uuid : List ℕ) (archives : List Numbered) (n : ℕ) (xs : List value.Numbered) (i : ℕ) (x : value.Numbered) → i < length xs
+    → x ≡ get_or xs i x → streams_told t folder uuid archives n (map key_of (drop i xs)) ≡ streams_told t folder uuid archives n (key_of x ∷ map key_of (drop (i + 1) xs))
+streams_at t folder uuid archives n xs i x within is = ap (streams_told t folder uuid archives n) (from_place key_of xs i x within is)
+
+-- a text, and then faults
+pub more_text : {S : Type 0} (text : List ℕ) (more : Told S) (before mid now : Option (List ℕ)) (state : S) → mid ≡ and_then_bytes before text
+    → IsTold more mid now state → IsTold (and_then text more) before now state
+more_text text more before mid now state out is = goes_told (and_then text more) more before mid now state (goes_text text more before mid out) is
+
+-- two texts that went out one after the other
+pub both_out : (before mid now : Option (List ℕ)) (head text whole : List ℕ) → mid ≡ and_then_bytes before head → now ≡ and_then_bytes mid text
+    → whole ≡ head ++ text → now ≡ and_then_bytes before whole
+both_out before mid now head text whole first then is =
+    then ∙ ap (λ (known : Option (List ℕ)). and_then_bytes known text) first ∙ and_then_bytes-append before head text ∙ ap (and_then_bytes before) (sym is)

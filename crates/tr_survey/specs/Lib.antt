@@ -1,10 +1,13 @@
 pub mod Failures
-pub mod Findings
-pub mod Fronts
+pub mod Heads
 pub mod Lines
 pub mod Listing
 pub mod Metadata
 pub mod Names
 pub mod Order
 pub mod Paths
+pub mod Prefix
 pub mod Sessions
+pub mod Steps
+pub mod Streams
+pub mod Told

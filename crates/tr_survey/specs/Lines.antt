@@ -1,17 +1,11 @@
 -- The lines of a survey, each with its newline.
 use Rattle.std.specs.Prelude.{ℕ, nat_eq, List, [], ◌∷◌, ◌++◌, codes, Option, Some, None, if◌then◌else◌}
-use Rattle.std.specs.Cmp.Lexicographic.{pointwise}
 use Rattle.std.specs.Fmt.{decimal}
-use Rattle.std.specs.List.{flat_map, sum_by}
 use Rattle.tr_chunk.specs.Faults.{audit_cause_code, audit_cause_name}
 use Rattle.tr_chunk.specs.declared.audit_fault.AuditCause.{AuditCause}
 use Rattle.tr_chunk.specs.declared.audit_fault.AuditCause.TheVariants as audit
-use Rattle.tr_chunk.specs.declared.audit_fault.AuditFault.{AuditFault}
-use Rattle.tr_chunk.specs.declared.stream_audit.StreamAudit.{StreamAudit}
 use Rattle.tr_packet.specs.Faults.{packet_fault_code, packet_fault_name}
 use Rattle.tr_survey.specs.Order.{Numbered}
-use Rattle.tr_survey.specs.declared.naming.Naming.{Naming}
-use Rattle.tr_survey.specs.declared.naming.Naming.TheVariants.{NoMetadata, NoUuid, Named}
 use Rattle.uuid.specs.Text.{lower, hyphenated_text}
 
 abbrev pub uuid_text : Option (List ℕ) → List ℕ
@@ -23,47 +17,49 @@ abbrev pub session_text : List ℕ → Option (List ℕ) → ℕ → List ℕ
 session_text session uuid archives =
     codes "session " ++ (session ++ (codes " uuid " ++ (uuid_text uuid ++ (codes " archives " ++ (decimal archives ++ 10 ∷ [])))))
 
--- what is wrong with metadata that name this identifier in a session of that one, if anything
-abbrev pub wrong_name : Option (List ℕ) → List ℕ → Option (List ℕ)
-wrong_name None uuid = Some (codes "another uuid")
-wrong_name (Some session) uuid = if pointwise nat_eq session uuid then None else Some (codes "another uuid")
+-- ---- a session's archives
 
--- what is wrong with an archive's metadata in a session of this identifier, if anything
-abbrev pub wrong_with : Option (List ℕ) → Naming → Option (List ℕ)
-wrong_with session NoMetadata = Some (codes "no metadata")
-wrong_with session NoUuid = Some (codes "no uuid")
-wrong_with session (Named uuid) = wrong_name session uuid
+-- numbers below that of the least archive: no fault
+abbrev pub deleted_text : ℕ → List ℕ
+deleted_text count = codes "deleted archives 0 " ++ (decimal count ++ 10 ∷ [])
 
--- an archive with whose metadata this is wrong, or nothing
-abbrev pub archive_text : List ℕ → Option (List ℕ) → List ℕ
-archive_text archive None = []
-archive_text archive (Some wrong) = codes "fault " ++ (archive ++ (32 ∷ (wrong ++ 10 ∷ [])))
+-- a run of numbers that no archive has
+abbrev pub missing_text : ℕ → ℕ → List ℕ
+missing_text first count = codes "fault archives " ++ (decimal first ++ (32 ∷ (decimal count ++ codes " missing\n")))
 
--- the last number and the last serial, if there are any
-abbrev pub last_text : Option ℕ → Option ℕ → List ℕ
-last_text (Some seq) (Some serial) = decimal seq ++ (32 ∷ decimal serial)
-last_text (Some seq) None = codes "none"
-last_text None serial = codes "none"
+-- a run of numbers that no stream has
+abbrev pub no_streams_text : ℕ → ℕ → List ℕ
+no_streams_text first count = codes "fault streams " ++ (decimal first ++ (32 ∷ (decimal count ++ codes " missing\n")))
 
-abbrev pub gap_text : ℕ → ℕ × ℕ → List ℕ
-gap_text stream run = codes "gap " ++ (decimal stream ++ (32 ∷ (decimal run.0 ++ (32 ∷ (decimal run.1 ++ 10 ∷ [])))))
+-- an archive with which this is wrong
+abbrev pub archive_text : List ℕ → List ℕ → List ℕ
+archive_text archive wrong = codes "fault " ++ (archive ++ (32 ∷ (wrong ++ 10 ∷ [])))
 
-abbrev pub gaps_text : ℕ → List (ℕ × ℕ) → List ℕ
-gaps_text stream = flat_map (gap_text stream)
+-- a folder of archives that can't be read
+abbrev pub closed_text : List ℕ
+closed_text = codes "fault archives unreadable\n"
 
--- how many numbers are absent in all
-abbrev pub absent_of : List (ℕ × ℕ) → ℕ
-absent_of = sum_by (λ (run : ℕ × ℕ). run.1)
+-- ---- a stream's packets
 
--- a stream whose files are whole: its number, its channel, and its audit
-abbrev pub stream_text : {A : Type 0} → Numbered → StreamAudit A → List ℕ
-stream_text stream audit =
-    codes "stream " ++ (decimal stream.number ++ (32 ∷ (stream.name
-    ++ (codes " packets " ++ (decimal audit.packets
-    ++ (codes " records " ++ (decimal audit.records
-    ++ (codes " absent " ++ (decimal (absent_of audit.gaps)
-    ++ (codes " lost " ++ (decimal audit.last_lost
-    ++ (codes " last " ++ (last_text audit.last_seq audit.last_serial ++ 10 ∷ [])))))))))))))
+-- before a packet of this archive and moment
+abbrev pub before_text : ℕ → ℕ → List ℕ
+before_text archive moment = codes " before " ++ (decimal archive ++ (32 ∷ (decimal moment ++ 10 ∷ [])))
+
+-- between the end of a packet of one archive and a packet of another, or the same one
+abbrev pub between_text : ℕ → ℕ → ℕ → ℕ → List ℕ
+between_text archive moment next next_moment =
+    codes " between " ++ (decimal archive ++ (32 ∷ (decimal moment
+    ++ (codes " and " ++ (decimal next ++ (32 ∷ (decimal next_moment ++ 10 ∷ [])))))))
+
+-- a run of numbers that no packet of a stream has, before what tells where it lies
+abbrev pub gap_text : ℕ → ℕ → ℕ → List ℕ
+gap_text stream first count = codes "gap " ++ (decimal stream ++ (32 ∷ (decimal first ++ (32 ∷ decimal count))))
+
+-- records that a stream discarded, before what tells when
+abbrev pub lost_text : ℕ → ℕ → List ℕ
+lost_text stream count = codes "lost " ++ (decimal stream ++ (32 ∷ decimal count))
+
+-- ---- what is wrong with a stream
 
 -- a cause as documents call it
 abbrev pub cause_text : AuditCause → List ℕ
@@ -76,14 +72,39 @@ cause_text cause = audit_cause_code cause ++ (32 ∷ (audit_cause_name cause ++ 
     packet_part audit.Foreign = []
     packet_part audit.NoMemory = []
 
--- a stream with a packet at fault: the archive, the byte in its file, and the cause
-abbrev pub fault_text : ℕ → List ℕ → AuditFault → List ℕ
-fault_text stream archive fault =
-    codes "fault " ++ (decimal stream ++ (32 ∷ (archive ++ (32 ∷ (decimal fault.offset ++ (32 ∷ (cause_text fault.cause ++ 10 ∷ [])))))))
+-- in this archive's file this is wrong with the packet that begins at this byte
+abbrev pub packet_fault_text : ℕ → List ℕ → ℕ → List ℕ → List ℕ
+packet_fault_text stream archive offset wrong =
+    codes "fault " ++ (decimal stream ++ (32 ∷ (archive ++ (32 ∷ (decimal offset ++ (32 ∷ (wrong ++ 10 ∷ [])))))))
 
--- a stream whose file this archive lacks
-abbrev pub no_file_text : ℕ → List ℕ → List ℕ
-no_file_text stream archive = codes "fault " ++ (decimal stream ++ (32 ∷ (archive ++ codes " no file\n")))
+-- this is wrong with this archive's file
+abbrev pub file_fault_text : ℕ → List ℕ → List ℕ → List ℕ
+file_fault_text stream archive wrong = codes "fault " ++ (decimal stream ++ (32 ∷ (archive ++ (32 ∷ (wrong ++ 10 ∷ [])))))
+
+-- ---- the ends
+
+-- a stream's counts: packets, records, absent numbers and discarded records
+abbrev pub counts_text : ℕ → ℕ → ℕ → ℕ → List ℕ
+counts_text packets records absent lost =
+    codes " packets " ++ (decimal packets
+    ++ (codes " records " ++ (decimal records
+    ++ (codes " absent " ++ (decimal absent
+    ++ (codes " lost " ++ decimal lost))))))
+
+-- the last number and serial, and the moments of the first packet's begin and the last one's end
+abbrev pub last_text : ℕ → ℕ → ℕ → ℕ → List ℕ
+last_text seq serial from to =
+    codes " last " ++ (decimal seq ++ (32 ∷ (decimal serial
+    ++ (codes " from " ++ (decimal from ++ (codes " to " ++ decimal to))))))
+
+-- a stream: its number, its channel, and then these
+abbrev pub stream_text : Numbered → List ℕ → List ℕ → List ℕ
+stream_text stream counts last =
+    codes "stream " ++ (decimal stream.number ++ (32 ∷ (stream.name ++ (counts ++ (last ++ 10 ∷ [])))))
+
+-- numbers absent in a stream that discards: no fault
+abbrev pub cleared_text : ℕ → ℕ → List ℕ
+cleared_text stream count = codes "cleared or missing " ++ (decimal stream ++ (32 ∷ (decimal count ++ 10 ∷ [])))
 
 -- the end: how many faults there are
 abbrev pub end_text : ℕ → List ℕ

@@ -1,12 +1,14 @@
 -- Which archives and streams a session has.
-use Rattle.std.specs.Prelude.{ℕ, List, [], Option, Some, None, is_some, string_bytes, if◌then◌else◌}
+use Rattle.std.specs.Prelude.{◌≡◌, ℕ, Bool, true, false, ◌||◌, not, List, [], Option, Some, None, is_some, string_bytes, if◌then◌else◌}
 use Rattle.std.specs.BTreeSet.{insert_key}
 use Rattle.std.specs.List.{filter_map, flat_map, fold}
 use Rattle.std.specs.Option.{option_and_then, unwrap_or}
-use Rattle.tr_folders.specs.Tree.{Tree}
+use Rattle.tr_folders.specs.Tree.{Tree, by_text}
 use Rattle.tr_survey.specs.Names.{archive_number, of_parts, stream_named}
 use Rattle.tr_survey.specs.Order.{Numbered, name_cmp, number_cmp}
 use Rattle.tr_survey.specs.Paths.{path_of}
+use Rattle.tr_survey.specs.declared.listing.Listing.{Listing}
+use Rattle.tr_survey.specs.declared.listing.Listing.TheVariants.{Absent, Unreadable, Names}
 use Rattle.tr_survey.specs.declared.names.Numbered as value
 use Rattle.tr_terms.specs.Names.{is_name}
 
@@ -26,10 +28,24 @@ with_name names name = if is_name name then insert_key name_cmp names name else 
 abbrev pub session_names : List (List ℕ) → List (List ℕ)
 session_names = fold with_name []
 
+-- a folder stands there, whether it can be read or not
+abbrev pub is_folder : Tree → List ℕ → Bool
+is_folder t path = t.is_hidden path || is_some (t.names path)
+
+-- the names in the folder there, as far as it can be read
+abbrev pub names_at : Tree → List ℕ → List (List ℕ)
+names_at t path = if t.is_hidden path then [] else unwrap_or (t.names path) []
+
+-- what a listing says stands there
+abbrev pub IsListing : Tree → List ℕ → Listing → Type 0
+IsListing t path Absent = (t.is_hidden path ≡ false) × (t.names path ≡ None)
+IsListing t path Unreadable = t.is_hidden path ≡ true
+IsListing t path (Names names) = (t.is_hidden path ≡ false) × (t.names path ≡ Some (by_text names.items))
+
 -- the archive of this name in a folder; none: no folder stands there, or its name is no archive's
 abbrev pub archive_at : Tree → List ℕ → List ℕ → Option Numbered
 archive_at t folder name =
-    option_and_then (λ n. if is_some (t.names (path_of folder name)) then Some (of_parts name n) else None) (archive_number name)
+    option_and_then (λ n. if is_folder t (path_of folder name) then Some (of_parts name n) else None) (archive_number name)
 
 -- the archives among what has these names in a folder
 abbrev pub archives_of : Tree → List ℕ → List (List ℕ) → List Numbered
@@ -37,7 +53,7 @@ archives_of t folder names = with_keys [] (filter_map (archive_at t folder) name
 
 -- the streams that have a file in this archive
 abbrev pub streams_at : Tree → List ℕ → Numbered → List Numbered
-streams_at t folder archive = filter_map stream_named (unwrap_or (t.names (path_of folder archive.name)) [])
+streams_at t folder archive = filter_map stream_named (names_at t (path_of folder archive.name))
 
 -- those that have one in any of them
 abbrev pub streams_of : Tree → List ℕ → List Numbered → List Numbered

@@ -1,9 +1,12 @@
 -- The identifier that metadata name.
-use Rattle.std.specs.Prelude.{ℕ, Bool, ◌-◌, ◌==◌, nat_eq, List, [], ◌∷◌, codes, length, take, drop, Option, Some, None, if◌then◌else◌}
-use Rattle.std.specs.List.{slice_split, starts_with, ends_with}
+use Rattle.std.specs.Prelude.{ℕ, Bool, false, ◌&&◌, ◌-◌, ◌==◌, nat_eq, nat_lt, List, [], ◌∷◌, codes, length, take, drop, Option, Some, None, if◌then◌else◌}
+use Rattle.std.specs.Cmp.Lexicographic.{pointwise}
+use Rattle.std.specs.List.{count_by, fold, slice_split, starts_with, ends_with}
 use Rattle.std.specs.Option.{option_and_then, option_or}
+use Rattle.tr_folders.specs.Tree.{File}
+use Rattle.tr_packet.specs.Metadata.{metadata_of}
 use Rattle.tr_survey.specs.declared.naming.Naming.{Naming}
-use Rattle.tr_survey.specs.declared.naming.Naming.TheVariants.{NoMetadata, NoUuid, Named}
+use Rattle.tr_survey.specs.declared.naming.Naming.TheVariants.{Unfinished, Unreadable, NoUuid, Other, Named}
 use Rattle.tr_terms.specs.declared.limits.TheConstants.{MOST_METADATA}
 use Rattle.uuid.specs.Text.{parsed}
 
@@ -35,21 +38,50 @@ uuid_in_lines (line ∷ lines) = option_or (uuid_in_line line) (uuid_in_lines li
 abbrev pub uuid_in : List ℕ → Option (List ℕ)
 uuid_in bytes = uuid_in_lines (slice_split ends_line bytes)
 
-abbrev pub named : Option (List ℕ) → Naming
-named None = NoUuid
-named (Some uuid) = Named uuid
+-- what bytes of metadata name: nothing; or an identifier, in a text of their own or in the recorder's of that identifier
+abbrev pub named : List ℕ → Option (List ℕ) → Naming
+named bytes None = NoUuid
+named bytes (Some uuid) = if pointwise nat_eq bytes (metadata_of uuid) then Named uuid else Other uuid
 
--- what metadata name by their first bytes, if there are any
-abbrev pub naming_in : Option (List ℕ) → Naming
-naming_in None = NoMetadata
-naming_in (Some bytes) = named (uuid_in (take MOST_METADATA bytes))
+-- the same, where a recorder that hasn't written them whole may have left none
+abbrev pub naming_by : List ℕ → Naming
+naming_by [] = Unfinished
+naming_by (b ∷ bytes) = named (b ∷ bytes) (uuid_in (b ∷ bytes))
+
+-- what metadata name by their first bytes
+abbrev pub naming_in : Option File → Naming
+naming_in None = Unfinished
+naming_in (Some file) =
+    if nat_lt (length file.bytes) MOST_METADATA && file.breaks then Unreadable else naming_by (take MOST_METADATA file.bytes)
 
 abbrev pub uuid_named : Naming → Option (List ℕ)
-uuid_named NoMetadata = None
+uuid_named Unfinished = None
+uuid_named Unreadable = None
 uuid_named NoUuid = None
+uuid_named (Other uuid) = Some uuid
 uuid_named (Named uuid) = Some uuid
 
--- the first identifier that is named
-abbrev pub first_named : List Naming → Option (List ℕ)
-first_named [] = None
-first_named (naming ∷ namings) = option_or (uuid_named naming) (first_named namings)
+-- this identifier is named
+abbrev pub is_named : List ℕ → Naming → Bool
+is_named uuid Unfinished = false
+is_named uuid Unreadable = false
+is_named uuid NoUuid = false
+is_named uuid (Other own) = pointwise nat_eq own uuid
+is_named uuid (Named own) = pointwise nat_eq own uuid
+
+-- how often it is
+abbrev pub times : List Naming → List ℕ → ℕ
+times namings uuid = count_by (is_named uuid) namings
+
+-- of two identifiers the one that is named more often, or the first
+abbrev pub of_two : List Naming → Option (List ℕ) → Option (List ℕ) → Option (List ℕ)
+of_two namings first None = first
+of_two namings None (Some uuid) = Some uuid
+of_two namings (Some first) (Some uuid) = if nat_lt (times namings first) (times namings uuid) then Some uuid else Some first
+
+abbrev pub better : List Naming → Option (List ℕ) → Naming → Option (List ℕ)
+better namings first naming = of_two namings first (uuid_named naming)
+
+-- the identifier that is named most often; of several the first
+abbrev pub most_named : List Naming → Option (List ℕ)
+most_named namings = fold (better namings) None namings

@@ -48,3 +48,10 @@ stream_of channel digits = if is_name channel then option_map (of_parts channel)
 -- the stream whose file has this name: a channel's name, an underscore and a number; none: it is no such name
 abbrev pub stream_named : List ℕ → Option Numbered
 stream_named name = stream_of (before_last is_underscore name) (after_last is_underscore name)
+
+-- when an archive began and when it ended, as its name says it: two stamps of 20 bytes
+abbrev pub begin_stamp : List ℕ → List ℕ
+begin_stamp name = take 20 name
+
+abbrev pub end_stamp : List ℕ → List ℕ
+end_stamp name = take 20 (drop 21 name)

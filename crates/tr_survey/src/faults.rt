@@ -2,34 +2,19 @@
 
 use std::alloc::{AllocError, AllocFailed};
 use thiserror::Error;
-use tr_folders::ReadFault;
 
 /// Why a survey ends before its text is whole.
 #[derive(Clone, Copy, Debug, PartialEq, Eq, Error)]
 pub enum SurveyFault {
-    /// A folder or a file can't be read.
-    #[error("a folder or a file can't be read")]
-    Read,
+    /// As many bytes of files were given as are ever given.
+    #[error("too much was read")]
+    TooMuch,
     /// The text can't be written.
     #[error("the text can't be written")]
     Write,
     /// An allocation failed.
     #[error("no memory")]
     NoMemory,
-}
-
-impl From<ReadFault> for SurveyFault {
-    ghost use Rattle.std.specs.Prelude.{◌≡◌};
-    ghost use Rattle.tr_survey.specs.Failures.{survey_fault_of};
-
-    ghost from_gives = { λ given fault. fault ≡ survey_fault_of given };
-
-    fn from(fault: ReadFault) -> SurveyFault {
-        match fault {
-            ReadFault::Read => SurveyFault::Read,
-            ReadFault::NoMemory => SurveyFault::NoMemory,
-        }
-    }
 }
 
 impl From<AllocError> for SurveyFault {
@@ -52,4 +37,15 @@ impl<T: Drop> From<AllocFailed<T>> for SurveyFault {
     fn from(_error: AllocFailed<T>) -> SurveyFault {
         SurveyFault::NoMemory
     }
+}
+
+/// What a survey that came to its end says.
+#[derive(Clone, Copy, Debug, PartialEq, Eq)]
+pub enum Surveyed {
+    /// The folder can't be read.
+    Unlisted,
+    /// It has no session.
+    NoSession,
+    /// It has sessions, and this is how many faults were told.
+    Faults(u64),
 }

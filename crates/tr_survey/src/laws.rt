@@ -1,9 +1,10 @@
 //! Laws of what a recorder writes and a survey reads.
 
-ghost use Rattle.std.specs.Prelude.{◌≡◌, ◌<◌, ◌≤◌, ◌^◌, ℕ, ℤ, List, Some, IsTrue, length};
+ghost use Rattle.std.specs.Prelude.{◌≡◌, ◌<◌, ◌≤◌, ◌^◌, ℕ, ℤ, List, Some, IsTrue, false, length};
 ghost use Rattle.std.specs.List.{All};
 ghost use Rattle.tr_chunk.specs.ArchiveName.{archive_name_text};
 ghost use Rattle.tr_chunk.specs.Files.{file_name};
+ghost use Rattle.tr_folders.specs.Kept.{file_of};
 ghost use Rattle.tr_packet.specs.Metadata.{metadata_of};
 ghost use Rattle.tr_survey.specs.Metadata.{naming_in};
 ghost use Rattle.tr_survey.specs.Names.{archive_number, of_parts, stream_named};
@@ -27,5 +28,5 @@ pub fn an_archive_is_named_for_its_number()
 /// The metadata of a trace are read as naming its identifier. Does nothing.
 pub fn metadata_name_their_trace()
     ensures { (uuid : List ℕ) → length uuid ≡ 16 → All (λ b. b < 256) uuid
-        → naming_in (Some (metadata_of uuid)) ≡ Named uuid }
+        → naming_in (Some (file_of (metadata_of uuid) false)) ≡ Named uuid }
 {}

@@ -1,66 +1,70 @@
-//! The survey of a folder of archives: what the audit of each stream's files finds, session by session, as a text.
+//! The survey of a folder of archives: what they hold and what is wrong with them, session by session, as a text.
 //!
 //! Below the folder lies `SESSION/archives/ARCHIVE/FILE` for each session, archive and file. A name that isn't of a session,
-//! an archive or a stream's file is passed over, and so is a file in place of a folder. What the text says where several
-//! things are wrong:
+//! an archive or a stream's file is passed over, and so is a file in place of a folder. The text is a function of what is
+//! there (`survey_of`), and so is the number of faults, one for each line that begins with `fault`:
 //!
-//! - Each archive without `metadata`, or whose metadata name no identifier or another one than the session's, has a line and
-//!   counts one. The session's identifier is that of the first archive that names one. If none does, its streams aren't
-//!   audited.
-//! - A stream is audited over the archives in order, up to the first thing that is wrong with it: a file that an archive
-//!   lacks, or a packet at fault. That is its one line, and counts one.
-//! - Of metadata the first `MOST_METADATA` bytes are looked at. The identifier may be written in any form that a UUID has.
-//! - A folder `archives` without an archive is a session with `uuid none archives 0`, and no fault.
-//! - If two archives end in the same number, the one whose name is first by bytes is first. If two channels have a stream of
-//!   the same number, each is a stream.
+//! - `Heads` says what is wrong with archives as a whole: numbers that are missing or there twice, an archive that doesn't
+//!   begin when the one before it ends, metadata that aren't the recorder's of the session's identifier, and streams that have
+//!   no file anywhere.
+//! - `Streams` says what is found packet by packet: numbers that are absent and records that were discarded, and between
+//!   which packets; a packet at fault, after which the next file is judged anew; a file that is missing or can't be read.
+//! - The session's identifier is the one that most archives' metadata name. If none names one, its streams aren't audited.
+//! - Of metadata the first `MOST_METADATA` bytes are looked at. A folder `archives` without an archive is a session with
+//!   `uuid none archives 0`, and no fault. If two channels have a stream of the same number, each is a stream.
 //!
 //! # Example
 //!
 //! ```
-//! let faults = survey(alloc, &mut folders, &mut sink, "DIR")?;  // how many faults it found; None if there is no session
+//! let found = survey(alloc, &mut folders, &mut sink, "DIR")?;  // how many faults it reported; None if there is no session
 //! ```
 //!
 //! # What is proved
 //!
 //! For all folders that report what is in them:
 //!
-//! - What goes out is what short definitions say of the folder: its sessions, archives and streams by their names and in
-//!   their order, and of each stream what the audit of its files finds, up to the first thing that is wrong.
-//! - The count that it answers is that of the faults that it reported. It answers none if and only if there is no session,
-//!   and then nothing went out.
-//! - If reading or writing fails, or an allocation, what went out is a prefix of such a text: all that it reports is so.
-//! - A fault is answered as one of reading, or of writing, if and only if the folders, or the output, failed in that call.
+//! - What goes out is a function of what is in the folder, which short definitions give line by line, and so is the answer:
+//!   how many faults were reported, that there is no session, or that the folder can't be read; then nothing went out.
+//! - If it fails, a prefix of just that text went out. What can't be read below the folder is no failure: it is reported as a
+//!   fault, and the survey goes on.
+//! - It fails as at 2^62 bytes read if and only if the folders did, and as at an output that failed if and only if the output
+//!   did.
 //! - The names that the recorder gives to archives and files are read as what they say, and so is the identifier in the
 //!   metadata that it writes.
 //!
 //! # What is only tested
 //!
-//! Tests show what each line says of what is wrong; folders that fail at each of their calls, and an output that fails at
-//! each byte; and names that are passed over. Runs of the program show real folders and files, a folder in a file's place
-//! (`examples/audit/run`), links that lead to themselves and a pipe (`.ci/under-fire`). Not promised are:
+//! Tests show what each line says of what is wrong and of what is lost; folders that fail at each of their calls, where all
+//! lines that were known before went out (no clause says that a line goes out before the next file is read), and an output
+//! that fails at each byte; names that are passed over; folders and files that can't be read. Runs of the program show each
+//! damage in real folders (`examples/audit/run`), links that lead to themselves, a file without permission and a pipe
+//! (`.ci/under-fire`). Not promised are:
 //!
 //! - that memory is there, and that a survey which answers `NoMemory` had to;
-//! - that after a fault all went out that was reported before it (the clause is of some prefix);
 //! - how many bytes of an archive's metadata are read (`MOST_METADATA`, which clauses name), beyond those that the recorder
 //!   writes;
-//! - that the folder of a session's archives is the one that tr_export writes to, which `examples/audit` shows.
+//! - that the folder of a session's archives is the one that tr_export writes to, and that what it writes of a session is
+//!   `whole`, which `examples/audit` shows.
 #![tactic(auto)]
 
 mod faults;
-mod findings;
+mod files;
+mod heads;
 mod laws;
 mod lines;
 mod listing;
 mod names;
 mod naming;
 mod numbers;
+mod packets;
 mod paths;
 mod sessions;
 mod streams;
 mod surveying;
+mod tally;
 mod writing;
 
-pub use faults::SurveyFault;
+pub use faults::{SurveyFault, Surveyed};
 pub use laws::{
     a_file_is_named_for_its_stream, an_archive_is_named_for_its_number, metadata_name_their_trace,
 };

@@ -1,13 +1,13 @@
 //! The lines of a survey, each with its newline.
 
-ghost use Rattle.std.specs.Prelude.{◌≡◌, Some, IfOk, option_copied};
+ghost use Rattle.std.specs.Prelude.{◌≡◌, IfOk, option_copied};
 ghost use Rattle.std.specs.String.{string_bytes};
-ghost use Rattle.tr_survey.specs.Lines.{absent_of, archive_text, cause_text, end_text, fault_text, gap_text, last_text, no_file_text, session_text, stream_text};
+ghost use Rattle.tr_survey.specs.Lines.{archive_text, cause_text, cleared_text, counts_text, deleted_text, end_text, file_fault_text, gap_text, last_text, lost_text, missing_text, no_streams_text, packet_fault_text, session_text, stream_text};
 ghost use Rattle.tr_survey.specs.Listing.{key_of};
 
 use crate::names::Numbered;
 use std::alloc::{AllocError, Global};
-use tr_chunk::{AuditCause, AuditFault, StreamAudit};
+use tr_chunk::AuditCause;
 use uuid::Uuid;
 
 /// The line that begins a session.
@@ -27,70 +27,55 @@ pub(crate) fn session_line(
     format!(in alloc; "session {session} uuid {text} archives {archives}\n")
 }
 
-/// The line of an archive with whose metadata something is wrong.
+/// The line of numbers below the least archive's.
+pub(crate) fn deleted_line(alloc: Global, count: u64) -> Result<String, AllocError>
+    ensures { IfOk result (λ s. string_bytes s ≡ deleted_text count) }
+{
+    format!(in alloc; "deleted archives 0 {count}\n")
+}
+
+/// The line of a run of numbers that no archive has.
+pub(crate) fn missing_line(alloc: Global, first: u64, count: u64) -> Result<String, AllocError>
+    ensures { IfOk result (λ s. string_bytes s ≡ missing_text first count) }
+{
+    format!(in alloc; "fault archives {first} {count} missing\n")
+}
+
+/// The line of a run of numbers that no stream has.
+pub(crate) fn no_streams_line(alloc: Global, first: u64, count: u64) -> Result<String, AllocError>
+    ensures { IfOk result (λ s. string_bytes s ≡ no_streams_text first count) }
+{
+    format!(in alloc; "fault streams {first} {count} missing\n")
+}
+
+/// The line of an archive with which something is wrong.
 pub(crate) fn archive_line(alloc: Global, archive: &str, wrong: &str) -> Result<String, AllocError>
-    ensures { IfOk result (λ s. string_bytes s ≡ archive_text archive.now (Some wrong.now)) }
+    ensures { IfOk result (λ s. string_bytes s ≡ archive_text archive.now wrong.now) }
 {
     format!(in alloc; "fault {archive} {wrong}\n")
 }
 
-/// How many numbers are absent in all.
-fn absent_of(runs: &[(u64, u64)]) -> u128
-    ensures { result ≡ absent_of runs.now }
-{
-    let mut absent = 0u128;
-    for run in runs {
-        absent += run.1 as u128;
-    }
-    absent
-}
-
-/// The last number and the last serial.
-fn last_text(alloc: Global, audit: &StreamAudit) -> Result<String, AllocError>
-    ensures { IfOk result (λ s. string_bytes s ≡ last_text audit.now.last_seq audit.now.last_serial) }
-{
-    match (audit.last_seq, audit.last_serial) {
-        (Some(seq), Some(serial)) => format!(in alloc; "{seq} {serial}"),
-        _ => String::from_str(alloc, "none"),
-    }
-}
-
-/// The line of a stream whose files are whole.
-pub(crate) fn stream_line(
-    alloc: Global,
-    stream: &Numbered,
-    audit: &StreamAudit,
-) -> Result<String, AllocError>
-    ensures { IfOk result (λ s. string_bytes s ≡ stream_text (key_of stream.now) audit.now) }
-{
-    let number = stream.number;
-    let channel = stream.name.as_str();
-    let packets = audit.packets;
-    let records = audit.records;
-    let absent = absent_of(audit.gaps.as_slice());
-    let lost = audit.last_lost;
-    let mut line = format!(in alloc;
-        "stream {number} {channel} packets {packets} records {records}"
-    )?;
-    let last = last_text(alloc, audit)?;
-    write!(line, " absent {absent} lost {lost} last {last}\n")?;
-    Ok(line)
-}
-
-/// The line of a run of absent numbers.
-pub(crate) fn gap_line(
+/// What begins the line of a run of absent numbers.
+pub(crate) fn gap_text(
     alloc: Global,
     stream: u64,
     first: u64,
     count: u64,
 ) -> Result<String, AllocError>
-    ensures { IfOk result (λ s. string_bytes s ≡ gap_text stream (first, count)) }
+    ensures { IfOk result (λ s. string_bytes s ≡ gap_text stream first count) }
 {
-    format!(in alloc; "gap {stream} {first} {count}\n")
+    format!(in alloc; "gap {stream} {first} {count}")
+}
+
+/// What begins the line of discarded records.
+pub(crate) fn lost_text(alloc: Global, stream: u64, count: u64) -> Result<String, AllocError>
+    ensures { IfOk result (λ s. string_bytes s ≡ lost_text stream count) }
+{
+    format!(in alloc; "lost {stream} {count}")
 }
 
 /// The cause, as documents call it.
-fn cause_text(alloc: Global, cause: &AuditCause) -> Result<String, AllocError>
+pub(crate) fn cause_text(alloc: Global, cause: &AuditCause) -> Result<String, AllocError>
     ensures { IfOk result (λ s. string_bytes s ≡ cause_text cause.now) }
 {
     let code = cause.code();
@@ -103,25 +88,76 @@ fn cause_text(alloc: Global, cause: &AuditCause) -> Result<String, AllocError>
     format!(in alloc; "{code} {name} {packet_code} {packet_name}")
 }
 
-/// The line of a stream with a packet at fault.
-pub(crate) fn fault_line(
+/// The line of a packet with which something is wrong.
+pub(crate) fn packet_fault_line(
     alloc: Global,
     stream: u64,
     archive: &str,
-    fault: &AuditFault,
+    offset: u64,
+    wrong: &str,
 ) -> Result<String, AllocError>
-    ensures { IfOk result (λ s. string_bytes s ≡ fault_text stream archive.now fault.now) }
+    ensures { IfOk result (λ s. string_bytes s ≡ packet_fault_text stream archive.now offset wrong.now) }
 {
-    let offset = fault.offset;
-    let cause = cause_text(alloc, &fault.cause)?;
-    format!(in alloc; "fault {stream} {archive} {offset} {cause}\n")
+    format!(in alloc; "fault {stream} {archive} {offset} {wrong}\n")
 }
 
-/// The line of a stream whose file an archive lacks.
-pub(crate) fn no_file_line(alloc: Global, stream: u64, archive: &str) -> Result<String, AllocError>
-    ensures { IfOk result (λ s. string_bytes s ≡ no_file_text stream archive.now) }
+/// The line of a stream's file with which something is wrong.
+pub(crate) fn file_fault_line(
+    alloc: Global,
+    stream: u64,
+    archive: &str,
+    wrong: &str,
+) -> Result<String, AllocError>
+    ensures { IfOk result (λ s. string_bytes s ≡ file_fault_text stream archive.now wrong.now) }
 {
-    format!(in alloc; "fault {stream} {archive} no file\n")
+    format!(in alloc; "fault {stream} {archive} {wrong}\n")
+}
+
+/// A stream's counts.
+pub(crate) fn counts_text(
+    alloc: Global,
+    packets: u64,
+    records: u64,
+    absent: u64,
+    lost: u64,
+) -> Result<String, AllocError>
+    ensures { IfOk result (λ s. string_bytes s ≡ counts_text packets records absent lost) }
+{
+    format!(in alloc; " packets {packets} records {records} absent {absent} lost {lost}")
+}
+
+/// Where a stream ends, and between which moments its packets lie.
+pub(crate) fn last_text(
+    alloc: Global,
+    seq: u64,
+    serial: u64,
+    from: u64,
+    to: u64,
+) -> Result<String, AllocError>
+    ensures { IfOk result (λ s. string_bytes s ≡ last_text seq serial from to) }
+{
+    format!(in alloc; " last {seq} {serial} from {from} to {to}")
+}
+
+/// A stream's line.
+pub(crate) fn stream_line(
+    alloc: Global,
+    stream: &Numbered,
+    counts: &str,
+    last: &str,
+) -> Result<String, AllocError>
+    ensures { IfOk result (λ s. string_bytes s ≡ stream_text (key_of stream.now) counts.now last.now) }
+{
+    let number = stream.number;
+    let channel = stream.name.as_str();
+    format!(in alloc; "stream {number} {channel}{counts}{last}\n")
+}
+
+/// The line of numbers that only a clear or damage takes.
+pub(crate) fn cleared_line(alloc: Global, stream: u64, count: u64) -> Result<String, AllocError>
+    ensures { IfOk result (λ s. string_bytes s ≡ cleared_text stream count) }
+{
+    format!(in alloc; "cleared or missing {stream} {count}\n")
 }
 
 /// The last line: how many faults there are in all.

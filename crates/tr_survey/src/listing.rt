@@ -1,21 +1,53 @@
 //! Which sessions, archives and streams there are.
 
-ghost use Rattle.std.specs.Prelude.{◌≡◌, List, Some, None, IfOk, OnOk, map};
+ghost use Rattle.std.specs.Prelude.{◌≡◌, ℕ, List, Some, None, IfOk, OnOk, map};
 ghost use Rattle.std.specs.BTreeSet.{insert_key};
 ghost use Rattle.std.specs.List.{filter_map};
 ghost use Rattle.std.specs.Option.{option_map};
-ghost use Rattle.tr_folders.specs.Failures.{after_reading};
+ghost use Rattle.tr_survey.specs.Failures.{reads_after, writes_after};
 ghost use Rattle.tr_folders.specs.Tree.{Tree, by_text};
-ghost use Rattle.tr_survey.specs.Listing.{archive_at, archives_of, key_of, session_names, streams_of, with_keys, with_name};
+ghost use Rattle.tr_survey.specs.Listing.{IsListing, archive_at, archives_of, key_of, session_names, streams_of, with_keys, with_name};
 ghost use Rattle.tr_survey.specs.Names.{stream_named};
 ghost use Rattle.tr_survey.specs.Order.{number_cmp};
 
+use crate::faults::SurveyFault;
 use crate::names::{Numbered, archive_number, stream_parts};
 use crate::paths::path_in;
 use std::alloc::{AllocError, Global};
 use std::collections::BTreeSet;
 use tr_folders::{Folders, ReadFault};
 use tr_terms::Name;
+
+/// What stands at a path where a folder is looked for.
+#[derive(Drop)]
+pub(crate) enum Listing {
+    /// No folder.
+    Absent,
+    /// A folder that can't be read.
+    Unreadable,
+    /// One with these names.
+    Names(Vec<String>),
+}
+
+/// What stands at a path where a folder is looked for.
+pub(crate) fn listing_at<F: Folders>(
+    alloc: Global,
+    folders: &mut F,
+    path: &str,
+) -> Result<Listing, SurveyFault>
+    ensures is { IfOk result (λ listing. (t : Tree) → F.tree folders.old ≡ Some t → IsListing t path.now listing) }
+    ensures tree { F.tree folders.new ≡ F.tree folders.old }
+    ensures failures { F.failures folders.new ≡ reads_after result (F.failures folders.old) }
+    ensures writes { (n : ℕ) → writes_after result n ≡ n }
+{
+    match folders.names_in(alloc, path) {
+        Ok(None) => Ok(Listing::Absent),
+        Ok(Some(names)) => Ok(Listing::Names(names)),
+        Err(ReadFault::Unreadable) => Ok(Listing::Unreadable),
+        Err(ReadFault::TooMuch) => Err(SurveyFault::TooMuch),
+        Err(ReadFault::NoMemory) => Err(SurveyFault::NoMemory),
+    }
+}
 
 /// Adds an archive or a stream, unless it is there.
 fn add(found: &mut BTreeSet<Numbered>, one: Numbered) -> Result<(), AllocError>
@@ -60,21 +92,24 @@ fn archive_at<F: Folders>(
     folders: &mut F,
     folder: &str,
     name: &str,
-) -> Result<Option<Numbered>, ReadFault>
+) -> Result<Option<Numbered>, SurveyFault>
     ensures archive { IfOk result (λ found. (t : Tree) → F.tree folders.old ≡ Some t
         → option_map key_of found ≡ archive_at t folder.now name.now) }
     ensures tree { F.tree folders.new ≡ F.tree folders.old }
-    ensures failures { F.failures folders.new ≡ after_reading result (F.failures folders.old) }
+    ensures failures { F.failures folders.new ≡ reads_after result (F.failures folders.old) }
+    ensures writes { (n : ℕ) → writes_after result n ≡ n }
 {
     let Some(number) = archive_number(name) else {
         return Ok(None);
     };
     let path = path_in(alloc, folder, name)?;
-    if folders.names_in(alloc, path.as_str())?.is_none() {
-        return Ok(None);
+    match listing_at(alloc, folders, path.as_str())? {
+        Listing::Absent => Ok(None),
+        Listing::Unreadable | Listing::Names(_) => {
+            let name = String::from_str(alloc, name)?;
+            Ok(Some(Numbered { number, name }))
+        }
     }
-    let name = String::from_str(alloc, name)?;
-    Ok(Some(Numbered { number, name }))
 }
 
 /// The archives among what has these names in a folder, in order.
@@ -83,11 +118,12 @@ pub(crate) fn archives_among<F: Folders>(
     folders: &mut F,
     folder: &str,
     names: &[String],
-) -> Result<Vec<Numbered>, ReadFault>
+) -> Result<Vec<Numbered>, SurveyFault>
     ensures archives { IfOk result (λ found. (t : Tree) → F.tree folders.old ≡ Some t
         → map key_of found.items ≡ archives_of t folder.now (by_text names.now)) }
     ensures tree { F.tree folders.new ≡ F.tree folders.old }
-    ensures failures { F.failures folders.new ≡ after_reading result (F.failures folders.old) }
+    ensures failures { F.failures folders.new ≡ reads_after result (F.failures folders.old) }
+    ensures writes { (n : ℕ) → writes_after result n ≡ n }
 {
     let mut found = BTreeSet::new(alloc);
     for name in names {
@@ -121,16 +157,17 @@ pub(crate) fn streams_among<F: Folders>(
     folders: &mut F,
     folder: &str,
     archives: &[Numbered],
-) -> Result<Vec<Numbered>, ReadFault>
+) -> Result<Vec<Numbered>, SurveyFault>
     ensures streams { IfOk result (λ found. (t : Tree) → F.tree folders.old ≡ Some t
         → map key_of found.items ≡ streams_of t folder.now (map key_of archives.now)) }
     ensures tree { F.tree folders.new ≡ F.tree folders.old }
-    ensures failures { F.failures folders.new ≡ after_reading result (F.failures folders.old) }
+    ensures failures { F.failures folders.new ≡ reads_after result (F.failures folders.old) }
+    ensures writes { (n : ℕ) → writes_after result n ≡ n }
 {
     let mut found = BTreeSet::new(alloc);
     for archive in archives {
         let path = path_in(alloc, folder, archive.name.as_str())?;
-        if let Some(names) = folders.names_in(alloc, path.as_str())? {
+        if let Listing::Names(names) = listing_at(alloc, folders, path.as_str())? {
             add_streams(alloc, &mut found, &names)?;
         }
     }

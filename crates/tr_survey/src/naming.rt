@@ -1,24 +1,31 @@
 //! The identifier that metadata name.
 
-ghost use Rattle.std.specs.Prelude.{◌≡◌, ◌<◌, List, Some, None, IfOk, length};
+ghost use Rattle.std.specs.Prelude.{◌≡◌, ℕ, ◌<◌, List, Some, None, IfOk, length};
 ghost use Rattle.std.specs.List.{position};
 ghost use Rattle.std.specs.Option.{option_map};
-ghost use Rattle.tr_folders.specs.Failures.{after_reading};
-ghost use Rattle.tr_folders.specs.Tree.{Tree};
+ghost use Rattle.tr_survey.specs.Failures.{reads_after, writes_after};
+ghost use Rattle.tr_folders.specs.Tree.{File, Tree};
 ghost use Rattle.tr_terms.specs.declared.limits.TheConstants.{MOST_METADATA};
-ghost use Rattle.tr_survey.specs.Metadata.{ends_line, first_named, naming_in, quoted, uuid_in, uuid_in_line, without_indent};
+ghost use Rattle.tr_survey.specs.Metadata.{ends_line, is_named, most_named, naming_by, naming_in, of_two, quoted, times, uuid_in, uuid_in_line, uuid_named, without_indent};
 
+use crate::faults::SurveyFault;
+use std::alloc::{AllocError, Global};
 use tr_folders::{Folders, ReadFault, read_front};
+use tr_packet::metadata_text;
 use uuid::Uuid;
 
 /// What an archive's metadata say of the trace.
 #[derive(Clone, Copy, Debug, PartialEq, Eq)]
 pub(crate) enum Naming {
-    /// There is no file `metadata`.
-    NoMetadata,
+    /// There is no file `metadata`, or an empty one: the recorder writes it last.
+    Unfinished,
+    /// It can't be read, or the archive's folder can't.
+    Unreadable,
     /// It has no line that names an identifier.
     NoUuid,
-    /// The first such line names this one.
+    /// The first such line names this one, but the text isn't the recorder's.
+    Other(Uuid),
+    /// It is the recorder's text of this identifier.
     Named(Uuid),
 }
 
@@ -75,36 +82,128 @@ fn uuid_in(bytes: &[u8]) -> Option<Uuid>
     uuid_in_line(rest)
 }
 
-/// What the metadata of this path name, by as many bytes as the buffer holds.
-pub(crate) fn naming_at<F: Folders>(
-    folders: &mut F,
-    path: &str,
-    buffer: &mut [u8],
-) -> Result<Naming, ReadFault>
-    requires { length buffer.old ≡ MOST_METADATA }
-    ensures naming { IfOk result (λ naming. (t : Tree) → F.tree folders.old ≡ Some t → naming ≡ naming_in (t.bytes path.now)) }
-    ensures tree { F.tree folders.new ≡ F.tree folders.old }
-    ensures failures { F.failures folders.new ≡ after_reading result (F.failures folders.old) }
+/// What these first bytes of metadata name.
+fn naming_by(alloc: Global, bytes: &[u8]) -> Result<Naming, AllocError>
+    ensures { IfOk result (λ naming. naming ≡ naming_by bytes.now) }
 {
-    if !folders.open(path)? {
-        return Ok(Naming::NoMetadata);
+    if bytes.is_empty() {
+        return Ok(Naming::Unfinished);
     }
-    let count = read_front(folders, buffer)?;
-    let (bytes, _) = buffer.split_at(count);
-    match uuid_in(bytes) {
-        None => Ok(Naming::NoUuid),
-        Some(uuid) => Ok(Naming::Named(uuid)),
+    let Some(uuid) = uuid_in(bytes) else {
+        return Ok(Naming::NoUuid);
+    };
+    let text = metadata_text(alloc, &uuid)?;
+    if bytes == text.as_bytes() {
+        Ok(Naming::Named(uuid))
+    } else {
+        Ok(Naming::Other(uuid))
     }
 }
 
-/// The first identifier that is named.
-pub(crate) fn first_named(namings: &[Naming]) -> Option<Uuid>
-    ensures { result ≡ first_named namings.now }
+/// What the open file names, if it is metadata, by as many bytes as the buffer holds.
+fn naming_read<F: Folders>(
+    alloc: Global,
+    folders: &mut F,
+    buffer: &mut [u8],
+) -> Result<Naming, SurveyFault>
+    requires { length buffer.old ≡ MOST_METADATA }
+    ensures naming { IfOk result (λ naming. (file : File) → F.left folders.old ≡ Some file → naming ≡ naming_in (Some file)) }
+    ensures tree { F.tree folders.new ≡ F.tree folders.old }
+    ensures failures { F.failures folders.new ≡ reads_after result (F.failures folders.old) }
+    ensures writes { (n : ℕ) → writes_after result n ≡ n }
+    ensures room { length buffer.new ≡ length buffer.old }
 {
+    match read_front(folders, buffer) {
+        Ok(count) => {
+            let (bytes, _) = buffer.split_at(count);
+            Ok(naming_by(alloc, bytes)?)
+        }
+        Err(ReadFault::Unreadable) => Ok(Naming::Unreadable),
+        Err(ReadFault::TooMuch) => Err(SurveyFault::TooMuch),
+        Err(ReadFault::NoMemory) => Err(SurveyFault::NoMemory),
+    }
+}
+
+/// What the metadata of this path name.
+pub(crate) fn naming_at<F: Folders>(
+    alloc: Global,
+    folders: &mut F,
+    path: &str,
+    buffer: &mut [u8],
+) -> Result<Naming, SurveyFault>
+    requires { length buffer.old ≡ MOST_METADATA }
+    ensures naming { IfOk result (λ naming. (t : Tree) → F.tree folders.old ≡ Some t → naming ≡ naming_in (t.file path.now)) }
+    ensures tree { F.tree folders.new ≡ F.tree folders.old }
+    ensures failures { F.failures folders.new ≡ reads_after result (F.failures folders.old) }
+    ensures writes { (n : ℕ) → writes_after result n ≡ n }
+    ensures room { length buffer.new ≡ length buffer.old }
+{
+    match folders.open(path) {
+        Ok(true) => naming_read(alloc, folders, buffer),
+        Ok(false) => Ok(Naming::Unfinished),
+        Err(ReadFault::Unreadable) => Ok(Naming::Unreadable),
+        Err(ReadFault::TooMuch) => Err(SurveyFault::TooMuch),
+        Err(ReadFault::NoMemory) => Err(SurveyFault::NoMemory),
+    }
+}
+
+/// The identifier that is named, if one is.
+fn uuid_named(naming: &Naming) -> Option<Uuid>
+    ensures { result ≡ uuid_named naming.now }
+{
+    match naming {
+        Naming::Unfinished | Naming::Unreadable | Naming::NoUuid => None,
+        Naming::Other(uuid) | Naming::Named(uuid) => Some(*uuid),
+    }
+}
+
+/// Whether this identifier is named.
+fn is_named(uuid: &Uuid, naming: &Naming) -> bool
+    ensures { result ≡ is_named uuid.now naming.now }
+{
+    match naming {
+        Naming::Unfinished | Naming::Unreadable | Naming::NoUuid => false,
+        Naming::Other(own) | Naming::Named(own) => *own == *uuid,
+    }
+}
+
+/// How often an identifier is named.
+fn times(namings: &[Naming], uuid: &Uuid) -> usize
+    ensures { result ≡ times namings.now uuid.now }
+{
+    let mut count = 0;
     for naming in namings {
-        if let Naming::Named(uuid) = naming {
-            return Some(*uuid);
+        if is_named(uuid, naming) {
+            count += 1;
         }
     }
-    None
+    count
+}
+
+/// Of two identifiers the one that is named more often, or the first.
+fn of_two(namings: &[Naming], first: Option<Uuid>, other: Option<Uuid>) -> Option<Uuid>
+    ensures { result ≡ of_two namings.now first other }
+{
+    let Some(uuid) = other else {
+        return first;
+    };
+    let Some(own) = first else {
+        return other;
+    };
+    if own != uuid && times(namings, &own) < times(namings, &uuid) {
+        Some(uuid)
+    } else {
+        Some(own)
+    }
+}
+
+/// The identifier that is named most often; of several the first.
+pub(crate) fn most_named(namings: &[Naming]) -> Option<Uuid>
+    ensures { result ≡ most_named namings.now }
+{
+    let mut first = None;
+    for naming in namings {
+        first = of_two(namings, first, uuid_named(naming));
+    }
+    first
 }

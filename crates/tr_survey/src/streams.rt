@@ -1,95 +1,25 @@
-//! The audit of one stream over the archives.
+//! What is told of streams.
 
-ghost use Rattle.std.specs.Prelude.{◌≡◌, ◌≢◌, ◌+◌, ◌<◌, ◌≤◌, ◌^◌, [], ℕ, List, Some, None, Ok, IfOk, OnErr, IfErr, length, map};
+ghost use Rattle.std.specs.Prelude.{◌≡◌, ◌<◌, Some, IfOk, OnOk, OnErr, length, map, ℕ, List};
 ghost use Rattle.std.specs.String.{string_bytes};
 ghost use Rattle.tr_chunk.specs.Files.{file_name};
-ghost use Rattle.tr_chunk.specs.Reading.{HasRead};
-ghost use Rattle.tr_chunk.specs.declared.audit_fault.AuditCause.TheVariants as cause;
-ghost use Rattle.tr_folders.specs.Failures.{after_reading};
 ghost use Rattle.tr_folders.specs.Tree.{Tree};
 ghost use Rattle.tr_survey.specs.Failures.{reads_after, writes_after};
-ghost use Rattle.tr_survey.specs.Findings.{Finds, HasFed, IsFed, files_of, AreLeft};
 ghost use Rattle.tr_survey.specs.Listing.{key_of};
 ghost use Rattle.tr_survey.specs.Paths.{file_path};
-ghost use Rattle.tr_survey.specs.declared.faults.SurveyFault.TheVariants.{NoMemory};
-ghost use Rattle.tr_survey.specs.declared.findings.Finding.TheVariants.{Stopped};
+ghost use Rattle.tr_survey.specs.Prefix.{IsPrefixOut, IsTold};
+ghost use Rattle.tr_survey.specs.Streams.{are_deleted, ended_told, file_in, file_told, files_told, place, span_text, stream_told, streams_told};
 
 use crate::faults::SurveyFault;
-use crate::findings::Finding;
+use crate::files::{tell_file, tell_no_file, tell_unreadable};
+use crate::lines::{cleared_line, counts_text, last_text, stream_line};
 use crate::names::Numbered;
+use crate::tally::{Last, Tally, lost_by};
+use crate::writing::put_line;
 use std::alloc::{AllocError, Global};
-use tr_chunk::{AuditCause, AuditFault, AuditReader};
-use tr_folders::{Folders, MOST_BYTES, ReadFault};
+use tr_folders::{Folders, ReadFault};
+use tr_record::ByteSink;
 use uuid::Uuid;
-
-/// Feeds the open file to a reader, as many bytes at a time as the buffer holds. The fault that it meets, if any.
-fn feed_bytes<F: Folders>(
-    folders: &mut F,
-    reader: &mut AuditReader,
-    buffer: &mut [u8],
-) -> Result<Option<AuditFault>, ReadFault>
-    requires room { 0 < length buffer.old }
-    requires whole { reader.old.fault ≡ None }
-    requires few { reader.old.bytes ≤ F.given folders.old }
-    ensures fed { IfOk result (λ fault. (uuid : List ℕ) (stream : ℕ) (done : List (List ℕ)) → HasRead uuid stream done [] reader.old
-        → (bytes : List ℕ) × AreLeft (F.left folders.old) bytes × IsFed uuid stream done bytes reader.new fault) }
-    ensures whole { result ≡ Ok None → reader.new.fault ≡ None }
-    ensures few { reader.new.bytes ≤ F.given folders.new }
-    ensures pieces { reader.new.pieces ≡ reader.old.pieces }
-    ensures tree { F.tree folders.new ≡ F.tree folders.old }
-    ensures failures { F.failures folders.new ≡ after_reading result (F.failures folders.old) }
-{
-    for _ in 0..MOST_BYTES {
-        let count = folders.read(buffer)?;
-        if count == 0 {
-            return Ok(None);
-        }
-        let (bytes, _) = buffer.split_at(count);
-        if let Err(fault) = reader.feed(bytes) {
-            return Ok(Some(fault));
-        }
-    }
-    unreachable!()
-}
-
-/// Ends a reader's piece. The fault that it meets, if any.
-fn end_piece(reader: &mut AuditReader) -> Option<AuditFault>
-    requires { reader.old.pieces + 1 < 2 ^ 62 }
-    ensures ended { (uuid : List ℕ) (stream : ℕ) (done : List (List ℕ)) (bytes : List ℕ)
-        → HasRead uuid stream done bytes reader.old → HasFed uuid stream done bytes reader.new result }
-    ensures whole { result ≡ None → reader.new.fault ≡ None }
-    ensures bytes { result ≡ None → reader.new.bytes ≡ reader.old.bytes }
-    ensures pieces { result ≡ None → reader.new.pieces ≡ reader.old.pieces + 1 }
-{
-    match reader.next_piece() {
-        Ok(()) => None,
-        Err(fault) => Some(fault),
-    }
-}
-
-/// Feeds the open file to a reader as a piece of its own. The fault that it meets, if any.
-fn feed_file<F: Folders>(
-    folders: &mut F,
-    reader: &mut AuditReader,
-    buffer: &mut [u8],
-) -> Result<Option<AuditFault>, ReadFault>
-    requires room { 0 < length buffer.old }
-    requires whole { reader.old.fault ≡ None }
-    requires few { reader.old.bytes ≤ F.given folders.old }
-    requires few_pieces { reader.old.pieces + 1 < 2 ^ 62 }
-    ensures fed { IfOk result (λ fault. (uuid : List ℕ) (stream : ℕ) (done : List (List ℕ)) → HasRead uuid stream done [] reader.old
-        → (bytes : List ℕ) × AreLeft (F.left folders.old) bytes × HasFed uuid stream done bytes reader.new fault) }
-    ensures whole { result ≡ Ok None → reader.new.fault ≡ None }
-    ensures few { result ≡ Ok None → reader.new.bytes ≤ F.given folders.new }
-    ensures pieces { result ≡ Ok None → reader.new.pieces ≡ reader.old.pieces + 1 }
-    ensures tree { F.tree folders.new ≡ F.tree folders.old }
-    ensures failures { F.failures folders.new ≡ after_reading result (F.failures folders.old) }
-{
-    match feed_bytes(folders, reader, buffer)? {
-        Some(fault) => Ok(Some(fault)),
-        None => Ok(end_piece(reader)),
-    }
-}
 
 /// The path of a stream's file in an archive of a folder.
 fn stream_path(
@@ -107,56 +37,184 @@ fn stream_path(
     format!(in alloc; "{folder}/{name}/{channel}_{number}")
 }
 
-/// What is found of a stream whose audit stops. Want of memory isn't the stream's.
-fn stopped(fault: AuditFault) -> Result<Finding, SurveyFault>
-    ensures ok { IfOk result (λ finding. (finding ≡ Stopped fault) × (fault.cause ≢ cause.NoMemory)) }
-    ensures err { IfErr result (λ fault. fault ≡ NoMemory) }
-    ensures memory { OnErr result (fault.cause ≡ cause.NoMemory) }
-{
-    match fault.cause {
-        AuditCause::NoMemory => Err(SurveyFault::NoMemory),
-        _ => Ok(Finding::Stopped(fault)),
-    }
-}
-
-/// What is found of a stream whose files are all read. The piece after the last one has no bytes.
-fn ended(reader: AuditReader) -> Result<Finding, SurveyFault>
-    ensures ok { IfOk result (λ finding. (uuid : List ℕ) (stream : ℕ) (pieces : List (List ℕ)) → HasRead uuid stream pieces [] reader
-        → Finds uuid stream (map Some pieces) finding) }
-    ensures err { IfErr result (λ fault. fault ≡ NoMemory) }
-{
-    match reader.finish() {
-        Ok(audit) => Ok(Finding::Whole(audit)),
-        Err(fault) => stopped(fault),
-    }
-}
-
-/// What is found of a stream in the archives of a folder, up to the first thing that is wrong with it.
-pub(crate) fn find_stream<F: Folders>(
+/// Tells of a stream's file in an archive of a folder.
+fn tell_archive<F: Folders, K: ByteSink>(
     alloc: Global,
     folders: &mut F,
+    sink: &mut K,
+    uuid: &Uuid,
+    folder: &str,
+    archive: &Numbered,
+    stream: &Numbered,
+    tally: &mut Tally,
+    buffer: &mut [u8],
+) -> Result<(), SurveyFault>
+    requires { 0 < length buffer.old }
+    ensures ok { OnOk result ((t : Tree) → F.tree folders.old ≡ Some t
+        → IsTold (file_told (place uuid.now stream.now.number (key_of archive.now)) tally.old
+        (file_in t folder.now (key_of stream.now) (key_of archive.now))) (K.taken sink.old) (K.taken sink.new) tally.new) }
+    ensures err { OnErr result ((t : Tree) → F.tree folders.old ≡ Some t
+        → IsPrefixOut (file_told (place uuid.now stream.now.number (key_of archive.now)) tally.old
+        (file_in t folder.now (key_of stream.now) (key_of archive.now))).text (K.taken sink.old) (K.taken sink.new)) }
+    ensures tree { F.tree folders.new ≡ F.tree folders.old }
+    ensures reads { F.failures folders.new ≡ reads_after result (F.failures folders.old) }
+    ensures writes { K.failures sink.new ≡ writes_after result (K.failures sink.old) }
+    ensures room { length buffer.new ≡ length buffer.old }
+{
+    let path = stream_path(alloc, folder, archive, stream)?;
+    match folders.open(path.as_str()) {
+        Ok(true) => tell_file(
+            alloc,
+            folders,
+            sink,
+            uuid,
+            stream.number,
+            archive,
+            tally,
+            buffer,
+        ),
+        Ok(false) => tell_no_file(alloc, sink, stream.number, archive, tally),
+        Err(ReadFault::Unreadable) => tell_unreadable(alloc, sink, stream.number, archive, tally),
+        Err(ReadFault::TooMuch) => Err(SurveyFault::TooMuch),
+        Err(ReadFault::NoMemory) => Err(SurveyFault::NoMemory),
+    }
+}
+
+/// Tells of a stream's files in the archives of a folder.
+fn tell_files<F: Folders, K: ByteSink>(
+    alloc: Global,
+    folders: &mut F,
+    sink: &mut K,
     uuid: &Uuid,
     folder: &str,
     archives: &[Numbered],
     stream: &Numbered,
+    tally: &mut Tally,
     buffer: &mut [u8],
-) -> Result<Finding, SurveyFault>
+) -> Result<(), SurveyFault>
     requires { 0 < length buffer.old }
-    ensures found { IfOk result (λ finding. (t : Tree) → F.tree folders.old ≡ Some t
-        → Finds uuid.now stream.now.number (files_of t folder.now (key_of stream.now) (map key_of archives.now)) finding) }
+    ensures ok { OnOk result ((t : Tree) → F.tree folders.old ≡ Some t
+        → IsTold (files_told t folder.now uuid.now (key_of stream.now) tally.old (map key_of archives.now))
+        (K.taken sink.old) (K.taken sink.new) tally.new) }
+    ensures err { OnErr result ((t : Tree) → F.tree folders.old ≡ Some t
+        → IsPrefixOut (files_told t folder.now uuid.now (key_of stream.now) tally.old (map key_of archives.now)).text
+        (K.taken sink.old) (K.taken sink.new)) }
     ensures tree { F.tree folders.new ≡ F.tree folders.old }
-    ensures failures { F.failures folders.new ≡ reads_after result (F.failures folders.old) }
-    ensures writes { (n : ℕ) → writes_after result n ≡ n }
+    ensures reads { F.failures folders.new ≡ reads_after result (F.failures folders.old) }
+    ensures writes { K.failures sink.new ≡ writes_after result (K.failures sink.old) }
+    ensures room { length buffer.new ≡ length buffer.old }
 {
-    let mut reader = AuditReader::new(alloc, uuid, stream.number)?;
-    for at in 0..archives.len() {
-        let path = stream_path(alloc, folder, &archives[at], stream)?;
-        if !folders.open(path.as_str())? {
-            return Ok(Finding::NoFile(at as u64));
-        }
-        if let Some(fault) = feed_file(folders, &mut reader, buffer)? {
-            return stopped(fault);
-        }
+    for archive in archives {
+        tell_archive(
+            alloc, folders, sink, uuid, folder, archive, stream, tally, buffer,
+        )?;
     }
-    ended(reader)
+    Ok(())
+}
+
+/// Where a stream ends, and between which moments its packets lie.
+fn span_text(alloc: Global, first: Option<u64>, last: Option<Last>) -> Result<String, AllocError>
+    ensures { IfOk result (λ s. string_bytes s ≡ span_text first last) }
+{
+    match last {
+        None => String::from_str(alloc, " last none"),
+        Some(last) => last_text(alloc, last.seq, last.serial, first.unwrap_or(0), last.end),
+    }
+}
+
+/// The lines after a stream's files.
+fn end_lines(
+    alloc: Global,
+    stream: &Numbered,
+    deleted: bool,
+    tally: &Tally,
+) -> Result<String, AllocError>
+    ensures { IfOk result (λ s. string_bytes s ≡ (ended_told (key_of stream.now) deleted tally.now).text) }
+{
+    let lost = lost_by(tally.last);
+    let counts = counts_text(alloc, tally.packets, tally.records, tally.absent, lost)?;
+    let last = span_text(alloc, tally.first, tally.last)?;
+    let mut lines = stream_line(alloc, stream, counts.as_str(), last.as_str())?;
+    let count = tally.unexplained(deleted);
+    if count != 0 {
+        let line = cleared_line(alloc, stream.number, count)?;
+        lines.push_str(line.as_str())?;
+    }
+    Ok(lines)
+}
+
+/// Whether there are numbers below the least archive's.
+fn are_deleted(archives: &[Numbered]) -> bool
+    ensures { result ≡ are_deleted (map key_of archives.now) }
+{
+    match archives {
+        [] => false,
+        [archive, ..] => archive.number > 0,
+    }
+}
+
+/// Tells of a stream, after this number of faults. How many there are then.
+fn tell_stream<F: Folders, K: ByteSink>(
+    alloc: Global,
+    folders: &mut F,
+    sink: &mut K,
+    uuid: &Uuid,
+    folder: &str,
+    archives: &[Numbered],
+    stream: &Numbered,
+    faults: u64,
+    buffer: &mut [u8],
+) -> Result<u64, SurveyFault>
+    requires { 0 < length buffer.old }
+    ensures ok { IfOk result (λ n. (t : Tree) → F.tree folders.old ≡ Some t
+        → IsTold (stream_told t folder.now uuid.now (map key_of archives.now) faults (key_of stream.now))
+        (K.taken sink.old) (K.taken sink.new) n) }
+    ensures err { OnErr result ((t : Tree) → F.tree folders.old ≡ Some t
+        → IsPrefixOut (stream_told t folder.now uuid.now (map key_of archives.now) faults (key_of stream.now)).text
+        (K.taken sink.old) (K.taken sink.new)) }
+    ensures tree { F.tree folders.new ≡ F.tree folders.old }
+    ensures reads { F.failures folders.new ≡ reads_after result (F.failures folders.old) }
+    ensures writes { K.failures sink.new ≡ writes_after result (K.failures sink.old) }
+    ensures room { length buffer.new ≡ length buffer.old }
+{
+    let mut tally = Tally::new(faults);
+    tell_files(
+        alloc, folders, sink, uuid, folder, archives, stream, &mut tally, buffer,
+    )?;
+    let lines = end_lines(alloc, stream, are_deleted(archives), &tally)?;
+    put_line(sink, lines.as_str())?;
+    Ok(tally.faults)
+}
+
+/// Tells of streams, after this number of faults. How many there are then.
+pub(crate) fn tell_streams<F: Folders, K: ByteSink>(
+    alloc: Global,
+    folders: &mut F,
+    sink: &mut K,
+    uuid: &Uuid,
+    folder: &str,
+    archives: &[Numbered],
+    streams: &[Numbered],
+    faults: u64,
+    buffer: &mut [u8],
+) -> Result<u64, SurveyFault>
+    requires { 0 < length buffer.old }
+    ensures ok { IfOk result (λ n. (t : Tree) → F.tree folders.old ≡ Some t
+        → IsTold (streams_told t folder.now uuid.now (map key_of archives.now) faults (map key_of streams.now))
+        (K.taken sink.old) (K.taken sink.new) n) }
+    ensures err { OnErr result ((t : Tree) → F.tree folders.old ≡ Some t
+        → IsPrefixOut (streams_told t folder.now uuid.now (map key_of archives.now) faults (map key_of streams.now)).text
+        (K.taken sink.old) (K.taken sink.new)) }
+    ensures tree { F.tree folders.new ≡ F.tree folders.old }
+    ensures reads { F.failures folders.new ≡ reads_after result (F.failures folders.old) }
+    ensures writes { K.failures sink.new ≡ writes_after result (K.failures sink.old) }
+    ensures room { length buffer.new ≡ length buffer.old }
+{
+    let mut count = faults;
+    for stream in streams {
+        count = tell_stream(
+            alloc, folders, sink, uuid, folder, archives, stream, count, buffer,
+        )?;
+    }
+    Ok(count)
 }

@@ -1,18 +1,15 @@
 //! Writing the lines of a survey.
 
-ghost use Rattle.std.specs.Prelude.{◌≡◌, ℕ, IfOk, OnOk, OnErr, map, slice_get};
+ghost use Rattle.std.specs.Prelude.{◌≡◌, ℕ, IfOk, OnOk, OnErr};
+ghost use Rattle.tr_folders.specs.Tree.{by_text};
 ghost use Rattle.tr_record.specs.Bytes.{and_then_bytes};
 ghost use Rattle.tr_survey.specs.Failures.{reads_after, writes_after};
-ghost use Rattle.tr_survey.specs.Findings.{finding_text, is_faulty, name_of};
-ghost use Rattle.tr_survey.specs.Fronts.{IsPrefixOut};
-ghost use Rattle.tr_survey.specs.Lines.{gaps_text};
-ghost use Rattle.tr_survey.specs.Listing.{key_of};
+ghost use Rattle.tr_survey.specs.Prefix.{IsPrefixOut, IsTold};
+ghost use Rattle.tr_survey.specs.Streams.{broken};
+ghost use Rattle.tr_survey.specs.Told.{faults_told, text_of_lines, told};
 
 use crate::faults::SurveyFault;
-use crate::findings::Finding;
-use crate::lines::{fault_line, gap_line, no_file_line, stream_line};
-use crate::names::Numbered;
-use std::alloc::Global;
+use crate::tally::Tally;
 use tr_record::{ByteSink, put_all};
 
 /// Writes a line.
@@ -28,69 +25,46 @@ pub(crate) fn put_line<K: ByteSink>(sink: &mut K, line: &str) -> Result<(), Surv
     }
 }
 
-/// Writes the lines of a stream's runs of absent numbers.
-fn put_gaps<K: ByteSink>(
-    alloc: Global,
+/// Writes a line of a stream's fault, and counts it.
+pub(crate) fn put_fault<K: ByteSink>(
     sink: &mut K,
-    stream: u64,
-    runs: &[(u64, u64)],
+    line: &str,
+    tally: &mut Tally,
 ) -> Result<(), SurveyFault>
-    ensures ok { OnOk result (K.taken sink.new ≡ and_then_bytes (K.taken sink.old) (gaps_text stream runs.now)) }
-    ensures err { OnErr result (IsPrefixOut (gaps_text stream runs.now) (K.taken sink.old) (K.taken sink.new)) }
+    ensures ok { OnOk result (IsTold (told line.now (broken tally.old)) (K.taken sink.old) (K.taken sink.new) tally.new) }
+    ensures err { OnErr result (IsPrefixOut line.now (K.taken sink.old) (K.taken sink.new)) }
     ensures writes { K.failures sink.new ≡ writes_after result (K.failures sink.old) }
     ensures reads { (n : ℕ) → reads_after result n ≡ n }
 {
-    for run in runs {
-        let line = gap_line(alloc, stream, run.0, run.1)?;
+    put_line(sink, line)?;
+    *tally = tally.broken();
+    Ok(())
+}
+
+/// Writes lines.
+fn put_lines<K: ByteSink>(sink: &mut K, lines: &[String]) -> Result<(), SurveyFault>
+    ensures ok { OnOk result (K.taken sink.new ≡ and_then_bytes (K.taken sink.old) (text_of_lines (by_text lines.now))) }
+    ensures err { OnErr result (IsPrefixOut (text_of_lines (by_text lines.now)) (K.taken sink.old) (K.taken sink.new)) }
+    ensures writes { K.failures sink.new ≡ writes_after result (K.failures sink.old) }
+    ensures reads { (n : ℕ) → reads_after result n ≡ n }
+{
+    for line in lines {
         put_line(sink, line.as_str())?;
     }
     Ok(())
 }
 
-/// The name of the archive at a place; no text beyond the last.
-fn name_at(archives: &[Numbered], place: u64) -> &str
-    ensures { result.now ≡ name_of (slice_get (map key_of archives.entry.now) place) }
-{
-    match archives.get(place as usize) {
-        Some(archive) => archive.name.as_str(),
-        None => "",
-    }
-}
-
-/// Writes what is found of a stream. Whether it is at fault.
-pub(crate) fn put_finding<K: ByteSink>(
-    alloc: Global,
+/// Writes lines, each of a fault, and counts them.
+pub(crate) fn put_faults<K: ByteSink>(
     sink: &mut K,
-    archives: &[Numbered],
-    stream: &Numbered,
-    finding: &Finding,
-) -> Result<bool, SurveyFault>
-    ensures faulty { IfOk result (λ faulty. faulty ≡ is_faulty finding.now) }
-    ensures ok { OnOk result (K.taken sink.new
-        ≡ and_then_bytes (K.taken sink.old) (finding_text (map key_of archives.now) (key_of stream.now) finding.now)) }
-    ensures err { OnErr result
-        (IsPrefixOut (finding_text (map key_of archives.now) (key_of stream.now) finding.now) (K.taken sink.old) (K.taken sink.new)) }
+    faults: u64,
+    lines: &[String],
+) -> Result<u64, SurveyFault>
+    ensures ok { IfOk result (λ n. IsTold (faults_told faults (by_text lines.now)) (K.taken sink.old) (K.taken sink.new) n) }
+    ensures err { OnErr result (IsPrefixOut (text_of_lines (by_text lines.now)) (K.taken sink.old) (K.taken sink.new)) }
     ensures writes { K.failures sink.new ≡ writes_after result (K.failures sink.old) }
     ensures reads { (n : ℕ) → reads_after result n ≡ n }
 {
-    match finding {
-        Finding::Whole(audit) => {
-            let line = stream_line(alloc, stream, audit)?;
-            put_line(sink, line.as_str())?;
-            put_gaps(alloc, sink, stream.number, audit.gaps.as_slice())?;
-            Ok(false)
-        }
-        Finding::Stopped(fault) => {
-            let archive = name_at(archives, fault.piece);
-            let line = fault_line(alloc, stream.number, archive, fault)?;
-            put_line(sink, line.as_str())?;
-            Ok(true)
-        }
-        Finding::NoFile(place) => {
-            let archive = name_at(archives, *place);
-            let line = no_file_line(alloc, stream.number, archive)?;
-            put_line(sink, line.as_str())?;
-            Ok(true)
-        }
-    }
+    put_lines(sink, lines)?;
+    Ok(faults.saturating_add(lines.len() as u64))
 }

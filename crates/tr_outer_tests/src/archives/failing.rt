@@ -121,8 +121,8 @@ fn assert_told(
 }
 
 /// After how many calls the disk fails, how many bytes its first file has room for and each later one, and whether that is
-/// told. There are five calls: a folder, and the beginning and the end of two files. The metadata has 1,082 bytes, the stream's
-/// file 484.
+/// told. There are five calls: a folder, and the beginning and the end of two files. The stream's file has 484 bytes, and the
+/// metadata, which comes last, 1,082.
 static FAILURES: [(usize, usize, usize, bool); 13] = [
     (0, 4096, 4096, true),
     (1, 4096, 4096, true),
@@ -133,11 +133,11 @@ static FAILURES: [(usize, usize, usize, bool); 13] = [
     (6, 4096, 4096, false),
     // files that are cut short
     (9, 0, 4096, true),
-    (9, 1081, 4096, true),
+    (9, 228, 4096, true),
+    (9, 483, 4096, true),
     (9, 4096, 0, true),
-    (9, 4096, 228, true),
-    (9, 4096, 483, true),
-    (9, 1082, 484, false),
+    (9, 4096, 1081, true),
+    (9, 484, 1082, false),
 ];
 
 #[test]

@@ -177,7 +177,7 @@ fn assert_seen(
     );
 }
 
-// the metadata and the stream's file
+// the stream's file and the metadata
 #[test]
 fn each_file_is_flushed_once_and_a_last_flush_that_fails_is_told(rt: HostRuntime) {
     assert_seen(&rt, rt.alloc(), 9, (Ok(()), 0), (2, 2, 0));

@@ -65,20 +65,20 @@ fn assert_left(
     assert_made(rt, &disk.files().disk, made);
 }
 
-/// What is made if the stream's file, the last one, can't be flushed, and if the metadata can't.
-static WITHOUT_STREAM: [Item<'static>; 3] = [
+/// What is made if the metadata, the last file, can't be flushed, and if the stream's file can't.
+static WITHOUT_METADATA: [Item<'static>; 3] = [
     ("folder", 0, FOLDER),
-    ("file", 1082, METADATA),
-    ("broken", 0, STREAM),
+    ("file", 484, STREAM),
+    ("broken", 0, METADATA),
 ];
 
-static WITHOUT_METADATA: [Item<'static>; 2] = [("folder", 0, FOLDER), ("broken", 0, METADATA)];
+static WITHOUT_STREAM: [Item<'static>; 2] = [("folder", 0, FOLDER), ("broken", 0, STREAM)];
 
 #[test]
 fn each_file_is_ended_once_and_nothing_follows_a_broken_file(rt: HostRuntime) {
     let alloc = rt.alloc();
     assert_left(&rt, alloc, 2, Ok(()), (0, 2), &ONE_ARCHIVE);
     let full = Err(ExportFault::Write);
-    assert_left(&rt, alloc, 1, full, (1, 2), &WITHOUT_STREAM);
-    assert_left(&rt, alloc, 0, full, (1, 1), &WITHOUT_METADATA);
+    assert_left(&rt, alloc, 1, full, (1, 2), &WITHOUT_METADATA);
+    assert_left(&rt, alloc, 0, full, (1, 1), &WITHOUT_STREAM);
 }

@@ -5,10 +5,9 @@ ghost use Rattle.tr_folders.specs.Failures.{after_reading, read_failures};
 
 use super::{WORKED, assert_same, worked};
 use std::alloc::Global;
-use std::process::Abort;
 use tr_folders::{Folders, MemoryFolders, ReadFault};
 use tr_record::{ByteSink, Failed, MemorySink};
-use tr_survey::{SurveyFault, survey};
+use tr_survey::{SurveyFault, Surveyed, survey};
 
 /// Folders that fail after this many calls.
 #[derive(Drop)]
@@ -19,15 +18,15 @@ struct FailingFolders {
 }
 
 impl FailingFolders {
-    /// Counts a fault, if it isn't want of memory.
+    /// Counts a fault, if it is a failure.
     fn counted(&mut self, fault: ReadFault) -> ReadFault
         ensures fault { result ≡ fault }
         ensures folders { self.new.folders ≡ self.old.folders }
         ensures failures { self.new.failures ≡ read_failures fault self.old.failures }
     {
         match fault {
-            ReadFault::Read => self.failures = self.failures.wrapping_add(1),
-            ReadFault::NoMemory => {}
+            ReadFault::TooMuch => self.failures = self.failures.wrapping_add(1),
+            ReadFault::Unreadable | ReadFault::NoMemory => {}
         }
         fault
     }
@@ -38,7 +37,7 @@ impl FailingFolders {
         ensures failures { self.new.failures ≡ after_reading result self.old.failures }
     {
         if self.calls == 0 {
-            return Err(self.counted(ReadFault::Read));
+            return Err(self.counted(ReadFault::TooMuch));
         }
         self.calls -= 1;
         Ok(())
@@ -111,13 +110,34 @@ impl ByteSink for ShortSink {
     }
 }
 
-/// Asserts that what went out is a front of the worked example's text.
-fn assert_front(rt: &impl Abort, out: Vec<u8>) {
-    let is_front = WORKED.as_bytes().starts_with(out.as_slice());
-    assert_same(rt, is_front, true);
+/// The first lines of the worked example's text.
+fn first_lines(lines: usize) -> &'static str {
+    let mut end = 0;
+    let mut left = lines;
+    for (at, byte) in WORKED.as_bytes().iter().enumerate() {
+        if left > 0 && *byte == b'\n' {
+            end = at + 1;
+            left -= 1;
+        }
+    }
+    &WORKED[..end]
 }
 
-/// Whichever call of the folders fails, the survey says so, and the lines up to there went out.
+/// How many lines are known once the folders have answered this many calls: 14 for what stands there and the metadata, and then
+/// for each file one to open it, one for its bytes if it has some, and one for its end.
+fn lines_known(calls: u64) -> usize {
+    match calls {
+        0..=13 => 0,
+        14..=15 => 1,
+        16..=19 => 3,
+        20..=23 => 4,
+        24..=26 => 5,
+        27..=29 => 6,
+        _ => 8,
+    }
+}
+
+/// Whichever call of the folders fails, the survey says so, and all lines that were known before it went out.
 #[test]
 fn failing_folders(rt: HostRuntime) {
     let alloc = rt.alloc();
@@ -130,12 +150,17 @@ fn failing_folders(rt: HostRuntime) {
         };
         let mut sink = MemorySink::new(alloc, 7);
         let answer = survey(alloc, &mut folders, &mut sink, "d");
-        assert_front(&rt, sink.into_bytes());
-        if let Ok(faults) = answer {
-            assert_same(&rt, (faults, folders.calls), (Some(1), 0));
+        let out = String::from_utf8(sink.into_bytes()).expect(&rt, "text");
+        assert_same(&rt, out.as_str(), first_lines(lines_known(calls)));
+        if let Ok(said) = answer {
+            assert_same(&rt, (said, folders.calls), (Surveyed::Faults(1), 0));
             return;
         }
-        assert_same(&rt, (answer, folders.failures), (Err(SurveyFault::Read), 1));
+        assert_same(
+            &rt,
+            (answer, folders.failures),
+            (Err(SurveyFault::TooMuch), 1),
+        );
     }
     panic!(&rt; "no end");
 }
@@ -154,7 +179,6 @@ fn failing_sinks(rt: HostRuntime) {
         let answer = survey(alloc, &mut folders, &mut sink, "d");
         assert_same(&rt, (answer, sink.failures), (Err(SurveyFault::Write), 1));
         let out = sink.sink.into_bytes();
-        assert_same(&rt, out.len(), room);
-        assert_front(&rt, out);
+        assert_same(&rt, out.as_slice() == &WORKED.as_bytes()[..room], true);
     }
 }

@@ -26,10 +26,11 @@ impl Unreadable {
         ensures { self.new.failures ≡ read_failures result self.old.failures }
     {
         match self.fault {
-            ReadFault::Read => {
+            ReadFault::TooMuch => {
                 self.failures = self.failures.wrapping_add(1);
-                ReadFault::Read
+                ReadFault::TooMuch
             }
+            ReadFault::Unreadable => ReadFault::Unreadable,
             ReadFault::NoMemory => ReadFault::NoMemory,
         }
     }
@@ -92,7 +93,8 @@ fn audited<R: Threads + Wait + Clock + Sync>(
 #[test]
 fn folders_that_cannot_be_read_are_told(rt: HostRuntime) {
     for (fault, status, line) in [
-        (ReadFault::Read, 3, "tracerd: read or write fault\n"),
+        (ReadFault::Unreadable, 3, "tracerd: read or write fault\n"),
+        (ReadFault::TooMuch, 3, "tracerd: read or write fault\n"),
         (ReadFault::NoMemory, 4, "tracerd: no memory\n"),
     ] {
         let found = audited(&rt, rt.alloc(), fault, line);
