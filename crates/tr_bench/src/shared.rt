@@ -205,7 +205,7 @@ fn round_of_threads<N: Names + Send + Sync, R: Threads + Wait + Sync>(
     let streams = shared.streams();
     let settled = settled(alloc, shared, producers)?;
     let mut total = Total { sum, ..total };
-    for k in 0..streams {
+    for k in 0..streams as u64 {
         if let Some(stream) = settled.session().stream(k) {
             total = total.with(stream, total.sum);
         }
