@@ -22,7 +22,7 @@ use Rattle.tr_program.specs.declared.ending.Ending.TheVariants.{NoSession, NoMem
 pub ends_without_memory : (asked : Option Task) (o : Outside) → EndsSo o o asked NoMemory
 ends_without_memory None o = (inr refl, (refl, refl, refl))
 ends_without_memory (Some (Script dir)) o = inl (refl, refl, refl)
-ends_without_memory (Some (Load threads records workers dir)) o = (refl, inr ((load.NoMemory, refl), (refl, refl, refl)))
+ends_without_memory (Some (Load threads records workers watch dir)) o = (refl, inr ((load.NoMemory, refl), (refl, refl, refl)))
 ends_without_memory (Some (Audit dir)) o = record {
   audited = record { result = Err survey.NoMemory; ends = refl; tells = λ t known. front_nothing (survey_of t dir).text o.host.taken; reads = refl; writes = refl };
   given = refl;
