@@ -3,6 +3,7 @@
 ghost use Rattle.std.specs.Prelude.{◌≤◌, length};
 
 mod books;
+mod journals;
 mod ledgers;
 mod lines;
 mod names;

@@ -1,0 +1,9 @@
+pub mod AccountLemmas
+pub mod HoldLemmas
+pub mod JournalLemmas
+pub mod Later
+pub mod Lists
+pub mod LogLemmas
+pub mod OfferedLemmas
+pub mod SeatLemmas
+pub mod TakeLemmas

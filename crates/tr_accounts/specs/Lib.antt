@@ -1,0 +1,6 @@
+pub mod Accounts
+pub mod Holds
+pub mod Logs
+pub mod Seats
+pub mod StreamSteps
+pub mod Takes
