@@ -2,6 +2,7 @@
 //! settling of all seats. Nothing here waits: each call is lent the values that it changes.
 #![tactic(auto)]
 
+mod account;
 mod both;
 mod clearing;
 mod desk;
