@@ -1,35 +1,30 @@
 -- A stream's journal, as its slot keeps it.
-use Rattle.std.proofs.Common.{◌≡◌, ◌≢◌, ◌∙◌, ◌<◌, ◌-◌, ℕ, Bool, true, false, not, if◌then◌else◌, length, List, [], ◌∷◌, ◌++◌, Option, Some, None, Result, Ok, Err, ap, arith, refl, subst, sym}
+use Rattle.std.proofs.Common.{◌≡◌, ◌∙◌, ℕ, Bool, List, [], ◌∷◌, ◌++◌, Result, ap, arith, refl, subst, sym}
 use Rattle.atomic_table.specs.Seated.{TableId}
-use Rattle.std.specs.Prelude.{nat_le, nat_lt}
 use Rattle.tr_accounts.proofs.JournalLemmas.{journal-clear, journal-cut, journal-holds, journal-moved, journal-new, journal-offer, journal-switch, journal-take}
 use Rattle.tr_accounts.proofs.SeatLemmas.{offers-theirs}
-use Rattle.tr_accounts.specs.Seats.{IsJournalOf, desk_seat, is_offer, producer_seat, steps_of}
+use Rattle.tr_accounts.specs.Seats.{IsJournalOf, desk_seat, producer_seat}
 use Rattle.tr_accounts.specs.Holds.{HoldsOffers}
 use Rattle.tr_accounts.specs.StreamSteps.{accepted_in, clear_step, cut_step, offer_step, switch_step, take_step}
 use Rattle.tr_accounts.specs.declared.step.StreamStep.{StreamStep}
 use Rattle.tr_journal.specs.Journals.{IsSeatOf, JournalState, SeatState, journal_after, new_seat}
 use Rattle.tr_journal.specs.Views.{all_done, done_by, line}
-use Rattle.tr_record.specs.Records.{Entry}
 use Rattle.tr_seats.specs.Accounts.{IsAccountOf, IsKeptAccount, IsNewAccount, IsSeatAt, take_seat}
 use Rattle.tr_seats.specs.Plans.{IsUnused}
-use Rattle.tr_seats.specs.Slots.{ProducerState, producer_after, with_offer}
 use Rattle.tr_stream.proofs.TakeLemmas.{starts}
 use Rattle.tr_stream.specs.Kept.{IsKept}
 use Rattle.tr_stream.specs.StandsFor.{StandsFor}
 use Rattle.tr_stream.specs.State.{StreamState}
-use Rattle.tr_stream.specs.StateSteps.{refusal_of, state_after_clear, state_after_cut, state_after_offer, state_after_switch, state_after_take, state_answer_unless, state_clear_answer, state_cut_answer, state_entry, state_offer_answer, state_take_answer}
+use Rattle.tr_stream.specs.StateSteps.{state_after_clear, state_after_cut, state_after_offer, state_after_switch, state_after_take, state_clear_answer, state_cut_answer, state_offer_answer, state_take_answer}
 use Rattle.tr_stream.specs.Steps.{new_history}
 use Rattle.tr_stream.specs.declared.answers.ClearFault.{ClearFault}
 use Rattle.tr_stream.specs.declared.answers.Cleared.{Cleared}
 use Rattle.tr_stream.specs.declared.answers.CutDone.{CutDone}
 use Rattle.tr_stream.specs.declared.answers.CutFault.{CutFault}
 use Rattle.tr_stream.specs.declared.answers.OfferFault.{OfferFault}
-use Rattle.tr_stream.specs.declared.answers.OfferFault.TheVariants.{Inactive, TooBig, Spent, Misplaced}
 use Rattle.tr_stream.specs.declared.answers.Offered.{Offered}
 use Rattle.tr_stream.specs.declared.answers.TakeFault.{TakeFault}
 use Rattle.tr_stream.specs.declared.answers.Taken.{Taken}
-use Rattle.tr_terms.specs.declared.limits.TheConstants.{MOST_OFFERS, SMALLEST_PACKET}
 
 -- a new one
 pub kept-new : (table : TableId) (stream : StreamState) (account : JournalState StreamStep) → account.table ≡ table → IsNewAccount account

@@ -3,11 +3,10 @@ use Rattle.std.specs.Prelude.{◌≡◌, ℕ, List, []}
 use Rattle.atomic_table.specs.Seated.{TableId}
 use Rattle.tr_accounts.specs.Accounts.{IsAccounted}
 use Rattle.tr_accounts.specs.Holds.{HoldsOffers}
-use Rattle.tr_accounts.specs.Seats.{IsJournalOf, desk_seat, is_offer, producer_seat, steps_of}
+use Rattle.tr_accounts.specs.Seats.{IsJournalOf, desk_seat, is_offer, steps_of}
 use Rattle.tr_accounts.specs.StreamSteps.{accepted_in}
 use Rattle.tr_accounts.specs.declared.step.StreamStep.{StreamStep}
-use Rattle.tr_journal.specs.Journals.{JournalState, SeatState, seat_state}
-use Rattle.tr_journal.specs.declared.rule.Part.{Part}
+use Rattle.tr_journal.specs.Journals.{JournalState, SeatState}
 use Rattle.tr_stream.specs.State.{StreamState}
 
 -- ---- a stream's journal

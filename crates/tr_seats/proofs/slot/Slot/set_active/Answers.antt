@@ -1,4 +1,4 @@
-use Rattle.std.proofs.Common.{◌<◌, length, subst, sym}
+use Rattle.std.proofs.Common.{subst, sym}
 use Rattle.tr_seats.proofs.AccountLemmas.{kept-switch}
 use Rattle.tr_seats.proofs.slot.Slot.set_active.Goals as goal
 use Rattle.tr_seats.specs.Books.{AreBooksOf, IsPlanned, books_at}
