@@ -1,4 +1,8 @@
-use Rattle.std.proofs.Common.{arith}
+use Rattle.std.proofs.Common.{◌≡◌, ap, arith, length, subst, sym}
+use Rattle.std.proofs.lemmas.List.Elements.{All-replicate}
+use Rattle.std.specs.Prelude.{All, replicate}
+use Rattle.tr_seats.specs.Books.{PlanState}
+use Rattle.tr_tally.specs.Tallies.{WatcherState, watcher_state}
 use Rattle.std.proofs.lemmas.Grind.{common_steps}
 use Rattle.tr_shared.proofs.shared.Shared.build_watched.Goals as goal
 
@@ -10,3 +14,11 @@ close-shared-requires-clause-locks g c = (
   c.in_ok-locks.ensures.len,
   omega (arith, c.in_ok-locks.ensures.capacity, c.len.ensures, c.into_parts-alloc.ensures.slots),
 )
+
+pub returns-clause-tally : goal.returns-clause-tally
+returns-clause-tally g c =
+    let tally = g.N.Names.plan.tally in
+    let table = ap (λ (p : PlanState). p.tally.table) c.requires in
+    subst (All (λ (w : WatcherState). w.table ≡ tally.table)) (sym c.in_ok-opened.ensures.watchers)
+    (All-replicate (λ (w : WatcherState). w.table ≡ tally.table) c.args.plan.tally.watchers
+    (watcher_state c.args.plan.tally.table (replicate (length c.args.plan.books) 0)) table)
