@@ -1,8 +1,7 @@
-use Rattle.std.proofs.Common.{rules, ◌≡◌, ◌∙◌, ℕ, ap, subst, sym}
+use Rattle.std.proofs.Common.{◌≡◌, ◌∙◌, ℕ, ap, subst, sym}
 use Rattle.tr_accounts.specs.StreamSteps.{accepted_in}
 use Rattle.tr_book.specs.Snaps.{SnapState}
-use Rattle.tr_seats.specs.Accounts.{IsAccountOf}
-use Rattle.tr_seats.specs.Slots.{IsOwn, ProducerState, SlotState}
+use Rattle.tr_seats.specs.Slots.{IsOwn}
 use Rattle.tr_seats.specs.Sums.{totals_in}
 use Rattle.tr_shared.proofs.ShownLemmas.{shown-offered}
 use Rattle.tr_shared.proofs.looking.look_with.Goals as goal
