@@ -1,9 +1,8 @@
 -- Logs of fed producers agree with the streams that these settle.
 use Rattle.std.proofs.Common.{◌≡◌, ◌≢◌, ◌∙◌, ◌+◌, ◌<◌, ℕ, suc, Bool, true, false, List, [], ◌∷◌, Some, ⊎_elim, ap, arith, cond, eqb, get_or, length, subst, sym}
-use Rattle.std.specs.Prelude.{count_by, slice_get, ◌==◌}
+use Rattle.std.specs.Prelude.{count_by, ◌==◌}
 use Rattle.std.specs.List.{AllByRecursion}
 use Rattle.std.proofs.lemmas.Bool.Decides.{eqb_tells}
-use Rattle.std.proofs.lemmas.Grind.{common_steps}
 use Rattle.std.proofs.lemmas.List.Sums.{sum_by-cons}
 use Rattle.std.proofs.lemmas.Option.{get_or_from_slice_get, slice_get_within}
 use Rattle.tr_accounts.proofs.LogLemmas.{logged}
@@ -34,7 +33,7 @@ log-found R i (p ∷ ps) (l ∷ ls) len same each one =
     (λ (t : (eqb p.number i ≡ true) × (p.number ≡ i)).
     (l, ap (λ (b : Bool). cond b (Some l) (log_of ls i)) (here ∙ t.0), each 0 p l (omega arith) t.1))
     (λ (t : (eqb p.number i ≡ false) × (p.number ≢ i)).
-    let none : cond (eqb p.number i) 1 0 ≡ 0 = ap (λ (b : Bool). cond b 1 0) t.0 in
+    let none : ◌≡◌ {A = ℕ} (cond (eqb p.number i) 1 0) 0 = ap (λ (b : Bool). cond b 1 0) t.0 in
     let more : count_by (λ (p : ProducerState). p.number == i) (p ∷ ps)
     ≡ cond (eqb p.number i) 1 0 + count_by (λ (p : ProducerState). p.number == i) ps =
     sum_by-cons (λ (p : ProducerState). cond (p.number == i) 1 0) p ps in
