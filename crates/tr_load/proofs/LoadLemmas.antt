@@ -1,8 +1,8 @@
 -- The logs of a load.
-use Rattle.std.proofs.Common.{◌≡◌, ℕ, zero, suc, ◌<◌, List, [], ◌∷◌, length, map, get_or, refl, ap, sym, ◌∙◌, subst, arith}
+use Rattle.std.proofs.Common.{◌≡◌, ℕ, zero, suc, ◌<◌, List, [], ◌∷◌, ◌++◌, drop, length, map, take, get_or, refl, ap, sym, ◌∙◌, subst, arith}
 use Rattle.std.specs.List.{range_with_len}
 use Rattle.std.specs.Prelude.{IfOk, IsOk, Result, Ok, Err}
-use Rattle.std.proofs.lemmas.List.{get_or-map, length-map}
+use Rattle.std.proofs.lemmas.List.{get_or-map, length-map, take_at}
 use Rattle.std.proofs.lemmas.List.FromFn.{get_or-map-range_with_len, length-map-range_with_len}
 use Rattle.tr_load.proofs.WorkLemmas.{whole_work}
 use Rattle.tr_load.specs.Loads.{AllHave, AreLogs, IsJudged, IsLogOf as IsLoadLogOf, log_in}
@@ -84,11 +84,16 @@ logs_fed {B} {W} producer logged work fed works producers threads len many new d
           (sym (get_or-map producer fed k b p there)) (refl, is)),
     )
 
+-- what is written back over a list
+pub written_back : {X : Type 0} → (xs ys : List X) (n : ℕ) → ys ≡ xs → n ≡ length xs → take n (ys ++ drop (length ys) xs) ≡ xs
+written_back {X = X} xs ys n same long =
+    ap (λ (l : List X). take n (l ++ drop (length l) xs)) same ∙ take_at xs (drop (length xs) xs) n (sym long)
+
 -- logs that agree with the streams are judged so
 pub judged_ok : (producers : List ProducerState) (logs : List Log) (streams : List StreamState) (outcome : Result Report Mismatch)
     → IsOneEach (length streams) producers → AreAccountsOf producers streams → AreLogsOf producers logs → IsJudged logs streams outcome
     → IsOk outcome
-judged_ok producers logs streams (Ok report) once accounts are judged = tt
+judged_ok producers logs streams (Ok report) once accounts are judged = refl
 judged_ok producers logs streams (Err mismatch) once accounts are judged =
     absurd (none-wrong logs streams mismatch (fed-agree producers logs streams once accounts are) judged)
 
