@@ -1,4 +1,4 @@
-use Rattle.std.proofs.Common.{rules, ◌≡◌, ℕ, length, subst, sym}
+use Rattle.std.proofs.Common.{rules, ℕ, length, subst, sym}
 use Rattle.tr_load.proofs.LoadLemmas.{judged_ok}
 use Rattle.tr_load.proofs.ending.settled.Goals as goal
 use Rattle.tr_load.specs.Loads.{IsJudged}
