@@ -1,17 +1,25 @@
 -- The logs of a load.
-use Rattle.std.proofs.Common.{◌≡◌, ℕ, zero, suc, ◌<◌, List, [], ◌∷◌, length, map, get_or, refl, ap, sym, ◌∙◌, subst, arith}
+use Rattle.std.proofs.Common.{◌≡◌, ℕ, zero, suc, ◌<◌, List, [], ◌∷◌, ◌++◌, drop, length, map, take, get_or, refl, ap, sym, ◌∙◌, subst, arith}
 use Rattle.std.specs.List.{range_with_len}
-use Rattle.std.specs.Prelude.{IfOk, Result, Ok, Err}
-use Rattle.std.proofs.lemmas.List.{get_or-map, length-map}
+use Rattle.std.specs.Prelude.{IfOk, IsOk, Result, Ok, Err}
+use Rattle.std.proofs.lemmas.List.{get_or-map, length-map, take_at}
 use Rattle.std.proofs.lemmas.List.FromFn.{get_or-map-range_with_len, length-map-range_with_len}
 use Rattle.tr_load.proofs.WorkLemmas.{whole_work}
-use Rattle.tr_load.specs.Loads.{AllHave, AreLogs, IsLogOf, log_in}
+use Rattle.tr_load.specs.Loads.{AllHave, AreLogs, IsJudged, IsLogOf as IsLoadLogOf, log_in}
 use Rattle.tr_load.specs.Works.{item_of, work_of}
 use Rattle.tr_threads.specs.Feeding.{IsFed}
 use Rattle.tr_shared.specs.Calls.{IsOffered}
+use Rattle.tr_shared.specs.Feeds.{IsLogOf}
+use Rattle.tr_shared.proofs.FeedLemmas.{fed-logs}
 use Rattle.tr_threads.specs.declared.items.Item.{Item}
+use Rattle.tr_pool.proofs.FedLemmas.{fed-agree, none-wrong}
+use Rattle.tr_pool.specs.Fed.{AreLogsOf}
 use Rattle.tr_pool.specs.declared.log.Log.{Log}
+use Rattle.tr_pool.specs.declared.report.Mismatch.{Mismatch}
+use Rattle.tr_pool.specs.declared.report.Report.{Report}
+use Rattle.tr_seats.specs.Settling.{AreAccountsOf, IsOneEach}
 use Rattle.tr_seats.specs.Slots.{AreNew, ProducerState, new_producer}
+use Rattle.tr_stream.specs.State.{StreamState}
 
 -- what holds of each element's image holds of the image's elements
 pub at_made : {A B : Type 0} (f : B → A) (made : List B) (i : ℕ) (d : A) (P : A → Type 0) → i < length made
@@ -34,7 +42,7 @@ logs_of {B} {W} producer logged work fed works producers threads records len new
     let many : length works ≡ threads =
     sym (length-map works work) ∙ ap length are ∙ length-map-range_with_len (work_of records) 0 threads in (
       length-map fed log ∙ len,
-      (λ t d low. at_made log fed t d (IsLogOf records t) (omega (arith, low, len)) (λ b.
+      (λ t d low. at_made log fed t d (IsLoadLogOf records t) (omega (arith, low, len)) (λ b.
           let after = producer (get_or fed t b) in let items = logged (get_or fed t b) in
           let before = get_or producers t (new_producer t) in
           let own : get_or (map work works) t [] ≡ work_of records t =
@@ -52,6 +60,42 @@ logs_of {B} {W} producer logged work fed works producers threads records len new
             (after, refl, fed_it),
           ))),
     )
+
+-- feeders of new producers have logged just what these offered and what was accepted
+pub logs_fed : {B W : Type 0} (producer : B → ProducerState) (logged : B → List Item) (work : W → List Item)
+    (fed : List B) (works : List W) (producers : List ProducerState) (threads : ℕ)
+    → length fed ≡ threads → length works ≡ threads → AreNew threads producers
+    → ((i : ℕ) (p : ProducerState) (w : W) (b : B) → i < threads
+    → IsFed IsOffered (get_or producers i p) (work (get_or works i w)) (producer (get_or fed i b)) (logged (get_or fed i b)))
+    → AreLogsOf (map producer fed) (map (λ (b : B). log_in (producer b).number (logged b)) fed)
+logs_fed {B} {W} producer logged work fed works producers threads len many new did =
+    let log : B → Log = λ b. log_in (producer b).number (logged b) in (
+      length-map fed log ∙ sym (length-map fed producer),
+      λ k p l low.
+          let q = get_or (map producer fed) k p in
+          let there : k < length fed = omega (arith, low, length-map fed producer) in
+          at_made log fed k l (λ x. (x.stream ≡ q.number) × IsLogOf q x.items) there (λ b.
+          let is : IsLogOf (producer (get_or fed k b)) (logged (get_or fed k b)) =
+          at_made work works k [] (λ _. IsLogOf (producer (get_or fed k b)) (logged (get_or fed k b))) (omega (arith, there, len, many))
+          (λ w. fed-logs (get_or producers k (new_producer k)) (producer (get_or fed k b)) (work (get_or works k w)) (logged (get_or fed k b))
+          (did k (new_producer k) w b (omega (arith, there, len)))
+          (ap (λ (p : ProducerState). p.steps) (new.1 k (new_producer k) (omega (arith, there, len))))) in
+          subst (λ (q : ProducerState). ((producer (get_or fed k b)).number ≡ q.number) × IsLogOf q (logged (get_or fed k b)))
+          (sym (get_or-map producer fed k b p there)) (refl, is)),
+    )
+
+-- what is written back over a list
+pub written_back : {X : Type 0} → (xs ys : List X) (n : ℕ) → ys ≡ xs → n ≡ length xs → take n (ys ++ drop (length ys) xs) ≡ xs
+written_back {X = X} xs ys n same long =
+    ap (λ (l : List X). take n (l ++ drop (length l) xs)) same ∙ take_at xs (drop (length xs) xs) n (sym long)
+
+-- logs that agree with the streams are judged so
+pub judged_ok : (producers : List ProducerState) (logs : List Log) (streams : List StreamState) (outcome : Result Report Mismatch)
+    → IsOneEach (length streams) producers → AreAccountsOf producers streams → AreLogsOf producers logs → IsJudged logs streams outcome
+    → IsOk outcome
+judged_ok producers logs streams (Ok report) once accounts are judged = refl
+judged_ok producers logs streams (Err mismatch) once accounts are judged =
+    absurd (none-wrong logs streams mismatch (fed-agree producers logs streams once accounts are) judged)
 
 pub if_ok_too : {X F : Type 0} (P Q : X → Type 0) (r : Result X F) → ((x : X) → P x → Q x) → IfOk r P → IfOk r Q
 if_ok_too P Q (Ok x) more is = more x is

@@ -1,5 +1,5 @@
 -- What a load comes to.
-use Rattle.std.specs.Prelude.{◌≡◌, ℕ, ◌<◌, ◌*◌, List, [], ◌∷◌, length, slice_index_or, Option, Result, Ok, Err, IfOk, IfSome, ◌≤◌, All}
+use Rattle.std.specs.Prelude.{◌≡◌, ℕ, ◌<◌, ◌*◌, List, [], ◌∷◌, length, slice_index_or, Option, Result, Ok, Err, IfOk, IsOk, IfSome, ◌≤◌, All}
 use Rattle.tr_load.specs.Plans.{load_session}
 use Rattle.tr_load.specs.Works.{work_of}
 use Rattle.tr_threads.specs.Feeding.{IsFed}
@@ -50,13 +50,14 @@ pub record IsOfLoad (threads : ℕ) (session : SessionOf StreamState) : Type 0 w
   pub planned : IsSessionOf plan session
   pub many : length session.streams ≡ threads
 
--- a load's session was ended at the moment that is the number of records, its streams are judged by what its feeders logged, and
--- a watcher, if there was one, learned of no fewer records than were offered
+-- a load's session was ended at the moment that is the number of records, its streams are judged by what its feeders logged and
+-- agree with it, and a watcher, if there was one, learned of no fewer records than were offered
 pub record IsLoaded (threads records : ℕ) (session : SessionOf StreamState) (outcome : Result Report Mismatch) (watched : Option ℕ) : Type 0 where
   pub own : IsOfLoad threads session
   pub ended : IsEnded records session.book
   pub logs : List Log
   pub are_logs : AreLogs threads records logs
   pub judged : IsJudged logs session.streams outcome
+  pub agree : IsOk outcome
   pub offered : IfOk outcome (λ (report : Report). report.offered ≡ threads * records)
   pub learned : IfSome watched (λ (n : ℕ). threads * records ≤ n)

@@ -1,7 +1,8 @@
 //! What is done with a load when its threads have ended.
 
-ghost use Rattle.std.specs.Prelude.{◌≡◌, IfOk, IsTrue, map};
+ghost use Rattle.std.specs.Prelude.{◌≡◌, IfOk, IsOk, IsTrue, map};
 ghost use Rattle.tr_load.specs.Loads.{AllHave, IsEnded, IsJudged, log_in};
+ghost use Rattle.tr_pool.specs.Fed.{AreLogsOf};
 ghost use Rattle.tr_seats.specs.Settling.{IsSessionOf};
 
 use crate::loaded::{LoadFault, Loaded};
@@ -77,6 +78,7 @@ pub(crate) fn settled<N: Names>(
 ) -> Result<Loaded, LoadFault>
     ensures judged { IfOk result (λ l. IsJudged logs.now l.settled.streams l.outcome × IsSessionOf N.plan l.settled
         × IsEnded records l.settled.book × AllHave records logs.now) }
+    ensures agree { AreLogsOf producers.items logs.now → IfOk result (λ l. IsOk l.outcome) }
     ensures watched { IfOk result (λ l. l.watched ≡ watched) }
 {
     let Ok((settled, _)) = shared.settle(producers, drainers) else {

@@ -98,8 +98,7 @@ fn run<N: Names + Send + Sync, R: Threads + Wait + Clock + Sync, P: Progress + S
 /// ended. Then the session is stopped, rotated at the moment that is the number of records, settled, and compared with what
 /// the feeders logged.
 ///
-/// The feeder of number `t` offers the items of `load_work`, and each of them is accepted. Where the logs and the session
-/// don't agree, the session comes back all the same.
+/// The feeder of number `t` offers the items of `load_work`, and each of them is accepted. The logs and the session agree.
 ///
 /// If it is to be watched, a watcher learns after the feeders have ended how many records each of them offered. While they
 /// offer it reads that once a second, without a lock, and says so where somebody looks.

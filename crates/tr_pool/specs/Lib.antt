@@ -1,4 +1,5 @@
 pub mod Faults
+pub mod Fed
 pub mod Judging
 pub mod Logs
 pub mod Reports

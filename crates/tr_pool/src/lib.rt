@@ -25,10 +25,12 @@
 #![tactic(auto)]
 
 mod judging;
+mod laws;
 mod log;
 mod reconciling;
 mod report;
 
+pub use laws::every_reconciling;
 pub use log::{Log, Logged};
 pub use reconciling::reconcile;
 pub use report::{Mismatch, Report};

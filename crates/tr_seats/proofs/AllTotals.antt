@@ -6,9 +6,10 @@ use Rattle.std.proofs.lemmas.List.{length-map, get_or-map}
 use Rattle.tr_ledger.specs.Ledgers.{SeatState, seat_state}
 use Rattle.tr_seats.proofs.Joins.{tables-length}
 use Rattle.tr_seats.proofs.Permuted.{one-each, sum_by-beside, sum_by-index, sum_by-same}
+use Rattle.tr_seats.specs.Accounts.{IsAccountOf}
 use Rattle.tr_seats.specs.Books.{Books, cleared_books, consumed_books, cut_books, no_table}
 use Rattle.tr_seats.specs.Desks.{DeskState}
-use Rattle.tr_seats.specs.Settling.{AreAllMade, AreTheirs, HaveCleared, HaveConsumed, IsOneEach, streams_of, taken_of, totals_of_seats}
+use Rattle.tr_seats.specs.Settling.{AreAccountsOf, AreAllMade, AreTheirs, HaveCleared, HaveConsumed, IsOneEach, streams_of, taken_of, totals_of_seats}
 use Rattle.tr_seats.specs.Slots.{AreJoined, AreSeatsOf, IsOwn, ProducerState, SlotState, amounts_of, slot_state}
 use Rattle.tr_seats.specs.Sums.{totals_in, totals_of}
 use Rattle.tr_seats.specs.declared.totals.Totals.{Totals}
@@ -169,6 +170,17 @@ theirs n producers slots len there own k p t lt =
     let q = get_or producers k p in
     let at = get_or-map (λ (x : SlotState). x.stream) slots q.number s t (omega (arith, there k p lt, len)) in
     subst (λ (x : StreamState). IsOwn q (totals_in x)) (sym at) (own k p s lt)
+
+-- and so is what it offered
+pub their-accounts : (n : ℕ) (producers : List ProducerState) (slots : List SlotState) → length slots ≡ n → AreWithin n producers
+    → ((k : ℕ) (p : ProducerState) (s : SlotState) → k < length producers
+    → IsAccountOf (get_or producers k p).steps (get_or slots (get_or producers k p).number s).stream)
+    → AreAccountsOf producers (streams_of slots)
+their-accounts n producers slots len there own k p t lt =
+    let s = slot_state 0 t 0 in
+    let q = get_or producers k p in
+    let at = get_or-map (λ (x : SlotState). x.stream) slots q.number s t (omega (arith, there k p lt, len)) in
+    subst (IsAccountOf q.steps) (sym at) (own k p s lt)
 
 -- what a row and the drainers have is what was consumed of each stream, out of its slot
 pub have-consumed : (mine : List SeatState) (drainers : List (List ℕ)) (slots : List SlotState) → length mine ≡ length slots

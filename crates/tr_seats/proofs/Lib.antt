@@ -1,3 +1,4 @@
+pub mod AccountLemmas
 pub mod AllTotals
 pub mod ClearLemmas
 pub mod CountLemmas

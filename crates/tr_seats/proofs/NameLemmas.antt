@@ -15,15 +15,17 @@ use Rattle.tr_seats.specs.Seats.{AreSeatsOfProducer}
 use Rattle.tr_seats.specs.Settling.{opened_state}
 use Rattle.tr_seats.specs.Slots.{AreNew, AreSeatsOf, ProducerState, SlotState, amounts_of, new_producer, slot_state}
 use Rattle.tr_session_book.specs.BookSteps.{chunks_closed}
-use Rattle.tr_seats.specs.declared.totals.Totals.{Totals}
+use Rattle.tr_seats.specs.Sums.{totals_in}
 use Rattle.tr_stream.specs.State.{StreamState}
+use Rattle.tr_stream.specs.StateSteps.{new_state}
 
 -- the books of a stream on which nothing was done, as they were opened
 pub books-opened : (books : Books) (stream : StreamState) (o d v p k c l : LedgerState) (os ds vs ps ks cs ls : SeatState)
-    → books_of o.table d.table v.table p.table k.table c.table l.table ≡ books → IsUnused stream
+    → (journal : TableId) → books_of o.table d.table v.table p.table k.table c.table l.table journal ≡ books → IsUnused stream
     → IsOpened o os → IsOpened d ds → IsOpened v vs → IsOpened p ps → IsOpened k ks → IsOpened c cs → IsOpened l ls
     → AreBooksOf books stream k.made o d v p k c l
-books-opened books stream o d v p k c l os ds vs ps ks cs ls is none io id iv ip ik ic il =
+books-opened books stream o d v p k c l os ds vs ps ks cs ls journal is unused io id iv ip ik ic il =
+    let none : totals_in stream ≡ totals_in (new_state stream.config) = ap totals_in unused in
     let made : k.made ≡ 0 = ap (λ (l : LedgerState). l.made) ik.0 in
     record {
       offered_is = io.0 ∙ (λ j. ledger_state (is j).offered (sym none j).offered 0);
@@ -151,7 +153,7 @@ module _ (plan : PlanState) (slots : List SlotState) (producers : List ProducerS
       operator = λ i lt.
           let here = there-within plan.session.streams i (omega (arith, lt, planned.books)) in
           let closed : length here.0.parts.closed ≡ chunks_closed i plan.session.book = (planned.session.are i here.0 here.1).closed in
-          let none : length here.0.parts.closed ≡ 0 = ap (λ (x : Totals). x.cuts) (unused i here.0 here.1) in
+          let none : length here.0.parts.closed ≡ 0 = ap (λ (t : StreamState). (totals_in t).cuts) (unused i here.0 here.1) in
           ap (λ (xs : List ℕ). slice_index xs i) is.cuts_none ∙ nothing-at (length slots) i (omega (arith, lt, all))
           ∙ sym none ∙ closed;
     }

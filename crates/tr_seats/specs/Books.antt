@@ -12,7 +12,7 @@ use Rattle.tr_terms.specs.declared.session_mode.SessionMode.{SessionMode}
 use Rattle.tr_terms.specs.declared.session_mode.SessionMode.TheVariants.{Local, Snapshot}
 use Rattle.tr_seats.specs.Sums.{totals_in}
 
--- the tables of a stream's seven books
+-- the tables of a stream's seven books, and of its journal
 pub record Books : Type 0 where
   pub offered : TableId
   pub discarded : TableId
@@ -21,9 +21,10 @@ pub record Books : Type 0 where
   pub consumed : TableId
   pub cuts : TableId
   pub cleared : TableId
+  pub journal : TableId
 
-abbrev pub books_of : (offered discarded overwritten overwritten_packets consumed cuts cleared : TableId) → Books
-books_of offered discarded overwritten overwritten_packets consumed cuts cleared = record {
+abbrev pub books_of : (offered discarded overwritten overwritten_packets consumed cuts cleared journal : TableId) → Books
+books_of offered discarded overwritten overwritten_packets consumed cuts cleared journal = record {
   offered = offered;
   discarded = discarded;
   overwritten = overwritten;
@@ -31,6 +32,7 @@ books_of offered discarded overwritten overwritten_packets consumed cuts cleared
   consumed = consumed;
   cuts = cuts;
   cleared = cleared;
+  journal = journal;
 }
 
 -- the session as it was configured, the books of its streams, in order of number, and the tally of what they are offered
@@ -46,7 +48,7 @@ abbrev pub no_table : TableId
 no_table = record { words = 0; slots = 0; views_name = 0; atom = 0; block = 0; offset = 0; slot_names = [] }
 
 abbrev pub no_books : Books
-no_books = books_of no_table no_table no_table no_table no_table no_table no_table
+no_books = books_of no_table no_table no_table no_table no_table no_table no_table no_table
 
 abbrev pub no_plan : PlanState
 no_plan = plan_state (new_session [] (pos 0) Local) [] (tally_state no_table 0 0)

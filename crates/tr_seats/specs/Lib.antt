@@ -1,3 +1,4 @@
+pub mod Accounts
 pub mod Books
 pub mod Clears
 pub mod Cuts

@@ -6,9 +6,8 @@ use Rattle.tr_seats.specs.Books.{Books, PlanState, cleared_books, consumed_books
 use Rattle.tr_seats.specs.Desks.{desk_state}
 use Rattle.tr_seats.specs.Settling.{OpenedState, opened_state}
 use Rattle.tr_seats.specs.Slots.{AreNew, AreSeatsOf, ProducerState, SlotState, amounts_of, slot_state}
-use Rattle.tr_seats.specs.Sums.{totals_in}
-use Rattle.tr_seats.specs.declared.totals.Totals.{Totals}
 use Rattle.tr_stream.specs.State.{StreamState}
+use Rattle.tr_stream.specs.StateSteps.{new_state}
 use Rattle.tr_tally.specs.Tallies.{TellerState, teller_state}
 
 -- a stream before its first call, the tables of its books, and its teller
@@ -20,20 +19,9 @@ pub record PlannedState : Type 0 where
 abbrev pub planned_state : StreamState → Books → TellerState → PlannedState
 planned_state stream books teller = record { stream = stream; books = books; teller = teller }
 
-abbrev pub no_totals : Totals
-no_totals = record {
-  offered = 0;
-  discarded = 0;
-  overwritten = 0;
-  overwritten_packets = 0;
-  consumed = 0;
-  cuts = 0;
-  cleared = 0;
-}
-
 -- nothing was done on a stream
 abbrev pub IsUnused : StreamState → Type 0
-IsUnused t = totals_in t ≡ no_totals
+IsUnused t = t ≡ new_state t.config
 
 -- nothing was done on these streams
 abbrev pub AreUnused : List StreamState → Type 0

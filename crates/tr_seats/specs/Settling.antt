@@ -1,6 +1,7 @@
 -- What settling answers.
 use Rattle.std.specs.Prelude.{◌≡◌, ◌≢◌, ℕ, ◌+◌, ◌<◌, ◌≤◌, ◌==◌, List, Some, length, map, sum, count_by, slice_get, slice_index, slice_index_or, All}
 use Rattle.std.specs.List.{sum_by}
+use Rattle.tr_seats.specs.Accounts.{IsAccountOf}
 use Rattle.tr_seats.specs.Books.{IsPlanned, PlanState}
 use Rattle.tr_seats.specs.Desks.{DeskState, IsOfPlan}
 use Rattle.tr_seats.specs.Slots.{IsOwn, ProducerState, SlotState}
@@ -91,6 +92,11 @@ abbrev pub AreTheirs : List ProducerState → List StreamState → Type 0
 AreTheirs producers streams =
     (k : ℕ) (p : ProducerState) (t : StreamState) → k < length producers
     → IsOwn (slice_index_or producers k p) (totals_in (slice_index_or streams (slice_index_or producers k p).number t))
+
+-- what each producer offered is what its stream has
+abbrev pub AreAccountsOf : List ProducerState → List StreamState → Type 0
+AreAccountsOf producers streams = (k : ℕ) (p : ProducerState) (t : StreamState) → k < length producers
+    → IsAccountOf (slice_index_or producers k p).steps (slice_index_or streams (slice_index_or producers k p).number t)
 
 -- what was consumed of each stream is what the desk's seat of it and the drainers' have
 abbrev pub HaveConsumed : List ℕ → List (List ℕ) → List StreamState → Type 0

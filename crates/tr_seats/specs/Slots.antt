@@ -1,6 +1,8 @@
 -- A stream under its lock, and the seats that its calls move.
-use Rattle.std.specs.Prelude.{◌≡◌, ℕ, ◌+◌, ◌<◌, ◌==◌, List, map, length, Result, Ok, Err, All, slice_index, slice_index_or, slice_set, if◌then◌else◌, nat_le}
+use Rattle.std.specs.Prelude.{◌≡◌, ℕ, ◌+◌, ◌<◌, ◌==◌, List, [], ◌∷◌, ◌++◌, map, length, Result, Ok, Err, All, slice_index, slice_index_or, slice_set, if◌then◌else◌, nat_le}
 use Rattle.atomic_table.specs.Seated.{TableId}
+use Rattle.tr_accounts.specs.StreamSteps.{offer_step}
+use Rattle.tr_accounts.specs.declared.step.StreamStep.{StreamStep}
 use Rattle.tr_ledger.specs.Ledgers.{SeatState, seat_state}
 use Rattle.tr_seats.specs.Books.{Books, books_at}
 use Rattle.tr_seats.specs.declared.totals.Totals.{Totals}
@@ -26,7 +28,8 @@ pub record SlotState : Type 0 where
 abbrev pub slot_state : ℕ → StreamState → ℕ → SlotState
 slot_state number stream made = record { number = number; stream = stream; made = made }
 
--- what a producer's seats say of the offers to its stream, and how many of these its teller has published
+-- what a producer's seats say of the offers to its stream, how many of these its teller has published, and all its offers with
+-- their answers, refused ones too
 pub record ProducerState : Type 0 where
   pub number : ℕ
   pub offered : ℕ
@@ -34,20 +37,22 @@ pub record ProducerState : Type 0 where
   pub overwritten : ℕ
   pub overwritten_packets : ℕ
   pub published : ℕ
+  pub steps : List StreamStep
 
-abbrev pub producer_state : (number offered discarded overwritten overwritten_packets published : ℕ) → ProducerState
-producer_state number offered discarded overwritten overwritten_packets published = record {
+abbrev pub producer_state : (number offered discarded overwritten overwritten_packets published : ℕ) → List StreamStep → ProducerState
+producer_state number offered discarded overwritten overwritten_packets published steps = record {
   number = number;
   offered = offered;
   discarded = discarded;
   overwritten = overwritten;
   overwritten_packets = overwritten_packets;
   published = published;
+  steps = steps;
 }
 
 -- the producer of a stream to which nothing was offered
 abbrev pub new_producer : ℕ → ProducerState
-new_producer number = producer_state number 0 0 0 0 0
+new_producer number = producer_state number 0 0 0 0 0 []
 
 -- ---- offers
 
@@ -60,16 +65,26 @@ abbrev pub slot_after_offer : ℕ → ℕ → ℕ → List ℕ → SlotState →
 slot_after_offer number moment id payload slot =
     if number == slot.number then record slot { stream = state_after_offer moment id payload slot.stream } else slot
 
--- what an answer does to the producer's seats; a refusal moves none
-abbrev pub producer_after : Result Offered OfferFault → ProducerState → ProducerState
-producer_after (Ok (Stored serial seq)) p = record p { offered = p.offered + 1 }
-producer_after (Ok (StoredOver serial seq gone_seq gone_count)) p = record p {
+-- what an accepted offer does to the producer's totals
+abbrev pub totals_moved : Offered → ProducerState → ProducerState
+totals_moved (Stored serial seq) p = record p { offered = p.offered + 1 }
+totals_moved (StoredOver serial seq gone_seq gone_count) p = record p {
   offered = p.offered + 1;
   overwritten = p.overwritten + gone_count;
   overwritten_packets = p.overwritten_packets + 1;
 }
-producer_after (Ok (Discarded serial)) p = record p { offered = p.offered + 1; discarded = p.discarded + 1 }
-producer_after (Err fault) p = p
+totals_moved (Discarded serial) p = record p { offered = p.offered + 1; discarded = p.discarded + 1 }
+
+-- one offer more is the producer's
+abbrev pub with_offer : ℕ → ℕ → List ℕ → Result Offered OfferFault → ProducerState → ProducerState
+with_offer moment id payload answer p = record p { steps = p.steps ++ offer_step moment id payload answer ∷ [] }
+
+-- what an offer does to the producer: it is noted with its answer, unless another stream was in the slot, and the totals move
+-- if it was accepted
+abbrev pub producer_after : ℕ → ℕ → List ℕ → Result Offered OfferFault → ProducerState → ProducerState
+producer_after moment id payload (Ok offered) p = totals_moved offered (with_offer moment id payload (Ok offered) p)
+producer_after moment id payload (Err offer_fault.Misplaced) p = p
+producer_after moment id payload (Err fault) p = with_offer moment id payload (Err fault) p
 
 -- its teller publishes how many records were offered
 abbrev pub with_all_published : ProducerState → ProducerState

@@ -50,6 +50,7 @@
 //! way, and the settling of what it moved.
 #![tactic(auto)]
 
+mod account;
 mod both;
 mod clearing;
 mod desk;

@@ -148,6 +148,7 @@ fn named_as<N: Names, A: Allocator>(
         consumed: (consumed, consumed_seat),
         cuts: (cuts, cut_seat),
         cleared: (cleared, cleared_seat),
+        account: (account, account_seat),
         teller,
     } = planned;
     let producer = Producer {
@@ -157,6 +158,7 @@ fn named_as<N: Names, A: Allocator>(
         overwritten: overwritten_seat,
         overwritten_packets: packets_seat,
         teller,
+        account: account_seat,
         of: PhantomData,
     };
     let slot = Slot {
@@ -169,6 +171,7 @@ fn named_as<N: Names, A: Allocator>(
         consumed,
         cuts,
         cleared,
+        account,
         of: PhantomData,
     };
     let seats = DeskSeats {

@@ -1,7 +1,7 @@
 //! A session out of its locks.
 
 ghost use Rattle.std.specs.Prelude.{◌≡◌, ◌+◌, ◌≤◌, IfErr, IfOk, length, sum_by, vec_capacity, vec_len};
-ghost use Rattle.tr_seats.specs.Settling.{AddUp, AreTheirs, CanSettle, HaveCleared, HaveConsumed, WereConsumed, IsSessionOf, IsWhy, opened_state, streams_of, totals_of_seats};
+ghost use Rattle.tr_seats.specs.Settling.{AddUp, AreAccountsOf, AreTheirs, CanSettle, HaveCleared, HaveConsumed, WereConsumed, IsSessionOf, IsWhy, opened_state, streams_of, totals_of_seats};
 ghost use Rattle.tr_seats.specs.Sums.{totals_of};
 ghost use Rattle.tr_session.specs.Session.{session_of};
 
@@ -110,6 +110,7 @@ impl<N: Names, A: Allocator + Copy> Opened<N, A> {
         ensures totals { IfOk result (λ r. r.1 ≡ totals_of (streams_of self.slots)) }
         ensures seats { IfOk result (λ r. r.1 ≡ totals_of_seats producers.items drainers.items self.desk) }
         ensures own { IfOk result (λ r. AreTheirs producers.items r.0.streams) }
+        ensures accounts { IfOk result (λ r. AreAccountsOf producers.items r.0.streams) }
         ensures taken { IfOk result (λ r. HaveConsumed self.desk.consumed drainers.items r.0.streams) }
         ensures cleared { IfOk result (λ r. HaveCleared self.desk.cleared r.0.streams) }
         ensures places { IfOk result (λ r. AddUp r.1 (streams_of self.slots)) }

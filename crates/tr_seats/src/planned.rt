@@ -5,6 +5,7 @@ ghost use Rattle.tr_seats.specs.Plans.{IsOpened, IsUnused, opened_of, planned_st
 ghost use Rattle.tr_seats.specs.Slots.{AreNew};
 ghost use Rattle.tr_tally.specs.Tallies.{new_watchers};
 
+use crate::account::Account;
 use crate::both::both;
 use crate::names::Names;
 use crate::naming::Named;
@@ -12,12 +13,14 @@ use crate::opened::Opened;
 use crate::producer::Producer;
 use std::alloc::{AllocError, Allocator, Global};
 use std::marker::Model;
+use tr_accounts::StreamStep;
 use tr_ledger::{Ledger, Seat};
 use tr_session_book::{SessionBook, SessionFault};
 use tr_stream::Stream;
 use tr_tally::{Tally, Teller, Watcher};
 
-/// A stream on which nothing was done, with its books and their whole seats, which nothing names yet, and with its teller.
+/// A stream on which nothing was done, with its books and their whole seats, which nothing names yet, with its account and its
+/// producer's seat there, and with its teller.
 /// Contracts see a `PlannedState`.
 #[derive(Drop)]
 pub(crate) struct PlannedStream<A: Allocator = Global> {
@@ -29,22 +32,29 @@ pub(crate) struct PlannedStream<A: Allocator = Global> {
     pub(crate) consumed: (Ledger<A>, Seat),
     pub(crate) cuts: (Ledger<A>, Seat),
     pub(crate) cleared: (Ledger<A>, Seat),
+    pub(crate) account: (Account<A>, tr_journal::Seat<StreamStep>),
     pub(crate) teller: Teller<A>,
 }
 
 impl<A: Allocator> Model for PlannedStream<A> {
+    ghost use Rattle.std.specs.Prelude.{◌≡◌};
+    ghost use Rattle.tr_accounts.specs.Seats.{producer_seat};
+    ghost use Rattle.tr_journal.specs.Journals.{new_seat};
+    ghost use Rattle.tr_seats.specs.Accounts.{IsNewAccount};
     ghost use Rattle.tr_seats.specs.Books.{books_of};
     ghost use Rattle.tr_seats.specs.Plans.{IsOpened, IsUnused, PlannedState, planned_state};
 
     ghost Value = { PlannedState };
 
     ghost view = { λ p. planned_state p.stream (books_of p.offered.0.table p.discarded.0.table p.overwritten.0.table
-        p.overwritten_packets.0.table p.consumed.0.table p.cuts.0.table p.cleared.0.table) p.teller };
+        p.overwritten_packets.0.table p.consumed.0.table p.cuts.0.table p.cleared.0.table p.account.0.table)
+        p.teller };
 
     ghost invariant = { λ p. IsUnused p.stream × IsOpened p.offered.0 p.offered.1
         × IsOpened p.discarded.0 p.discarded.1 × IsOpened p.overwritten.0 p.overwritten.1
         × IsOpened p.overwritten_packets.0 p.overwritten_packets.1 × IsOpened p.consumed.0 p.consumed.1
-        × IsOpened p.cuts.0 p.cuts.1 × IsOpened p.cleared.0 p.cleared.1 };
+        × IsOpened p.cuts.0 p.cuts.1 × IsOpened p.cleared.0 p.cleared.1
+        × IsNewAccount p.account.0 × (p.account.1 ≡ new_seat p.account.0.table producer_seat) };
 }
 
 /// Three books in which nothing is, with their whole seats.
@@ -76,6 +86,8 @@ impl<A: Allocator> PlannedStream<A> {
         let (held, books) = both((stream, teller), three_books(alloc))?;
         let ((held, books), others) = both((held, books), three_books(alloc))?;
         let ((held, books, others), cleared) = both((held, books, others), Ledger::open(alloc))?;
+        let (held, account) = both((held, books, others, cleared), Account::open(alloc))?;
+        let (held, books, others, cleared) = held;
         let (stream, teller) = held;
         let (offered, discarded, overwritten) = books;
         let (overwritten_packets, consumed, cuts) = others;
@@ -88,6 +100,7 @@ impl<A: Allocator> PlannedStream<A> {
             consumed,
             cuts,
             cleared,
+            account,
             teller,
         })
     }

@@ -7,11 +7,12 @@ ghost use Rattle.tr_tally.specs.Tallies.{note_state};
 use crate::names::Names;
 use std::alloc::{Allocator, Global};
 use std::marker::{Model, PhantomData};
+use tr_accounts::StreamStep;
 use tr_ledger::Seat;
 use tr_tally::{Note, Teller};
 
 /// The producer of one stream: it alone moves the totals of that stream's offers, and publishes how many were accepted.
-/// Contracts see a `ProducerState`.
+/// Contracts see a `ProducerState`, with all its offers.
 #[derive(Drop)]
 pub struct Producer<N: Names, A: Allocator = Global> {
     pub(crate) number: usize,
@@ -20,11 +21,14 @@ pub struct Producer<N: Names, A: Allocator = Global> {
     pub(crate) overwritten: Seat,
     pub(crate) overwritten_packets: Seat,
     pub(crate) teller: Teller<A>,
+    pub(crate) account: tr_journal::Seat<StreamStep>,
     pub(crate) of: PhantomData<N>,
 }
 
 impl<N: Names, A: Allocator> Model for Producer<N, A> {
     ghost use Rattle.std.specs.Prelude.{◌≡◌, ◌<◌, length};
+    ghost use Rattle.tr_accounts.specs.Seats.{producer_seat};
+    ghost use Rattle.tr_seats.specs.Accounts.{IsSeatAt};
     ghost use Rattle.tr_seats.specs.Books.{books_at};
     ghost use Rattle.tr_seats.specs.Seats.{AreSeatsOfProducer, IsTellerOf};
     ghost use Rattle.tr_seats.specs.Slots.{ProducerState, producer_state};
@@ -32,13 +36,14 @@ impl<N: Names, A: Allocator> Model for Producer<N, A> {
     ghost Value = { ProducerState };
 
     ghost view = { λ p. producer_state p.number p.offered.amount p.discarded.amount p.overwritten.amount
-        p.overwritten_packets.amount p.teller.count };
+        p.overwritten_packets.amount p.teller.count p.account.own };
 
-    // it has the whole seats of its stream's books, and the stream's teller
+    // it has the whole seats of its stream's books, the stream's teller, and its own seat in the stream's journal
     ghost invariant = { λ p. (p.number < length N.plan.books)
         × AreSeatsOfProducer (books_at N.plan.books p.number) p.offered p.discarded p.overwritten
         p.overwritten_packets
-        × IsTellerOf N.plan.tally p.number p.offered.amount p.teller };
+        × IsTellerOf N.plan.tally p.number p.offered.amount p.teller
+        × IsSeatAt (books_at N.plan.books p.number).journal producer_seat p.account };
 }
 
 impl<N: Names, A: Allocator> Producer<N, A> {

@@ -2,10 +2,11 @@
 
 ghost use Rattle.std.specs.Prelude.{◌≡◌, ◌+◌, ◌<◌, ◌≤◌, ◌==◌, ◌↔◌, ℕ, IsTrue, MatchOption, count_by, length, map, slice_index_or, slice_set, sum, sum_by, vec_capacity, vec_len};
 ghost use Rattle.tr_ledger.specs.Ledgers.{SeatState, seat_state};
+ghost use Rattle.tr_seats.specs.Accounts.{IsAccountOf};
 ghost use Rattle.tr_seats.specs.Books.{IsPlanned, books_at, cleared_books, consumed_books, cut_books};
 ghost use Rattle.tr_seats.specs.Desks.{DeskState};
 ghost use Rattle.tr_seats.specs.Faults.{settle_error_code, settle_error_name};
-ghost use Rattle.tr_seats.specs.Settling.{AddUp, AreAllMade, AreInPlace, AreTheirs, AreWhole, CanSettle, HaveCleared, HaveConsumed, IsOneEach, IsSessionOf, IsWhy, WereConsumed, opened_state, streams_of, taken_of, totals_of_seats};
+ghost use Rattle.tr_seats.specs.Settling.{AddUp, AreAccountsOf, AreAllMade, AreInPlace, AreTheirs, AreWhole, CanSettle, HaveCleared, HaveConsumed, IsOneEach, IsSessionOf, IsWhy, WereConsumed, opened_state, streams_of, taken_of, totals_of_seats};
 ghost use Rattle.tr_seats.specs.Slots.{AreJoined, AreSeatsOf, IsOwn, ProducerState, SlotState, amounts_of};
 ghost use Rattle.tr_seats.specs.Sums.{totals_in, totals_of};
 ghost use Rattle.tr_session.specs.Session.{session_of};
@@ -162,7 +163,8 @@ fn sums<N: Names, A: Allocator>(slots: &[Slot<N, A>]) -> Totals
     totals
 }
 
-/// Changes nothing, and shows that each producer's numbers are its stream's own.
+/// Changes nothing, and shows that each producer's numbers are its stream's own, and that what it offered is what its stream
+/// has.
 fn audit_producers<N: Names, A: Allocator>(
     slots: &mut [Slot<N, A>],
     producers: &mut [Producer<N, A>],
@@ -174,6 +176,9 @@ fn audit_producers<N: Names, A: Allocator>(
     ensures own { (k : ℕ) (p : ProducerState) (s : SlotState) → k < length producers.old
         → IsOwn (slice_index_or producers.old k p)
         (totals_in (slice_index_or slots.old (slice_index_or producers.old k p).number s).stream) }
+    ensures accounts { (k : ℕ) (p : ProducerState) (s : SlotState) → k < length producers.old
+        → IsAccountOf (slice_index_or producers.old k p).steps
+        (slice_index_or slots.old (slice_index_or producers.old k p).number s).stream }
 {
     for k in 0..producers.len() {
         let i = producers[k].stream();
@@ -321,6 +326,9 @@ fn join_all<N: Names, A: Allocator>(
     ensures own { (k : ℕ) (p : ProducerState) (s : SlotState) → k < length producers.old
         → IsOwn (slice_index_or producers.old k p)
         (totals_in (slice_index_or slots.old (slice_index_or producers.old k p).number s).stream) }
+    ensures accounts { (k : ℕ) (p : ProducerState) (s : SlotState) → k < length producers.old
+        → IsAccountOf (slice_index_or producers.old k p).steps
+        (slice_index_or slots.old (slice_index_or producers.old k p).number s).stream }
     ensures taken { (k : ℕ) (d : SeatState) (s : SlotState) → k < length slots.old
         → (totals_in (slice_index_or slots.old k s).stream).consumed
         ≡ (slice_index_or mine.old k d).amount + taken_of drainers.items k }
@@ -365,6 +373,7 @@ pub(crate) fn settle_all<N: Names, A: Allocator + Copy>(
     ensures totals { result.1 ≡ totals_of (streams_of slots.items) }
     ensures seats { result.1 ≡ totals_of_seats producers.items drainers.items desk }
     ensures own { AreTheirs producers.items (streams_of slots.items) }
+    ensures accounts { AreAccountsOf producers.items (streams_of slots.items) }
     ensures taken { HaveConsumed desk.consumed drainers.items (streams_of slots.items) }
     ensures cleared { HaveCleared desk.cleared (streams_of slots.items) }
     ensures places { AddUp result.1 (streams_of slots.items) }

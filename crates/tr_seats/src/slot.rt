@@ -1,6 +1,7 @@
 //! A stream under a lock of its own.
 
 ghost use Rattle.std.specs.Prelude.{◌≡◌, ◌≢◌, ◌≤◌, ◌<◌, ◌+◌, ◌^◌, Ok, Err, IsOk, IfOk, OnErr, [], length};
+ghost use Rattle.tr_seats.specs.Accounts.{IsAccountOf};
 ghost use Rattle.tr_seats.specs.Clears.{seat_after_clear};
 ghost use Rattle.tr_seats.specs.Cuts.{seat_after_cut, seat_of_cuts_after};
 ghost use Rattle.tr_seats.specs.Slots.{IsOwn, drainer_after, producer_after, slot_after_offer, slot_after_split, slot_after_take, slot_offer_answer, slot_split_answer, slot_take_answer, serial_of};
@@ -13,6 +14,7 @@ ghost use Rattle.tr_stream.specs.Kept.{IsKept};
 ghost use Rattle.tr_stream.specs.Steps.{ClearsSome};
 ghost use Rattle.tr_stream.specs.StateSteps.{state_after_clear, state_after_cut, state_after_switch, state_clear_answer, state_counts, state_cut_answer, state_snap};
 
+use crate::account::Account;
 use crate::drainer::Drainer;
 use crate::names::Names;
 use crate::producer::Producer;
@@ -27,7 +29,7 @@ use tr_stream::{
 use tr_terms::limits::MOST_DRAINERS;
 use tr_terms::{Moment, SessionMode};
 
-/// A stream with its number and its books, which its lock guards. Contracts see a `SlotState`.
+/// A stream with its number, its books and its account, which its lock guards. Contracts see a `SlotState`.
 #[derive(Drop)]
 pub struct Slot<N: Names, A: Allocator = Global> {
     pub(crate) number: usize,
@@ -39,11 +41,13 @@ pub struct Slot<N: Names, A: Allocator = Global> {
     pub(crate) consumed: Ledger<A>,
     pub(crate) cuts: Ledger<A>,
     pub(crate) cleared: Ledger<A>,
+    pub(crate) account: Account<A>,
     pub(crate) of: PhantomData<N>,
 }
 
 impl<N: Names, A: Allocator> Model for Slot<N, A> {
     ghost use Rattle.std.specs.Prelude.{◌<◌, length};
+    ghost use Rattle.tr_seats.specs.Accounts.{IsKeptAccount};
     ghost use Rattle.tr_seats.specs.Books.{AreBooksOf, IsPlanned, books_at};
     ghost use Rattle.tr_seats.specs.Slots.{SlotState, slot_state};
 
@@ -51,16 +55,19 @@ impl<N: Names, A: Allocator> Model for Slot<N, A> {
 
     ghost view = { λ s. slot_state s.number s.stream s.consumed.made };
 
-    // the totals of its books are the stream's counts, and it is the stream that the plan made for its number
+    // the totals of its books are the stream's counts, it is the stream that the plan made for its number, and what is noted of
+    // it leads to it
     ghost invariant = { λ s. (s.number < length N.plan.books)
         × AreBooksOf (books_at N.plan.books s.number) s.stream s.consumed.made s.offered s.discarded s.overwritten
         s.overwritten_packets s.consumed s.cuts s.cleared
-        × IsPlanned N.plan s.number s.stream.config };
+        × IsPlanned N.plan s.number s.stream.config
+        × IsKeptAccount (books_at N.plan.books s.number).journal s.stream s.account };
 }
 
 impl<N: Names, A: Allocator + Copy> Slot<N, A> {
-    /// Offers a record as the stream does, and moves the producer's seats by what was answered. An offer by the producer of
-    /// another stream is `Misplaced`. An offer that is refused changes nothing. No offer takes memory.
+    /// Offers a record as the stream does, moves the producer's seats by what was answered, and notes the offer with its
+    /// answer. An offer by the producer of another stream is `Misplaced`, and isn't noted. An offer that is refused changes
+    /// nothing else. No offer takes memory.
     #[inline(always)]
     pub fn offer(
         &mut self,
@@ -71,7 +78,7 @@ impl<N: Names, A: Allocator + Copy> Slot<N, A> {
     ) -> Result<Offered, OfferFault>
         ensures value { (result ≡ slot_offer_answer producer.old.number moment id payload.now self.old)
             × (self.new ≡ slot_after_offer producer.old.number moment id payload.now self.old) }
-        ensures seats { producer.new ≡ producer_after result producer.old }
+        ensures seats { producer.new ≡ producer_after moment id payload.now result producer.old }
         ensures serial { IfOk result (λ offered. serial_of offered ≡ producer.old.offered) }
         ensures too_big { result ≡ Err OfferFault.TooBig
             → IsTooBig N.plan producer.old.number (length payload.now) }
@@ -80,7 +87,11 @@ impl<N: Names, A: Allocator + Copy> Slot<N, A> {
         if producer.number != self.number {
             return Err(OfferFault::Misplaced);
         }
-        let offered = match self.stream.offer(moment, id, payload) {
+        self.stream.shows_kept();
+        let answer = self.stream.offer(moment, id, payload);
+        self.account
+            .note_offer(&mut producer.account, moment, id, payload, answer);
+        let offered = match answer {
             Ok(offered) => offered,
             Err(fault) => {
                 // the producer has offered what the stream was offered, so it knows whether the stream is spent
@@ -122,6 +133,7 @@ impl<N: Names, A: Allocator + Copy> Slot<N, A> {
         }
         self.stream.shows_kept();
         let taken = self.stream.take()?;
+        self.account.note_take(Ok(taken));
         self.stream.shows_kept();
         self.consumed.raise(&mut drainer.seats[i], taken.count);
         Ok(taken)
@@ -187,6 +199,7 @@ impl<N: Names, A: Allocator> Slot<N, A> {
         ensures { self.new ≡ record self.old { stream = state_after_switch active self.old.stream } }
     {
         self.stream.set_active(active);
+        self.account.note_switch(active);
     }
 
     /// A new seat of the records consumed from this stream. It takes no memory.
@@ -207,17 +220,20 @@ impl<N: Names, A: Allocator> Slot<N, A> {
         Ok(self.consumed.split())
     }
 
-    /// Changes nothing, and shows that the numbers of the stream's producer are the stream's own.
+    /// Changes nothing, and shows that the numbers of the stream's producer are the stream's own, and that what it offered is
+    /// what the stream has.
     pub fn audit(&mut self, producer: &mut Producer<N, A>)
         requires { producer.old.number ≡ self.old.number }
         ensures same { (self.new ≡ self.old) × (producer.new ≡ producer.old) }
         ensures own { IsOwn producer.old (totals_in self.old.stream) }
+        ensures accounts { IsAccountOf producer.old.steps self.old.stream }
     {
         self.offered.audit(&mut producer.offered);
         self.discarded.audit(&mut producer.discarded);
         self.overwritten.audit(&mut producer.overwritten);
         self.overwritten_packets
             .audit(&mut producer.overwritten_packets);
+        self.account.audit(&mut producer.account);
     }
 
     /// Joins a seat of this stream's consumed records into another. It takes no memory.
@@ -257,6 +273,7 @@ impl<N: Names, A: Allocator> Slot<N, A> {
     {
         self.stream.shows_kept();
         let done = self.stream.cut(moment)?;
+        self.account.note_cut(moment, Ok(done));
         self.stream.shows_kept();
         self.consumed.raise(consumed, done.records);
         self.cuts.raise_by_one(cuts);
@@ -302,6 +319,7 @@ impl<N: Names, A: Allocator> Slot<N, A> {
     {
         self.stream.shows_kept();
         let done = self.stream.clear()?;
+        self.account.note_clear(Ok(done));
         self.stream.shows_kept();
         self.cleared.raise(cleared, done.records);
         Ok(done)
@@ -330,6 +348,7 @@ impl<N: Names, A: Allocator> Slot<N, A> {
             consumed: _,
             cuts: _,
             cleared: _,
+            account: _,
             of: _,
         } = self;
         stream

@@ -5,7 +5,10 @@ use Rattle.std.specs.List.{AllByRecursion, flat_map}
 use Rattle.std.proofs.lemmas.Grind.{common_steps, flat_map-append}
 use Rattle.std.proofs.lemmas.List.{append-nil, length-append}
 use Rattle.std.proofs.lemmas.List.Concat.{length-flat_map}
+use Rattle.tr_accounts.specs.Holds.{HoldsOffers, IsOffered, parts_records}
+use Rattle.tr_accounts.specs.StreamSteps.{AcceptedOffer}
 use Rattle.tr_book.specs.Parts.{PartsState, no_parts}
+use Rattle.tr_book.specs.Snaps.{SnapState}
 use Rattle.tr_book.specs.declared.runs.Run.{Run}
 use Rattle.tr_packet.specs.Packets.{Contents}
 use Rattle.tr_record.specs.Records.{Entry}
@@ -118,6 +121,22 @@ records-ring end r =
 
 -- ---- what is shown
 
+-- just what is in the ring
+pub shown-records : (moment : ℕ) (s : StreamState) → entries_shown (state_snap moment s) ≡ ring_records s.ring
+shown-records moment s =
+    records-packed s.config (ring_buffers (max moment s.counters.last) s.ring) ∙ records-ring (max moment s.counters.last) s.ring
+
+-- so each record is as it was offered, if the stream holds what was offered
+all-right : {X : Type 0} (P : X → Type 0) (xs ys : List X) → AllByRecursion P (xs ++ ys) → AllByRecursion P ys
+all-right P [] ys all = all
+all-right P (x ∷ xs) ys all = all-right P xs ys all.1
+
+pub shown-offered : (offers : List AcceptedOffer) (s : StreamState) (snap : SnapState) → HoldsOffers offers s
+    → entries_shown snap ≡ ring_records s.ring → AllByRecursion (IsOffered offers) (entries_shown snap)
+shown-offered offers s snap holds same =
+    subst (AllByRecursion (IsOffered offers)) (sym same)
+    (all-right (IsOffered offers) (parts_records (all_parts s.parts)) (ring_records s.ring) holds.held)
+
 module _ (moment : ℕ) (s : StreamState) (sound : IsSound s) (is : IsConsistent s) (over : s.config.mode ≡ Overwrite)
     (session : s.config.session ≡ Snapshot) where
   none : s.parts ≡ no_parts
@@ -128,7 +147,7 @@ module _ (moment : ℕ) (s : StreamState) (sound : IsSound s) (is : IsConsistent
       ∙ ap (λ (p : PartsState). buffers_in (all_parts p) ++ ring_buffers s.counters.last s.ring) none
 
   shown : entries_shown (state_snap moment s) ≡ ring_records s.ring
-  shown = records-packed s.config (ring_buffers (max moment s.counters.last) s.ring) ∙ records-ring (max moment s.counters.last) s.ring
+  shown = shown-records moment s
 
   there : (n : ℕ) × Follows n (ring_records s.ring) s.counters.offered
   there =

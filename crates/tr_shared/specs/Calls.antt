@@ -52,16 +52,16 @@ abbrev pub IsTakeOf : SessionMode → Result Taken TakeFault → Type 0
 IsTakeOf Local answer = answer ≢ Err SnapshotMode
 IsTakeOf Snapshot answer = (answer ≡ Err SnapshotMode) ⊎ (answer ≡ Err take_fault.Misplaced)
 
--- an offer to a shared session: the producer moves as the answer says and publishes what it has offered then, and an accepted
--- record gets the next serial
+-- an offer to a shared session: the producer has just this offer more, with its answer, moves as the answer says, and publishes
+-- what it has offered then; and an accepted record gets the next serial
 abbrev pub IsOffered : ProducerState → ℕ → ℕ → List ℕ → Result Offered OfferFault → ProducerState → Type 0
-IsOffered before moment id payload answer after = (after ≡ with_all_published (producer_after answer before))
+IsOffered before moment id payload answer after = (after ≡ with_all_published (producer_after moment id payload answer before))
     × IfOk answer (λ (offered : Offered). serial_of offered ≡ before.offered)
 
 -- what an offer answers to the owner of a producer, and makes of it, in a session of this plan
 pub record IsOfferTo (plan : PlanState) (before : ProducerState) (moment id : ℕ) (payload : List ℕ) (answer : Result Offered OfferFault)
     (after : ProducerState) : Type 0 where
-  pub seats : after ≡ with_all_published (producer_after answer before)
+  pub seats : after ≡ with_all_published (producer_after moment id payload answer before)
   pub serial : IfOk answer (λ (offered : Offered). serial_of offered ≡ before.offered)
   pub too_big : answer ≡ Err offer_fault.TooBig → IsTooBig plan before.number (length payload)
   pub spent : answer ≡ Err offer_fault.Spent → MOST_OFFERS ≤ before.offered

@@ -1,5 +1,8 @@
 -- What a snapshot of a shared session shows, as far as those who hold no lock can tell.
 use Rattle.std.specs.Prelude.{◌≡◌, ◌+◌, ℕ, List, Some, length, slice_get}
+use Rattle.std.specs.List.{AllByRecursion}
+use Rattle.tr_accounts.specs.Holds.{IsOffered}
+use Rattle.tr_accounts.specs.StreamSteps.{accepted_in}
 use Rattle.tr_book.specs.Snaps.{SnapState}
 use Rattle.tr_seats.specs.Books.{IsPlanned, PlanState}
 use Rattle.tr_seats.specs.Slots.{IsOwn, ProducerState}
@@ -38,13 +41,14 @@ abbrev pub ShowsAll : PlanState → SnapshotState → Type 0
 ShowsAll plan s = AreShown plan s.moment s.streams
 
 -- what is shown of a producer's stream: what a stream has to which just that producer offered, from the first record that
--- wasn't overwritten on
+-- wasn't overwritten on, each record as it was offered
 pub record IsShownWith (plan : PlanState) (moment : ℕ) (p : ProducerState) (snap : SnapState) : Type 0 where
   pub stream : StreamState
   pub own : IsOwn p (totals_in stream)
   pub look : IsLookAt plan p.number moment stream snap
   pub offered : snap.offered ≡ p.offered
   pub from : IsShownFrom p.overwritten snap
+  pub records : AllByRecursion (IsOffered (accepted_in p.steps)) (entries_shown snap)
 
 abbrev pub OwnIsShown : PlanState → ℕ → ProducerState → List SnapState → Type 0
 OwnIsShown plan moment p snaps =

@@ -5,6 +5,8 @@ ghost use Rattle.tr_seats.specs.Books.{IsPlan};
 ghost use Rattle.tr_session_book.specs.BookSteps.{book_after_snapshot_begin, book_snapshot_begin_answer};
 ghost use Rattle.tr_shared.specs.Operating.{IsLookFault};
 ghost use Rattle.tr_shared.specs.Shown.{IsLookAt, IsShown, IsShownFrom, IsShownWith};
+ghost use Rattle.tr_ring.specs.Ring.{ring_records};
+ghost use Rattle.tr_snapshot.specs.Snapshots.{entries_shown};
 ghost use Rattle.tr_stream.specs.StateSteps.{state_snap};
 
 use std::alloc::Allocator;
@@ -46,6 +48,7 @@ pub(crate) fn look<N: Names, A: Allocator + Copy>(
     ensures value { IfOk result (λ snap. snap ≡ state_snap moment slot.now.stream) }
     ensures number { IfOk result (λ snap. snap.stream ≡ i) }
     ensures from { IfOk result (IsShownFrom slot.now.stream.counters.overwritten) }
+    ensures records { IfOk result (λ snap. entries_shown snap ≡ ring_records slot.now.stream.ring) }
     ensures look { IfOk result (IsLookAt N.plan i moment slot.now.stream) }
     ensures misplaced { i ≢ slot.now.number → result ≡ Err SessionFault.Misplaced }
     ensures refused { IfErr result IsLookFault }
@@ -57,7 +60,7 @@ pub(crate) fn look<N: Names, A: Allocator + Copy>(
     Ok(slot.peek(moment)?)
 }
 
-/// The same of the stream of a producer, which shows just what the producer offered and wasn't overwritten.
+/// The same of the stream of a producer, which shows just what the producer offered and wasn't overwritten, as it was offered.
 ///
 /// # Errors
 ///

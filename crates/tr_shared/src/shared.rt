@@ -1,7 +1,7 @@
 //! The session under its locks.
 
 ghost use Rattle.std.specs.Prelude.{◌≡◌, ◌+◌, ◌<◌, ◌≤◌, ◌↔◌, All, IfErr, IfOk, length, replicate, sum_by, vec_capacity, vec_len};
-ghost use Rattle.tr_seats.specs.Settling.{AddUp, AreTheirs, IsOneEach, IsSessionOf, WereConsumed};
+ghost use Rattle.tr_seats.specs.Settling.{AddUp, AreAccountsOf, AreTheirs, IsOneEach, IsSessionOf, WereConsumed};
 ghost use Rattle.tr_seats.specs.Slots.{AreNew};
 ghost use Rattle.tr_seats.specs.Sums.{totals_of};
 ghost use Rattle.tr_shared.specs.Calls.{AreOffersOf, HaveTaken, IsDrainerFault, IsStartFault, IsStopFault};
@@ -221,6 +221,7 @@ impl<N: Names, A: Allocator + Copy> Shared<N, A> {
         ensures totals { IfOk result (λ r. r.1 ≡ totals_of r.0.streams) }
         ensures seats { IfOk result (λ r. AreOffersOf producers.items drainers.items r.1) }
         ensures own { IfOk result (λ r. AreTheirs producers.items r.0.streams) }
+        ensures accounts { IfOk result (λ r. AreAccountsOf producers.items r.0.streams) }
         ensures taken { IfOk result (λ r. HaveTaken drainers.items r.0.streams) }
         ensures places { IfOk result (λ r. AddUp r.1 r.0.streams) }
         ensures consumed { IfOk result (λ r. WereConsumed r.1 r.0.streams) }

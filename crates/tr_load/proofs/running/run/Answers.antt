@@ -1,10 +1,10 @@
-use Rattle.std.proofs.Common.{rules, arith, Vec, Global, ◌≡◌, ◌*◌, ◌<◌, ◌≤◌, Ok, ap, length, map, vec_len, sym, ◌∙◌, subst}
+use Rattle.std.proofs.Common.{rules, arith, List, Vec, Global, ◌≡◌, ◌*◌, ◌<◌, ◌≤◌, Ok, ap, length, map, vec_len, sym, ◌∙◌, subst}
 use Rattle.std.proofs.lemmas.List.{length-replicate}
 use Rattle.std.specs.List.{sum_by}
-use Rattle.std.specs.Prelude.{IfOk, IfSome, is_some, nat_lt}
+use Rattle.std.specs.Prelude.{IfOk, IfSome, IsOk, is_some, nat_lt}
 use Rattle.tr_load.specs.Crews.{HasFed}
 use Rattle.tr_load.specs.Loads.{AllHave, AreLogs, IsEnded, IsJudged, IsLoaded, log_in}
-use Rattle.tr_load.proofs.LoadLemmas.{if_ok_too, logs_of}
+use Rattle.tr_load.proofs.LoadLemmas.{if_ok_too, logs_fed, logs_of, written_back}
 use Rattle.tr_load.proofs.WatchLemmas.{all_published, if-both, learned-too, of-same, popped-of, some-if, some-same}
 use Rattle.tr_load.proofs.WorkLemmas.{all_offered}
 use Rattle.tr_tally.specs.Tallies.{TallyState, WatcherState}
@@ -14,6 +14,8 @@ use Rattle.tr_seats.specs.Books.{PlanState}
 use Rattle.tr_seats.specs.Settling.{IsSessionOf}
 use Rattle.tr_seats.specs.Slots.{AreNew, ProducerState}
 use Rattle.tr_load.specs.declared.loaded.Loaded.{Loaded}
+use Rattle.tr_pool.specs.Fed.{AreLogsOf}
+use Rattle.tr_pool.specs.declared.log.Log.{Log}
 use Rattle.tr_load.specs.Plans.{load_session}
 use Rattle.tr_load.proofs.running.run.Goals as goal
 
@@ -66,22 +68,34 @@ returns-clause-loaded g c =
     (subst (λ ls. AllHave c.args.records ls) logs have)) in
     let P : Loaded → Type 0 = λ l. IsJudged c.as_slice-2.result.now l.settled.streams l.outcome × IsSessionOf plan l.settled
     × IsEnded c.args.records l.settled.book × AllHave c.args.records c.as_slice-2.result.now in
-    if_ok_too (λ l. P l × (l.watched ≡ c.learned-watched.result))
+    let fed_logs : AreLogsOf (map (λ (b : Fed). b.producer) fed) (map (λ (b : Fed). log_in b.producer.number b.log.items) fed) =
+    logs_fed (λ (b : Fed). b.producer) (λ (b : Fed). b.log.items) (λ (w : Vec Item Global). w.items) fed works producers
+    c.args.threads (back ∙ same ∙ asked) many new (λ i p w b low. did i p w b (omega (arith, low, asked, all))) in
+    let W : Loaded → Type 0 = λ l. l.watched ≡ c.learned-watched.result in
+    let items = c.in_ok-producers.producers.items in
+    let came_back = written_back items c.learned-watched.new.producers c.in_ok-producers.producers.len
+    (c.learned-watched.ensures.producers ∙ c.as_mut_slice.ensures.value) c.in_ok-producers.producers.ok.0 ∙ parted in
+    let agree : IfOk c.settled.result (λ l. IsOk l.outcome) =
+    c.settled.ensures.agree (subst (λ (x : List ProducerState × List Log). AreLogsOf x.0 x.1)
+    (λ j. (sym came_back j, sym logs j)) fed_logs) in
+    if_ok_too (λ l. (P l × W l) × IsOk l.outcome)
     (λ l. IsLoaded c.args.threads c.args.records l.settled l.outcome l.watched) c.settled.result
     (λ l is. record {
       own = record {
         plan = plan;
         made = subst (λ (p : PlanState). load_session c.args.threads ≡ Ok p.session) c.requires.plan c.requires.session;
-        planned = is.0.1;
-        many = enough l.settled is.0.1;
+        planned = is.0.0.1;
+        many = enough l.settled is.0.0.1;
       };
-      ended = is.0.2;
+      ended = is.0.0.2;
       logs = c.as_slice-2.result.now;
-      are_logs = are is.0.3;
-      judged = is.0.0;
-      offered = all_offered c.args.threads c.args.records c.as_slice-2.result.now l.settled.streams l.outcome is.0.3 (enough l.settled is.0.1) is.0.0;
-      learned = subst (λ w. IfSome w (λ n. c.args.threads * c.args.records ≤ n)) (sym is.1) (learned is.0.3);
-    }) (if-both P (λ l. l.watched ≡ c.learned-watched.result) c.settled.result c.settled.ensures.judged c.settled.ensures.watched)
+      are_logs = are is.0.0.3;
+      judged = is.0.0.0;
+      agree = is.1;
+      offered = all_offered c.args.threads c.args.records c.as_slice-2.result.now l.settled.streams l.outcome is.0.0.3 (enough l.settled is.0.0.1) is.0.0.0;
+      learned = subst (λ w. IfSome w (λ n. c.args.threads * c.args.records ≤ n)) (sym is.0.1) (learned is.0.0.3);
+    }) (if-both (λ l. P l × W l) (λ l. IsOk l.outcome) c.settled.result
+    (if-both P W c.settled.result c.settled.ensures.judged c.settled.ensures.watched) agree)
 
 pub returns-clause-watched : goal.returns-clause-watched
 returns-clause-watched g c =

@@ -23,7 +23,7 @@ use uuid::Uuid;
 #[derive(Drop)]
 pub(super) struct Seated<N: Names, A: Allocator> {
     pub(super) shared: Shared<N, A>,
-    pub(super) producers: Vec<Producer<N>, A>,
+    pub(super) producers: Vec<Producer<N, A>, A>,
     /// There is one, and room for another.
     pub(super) drainers: Vec<Drainer<N, A>, A>,
 }

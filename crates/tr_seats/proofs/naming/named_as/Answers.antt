@@ -1,5 +1,7 @@
-use Rattle.std.proofs.Common.{◌≡◌, ◌∙◌, ◌≤◌, Some, ap, arith, sym}
+use Rattle.std.proofs.Common.{◌≡◌, ◌∙◌, Some, ap, arith, sym}
 use Rattle.std.proofs.lemmas.Option.{get_or_from_slice_get, slice_get_within}
+use Rattle.tr_accounts.specs.Seats.{producer_seat}
+use Rattle.tr_seats.proofs.AccountLemmas.{kept-new, seat-new}
 use Rattle.tr_seats.proofs.NameLemmas.{books-opened, planned-there, seats-opened}
 use Rattle.tr_seats.proofs.naming.named_as.Goals as goal
 use Rattle.tr_seats.specs.Books.{Books, books_at, no_books}
@@ -18,9 +20,10 @@ invariant_of-slot g c =
       slice_get_within plan.books c.args.number c.args.planned.books c.requires.books,
       books-opened (books_at plan.books c.args.number) in_it.stream in_it.offered.0 in_it.discarded.0 in_it.overwritten.0
           in_it.overwritten_packets.0 in_it.consumed.0 in_it.cuts.0 in_it.cleared.0 in_it.offered.1 in_it.discarded.1 in_it.overwritten.1
-          in_it.overwritten_packets.1 in_it.consumed.1 in_it.cuts.1 in_it.cleared.1 books is.0 is.1 is.2 is.3 is.4 is.5 is.6
+          in_it.overwritten_packets.1 in_it.consumed.1 in_it.cuts.1 in_it.cleared.1 in_it.account.0.table books is.0 is.1 is.2 is.3 is.4 is.5 is.6
           is.7,
       planned-there plan c.args.number in_it.stream got,
+      kept-new (books_at plan.books c.args.number).journal in_it.stream in_it.account.0 (ap (λ (b : Books). b.journal) books) is.8 is.0,
     )
 
 pub invariant_of-producer : goal.invariant_of-producer
@@ -42,4 +45,6 @@ invariant_of-producer g c =
         stream_is = ap (λ (t : TellerState). t.stream) teller;
         within = omega (arith, ap (λ (t : TellerState). t.count) teller);
       },
+      seat-new (books_at plan.books c.args.number).journal producer_seat in_it.account.0 in_it.account.1
+          (ap (λ (b : Books). b.journal) books) is.9,
     )

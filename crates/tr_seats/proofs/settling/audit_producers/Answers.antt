@@ -2,6 +2,7 @@ use Rattle.std.proofs.Common.{◌≡◌, ◌<◌, ap, arith, below_more, get_or,
 use Rattle.std.proofs.lemmas.List.{get_or_default}
 use Rattle.tr_seats.proofs.Joins.{put-back, read-same}
 use Rattle.tr_seats.proofs.settling.audit_producers.Goals as goal
+use Rattle.tr_seats.specs.Accounts.{IsAccountOf}
 use Rattle.tr_seats.specs.Settling.{AreInPlace}
 use Rattle.tr_seats.specs.Slots.{IsOwn, ProducerState, SlotState}
 use Rattle.tr_seats.specs.Sums.{totals_in}
@@ -45,6 +46,13 @@ loop-k-preserved g c =
           let slot = read-same c.loop-k.slots slots i c.index-slots-i.result s v.slots_same there ∙ ap (λ n. get_or slots n s) (number p) in
           subst (λ (x : ProducerState × SlotState). IsOwn x.0 (totals_in x.1.stream)) (λ q. (producer q, slot q)) c.audit.ensures.own)
           j;
+      accounts = λ j p s.
+          below_more (λ j. IsAccountOf (get_or producers j p).steps (get_or slots (get_or producers j p).number s).stream) k
+          (λ j lt. v.accounts j p s lt)
+          (let producer = read-same c.loop-k.producers producers k c.index-producers-k-in-loop-k.result p v.producers_same long in
+          let slot = read-same c.loop-k.slots slots i c.index-slots-i.result s v.slots_same there ∙ ap (λ n. get_or slots n s) (number p) in
+          subst (λ (x : ProducerState × SlotState). IsAccountOf x.0.steps x.1.stream) (λ q. (producer q, slot q)) c.audit.ensures.accounts)
+          j;
     }
 
 pub returns-clause-there : goal.returns-clause-there
@@ -52,3 +60,6 @@ returns-clause-there g c = λ k p lt. c.loop-k.invariant.there k p (omega (arith
 
 pub returns-clause-own : goal.returns-clause-own
 returns-clause-own g c = λ k p s lt. c.loop-k.invariant.own k p s (omega (arith, lt, c.loop-k-test.false))
+
+pub returns-clause-accounts : goal.returns-clause-accounts
+returns-clause-accounts g c = λ k p s lt. c.loop-k.invariant.accounts k p s (omega (arith, lt, c.loop-k-test.false))

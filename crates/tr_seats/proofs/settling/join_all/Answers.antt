@@ -95,3 +95,6 @@ returns-clause-taken g c =
 
 pub returns-clause-there : goal.returns-clause-there
 returns-clause-there g c = c.audit_producers.ensures.there
+
+pub returns-clause-accounts : goal.returns-clause-accounts
+returns-clause-accounts g c = c.audit_producers.ensures.accounts

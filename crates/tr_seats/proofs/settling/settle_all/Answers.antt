@@ -2,11 +2,12 @@ use Rattle.std.proofs.Common.{◌≡◌, ℕ, ◌+◌, ◌<◌, ◌++◌, List, 
 use Rattle.std.proofs.lemmas.Grind.{common_steps}
 use Rattle.std.proofs.lemmas.List.{length-map, take_at}
 use Rattle.tr_ledger.specs.Ledgers.{SeatState}
-use Rattle.tr_seats.proofs.AllTotals.{AreWithin, have-cleared, have-consumed, theirs}
+use Rattle.tr_seats.proofs.AllTotals.{AreWithin, have-cleared, have-consumed, their-accounts, theirs}
 use Rattle.tr_seats.proofs.Joins.{tables-length}
 use Rattle.tr_seats.proofs.PlannedLemmas.{planned-mode}
 use Rattle.tr_seats.proofs.SettledLemmas.{settled-planned, settled-streams}
 use Rattle.tr_seats.proofs.settling.settle_all.Goals as goal
+use Rattle.tr_seats.specs.Accounts.{IsAccountOf}
 use Rattle.tr_seats.specs.Books.{Books, IsPlanned, PlanState, cleared_books, consumed_books, cut_books}
 use Rattle.tr_seats.specs.Desks.{DeskState}
 use Rattle.tr_seats.specs.Settling.{AddUp, HaveCleared, HaveConsumed, IsOneEach, IsSessionOf, WereConsumed, streams_of, taken_of, totals_of_seats}
@@ -177,3 +178,19 @@ returns-clause-snapshot_session g c = λ snapshot.
     let there : k < length all = subst (λ (l : List SlotState). k < length l) seen lt in
     subst (λ (l : List SlotState). (get_or l k s).stream.config.session ≡ Snapshot) (sym seen)
     (planned-mode plan c.desk.invariant.planned k (get_or all k s).stream.config (planned k s there) ∙ snapshot))
+
+abbrev AreAccountedIn : List ProducerState × List SlotState → Type 0
+AreAccountedIn x =
+    (k : ℕ) (p : ProducerState) (s : SlotState) → k < length x.0
+    → IsAccountOf (get_or x.0 k p).steps (get_or x.1 (get_or x.0 k p).number s).stream
+
+pub returns-clause-accounts : goal.returns-clause-accounts
+returns-clause-accounts g c =
+    let all = c.args.slots.items in
+    let slots : c.as_mut_slice.result.now ≡ all = c.as_mut_slice.ensures.value in
+    let producers : c.as_mut_slice-2.result.now ≡ c.args.producers.items = c.as_mut_slice-2.ensures.value in
+    let n = length g.N.Names.plan.books in
+    let there : AreWithin n c.args.producers.items = subst (AreWithin n) producers c.join_all.ensures.there in
+    let own : AreAccountedIn (c.args.producers.items, all) =
+    subst AreAccountedIn (λ j. (producers j, slots j)) c.join_all.ensures.accounts in
+    their-accounts n c.args.producers.items all c.requires.slots there own

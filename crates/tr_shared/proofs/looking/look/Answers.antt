@@ -1,9 +1,10 @@
 use Rattle.std.proofs.Common.{rules, ◌≡◌, ◌∙◌, ℕ, ap, subst, sym}
 use Rattle.tr_book.specs.Snaps.{SnapState}
-use Rattle.tr_shared.proofs.ShownLemmas.{IsOver, planned-over, shows-last}
+use Rattle.tr_shared.proofs.ShownLemmas.{IsOver, planned-over, shown-records, shows-last}
 use Rattle.tr_shared.proofs.looking.look.Goals as goal
 use Rattle.tr_seats.specs.Books.{IsPlanned}
 use Rattle.tr_shared.specs.Shown.{IsShownFrom}
+use Rattle.tr_snapshot.specs.Snapshots.{entries_shown}
 use Rattle.tr_stream.specs.Consistent.{IsConsistent}
 use Rattle.tr_stream.specs.Kept.{IsKept}
 
@@ -34,3 +35,8 @@ returns-clause-look g c =
       planned = subst (λ (i : ℕ). IsPlanned g.N.Names.plan i slot.stream.config) (sym here) c.shows_planned.ensures.planned;
       value = c.in_ok-peek.ensures.value;
     }
+
+pub returns-clause-records : goal.returns-clause-records
+returns-clause-records g c =
+    let slot = c.args.slot.now in
+    ap entries_shown c.in_ok-peek.ensures.value ∙ shown-records c.args.moment slot.stream

@@ -1,8 +1,10 @@
 use Rattle.std.proofs.Common.{rules, ◌≡◌, ◌∙◌, ◌+◌, ◌<◌, Ok, ap, arith, length, subst, sym}
 use Rattle.tr_ledger.specs.Ledgers.{LedgerState}
+use Rattle.tr_seats.proofs.AccountLemmas.{kept-clear}
 use Rattle.tr_seats.proofs.CountLemmas.{clear-totals, few-counted, refused-clear}
 use Rattle.tr_seats.proofs.SlotLemmas.{books-cleared}
 use Rattle.tr_seats.proofs.slot.Slot.clear.Goals as goal
+use Rattle.tr_seats.specs.Accounts.{IsKeptAccount}
 use Rattle.tr_seats.specs.Books.{AreBooksOf, IsPlanned, books_at}
 use Rattle.tr_seats.specs.Sums.{totals_in}
 use Rattle.tr_seats.specs.declared.totals.Totals.{Totals}
@@ -16,7 +18,8 @@ invariant_of-self g c =
     refused-clear old.stream c.clear.new.self c.in_err-done.field-0.0 c.in_err-done.ensures.value c.in_err-done.ensures.no_memory in
     subst (λ (t : StreamState). (old.number < length g.N.Names.plan.books)
     × AreBooksOf (books_at g.N.Names.plan.books old.number) t old.consumed.made old.offered old.discarded old.overwritten
-    old.overwritten_packets old.consumed old.cuts old.cleared × IsPlanned g.N.Names.plan old.number t.config) (sym same) c.self.invariant
+    old.overwritten_packets old.consumed old.cuts old.cleared × IsPlanned g.N.Names.plan old.number t.config
+    × IsKeptAccount (books_at g.N.Names.plan.books old.number).journal t old.account) (sym same) c.self.invariant
 
 pub raise-requires-clause-room : goal.raise-requires-clause-room
 raise-requires-clause-room g c =
@@ -42,4 +45,6 @@ invariant_of-self-2 g c =
           old.discarded old.overwritten old.overwritten_packets old.consumed old.cuts old.cleared c.self.invariant.1
           c.raise.new.self done.records (ap totals_in after ∙ clear-totals old.stream done answer) c.raise.ensures.ledger,
       planned,
+      kept-clear (books_at g.N.Names.plan.books old.number).journal old.stream old.account c.note_clear.new.self c.self.invariant.3
+          c.clear.new.self (Ok done) answer after c.note_clear.ensures,
     )

@@ -1,9 +1,11 @@
 use Rattle.std.proofs.Common.{rules, ◌≡◌, ◌∙◌, ◌+◌, ◌<◌, Ok, ap, arith, length, subst, sym}
 use Rattle.std.proofs.lemmas.Grind.{common_steps}
 use Rattle.tr_ledger.specs.Ledgers.{LedgerState}
+use Rattle.tr_seats.proofs.AccountLemmas.{kept-cut}
 use Rattle.tr_seats.proofs.CountLemmas.{cut-totals, few-counted, refused-cut}
 use Rattle.tr_seats.proofs.SlotLemmas.{books-cut}
 use Rattle.tr_seats.proofs.slot.Slot.cut.Goals as goal
+use Rattle.tr_seats.specs.Accounts.{IsKeptAccount}
 use Rattle.tr_seats.specs.Books.{AreBooksOf, IsPlanned, books_at}
 use Rattle.tr_seats.specs.Sums.{totals_in}
 use Rattle.tr_seats.specs.declared.totals.Totals.{Totals}
@@ -17,7 +19,8 @@ invariant_of-self g c =
     refused-cut c.args.moment old.stream c.cut.new.self c.in_err-done.field-0.0 c.in_err-done.ensures.value c.in_err-done.ensures.no_memory in
     subst (λ (t : StreamState). (old.number < length g.N.Names.plan.books)
     × AreBooksOf (books_at g.N.Names.plan.books old.number) t old.consumed.made old.offered old.discarded old.overwritten
-    old.overwritten_packets old.consumed old.cuts old.cleared × IsPlanned g.N.Names.plan old.number t.config) (sym same) c.self.invariant
+    old.overwritten_packets old.consumed old.cuts old.cleared × IsPlanned g.N.Names.plan old.number t.config
+    × IsKeptAccount (books_at g.N.Names.plan.books old.number).journal t old.account) (sym same) c.self.invariant
 
 pub raise-requires-clause-room : goal.raise-requires-clause-room
 raise-requires-clause-room g c =
@@ -45,6 +48,8 @@ invariant_of-self-2 g c =
           (ap totals_in after ∙ cut-totals c.args.moment old.stream done answer) c.raise.ensures.ledger
           c.raise_by_one.ensures.ledger,
       planned,
+      kept-cut (books_at g.N.Names.plan.books old.number).journal old.stream old.account c.note_cut.new.self c.self.invariant.3
+          c.cut.new.self c.args.moment (Ok done) answer after c.note_cut.ensures,
     )
 
 pub returns-in_err-done-clause-consumed : goal.returns-in_err-done-clause-consumed

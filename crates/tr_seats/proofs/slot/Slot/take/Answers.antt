@@ -3,10 +3,12 @@ use Rattle.std.proofs.lemmas.Grind.{common_steps}
 use Rattle.std.proofs.lemmas.List.{length-map}
 use Rattle.std.specs.Prelude.{slice_index, slice_set}
 use Rattle.tr_ledger.specs.Ledgers.{LedgerState}
+use Rattle.tr_seats.proofs.AccountLemmas.{kept-take}
 use Rattle.tr_seats.proofs.CountLemmas.{few-counted, refused-take, take-totals}
 use Rattle.tr_seats.proofs.Rows.{amounts-raised, consumed-at, length-seats, row-raised, table-there}
 use Rattle.tr_seats.proofs.SlotLemmas.{books-taken}
 use Rattle.tr_seats.proofs.slot.Slot.take.Goals as goal
+use Rattle.tr_seats.specs.Accounts.{IsKeptAccount}
 use Rattle.tr_seats.specs.Books.{AreBooksOf, Books, IsPlanned, books_at, consumed_books, no_books, no_table}
 use Rattle.tr_seats.specs.Sums.{totals_in}
 use Rattle.tr_seats.specs.declared.totals.Totals.{Totals}
@@ -20,7 +22,8 @@ invariant_of-self g c =
     refused-take old.stream c.take.new.self c.in_err-taken.field-0.0 c.in_err-taken.ensures.value c.in_err-taken.ensures.no_memory in
     subst (λ (t : StreamState). (old.number < length g.N.Names.plan.books)
     × AreBooksOf (books_at g.N.Names.plan.books old.number) t old.consumed.made old.offered old.discarded old.overwritten
-    old.overwritten_packets old.consumed old.cuts old.cleared × IsPlanned g.N.Names.plan old.number t.config) (sym same) c.self.invariant
+    old.overwritten_packets old.consumed old.cuts old.cleared × IsPlanned g.N.Names.plan old.number t.config
+    × IsKeptAccount (books_at g.N.Names.plan.books old.number).journal t old.account) (sym same) c.self.invariant
 
 pub index_mut-requires : goal.index_mut-requires
 index_mut-requires g c =
@@ -66,6 +69,8 @@ invariant_of-self-2 g c =
           old.discarded old.overwritten old.overwritten_packets old.consumed old.cuts old.cleared c.self.invariant.1
           c.raise.new.self c.in_ok-taken.taken.count (ap totals_in after ∙ is.totals) c.raise.ensures.ledger,
       planned,
+      kept-take (books_at g.N.Names.plan.books old.number).journal old.stream old.account c.note_take.new.self c.self.invariant.3
+          c.take.new.self (Ok c.in_ok-taken.taken) answer after c.note_take.ensures,
     )
 
 pub invariant_of-drainer : goal.invariant_of-drainer

@@ -1,0 +1,97 @@
+-- A stream's journal, as its slot keeps it.
+use Rattle.std.proofs.Common.{◌≡◌, ◌∙◌, ℕ, Bool, List, [], ◌∷◌, ◌++◌, Result, ap, arith, refl, subst, sym}
+use Rattle.atomic_table.specs.Seated.{TableId}
+use Rattle.tr_accounts.proofs.JournalLemmas.{journal-clear, journal-cut, journal-holds, journal-moved, journal-new, journal-offer, journal-switch, journal-take}
+use Rattle.tr_accounts.proofs.SeatLemmas.{offers-theirs}
+use Rattle.tr_accounts.specs.Seats.{IsJournalOf, desk_seat, producer_seat}
+use Rattle.tr_accounts.specs.Holds.{HoldsOffers}
+use Rattle.tr_accounts.specs.StreamSteps.{accepted_in, clear_step, cut_step, offer_step, switch_step, take_step}
+use Rattle.tr_accounts.specs.declared.step.StreamStep.{StreamStep}
+use Rattle.tr_journal.specs.Journals.{IsSeatOf, JournalState, SeatState, journal_after, new_seat}
+use Rattle.tr_journal.specs.Views.{all_done, done_by, line}
+use Rattle.tr_seats.specs.Accounts.{IsAccountOf, IsKeptAccount, IsNewAccount, IsSeatAt, take_seat}
+use Rattle.tr_seats.specs.Plans.{IsUnused}
+use Rattle.tr_stream.proofs.TakeLemmas.{starts}
+use Rattle.tr_stream.specs.Kept.{IsKept}
+use Rattle.tr_stream.specs.StandsFor.{StandsFor}
+use Rattle.tr_stream.specs.State.{StreamState}
+use Rattle.tr_stream.specs.StateSteps.{state_after_clear, state_after_cut, state_after_offer, state_after_switch, state_after_take, state_clear_answer, state_cut_answer, state_offer_answer, state_take_answer}
+use Rattle.tr_stream.specs.Steps.{new_history}
+use Rattle.tr_stream.specs.declared.answers.ClearFault.{ClearFault}
+use Rattle.tr_stream.specs.declared.answers.Cleared.{Cleared}
+use Rattle.tr_stream.specs.declared.answers.CutDone.{CutDone}
+use Rattle.tr_stream.specs.declared.answers.CutFault.{CutFault}
+use Rattle.tr_stream.specs.declared.answers.OfferFault.{OfferFault}
+use Rattle.tr_stream.specs.declared.answers.Offered.{Offered}
+use Rattle.tr_stream.specs.declared.answers.TakeFault.{TakeFault}
+use Rattle.tr_stream.specs.declared.answers.Taken.{Taken}
+
+-- a new one
+pub kept-new : (table : TableId) (stream : StreamState) (account : JournalState StreamStep) → account.table ≡ table → IsNewAccount account
+    → IsUnused stream → IsKeptAccount table stream account
+kept-new table stream account at none unused = record {
+  table_is = at;
+  lines_are = subst (λ lines. IsJournalOf lines stream) (sym none)
+      (journal-new stream (subst (λ (t : StreamState). StandsFor t new_history) (sym unused) (starts stream.config)));
+}
+
+pub seat-new : (table : TableId) (who : ℕ) (account : JournalState StreamStep) (seat : SeatState StreamStep) → account.table ≡ table
+    → seat ≡ new_seat account.table who → IsSeatAt table who seat
+seat-new table who account seat at is = (
+  ap (λ (s : SeatState StreamStep). s.table) is ∙ at,
+  ap (λ (s : SeatState StreamStep). s.who) is,
+  ap (λ (s : SeatState StreamStep). s.joined) is,
+)
+
+-- after a call was noted
+module _ (table : TableId) (s : StreamState) (before after : JournalState StreamStep) (was : IsKeptAccount table s before) where
+  noted : (who : ℕ) (step : StreamStep) (t u : StreamState) → after ≡ journal_after who step before → t ≡ u
+      → IsJournalOf (before.lines ++ line who step ∷ []) u → IsKeptAccount table t after
+  noted who step t u is same lines = record {
+    table_is = ap (λ (j : JournalState StreamStep). j.table) is ∙ was.table_is;
+    lines_are = journal-moved before after who step t u is same lines;
+  }
+
+  pub kept-offer : (t : StreamState) (who moment id : ℕ) (payload : List ℕ) (told : Result Offered OfferFault) → who ≡ producer_seat → IsKept s
+      → told ≡ state_offer_answer moment id payload s → t ≡ state_after_offer moment id payload s
+      → after ≡ journal_after who (offer_step moment id payload told) before → IsKeptAccount table t after
+  kept-offer t who moment id payload told mine kept answer same is =
+      noted who (offer_step moment id payload told) t (state_after_offer moment id payload s) is same
+      (journal-offer before.lines s was.lines_are who moment id payload told mine kept answer)
+
+  pub kept-take : (t : StreamState) (told : Result Taken TakeFault) → told ≡ state_take_answer s → t ≡ state_after_take s
+      → after ≡ journal_after take_seat (take_step told) before → IsKeptAccount table t after
+  kept-take t told answer same is =
+      noted take_seat (take_step told) t (state_after_take s) is same
+      (journal-take before.lines s was.lines_are take_seat told (omega arith) answer)
+
+  pub kept-cut : (t : StreamState) (moment : ℕ) (told : Result CutDone CutFault) → told ≡ state_cut_answer moment s
+      → t ≡ state_after_cut moment s → after ≡ journal_after desk_seat (cut_step moment told) before → IsKeptAccount table t after
+  kept-cut t moment told answer same is =
+      noted desk_seat (cut_step moment told) t (state_after_cut moment s) is same
+      (journal-cut before.lines s was.lines_are desk_seat moment told refl answer)
+
+  pub kept-clear : (t : StreamState) (told : Result Cleared ClearFault) → told ≡ state_clear_answer s → t ≡ state_after_clear s
+      → after ≡ journal_after desk_seat (clear_step told) before → IsKeptAccount table t after
+  kept-clear t told answer same is =
+      noted desk_seat (clear_step told) t (state_after_clear s) is same
+      (journal-clear before.lines s was.lines_are desk_seat told refl answer)
+
+  pub kept-switch : (t : StreamState) (active : Bool) → t ≡ state_after_switch active s
+      → after ≡ journal_after desk_seat (switch_step active) before → IsKeptAccount table t after
+  kept-switch t active same is =
+      noted desk_seat (switch_step active) t (state_after_switch active s) is same
+      (journal-switch before.lines s was.lines_are desk_seat active refl)
+
+-- what a producer's seat has
+pub account-of : (table : TableId) (s : StreamState) (account : JournalState StreamStep) (seat : SeatState StreamStep)
+    → IsKeptAccount table s account → IsSeatAt table producer_seat seat → IsSeatOf account seat → IsAccountOf seat.own s
+account-of table s account seat kept at own =
+    let lines = account.lines in
+    let mine : seat.own ≡ done_by producer_seat lines = own.each.0.1 ∙ ap (λ who. done_by who lines) at.1 in
+    record {
+      all = all_done lines;
+      accounted = kept.lines_are.accounted;
+      offers = offers-theirs lines kept.lines_are.theirs ∙ sym mine;
+      holds = subst (λ steps. HoldsOffers (accepted_in steps) s) (sym mine) (journal-holds lines s kept.lines_are);
+    }
