@@ -11,8 +11,8 @@
 //!
 //! - What each feeder is to offer is its definition's, item for item.
 //! - A load that was settled is judged by its feeders' logs, each of which is that feeder's whole work, since its stream
-//!   accepted every offer: they agree, the report has the sums over the streams, and as many records were offered as the load
-//!   was asked for; or the first stream at fault is named.
+//!   accepted every offer. They agree, the report has the sums over the streams, and as many records were offered as the load
+//!   was asked for.
 //! - Its session is stopped, and was rotated once, at the moment that is the number of records. No clause says which of the
 //!   two came first.
 //! - If it is watched, a watcher learned of no fewer records than were offered.

@@ -17,6 +17,7 @@
 //! - A settled session and the logs agree if and only if each stream's first log has an item for each of its offers, and each
 //!   record that the stream holds has the id and the payload of the item at its serial, and no lesser moment. Otherwise the
 //!   first stream at fault is named.
+//! - The logs of producers that were fed agree with the session that these settle (`every_reconciling`).
 //! - `reconcile` takes no memory.
 //!
 //! # What is only tested

@@ -21,6 +21,9 @@
 //! - An offer answers and steps as the stream's does, and moves its producer's seats by what was answered; its serial is what
 //!   the producer had offered. Only a payload that fits no sub-buffer is too big, and a stream is spent only if its producer
 //!   has offered 2^62 records.
+//! - An offer is noted in the stream's journal with its answer, refused ones too, and is the last of its producer's list. The
+//!   stream represents a history of calls, each answered as in that history, among which the offers are just that list; it
+//!   holds the accepted ones, each at its serial, and nothing else (`IsAccountOf`).
 //! - A take answers and steps as the stream's does, and adds the number of records taken, at least one, to the drainer's seat
 //!   of that stream.
 //! - A cut is the session's rule on its desk and one slot: at the pending rotation's end, in order of stream. What it moves
@@ -34,7 +37,8 @@
 //! - A session is settled if and only if there is one producer for each stream, every drainer that was begun, each stream in
 //!   its place, and no stream gave a seat to another number of drainers. Otherwise all comes back as it was, with the first
 //!   of these that is missing. It takes no memory.
-//! - What is settled is a session again, the one that was planned. Each producer's numbers are those of its own stream. What
+//! - What is settled is a session again, the one that was planned. Each producer's numbers are those of its own stream, and its
+//!   offers what that stream has. What
 //!   was consumed of a stream is what the desk's and the drainers' seats of it have, and what was cleared of it what another
 //!   seat of the desk has. The totals are the sums over its streams, and the sums over all seats. What was offered is
 //!   discarded, overwritten, cleared, in a ring or in a part, and what was consumed is in a part or was cleared since.

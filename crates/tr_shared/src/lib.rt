@@ -18,6 +18,9 @@
 //! tr_seats that is lent the values. Each call here takes the locks and makes that call, and its own contract speaks of what
 //! its caller keeps: the answer and the seats.
 //!
+//! - What a producer offered is what its stream has: an offer adds just itself, with its answer, to the producer's list. Once
+//!   settled, the stream represents a history whose offers are that list, each answered as it was, and each record that it holds has the id and the
+//!   payload that were offered at its serial, and no lesser moment.
 //! - An offer moves its producer's seats by what was answered, and a take the drainer's seat of that stream, whatever other
 //!   threads do meanwhile.
 //! - When an offer returns, its producer has published how many of its offers were accepted, also if this one was refused.
@@ -27,7 +30,7 @@
 //!   desk's lock after another. Each call is refused only by the codes that it names.
 //! - A snapshot shows at the place of each number what some sound stream of the plan has at the snapshot's own moment:
 //!   serials that follow each other up to the last offered one. Of a producer that is lent to it, it shows a stream with just
-//!   that producer's counts.
+//!   that producer's counts, and each record as it was offered.
 //! - For its mode a snapshot session refuses schedules, clears, rotations and the beginning of one, and a local one
 //!   snapshots; neither is so refused in the other kind of session. In a snapshot session, too, a tick is idle, no rotation
 //!   goes on or ends, and nothing is taken.
@@ -49,19 +52,18 @@
 //! offer and a take hold one stream's lock and no other; an operator holds the desk's, and then one stream's at most. Not
 //! promised by a call that takes a lock are:
 //!
-//! - that an offer hands on its moment, id and payload;
-//! - the sub-buffer's and the chunk's number in an answer;
-//! - when an offer is `Inactive` or a take has `Nothing`, and that nothing is `Misplaced`, beyond what `Slot` says;
+//! - the packet's and the chunk's number in a take's answer, and when it has `Nothing`;
+//! - that nothing is `Misplaced`;
 //! - that a start, a stop, a schedule or a step of a rotation does anything;
 //! - when a tick of a local session rotates, and the numbers, moments and causes in operators' answers;
 //! - how much later than the moment given a snapshot's is;
-//! - that the other streams of a snapshot are shown with all their records, and the ids and payloads of any;
+//! - that the other streams of a snapshot are shown with all their records, and their ids and payloads;
 //! - in which order the streams of a session lie that isn't settled, and which stream `hold_stream` holds;
 //! - which lock is held from when to when, and that a wait ends.
 //!
 //! So these bodies meet the contracts:
 //!
-//! - an offer or a take that is always refused, and an offer of another record;
+//! - an offer that is always `Misplaced`, and a take that is always refused;
 //! - a start, a stop, a schedule or a rotation that only answers, a start at another moment, and an operator's call, a
 //!   drainer, a `build` or a snapshot that is always refused;
 //! - a tick that is always idle, and a snapshot without packets (except of its producer's stream);
