@@ -96,18 +96,25 @@ fn offer_all<N: Names>(
     producer
 }
 
-/// Reads two streams until all that is offered to each was read: no answer is less than the one before, or more than that.
+/// Reads a stream of which it read this much before: the answer is no less, and no more than what its producer offers.
+fn read_on(rt: &impl Abort, watcher: &mut Watcher, i: usize, last: u64) -> u64
+    ensures { watcher.new.table ≡ watcher.old.table }
+{
+    let count = read_of(rt, watcher, i);
+    assert!(rt; last <= count && count <= OFFERS, "{count} after {last}");
+    count
+}
+
+/// Reads two streams until all that is offered to each was read.
 fn watch(rt: &impl Abort, mut watcher: Watcher) -> Watcher
     ensures { result.table ≡ watcher.table }
 {
-    let mut seen = [0; 2];
+    let mut first = 0;
+    let mut second = 0;
     'tries: for _ in 0..TRIES {
-        'streams: for (i, last) in seen.iter_mut().enumerate() {
-            let count = read_of(rt, &mut watcher, i);
-            assert!(rt; *last <= count && count <= OFFERS, "{count} after {last}");
-            *last = count;
-        }
-        if seen == [OFFERS; 2] {
+        first = read_on(rt, &mut watcher, 0, first);
+        second = read_on(rt, &mut watcher, 1, second);
+        if first == OFFERS && second == OFFERS {
             return watcher;
         }
         thread::yield_now();
