@@ -18,7 +18,7 @@ Folder = Option Text
 pub data Task : Type 0 where
   Script : (out : Folder) → Task
   Load : (threads records workers : ℕ) (watch : Bool) (out : Folder) → Task
-  Audit : (dir : Text) → Task
+  Audit : (dir : Text) (archives : Bool) → Task
 
 -- a folder by its text
 abbrev pub folder_named : Option (Bor Text) → Folder
@@ -27,14 +27,14 @@ folder_named out = option_map (λ d. d.now) out
 abbrev pub task_of : Job → Task
 task_of (job.Script out) = Script (folder_named out)
 task_of (job.Load threads records workers watch out) = Load threads records workers watch (folder_named out)
-task_of (job.Audit dir) = Audit dir.now
+task_of (job.Audit dir archives) = Audit dir.now archives
 
 -- the numbers of a load lie within their limits
 abbrev pub IsWithinLimits : Job → Type 0
 IsWithinLimits (job.Script out) = Unit
 IsWithinLimits (job.Load threads records workers watch out) =
     ((1 ≤ threads) × (threads ≤ MOST_FEEDERS)) × (records ≤ MOST_RECORDS) × ((1 ≤ workers) × (workers ≤ MOST_WORKERS))
-IsWithinLimits (job.Audit dir) = Unit
+IsWithinLimits (job.Audit dir archives) = Unit
 
 -- `script [--out DIR]`
 abbrev pub script_run_app : App
@@ -45,9 +45,9 @@ abbrev pub load_app : App
 load_app = line_app (codes "load")
     (option (codes "threads") ∷ option (codes "records") ∷ option (codes "workers") ∷ flag (codes "watch") ∷ option (codes "out") ∷ [])
 
--- `audit DIR`
+-- `audit [--archives] DIR`
 abbrev pub audit_app : App
-audit_app = line_app (codes "audit") (place (codes "dir") ∷ [])
+audit_app = line_app (codes "audit") (flag (codes "archives") ∷ place (codes "dir") ∷ [])
 
 -- `tracerd script ..`, `tracerd load ..` and `tracerd audit ..`
 abbrev pub program_app : App
@@ -76,10 +76,11 @@ load_given rows =
     and_last (folder_given (first_of (codes "out") rows)) (λ out.
     Load threads records workers (has_flag (codes "watch") rows) out))))
 
--- the folder to audit, if its name isn't empty
+-- the folder to audit, if its name isn't empty, and whether archive by archive
 abbrev pub audit_given : List Row → Option Task
 audit_given rows =
-    and_then (folder_given (first_of (codes "dir") rows)) (λ named. and_last named (λ dir. Audit dir))
+    and_then (folder_given (first_of (codes "dir") rows)) (λ named. and_last named (λ dir.
+    Audit dir (has_flag (codes "archives") rows)))
 
 -- what the command that was entered asks for
 abbrev pub job_named : Text → List Row → Option Task

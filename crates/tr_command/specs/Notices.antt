@@ -14,6 +14,6 @@ load_notice threads records workers =
 abbrev pub notice_of : Option Task → Option (List ℕ)
 notice_of None = None
 notice_of (Some (Script out)) = None
-notice_of (Some (Audit dir)) = None
+notice_of (Some (Audit dir archives)) = None
 notice_of (Some (Load threads records workers watch out)) =
     if nat_le MANY_RECORDS (threads * records) then Some (load_notice threads records workers) else None

@@ -39,6 +39,8 @@ pub enum Job<'a> {
     Audit {
         /// The folder.
         dir: &'a str,
+        /// Whether each archive gets a line of its own.
+        archives: bool,
     },
 }
 
@@ -54,8 +56,8 @@ static LOAD: [Argument; 5] = [
     Named("out"),
 ];
 
-/// `audit DIR`.
-static AUDIT: [Argument; 1] = [Placed("dir")];
+/// `audit [--archives] DIR`.
+static AUDIT: [Argument; 2] = [Flag("archives"), Placed("dir")];
 
 /// The whole command line: `tracerd script ..`, `tracerd load ..` and `tracerd audit ..`.
 fn command_line<'a>(alloc: Global) -> Result<Command<'a>, AllocError>
@@ -168,13 +170,14 @@ fn load_given<'a>(matches: &ArgMatches<'a>) -> Option<Job<'a>>
     })
 }
 
-/// An audit of a folder, if its name isn't empty.
+/// An audit of a folder, archive by archive if that is asked for. None if the folder's name is empty.
 fn audit_given<'a>(matches: &ArgMatches<'a>) -> Option<Job<'a>>
     ensures value { option_map task_of result ≡ audit_given (rows_of (found_of matches.now)) }
     ensures within { IfSome result IsWithinLimits }
 {
     let dir = folder_given(matches, "dir")??;
-    Some(Job::Audit { dir })
+    let archives = has_flag(matches, "archives");
+    Some(Job::Audit { dir, archives })
 }
 
 /// The number of an option, if one is given and lies within these limits.

@@ -14,7 +14,7 @@
 //!
 //! - What the words of a line ask for is decided by clap's own definition.
 //! - So is what the program's words ask for, by clap's definition of `script [--out DIR]`, `load --threads T --records R
-//!   --workers W [--out DIR]` and `audit DIR`. The numbers of a load are within its limits.
+//!   --workers W [--out DIR] [--watch]` and `audit [--archives] DIR`. The numbers of a load are within its limits.
 //! - What a terminal shows before a long load is its definition's text.
 //!
 //! Each is said of an answer; a failed allocation is answered as itself.

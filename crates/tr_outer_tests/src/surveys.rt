@@ -144,12 +144,17 @@ impl<'a, R: Abort> Room<'a, R> {
     }
 
     fn says(self, piece: usize, expected: &str, faults: u64) {
+        self.answers(piece, false, expected, Surveyed::Faults(faults));
+    }
+
+    /// With a line for each archive, if these are asked for.
+    fn answers(self, piece: usize, archives: bool, expected: &str, said: Surveyed) {
         let rt = self.rt;
         let alloc = self.alloc;
         let mut folders = self.kept(piece);
         let mut sink = MemorySink::new(alloc, 7);
-        let found = survey(alloc, &mut folders, &mut sink, "d");
-        assert_same(rt, found, Ok(Surveyed::Faults(faults)));
+        let found = survey(alloc, &mut folders, &mut sink, "d", archives);
+        assert_same(rt, found, Ok(said));
         let found = String::from_utf8(sink.into_bytes()).expect(rt, "text");
         assert_same(rt, found.as_str(), expected);
     }
@@ -229,6 +234,25 @@ fn worked_example(rt: HostRuntime) {
     }
 }
 
+const WORKED_BY_ARCHIVE: &str = "\
+session s uuid 00000000-0000-0000-0000-000000000001 archives 2
+gap 0 0 1 before 0 0
+gap 0 2 1 between 0 0 and 0 0
+stream 0 c packets 3 records 6 absent 2 lost 0 last 4 9 from 0 to 0
+stream 1 c packets 0 records 0 absent 0 lost 0 last none
+fault 2 19700101T000000+0000-19700101T000000+0000-0 228 A1 Packet P1 Short
+stream 2 c packets 2 records 3 absent 0 lost 0 last 2 3 from 0 to 0
+archive 0 19700101T000000+0000-19700101T000000+0000-0 packets 3 records 6 absent 2 lost 0 bytes 684
+archive 1 19700101T000000+0000-19700101T000000+0000-1 packets 2 records 3 absent 0 lost 0 bytes 382
+faulty 1
+";
+
+/// What each archive has, over its streams: a packet of two records has 228 bytes, one of one 154.
+#[test]
+fn archive_by_archive(rt: HostRuntime) {
+    worked(&rt, rt.alloc()).answers(100, true, WORKED_BY_ARCHIVE, Surveyed::Faults(1));
+}
+
 static WHOLE: [Thing; 7] = [
     Thing::Session(&["9", "10"]),
     Thing::Archive("9", &["metadata", "a_b_2_0"]),
@@ -273,12 +297,18 @@ static FILES: [&str; 9] = [
     "c_0",
 ];
 
-/// What isn't named as a session, an archive or a stream's file is passed over.
+/// What isn't named as a session, an archive or a stream's file is passed over, and if it has a folder of archives, that is told.
 #[test]
 fn other_names(rt: HostRuntime) {
     let mut room = Room::new(&rt, rt.alloc());
-    room.folder(&["d"], &["9s", "s.old", "t", "s", "r", "u"]);
+    room.folder(
+        &["d"],
+        &["9s", "s.old", "t", "s", "a\n", "r", "u", "r", "9"],
+    );
     room.folder(&["d/r/archives"], &["index"]);
+    room.folder(&["d/9s/archives"], &[]);
+    room.folder(&["d/a\n/archives"], &[]);
+    room.hide(&["d/s.old/archives"]);
     room.folder(&["d/s/archives"], &ARCHIVES);
     room.folder(&["d/s/archives/", WEST], &FILES);
     let path = text(&rt, rt.alloc(), &["d/s/archives/", WEST, "/metadata"]);
@@ -286,11 +316,14 @@ fn other_names(rt: HostRuntime) {
     room.add_file(path, text(&rt, rt.alloc(), &[line]).into_bytes());
     let path = text(&rt, rt.alloc(), &["d/s/archives/", WEST, "/c_0"]);
     room.add_file(path, Vec::new(rt.alloc()));
-    let expected = "session r uuid none archives 0
+    let expected = "passed over 9s
+passed over a?
+session r uuid none archives 0
 session s uuid 00000000-0000-0000-0000-000000000001 archives 1
 deleted archives 0 7
 fault 19700101T000000+0000-19700101T000000-0130-7 other metadata
 stream 0 c packets 0 records 0 absent 0 lost 0 last none
+passed over s.old
 faulty 1
 ";
     room.says(64, expected, 1);
@@ -336,9 +369,38 @@ static NO_METADATA: [Thing; 3] = [
 fn no_identifier(rt: HostRuntime) {
     let expected = "session s uuid none archives 1
 fault 19700101T000000+0000-19700101T000000+0000-0 unfinished
+stream 0 c packets 0 records 0 absent 0 lost 0 last none
 faulty 1
 ";
     furnished(&rt, rt.alloc(), &NO_METADATA).says(64, expected, 1);
+}
+
+static NAMELESS: [Thing; 6] = [
+    Thing::Session(&["0", "1", "2"]),
+    Thing::Archive("0", &["c_0"]),
+    Thing::Archive("1", &["c_0"]),
+    Thing::Archive("2", &["c_0"]),
+    Thing::Packets("1", "c_0", 0, &[(1, 0, 0, &[1])]),
+    Thing::Packets("2", "c_0", 0, &[(2, 0, 0, &[2])]),
+];
+
+/// Without metadata the identifier is the one that most files begin with, and packets of another one are at fault.
+#[test]
+fn identifier_of_packets(rt: HostRuntime) {
+    let mut room = furnished(&rt, rt.alloc(), &NAMELESS);
+    let mut other = packets(&rt, rt.alloc(), 0, &[(0, 0, 0, &[0])]);
+    other[19] = 2;
+    room.file("0", "c_0", other);
+    let expected = "session s uuid 00000000-0000-0000-0000-000000000001 archives 3
+uuid of packets
+fault 19700101T000000+0000-19700101T000000+0000-0 unfinished
+fault 19700101T000000+0000-19700101T000000+0000-1 unfinished
+fault 19700101T000000+0000-19700101T000000+0000-2 unfinished
+fault 0 19700101T000000+0000-19700101T000000+0000-0 0 A4 Foreign
+stream 0 c packets 2 records 2 absent 0 lost 0 last 2 2 from 0 to 0
+faulty 4
+";
+    room.says(64, expected, 4);
 }
 
 static AT_FAULT: [Thing; 14] = [
@@ -446,18 +508,28 @@ faulty 1
 /// What can't be read is told, and the rest too.
 #[test]
 fn unreadable_things(rt: HostRuntime) {
-    let mut room = furnished(&rt, rt.alloc(), &DISCARDING);
+    let mut room = Room::new(&rt, rt.alloc());
     room.folder(&["d"], &["s", "t"]);
+    for thing in &DISCARDING {
+        room.thing(thing);
+    }
     room.hide(&["d/s/archives/", STAMPS, "0/metadata"]);
     room.hide(&["d/s/archives/", STAMPS, "0/c_0"]);
     room.hide(&["d/s/archives/", STAMPS, "1"]);
     room.hide(&["d/t/archives"]);
-    let expected = "session s uuid none archives 2
+    let expected = "session s uuid 00000000-0000-0000-0000-000000000001 archives 2
+uuid of packets
 fault 19700101T000000+0000-19700101T000000+0000-0 unreadable
 fault 19700101T000000+0000-19700101T000000+0000-1 unreadable
-faulty 2
+lost 0 3 before 0 5
+fault 0 19700101T000000+0000-19700101T000000+0000-0 unreadable
+fault 0 19700101T000000+0000-19700101T000000+0000-1 154 lost falls
+stream 0 c packets 4 records 4 absent 0 lost 6 last 5 10 from 5 to 9
+session t uuid none archives 0
+fault archives unreadable
+faulty 5
 ";
-    room.says(64, expected, 2);
+    room.says(64, expected, 5);
 }
 
 #[test]
@@ -467,9 +539,18 @@ fn a_root_that_cannot_be_read(rt: HostRuntime) {
     room.hide(&["d"]);
     let mut sink = MemorySink::new(alloc, 7);
     let mut folders = room.kept(64);
-    let found = survey(alloc, &mut folders, &mut sink, "d");
+    let found = survey(alloc, &mut folders, &mut sink, "d", false);
     assert_same(&rt, found, Ok(Surveyed::Unlisted));
     assert_same(&rt, sink.into_bytes().len(), 0);
+}
+
+/// A folder that is passed over is no session.
+#[test]
+fn passed_over_alone(rt: HostRuntime) {
+    let mut room = Room::new(&rt, rt.alloc());
+    room.folder(&["d"], &["9", "t"]);
+    room.folder(&["d/9/archives"], &[]);
+    room.answers(64, false, "passed over 9\n", Surveyed::NoSession);
 }
 
 #[test]
@@ -482,7 +563,7 @@ fn no_session(rt: HostRuntime) {
         }
         let mut sink = MemorySink::new(alloc, 7);
         let mut folders = room.kept(64);
-        let found = survey(alloc, &mut folders, &mut sink, "d");
+        let found = survey(alloc, &mut folders, &mut sink, "d", false);
         assert_same(&rt, found, Ok(Surveyed::NoSession));
         assert_same(&rt, sink.into_bytes().len(), 0);
     }

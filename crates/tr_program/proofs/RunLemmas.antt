@@ -1,5 +1,5 @@
 -- How runs end that read and wrote nothing, and audits that found no session.
-use Rattle.std.proofs.Common.{◌≡◌, ◌⊎◌, ℕ, zero, suc, refl, inl, inr, List, [], Option, Some, None, Result, Ok, Err}
+use Rattle.std.proofs.Common.{◌≡◌, ◌⊎◌, ℕ, Bool, zero, suc, refl, inl, inr, List, [], Option, Some, None, Result, Ok, Err}
 use Rattle.tr_folders.specs.Tree.{Tree}
 use Rattle.tr_load.specs.declared.loaded.LoadFault.TheVariants as load
 use Rattle.tr_chunk.specs.Files.{Sunk}
@@ -23,48 +23,48 @@ pub ends_without_memory : (asked : Option Task) (o : Outside) → EndsSo o o ask
 ends_without_memory None o = (inr refl, (refl, refl, refl))
 ends_without_memory (Some (Script dir)) o = inl (refl, refl, refl)
 ends_without_memory (Some (Load threads records workers watch dir)) o = (refl, inr ((load.NoMemory, refl), (refl, refl, refl)))
-ends_without_memory (Some (Audit dir)) o = record {
-  audited = record { result = Err survey.NoMemory; ends = refl; tells = λ t known. front_nothing (survey_of t dir).text o.host.taken; reads = refl; writes = refl };
+ends_without_memory (Some (Audit dir archives)) o = record {
+  audited = record { result = Err survey.NoMemory; ends = refl; tells = λ t known. front_nothing (survey_of archives t dir).text o.host.taken; reads = refl; writes = refl };
   given = refl;
   made = refl;
   inputs = refl;
   disks = refl;
 }
 
-found_none : (t : Tree) (dir : List ℕ) (result : Result Surveyed SurveyFault) (before now : Option (List ℕ)) → NoSession ≡ ending_of_survey result
-    → TellsAudit t dir result before now → sessions_of t dir ≡ []
-found_none t dir (Ok surveyed.Unlisted) before now e tells = absurd cc
-found_none t dir (Ok surveyed.NoSession) before now e tells = said_no_session t dir tells.state_is
-found_none t dir (Ok (surveyed.Faults zero)) before now e tells = absurd cc
-found_none t dir (Ok (surveyed.Faults (suc n))) before now e tells = absurd cc
-found_none t dir (Err survey.TooMuch) before now e tells = absurd cc
-found_none t dir (Err survey.Write) before now e tells = absurd cc
-found_none t dir (Err survey.NoMemory) before now e tells = absurd cc
+found_none : (t : Tree) (dir : List ℕ) (archives : Bool) (result : Result Surveyed SurveyFault) (before now : Option (List ℕ)) → NoSession ≡ ending_of_survey result
+    → TellsAudit t dir archives result before now → sessions_of t dir ≡ []
+found_none t dir archives (Ok surveyed.Unlisted) before now e tells = absurd cc
+found_none t dir archives (Ok surveyed.NoSession) before now e tells = said_no_session archives t dir tells.state_is
+found_none t dir archives (Ok (surveyed.Faults zero)) before now e tells = absurd cc
+found_none t dir archives (Ok (surveyed.Faults (suc n))) before now e tells = absurd cc
+found_none t dir archives (Err survey.TooMuch) before now e tells = absurd cc
+found_none t dir archives (Err survey.Write) before now e tells = absurd cc
+found_none t dir archives (Err survey.NoMemory) before now e tells = absurd cc
 
-pub no_session : (dir : List ℕ) (folders folders_now : FoldersState) (out out_now : Sunk) (ending : Ending)
-    → HasAudited dir folders folders_now out out_now ending → ending ≡ NoSession → HasNoSession dir folders.tree
-no_session dir folders folders_now out out_now ending audited is t known =
-    found_none t dir audited.result out.taken out_now.taken (rw is at audited.ends) (audited.tells t known)
+pub no_session : (dir : List ℕ) (archives : Bool) (folders folders_now : FoldersState) (out out_now : Sunk) (ending : Ending)
+    → HasAudited dir archives folders folders_now out out_now ending → ending ≡ NoSession → HasNoSession dir folders.tree
+no_session dir archives folders folders_now out out_now ending audited is t known =
+    found_none t dir archives audited.result out.taken out_now.taken (rw is at audited.ends) (audited.tells t known)
 
 -- why an audit ends as if reading or writing failed
 abbrev Why : List ℕ → FoldersState → FoldersState → Sunk → Sunk → Type 0
 Why dir folders folders_now out out_now =
     (out_now.failures ≡ once_more out.failures) ⊎ ((folders_now.failures ≡ once_more folders.failures) ⊎ CannotBeRead dir folders.tree)
 
-why : (dir : List ℕ) (folders folders_now : FoldersState) (out out_now : Sunk) (result : Result Surveyed SurveyFault) → ReadOrWrite ≡ ending_of_survey result
-    → ((t : Tree) → folders.tree ≡ Some t → TellsAudit t dir result out.taken out_now.taken)
+why : (dir : List ℕ) (archives : Bool) (folders folders_now : FoldersState) (out out_now : Sunk) (result : Result Surveyed SurveyFault) → ReadOrWrite ≡ ending_of_survey result
+    → ((t : Tree) → folders.tree ≡ Some t → TellsAudit t dir archives result out.taken out_now.taken)
     → folders_now.failures ≡ reads_after result folders.failures → out_now.failures ≡ writes_after result out.failures
     → Why dir folders folders_now out out_now
-why dir folders folders_now out out_now (Ok surveyed.Unlisted) e tells reads writes =
-    inr (inr (λ t known. said_unlisted t dir (tells t known).state_is))
-why dir folders folders_now out out_now (Ok surveyed.NoSession) e tells reads writes = absurd cc
-why dir folders folders_now out out_now (Ok (surveyed.Faults zero)) e tells reads writes = absurd cc
-why dir folders folders_now out out_now (Ok (surveyed.Faults (suc n))) e tells reads writes = absurd cc
-why dir folders folders_now out out_now (Err survey.TooMuch) e tells reads writes = inr (inl reads)
-why dir folders folders_now out out_now (Err survey.Write) e tells reads writes = inl writes
-why dir folders folders_now out out_now (Err survey.NoMemory) e tells reads writes = absurd cc
+why dir archives folders folders_now out out_now (Ok surveyed.Unlisted) e tells reads writes =
+    inr (inr (λ t known. said_unlisted archives t dir (tells t known).state_is))
+why dir archives folders folders_now out out_now (Ok surveyed.NoSession) e tells reads writes = absurd cc
+why dir archives folders folders_now out out_now (Ok (surveyed.Faults zero)) e tells reads writes = absurd cc
+why dir archives folders folders_now out out_now (Ok (surveyed.Faults (suc n))) e tells reads writes = absurd cc
+why dir archives folders folders_now out out_now (Err survey.TooMuch) e tells reads writes = inr (inl reads)
+why dir archives folders folders_now out out_now (Err survey.Write) e tells reads writes = inl writes
+why dir archives folders folders_now out out_now (Err survey.NoMemory) e tells reads writes = absurd cc
 
-pub audit_fault : (dir : List ℕ) (folders folders_now : FoldersState) (out out_now : Sunk) (ending : Ending)
-    → HasAudited dir folders folders_now out out_now ending → ending ≡ ReadOrWrite → Why dir folders folders_now out out_now
-audit_fault dir folders folders_now out out_now ending audited is =
-    why dir folders folders_now out out_now audited.result (rw is at audited.ends) audited.tells audited.reads audited.writes
+pub audit_fault : (dir : List ℕ) (archives : Bool) (folders folders_now : FoldersState) (out out_now : Sunk) (ending : Ending)
+    → HasAudited dir archives folders folders_now out out_now ending → ending ≡ ReadOrWrite → Why dir folders folders_now out out_now
+audit_fault dir archives folders folders_now out out_now ending audited is =
+    why dir archives folders folders_now out out_now audited.result (rw is at audited.ends) audited.tells audited.reads audited.writes

@@ -77,15 +77,15 @@ outside_of source sink disks ghosts input out disk folders = record {
 }
 
 -- what is told of a folder by an audit with this result, before which this was out, and after which that is
-abbrev pub TellsAudit : Tree → List ℕ → Result Surveyed SurveyFault → Option (List ℕ) → Option (List ℕ) → Type 0
-TellsAudit t dir (Ok said) before now = TellsFolder t dir said before now
-TellsAudit t dir (Err fault) before now = HasToldPrefix t dir before now
+abbrev pub TellsAudit : Tree → List ℕ → Bool → Result Surveyed SurveyFault → Option (List ℕ) → Option (List ℕ) → Type 0
+TellsAudit t dir archives (Ok said) before now = TellsFolder archives t dir said before now
+TellsAudit t dir archives (Err fault) before now = HasToldPrefix archives t dir before now
 
--- what stands in a folder was told to an output, or a front of it, and the ending says how many faults there are, or why not
-pub record HasAudited (dir : List ℕ) (folders folders_now : FoldersState) (out out_now : Sunk) (ending : Ending) : Type 0 where
+-- what stands in a folder was told to an output, archive by archive if that was asked for, or a front of it, and the ending says how many faults there are, or why not
+pub record HasAudited (dir : List ℕ) (archives : Bool) (folders folders_now : FoldersState) (out out_now : Sunk) (ending : Ending) : Type 0 where
   pub result : Result Surveyed SurveyFault
   pub ends : ending ≡ ending_of_survey result
-  pub tells : (t : Tree) → folders.tree ≡ Some t → TellsAudit t dir result out.taken out_now.taken
+  pub tells : (t : Tree) → folders.tree ≡ Some t → TellsAudit t dir archives result out.taken out_now.taken
   pub reads : folders_now.failures ≡ reads_after result folders.failures
   pub writes : out_now.failures ≡ writes_after result out.failures
 
@@ -183,8 +183,8 @@ module _ (old new : Host) where
       (new.given ≡ old.given) × (HasLoaded threads records watch dir ending ⊎ HasNotLoaded ending)
 
   -- an audit of a folder; it reads no input and makes nothing, so neither fails
-  pub record EndsAudit (dir : List ℕ) (folders folders_now : FoldersState) (ending : Ending) : Type 0 where
-    pub audited : HasAudited dir folders folders_now (output_of old) (output_of new) ending
+  pub record EndsAudit (dir : List ℕ) (archives : Bool) (folders folders_now : FoldersState) (ending : Ending) : Type 0 where
+    pub audited : HasAudited dir archives folders folders_now (output_of old) (output_of new) ending
     pub given : new.given ≡ old.given
     pub made : new.made ≡ old.made
     pub inputs : new.input_failures ≡ old.input_failures
@@ -220,7 +220,7 @@ abbrev pub EndsSo : Outside → Outside → Option Task → Ending → Type 0
 EndsSo old new None ending = IsNoRun old.host new.host ending
 EndsSo old new (Some (Script dir)) ending = EndsAs old.host new.host dir ending
 EndsSo old new (Some (Load threads records workers watch dir)) ending = EndsLoad old.host new.host threads records watch dir ending
-EndsSo old new (Some (Audit dir)) ending = EndsAudit old.host new.host dir old.folders new.folders ending
+EndsSo old new (Some (Audit dir archives)) ending = EndsAudit old.host new.host dir archives old.folders new.folders ending
 
 -- the same: its status and its line say how
 pub record HasEnded (asked : Option Task) (old new : Outside) (told told_now : Sunk) (status : ℕ) : Type 0 where
@@ -234,7 +234,7 @@ abbrev pub LacksArchives : Option Task → FoldersState → FoldersState → Typ
 LacksArchives None old new = ⊥
 LacksArchives (Some (Script dir)) old new = ⊥
 LacksArchives (Some (Load threads records workers watch dir)) old new = ⊥
-LacksArchives (Some (Audit dir)) old new =
+LacksArchives (Some (Audit dir archives)) old new =
     (new.failures ≡ once_more old.failures) ⊎ (CannotBeRead dir old.tree ⊎ HasNoSession dir old.tree)
 
 -- what a status of 3 says

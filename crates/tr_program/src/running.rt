@@ -110,11 +110,12 @@ fn end_audit<K: ByteSink, F: Folders>(
     out: &mut K,
     folders: &mut F,
     dir: &str,
+    archives: bool,
 ) -> Ending
-    ensures { HasAudited dir.now (folders_of F.Folders folders.old) (folders_of F.Folders folders.new)
+    ensures { HasAudited dir.now archives (folders_of F.Folders folders.old) (folders_of F.Folders folders.new)
         (sunk_of K.ByteSink out.old) (sunk_of K.ByteSink out.new) result }
 {
-    Ending::of_survey(survey(alloc, folders, out, dir))
+    Ending::of_survey(survey(alloc, folders, out, dir, archives))
 }
 
 /// Does what the words ask for.
@@ -178,7 +179,7 @@ fn end<
             Ok(loaded) => end_load(alloc, out, disk, dir, threads, &loaded),
             Err(fault) => Ending::of_load(fault),
         },
-        Ok(Some(Job::Audit { dir })) => end_audit(alloc, out, folders, dir),
+        Ok(Some(Job::Audit { dir, archives })) => end_audit(alloc, out, folders, dir, archives),
         Ok(None) => Ending::BadCommandLine,
         Err(_) => Ending::NoMemory,
     }

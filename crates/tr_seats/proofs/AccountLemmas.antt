@@ -1,15 +1,20 @@
 -- A stream's journal, as its slot keeps it.
-use Rattle.std.proofs.Common.{◌≡◌, ◌∙◌, ℕ, Bool, List, [], ◌∷◌, ◌++◌, Result, ap, arith, refl, subst, sym}
+use Rattle.std.proofs.Common.{◌≡◌, ◌∙◌, ◌<◌, ℕ, Bool, List, [], ◌∷◌, ◌++◌, Result, ap, map, refl, subst, sym}
+use Rattle.std.specs.List.{AllByRecursion}
+use Rattle.std.specs.List.Sorted.{IsStrictlyIncreasing}
 use Rattle.atomic_table.specs.Seated.{TableId}
 use Rattle.tr_accounts.proofs.JournalLemmas.{journal-clear, journal-cut, journal-holds, journal-moved, journal-new, journal-offer, journal-switch, journal-take}
 use Rattle.tr_accounts.proofs.SeatLemmas.{offers-theirs}
+use Rattle.tr_accounts.proofs.TakeLemmas.{own-rise, own-were}
+use Rattle.tr_accounts.specs.Accounts.{history_of}
 use Rattle.tr_accounts.specs.Seats.{IsJournalOf, desk_seat, producer_seat}
 use Rattle.tr_accounts.specs.Holds.{HoldsOffers}
-use Rattle.tr_accounts.specs.StreamSteps.{accepted_in, clear_step, cut_step, offer_step, switch_step, take_step}
+use Rattle.tr_accounts.specs.StreamSteps.{accepted_in, clear_step, cut_step, offer_step, switch_step, take_step, taken_in}
+use Rattle.tr_accounts.specs.Takes.{WasTaken}
 use Rattle.tr_accounts.specs.declared.step.StreamStep.{StreamStep}
 use Rattle.tr_journal.specs.Journals.{IsSeatOf, JournalState, SeatState, journal_after, new_seat}
 use Rattle.tr_journal.specs.Views.{all_done, done_by, line}
-use Rattle.tr_seats.specs.Accounts.{IsAccountOf, IsKeptAccount, IsNewAccount, IsSeatAt, take_seat}
+use Rattle.tr_seats.specs.Accounts.{IsAccountOf, IsKeptAccount, IsNewAccount, IsSeatAt, IsTakenFrom}
 use Rattle.tr_seats.specs.Plans.{IsUnused}
 use Rattle.tr_stream.proofs.TakeLemmas.{starts}
 use Rattle.tr_stream.specs.Kept.{IsKept}
@@ -59,11 +64,11 @@ module _ (table : TableId) (s : StreamState) (before after : JournalState Stream
       noted who (offer_step moment id payload told) t (state_after_offer moment id payload s) is same
       (journal-offer before.lines s was.lines_are who moment id payload told mine kept answer)
 
-  pub kept-take : (t : StreamState) (told : Result Taken TakeFault) → told ≡ state_take_answer s → t ≡ state_after_take s
-      → after ≡ journal_after take_seat (take_step told) before → IsKeptAccount table t after
-  kept-take t told answer same is =
-      noted take_seat (take_step told) t (state_after_take s) is same
-      (journal-take before.lines s was.lines_are take_seat told (omega arith) answer)
+  pub kept-take : (t : StreamState) (who : ℕ) (told : Result Taken TakeFault) → desk_seat < who → told ≡ state_take_answer s
+      → t ≡ state_after_take s → after ≡ journal_after who (take_step told) before → IsKeptAccount table t after
+  kept-take t who told theirs answer same is =
+      noted who (take_step told) t (state_after_take s) is same
+      (journal-take before.lines s was.lines_are who told theirs answer)
 
   pub kept-cut : (t : StreamState) (moment : ℕ) (told : Result CutDone CutFault) → told ≡ state_cut_answer moment s
       → t ≡ state_after_cut moment s → after ≡ journal_after desk_seat (cut_step moment told) before → IsKeptAccount table t after
@@ -94,4 +99,22 @@ account-of table s account seat kept at own =
       accounted = kept.lines_are.accounted;
       offers = offers-theirs lines kept.lines_are.theirs ∙ sym mine;
       holds = subst (λ steps. HoldsOffers (accepted_in steps) s) (sym mine) (journal-holds lines s kept.lines_are);
+    }
+
+-- what a drainer's seat has
+pub taken-from : (table : TableId) (s : StreamState) (account : JournalState StreamStep) (seat : SeatState StreamStep)
+    → IsKeptAccount table s account → IsKept s → IsSeatOf account seat → IsTakenFrom (taken_in seat.own) s
+taken-from table s account seat kept sound own =
+    let lines = account.lines in
+    let whole = kept.lines_are.accounted in
+    let mine : seat.own ≡ done_by seat.who lines = own.each.0.1 in
+    record {
+      lines = lines;
+      accounted = whole;
+      who = seat.who;
+      own = ap taken_in mine;
+      rise = subst (λ steps. IsStrictlyIncreasing (map (λ (t : Taken). t.seq) (taken_in steps))) (sym mine)
+          (own-rise lines s seat.who whole sound);
+      were = subst (λ steps. AllByRecursion (WasTaken (history_of s.config (all_done lines))) (taken_in steps)) (sym mine)
+          (own-were lines s seat.who whole sound);
     }

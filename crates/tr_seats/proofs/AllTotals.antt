@@ -6,10 +6,11 @@ use Rattle.std.proofs.lemmas.List.{length-map, get_or-map}
 use Rattle.tr_ledger.specs.Ledgers.{SeatState, seat_state}
 use Rattle.tr_seats.proofs.Joins.{tables-length}
 use Rattle.tr_seats.proofs.Permuted.{one-each, sum_by-beside, sum_by-index, sum_by-same}
-use Rattle.tr_seats.specs.Accounts.{IsAccountOf}
+use Rattle.tr_seats.specs.Accounts.{IsAccountOf, IsTakenFrom}
 use Rattle.tr_seats.specs.Books.{Books, cleared_books, consumed_books, cut_books, no_table}
 use Rattle.tr_seats.specs.Desks.{DeskState}
-use Rattle.tr_seats.specs.Settling.{AreAccountsOf, AreAllMade, AreTheirs, HaveCleared, HaveConsumed, IsOneEach, streams_of, taken_of, totals_of_seats}
+use Rattle.tr_seats.specs.Drainers.{DrainerState, taken_at}
+use Rattle.tr_seats.specs.Settling.{AreAccountsOf, AreAllMade, ArePacketsOf, AreTheirs, HaveCleared, HaveConsumed, IsOneEach, streams_of, taken_of, totals_of_seats}
 use Rattle.tr_seats.specs.Slots.{AreJoined, AreSeatsOf, IsOwn, ProducerState, SlotState, amounts_of, slot_state}
 use Rattle.tr_seats.specs.Sums.{totals_in, totals_of}
 use Rattle.tr_seats.specs.declared.totals.Totals.{Totals}
@@ -90,7 +91,7 @@ module _ (books : List Books) (slots : List SlotState) (len : length slots ≡ l
       whole k d s lt (row.1 k d (omega (arith, lt, len, wide, length-map books (λ (b : Books). b.cleared))))
 
   -- a row that was joined with the drainers' has what the streams consumed
-  row-whole : (drainers : List (List ℕ)) (joined : List SeatState) → AreJoined (length drainers + 1) (consumed_books books) joined
+  row-whole : (drainers : List DrainerState) (joined : List SeatState) → AreJoined (length drainers + 1) (consumed_books books) joined
       → AreAllMade (length drainers) slots
       → ((k : ℕ) (d : SeatState) (s : SlotState) → k < length slots → (get_or joined k d).mark ≡ (get_or slots k s).made + 1
       → (get_or joined k d).amount ≡ (totals_in (get_or slots k s).stream).consumed)
@@ -100,7 +101,7 @@ module _ (books : List Books) (slots : List SlotState) (len : length slots ≡ l
       whole k d s lt (row.1 k d (omega (arith, lt, wide, len)) ∙ ap (λ n. n + 1) (sym (made k s lt)))
 
   -- so what the streams consumed is what the row had, and what the drainers took
-  pub row-taken : (drainers : List (List ℕ)) (mine joined : List SeatState)
+  pub row-taken : (drainers : List DrainerState) (mine joined : List SeatState)
       → AreJoined (length drainers + 1) (consumed_books books) joined
       → ((k : ℕ) (d : SeatState) → k < length books → (get_or joined k d).amount ≡ (get_or mine k d).amount + taken_of drainers k)
       → AreAllMade (length drainers) slots
@@ -111,12 +112,12 @@ module _ (books : List Books) (slots : List SlotState) (len : length slots ≡ l
   row-taken drainers mine joined row each made whole k d s lt =
       sym (row-whole drainers joined row made whole k d s lt) ∙ each k d (omega (arith, lt, len))
 
-  pub all-add_up : (producers : List ProducerState) (drainers : List (List ℕ)) (mine joined cuts cleared : List SeatState)
+  pub all-add_up : (producers : List ProducerState) (drainers : List DrainerState) (mine joined cuts cleared : List SeatState)
       → IsOneEach (length slots) producers → AreWithin (length books) producers
       → ((k : ℕ) (p : ProducerState) (s : SlotState) → k < length producers
       → IsOwn (get_or producers k p) (totals_in (get_or slots (get_or producers k p).number s).stream))
       → AreJoined (length drainers + 1) (consumed_books books) joined
-      → sum (amounts_of joined) ≡ sum (amounts_of mine) + sum_by sum drainers → AreAllMade (length drainers) slots
+      → sum (amounts_of joined) ≡ sum (amounts_of mine) + sum_by (λ (d : DrainerState). sum d.amounts) drainers → AreAllMade (length drainers) slots
       → ((k : ℕ) (d : SeatState) (s : SlotState) → k < length slots → (get_or joined k d).mark ≡ (get_or slots k s).made + 1
       → (get_or joined k d).amount ≡ (totals_in (get_or slots k s).stream).consumed)
       → AreSeatsOf (cut_books books) cuts
@@ -146,7 +147,7 @@ module _ (books : List Books) (slots : List SlotState) (len : length slots ≡ l
       let packets = of-producers (λ (p : ProducerState). p.overwritten_packets) (λ (t : Totals). t.overwritten_packets) slots producers once
       within (λ k p s lt. (own k p s lt).3) in
       let consumed = of-row (λ (t : Totals). t.consumed) slots joined joined_length joined_whole
-      ∙ adds ∙ ap (λ (l : List ℕ). sum l + sum_by sum drainers) (sym desk_consumed) in
+      ∙ adds ∙ ap (λ (l : List ℕ). sum l + sum_by (λ (d : DrainerState). sum d.amounts) drainers) (sym desk_consumed) in
       let cut = of-row (λ (t : Totals). t.cuts) slots cuts cuts_length (cuts-whole cuts cut_row cut_whole) ∙ ap sum (sym desk_cuts) in
       let gone = of-row (λ (t : Totals). t.cleared) slots cleared cleared_length (cleared-whole cleared cleared_row cleared_are)
       ∙ ap sum (sym desk_cleared) in
@@ -183,7 +184,7 @@ their-accounts n producers slots len there own k p t lt =
     subst (IsAccountOf q.steps) (sym at) (own k p s lt)
 
 -- what a row and the drainers have is what was consumed of each stream, out of its slot
-pub have-consumed : (mine : List SeatState) (drainers : List (List ℕ)) (slots : List SlotState) → length mine ≡ length slots
+pub have-consumed : (mine : List SeatState) (drainers : List DrainerState) (slots : List SlotState) → length mine ≡ length slots
     → ((k : ℕ) (d : SeatState) (s : SlotState) → k < length slots
     → (totals_in (get_or slots k s).stream).consumed ≡ (get_or mine k d).amount + taken_of drainers k)
     → HaveConsumed (amounts_of mine) drainers (streams_of slots)
@@ -206,3 +207,14 @@ have-cleared cleared slots long row k t lt =
     let at = get_or-map (λ (x : SlotState). x.stream) slots k s t there in
     let has = get_or-map (λ (x : SeatState). x.amount) cleared k d 0 (omega (arith, there, long)) in
     ap (λ (x : StreamState). (totals_in x).cleared) at ∙ sym (row k d s there) ∙ sym has
+
+-- the packets that each drainer took are what its streams have, out of their slots
+pub their-packets : (drainers : List DrainerState) (slots : List SlotState)
+    → ((k i : ℕ) (d : DrainerState) (s : SlotState) → k < length drainers → i < length slots
+    → IsTakenFrom (taken_at (get_or drainers k d) i) (get_or slots i s).stream)
+    → ArePacketsOf drainers (streams_of slots)
+their-packets drainers slots own k i d t lt below =
+    let s = slot_state 0 t 0 in
+    let there : i < length slots = omega (arith, below, length-map slots (λ (x : SlotState). x.stream)) in
+    let at = get_or-map (λ (x : SlotState). x.stream) slots i s t there in
+    subst (IsTakenFrom (taken_at (get_or drainers k d) i)) (sym at) (own k i d s lt there)

@@ -1,6 +1,6 @@
 -- A cut at a desk: its book notes it, and two seats rise. A clear: one seat rises.
-use Rattle.std.proofs.Common.{◌≡◌, ◌≢◌, ◌∙◌, ℕ, ◌+◌, ◌<◌, Bool, true, false, List, Some, Ok, Result, length, ap, arith, get_or, refl, set, sym}
-use Rattle.std.specs.Prelude.{◌==◌, if◌then◌else◌, nat_lt, slice_index}
+use Rattle.std.proofs.Common.{◌≡◌, ◌≢◌, ◌∙◌, ℕ, ◌+◌, ◌<◌, Bool, true, false, List, Some, Ok, Err, Result, length, ap, arith, get_or, refl, set, sym}
+use Rattle.std.specs.Prelude.{◌==◌, if◌then◌else◌, max, nat_lt, slice_index}
 use Rattle.std.proofs.lemmas.List.{get_or-set_other, length-map}
 use Rattle.std.proofs.lemmas.Bool.Decides.{nat_tests}
 use Rattle.std.proofs.lemmas.Grind.{get_or-set_at}
@@ -11,7 +11,7 @@ use Rattle.tr_seats.specs.Desks.{IsDesk}
 use Rattle.tr_seats.specs.Slots.{amounts_of}
 use Rattle.tr_session.proofs.StreamLemmas.{due-next}
 use Rattle.tr_session_book.specs.Book.{SessionBookState}
-use Rattle.tr_session_book.specs.BookSteps.{book_after_note_cut, chunks_closed, cut_moment, unless_refused, with_cut}
+use Rattle.tr_session_book.specs.BookSteps.{book_after_note_cut, book_after_snapshot_begin, chunks_closed, cut_moment, snapshot_allowed, unless_refused, with_cut}
 use Rattle.tr_session_book.specs.declared.archive.Pending.{Pending}
 use Rattle.tr_session_book.specs.declared.faults.SessionFault.{SessionFault}
 
@@ -110,3 +110,25 @@ module _ (plan : PlanState) (b : SessionBookState) (consumed cuts cleared : List
     cleared_are = row-raised (cleared_books plan.books) cleared i one is.cleared_are wide-cleared one_is new n e;
     operator = is.operator;
   }
+
+-- the moment of a snapshot is stored
+pub desk-shown : (plan : PlanState) (b : SessionBookState) (consumed cuts cleared : List SeatState) (moment : ℕ)
+    → IsDesk plan b consumed cuts cleared → IsDesk plan (book_after_snapshot_begin moment b) consumed cuts cleared
+desk-shown plan b consumed cuts cleared moment is = go (snapshot_allowed b)
+  where
+    go : (r : Result Unit SessionFault) → IsDesk plan (unless_refused r (record b { last = max moment b.last }) b) consumed cuts cleared
+    go (Err fault) = is
+    go (Ok done) = record {
+      planned = is.planned;
+      book_is = record {
+        uuid = is.book_is.uuid;
+        offset = is.book_is.offset;
+        mode = is.book_is.mode;
+        channels = is.book_is.channels;
+        threads = is.book_is.threads;
+      };
+      consumed_are = is.consumed_are;
+      cuts_are = is.cuts_are;
+      cleared_are = is.cleared_are;
+      operator = is.operator;
+    }

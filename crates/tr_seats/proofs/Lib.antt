@@ -7,6 +7,7 @@ pub mod DeskLemmas
 pub mod DrainerLemmas
 pub mod Joins
 pub mod NameLemmas
+pub mod OperatorLemmas
 pub mod OverwriteLemmas
 pub mod Permuted
 pub mod PlanLemmas
@@ -15,4 +16,5 @@ pub mod Rows
 pub mod SettledLemmas
 pub mod SlotLemmas
 pub mod SumLemmas
+pub mod TakeLemmas
 pub mod TellerLemmas

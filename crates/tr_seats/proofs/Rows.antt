@@ -67,7 +67,7 @@ module _ (tables : List TableId) (seats : List SeatState) (i : ℕ) (old : SeatS
       ap amount_in e ∙ ap (λ k. k + n) (ap amount_in is ∙ sym (amount-at seats i old here)) in
       map-set amount_in seats i new ∙ ap (set (amounts_of seats) i) value
 
-get-front : {X : Type 0} → (xs : List X) (y d : X) (i : ℕ) → i < length xs → get_or (xs ++ y ∷ []) i d ≡ get_or xs i d
+pub get-front : {X : Type 0} → (xs : List X) (y d : X) (i : ℕ) → i < length xs → get_or (xs ++ y ∷ []) i d ≡ get_or xs i d
 get-front [] y d i lt = absurd (omega arith)
 get-front (x ∷ xs) y d zero lt = refl
 get-front (x ∷ xs) y d (suc i) lt = get-front xs y d i (omega arith)

@@ -1,28 +1,31 @@
 -- What is noted of a stream's calls under its lock, and what that says of its producer.
-use Rattle.std.specs.Prelude.{◌≡◌, ℕ, List, []}
+use Rattle.std.specs.Prelude.{◌≡◌, ◌<◌, ℕ, List, [], length, map, slice_index_or}
+use Rattle.std.specs.List.{AllByRecursion}
+use Rattle.std.specs.List.Sorted.{IsStrictlyIncreasing}
 use Rattle.atomic_table.specs.Seated.{TableId}
-use Rattle.tr_accounts.specs.Accounts.{IsAccounted}
+use Rattle.tr_accounts.specs.Accounts.{IsAccounted, history_of}
 use Rattle.tr_accounts.specs.Holds.{HoldsOffers}
 use Rattle.tr_accounts.specs.Seats.{IsJournalOf, desk_seat, is_offer, steps_of}
-use Rattle.tr_accounts.specs.StreamSteps.{accepted_in}
+use Rattle.tr_accounts.specs.StreamSteps.{accepted_in, taken_in}
+use Rattle.tr_accounts.specs.Takes.{WasTaken}
 use Rattle.tr_accounts.specs.declared.step.StreamStep.{StreamStep}
 use Rattle.tr_journal.specs.Journals.{JournalState, SeatState}
+use Rattle.tr_journal.specs.Views.{all_done, done_by}
+use Rattle.tr_journal.specs.declared.rule.Line.{Line}
+use Rattle.tr_seats.specs.Books.{Books, books_at}
 use Rattle.tr_stream.specs.State.{StreamState}
+use Rattle.tr_stream.specs.declared.answers.Taken.{Taken}
 
 -- ---- a stream's journal
-
--- the seat of all takes from a stream, which its slot keeps
-abbrev pub take_seat : ℕ
-take_seat = 2
 
 -- a seat of this table and this number, with nothing joined to it
 abbrev pub IsSeatAt : TableId → ℕ → SeatState StreamStep → Type 0
 IsSeatAt table who seat = (seat.table ≡ table) × (seat.who ≡ who) × (seat.joined ≡ [])
 
--- the seats of operations and of takes, in their journal
-pub record HasSeats (journal : JournalState StreamStep) (desk takes : SeatState StreamStep) : Type 0 where
+-- the seat of operations, in its journal, in which all later seats are drainers'
+pub record HasSeats (journal : JournalState StreamStep) (desk : SeatState StreamStep) : Type 0 where
   pub desk_is : IsSeatAt journal.table desk_seat desk
-  pub takes_is : IsSeatAt journal.table take_seat takes
+  pub made : desk_seat < journal.made
 
 abbrev pub IsNewAccount : JournalState StreamStep → Type 0
 IsNewAccount account = account.lines ≡ []
@@ -41,3 +44,29 @@ pub record IsAccountOf (steps : List StreamStep) (stream : StreamState) : Type 0
   pub accounted : IsAccounted all stream
   pub offers : steps_of is_offer all ≡ steps
   pub holds : HoldsOffers (accepted_in steps) stream
+
+-- ---- drainers
+
+-- a drainer's seat in this table, with nothing joined to it
+abbrev pub IsTakeSeat : TableId → SeatState StreamStep → Type 0
+IsTakeSeat table seat = (seat.table ≡ table) × (desk_seat < seat.who) × (seat.joined ≡ [])
+
+-- a drainer's seats in the journals of the first streams, in order of number
+pub record AreTakeSeats (n : ℕ) (books : List Books) (seats : List (SeatState StreamStep)) : Type 0 where
+  pub many : length seats ≡ n
+  pub each : (i : ℕ) (d : SeatState StreamStep) → i < n → IsTakeSeat (books_at books i).journal (slice_index_or seats i d)
+
+-- what a drainer took from each stream, as its seats noted
+abbrev pub taken_by : List (SeatState StreamStep) → List (List Taken)
+taken_by seats = map (λ (s : SeatState StreamStep). taken_in s.own) seats
+
+-- what a drainer took is what its stream has: the stream stands for a history of calls, each answered as in that history, of
+-- which one seat's takes answered just these packets, in order of their numbers; and each has as many records as was answered,
+-- and is kept in the chunk that was answered, or was cleared since
+pub record IsTakenFrom (taken : List Taken) (stream : StreamState) : Type 0 where
+  pub lines : List (Line StreamStep)
+  pub accounted : IsAccounted (all_done lines) stream
+  pub who : ℕ
+  pub own : taken ≡ taken_in (done_by who lines)
+  pub rise : IsStrictlyIncreasing (map (λ (t : Taken). t.seq) taken)
+  pub were : AllByRecursion (WasTaken (history_of stream.config (all_done lines))) taken

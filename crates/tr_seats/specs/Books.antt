@@ -35,14 +35,16 @@ books_of offered discarded overwritten overwritten_packets consumed cuts cleared
   journal = journal;
 }
 
--- the session as it was configured, the books of its streams, in order of number, and the tally of what they are offered
+-- the session as it was configured, the books of its streams, in order of number, the tally of what they are offered, and the
+-- table of the journal of its desk
 pub record PlanState : Type 0 where
   pub session : SessionOf StreamState
   pub books : List Books
   pub tally : TallyState
+  pub desk : TableId
 
-abbrev pub plan_state : SessionOf StreamState → List Books → TallyState → PlanState
-plan_state session books tally = record { session = session; books = books; tally = tally }
+abbrev pub plan_state : SessionOf StreamState → List Books → TallyState → TableId → PlanState
+plan_state session books tally desk = record { session = session; books = books; tally = tally; desk = desk }
 
 abbrev pub no_table : TableId
 no_table = record { words = 0; slots = 0; views_name = 0; atom = 0; block = 0; offset = 0; slot_names = [] }
@@ -51,7 +53,7 @@ abbrev pub no_books : Books
 no_books = books_of no_table no_table no_table no_table no_table no_table no_table no_table
 
 abbrev pub no_plan : PlanState
-no_plan = plan_state (new_session [] (pos 0) Local) [] (tally_state no_table 0 0)
+no_plan = plan_state (new_session [] (pos 0) Local) [] (tally_state no_table 0 0) no_table
 
 -- the books of the stream of this number
 abbrev pub books_at : List Books → ℕ → Books

@@ -1,9 +1,10 @@
 -- What settling answers.
 use Rattle.std.specs.Prelude.{◌≡◌, ◌≢◌, ℕ, ◌+◌, ◌<◌, ◌≤◌, ◌==◌, List, Some, length, map, sum, count_by, slice_get, slice_index, slice_index_or, All}
 use Rattle.std.specs.List.{sum_by}
-use Rattle.tr_seats.specs.Accounts.{IsAccountOf}
+use Rattle.tr_seats.specs.Accounts.{IsAccountOf, IsTakenFrom}
 use Rattle.tr_seats.specs.Books.{IsPlanned, PlanState}
 use Rattle.tr_seats.specs.Desks.{DeskState, IsOfPlan}
+use Rattle.tr_seats.specs.Drainers.{DrainerState, taken_at}
 use Rattle.tr_seats.specs.Slots.{IsOwn, ProducerState, SlotState}
 use Rattle.tr_seats.specs.Sums.{totals_in}
 use Rattle.tr_seats.specs.declared.settling.SettleError.{SettleError}
@@ -31,13 +32,13 @@ pub record IsSessionOf (plan : PlanState) (s : SessionOf StreamState) : Type 0 w
   pub streams : (i : ℕ) (t : StreamState) → slice_get s.streams i ≡ Some t → IsPlanned plan i t.config
 
 -- the sums of what all seats have: the producers', the drainers' and the desk's
-abbrev pub totals_of_seats : List ProducerState → List (List ℕ) → DeskState → Totals
+abbrev pub totals_of_seats : List ProducerState → List DrainerState → DeskState → Totals
 totals_of_seats producers drainers desk = record {
   offered = sum_by (λ (p : ProducerState). p.offered) producers;
   discarded = sum_by (λ (p : ProducerState). p.discarded) producers;
   overwritten = sum_by (λ (p : ProducerState). p.overwritten) producers;
   overwritten_packets = sum_by (λ (p : ProducerState). p.overwritten_packets) producers;
-  consumed = sum desk.consumed + sum_by sum drainers;
+  consumed = sum desk.consumed + sum_by (λ (d : DrainerState). sum d.amounts) drainers;
   cuts = sum desk.cuts;
   cleared = sum desk.cleared;
 }
@@ -53,9 +54,9 @@ WereConsumed t streams =
     (t.consumed ≡ sum_by (λ (s : StreamState). in_parts s.parts) streams + sum_by (λ (s : StreamState). s.counters.withdrawn) streams)
     × (sum_by (λ (s : StreamState). s.counters.withdrawn) streams ≤ t.cleared)
 
--- what the drainers took from the stream of this number
-abbrev pub taken_of : List (List ℕ) → ℕ → ℕ
-taken_of drainers i = sum_by (λ (amounts : List ℕ). slice_index amounts i) drainers
+-- how many records the drainers took from the stream of this number
+abbrev pub taken_of : List DrainerState → ℕ → ℕ
+taken_of drainers i = sum_by (λ (d : DrainerState). slice_index d.amounts i) drainers
 
 -- one producer for each of n streams, in any order
 abbrev pub IsOneEach : ℕ → List ProducerState → Type 0
@@ -98,8 +99,13 @@ abbrev pub AreAccountsOf : List ProducerState → List StreamState → Type 0
 AreAccountsOf producers streams = (k : ℕ) (p : ProducerState) (t : StreamState) → k < length producers
     → IsAccountOf (slice_index_or producers k p).steps (slice_index_or streams (slice_index_or producers k p).number t)
 
+-- the packets that each drainer took from each stream are what that stream has
+abbrev pub ArePacketsOf : List DrainerState → List StreamState → Type 0
+ArePacketsOf drainers streams = (k i : ℕ) (d : DrainerState) (t : StreamState) → k < length drainers → i < length streams
+    → IsTakenFrom (taken_at (slice_index_or drainers k d) i) (slice_index_or streams i t)
+
 -- what was consumed of each stream is what the desk's seat of it and the drainers' have
-abbrev pub HaveConsumed : List ℕ → List (List ℕ) → List StreamState → Type 0
+abbrev pub HaveConsumed : List ℕ → List DrainerState → List StreamState → Type 0
 HaveConsumed desk drainers streams = (k : ℕ) (t : StreamState) → k < length streams
     → (totals_in (slice_index_or streams k t)).consumed ≡ slice_index desk k + taken_of drainers k
 

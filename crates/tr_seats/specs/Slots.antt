@@ -1,5 +1,5 @@
 -- A stream under its lock, and the seats that its calls move.
-use Rattle.std.specs.Prelude.{◌≡◌, ℕ, ◌+◌, ◌<◌, ◌==◌, List, [], ◌∷◌, ◌++◌, map, length, Result, Ok, Err, All, slice_index, slice_index_or, slice_set, if◌then◌else◌, nat_le}
+use Rattle.std.specs.Prelude.{◌≡◌, ℕ, ◌+◌, ◌<◌, ◌==◌, List, [], ◌∷◌, ◌++◌, map, length, Result, Ok, Err, All, slice_index_or, if◌then◌else◌, nat_le}
 use Rattle.atomic_table.specs.Seated.{TableId}
 use Rattle.tr_accounts.specs.StreamSteps.{offer_step}
 use Rattle.tr_accounts.specs.declared.step.StreamStep.{StreamStep}
@@ -109,11 +109,6 @@ slot_take_answer i slot = if i == slot.number then state_take_answer slot.stream
 
 abbrev pub slot_after_take : ℕ → SlotState → SlotState
 slot_after_take i slot = if i == slot.number then record slot { stream = state_after_take slot.stream } else slot
-
--- what an answer does to a drainer's seats, one for each stream: that of this stream rises by the records taken
-abbrev pub drainer_after : Result Taken TakeFault → ℕ → List ℕ → List ℕ
-drainer_after (Ok taken) i amounts = slice_set amounts i (slice_index amounts i + taken.count)
-drainer_after (Err fault) i amounts = amounts
 
 -- ---- seats
 

@@ -1,10 +1,10 @@
 //! What is noted of a stream's calls under its lock.
 
-ghost use Rattle.std.specs.Prelude.{◌≡◌, IfOk};
+ghost use Rattle.std.specs.Prelude.{◌≡◌, ◌<◌, IfOk};
 ghost use Rattle.tr_accounts.specs.Seats.{desk_seat, producer_seat};
 ghost use Rattle.tr_accounts.specs.StreamSteps.{clear_step, cut_step, offer_step, switch_step, take_step};
-ghost use Rattle.tr_journal.specs.Journals.{IsSeatOf, journal_after, new_seat, seat_after};
-ghost use Rattle.tr_seats.specs.Accounts.{IsNewAccount, take_seat};
+ghost use Rattle.tr_journal.specs.Journals.{IsSeatOf, journal_after, journal_with_seat, new_seat, seat_after};
+ghost use Rattle.tr_seats.specs.Accounts.{IsNewAccount};
 
 use std::alloc::{AllocError, Allocator, Global};
 use std::marker::Model;
@@ -13,13 +13,12 @@ use tr_journal::{Journal, Seat};
 use tr_stream::{ClearFault, Cleared, CutDone, CutFault, OfferFault, Offered, TakeFault, Taken};
 use tr_terms::Moment;
 
-/// A stream's journal, with the seat of its operations and one of its takes; its producer has that of its offers. Contracts
-/// see a `JournalState`.
+/// A stream's journal, with the seat of its operations; its producer has that of its offers, and each drainer one of its
+/// takes. Contracts see a `JournalState`.
 #[derive(Drop)]
 pub(crate) struct Account<A: Allocator = Global> {
     journal: Journal<StreamStep, A>,
     desk: Seat<StreamStep>,
-    takes: Seat<StreamStep>,
 }
 
 impl<A: Allocator> Model for Account<A> {
@@ -31,7 +30,24 @@ impl<A: Allocator> Model for Account<A> {
 
     ghost view = { λ a. a.journal };
 
-    ghost invariant = { λ a. HasSeats a.journal a.desk a.takes };
+    ghost invariant = { λ a. HasSeats a.journal a.desk };
+}
+
+/// A drainer's seat in the journal of a stream, by that stream's number: a seat without bytes can't be lent by its place.
+/// Contracts see a `SeatState`.
+#[derive(Drop)]
+pub(crate) struct TakeSeat {
+    stream: usize,
+    noted: Seat<StreamStep>,
+}
+
+impl Model for TakeSeat {
+    ghost use Rattle.tr_accounts.specs.declared.step.StreamStep.{StreamStep};
+    ghost use Rattle.tr_journal.specs.Journals.{SeatState};
+
+    ghost Value = { SeatState StreamStep };
+
+    ghost view = { λ s. s.noted };
 }
 
 impl<A: Allocator> Account<A> {
@@ -41,13 +57,17 @@ impl<A: Allocator> Account<A> {
     {
         let (mut journal, producer) = Journal::open(alloc)?;
         let desk = journal.split();
-        let takes = journal.split();
-        let account = Account {
-            journal,
-            desk,
-            takes,
-        };
-        Ok((account, producer))
+        Ok((Account { journal, desk }, producer))
+    }
+
+    /// A new seat for the takes of one drainer from the stream of this number. It takes no memory.
+    pub(crate) fn split(&mut self, stream: usize) -> TakeSeat
+        ensures account { self.new ≡ journal_with_seat self.old }
+        ensures seat { result ≡ new_seat self.old.table self.old.made }
+        ensures drainer { desk_seat < result.who }
+    {
+        let noted = self.journal.split();
+        TakeSeat { stream, noted }
     }
 
     /// The producer offered a record, and this was answered.
@@ -68,11 +88,13 @@ impl<A: Allocator> Account<A> {
         note_offer(&mut self.journal, producer, moment, id, payload, answer);
     }
 
-    /// A packet was taken, or this was answered.
-    pub(crate) fn note_take(&mut self, answer: Result<Taken, TakeFault>)
-        ensures { self.new ≡ journal_after take_seat (take_step answer) self.old }
+    /// A drainer took a packet, or this was answered.
+    pub(crate) fn note_take(&mut self, drainer: &mut TakeSeat, answer: Result<Taken, TakeFault>)
+        requires { drainer.old.table ≡ self.old.table }
+        ensures account { self.new ≡ journal_after drainer.old.who (take_step answer) self.old }
+        ensures seat { drainer.new ≡ seat_after (take_step answer) drainer.old }
     {
-        note_take(&mut self.journal, &mut self.takes, answer);
+        note_take(&mut self.journal, &mut drainer.noted, answer);
     }
 
     /// The stream was cut, and this was answered.
@@ -103,5 +125,14 @@ impl<A: Allocator> Account<A> {
         ensures own { IsSeatOf self.old producer.old }
     {
         self.journal.audit(producer);
+    }
+
+    /// Changes nothing, and shows that what a drainer noted is all that is noted in its seat's name.
+    pub(crate) fn audit_takes(&mut self, drainer: &mut TakeSeat)
+        requires { drainer.old.table ≡ self.old.table }
+        ensures same { (self.new ≡ self.old) × (drainer.new ≡ drainer.old) }
+        ensures own { IsSeatOf self.old drainer.old }
+    {
+        self.journal.audit(&mut drainer.noted);
     }
 }

@@ -1,12 +1,17 @@
 //! The book of a session, as its lock guards it.
 
-ghost use Rattle.std.specs.Prelude.{◌≡◌, ◌≢◌, Err, IsOk};
+ghost use Rattle.std.specs.Prelude.{◌≡◌, ◌≢◌, [], Err, IsOk};
+ghost use Rattle.tr_operations.specs.Operations.{IsOperatorOf};
+ghost use Rattle.tr_operations.specs.declared.step.DeskStep.TheVariants as step;
 ghost use Rattle.tr_seats.specs.Books.{IsPlan};
 ghost use Rattle.tr_seats.specs.Desks.{IsOfPlan, desk_after_begin, desk_begin_answer};
+ghost use Rattle.tr_seats.specs.Operators.{with_step};
 ghost use Rattle.tr_session_book.specs.BookSteps.{book_after_start, book_after_stop, book_start_answer, book_stop_answer};
 
 use crate::drainer::DrainerBegun;
 use crate::names::Names;
+use crate::noted_book::NotedBook;
+use crate::operator::Operator;
 use std::alloc::{Allocator, Global};
 use std::marker::{Model, PhantomData};
 use tr_ledger::Seat;
@@ -14,10 +19,11 @@ use tr_session_book::{SessionBook, SessionFault};
 use tr_terms::Moment;
 use tr_terms::limits::MOST_DRAINERS;
 
-/// A session's book, and the seats of what rotations consume and cut, and of what clears remove. Contracts see a `DeskState`.
+/// A session's book with the journal of its operators' steps, and the seats of what rotations consume and cut, and of what clears
+/// remove. Contracts see a `DeskState`.
 #[derive(Drop)]
 pub struct Desk<N: Names, A: Allocator = Global> {
-    pub(crate) book: SessionBook<A>,
+    pub(crate) book: NotedBook<N, A>,
     pub(crate) drainers: u64,
     pub(crate) consumed: Vec<Seat, A>,
     pub(crate) cuts: Vec<Seat, A>,
@@ -38,6 +44,22 @@ impl<N: Names, A: Allocator> Model for Desk<N, A> {
 }
 
 impl<N: Names, A: Allocator> Desk<N, A> {
+    /// A new operator, who did nothing at this desk yet. It takes no memory.
+    pub fn operator(&mut self) -> Operator<N>
+        ensures same { self.new ≡ self.old }
+        ensures new { result ≡ [] }
+    {
+        self.book.operator()
+    }
+
+    /// Changes nothing, and shows that what an operator did is what the session's book has.
+    pub fn audit_operator(&mut self, operator: &mut Operator<N>)
+        ensures same { (self.new ≡ self.old) × (operator.new ≡ operator.old) }
+        ensures own { IsOperatorOf N.plan.session.book operator.old self.old.book }
+    {
+        self.book.audit(operator);
+    }
+
     /// Starts the session at a moment, as its book does: its streams are to be switched next.
     ///
     /// # Errors
@@ -47,7 +69,25 @@ impl<N: Names, A: Allocator> Desk<N, A> {
         ensures answer { result ≡ book_start_answer self.old.book }
         ensures after { self.new ≡ record self.old { book = book_after_start moment self.old.book } }
     {
-        self.book.start(moment)
+        let mut operator = self.operator();
+        self.start_by(&mut operator, moment)
+    }
+
+    /// The same, in an operator's name.
+    ///
+    /// # Errors
+    ///
+    /// Those of `start`: the operator has the call with its answer too.
+    pub fn start_by(
+        &mut self,
+        operator: &mut Operator<N>,
+        moment: Moment,
+    ) -> Result<(), SessionFault>
+        ensures answer { result ≡ book_start_answer self.old.book }
+        ensures after { self.new ≡ record self.old { book = book_after_start moment self.old.book } }
+        ensures steps { operator.new ≡ with_step (step.Start moment result) operator.old }
+    {
+        self.book.start(operator, moment)
     }
 
     /// Stops the session, as its book does: its streams are to be switched next.
@@ -59,7 +99,21 @@ impl<N: Names, A: Allocator> Desk<N, A> {
         ensures answer { result ≡ book_stop_answer self.old.book }
         ensures after { self.new ≡ record self.old { book = book_after_stop self.old.book } }
     {
-        self.book.stop()
+        let mut operator = self.operator();
+        self.stop_by(&mut operator)
+    }
+
+    /// The same, in an operator's name.
+    ///
+    /// # Errors
+    ///
+    /// Those of `stop`: the operator has the call with its answer too.
+    pub fn stop_by(&mut self, operator: &mut Operator<N>) -> Result<(), SessionFault>
+        ensures answer { result ≡ book_stop_answer self.old.book }
+        ensures after { self.new ≡ record self.old { book = book_after_stop self.old.book } }
+        ensures steps { operator.new ≡ with_step (step.Stop result) operator.old }
+    {
+        self.book.stop(operator)
     }
 
     /// Begins a drainer: it is counted, and has room for the seats of all streams. Only this call of those that make a drainer
@@ -69,6 +123,8 @@ impl<N: Names, A: Allocator> Desk<N, A> {
     ///
     /// `TooMany`, `NoMemory`: nothing changed.
     pub fn begin_drainer(&mut self, alloc: A) -> Result<DrainerBegun<N, A>, SessionFault>
+    where
+        A: Copy,
         ensures value { result ≢ Err SessionFault.NoMemory →
             (result ≡ desk_begin_answer self.old) × (self.new ≡ desk_after_begin self.old) }
         ensures no_memory { result ≡ Err SessionFault.NoMemory → self.new ≡ self.old }
@@ -102,6 +158,6 @@ impl<N: Names, A: Allocator> Desk<N, A> {
         ensures value { result.now ≡ self.now.book }
         ensures planned { IsPlan N.plan × IsOfPlan N.plan.session.book self.now.book }
     {
-        &self.book
+        self.book.book()
     }
 }

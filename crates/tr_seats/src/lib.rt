@@ -1,5 +1,5 @@
-//! A session apart, as its locks guard it: streams with their ledgers, the producers and drainers that share these, and the
-//! settling of all seats. Nothing here waits: each call is lent the values that it changes.
+//! A session apart, as its locks guard it: streams with their ledgers, the producers and drainers that share these, the
+//! operators at its desk, and the settling of all seats. Nothing here waits: each call is lent the values that it changes.
 //!
 //! The desk has the session's book, and a slot for each stream has the stream and its seven ledgers. A producer has the whole
 //! seats of the offers to its stream, and a drainer a seat of what is consumed of each.
@@ -24,8 +24,11 @@
 //! - An offer is noted in the stream's journal with its answer, refused ones too, and is the last of its producer's list. The
 //!   stream represents a history of calls, each answered as in that history, among which the offers are just that list; it
 //!   holds the accepted ones, each at its serial, and nothing else (`IsAccountOf`).
-//! - A take answers and steps as the stream's does, and adds the number of records taken, at least one, to the drainer's seat
-//!   of that stream.
+//! - A take answers and steps as the stream's does, adds the number of records taken, at least one, to the drainer's seat of
+//!   that stream, and is the last of the drainer's list.
+//! - A step at the desk is noted with its answer, and is the last of its operator's list. The session's book is what all noted
+//!   steps lead to from the one that was planned, each answered as the book answers it there (`IsOperatorOf`). A stream is
+//!   switched to what the book is.
 //! - A cut is the session's rule on its desk and one slot: at the pending rotation's end, in order of stream. What it moves
 //!   goes to the desk's seats. Each stream has as many closed chunks as there are archives, and one more if the pending
 //!   rotation has cut it.
@@ -38,10 +41,11 @@
 //!   its place, and no stream gave a seat to another number of drainers. Otherwise all comes back as it was, with the first
 //!   of these that is missing. It takes no memory.
 //! - What is settled is a session again, the one that was planned. Each producer's numbers are those of its own stream, and its
-//!   offers what that stream has. What
-//!   was consumed of a stream is what the desk's and the drainers' seats of it have, and what was cleared of it what another
-//!   seat of the desk has. The totals are the sums over its streams, and the sums over all seats. What was offered is
-//!   discarded, overwritten, cleared, in a ring or in a part, and what was consumed is in a part or was cleared since.
+//!   offers what that stream has. The packets that a drainer took are takes of a history that the stream represents, and each is
+//!   kept in the chunk that was answered or was cleared since. What was consumed of a stream is what the desk's and the drainers'
+//!   seats of it have, and what was cleared of it what another seat of the desk has. The totals are the sums over its streams,
+//!   and the sums over all seats. What was offered is discarded, overwritten, cleared, in a ring or in a part, and what was
+//!   consumed is in a part or was cleared since.
 //!
 //! That a slot and a seat are of one plan is no refusal: both have the plan as a parameter of their type (`Names`), so a seat
 //! of another session isn't accepted.
@@ -63,8 +67,10 @@ mod laws;
 mod making;
 mod names;
 mod naming;
+mod noted_book;
 mod opened;
 mod operating;
+mod operator;
 mod planned;
 mod producer;
 mod settled;
@@ -78,6 +84,7 @@ pub use laws::{every_clear, every_cut, every_step};
 pub use making::{plan, plan_watched};
 pub use names::Names;
 pub use opened::{Opened, Unsettled};
+pub use operator::Operator;
 pub use planned::Plan;
 pub use producer::Producer;
 pub use settled::Settled;

@@ -7,6 +7,7 @@ ghost use Rattle.tr_stream.specs.Rules.{by_history, by_state};
 
 use crate::planned::{Plan, PlannedStream};
 use std::alloc::{AllocError, Allocator};
+use tr_journal::Journal;
 use tr_session::{Config, configure};
 use tr_session_book::SessionFault;
 use tr_stream::Stream;
@@ -46,6 +47,7 @@ pub fn plan_watched<A: Allocator + Copy>(
     ensures refused { IfErr result
         (λ fault. fault ≢ SessionFault.NoMemory → session_of_config by_history config.now ≡ Err fault) }
 {
+    let (journal, _) = Journal::open(alloc)?;
     let (book, streams) = configure(alloc, config)?.into_parts();
     let (tally, tellers, watchers) = Tally::new(alloc, streams.len(), watchers)?;
     let streams = open_all(alloc, streams, tellers)?;
@@ -55,6 +57,7 @@ pub fn plan_watched<A: Allocator + Copy>(
         streams,
         tally,
         watchers,
+        journal,
     })
 }
 

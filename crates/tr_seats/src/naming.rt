@@ -9,6 +9,7 @@ ghost use Rattle.tr_tally.specs.Tallies.{teller_state};
 
 use crate::desk::Desk;
 use crate::names::Names;
+use crate::noted_book::NotedBook;
 use crate::opened::Opened;
 use crate::planned::PlannedStream;
 use crate::producer::Producer;
@@ -16,7 +17,6 @@ use crate::slot::Slot;
 use std::alloc::{AllocError, Allocator, Global};
 use std::marker::{Model, PhantomData};
 use tr_ledger::Seat;
-use tr_session_book::SessionBook;
 use tr_stream::Stream;
 
 /// The streams that have their names so far. Contracts see how many there are.
@@ -88,7 +88,7 @@ impl<N: Names, A: Allocator + Copy> Named<N, A> {
     pub(crate) fn finish(
         self,
         alloc: A,
-        book: SessionBook<A>,
+        book: NotedBook<N, A>,
         room: Vec<Stream<A>, A>,
     ) -> (Opened<N, A>, Vec<Producer<N, A>, A>)
         requires all { self ≡ length N.plan.books }

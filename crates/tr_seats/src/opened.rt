@@ -1,13 +1,15 @@
 //! A session out of its locks.
 
 ghost use Rattle.std.specs.Prelude.{◌≡◌, ◌+◌, ◌≤◌, IfErr, IfOk, length, sum_by, vec_capacity, vec_len};
-ghost use Rattle.tr_seats.specs.Settling.{AddUp, AreAccountsOf, AreTheirs, CanSettle, HaveCleared, HaveConsumed, WereConsumed, IsSessionOf, IsWhy, opened_state, streams_of, totals_of_seats};
+ghost use Rattle.tr_operations.specs.Operations.{IsOperatorOf};
+ghost use Rattle.tr_seats.specs.Settling.{AddUp, AreAccountsOf, ArePacketsOf, AreTheirs, CanSettle, HaveCleared, HaveConsumed, WereConsumed, IsSessionOf, IsWhy, opened_state, streams_of, totals_of_seats};
 ghost use Rattle.tr_seats.specs.Sums.{totals_of};
 ghost use Rattle.tr_session.specs.Session.{session_of};
 
 use crate::desk::Desk;
 use crate::drainer::Drainer;
 use crate::names::Names;
+use crate::operator::Operator;
 use crate::producer::Producer;
 use crate::settled::Settled;
 use crate::settling::{SettleError, settle_all, why_not};
@@ -88,6 +90,14 @@ impl<N: Names, A: Allocator> Opened<N, A> {
         } = self;
         (alloc, desk, slots, room)
     }
+
+    /// Changes nothing, and shows that what an operator did is what the session's book has.
+    pub fn audit_operator(&mut self, operator: &mut Operator<N>)
+        ensures same { (self.new ≡ self.old) × (operator.new ≡ operator.old) }
+        ensures own { IsOperatorOf N.plan.session.book operator.old self.old.desk.book }
+    {
+        self.desk.audit_operator(operator);
+    }
 }
 
 impl<N: Names, A: Allocator + Copy> Opened<N, A> {
@@ -112,6 +122,7 @@ impl<N: Names, A: Allocator + Copy> Opened<N, A> {
         ensures own { IfOk result (λ r. AreTheirs producers.items r.0.streams) }
         ensures accounts { IfOk result (λ r. AreAccountsOf producers.items r.0.streams) }
         ensures taken { IfOk result (λ r. HaveConsumed self.desk.consumed drainers.items r.0.streams) }
+        ensures packets { IfOk result (λ r. ArePacketsOf drainers.items r.0.streams) }
         ensures cleared { IfOk result (λ r. HaveCleared self.desk.cleared r.0.streams) }
         ensures places { IfOk result (λ r. AddUp r.1 (streams_of self.slots)) }
         ensures consumed { IfOk result (λ r. WereConsumed r.1 (streams_of self.slots)) }

@@ -1,7 +1,9 @@
-//! What an operator does at a desk: schedules, rotations with their cuts, and the beginning of snapshots.
+//! What an operator does at a desk: schedules, switches, rotations with their cuts, and the beginning of snapshots.
 
 ghost use Rattle.std.specs.Prelude.{◌≡◌, ◌≢◌, ◌+◌, ◌<◌, ◌^◌, Ok, Err, IsOk, length};
+ghost use Rattle.tr_operations.specs.declared.step.DeskStep.TheVariants as step;
 ghost use Rattle.tr_seats.specs.Cuts.{desk_after_cut, desk_cut_answer, slot_after_cut};
+ghost use Rattle.tr_seats.specs.Operators.{operator_after_cut, operator_after_switch, slot_after_switch, switch_answer, with_step};
 ghost use Rattle.tr_seats.specs.Sums.{totals_in};
 ghost use Rattle.tr_session.specs.Steps.{cut_as_step};
 ghost use Rattle.tr_session_book.specs.BookSteps.{book_after_rotate_begin, book_after_rotate_finish, book_after_schedule, book_after_snapshot_begin, book_rotate_begin_answer, book_rotate_finish_answer, book_schedule_answer, book_snapshot_begin_answer, chunks_closed, cut_moment};
@@ -9,6 +11,7 @@ ghost use Rattle.tr_stream.specs.StateSteps.{state_after_cut, state_cut_answer};
 
 use crate::desk::Desk;
 use crate::names::Names;
+use crate::operator::Operator;
 use crate::slot::Slot;
 use std::alloc::Allocator;
 use tr_schedule::Schedule;
@@ -27,7 +30,50 @@ impl<N: Names, A: Allocator> Desk<N, A> {
         ensures answer { result ≡ book_schedule_answer self.old.book }
         ensures after { self.new ≡ record self.old { book = book_after_schedule schedule self.old.book } }
     {
-        self.book.set_schedule(schedule)
+        let mut operator = self.operator();
+        self.set_schedule_by(&mut operator, schedule)
+    }
+
+    /// The same, in an operator's name.
+    ///
+    /// # Errors
+    ///
+    /// Those of `set_schedule`: the operator has the call with its answer too.
+    pub fn set_schedule_by(
+        &mut self,
+        operator: &mut Operator<N>,
+        schedule: Option<Schedule>,
+    ) -> Result<(), SessionFault>
+        ensures answer { result ≡ book_schedule_answer self.old.book }
+        ensures after { self.new ≡ record self.old { book = book_after_schedule schedule self.old.book } }
+        ensures steps { operator.new ≡ with_step (step.SetSchedule schedule result) operator.old }
+    {
+        self.book.set_schedule(operator, schedule)
+    }
+
+    /// Switches the stream in a slot, which is to be that of number `i`, in an operator's name: it takes offers from now on if
+    /// the session is active, and else refuses them.
+    ///
+    /// # Errors
+    ///
+    /// `Misplaced` if another stream is in the slot: nothing changed, and the operator didn't do it.
+    pub fn switch_by(
+        &mut self,
+        operator: &mut Operator<N>,
+        slot: &mut Slot<N, A>,
+        i: usize,
+    ) -> Result<(), SessionFault>
+        ensures answer { result ≡ switch_answer i slot.old }
+        ensures slot { slot.new ≡ slot_after_switch i self.old slot.old }
+        ensures same { self.new ≡ self.old }
+        ensures steps { operator.new ≡ operator_after_switch i self.old slot.old operator.old }
+    {
+        if i != slot.number() {
+            return Err(SessionFault::Misplaced);
+        }
+        let active = self.book.note_switch(operator, i);
+        slot.set_active(active);
+        Ok(())
     }
 
     /// Begins a snapshot, as the session's book does, and answers with the moment that is stored.
@@ -39,7 +85,25 @@ impl<N: Names, A: Allocator> Desk<N, A> {
         ensures answer { result ≡ book_snapshot_begin_answer moment self.old.book }
         ensures after { self.new ≡ record self.old { book = book_after_snapshot_begin moment self.old.book } }
     {
-        self.book.snapshot_begin(moment)
+        let mut operator = self.operator();
+        self.snapshot_begin_by(&mut operator, moment)
+    }
+
+    /// The same, in an operator's name.
+    ///
+    /// # Errors
+    ///
+    /// Those of `snapshot_begin`: the operator has the call with its answer too.
+    pub fn snapshot_begin_by(
+        &mut self,
+        operator: &mut Operator<N>,
+        moment: Moment,
+    ) -> Result<Moment, SessionFault>
+        ensures answer { result ≡ book_snapshot_begin_answer moment self.old.book }
+        ensures after { self.new ≡ record self.old { book = book_after_snapshot_begin moment self.old.book } }
+        ensures steps { operator.new ≡ with_step (step.SnapshotBegin moment result) operator.old }
+    {
+        self.book.snapshot_begin(operator, moment)
     }
 
     /// Ends a rotation that has cut every stream, as the session's book does. It takes no memory.
@@ -52,7 +116,22 @@ impl<N: Names, A: Allocator> Desk<N, A> {
         ensures mode { self.old.book.mode ≡ SessionMode.Snapshot → result ≡ Err SessionFault.NotPending }
         ensures after { self.new ≡ record self.old { book = book_after_rotate_finish self.old.book } }
     {
-        self.book.rotate_finish()
+        let mut operator = self.operator();
+        self.rotate_finish_by(&mut operator)
+    }
+
+    /// The same, in an operator's name.
+    ///
+    /// # Errors
+    ///
+    /// Those of `rotate_finish`: the operator has the call with its answer too.
+    pub fn rotate_finish_by(&mut self, operator: &mut Operator<N>) -> Result<Archive, SessionFault>
+        ensures answer { result ≡ book_rotate_finish_answer self.old.book }
+        ensures mode { self.old.book.mode ≡ SessionMode.Snapshot → result ≡ Err SessionFault.NotPending }
+        ensures after { self.new ≡ record self.old { book = book_after_rotate_finish self.old.book } }
+        ensures steps { operator.new ≡ with_step (step.RotateFinish result) operator.old }
+    {
+        self.book.rotate_finish(operator)
     }
 
     /// Changes nothing, and shows that the stream's closed chunks are the archives in number, and one more if the pending
@@ -79,7 +158,28 @@ impl<N: Names, A: Allocator + Copy> Desk<N, A> {
         ensures no_memory { result ≡ Err SessionFault.NoMemory → self.new ≡ self.old }
         ensures memory { result ≡ Err SessionFault.NoMemory → IsOk (book_rotate_begin_answer self.old.book) }
     {
-        self.book.rotate_begin(moment)
+        let mut operator = self.operator();
+        self.rotate_begin_by(&mut operator, moment)
+    }
+
+    /// The same, in an operator's name.
+    ///
+    /// # Errors
+    ///
+    /// Those of `rotate_begin`: the operator has the call with its answer too.
+    pub fn rotate_begin_by(
+        &mut self,
+        operator: &mut Operator<N>,
+        moment: Moment,
+    ) -> Result<u64, SessionFault>
+        ensures value { result ≢ Err SessionFault.NoMemory →
+            (result ≡ book_rotate_begin_answer self.old.book)
+            × (self.new ≡ record self.old { book = book_after_rotate_begin moment self.old.book }) }
+        ensures no_memory { result ≡ Err SessionFault.NoMemory → self.new ≡ self.old }
+        ensures memory { result ≡ Err SessionFault.NoMemory → IsOk (book_rotate_begin_answer self.old.book) }
+        ensures steps { operator.new ≡ with_step (step.RotateBegin moment result) operator.old }
+    {
+        self.book.rotate_begin(operator, moment)
     }
 
     /// Cuts the stream in a slot, which is to be that of number `i`, in the pending rotation, at that rotation's end. Streams
@@ -99,19 +199,47 @@ impl<N: Names, A: Allocator + Copy> Desk<N, A> {
         ensures memory { result ≡ Err (StepFault.Cut CutFault.NoMemory)
             → IsOk (desk_cut_answer i self.old slot.old) }
     {
+        let mut operator = self.operator();
+        self.cut_by(&mut operator, slot, i)
+    }
+
+    /// The same, in an operator's name.
+    ///
+    /// # Errors
+    ///
+    /// Those of `cut`: the operator has the call with its answer too, if the stream is in the slot.
+    pub fn cut_by(
+        &mut self,
+        operator: &mut Operator<N>,
+        slot: &mut Slot<N, A>,
+        i: usize,
+    ) -> Result<CutDone, StepFault>
+        ensures value { result ≢ Err (StepFault.Cut CutFault.NoMemory) →
+            (result ≡ desk_cut_answer i self.old slot.old) × (slot.new ≡ slot_after_cut i self.old slot.old) }
+        ensures seats { self.new ≡ desk_after_cut result i self.old }
+        ensures no_memory { result ≡ Err (StepFault.Cut CutFault.NoMemory) → slot.new ≡ slot.old }
+        ensures memory { result ≡ Err (StepFault.Cut CutFault.NoMemory)
+            → IsOk (desk_cut_answer i self.old slot.old) }
+        ensures steps { operator.new ≡ operator_after_cut result i slot.old operator.old }
+    {
         if i != slot.number() {
             return Err(StepFault::Session(SessionFault::Misplaced));
         }
         self.audit(slot);
-        match self.book.cut_moment(i as u64) {
-            Ok(moment) => self.cut_at(slot, i, moment),
-            Err(fault) => Err(StepFault::Session(fault)),
+        match self.book().cut_moment(i as u64) {
+            Ok(moment) => self.cut_at(operator, slot, i, moment),
+            Err(fault) => {
+                let fault = StepFault::Session(fault);
+                self.book.note_refused_cut(operator, i, fault);
+                Err(fault)
+            }
         }
     }
 
     /// Cuts a stream whose cut is due.
     fn cut_at(
         &mut self,
+        operator: &mut Operator<N>,
         slot: &mut Slot<N, A>,
         i: usize,
         moment: Moment,
@@ -126,14 +254,18 @@ impl<N: Names, A: Allocator + Copy> Desk<N, A> {
         ensures no_memory { result ≡ Err (StepFault.Cut CutFault.NoMemory) → slot.new ≡ slot.old }
         ensures memory { result ≡ Err (StepFault.Cut CutFault.NoMemory)
             → IsOk (state_cut_answer moment slot.old.stream) }
+        ensures steps { operator.new ≡ with_step (step.Cut i result) operator.old }
     {
         match slot.cut(&mut self.consumed[i], &mut self.cuts[i], moment) {
             Ok(done) => {
-                // the cut was due, so this isn't refused
-                let _ = self.book.note_cut(i as u64);
+                self.book.note_cut(operator, i, done);
                 Ok(done)
             }
-            Err(fault) => Err(StepFault::Cut(fault)),
+            Err(fault) => {
+                let fault = StepFault::Cut(fault);
+                self.book.note_refused_cut(operator, i, fault);
+                Err(fault)
+            }
         }
     }
 }

@@ -9,12 +9,15 @@ use crate::account::Account;
 use crate::both::both;
 use crate::names::Names;
 use crate::naming::Named;
+use crate::noted_book::NotedBook;
 use crate::opened::Opened;
 use crate::producer::Producer;
 use std::alloc::{AllocError, Allocator, Global};
 use std::marker::Model;
 use tr_accounts::StreamStep;
+use tr_journal::Journal;
 use tr_ledger::{Ledger, Seat};
+use tr_operations::DeskStep;
 use tr_session_book::{SessionBook, SessionFault};
 use tr_stream::Stream;
 use tr_tally::{Tally, Teller, Watcher};
@@ -106,8 +109,8 @@ impl<A: Allocator> PlannedStream<A> {
     }
 }
 
-/// A session before its first call: its book, its streams with their books, and the tally of what these are offered, with its
-/// watchers. Contracts see a `PlanState`.
+/// A session before its first call: its book, its streams with their books, the tally of what these are offered, with its
+/// watchers, and the journal of its desk. Contracts see a `PlanState`.
 #[derive(Drop)]
 pub struct Plan<A: Allocator = Global> {
     pub(crate) alloc: A,
@@ -115,10 +118,11 @@ pub struct Plan<A: Allocator = Global> {
     pub(crate) streams: Vec<PlannedStream<A>, A>,
     pub(crate) tally: Tally<A>,
     pub(crate) watchers: Vec<Watcher<A>, A>,
+    pub(crate) journal: Journal<DeskStep, A>,
 }
 
 impl<A: Allocator> Model for Plan<A> {
-    ghost use Rattle.std.specs.Prelude.{◌≡◌};
+    ghost use Rattle.std.specs.Prelude.{◌≡◌, []};
     ghost use Rattle.tr_seats.specs.Books.{IsPlan, PlanState, plan_state};
     ghost use Rattle.tr_seats.specs.Plans.{AreTellersFrom, AreUnused, PlannedState, books_in, streams_in, tellers_in};
     ghost use Rattle.tr_session.specs.Session.{session_of};
@@ -127,12 +131,12 @@ impl<A: Allocator> Model for Plan<A> {
     ghost Value = { PlanState };
 
     ghost view = { λ p.
-        plan_state (session_of p.book (streams_in p.streams.items)) (books_in p.streams.items) p.tally };
+        plan_state (session_of p.book (streams_in p.streams.items)) (books_in p.streams.items) p.tally p.journal.table };
 
     ghost invariant = { λ p.
-        IsPlan (plan_state (session_of p.book (streams_in p.streams.items)) (books_in p.streams.items) p.tally)
+        IsPlan (plan_state (session_of p.book (streams_in p.streams.items)) (books_in p.streams.items) p.tally p.journal.table)
         × AreUnused (streams_in p.streams.items) × AreTellersFrom 0 p.tally.table (tellers_in p.streams.items)
-        × (p.watchers.items ≡ new_watchers p.tally.table p.tally.streams p.tally.watchers) };
+        × (p.watchers.items ≡ new_watchers p.tally.table p.tally.streams p.tally.watchers) × (p.journal.lines ≡ []) };
 }
 
 /// A session out of its locks, the producers of its streams, and watchers.
@@ -174,13 +178,14 @@ impl<A: Allocator + Copy> Plan<A> {
             streams,
             tally: _,
             watchers,
+            journal,
         } = self;
         let room = Vec::with_capacity(alloc, streams.len())?;
         let mut named = Named::none(alloc);
         for planned in streams {
             named = named.with(planned)?;
         }
-        let (opened, producers) = named.finish(alloc, book, room);
+        let (opened, producers) = named.finish(alloc, NotedBook::new(book, journal), room);
         Ok((opened, producers, watchers))
     }
 }

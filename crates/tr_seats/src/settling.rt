@@ -2,11 +2,12 @@
 
 ghost use Rattle.std.specs.Prelude.{◌≡◌, ◌+◌, ◌<◌, ◌≤◌, ◌==◌, ◌↔◌, ℕ, IsTrue, MatchOption, count_by, length, map, slice_index_or, slice_set, sum, sum_by, vec_capacity, vec_len};
 ghost use Rattle.tr_ledger.specs.Ledgers.{SeatState, seat_state};
-ghost use Rattle.tr_seats.specs.Accounts.{IsAccountOf};
+ghost use Rattle.tr_seats.specs.Accounts.{IsAccountOf, IsTakenFrom};
 ghost use Rattle.tr_seats.specs.Books.{IsPlanned, books_at, cleared_books, consumed_books, cut_books};
 ghost use Rattle.tr_seats.specs.Desks.{DeskState};
+ghost use Rattle.tr_seats.specs.Drainers.{DrainerState, taken_at};
 ghost use Rattle.tr_seats.specs.Faults.{settle_error_code, settle_error_name};
-ghost use Rattle.tr_seats.specs.Settling.{AddUp, AreAccountsOf, AreAllMade, AreInPlace, AreTheirs, AreWhole, CanSettle, HaveCleared, HaveConsumed, IsOneEach, IsSessionOf, IsWhy, WereConsumed, opened_state, streams_of, taken_of, totals_of_seats};
+ghost use Rattle.tr_seats.specs.Settling.{AddUp, AreAccountsOf, AreAllMade, AreInPlace, ArePacketsOf, AreTheirs, AreWhole, CanSettle, HaveCleared, HaveConsumed, IsOneEach, IsSessionOf, IsWhy, WereConsumed, opened_state, streams_of, taken_of, totals_of_seats};
 ghost use Rattle.tr_seats.specs.Slots.{AreJoined, AreSeatsOf, IsOwn, ProducerState, SlotState, amounts_of};
 ghost use Rattle.tr_seats.specs.Sums.{totals_in, totals_of};
 ghost use Rattle.tr_session.specs.Session.{session_of};
@@ -186,6 +187,18 @@ fn audit_producers<N: Names, A: Allocator>(
     }
 }
 
+/// Changes nothing, and shows that the packets that a drainer took are what the streams have.
+fn audit_takes<N: Names, A: Allocator>(slots: &mut [Slot<N, A>], drainer: &mut Drainer<N, A>)
+    requires { (length slots.old ≡ length N.plan.books) × AreInPlace slots.old }
+    ensures same { (slots.new ≡ slots.old) × (drainer.new ≡ drainer.old) }
+    ensures taken { (i : ℕ) (s : SlotState) → i < length slots.old
+        → IsTakenFrom (taken_at drainer.old i) (slice_index_or slots.old i s).stream }
+{
+    for i in 0..slots.len() {
+        drainer.audit(&mut slots[i], i);
+    }
+}
+
 /// Changes nothing, and shows that whole seats have what the streams consumed.
 fn audit_consumed<N: Names, A: Allocator>(slots: &mut [Slot<N, A>], seats: &mut [Seat])
     requires slots { (length slots.old ≡ length N.plan.books) × AreInPlace slots.old }
@@ -275,7 +288,7 @@ fn join_row<N: Names, A: Allocator>(
     }
 }
 
-/// Joins the seats of all drainers into a row.
+/// Joins the seats of all drainers into a row, and shows that the packets that they took are what the streams have.
 fn join_drainers<N: Names, A: Allocator>(
     slots: &mut [Slot<N, A>],
     seats: &mut [Seat],
@@ -285,13 +298,18 @@ fn join_drainers<N: Names, A: Allocator>(
     requires seats { AreSeatsOf (consumed_books N.plan.books) seats.old }
     ensures slots { slots.new ≡ slots.old }
     ensures seats { AreJoined (length drainers.items + 1) (consumed_books N.plan.books) seats.new }
-    ensures amounts { sum (amounts_of seats.new) ≡ sum (amounts_of seats.old) + sum_by sum drainers.items }
+    ensures amounts { sum (amounts_of seats.new)
+        ≡ sum (amounts_of seats.old) + sum_by (λ (d : DrainerState). sum d.amounts) drainers.items }
     ensures each { (k : ℕ) (d : SeatState) → k < length N.plan.books
         → (slice_index_or seats.new k d).amount ≡ (slice_index_or seats.old k d).amount + taken_of drainers.items k }
+    ensures packets { (k i : ℕ) (d : DrainerState) (s : SlotState) → k < length drainers.items → i < length slots.old
+        → IsTakenFrom (taken_at (slice_index_or drainers.items k d) i) (slice_index_or slots.old i s).stream }
 {
-    for drainer in drainers {
+    for mut drainer in drainers {
+        audit_takes(slots, &mut drainer);
         let Drainer {
             seats: theirs,
+            takes: _,
             of: _,
         } = drainer;
         join_row(slots, seats, theirs);
@@ -332,6 +350,8 @@ fn join_all<N: Names, A: Allocator>(
     ensures taken { (k : ℕ) (d : SeatState) (s : SlotState) → k < length slots.old
         → (totals_in (slice_index_or slots.old k s).stream).consumed
         ≡ (slice_index_or mine.old k d).amount + taken_of drainers.items k }
+    ensures packets { (k i : ℕ) (d : DrainerState) (s : SlotState) → k < length drainers.items → i < length slots.old
+        → IsTakenFrom (taken_at (slice_index_or drainers.items k d) i) (slice_index_or slots.old i s).stream }
     ensures planned { (k : ℕ) (s : SlotState) → k < length slots.old
         → IsPlanned N.plan k (slice_index_or slots.old k s).stream.config }
 {
@@ -375,6 +395,7 @@ pub(crate) fn settle_all<N: Names, A: Allocator + Copy>(
     ensures own { AreTheirs producers.items (streams_of slots.items) }
     ensures accounts { AreAccountsOf producers.items (streams_of slots.items) }
     ensures taken { HaveConsumed desk.consumed drainers.items (streams_of slots.items) }
+    ensures packets { ArePacketsOf drainers.items (streams_of slots.items) }
     ensures cleared { HaveCleared desk.cleared (streams_of slots.items) }
     ensures places { AddUp result.1 (streams_of slots.items) }
     ensures consumed { WereConsumed result.1 (streams_of slots.items) }
@@ -400,7 +421,7 @@ pub(crate) fn settle_all<N: Names, A: Allocator + Copy>(
     );
     let streams = streams_out(slots, room);
     (
-        Settled::of(Session::from_parts(alloc, book, streams)),
+        Settled::of(Session::from_parts(alloc, book.into_book(), streams)),
         totals,
     )
 }

@@ -1,10 +1,12 @@
 //! A stream under a lock of its own.
 
 ghost use Rattle.std.specs.Prelude.{◌≡◌, ◌≢◌, ◌≤◌, ◌<◌, ◌+◌, ◌^◌, Ok, Err, IsOk, IfOk, OnErr, [], length};
-ghost use Rattle.tr_seats.specs.Accounts.{IsAccountOf};
+ghost use Rattle.tr_accounts.specs.StreamSteps.{taken_in};
+ghost use Rattle.tr_seats.specs.Accounts.{IsAccountOf, IsTakeSeat, IsTakenFrom};
 ghost use Rattle.tr_seats.specs.Clears.{seat_after_clear};
 ghost use Rattle.tr_seats.specs.Cuts.{seat_after_cut, seat_of_cuts_after};
-ghost use Rattle.tr_seats.specs.Slots.{IsOwn, drainer_after, producer_after, slot_after_offer, slot_after_split, slot_after_take, slot_offer_answer, slot_split_answer, slot_take_answer, serial_of};
+ghost use Rattle.tr_seats.specs.Drainers.{drainer_after};
+ghost use Rattle.tr_seats.specs.Slots.{IsOwn, producer_after, slot_after_offer, slot_after_split, slot_after_take, slot_offer_answer, slot_split_answer, slot_take_answer, serial_of};
 ghost use Rattle.tr_ledger.specs.Ledgers.{seat_state};
 ghost use Rattle.tr_seats.specs.Books.{IsPlanned, IsTooBig, books_at};
 ghost use Rattle.tr_seats.specs.Sums.{totals_in};
@@ -14,7 +16,7 @@ ghost use Rattle.tr_stream.specs.Kept.{IsKept};
 ghost use Rattle.tr_stream.specs.Steps.{ClearsSome};
 ghost use Rattle.tr_stream.specs.StateSteps.{state_after_clear, state_after_cut, state_after_switch, state_clear_answer, state_counts, state_cut_answer, state_snap};
 
-use crate::account::Account;
+use crate::account::{Account, TakeSeat};
 use crate::drainer::Drainer;
 use crate::names::Names;
 use crate::producer::Producer;
@@ -117,9 +119,9 @@ impl<N: Names, A: Allocator + Copy> Slot<N, A> {
         Ok(offered)
     }
 
-    /// Takes a packet as the stream does, and raises the drainer's seat of this stream by the packet's records, of which
-    /// there is at least one. A take from another stream than that of number `i` is `Misplaced`. A take that is refused
-    /// changes nothing.
+    /// Takes a packet as the stream does, raises the drainer's seat of this stream by the packet's records, of which there is
+    /// at least one, and notes the packet in its name. A take from another stream than that of number `i` is `Misplaced`. A
+    /// take that is refused changes nothing, and isn't noted.
     pub fn take(&mut self, drainer: &mut Drainer<N, A>, i: usize) -> Result<Taken, TakeFault>
         ensures value { result ≢ Err TakeFault.NoMemory →
             (result ≡ slot_take_answer i self.old) × (self.new ≡ slot_after_take i self.old) }
@@ -133,7 +135,7 @@ impl<N: Names, A: Allocator + Copy> Slot<N, A> {
         }
         self.stream.shows_kept();
         let taken = self.stream.take()?;
-        self.account.note_take(Ok(taken));
+        self.account.note_take(&mut drainer.takes[i], Ok(taken));
         self.stream.shows_kept();
         self.consumed.raise(&mut drainer.seats[i], taken.count);
         Ok(taken)
@@ -218,6 +220,25 @@ impl<N: Names, A: Allocator> Slot<N, A> {
             return Err(SessionFault::TooMany);
         }
         Ok(self.consumed.split())
+    }
+
+    /// A new seat of the takes from this stream, of which nothing was noted. It takes no memory.
+    pub(crate) fn split_takes(&mut self) -> TakeSeat
+        ensures slot { self.new ≡ self.old }
+        ensures seat { IsTakeSeat (books_at N.plan.books self.old.number).journal result }
+        ensures new { result.own ≡ [] }
+    {
+        self.account.split(self.number)
+    }
+
+    /// Changes nothing, and shows that what a drainer's seat noted of its takes is what the stream has.
+    pub(crate) fn audit_takes(&mut self, seat: &mut TakeSeat)
+        requires { IsTakeSeat (books_at N.plan.books self.old.number).journal seat.old }
+        ensures same { (self.new ≡ self.old) × (seat.new ≡ seat.old) }
+        ensures taken { IsTakenFrom (taken_in seat.old.own) self.old.stream }
+    {
+        self.stream.shows_kept();
+        self.account.audit_takes(seat);
     }
 
     /// Changes nothing, and shows that the numbers of the stream's producer are the stream's own, and that what it offered is

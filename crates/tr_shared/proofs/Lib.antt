@@ -3,4 +3,5 @@ pub mod ModeLemmas
 pub mod RotationLemmas
 pub mod ShownLemmas
 pub mod SnapLemmas
+pub mod StepLemmas
 pub mod WhyLemmas

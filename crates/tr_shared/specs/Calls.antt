@@ -2,8 +2,9 @@
 use Rattle.std.specs.Prelude.{◌≡◌, ◌≢◌, ◌≤◌, ◌<◌, ◌⊎◌, ◌+◌, ℕ, List, Result, Err, IfOk, length, slice_index_or, sum}
 use Rattle.std.specs.List.{sum_by}
 use Rattle.tr_seats.specs.Books.{IsPlanned, IsTooBig, PlanState}
+use Rattle.tr_seats.specs.Drainers.{DrainerState, drainer_after}
 use Rattle.tr_seats.specs.Settling.{taken_of}
-use Rattle.tr_seats.specs.Slots.{ProducerState, drainer_after, producer_after, serial_of, with_all_published}
+use Rattle.tr_seats.specs.Slots.{ProducerState, producer_after, serial_of, with_all_published}
 use Rattle.tr_seats.specs.Sums.{totals_in}
 use Rattle.tr_seats.specs.declared.totals.Totals.{Totals}
 use Rattle.tr_session_book.specs.declared.faults.SessionFault.{SessionFault}
@@ -22,15 +23,15 @@ use Rattle.tr_terms.specs.declared.session_mode.SessionMode.{SessionMode}
 use Rattle.tr_terms.specs.declared.session_mode.SessionMode.TheVariants.{Local, Snapshot}
 
 -- the totals have just what the producers offered, and what the drainers consumed is within them: the rest is the desk's
-pub record AreOffersOf (producers : List ProducerState) (drainers : List (List ℕ)) (t : Totals) : Type 0 where
+pub record AreOffersOf (producers : List ProducerState) (drainers : List DrainerState) (t : Totals) : Type 0 where
   pub offered : t.offered ≡ sum_by (λ (p : ProducerState). p.offered) producers
   pub discarded : t.discarded ≡ sum_by (λ (p : ProducerState). p.discarded) producers
   pub overwritten : t.overwritten ≡ sum_by (λ (p : ProducerState). p.overwritten) producers
   pub overwritten_packets : t.overwritten_packets ≡ sum_by (λ (p : ProducerState). p.overwritten_packets) producers
-  pub consumed : sum_by sum drainers ≤ t.consumed
+  pub consumed : sum_by (λ (d : DrainerState). sum d.amounts) drainers ≤ t.consumed
 
 -- what the drainers took from each stream is within what was consumed of it: the rest is the desk's
-abbrev pub HaveTaken : List (List ℕ) → List StreamState → Type 0
+abbrev pub HaveTaken : List DrainerState → List StreamState → Type 0
 HaveTaken drainers streams = (k : ℕ) (t : StreamState) → k < length streams
     → taken_of drainers k ≤ (totals_in (slice_index_or streams k t)).consumed
 
@@ -43,8 +44,8 @@ IsStartFault fault = (fault ≡ RotationPending) ⊎ (fault ≡ AlreadyActive) �
 abbrev pub IsStopFault : SessionFault → Type 0
 IsStopFault fault = (fault ≡ RotationPending) ⊎ (fault ≡ NotActive) ⊎ (fault ≡ Misplaced)
 
--- a take from a stream of a shared session: the drainer moves as the answer says, and a packet has a record
-abbrev pub IsTaken : ℕ → List ℕ → Result Taken TakeFault → List ℕ → Type 0
+-- a take from a stream of a shared session: the drainer has just this packet more, if it got one, and a packet has a record
+abbrev pub IsTaken : ℕ → DrainerState → Result Taken TakeFault → DrainerState → Type 0
 IsTaken i before answer after = (after ≡ drainer_after answer i before) × IfOk answer (λ (taken : Taken). 1 ≤ taken.count)
 
 -- the mode of a session decides what a take may answer: in a snapshot session nothing is consumed
@@ -66,8 +67,9 @@ pub record IsOfferTo (plan : PlanState) (before : ProducerState) (moment id : �
   pub too_big : answer ≡ Err offer_fault.TooBig → IsTooBig plan before.number (length payload)
   pub spent : answer ≡ Err offer_fault.Spent → MOST_OFFERS ≤ before.offered
 
--- what a take from the stream of this number answers to the owner of a drainer, and makes of it, in a session of this plan
-pub record IsTakeFrom (plan : PlanState) (before : List ℕ) (i : ℕ) (answer : Result Taken TakeFault) (after : List ℕ) : Type 0 where
+-- what a take from the stream of this number answers to the owner of a drainer, and makes of it, in a session of this plan: the
+-- drainer has just this packet more, if it got one
+pub record IsTakeFrom (plan : PlanState) (before : DrainerState) (i : ℕ) (answer : Result Taken TakeFault) (after : DrainerState) : Type 0 where
   pub seats : after ≡ drainer_after answer i before
   pub some : IfOk answer (λ (taken : Taken). 1 ≤ taken.count)
   pub mode : (config : StreamConfig) → IsPlanned plan i config → IsTakeOf config.session answer

@@ -1,12 +1,13 @@
 //! Clears of a shared session.
 
-ghost use Rattle.std.specs.Prelude.{◌≡◌, ◌↔◌, Err, IfErr};
+ghost use Rattle.std.specs.Prelude.{◌≡◌, ◌↔◌, Err, IfErr, length};
 ghost use Rattle.tr_shared.specs.Operating.{IsClearFault};
+ghost use Rattle.tr_shared.specs.Operators.{IsClearOf};
 
 use crate::shared::Shared;
 use std::alloc::Allocator;
 use std::sync::Wait;
-use tr_seats::Names;
+use tr_seats::{Names, Operator};
 use tr_session_book::SessionFault;
 use tr_terms::SessionMode;
 
@@ -23,12 +24,26 @@ impl<N: Names, A: Allocator + Copy> Shared<N, A> {
         ensures refused { IfErr result IsClearFault }
         ensures mode { result ≡ Err SessionFault.SnapshotMode ↔ N.plan.session.book.mode ≡ SessionMode.Snapshot }
     {
+        let mut operator = self.operator(rt);
+        self.clear_by(rt, &mut operator)
+    }
+
+    /// The same, in an operator's name.
+    ///
+    /// # Errors
+    ///
+    /// Those of `clear`.
+    pub fn clear_by(&self, rt: &impl Wait, operator: &mut Operator<N>) -> Result<u128, SessionFault>
+        ensures refused { IfErr result IsClearFault }
+        ensures mode { result ≡ Err SessionFault.SnapshotMode ↔ N.plan.session.book.mode ≡ SessionMode.Snapshot }
+        ensures steps { IsClearOf (length N.plan.books) operator.old result operator.new }
+    {
         let mut desk = self.desk.lock(rt);
         desk.shows_plan();
         desk.clear_allowed()?;
         let mut records = 0;
         for i in 0..self.slots.len() {
-            let cleared = desk.clear(&mut self.slots[i].lock(rt), i)?;
+            let cleared = desk.clear_by(operator, &mut self.slots[i].lock(rt), i)?;
             records += u128::from(cleared.records);
         }
         Ok(records)

@@ -19,8 +19,15 @@
 //! its caller keeps: the answer and the seats.
 //!
 //! - What a producer offered is what its stream has: an offer adds just itself, with its answer, to the producer's list. Once
-//!   settled, the stream represents a history whose offers are that list, each answered as it was, and each record that it holds has the id and the
-//!   payload that were offered at its serial, and no lesser moment.
+//!   settled, the stream represents a history whose offers are that list, each answered as it was, and each record that it
+//!   holds has the id and the payload that were offered at its serial, and no lesser moment.
+//! - What a drainer took is what the streams have: a take adds just its packet's number, count and chunk to the drainer's list
+//!   of that stream. Once settled, these are takes of a history that the stream represents, and each packet is kept in that
+//!   chunk or was cleared since.
+//! - What an operator did is what the desk has: a call in its name adds just its steps to its list, each at the moment that was
+//!   given and with its answer. A start or a stop that succeeds has switched every stream, a rotation has begun at its moment,
+//!   cut streams and ended with its archive, a clear has cleared every stream, and a snapshot shows the moment that was stored.
+//!   If the operator is lent to settling, the settled session's book is what its steps, among others', lead to (`settle_with`).
 //! - An offer moves its producer's seats by what was answered, and a take the drainer's seat of that stream, whatever other
 //!   threads do meanwhile.
 //! - When an offer returns, its producer has published how many of its offers were accepted, also if this one was refused.
@@ -47,15 +54,17 @@
 //!
 //! # What is only tested
 //!
-//! Contracts can't name a value under a lock. So only tests show that each call forwards to the call below and adds no
-//! refusals. Which locks a call holds, and from when to when, can be read in its few lines of code, and is in no contract: an
-//! offer and a take hold one stream's lock and no other; an operator holds the desk's, and then one stream's at most. Not
-//! promised by a call that takes a lock are:
+//! Contracts can't name a value under a lock: what a call did there shows in its caller's seats alone. An operator's call
+//! without an `Operator` has none, and makes the one with; only tests show that it does, and that no call adds refusals. Which
+//! locks a call holds, and from when to when, can be read in its few lines of code, and is in no contract: an offer and a take
+//! hold one stream's lock and no other; an operator holds the desk's, and then one stream's at most. Not promised by a call
+//! that takes a lock are:
 //!
-//! - the packet's and the chunk's number in a take's answer, and when it has `Nothing`;
+//! - when a take has `Nothing`;
 //! - that nothing is `Misplaced`;
-//! - that a start, a stop, a schedule or a step of a rotation does anything;
-//! - when a tick of a local session rotates, and the numbers, moments and causes in operators' answers;
+//! - that a start, a stop, a schedule or a step of a rotation without an operator does anything;
+//! - when a tick of a local session rotates, and why; how many streams a rotation cuts itself, since another operator may have
+//!   cut some of them;
 //! - how much later than the moment given a snapshot's is;
 //! - that the other streams of a snapshot are shown with all their records, and their ids and payloads;
 //! - in which order the streams of a session lie that isn't settled, and which stream `hold_stream` holds;
@@ -64,8 +73,9 @@
 //! So these bodies meet the contracts:
 //!
 //! - an offer that is always `Misplaced`, and a take that is always refused;
-//! - a start, a stop, a schedule or a rotation that only answers, a start at another moment, and an operator's call, a
-//!   drainer, a `build` or a snapshot that is always refused;
+//! - without an operator: a start, a stop, a schedule or a rotation that only answers, and a start at another moment;
+//! - a drainer, a `build` or a snapshot that is always refused, or a call with an operator that is refused for a stream that
+//!   isn't in its place or out of memory;
 //! - a tick that is always idle, and a snapshot without packets (except of its producer's stream);
 //! - a `hold_stream` that holds nothing, or the desk too;
 //! - a `settle` that is always refused by E2 or E3 once all producers are there;
@@ -121,8 +131,10 @@ mod operating;
 mod pooled;
 mod rotating;
 mod seats;
+mod settling;
 mod shared;
 mod snapshots;
+mod switching;
 
 pub use faults::SettleFault;
 pub use laws::{every_feed, every_rotation};
@@ -131,8 +143,8 @@ pub use shared::Shared;
 // What a shared session is made of, and what a program that records names.
 pub use tr_schedule::{Cause, Schedule, ScheduleFault};
 pub use tr_seats::{
-    Desk, Drainer, MOST_DRAINERS, Names, Plan, Producer, SettleError, Settled, Slot, Totals, plan,
-    plan_watched,
+    Desk, Drainer, MOST_DRAINERS, Names, Operator, Plan, Producer, SettleError, Settled, Slot,
+    Totals, plan, plan_watched,
 };
 pub use tr_session::{ChannelConfig, Config, Next, StepFault, Ticked};
 pub use tr_session_book::{Archive, Pending, SessionFault, State};

@@ -1,7 +1,9 @@
 //! What is shown of a stream that lies in its slot.
 
 ghost use Rattle.std.specs.Prelude.{◌≡◌, ◌≢◌, ◌≤◌, ◌⊎◌, ◌↔◌, Err, IfErr, IfOk, OnOk};
+ghost use Rattle.tr_operations.specs.declared.step.DeskStep.TheVariants as step;
 ghost use Rattle.tr_seats.specs.Books.{IsPlan};
+ghost use Rattle.tr_seats.specs.Operators.{with_step};
 ghost use Rattle.tr_session_book.specs.BookSteps.{book_after_snapshot_begin, book_snapshot_begin_answer};
 ghost use Rattle.tr_shared.specs.Operating.{IsLookFault};
 ghost use Rattle.tr_shared.specs.Shown.{IsLookAt, IsShown, IsShownFrom, IsShownWith};
@@ -11,13 +13,14 @@ ghost use Rattle.tr_stream.specs.StateSteps.{state_snap};
 
 use std::alloc::Allocator;
 use tr_book::StreamSnap;
-use tr_seats::{Desk, Names, Producer, Slot};
+use tr_seats::{Desk, Names, Operator, Producer, Slot};
 use tr_session_book::SessionFault;
 use tr_terms::{Moment, SessionMode};
 
-/// Begins a snapshot at a desk: answers with the moment that is stored.
+/// Begins a snapshot at a desk, in an operator's name: answers with the moment that is stored.
 pub(crate) fn begin_snapshot<N: Names, A: Allocator>(
     desk: &mut Desk<N, A>,
+    operator: &mut Operator<N>,
     moment: Moment,
 ) -> Result<Moment, SessionFault>
     ensures answer { result ≡ book_snapshot_begin_answer moment desk.old.book }
@@ -27,9 +30,10 @@ pub(crate) fn begin_snapshot<N: Names, A: Allocator>(
     ensures mode { (result ≡ Err SessionFault.NotSnapshotMode) ↔ (N.plan.session.book.mode ≡ SessionMode.Local) }
     ensures refused { IfErr result
         (λ fault. (fault ≡ SessionFault.NotSnapshotMode) ⊎ (fault ≡ SessionFault.NeverStarted)) }
+    ensures steps { operator.new ≡ with_step (step.SnapshotBegin moment result) operator.old }
 {
     desk.shows_plan();
-    desk.snapshot_begin(moment)
+    desk.snapshot_begin_by(operator, moment)
 }
 
 /// What a snapshot shows at a moment of the stream in a slot, which is to be that of number `i`.

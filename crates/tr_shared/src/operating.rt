@@ -1,15 +1,18 @@
 //! Schedules, rotations and ticks of a shared session.
 
 ghost use Rattle.std.specs.Prelude.{◌≡◌, ◌↔◌, Ok, Err, None, IfErr, IfOk, length};
+ghost use Rattle.tr_operations.specs.declared.step.DeskStep.TheVariants as step;
+ghost use Rattle.tr_seats.specs.Operators.{with_step};
 ghost use Rattle.tr_session_book.specs.BookSteps.{book_schedule_answer};
 ghost use Rattle.tr_shared.specs.Operating.{IsBeginFault, IsCutOf, IsEndFault, IsFinishFault, IsLookFault, IsNextFault, IsRotateFault};
+ghost use Rattle.tr_shared.specs.Operators.{AreCutsOf, IsDueOf, IsEndOf, IsNextOf, IsRotationOf, IsTickOf};
 
 use crate::rotating::{begin_if_due, cut_next, next_of};
 use crate::shared::Shared;
 use std::alloc::Allocator;
 use std::sync::Wait;
 use tr_schedule::{Cause, Schedule};
-use tr_seats::Names;
+use tr_seats::{Names, Operator};
 use tr_session::{Next, Ticked};
 use tr_session_book::{Archive, SessionFault};
 use tr_terms::{Moment, SessionMode};
@@ -28,9 +31,28 @@ impl<N: Names, A: Allocator> Shared<N, A> {
         ensures answer { result ≡ book_schedule_answer N.plan.session.book }
         ensures refused { IfErr result (λ fault. fault ≡ SessionFault.SnapshotMode) }
     {
+        let mut operator = self.operator(rt);
+        self.set_schedule_by(rt, &mut operator, schedule)
+    }
+
+    /// The same, in an operator's name.
+    ///
+    /// # Errors
+    ///
+    /// Those of `set_schedule`.
+    pub fn set_schedule_by(
+        &self,
+        rt: &impl Wait,
+        operator: &mut Operator<N>,
+        schedule: Option<Schedule>,
+    ) -> Result<(), SessionFault>
+        ensures answer { result ≡ book_schedule_answer N.plan.session.book }
+        ensures refused { IfErr result (λ fault. fault ≡ SessionFault.SnapshotMode) }
+        ensures steps { operator.new ≡ with_step (step.SetSchedule schedule result) operator.old }
+    {
         let mut desk = self.desk.lock(rt);
         desk.shows_plan();
-        desk.set_schedule(schedule)
+        desk.set_schedule_by(operator, schedule)
     }
 
     /// Ends a rotation that has cut every stream, and answers with the archive that it made. It takes no memory.
@@ -42,9 +64,27 @@ impl<N: Names, A: Allocator> Shared<N, A> {
         ensures refused { IfErr result IsFinishFault }
         ensures mode { N.plan.session.book.mode ≡ SessionMode.Snapshot → result ≡ Err SessionFault.NotPending }
     {
+        let mut operator = self.operator(rt);
+        self.rotate_finish_by(rt, &mut operator)
+    }
+
+    /// The same, in an operator's name.
+    ///
+    /// # Errors
+    ///
+    /// Those of `rotate_finish`.
+    pub fn rotate_finish_by(
+        &self,
+        rt: &impl Wait,
+        operator: &mut Operator<N>,
+    ) -> Result<Archive, SessionFault>
+        ensures refused { IfErr result IsFinishFault }
+        ensures mode { N.plan.session.book.mode ≡ SessionMode.Snapshot → result ≡ Err SessionFault.NotPending }
+        ensures steps { operator.new ≡ with_step (step.RotateFinish result) operator.old }
+    {
         let mut desk = self.desk.lock(rt);
         desk.shows_plan();
-        desk.rotate_finish()
+        desk.rotate_finish_by(operator)
     }
 }
 
@@ -58,9 +98,28 @@ impl<N: Names, A: Allocator + Copy> Shared<N, A> {
         ensures mode { (result ≡ Err SessionFault.SnapshotMode) ↔ (N.plan.session.book.mode ≡ SessionMode.Snapshot) }
         ensures refused { IfErr result IsBeginFault }
     {
+        let mut operator = self.operator(rt);
+        self.rotate_begin_by(rt, &mut operator, moment)
+    }
+
+    /// The same, in an operator's name.
+    ///
+    /// # Errors
+    ///
+    /// Those of `rotate_begin`.
+    pub fn rotate_begin_by(
+        &self,
+        rt: &impl Wait,
+        operator: &mut Operator<N>,
+        moment: Moment,
+    ) -> Result<u64, SessionFault>
+        ensures mode { (result ≡ Err SessionFault.SnapshotMode) ↔ (N.plan.session.book.mode ≡ SessionMode.Snapshot) }
+        ensures refused { IfErr result IsBeginFault }
+        ensures steps { operator.new ≡ with_step (step.RotateBegin moment result) operator.old }
+    {
         let mut desk = self.desk.lock(rt);
         desk.shows_plan();
-        desk.rotate_begin(moment)
+        desk.rotate_begin_by(operator, moment)
     }
 
     /// Lets the pending rotation cut its next stream, if there is one: the desk's lock and that stream's are held.
@@ -73,12 +132,31 @@ impl<N: Names, A: Allocator + Copy> Shared<N, A> {
         ensures refused { IfErr result IsNextFault }
         ensures mode { N.plan.session.book.mode ≡ SessionMode.Snapshot → result ≡ Err SessionFault.NotPending }
     {
+        let mut operator = self.operator(rt);
+        self.rotate_next_by(rt, &mut operator)
+    }
+
+    /// The same, in an operator's name.
+    ///
+    /// # Errors
+    ///
+    /// Those of `rotate_next`.
+    pub fn rotate_next_by(
+        &self,
+        rt: &impl Wait,
+        operator: &mut Operator<N>,
+    ) -> Result<Next, SessionFault>
+        ensures cut { IfOk result (IsCutOf (length N.plan.books)) }
+        ensures refused { IfErr result IsNextFault }
+        ensures mode { N.plan.session.book.mode ≡ SessionMode.Snapshot → result ≡ Err SessionFault.NotPending }
+        ensures steps { IsNextOf operator.old result operator.new }
+    {
         let mut desk = self.desk.lock(rt);
         let Some(i) = next_of(&desk)? else {
             return Ok(Next::AllCut);
         };
         let mut slot = self.slots[i].lock(rt);
-        cut_next(&mut desk, &mut slot, i)
+        cut_next(&mut desk, operator, &mut slot, i)
     }
 
     /// Rotates the session at a moment: begins a rotation, cuts each stream and ends it. No lock is held from one of these
@@ -92,8 +170,27 @@ impl<N: Names, A: Allocator + Copy> Shared<N, A> {
         ensures mode { (result ≡ Err SessionFault.SnapshotMode) ↔ (N.plan.session.book.mode ≡ SessionMode.Snapshot) }
         ensures refused { IfErr result IsRotateFault }
     {
-        self.rotate_begin(rt, moment)?;
-        self.rotate_on(rt)
+        let mut operator = self.operator(rt);
+        self.rotate_by(rt, &mut operator, moment)
+    }
+
+    /// The same, in an operator's name.
+    ///
+    /// # Errors
+    ///
+    /// Those of `rotate`.
+    pub fn rotate_by(
+        &self,
+        rt: &impl Wait,
+        operator: &mut Operator<N>,
+        moment: Moment,
+    ) -> Result<Archive, SessionFault>
+        ensures mode { (result ≡ Err SessionFault.SnapshotMode) ↔ (N.plan.session.book.mode ≡ SessionMode.Snapshot) }
+        ensures refused { IfErr result IsRotateFault }
+        ensures steps { IsRotationOf moment operator.old result operator.new }
+    {
+        self.rotate_begin_by(rt, operator, moment)?;
+        self.rotate_on(rt, operator)
     }
 
     /// Rotates the session, as `rotate` does, if its schedule says that a rotation is due at this moment. The desk's lock is
@@ -107,36 +204,71 @@ impl<N: Names, A: Allocator + Copy> Shared<N, A> {
         ensures refused { IfErr result IsEndFault }
         ensures mode { N.plan.session.book.mode ≡ SessionMode.Snapshot → result ≡ Ok Ticked.Idle }
     {
-        let Some(cause) = self.begin_due(rt, now)? else {
+        let mut operator = self.operator(rt);
+        self.tick_by(rt, &mut operator, now)
+    }
+
+    /// The same, in an operator's name.
+    ///
+    /// # Errors
+    ///
+    /// Those of `tick`.
+    pub fn tick_by(
+        &self,
+        rt: &impl Wait,
+        operator: &mut Operator<N>,
+        now: Moment,
+    ) -> Result<Ticked, SessionFault>
+        ensures refused { IfErr result IsEndFault }
+        ensures mode { N.plan.session.book.mode ≡ SessionMode.Snapshot → result ≡ Ok Ticked.Idle }
+        ensures steps { IsTickOf now operator.old result operator.new }
+    {
+        let Some(cause) = self.begin_due(rt, operator, now)? else {
             return Ok(Ticked::Idle);
         };
-        let archive = self.rotate_on(rt)?;
+        let archive = self.rotate_on(rt, operator)?;
         Ok(Ticked::Rotated { cause, archive })
     }
 
     /// Cuts each stream that the pending rotation hasn't cut, and ends it.
-    fn rotate_on(&self, rt: &impl Wait) -> Result<Archive, SessionFault>
-        ensures { IfErr result IsEndFault }
+    fn rotate_on(&self, rt: &impl Wait, operator: &mut Operator<N>) -> Result<Archive, SessionFault>
+        ensures refused { IfErr result IsEndFault }
+        ensures steps { IsEndOf operator.old result operator.new }
+    {
+        self.cut_on(rt, operator)?;
+        Ok(self.rotate_finish_by(rt, operator)?)
+    }
+
+    /// Cuts each stream that the pending rotation hasn't cut.
+    fn cut_on(&self, rt: &impl Wait, operator: &mut Operator<N>) -> Result<(), SessionFault>
+        ensures refused { IfErr result IsNextFault }
+        ensures steps { AreCutsOf operator.old result operator.new }
     {
         for _ in 0..self.slots.len() {
-            if self.rotate_next(rt)? == Next::AllCut {
+            if self.rotate_next_by(rt, operator)? == Next::AllCut {
                 break;
             }
         }
-        Ok(self.rotate_finish(rt)?)
+        Ok(())
     }
 
     /// Begins a rotation if one is due, and says why it is.
-    fn begin_due(&self, rt: &impl Wait, now: Moment) -> Result<Option<Cause>, SessionFault>
+    fn begin_due(
+        &self,
+        rt: &impl Wait,
+        operator: &mut Operator<N>,
+        now: Moment,
+    ) -> Result<Option<Cause>, SessionFault>
         ensures refused { IfErr result IsLookFault }
         ensures mode { N.plan.session.book.mode ≡ SessionMode.Snapshot → result ≡ Ok None }
+        ensures steps { IsDueOf now operator.old result operator.new }
     {
         let mut desk = self.desk.lock(rt);
         if desk.book().schedule_in_force().is_none() {
             return Ok(None);
         }
         let sizes = self.current_sizes(rt)?;
-        Ok(begin_if_due(&mut desk, now, sizes.as_slice())?)
+        Ok(begin_if_due(&mut desk, operator, now, sizes.as_slice())?)
     }
 
     /// The bytes of each stream's current part, or the greatest u64 if they are more, one stream after another.

@@ -1,22 +1,17 @@
 //! The session under its locks.
 
-ghost use Rattle.std.specs.Prelude.{◌≡◌, ◌+◌, ◌<◌, ◌≤◌, ◌↔◌, All, IfErr, IfOk, length, replicate, sum_by, vec_capacity, vec_len};
-ghost use Rattle.tr_seats.specs.Settling.{AddUp, AreAccountsOf, AreTheirs, IsOneEach, IsSessionOf, WereConsumed};
+ghost use Rattle.std.specs.Prelude.{◌≡◌, ◌+◌, ◌<◌, ◌≤◌, ◌↔◌, All, IfErr, IfOk, length, vec_capacity, vec_len};
+ghost use Rattle.tr_seats.specs.Drainers.{new_drainer};
 ghost use Rattle.tr_seats.specs.Slots.{AreNew};
-ghost use Rattle.tr_seats.specs.Sums.{totals_of};
-ghost use Rattle.tr_shared.specs.Calls.{AreOffersOf, HaveTaken, IsDrainerFault, IsStartFault, IsStopFault};
+ghost use Rattle.tr_shared.specs.Calls.{IsDrainerFault};
 ghost use Rattle.tr_tally.specs.Tallies.{WatcherState, new_watchers};
 
-use crate::faults::SettleFault;
 use std::alloc::{Allocator, Global};
 use std::sync::{Mutex, Wait};
-use tr_seats::{
-    Desk, Drainer, Names, Opened, Plan, Producer, SettleError, Settled, Slot, Totals, Unsettled,
-};
+use tr_seats::{Desk, Drainer, Names, Opened, Plan, Producer, Slot};
 use tr_session_book::SessionFault;
 use tr_stream::Stream;
 use tr_tally::Watcher;
-use tr_terms::{Moment, SessionMode};
 
 /// A session that threads share by reference: its desk, and each of its streams, under locks.
 #[derive(Drop)]
@@ -85,7 +80,7 @@ impl<N: Names, A: Allocator + Copy> Shared<N, A> {
     /// `TooMany`, `NoMemory`: nothing changed. `Misplaced` if a stream isn't where its number says: the drainer counts as
     /// made, and is missing when the session is settled.
     pub fn drainer(&self, rt: &impl Wait) -> Result<Drainer<N, A>, SessionFault>
-        ensures new { IfOk result (λ drainer. drainer ≡ replicate (length N.plan.books) 0) }
+        ensures new { IfOk result (λ drainer. drainer ≡ new_drainer (length N.plan.books)) }
         ensures refused { IfErr result IsDrainerFault }
     {
         let mut desk = self.desk.lock(rt);
@@ -99,7 +94,7 @@ impl<N: Names, A: Allocator + Copy> Shared<N, A> {
 
 impl<N: Names, A: Allocator> Shared<N, A> {
     /// Puts a session under its locks.
-    fn close(
+    pub(crate) fn close(
         alloc: A,
         desk: Desk<N, A>,
         mut slots: Vec<Slot<N, A>, A>,
@@ -140,52 +135,8 @@ impl<N: Names, A: Allocator> Shared<N, A> {
         f()
     }
 
-    /// Starts the session at a moment: its book, and then each of its streams, takes offers from now on. The desk's lock is
-    /// held until all are switched.
-    ///
-    /// # Errors
-    ///
-    /// `RotationPending`, `AlreadyActive`: nothing changed. `Misplaced` if a stream isn't where its number says: the book,
-    /// and the streams before it, have started.
-    pub fn start(&self, rt: &impl Wait, moment: Moment) -> Result<(), SessionFault>
-        ensures { IfErr result IsStartFault }
-    {
-        let mut desk = self.desk.lock(rt);
-        desk.start(moment)?;
-        self.switch(rt, true)
-    }
-
-    /// Stops the session: its book, and then each of its streams, refuses offers from now on. The desk's lock is held until
-    /// all are switched.
-    ///
-    /// # Errors
-    ///
-    /// `RotationPending`, `NotActive`: nothing changed. `Misplaced` if a stream isn't where its number says: the book, and
-    /// the streams before it, have stopped.
-    pub fn stop(&self, rt: &impl Wait) -> Result<(), SessionFault>
-        ensures { IfErr result IsStopFault }
-    {
-        let mut desk = self.desk.lock(rt);
-        desk.stop()?;
-        self.switch(rt, false)
-    }
-
-    /// Lets each stream take offers, or makes it refuse them, one after another.
-    fn switch(&self, rt: &impl Wait, active: bool) -> Result<(), SessionFault>
-        ensures { IfErr result (λ fault. fault ≡ SessionFault.Misplaced) }
-    {
-        for (i, slot) in self.slots.iter().enumerate() {
-            let mut slot = slot.lock(rt);
-            if slot.number() != i {
-                return Err(SessionFault::Misplaced);
-            }
-            slot.set_active(active);
-        }
-        Ok(())
-    }
-
     /// The session out of its locks, and the place for these, which is empty.
-    fn open(self) -> (Opened<N, A>, Vec<Mutex<Slot<N, A>>, A>)
+    pub(crate) fn open(self) -> (Opened<N, A>, Vec<Mutex<Slot<N, A>>, A>)
         ensures slots { length result.0.slots ≡ length N.plan.books }
         ensures locks { (vec_len result.1 ≡ 0) × (length N.plan.books ≤ vec_capacity result.1) }
     {
@@ -202,54 +153,5 @@ impl<N: Names, A: Allocator> Shared<N, A> {
         slots.reverse();
         let opened = Opened::from_parts(alloc, desk.into_inner(), slots, room);
         (opened, locks)
-    }
-}
-
-impl<N: Names, A: Allocator + Copy> Shared<N, A> {
-    /// The session of one owner that this one was, and what all threads did together, which is what the streams count and
-    /// what the seats add up to. It takes no memory and waits for no lock.
-    ///
-    /// # Errors
-    ///
-    /// Those of `Opened::settle`: all that was given comes back, the streams in order of number.
-    pub fn settle(
-        self,
-        producers: Vec<Producer<N, A>, A>,
-        drainers: Vec<Drainer<N, A>, A>,
-    ) -> Result<(Settled<A>, Totals), SettleFault<N, A>>
-        ensures planned { IfOk result (λ r. IsSessionOf N.plan r.0) }
-        ensures totals { IfOk result (λ r. r.1 ≡ totals_of r.0.streams) }
-        ensures seats { IfOk result (λ r. AreOffersOf producers.items drainers.items r.1) }
-        ensures own { IfOk result (λ r. AreTheirs producers.items r.0.streams) }
-        ensures accounts { IfOk result (λ r. AreAccountsOf producers.items r.0.streams) }
-        ensures taken { IfOk result (λ r. HaveTaken drainers.items r.0.streams) }
-        ensures places { IfOk result (λ r. AddUp r.1 r.0.streams) }
-        ensures consumed { IfOk result (λ r. WereConsumed r.1 r.0.streams) }
-        ensures snapshot_session { N.plan.session.book.mode ≡ SessionMode.Snapshot
-            → IfOk result (λ r. (r.1.consumed ≡ 0) × (r.1.cleared ≡ 0)) }
-        ensures all { IfOk result (λ r. IsOneEach (length N.plan.books) producers.items) }
-        ensures missing { IfErr result
-            (λ f. f.fault ≡ SettleError.ProducerMissing ↔ (¬ IsOneEach (length N.plan.books) producers.items)) }
-        ensures back { IfErr result (λ f. (f.producers ≡ producers) × (f.drainers ≡ drainers)) }
-    {
-        let (opened, locks) = self.open();
-        match opened.settle(producers, drainers) {
-            Ok(settled) => Ok(settled),
-            Err(unsettled) => {
-                let Unsettled {
-                    error: fault,
-                    opened,
-                    producers,
-                    drainers,
-                } = unsettled;
-                let (alloc, desk, slots, room) = opened.into_parts();
-                Err(SettleFault {
-                    fault,
-                    shared: Shared::close(alloc, desk, slots, room, locks),
-                    producers,
-                    drainers,
-                })
-            }
-        }
     }
 }

@@ -3,6 +3,7 @@
 ghost use Rattle.std.specs.Prelude.{◌≡◌, ◌≤◌, ◌<◌, ◌↔◌, Err, IfErr, IfOk, length};
 ghost use Rattle.tr_seats.specs.Books.{IsPlan};
 ghost use Rattle.tr_shared.specs.Operating.{IsLookFault, IsSnapshotFault};
+ghost use Rattle.tr_shared.specs.Operators.{IsSnapshotOf};
 ghost use Rattle.tr_shared.specs.Shown.{IsShown, IsShownWith, ShowsAll, ShowsOwn};
 
 use crate::looking::{begin_snapshot, look, look_with};
@@ -10,7 +11,7 @@ use crate::shared::Shared;
 use std::alloc::Allocator;
 use std::sync::Wait;
 use tr_book::StreamSnap;
-use tr_seats::{Names, Producer};
+use tr_seats::{Names, Operator, Producer};
 use tr_session_book::SessionFault;
 use tr_snapshot::Snapshot;
 use tr_terms::{Moment, SessionMode};
@@ -30,8 +31,30 @@ impl<N: Names, A: Allocator + Copy> Shared<N, A> {
         ensures mode { (result ≡ Err SessionFault.NotSnapshotMode) ↔ (N.plan.session.book.mode ≡ SessionMode.Local) }
         ensures refused { IfErr result IsSnapshotFault }
     {
+        let mut operator = self.operator(rt);
+        self.snapshot_by(rt, &mut operator, moment)
+    }
+
+    /// The same, in an operator's name.
+    ///
+    /// # Errors
+    ///
+    /// Those of `snapshot`.
+    pub fn snapshot_by(
+        &self,
+        rt: &impl Wait,
+        operator: &mut Operator<N>,
+        moment: Moment,
+    ) -> Result<Snapshot<A>, SessionFault>
+        ensures moment { IfOk result (λ s. moment ≤ s.moment) }
+        ensures all { IfOk result (λ s. length s.streams ≡ length N.plan.books) }
+        ensures shown { IfOk result (ShowsAll N.plan) }
+        ensures mode { (result ≡ Err SessionFault.NotSnapshotMode) ↔ (N.plan.session.book.mode ≡ SessionMode.Local) }
+        ensures refused { IfErr result IsSnapshotFault }
+        ensures steps { IsSnapshotOf moment operator.old result operator.new }
+    {
         let mut desk = self.desk.lock(rt);
-        let stored = begin_snapshot(&mut desk, moment)?;
+        let stored = begin_snapshot(&mut desk, operator, moment)?;
         let mut snaps = Vec::with_capacity(self.alloc, self.slots.len())?;
         for i in 0..self.slots.len() {
             snaps.push_reserved(self.look_at(rt, i, stored)?);
@@ -62,7 +85,8 @@ impl<N: Names, A: Allocator + Copy> Shared<N, A> {
     {
         let _ = producer.stream();
         let mut desk = self.desk.lock(rt);
-        let stored = begin_snapshot(&mut desk, moment)?;
+        let mut operator = desk.operator();
+        let stored = begin_snapshot(&mut desk, &mut operator, moment)?;
         let mut snaps = Vec::with_capacity(self.alloc, self.slots.len())?;
         for i in 0..self.slots.len() {
             snaps.push_reserved(self.look_beside(rt, producer, i, stored)?);

@@ -1,5 +1,5 @@
 -- What is told of bytes, packet by packet.
-use Rattle.std.proofs.Common.{◌≡◌, ◌≢◌, ◌+◌, ◌<◌, ◌≤◌, ℕ, suc, refl, sym, ap, subst, ◌∙◌, arith, Bool, true, false, List, [], ◌∷◌, ◌++◌, length, drop, Option, Some, None, append_assoc}
+use Rattle.std.proofs.Common.{◌≡◌, ◌≢◌, ◌+◌, ℕ, suc, refl, sym, ap, subst, ◌∙◌, Bool, true, false, List, [], ◌++◌, drop, Option, Some, None, append_assoc}
 use Rattle.std.proofs.lemmas.List.{drop-append-le}
 use Rattle.tr_chunk.proofs.AuditLemmas.{front_within}
 use Rattle.tr_chunk.proofs.WaitingLemmas.{cause_stays}

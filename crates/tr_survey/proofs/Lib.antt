@@ -1,12 +1,16 @@
 pub mod BytesLemmas
 pub mod FileNameLemmas
 pub mod HeadLemmas
+pub mod IdentifierLemmas
 pub mod ListingLemmas
 pub mod MetadataLemmas
 pub mod MetadataTextLemmas
 pub mod NameLemmas
 pub mod NumberLemmas
 pub mod PrefixLemmas
+pub mod SessionLemmas
 pub mod StampLemmas
+pub mod SumLemmas
 pub mod SurveyLemmas
 pub mod TellLemmas
+pub mod WholeLemmas

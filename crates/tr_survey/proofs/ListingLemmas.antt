@@ -1,12 +1,9 @@
 -- Sets of archives, streams and sessions, key by key.
-use Rattle.std.proofs.Common.{◌≡◌, ℕ, Bool, true, false, cond, refl, sym, ap, ◌∙◌, List, [], ◌∷◌, map}
+use Rattle.std.proofs.Common.{◌≡◌, refl, ap, ◌∙◌, List, [], ◌∷◌, map}
 use Rattle.std.specs.BTreeSet.{insert_key}
 use Rattle.std.specs.Ordering.{match_ordering}
 use Rattle.std.specs.declared.cmp.Ordering.{Ordering}
 use Rattle.std.specs.declared.cmp.Ordering.TheVariants.{Less, Equal, Greater}
-use Rattle.tr_survey.specs.Listing.{with_name}
-use Rattle.tr_survey.specs.Order.{name_cmp}
-use Rattle.tr_terms.specs.Names.{is_name}
 
 map-match : {A B : Type 0} (f : A → B) (o : Ordering) (less equal greater : List A)
     → map f (match_ordering o less equal greater) ≡ match_ordering o (map f less) (map f equal) (map f greater)
@@ -22,15 +19,3 @@ map-insert_key {B = B} f R S same (x ∷ xs) k =
     map-match f (R k x) (k ∷ x ∷ xs) (x ∷ xs) (x ∷ insert_key R xs k)
     ∙ ap (λ (o : Ordering). match_ordering o (f k ∷ f x ∷ map f xs) (f x ∷ map f xs) (f x ∷ map f (insert_key R xs k))) (same k x)
     ∙ ap (λ (l : List B). match_ordering (S (f k) (f x)) (f k ∷ f x ∷ map f xs) (f x ∷ map f xs) (f x ∷ l)) (map-insert_key f R S same xs k)
-
--- ---- a name more
-
-not_chosen : {X : Type 0} (test : Bool) (x y : X) → (test ≡ true → ⊥) → y ≡ cond test x y
-not_chosen true x y none = absurd (none refl)
-not_chosen false x y none = refl
-
-pub no_name_more : (names : List (List ℕ)) (name : List ℕ) → (is_name name ≡ true → ⊥) → names ≡ with_name names name
-no_name_more names name none = not_chosen (is_name name) (insert_key name_cmp names name) names none
-
-pub name_more : (names : List (List ℕ)) (name : List ℕ) → is_name name ≡ true → insert_key name_cmp names name ≡ with_name names name
-name_more names name is = ap (λ test. cond test (insert_key name_cmp names name) names) (sym is)

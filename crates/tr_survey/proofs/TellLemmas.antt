@@ -1,7 +1,6 @@
 -- What is told of a stream's files, one step after another.
-use Rattle.std.proofs.Common.{◌≡◌, ◌≢◌, ◌+◌, ◌<◌, ◌≤◌, ℕ, zero, suc, refl, sym, ap, subst, ◌∙◌, arith, Bool, true, false, List, [], ◌∷◌, ◌++◌, length, map, drop, get_or, Option, Some, None, append-nil, append_assoc, drop-drop}
+use Rattle.std.proofs.Common.{◌≡◌, ◌+◌, ◌<◌, ◌≤◌, ℕ, zero, suc, refl, sym, ap, subst, ◌∙◌, arith, Bool, true, false, List, [], ◌∷◌, ◌++◌, length, map, drop, get_or, Option, Some, append-nil, append_assoc, drop-drop}
 use Rattle.std.proofs.lemmas.List.{length-append, length-drop}
-use Rattle.tr_chunk.proofs.WaitingLemmas.{nothing_waits}
 use Rattle.tr_chunk.specs.Audit.{capped_count}
 use Rattle.tr_folders.specs.Kept.{file_of}
 use Rattle.tr_folders.specs.Tree.{File, IsBroken, Reads, Tree}
@@ -11,8 +10,8 @@ use Rattle.tr_survey.specs.Listing.{key_of}
 use Rattle.tr_survey.specs.Order.{Numbered}
 use Rattle.tr_survey.specs.Prefix.{GoesOn, IsPrefixOut, IsTold}
 use Rattle.tr_survey.specs.Steps.{AreFew, HasGone, IsHeld}
-use Rattle.tr_survey.specs.Streams.{Place, bytes_told, file_in, file_told, files_told, left_told, place, stream_told, streams_told, unreadable_told}
-use Rattle.tr_survey.specs.Told.{Told, and_then, told}
+use Rattle.tr_survey.specs.Streams.{Place, bytes_told, file_told, files_told, left_told, streams_told, unreadable_told}
+use Rattle.tr_survey.specs.Told.{Told, and_then}
 use Rattle.tr_survey.specs.declared.tally.Tally.{Tally}
 use Rattle.tr_survey.specs.declared.names.Numbered as value
 use Rattle.tr_survey.proofs.BytesLemmas.{broken_step, end_step}

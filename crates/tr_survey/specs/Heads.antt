@@ -3,10 +3,12 @@ use Rattle.std.specs.Prelude.{ℕ, ◌+◌, ◌-◌, Bool, nat_eq, nat_lt, List,
 use Rattle.std.specs.Cmp.Lexicographic.{pointwise}
 use Rattle.std.specs.List.{flat_map, zip}
 use Rattle.tr_chunk.specs.Audit.{capped_count}
-use Rattle.tr_survey.specs.Lines.{archive_text, deleted_text, missing_text, no_streams_text, session_text}
+use Rattle.tr_survey.specs.Identifiers.{is_uuid, uuid_of}
+use Rattle.tr_survey.specs.Lines.{archive_text, deleted_text, missing_text, no_streams_text, session_text, source_text}
 use Rattle.tr_survey.specs.Names.{begin_stamp, end_stamp}
 use Rattle.tr_survey.specs.Order.{Numbered}
 use Rattle.tr_survey.specs.Told.{Told, and_then, faults_told}
+use Rattle.tr_survey.specs.declared.identifiers.Identity.{Identity}
 use Rattle.tr_survey.specs.declared.naming.Naming.{Naming}
 use Rattle.tr_survey.specs.declared.naming.Naming.TheVariants.{Unfinished, Unreadable, NoUuid, Other, Named}
 
@@ -37,10 +39,6 @@ wrong_in_order [] = []
 wrong_in_order (a ∷ archives) = wrong_after a archives
 
 -- ---- metadata
-
-abbrev pub is_uuid : Option (List ℕ) → List ℕ → Bool
-is_uuid None own = nat_eq 0 1
-is_uuid (Some uuid) own = pointwise nat_eq uuid own
 
 -- what is wrong with an archive's metadata in a session of this identifier, if anything
 abbrev pub wrong_with : Option (List ℕ) → Naming → Option (List ℕ)
@@ -74,8 +72,9 @@ abbrev pub wrong_lines : Option (List ℕ) → List Numbered → List Naming →
 wrong_lines uuid archives namings streams =
     wrong_in_order archives ++ (wrong_metadata uuid (zip archives namings) ++ wrong_streams 0 streams)
 
--- what begins a session, after this number of faults: its own line, its deleted archives, and what is wrong with them all
-abbrev pub head_told : List ℕ → Option (List ℕ) → List Numbered → List Naming → List Numbered → ℕ → Told ℕ
-head_told session uuid archives namings streams n =
-    and_then (session_text session uuid (length archives))
-    (and_then (deleted_of archives) (faults_told n (wrong_lines uuid archives namings streams)))
+-- what begins a session, after this number of faults: its own lines, its deleted archives, and what is wrong with them all
+abbrev pub head_told : List ℕ → Identity → List Numbered → List Naming → List Numbered → ℕ → Told ℕ
+head_told session identity archives namings streams n =
+    and_then (session_text session (uuid_of identity) (length archives))
+    (and_then (source_text identity)
+    (and_then (deleted_of archives) (faults_told n (wrong_lines (uuid_of identity) archives namings streams))))

@@ -1,5 +1,6 @@
 pub mod Failures
 pub mod Heads
+pub mod Identifiers
 pub mod Lines
 pub mod Listing
 pub mod Metadata
@@ -10,4 +11,6 @@ pub mod Prefix
 pub mod Sessions
 pub mod Steps
 pub mod Streams
+pub mod Sums
 pub mod Told
+pub mod Whole

@@ -1,11 +1,14 @@
 -- The lines of a survey, each with its newline.
-use Rattle.std.specs.Prelude.{ℕ, nat_eq, List, [], ◌∷◌, ◌++◌, codes, Option, Some, None, if◌then◌else◌}
+use Rattle.std.specs.Prelude.{ℕ, ◌||◌, nat_eq, nat_lt, List, [], ◌∷◌, ◌++◌, codes, map, Option, Some, None, if◌then◌else◌}
 use Rattle.std.specs.Fmt.{decimal}
 use Rattle.tr_chunk.specs.Faults.{audit_cause_code, audit_cause_name}
 use Rattle.tr_chunk.specs.declared.audit_fault.AuditCause.{AuditCause}
 use Rattle.tr_chunk.specs.declared.audit_fault.AuditCause.TheVariants as audit
 use Rattle.tr_packet.specs.Faults.{packet_fault_code, packet_fault_name}
 use Rattle.tr_survey.specs.Order.{Numbered}
+use Rattle.tr_survey.specs.declared.identifiers.Identity.{Identity}
+use Rattle.tr_survey.specs.declared.identifiers.Identity.TheVariants.{Unknown, OfMetadata, OfPackets}
+use Rattle.tr_survey.specs.declared.sums.Sums.{Sums}
 use Rattle.uuid.specs.Text.{lower, hyphenated_text}
 
 abbrev pub uuid_text : Option (List ℕ) → List ℕ
@@ -16,6 +19,20 @@ uuid_text (Some uuid) = hyphenated_text lower uuid
 abbrev pub session_text : List ℕ → Option (List ℕ) → ℕ → List ℕ
 session_text session uuid archives =
     codes "session " ++ (session ++ (codes " uuid " ++ (uuid_text uuid ++ (codes " archives " ++ (decimal archives ++ 10 ∷ [])))))
+
+-- the session's identifier is that of its packets, since no metadata name one: no fault
+abbrev pub source_text : Identity → List ℕ
+source_text Unknown = []
+source_text (OfMetadata uuid) = []
+source_text (OfPackets uuid) = codes "uuid of packets\n"
+
+-- a byte as lines show it of a name that may have any: a question mark in place of a control character
+abbrev pub shown : ℕ → ℕ
+shown b = if nat_lt b 32 || nat_eq b 127 then 63 else b
+
+-- a folder that isn't named as a session, but has a folder of archives: no fault
+abbrev pub passed_text : List ℕ → List ℕ
+passed_text name = codes "passed over " ++ (map shown name ++ 10 ∷ [])
 
 -- ---- a session's archives
 
@@ -105,6 +122,12 @@ stream_text stream counts last =
 -- numbers absent in a stream that discards: no fault
 abbrev pub cleared_text : ℕ → ℕ → List ℕ
 cleared_text stream count = codes "cleared or missing " ++ (decimal stream ++ (32 ∷ (decimal count ++ 10 ∷ [])))
+
+-- an archive: its number, its name, which says when it began and ended, and what its files add to the counts of their streams
+abbrev pub sums_text : Numbered → Sums → List ℕ
+sums_text archive s =
+    codes "archive " ++ (decimal archive.number ++ (32 ∷ (archive.name
+    ++ (counts_text s.packets s.records s.absent s.lost ++ (codes " bytes " ++ (decimal s.bytes ++ 10 ∷ []))))))
 
 -- the end: how many faults there are
 abbrev pub end_text : ℕ → List ℕ

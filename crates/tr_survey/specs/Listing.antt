@@ -1,5 +1,5 @@
 -- Which archives and streams a session has.
-use Rattle.std.specs.Prelude.{◌≡◌, ℕ, Bool, true, false, ◌||◌, not, List, [], Option, Some, None, is_some, string_bytes, if◌then◌else◌}
+use Rattle.std.specs.Prelude.{◌≡◌, ℕ, Bool, true, false, ◌||◌, List, [], Option, Some, None, is_some, string_bytes, if◌then◌else◌}
 use Rattle.std.specs.BTreeSet.{insert_key}
 use Rattle.std.specs.List.{filter_map, flat_map, fold}
 use Rattle.std.specs.Option.{option_and_then, unwrap_or}
@@ -10,7 +10,6 @@ use Rattle.tr_survey.specs.Paths.{path_of}
 use Rattle.tr_survey.specs.declared.listing.Listing.{Listing}
 use Rattle.tr_survey.specs.declared.listing.Listing.TheVariants.{Absent, Unreadable, Names}
 use Rattle.tr_survey.specs.declared.names.Numbered as value
-use Rattle.tr_terms.specs.Names.{is_name}
 
 -- a number and a name as contracts see them
 abbrev pub key_of : value.Numbered → Numbered
@@ -20,13 +19,9 @@ key_of n = of_parts (string_bytes n.name) n.number
 abbrev pub with_keys : List Numbered → List Numbered → List Numbered
 with_keys = fold (insert_key number_cmp)
 
--- a name more, if a session can have it
-abbrev pub with_name : List (List ℕ) → List ℕ → List (List ℕ)
-with_name names name = if is_name name then insert_key name_cmp names name else names
-
--- the names that sessions can have, each once and in order
-abbrev pub session_names : List (List ℕ) → List (List ℕ)
-session_names = fold with_name []
+-- names, each once and in order
+abbrev pub names_in_order : List (List ℕ) → List (List ℕ)
+names_in_order = fold (insert_key name_cmp) []
 
 -- a folder stands there, whether it can be read or not
 abbrev pub is_folder : Tree → List ℕ → Bool

@@ -1,10 +1,11 @@
 -- The identifier that metadata name.
-use Rattle.std.specs.Prelude.{ℕ, Bool, false, ◌&&◌, ◌-◌, ◌==◌, nat_eq, nat_lt, List, [], ◌∷◌, codes, length, take, drop, Option, Some, None, if◌then◌else◌}
+use Rattle.std.specs.Prelude.{ℕ, Bool, ◌&&◌, ◌-◌, ◌==◌, nat_eq, nat_lt, List, [], ◌∷◌, codes, length, map, take, drop, Option, Some, None, if◌then◌else◌}
 use Rattle.std.specs.Cmp.Lexicographic.{pointwise}
-use Rattle.std.specs.List.{count_by, fold, slice_split, starts_with, ends_with}
+use Rattle.std.specs.List.{slice_split, starts_with, ends_with}
 use Rattle.std.specs.Option.{option_and_then, option_or}
 use Rattle.tr_folders.specs.Tree.{File}
 use Rattle.tr_packet.specs.Metadata.{metadata_of}
+use Rattle.tr_survey.specs.Identifiers.{most_often}
 use Rattle.tr_survey.specs.declared.naming.Naming.{Naming}
 use Rattle.tr_survey.specs.declared.naming.Naming.TheVariants.{Unfinished, Unreadable, NoUuid, Other, Named}
 use Rattle.tr_terms.specs.declared.limits.TheConstants.{MOST_METADATA}
@@ -54,6 +55,7 @@ naming_in None = Unfinished
 naming_in (Some file) =
     if nat_lt (length file.bytes) MOST_METADATA && file.breaks then Unreadable else naming_by (take MOST_METADATA file.bytes)
 
+-- the identifier that is named, if one is
 abbrev pub uuid_named : Naming → Option (List ℕ)
 uuid_named Unfinished = None
 uuid_named Unreadable = None
@@ -61,27 +63,6 @@ uuid_named NoUuid = None
 uuid_named (Other uuid) = Some uuid
 uuid_named (Named uuid) = Some uuid
 
--- this identifier is named
-abbrev pub is_named : List ℕ → Naming → Bool
-is_named uuid Unfinished = false
-is_named uuid Unreadable = false
-is_named uuid NoUuid = false
-is_named uuid (Other own) = pointwise nat_eq own uuid
-is_named uuid (Named own) = pointwise nat_eq own uuid
-
--- how often it is
-abbrev pub times : List Naming → List ℕ → ℕ
-times namings uuid = count_by (is_named uuid) namings
-
--- of two identifiers the one that is named more often, or the first
-abbrev pub of_two : List Naming → Option (List ℕ) → Option (List ℕ) → Option (List ℕ)
-of_two namings first None = first
-of_two namings None (Some uuid) = Some uuid
-of_two namings (Some first) (Some uuid) = if nat_lt (times namings first) (times namings uuid) then Some uuid else Some first
-
-abbrev pub better : List Naming → Option (List ℕ) → Naming → Option (List ℕ)
-better namings first naming = of_two namings first (uuid_named naming)
-
--- the identifier that is named most often; of several the first
+-- the identifier that metadata name most often
 abbrev pub most_named : List Naming → Option (List ℕ)
-most_named namings = fold (better namings) None namings
+most_named namings = most_often (map uuid_named namings)

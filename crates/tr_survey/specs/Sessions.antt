@@ -1,19 +1,23 @@
 -- The survey of sessions.
-use Rattle.std.specs.Prelude.{◌≡◌, ℕ, Bool, List, [], ◌∷◌, ◌++◌, codes, length, map, filter, Option, Some, None, if◌then◌else◌}
+use Rattle.std.specs.Prelude.{ℕ, Bool, ◌&&◌, List, [], ◌∷◌, ◌++◌, codes, map, filter, Option, Some, None, if◌then◌else◌}
 use Rattle.tr_folders.specs.Tree.{Tree}
 use Rattle.tr_survey.specs.Heads.{head_told}
-use Rattle.tr_survey.specs.Lines.{closed_text, end_text, session_text}
-use Rattle.tr_survey.specs.Listing.{archives_of, is_folder, names_at, session_names, streams_of}
+use Rattle.tr_survey.specs.Identifiers.{identity_by, judged_by, uuid_of_packets}
+use Rattle.tr_survey.specs.Lines.{closed_text, end_text, passed_text, session_text}
+use Rattle.tr_survey.specs.Listing.{archives_of, is_folder, names_at, names_in_order, streams_of}
 use Rattle.tr_survey.specs.Metadata.{most_named, naming_in}
 use Rattle.tr_survey.specs.Order.{Numbered}
 use Rattle.tr_survey.specs.Paths.{archives_folder, file_path, path_of}
 use Rattle.tr_survey.specs.Prefix.{IsPrefixOut, IsTold}
 use Rattle.tr_survey.specs.Streams.{streams_told}
+use Rattle.tr_survey.specs.Sums.{lines_asked, sums_of}
 use Rattle.tr_survey.specs.Told.{Told, and_faults, and_then, told}
 use Rattle.tr_survey.specs.declared.faults.Surveyed.{Surveyed}
 use Rattle.tr_survey.specs.declared.faults.Surveyed.TheVariants.{Unlisted, NoSession, Faults}
+use Rattle.tr_survey.specs.declared.identifiers.Identity.{Identity}
 use Rattle.tr_survey.specs.declared.naming.Naming.{Naming}
 use Rattle.tr_survey.specs.declared.naming.Naming.TheVariants.{Unreadable}
+use Rattle.tr_terms.specs.Names.{is_name}
 
 -- ---- a session
 
@@ -25,39 +29,52 @@ naming_of t folder archive =
 abbrev pub namings_of : Tree → List ℕ → List Numbered → List Naming
 namings_of t folder = map (naming_of t folder)
 
--- what is told of its streams, if it has an identifier
-abbrev pub all_told : Tree → List ℕ → Option (List ℕ) → List Numbered → List Numbered → ℕ → Told ℕ
-all_told t folder None archives streams n = told [] n
-all_told t folder (Some uuid) archives streams n = streams_told t folder uuid archives n streams
+-- what is told of streams, and then of archives, if that is asked for
+abbrev pub streams_and_sums_told : Bool → Tree → List ℕ → List ℕ → List Numbered → List Numbered → ℕ → Told ℕ
+streams_and_sums_told asked t folder uuid archives streams n =
+    and_then (streams_told t folder uuid archives n streams).text
+    (told (lines_asked asked archives (sums_of t folder uuid archives n streams)) (streams_told t folder uuid archives n streams).state)
 
--- what is told of a session with these archives and streams in a folder, whose metadata name these
-abbrev pub named_told : Tree → List ℕ → List ℕ → List Numbered → List Naming → List Numbered → ℕ → Told ℕ
-named_told t session folder archives namings streams n =
-    and_then (head_told session (most_named namings) archives namings streams n).text
-    (all_told t folder (most_named namings) archives streams (head_told session (most_named namings) archives namings streams n).state)
+-- what is told of a session of this identifier with these archives and streams in a folder, whose metadata name these
+abbrev pub named_told : Bool → Tree → List ℕ → List ℕ → Identity → List Numbered → List Naming → List Numbered → ℕ → Told ℕ
+named_told asked t session folder identity archives namings streams n =
+    and_then (head_told session identity archives namings streams n).text
+    (streams_and_sums_told asked t folder (judged_by identity) archives streams (head_told session identity archives namings streams n).state)
 
-abbrev pub archives_told : Tree → List ℕ → List ℕ → List Numbered → ℕ → Told ℕ
-archives_told t session folder archives n =
-    named_told t session folder archives (namings_of t folder archives) (streams_of t folder archives) n
+-- the identifier of a session with these archives and streams in a folder, whose metadata name these
+abbrev pub identity_of : Tree → List ℕ → List Numbered → List Naming → List Numbered → Identity
+identity_of t folder archives namings streams = identity_by (most_named namings) (uuid_of_packets t folder archives streams)
+
+abbrev pub listed_told : Bool → Tree → List ℕ → List ℕ → List Numbered → List Naming → List Numbered → ℕ → Told ℕ
+listed_told asked t session folder archives namings streams n =
+    named_told asked t session folder (identity_of t folder archives namings streams) archives namings streams n
+
+abbrev pub archives_told : Bool → Tree → List ℕ → List ℕ → List Numbered → ℕ → Told ℕ
+archives_told asked t session folder archives n =
+    listed_told asked t session folder archives (namings_of t folder archives) (streams_of t folder archives) n
 
 -- the same where the folder can't be read
 abbrev pub closed_told : List ℕ → ℕ → Told ℕ
 closed_told session n = told (session_text session None 0 ++ closed_text) (and_faults n (closed_text ∷ []))
 
 -- what is told of a session, after this number of faults
-abbrev pub session_told : Tree → List ℕ → ℕ → List ℕ → Told ℕ
-session_told t folder n session =
+abbrev pub session_told : Bool → Tree → List ℕ → ℕ → List ℕ → Told ℕ
+session_told asked t folder n session =
     if t.is_hidden folder then closed_told session n
-    else archives_told t session folder (archives_of t folder (names_at t folder)) n
+    else archives_told asked t session folder (archives_of t folder (names_at t folder)) n
 
 -- ---- all sessions
 
+-- a folder of archives stands below the folder of this name
+abbrev pub has_archives : Tree → List ℕ → List ℕ → Bool
+has_archives t dir name = is_folder t (archives_folder dir name)
+
 abbrev pub is_session : Tree → List ℕ → List ℕ → Bool
-is_session t dir session = is_folder t (archives_folder dir session)
+is_session t dir name = is_name name && has_archives t dir name
 
 -- the sessions below a folder: those whose name is one and that have a folder of archives
 abbrev pub sessions_of : Tree → List ℕ → List (List ℕ)
-sessions_of t dir = filter (is_session t dir) (session_names (names_at t dir))
+sessions_of t dir = filter (is_session t dir) (names_in_order (names_at t dir))
 
 -- the faults so far, none before the first session
 abbrev pub faults_of : Option ℕ → ℕ
@@ -67,15 +84,23 @@ faults_of (Some n) = n
 abbrev pub counted : Told ℕ → Told (Option ℕ)
 counted t = told t.text (Some t.state)
 
--- what is told of a name after others; nothing if it is no session
-abbrev pub name_told : Tree → List ℕ → Option ℕ → List ℕ → Told (Option ℕ)
-name_told t dir n name =
-    if is_session t dir name then counted (session_told t (archives_folder dir name) (faults_of n) name) else told [] n
+-- what is told of a name that a session can have, after others; nothing if it is no session
+abbrev pub able_told : Bool → Tree → List ℕ → Option ℕ → List ℕ → Told (Option ℕ)
+able_told asked t dir n name =
+    if has_archives t dir name then counted (session_told asked t (archives_folder dir name) (faults_of n) name) else told [] n
 
-abbrev pub names_told : Tree → List ℕ → Option ℕ → List (List ℕ) → Told (Option ℕ)
-names_told t dir n [] = told [] n
-names_told t dir n (name ∷ names) =
-    and_then (name_told t dir n name).text (names_told t dir (name_told t dir n name).state names)
+-- what is told of another name: that it is passed over, if it has a folder of archives
+abbrev pub passed_told : Tree → List ℕ → List ℕ → List ℕ
+passed_told t dir name = if has_archives t dir name then passed_text name else []
+
+-- what is told of a name after others
+abbrev pub name_told : Bool → Tree → List ℕ → Option ℕ → List ℕ → Told (Option ℕ)
+name_told asked t dir n name = if is_name name then able_told asked t dir n name else told (passed_told t dir name) n
+
+abbrev pub names_told : Bool → Tree → List ℕ → Option ℕ → List (List ℕ) → Told (Option ℕ)
+names_told asked t dir n [] = told [] n
+names_told asked t dir n (name ∷ names) =
+    and_then (name_told asked t dir n name).text (names_told asked t dir (name_told asked t dir n name).state names)
 
 -- how a survey ends: nothing was a session, or this many faults were told
 abbrev pub surveyed_of : Option ℕ → Surveyed
@@ -89,15 +114,15 @@ end_of (Some n) = end_text n
 abbrev pub ended_told : Told (Option ℕ) → Told Surveyed
 ended_told t = told (t.text ++ end_of t.state) (surveyed_of t.state)
 
--- the survey of a folder: its text, and what it says
-abbrev pub survey_of : Tree → List ℕ → Told Surveyed
-survey_of t dir =
-    if t.is_hidden dir then told [] Unlisted else ended_told (names_told t dir None (session_names (names_at t dir)))
+-- the survey of a folder, with a line for each archive if that is asked for: its text, and what it says
+abbrev pub survey_of : Bool → Tree → List ℕ → Told Surveyed
+survey_of asked t dir =
+    if t.is_hidden dir then told [] Unlisted else ended_told (names_told asked t dir None (names_in_order (names_at t dir)))
 
 -- it was told of a folder whole: its text went out, and this is said
-abbrev pub TellsFolder : Tree → List ℕ → Surveyed → Option (List ℕ) → Option (List ℕ) → Type 0
-TellsFolder t dir said before now = IsTold (survey_of t dir) before now said
+abbrev pub TellsFolder : Bool → Tree → List ℕ → Surveyed → Option (List ℕ) → Option (List ℕ) → Type 0
+TellsFolder asked t dir said before now = IsTold (survey_of asked t dir) before now said
 
 -- a front of it went out
-abbrev pub HasToldPrefix : Tree → List ℕ → Option (List ℕ) → Option (List ℕ) → Type 0
-HasToldPrefix t dir before now = IsPrefixOut (survey_of t dir).text before now
+abbrev pub HasToldPrefix : Bool → Tree → List ℕ → Option (List ℕ) → Option (List ℕ) → Type 0
+HasToldPrefix asked t dir before now = IsPrefixOut (survey_of asked t dir).text before now

@@ -1,7 +1,6 @@
 -- What is told of a stream, packet by packet through its files.
-use Rattle.std.specs.Prelude.{ℕ, ◌+◌, ◌-◌, Bool, true, false, ◌&&◌, nat_eq, nat_lt, List, [], ◌∷◌, ◌++◌, codes, length, drop, zero, suc, Option, Some, None, unwrap_or, option_map, if◌then◌else◌}
+use Rattle.std.specs.Prelude.{ℕ, ◌+◌, ◌-◌, Bool, true, false, nat_eq, nat_lt, List, [], ◌∷◌, ◌++◌, codes, length, drop, zero, suc, Option, Some, None, unwrap_or, option_map, if◌then◌else◌}
 use Rattle.tr_chunk.specs.Audit.{capped_count, packet_cause}
-use Rattle.tr_chunk.specs.Files.{file_name}
 use Rattle.tr_chunk.specs.declared.audit_fault.AuditCause.{AuditCause}
 use Rattle.tr_chunk.specs.declared.audit_fault.AuditCause.TheVariants.{Packet}
 use Rattle.tr_folders.specs.Tree.{File, Tree}
@@ -12,7 +11,7 @@ use Rattle.tr_packet.specs.declared.faults.PacketFault.{PacketFault}
 use Rattle.tr_packet.specs.declared.faults.PacketFault.TheVariants.{Short}
 use Rattle.tr_survey.specs.Lines.{before_text, between_text, cause_text, cleared_text, counts_text, file_fault_text, gap_text, last_text, lost_text, packet_fault_text, stream_text}
 use Rattle.tr_survey.specs.Order.{Numbered}
-use Rattle.tr_survey.specs.Paths.{file_path}
+use Rattle.tr_survey.specs.Paths.{file_in}
 use Rattle.tr_survey.specs.Told.{Told, and_then, told}
 use Rattle.tr_survey.specs.declared.tally.Last.{Last}
 use Rattle.tr_survey.specs.declared.tally.Tally.{Tally}
@@ -109,6 +108,7 @@ abbrev pub tally_after : Place → Tally → Contents → Tally
 tally_after at s p = record {
   packets = capped_count (s.packets + 1);
   records = capped_count (s.records + length p.records);
+  bytes = capped_count (s.bytes + packet_size p);
   absent = capped_count (s.absent + absent_at s p.head.seq);
   below = capped_count (s.below + below_at s p.head.seq);
   first = Some (unwrap_or s.first p.head.begin);
@@ -168,9 +168,6 @@ file_told at s (Some file) = bytes_told (suc (length file.bytes)) at s 0 file.by
 
 -- ---- a stream
 
-abbrev pub file_in : Tree → List ℕ → Numbered → Numbered → Option File
-file_in t folder stream archive = t.file (file_path folder archive.name (file_name stream.name stream.number))
-
 -- of its files in the archives of a folder, in order
 abbrev pub files_told : Tree → List ℕ → List ℕ → Numbered → Tally → List Numbered → Told Tally
 files_told t folder uuid stream s [] = told [] s
@@ -180,7 +177,7 @@ files_told t folder uuid stream s (a ∷ archives) =
 
 -- before its first file, after this number of faults
 abbrev pub no_tally : ℕ → Tally
-no_tally n = record { packets = 0; records = 0; absent = 0; below = 0; first = None; last = None; is_broken = false; faults = n }
+no_tally n = record { packets = 0; records = 0; bytes = 0; absent = 0; below = 0; first = None; last = None; is_broken = false; faults = n }
 
 abbrev pub span_text : Option ℕ → Option Last → List ℕ
 span_text first None = codes " last none"

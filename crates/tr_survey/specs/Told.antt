@@ -1,5 +1,5 @@
 -- What is told, one text after another.
-use Rattle.std.specs.Prelude.{ℕ, ◌+◌, List, [], ◌++◌, length}
+use Rattle.std.specs.Prelude.{ℕ, ◌+◌, List, ◌++◌, length}
 use Rattle.std.specs.List.{flat_map}
 use Rattle.tr_chunk.specs.Audit.{capped_count}
 

@@ -181,7 +181,7 @@ fn tell_front<K: ByteSink>(
     }
     let lines = packet_told(alloc, stream, archive, tally, offset, &packet)?;
     put_line(sink, lines.as_str())?;
-    *tally = tally.after(archive, &packet);
+    *tally = tally.after(archive, &packet, size);
     Ok(Step::Packet(size))
 }
 

@@ -5,10 +5,11 @@ ghost use Rattle.std.specs.String.{string_bytes};
 ghost use Rattle.std.specs.List.{zip};
 ghost use Rattle.std.specs.Option.{option_map};
 ghost use Rattle.tr_folders.specs.Tree.{by_text};
-ghost use Rattle.tr_survey.specs.Heads.{deleted_of, is_next, is_uuid, line_of_wrong, missing_below, wrong_between, wrong_in_order, wrong_lines, wrong_metadata, wrong_streams, wrong_with};
+ghost use Rattle.tr_survey.specs.Heads.{deleted_of, is_next, line_of_wrong, missing_below, wrong_between, wrong_in_order, wrong_lines, wrong_metadata, wrong_streams, wrong_with};
 ghost use Rattle.tr_survey.specs.Listing.{key_of};
 ghost use Rattle.tr_survey.specs.Names.{begin_stamp, end_stamp};
 
+use crate::identifiers::is_uuid;
 use crate::lines::{archive_line, deleted_line, missing_line, no_streams_line};
 use crate::names::Numbered;
 use crate::naming::Naming;
@@ -107,16 +108,6 @@ fn push_in_order(
         push_between(alloc, lines, &archives[at - 1], &archives[at])?;
     }
     Ok(())
-}
-
-/// Whether a session of this identifier, if it has one, has that one.
-fn is_uuid(session: Option<&Uuid>, own: &Uuid) -> bool
-    ensures { result ≡ is_uuid (option_copied session.entry) own.now }
-{
-    match session {
-        None => false,
-        Some(uuid) => *uuid == *own,
-    }
 }
 
 /// What is wrong with an archive's metadata in a session of this identifier, if anything.

@@ -1,13 +1,21 @@
 //! Laws of what a recorder writes and a survey reads.
 
-ghost use Rattle.std.specs.Prelude.{◌≡◌, ◌<◌, ◌≤◌, ◌^◌, ℕ, ℤ, List, Some, IsTrue, false, length};
+ghost use Rattle.std.specs.Prelude.{◌≡◌, Bool, ◌<◌, ◌≤◌, ◌^◌, ℕ, ℤ, List, Some, IsTrue, false, length};
 ghost use Rattle.std.specs.List.{All};
 ghost use Rattle.tr_chunk.specs.ArchiveName.{archive_name_text};
 ghost use Rattle.tr_chunk.specs.Files.{file_name};
 ghost use Rattle.tr_folders.specs.Kept.{file_of};
+ghost use Rattle.tr_folders.specs.Tree.{Tree};
 ghost use Rattle.tr_packet.specs.Metadata.{metadata_of};
 ghost use Rattle.tr_survey.specs.Metadata.{naming_in};
 ghost use Rattle.tr_survey.specs.Names.{archive_number, of_parts, stream_named};
+ghost use Rattle.tr_survey.specs.Order.{Numbered};
+ghost use Rattle.tr_survey.specs.Paths.{archives_folder};
+ghost use Rattle.tr_survey.specs.Sessions.{survey_of};
+ghost use Rattle.tr_survey.specs.Streams.{stream_told};
+ghost use Rattle.tr_survey.specs.Told.{told};
+ghost use Rattle.tr_survey.specs.Whole.{AreRecorded, HasFiles, Recorded, StandsAlone, StreamFiles, archives_in, recorded_stream_told, recorded_text};
+ghost use Rattle.tr_survey.specs.declared.faults.Surveyed.TheVariants.{Faults};
 ghost use Rattle.tr_survey.specs.declared.naming.Naming.TheVariants.{Named};
 ghost use Rattle.tr_terms.specs.Names.{is_name};
 ghost use Rattle.tr_terms.specs.Offsets.{IsOffset};
@@ -29,4 +37,22 @@ pub fn an_archive_is_named_for_its_number()
 pub fn metadata_name_their_trace()
     ensures { (uuid : List ℕ) → length uuid ≡ 16 → All (λ b. b < 256) uuid
         → naming_in (Some (file_of (metadata_of uuid) false)) ≡ Named uuid }
+{}
+
+/// A stream's files that hold packets which its audit passes, and whose counts of discarded records don't fall, have no fault: what
+/// is told of the stream is where numbers are absent, what was lost, and its counts. Does nothing.
+pub fn a_recorded_stream_has_no_fault()
+    ensures told { (t : Tree) (folder uuid : List ℕ) (stream : Numbered) (files : List Recorded) (n : ℕ) → HasFiles t folder stream files
+        → AreRecorded uuid stream.number files
+        → stream_told t folder uuid (archives_in files) n stream ≡ recorded_stream_told uuid stream files n }
+    ensures none { (uuid : List ℕ) (stream : Numbered) (files : List Recorded) (n : ℕ) → AreRecorded uuid stream.number files
+        → (recorded_stream_told uuid stream files n).state ≡ n }
+{}
+
+/// A session that stands in a folder as a recorder writes it, the only one there, is whole, and the survey says just its archives,
+/// its streams, and what each of them lost. Does nothing.
+pub fn a_recorded_session_is_whole()
+    ensures { (asked : Bool) (t : Tree) (dir session uuid : List ℕ) (archives : List Numbered) (streams : List StreamFiles)
+        → StandsAlone t dir session uuid archives streams
+        → survey_of asked t dir ≡ told (recorded_text asked t (archives_folder dir session) session uuid archives streams) (Faults 0) }
 {}

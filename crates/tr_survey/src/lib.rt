@@ -1,22 +1,25 @@
 //! The survey of a folder of archives: what they hold and what is wrong with them, session by session, as a text.
 //!
 //! Below the folder lies `SESSION/archives/ARCHIVE/FILE` for each session, archive and file. A name that isn't of a session,
-//! an archive or a stream's file is passed over, and so is a file in place of a folder. The text is a function of what is
-//! there (`survey_of`), and so is the number of faults, one for each line that begins with `fault`:
+//! an archive or a stream's file is passed over, and so is a file in place of a folder; if it isn't of a session and has a
+//! folder `archives`, a line says so. The text is a function of what is there (`survey_of`), and so is the number of faults,
+//! one for each line that begins with `fault`:
 //!
 //! - `Heads` says what is wrong with archives as a whole: numbers that are missing or there twice, an archive that doesn't
 //!   begin when the one before it ends, metadata that aren't the recorder's of the session's identifier, and streams that have
 //!   no file anywhere.
 //! - `Streams` says what is found packet by packet: numbers that are absent and records that were discarded, and between
 //!   which packets; a packet at fault, after which the next file is judged anew; a file that is missing or can't be read.
-//! - The session's identifier is the one that most archives' metadata name. If none names one, its streams aren't audited.
+//! - `Identifiers` says which identifier is the session's: the one that most archives' metadata name, or, if none names one,
+//!   the one that most files of streams begin with. A packet of another one is at fault.
+//! - `Sums` says, if that is asked for, what the files of each archive add to the counts of their streams.
 //! - Of metadata the first `MOST_METADATA` bytes are looked at. A folder `archives` without an archive is a session with
 //!   `uuid none archives 0`, and no fault. If two channels have a stream of the same number, each is a stream.
 //!
 //! # Example
 //!
 //! ```
-//! let found = survey(alloc, &mut folders, &mut sink, "DIR")?;  // how many faults it reported; None if there is no session
+//! let found = survey(alloc, &mut folders, &mut sink, "DIR", false)?;  // how many faults it reported, or that there is no session
 //! ```
 //!
 //! # What is proved
@@ -31,6 +34,9 @@
 //!   did.
 //! - The names that the recorder gives to archives and files are read as what they say, and so is the identifier in the
 //!   metadata that it writes.
+//! - Of a stream whose files hold packets which its audit passes, with counts of discarded records that don't fall, no fault is
+//!   reported, but just where numbers are absent, what was lost, and its counts. A session that stands below the folder as the
+//!   recorder writes it, with nothing missing and nothing beside it (`StandsAlone`), is `whole`.
 //!
 //! # What is only tested
 //!
@@ -43,13 +49,14 @@
 //! - that memory is there, and that a survey which answers `NoMemory` had to;
 //! - how many bytes of an archive's metadata are read (`MOST_METADATA`, which clauses name), beyond those that the recorder
 //!   writes;
-//! - that the folder of a session's archives is the one that tr_export writes to, and that what it writes of a session is
-//!   `whole`, which `examples/audit` shows.
+//! - that what tr_export writes of a session stands so: that the folder of its archives is the one that is read, that they
+//!   follow each other, and that counts of discarded records don't fall. `examples/audit` shows it.
 #![tactic(auto)]
 
 mod faults;
 mod files;
 mod heads;
+mod identifiers;
 mod laws;
 mod lines;
 mod listing;
@@ -60,12 +67,14 @@ mod packets;
 mod paths;
 mod sessions;
 mod streams;
+mod sums;
 mod surveying;
 mod tally;
 mod writing;
 
 pub use faults::{SurveyFault, Surveyed};
 pub use laws::{
-    a_file_is_named_for_its_stream, an_archive_is_named_for_its_number, metadata_name_their_trace,
+    a_file_is_named_for_its_stream, a_recorded_session_is_whole, a_recorded_stream_has_no_fault,
+    an_archive_is_named_for_its_number, metadata_name_their_trace,
 };
 pub use surveying::survey;

@@ -2,10 +2,11 @@
 
 ghost use Rattle.std.specs.Prelude.{◌≡◌, IfOk, option_copied};
 ghost use Rattle.std.specs.String.{string_bytes};
-ghost use Rattle.tr_survey.specs.Lines.{archive_text, cause_text, cleared_text, counts_text, deleted_text, end_text, file_fault_text, gap_text, last_text, lost_text, missing_text, no_streams_text, packet_fault_text, session_text, stream_text};
+ghost use Rattle.tr_survey.specs.Lines.{archive_text, cause_text, cleared_text, counts_text, deleted_text, end_text, file_fault_text, gap_text, last_text, lost_text, missing_text, no_streams_text, packet_fault_text, passed_text, session_text, shown, stream_text, sums_text};
 ghost use Rattle.tr_survey.specs.Listing.{key_of};
 
 use crate::names::Numbered;
+use crate::sums::Sums;
 use std::alloc::{AllocError, Global};
 use tr_chunk::AuditCause;
 use uuid::Uuid;
@@ -25,6 +26,26 @@ pub(crate) fn session_line(
     let mut buffer = Uuid::encode_buffer();
     let text = uuid.hyphenated().encode_lower(&mut buffer);
     format!(in alloc; "session {session} uuid {text} archives {archives}\n")
+}
+
+/// A byte of any name, as lines show it.
+fn shown(byte: u8) -> u8
+    ensures { result ≡ shown byte }
+{
+    if byte < 32 || byte == 127 { b'?' } else { byte }
+}
+
+/// The line of a folder that is passed over.
+pub(crate) fn passed_line(alloc: Global, name: &str) -> Result<Vec<u8>, AllocError>
+    ensures { IfOk result (λ line. line.items ≡ passed_text name.now) }
+{
+    let mut line = b"passed over ".to_vec(alloc)?;
+    let bytes = name.as_bytes();
+    for byte in bytes {
+        line.push(shown(*byte))?;
+    }
+    line.push(b'\n')?;
+    Ok(line)
 }
 
 /// The line of numbers below the least archive's.
@@ -158,6 +179,22 @@ pub(crate) fn cleared_line(alloc: Global, stream: u64, count: u64) -> Result<Str
     ensures { IfOk result (λ s. string_bytes s ≡ cleared_text stream count) }
 {
     format!(in alloc; "cleared or missing {stream} {count}\n")
+}
+
+/// The line of an archive.
+pub(crate) fn sums_line(
+    alloc: Global,
+    archive: &Numbered,
+    sums: &Sums,
+) -> Result<String, AllocError>
+    ensures { IfOk result (λ s. string_bytes s ≡ sums_text (key_of archive.now) sums.now) }
+{
+    let counts = counts_text(alloc, sums.packets, sums.records, sums.absent, sums.lost)?;
+    let number = archive.number;
+    let name = archive.name.as_str();
+    let counts = counts.as_str();
+    let bytes = sums.bytes;
+    format!(in alloc; "archive {number} {name}{counts} bytes {bytes}\n")
 }
 
 /// The last line: how many faults there are in all.

@@ -6,9 +6,9 @@ ghost use Rattle.std.specs.List.{filter_map};
 ghost use Rattle.std.specs.Option.{option_map};
 ghost use Rattle.tr_survey.specs.Failures.{reads_after, writes_after};
 ghost use Rattle.tr_folders.specs.Tree.{Tree, by_text};
-ghost use Rattle.tr_survey.specs.Listing.{IsListing, archive_at, archives_of, key_of, session_names, streams_of, with_keys, with_name};
+ghost use Rattle.tr_survey.specs.Listing.{IsListing, archive_at, archives_of, key_of, names_in_order, streams_of, with_keys};
 ghost use Rattle.tr_survey.specs.Names.{stream_named};
-ghost use Rattle.tr_survey.specs.Order.{number_cmp};
+ghost use Rattle.tr_survey.specs.Order.{name_cmp, number_cmp};
 
 use crate::faults::SurveyFault;
 use crate::names::{Numbered, archive_number, stream_parts};
@@ -16,7 +16,6 @@ use crate::paths::path_in;
 use std::alloc::{AllocError, Global};
 use std::collections::BTreeSet;
 use tr_folders::{Folders, ReadFault};
-use tr_terms::Name;
 
 /// What stands at a path where a folder is looked for.
 #[derive(Drop)]
@@ -64,20 +63,17 @@ fn in_order(alloc: Global, found: BTreeSet<Numbered>) -> Result<Vec<Numbered>, A
     found.into_iter().collect(alloc)
 }
 
-/// Adds a name, if a session can have it.
+/// Adds a name, unless it is there.
 fn add_name(alloc: Global, found: &mut BTreeSet<String>, name: &str) -> Result<(), AllocError>
-    ensures { OnOk result (by_text found.new.keys ≡ with_name (by_text found.old.keys) name.now) }
+    ensures { OnOk result (by_text found.new.keys ≡ insert_key name_cmp (by_text found.old.keys) name.now) }
 {
-    if Name::new(name).is_none() {
-        return Ok(());
-    }
     found.insert(String::from_str(alloc, name)?)?;
     Ok(())
 }
 
-/// Those of these names that a session can have, in order.
-pub(crate) fn session_names(alloc: Global, names: &[String]) -> Result<Vec<String>, AllocError>
-    ensures { IfOk result (λ found. by_text found.items ≡ session_names (by_text names.now)) }
+/// These names, each once and in order.
+pub(crate) fn names_in_order(alloc: Global, names: &[String]) -> Result<Vec<String>, AllocError>
+    ensures { IfOk result (λ found. by_text found.items ≡ names_in_order (by_text names.now)) }
 {
     let mut found = BTreeSet::new(alloc);
     for name in names {

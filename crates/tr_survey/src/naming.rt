@@ -6,9 +6,10 @@ ghost use Rattle.std.specs.Option.{option_map};
 ghost use Rattle.tr_survey.specs.Failures.{reads_after, writes_after};
 ghost use Rattle.tr_folders.specs.Tree.{File, Tree};
 ghost use Rattle.tr_terms.specs.declared.limits.TheConstants.{MOST_METADATA};
-ghost use Rattle.tr_survey.specs.Metadata.{ends_line, is_named, most_named, naming_by, naming_in, of_two, quoted, times, uuid_in, uuid_in_line, uuid_named, without_indent};
+ghost use Rattle.tr_survey.specs.Metadata.{ends_line, most_named, naming_by, naming_in, quoted, uuid_in, uuid_in_line, uuid_named, without_indent};
 
 use crate::faults::SurveyFault;
+use crate::identifiers::most_often;
 use std::alloc::{AllocError, Global};
 use tr_folders::{Folders, ReadFault, read_front};
 use tr_packet::metadata_text;
@@ -157,53 +158,13 @@ fn uuid_named(naming: &Naming) -> Option<Uuid>
     }
 }
 
-/// Whether this identifier is named.
-fn is_named(uuid: &Uuid, naming: &Naming) -> bool
-    ensures { result ≡ is_named uuid.now naming.now }
+/// The identifier that metadata name most often; of several the first.
+pub(crate) fn most_named(alloc: Global, namings: &[Naming]) -> Result<Option<Uuid>, AllocError>
+    ensures { IfOk result (λ uuid. uuid ≡ most_named namings.now) }
 {
-    match naming {
-        Naming::Unfinished | Naming::Unreadable | Naming::NoUuid => false,
-        Naming::Other(own) | Naming::Named(own) => *own == *uuid,
-    }
-}
-
-/// How often an identifier is named.
-fn times(namings: &[Naming], uuid: &Uuid) -> usize
-    ensures { result ≡ times namings.now uuid.now }
-{
-    let mut count = 0;
+    let mut uuids = Vec::with_capacity(alloc, namings.len())?;
     for naming in namings {
-        if is_named(uuid, naming) {
-            count += 1;
-        }
+        uuids.push(uuid_named(naming))?;
     }
-    count
-}
-
-/// Of two identifiers the one that is named more often, or the first.
-fn of_two(namings: &[Naming], first: Option<Uuid>, other: Option<Uuid>) -> Option<Uuid>
-    ensures { result ≡ of_two namings.now first other }
-{
-    let Some(uuid) = other else {
-        return first;
-    };
-    let Some(own) = first else {
-        return other;
-    };
-    if own != uuid && times(namings, &own) < times(namings, &uuid) {
-        Some(uuid)
-    } else {
-        Some(own)
-    }
-}
-
-/// The identifier that is named most often; of several the first.
-pub(crate) fn most_named(namings: &[Naming]) -> Option<Uuid>
-    ensures { result ≡ most_named namings.now }
-{
-    let mut first = None;
-    for naming in namings {
-        first = of_two(namings, first, uuid_named(naming));
-    }
-    first
+    Ok(most_often(&uuids))
 }

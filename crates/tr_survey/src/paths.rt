@@ -2,8 +2,10 @@
 
 ghost use Rattle.std.specs.Prelude.{◌≡◌, IfOk};
 ghost use Rattle.std.specs.String.{string_bytes};
+ghost use Rattle.tr_chunk.specs.Files.{file_name};
 ghost use Rattle.tr_survey.specs.Paths.{archives_folder, file_path, path_of};
 
+use crate::names::Numbered;
 use std::alloc::{AllocError, Global};
 
 /// The folder of a session's archives: `DIR/SESSION/archives`.
@@ -30,4 +32,20 @@ pub(crate) fn file_path(
     ensures { IfOk result (λ s. string_bytes s ≡ file_path folder.now archive.now file.now) }
 {
     format!(in alloc; "{folder}/{archive}/{file}")
+}
+
+/// The path of a stream's file in an archive of a folder.
+pub(crate) fn stream_path(
+    alloc: Global,
+    folder: &str,
+    archive: &Numbered,
+    stream: &Numbered,
+) -> Result<String, AllocError>
+    ensures { IfOk result (λ s. string_bytes s
+        ≡ file_path folder.now (string_bytes archive.now.name) (file_name (string_bytes stream.now.name) stream.now.number)) }
+{
+    let name = archive.name.as_str();
+    let channel = stream.name.as_str();
+    let number = stream.number;
+    format!(in alloc; "{folder}/{name}/{channel}_{number}")
 }

@@ -2,40 +2,26 @@
 
 ghost use Rattle.std.specs.Prelude.{◌≡◌, ◌<◌, Some, IfOk, OnOk, OnErr, length, map, ℕ, List};
 ghost use Rattle.std.specs.String.{string_bytes};
-ghost use Rattle.tr_chunk.specs.Files.{file_name};
 ghost use Rattle.tr_folders.specs.Tree.{Tree};
 ghost use Rattle.tr_survey.specs.Failures.{reads_after, writes_after};
 ghost use Rattle.tr_survey.specs.Listing.{key_of};
-ghost use Rattle.tr_survey.specs.Paths.{file_path};
+ghost use Rattle.tr_survey.specs.Paths.{file_in};
 ghost use Rattle.tr_survey.specs.Prefix.{IsPrefixOut, IsTold};
-ghost use Rattle.tr_survey.specs.Streams.{are_deleted, ended_told, file_in, file_told, files_told, place, span_text, stream_told, streams_told};
+ghost use Rattle.tr_survey.specs.Streams.{are_deleted, ended_told, file_told, files_told, no_tally, place, span_text, stream_told, streams_told};
+ghost use Rattle.tr_survey.specs.Sums.{sums_after_files, sums_after_streams};
 
 use crate::faults::SurveyFault;
 use crate::files::{tell_file, tell_no_file, tell_unreadable};
 use crate::lines::{cleared_line, counts_text, last_text, stream_line};
 use crate::names::Numbered;
+use crate::paths::stream_path;
+use crate::sums::Sums;
 use crate::tally::{Last, Tally, lost_by};
 use crate::writing::put_line;
 use std::alloc::{AllocError, Global};
 use tr_folders::{Folders, ReadFault};
 use tr_record::ByteSink;
 use uuid::Uuid;
-
-/// The path of a stream's file in an archive of a folder.
-fn stream_path(
-    alloc: Global,
-    folder: &str,
-    archive: &Numbered,
-    stream: &Numbered,
-) -> Result<String, AllocError>
-    ensures { IfOk result (λ s. string_bytes s
-        ≡ file_path folder.now (string_bytes archive.now.name) (file_name (string_bytes stream.now.name) stream.now.number)) }
-{
-    let name = archive.name.as_str();
-    let channel = stream.name.as_str();
-    let number = stream.number;
-    format!(in alloc; "{folder}/{name}/{channel}_{number}")
-}
 
 /// Tells of a stream's file in an archive of a folder.
 fn tell_archive<F: Folders, K: ByteSink>(
@@ -80,7 +66,7 @@ fn tell_archive<F: Folders, K: ByteSink>(
     }
 }
 
-/// Tells of a stream's files in the archives of a folder.
+/// Tells of a stream's files in the archives of a folder, and adds to the sums of each what its file adds to the stream's counts.
 fn tell_files<F: Folders, K: ByteSink>(
     alloc: Global,
     folders: &mut F,
@@ -90,9 +76,14 @@ fn tell_files<F: Folders, K: ByteSink>(
     archives: &[Numbered],
     stream: &Numbered,
     tally: &mut Tally,
+    sums: &mut [Sums],
     buffer: &mut [u8],
 ) -> Result<(), SurveyFault>
-    requires { 0 < length buffer.old }
+    requires room { 0 < length buffer.old }
+    requires sums { length sums.old ≡ length archives.now }
+    ensures sums { OnOk result ((t : Tree) → F.tree folders.old ≡ Some t
+        → sums.new ≡ sums_after_files t folder.now uuid.now (key_of stream.now) tally.old (map key_of archives.now) sums.old) }
+    ensures len { length sums.new ≡ length sums.old }
     ensures ok { OnOk result ((t : Tree) → F.tree folders.old ≡ Some t
         → IsTold (files_told t folder.now uuid.now (key_of stream.now) tally.old (map key_of archives.now))
         (K.taken sink.old) (K.taken sink.new) tally.new) }
@@ -104,10 +95,20 @@ fn tell_files<F: Folders, K: ByteSink>(
     ensures writes { K.failures sink.new ≡ writes_after result (K.failures sink.old) }
     ensures room { length buffer.new ≡ length buffer.old }
 {
-    for archive in archives {
+    for at in 0..archives.len() {
+        let before = *tally;
         tell_archive(
-            alloc, folders, sink, uuid, folder, archive, stream, tally, buffer,
+            alloc,
+            folders,
+            sink,
+            uuid,
+            folder,
+            &archives[at],
+            stream,
+            tally,
+            buffer,
         )?;
+        sums[at] = sums[at].with_rises(&before, tally);
     }
     Ok(())
 }
@@ -162,10 +163,15 @@ fn tell_stream<F: Folders, K: ByteSink>(
     folder: &str,
     archives: &[Numbered],
     stream: &Numbered,
+    sums: &mut [Sums],
     faults: u64,
     buffer: &mut [u8],
 ) -> Result<u64, SurveyFault>
-    requires { 0 < length buffer.old }
+    requires room { 0 < length buffer.old }
+    requires sums { length sums.old ≡ length archives.now }
+    ensures sums { OnOk result ((t : Tree) → F.tree folders.old ≡ Some t
+        → sums.new ≡ sums_after_files t folder.now uuid.now (key_of stream.now) (no_tally faults) (map key_of archives.now) sums.old) }
+    ensures len { length sums.new ≡ length sums.old }
     ensures ok { IfOk result (λ n. (t : Tree) → F.tree folders.old ≡ Some t
         → IsTold (stream_told t folder.now uuid.now (map key_of archives.now) faults (key_of stream.now))
         (K.taken sink.old) (K.taken sink.new) n) }
@@ -179,14 +185,14 @@ fn tell_stream<F: Folders, K: ByteSink>(
 {
     let mut tally = Tally::new(faults);
     tell_files(
-        alloc, folders, sink, uuid, folder, archives, stream, &mut tally, buffer,
+        alloc, folders, sink, uuid, folder, archives, stream, &mut tally, sums, buffer,
     )?;
     let lines = end_lines(alloc, stream, are_deleted(archives), &tally)?;
     put_line(sink, lines.as_str())?;
     Ok(tally.faults)
 }
 
-/// Tells of streams, after this number of faults. How many there are then.
+/// Tells of streams, after this number of faults, and adds to the sums of each archive. How many faults there are then.
 pub(crate) fn tell_streams<F: Folders, K: ByteSink>(
     alloc: Global,
     folders: &mut F,
@@ -195,10 +201,15 @@ pub(crate) fn tell_streams<F: Folders, K: ByteSink>(
     folder: &str,
     archives: &[Numbered],
     streams: &[Numbered],
+    sums: &mut [Sums],
     faults: u64,
     buffer: &mut [u8],
 ) -> Result<u64, SurveyFault>
-    requires { 0 < length buffer.old }
+    requires room { 0 < length buffer.old }
+    requires sums { length sums.old ≡ length archives.now }
+    ensures sums { OnOk result ((t : Tree) → F.tree folders.old ≡ Some t
+        → sums.new ≡ sums_after_streams t folder.now uuid.now (map key_of archives.now) faults (map key_of streams.now) sums.old) }
+    ensures len { length sums.new ≡ length sums.old }
     ensures ok { IfOk result (λ n. (t : Tree) → F.tree folders.old ≡ Some t
         → IsTold (streams_told t folder.now uuid.now (map key_of archives.now) faults (map key_of streams.now))
         (K.taken sink.old) (K.taken sink.new) n) }
@@ -213,7 +224,7 @@ pub(crate) fn tell_streams<F: Folders, K: ByteSink>(
     let mut count = faults;
     for stream in streams {
         count = tell_stream(
-            alloc, folders, sink, uuid, folder, archives, stream, count, buffer,
+            alloc, folders, sink, uuid, folder, archives, stream, sums, count, buffer,
         )?;
     }
     Ok(count)

@@ -1,22 +1,24 @@
 //! The survey of a folder.
 
-ghost use Rattle.std.specs.Prelude.{◌≡◌, ℕ, Option, Some, None, IfOk, OnErr, length};
+ghost use Rattle.std.specs.Prelude.{◌≡◌, ℕ, Option, Some, None, IfOk, OnOk, OnErr, length};
 ghost use Rattle.tr_folders.specs.Tree.{Tree, by_text};
+ghost use Rattle.tr_record.specs.Bytes.{and_then_bytes};
 ghost use Rattle.tr_survey.specs.Failures.{reads_after, writes_after};
 ghost use Rattle.tr_survey.specs.Prefix.{IsPrefixOut, IsTold};
-ghost use Rattle.tr_survey.specs.Sessions.{HasToldPrefix, TellsFolder, closed_told, end_of, faults_of, name_told, names_told, surveyed_of};
+ghost use Rattle.tr_survey.specs.Sessions.{HasToldPrefix, TellsFolder, able_told, closed_told, end_of, faults_of, has_archives, name_told, names_told, passed_told, surveyed_of};
 ghost use Rattle.tr_survey.specs.Told.{told};
 ghost use Rattle.tr_terms.specs.declared.limits.TheConstants.{MOST_METADATA};
 
 use crate::faults::{SurveyFault, Surveyed};
-use crate::lines::{last_line, session_line};
-use crate::listing::{Listing, archives_among, listing_at, session_names};
+use crate::lines::{last_line, passed_line, session_line};
+use crate::listing::{Listing, archives_among, listing_at, names_in_order};
 use crate::paths::archives_path;
 use crate::sessions::tell_archives;
-use crate::writing::put_line;
+use crate::writing::{put_bytes, put_line};
 use std::alloc::Global;
 use tr_folders::Folders;
 use tr_record::ByteSink;
+use tr_terms::Name;
 use tr_terms::limits::MOST_METADATA;
 
 /// Tells of a session whose folder of archives can't be read.
@@ -44,21 +46,66 @@ fn faults_of(faults: Option<u64>) -> u64
     faults.unwrap_or(0)
 }
 
-/// Tells of what has this name, if it is a session. How many faults there are then; None if there was no session yet.
-fn tell_name<F: Folders, K: ByteSink>(
+/// Whether a folder of archives stands below the folder of this name, whether it can be read or not.
+fn has_archives<F: Folders>(
+    alloc: Global,
+    folders: &mut F,
+    dir: &str,
+    name: &str,
+) -> Result<bool, SurveyFault>
+    ensures is { IfOk result (λ there. (t : Tree) → F.tree folders.old ≡ Some t → there ≡ has_archives t dir.now name.now) }
+    ensures tree { F.tree folders.new ≡ F.tree folders.old }
+    ensures failures { F.failures folders.new ≡ reads_after result (F.failures folders.old) }
+    ensures writes { (n : ℕ) → writes_after result n ≡ n }
+{
+    let folder = archives_path(alloc, dir, name)?;
+    match listing_at(alloc, folders, folder.as_str())? {
+        Listing::Absent => Ok(false),
+        Listing::Unreadable => Ok(true),
+        Listing::Names(_) => Ok(true),
+    }
+}
+
+/// Tells that a name is passed over, if it has a folder of archives.
+fn tell_passed<F: Folders, K: ByteSink>(
     alloc: Global,
     folders: &mut F,
     sink: &mut K,
     dir: &str,
     name: &str,
+) -> Result<(), SurveyFault>
+    ensures ok { OnOk result ((t : Tree) → F.tree folders.old ≡ Some t
+        → K.taken sink.new ≡ and_then_bytes (K.taken sink.old) (passed_told t dir.now name.now)) }
+    ensures err { OnErr result ((t : Tree) → F.tree folders.old ≡ Some t
+        → IsPrefixOut (passed_told t dir.now name.now) (K.taken sink.old) (K.taken sink.new)) }
+    ensures tree { F.tree folders.new ≡ F.tree folders.old }
+    ensures reads { F.failures folders.new ≡ reads_after result (F.failures folders.old) }
+    ensures writes { K.failures sink.new ≡ writes_after result (K.failures sink.old) }
+{
+    if !has_archives(alloc, folders, dir, name)? {
+        return Ok(());
+    }
+    let line = passed_line(alloc, name)?;
+    put_bytes(sink, &line)
+}
+
+/// Tells of what has this name, which a session can have, if it is one. How many faults there are then; None if there was no
+/// session yet.
+fn tell_able<F: Folders, K: ByteSink>(
+    alloc: Global,
+    folders: &mut F,
+    sink: &mut K,
+    dir: &str,
+    name: &str,
+    asked: bool,
     faults: Option<u64>,
     buffer: &mut [u8],
 ) -> Result<Option<u64>, SurveyFault>
     requires { length buffer.old ≡ MOST_METADATA }
     ensures ok { IfOk result (λ n. (t : Tree) → F.tree folders.old ≡ Some t
-        → IsTold (name_told t dir.now faults name.now) (K.taken sink.old) (K.taken sink.new) n) }
+        → IsTold (able_told asked t dir.now faults name.now) (K.taken sink.old) (K.taken sink.new) n) }
     ensures err { OnErr result ((t : Tree) → F.tree folders.old ≡ Some t
-        → IsPrefixOut (name_told t dir.now faults name.now).text (K.taken sink.old) (K.taken sink.new)) }
+        → IsPrefixOut (able_told asked t dir.now faults name.now).text (K.taken sink.old) (K.taken sink.new)) }
     ensures tree { F.tree folders.new ≡ F.tree folders.old }
     ensures reads { F.failures folders.new ≡ reads_after result (F.failures folders.old) }
     ensures writes { K.failures sink.new ≡ writes_after result (K.failures sink.old) }
@@ -81,33 +128,72 @@ fn tell_name<F: Folders, K: ByteSink>(
         name,
         folder.as_str(),
         &archives,
+        asked,
         faults_of(faults),
         buffer,
     )?;
     Ok(Some(count))
 }
 
-/// Tells of the sessions among these names, in order. How many faults there are; None if none is a session.
+/// Tells of what has this name. How many faults there are then; None if there was no session yet.
+fn tell_name<F: Folders, K: ByteSink>(
+    alloc: Global,
+    folders: &mut F,
+    sink: &mut K,
+    dir: &str,
+    name: &str,
+    asked: bool,
+    faults: Option<u64>,
+    buffer: &mut [u8],
+) -> Result<Option<u64>, SurveyFault>
+    requires { length buffer.old ≡ MOST_METADATA }
+    ensures ok { IfOk result (λ n. (t : Tree) → F.tree folders.old ≡ Some t
+        → IsTold (name_told asked t dir.now faults name.now) (K.taken sink.old) (K.taken sink.new) n) }
+    ensures err { OnErr result ((t : Tree) → F.tree folders.old ≡ Some t
+        → IsPrefixOut (name_told asked t dir.now faults name.now).text (K.taken sink.old) (K.taken sink.new)) }
+    ensures tree { F.tree folders.new ≡ F.tree folders.old }
+    ensures reads { F.failures folders.new ≡ reads_after result (F.failures folders.old) }
+    ensures writes { K.failures sink.new ≡ writes_after result (K.failures sink.old) }
+    ensures room { length buffer.new ≡ length buffer.old }
+{
+    if Name::new(name).is_none() {
+        tell_passed(alloc, folders, sink, dir, name)?;
+        return Ok(faults);
+    }
+    tell_able(alloc, folders, sink, dir, name, asked, faults, buffer)
+}
+
+/// Tells of these names, in order. How many faults there are; None if none is a session.
 fn tell_names<F: Folders, K: ByteSink>(
     alloc: Global,
     folders: &mut F,
     sink: &mut K,
     dir: &str,
     names: &[String],
+    asked: bool,
     buffer: &mut [u8],
 ) -> Result<Option<u64>, SurveyFault>
     requires { length buffer.old ≡ MOST_METADATA }
     ensures ok { IfOk result (λ n. (t : Tree) → F.tree folders.old ≡ Some t
-        → IsTold (names_told t dir.now None (by_text names.now)) (K.taken sink.old) (K.taken sink.new) n) }
+        → IsTold (names_told asked t dir.now None (by_text names.now)) (K.taken sink.old) (K.taken sink.new) n) }
     ensures err { OnErr result ((t : Tree) → F.tree folders.old ≡ Some t
-        → IsPrefixOut (names_told t dir.now None (by_text names.now)).text (K.taken sink.old) (K.taken sink.new)) }
+        → IsPrefixOut (names_told asked t dir.now None (by_text names.now)).text (K.taken sink.old) (K.taken sink.new)) }
     ensures tree { F.tree folders.new ≡ F.tree folders.old }
     ensures reads { F.failures folders.new ≡ reads_after result (F.failures folders.old) }
     ensures writes { K.failures sink.new ≡ writes_after result (K.failures sink.old) }
 {
     let mut faults = None;
     for name in names {
-        faults = tell_name(alloc, folders, sink, dir, name.as_str(), faults, buffer)?;
+        faults = tell_name(
+            alloc,
+            folders,
+            sink,
+            dir,
+            name.as_str(),
+            asked,
+            faults,
+            buffer,
+        )?;
     }
     Ok(faults)
 }
@@ -131,9 +217,10 @@ fn put_end<K: ByteSink>(
     Ok(Surveyed::Faults(count))
 }
 
-/// Tells what stands below a folder, session by session, and what is wrong with it, as the crate says it. If it has no session,
-/// or can't be read, nothing goes out. It holds the names of what it reads, a piece of a file and the packet that it reads,
-/// however long the files are. What can't be read below the folder is told, and the survey goes on.
+/// Tells what stands below a folder, session by session, and what is wrong with it, as the crate says it, with a line for each
+/// archive if these are asked for. If the folder can't be read, nothing goes out. It holds the names of what it reads, the
+/// counts of each archive of a session, a piece of a file and the packet that it reads, however long the files are. What can't be
+/// read below the folder is told, and the survey goes on.
 ///
 /// # Errors
 ///
@@ -144,11 +231,12 @@ pub fn survey<F: Folders, K: ByteSink>(
     folders: &mut F,
     sink: &mut K,
     dir: &str,
+    archives: bool,
 ) -> Result<Surveyed, SurveyFault>
     ensures tells { IfOk result (λ said. (t : Tree) → F.tree folders.old ≡ Some t
-        → TellsFolder t dir.now said (K.taken sink.old) (K.taken sink.new)) }
+        → TellsFolder archives t dir.now said (K.taken sink.old) (K.taken sink.new)) }
     ensures err { OnErr result ((t : Tree) → F.tree folders.old ≡ Some t
-        → HasToldPrefix t dir.now (K.taken sink.old) (K.taken sink.new)) }
+        → HasToldPrefix archives t dir.now (K.taken sink.old) (K.taken sink.new)) }
     ensures tree { F.tree folders.new ≡ F.tree folders.old }
     ensures reads { F.failures folders.new ≡ reads_after result (F.failures folders.old) }
     ensures writes { K.failures sink.new ≡ writes_after result (K.failures sink.old) }
@@ -157,8 +245,9 @@ pub fn survey<F: Folders, K: ByteSink>(
     let names = match listing_at(alloc, folders, dir)? {
         Listing::Absent => return Ok(Surveyed::NoSession),
         Listing::Unreadable => return Ok(Surveyed::Unlisted),
-        Listing::Names(names) => session_names(alloc, &names)?,
+        Listing::Names(names) => names_in_order(alloc, &names)?,
     };
-    let faults = tell_names(alloc, folders, sink, dir, &names, buffer.as_mut_slice())?;
+    let buffer = buffer.as_mut_slice();
+    let faults = tell_names(alloc, folders, sink, dir, &names, archives, buffer)?;
     put_end(alloc, sink, faults)
 }

@@ -2,6 +2,7 @@
 
 ghost use Rattle.std.specs.Prelude.{◌≡◌, ℕ, List, option_map};
 ghost use Rattle.tr_chunk.specs.Audit.{starts_above};
+ghost use Rattle.tr_packet.specs.Packets.{packet_size};
 ghost use Rattle.tr_survey.specs.Listing.{key_of};
 ghost use Rattle.tr_survey.specs.declared.tally.Last as value;
 ghost use Rattle.tr_survey.specs.Streams.{absent_at, absent_before, and_one, before, below_at, broken, cause_of, falls, last_of, lost_by, next_number, no_tally, place, tally_after, unexplained};
@@ -29,6 +30,8 @@ pub(crate) struct Tally {
     pub(crate) packets: u64,
     /// Their records.
     pub(crate) records: u64,
+    /// Their bytes.
+    pub(crate) bytes: u64,
     /// The numbers that no packet has, as far as this is known.
     pub(crate) absent: u64,
     /// Those of them that are below the first packet.
@@ -160,6 +163,7 @@ impl Tally {
         Tally {
             packets: 0,
             records: 0,
+            bytes: 0,
             absent: 0,
             below: 0,
             first: None,
@@ -209,8 +213,9 @@ impl Tally {
         }
     }
 
-    /// The counts after a packet of an archive.
-    pub(crate) fn after(&self, archive: &Numbered, packet: &PacketView<'_>) -> Tally
+    /// The counts after a packet of an archive, which has this many bytes.
+    pub(crate) fn after(&self, archive: &Numbered, packet: &PacketView<'_>, size: usize) -> Tally
+        requires { size ≡ packet_size packet.now }
         ensures { (uuid : List ℕ) (stream : ℕ) → result ≡ tally_after (place uuid stream (key_of archive.now)) self.now packet.now }
     {
         let head = packet.head();
@@ -218,6 +223,7 @@ impl Tally {
         Tally {
             packets: self.packets.saturating_add(1),
             records: self.records.saturating_add(packet.count() as u64),
+            bytes: self.bytes.saturating_add(size as u64),
             absent: self.absent.saturating_add(self.absent_at(head.seq)),
             below: self.below.saturating_add(self.below_at(head.seq)),
             first: Some(self.first.unwrap_or(head.begin.get())),

@@ -13,16 +13,26 @@ use crate::tally::Tally;
 use tr_record::{ByteSink, put_all};
 
 /// Writes a line.
+pub(crate) fn put_bytes<K: ByteSink>(sink: &mut K, line: &[u8]) -> Result<(), SurveyFault>
+    ensures ok { OnOk result (K.taken sink.new ≡ and_then_bytes (K.taken sink.old) line.now) }
+    ensures err { OnErr result (IsPrefixOut line.now (K.taken sink.old) (K.taken sink.new)) }
+    ensures writes { K.failures sink.new ≡ writes_after result (K.failures sink.old) }
+    ensures reads { (n : ℕ) → reads_after result n ≡ n }
+{
+    match put_all(sink, line) {
+        Ok(()) => Ok(()),
+        Err(_) => Err(SurveyFault::Write),
+    }
+}
+
+/// Writes a line that is text.
 pub(crate) fn put_line<K: ByteSink>(sink: &mut K, line: &str) -> Result<(), SurveyFault>
     ensures ok { OnOk result (K.taken sink.new ≡ and_then_bytes (K.taken sink.old) line.now) }
     ensures err { OnErr result (IsPrefixOut line.now (K.taken sink.old) (K.taken sink.new)) }
     ensures writes { K.failures sink.new ≡ writes_after result (K.failures sink.old) }
     ensures reads { (n : ℕ) → reads_after result n ≡ n }
 {
-    match put_all(sink, line.as_bytes()) {
-        Ok(()) => Ok(()),
-        Err(_) => Err(SurveyFault::Write),
-    }
+    put_bytes(sink, line.as_bytes())
 }
 
 /// Writes a line of a stream's fault, and counts it.

@@ -149,7 +149,7 @@ fn failing_folders(rt: HostRuntime) {
             failures: 0,
         };
         let mut sink = MemorySink::new(alloc, 7);
-        let answer = survey(alloc, &mut folders, &mut sink, "d");
+        let answer = survey(alloc, &mut folders, &mut sink, "d", false);
         let out = sink.into_bytes();
         assert_front(&rt, &out);
         assert_same(&rt, lines_of(&out), (lines_known(calls), true));
@@ -177,7 +177,7 @@ fn failing_sinks(rt: HostRuntime) {
             room,
             failures: 0,
         };
-        let answer = survey(alloc, &mut folders, &mut sink, "d");
+        let answer = survey(alloc, &mut folders, &mut sink, "d", false);
         assert_same(&rt, (answer, sink.failures), (Err(SurveyFault::Write), 1));
         let out = sink.sink.into_bytes();
         assert_same(&rt, out.len(), room);

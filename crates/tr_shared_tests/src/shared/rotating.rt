@@ -263,3 +263,38 @@ fn ticks<N: Names>(rt: &(impl Abort + Wait), plan: Plan)
 fn a_tick_rotates_by_period_and_by_size(rt: HostRuntime) {
     ticks::<Brand>(&rt, plan_of(&rt, rt.alloc(), Mode::Discard, 1));
 }
+
+/// What an operator does in a name of its own is answered as without one.
+fn operates<N: Names>(rt: &(impl Abort + Wait), plan: Plan)
+    requires { plan ≡ N.plan }
+{
+    let (shared, mut producers) = built::<N>(rt, plan);
+    let mut producer = last(rt, &mut producers);
+    let mut first = shared.operator(rt);
+    let mut second = shared.operator(rt);
+    let not_active = Err(SessionFault::NotActive);
+    assert_same(rt, shared.stop_by(rt, &mut first), not_active);
+    assert_same(rt, shared.start_by(rt, &mut first, moment(1)), Ok(()));
+    assert_offered(rt, &shared, &mut producer, 2, 50, stored(0, 0));
+    let begun = shared.rotate_begin_by(rt, &mut second, moment(3));
+    assert_same(rt, begun, Ok(0));
+    assert_same(rt, shared.rotate_next_by(rt, &mut first), cut(0, 1));
+    let ended = shared.rotate_finish_by(rt, &mut second);
+    assert_same(rt, ended, Ok(archive(0, 1, 3)));
+    assert_offered(rt, &shared, &mut producer, 4, 50, stored(1, 1));
+    assert_same(rt, shared.clear_by(rt, &mut first), Ok(1));
+    let rotated = shared.rotate_by(rt, &mut second, moment(5));
+    assert_same(rt, rotated, Ok(archive(1, 3, 5)));
+    assert_same(rt, shared.set_schedule_by(rt, &mut first, None), Ok(()));
+    let ticked = shared.tick_by(rt, &mut second, moment(9));
+    assert_same(rt, ticked, Ok(Ticked::Idle));
+    assert_same(rt, shared.stop_by(rt, &mut first), Ok(()));
+    drop(producer);
+    drop(producers);
+    drop(shared);
+}
+
+#[test]
+fn an_operator_is_answered_as_without_one(rt: HostRuntime) {
+    operates::<Brand>(&rt, plan_of(&rt, rt.alloc(), Mode::Discard, 1));
+}

@@ -9,23 +9,23 @@ returns-in_default-clause-ends g c = ends_without_memory _ _
 
 pub returns-in-Ok-Some-Audit-clause-no_session : goal.returns-in-Ok-Some-Audit-clause-no_session
 returns-in-Ok-Some-Audit-clause-no_session g c is =
-    let asked : Some (Audit c.in-Ok-Some-Audit.dir.now) ≡ job_asked (map (λ w. w.now) c.args.words.now) =
+    let asked : Some (Audit c.in-Ok-Some-Audit.dir.now c.in-Ok-Some-Audit.archives) ≡ job_asked (map (λ w. w.now) c.args.words.now) =
     sym (ap (option_map task_of) (c.in-Ok-Some-Audit.field-0-is ∙ ap Some c.in-Ok-Some-Audit.field-0-0-is))
     ∙ c.in-Ok-Some-Audit.ensures.value ∙ ap (λ l. job_of (map (λ w. w.now) l)) c.as_slice.ensures.value ∙ ap job_of c.in-Ok.ensures in
     subst
     (λ (task : Option Task). HasFault task (outside_of g.S.ByteSource g.K.ByteSink g.D.Disk g.F.Folders c.args.input.now c.args.out.now c.args.disk.now c.args.folders.now)
     (outside_of g.S.ByteSource g.K.ByteSink g.D.Disk g.F.Folders c.args.input.now c.end_audit.new.out c.args.disk.now c.end_audit.new.folders))
-    asked (inr (inr (inr (no_session _ _ _ _ _ _ c.end_audit.ensures is))))
+    asked (inr (inr (inr (no_session _ _ _ _ _ _ _ c.end_audit.ensures is))))
 
 pub returns-in-Ok-Some-Audit-clause-fault : goal.returns-in-Ok-Some-Audit-clause-fault
 returns-in-Ok-Some-Audit-clause-fault g c is =
-    let asked : Some (Audit c.in-Ok-Some-Audit.dir.now) ≡ job_asked (map (λ w. w.now) c.args.words.now) =
+    let asked : Some (Audit c.in-Ok-Some-Audit.dir.now c.in-Ok-Some-Audit.archives) ≡ job_asked (map (λ w. w.now) c.args.words.now) =
     sym (ap (option_map task_of) (c.in-Ok-Some-Audit.field-0-is ∙ ap Some c.in-Ok-Some-Audit.field-0-0-is))
     ∙ c.in-Ok-Some-Audit.ensures.value ∙ ap (λ l. job_of (map (λ w. w.now) l)) c.as_slice.ensures.value ∙ ap job_of c.in-Ok.ensures in
     subst
     (λ (task : Option Task). HasFault task (outside_of g.S.ByteSource g.K.ByteSink g.D.Disk g.F.Folders c.args.input.now c.args.out.now c.args.disk.now c.args.folders.now)
     (outside_of g.S.ByteSource g.K.ByteSink g.D.Disk g.F.Folders c.args.input.now c.end_audit.new.out c.args.disk.now c.end_audit.new.folders))
-    asked (elim (audit_fault _ _ _ _ _ _ c.end_audit.ensures is) [ inl writes ↦ inl (inl (inr writes)) | inr lacks ↦ inr (elim lacks [ inl reads ↦ inl reads | inr hidden ↦ inr (inl hidden) ]) ])
+    asked (elim (audit_fault _ _ _ _ _ _ _ c.end_audit.ensures is) [ inl writes ↦ inl (inl (inr writes)) | inr lacks ↦ inr (elim lacks [ inl reads ↦ inl reads | inr hidden ↦ inr (inl hidden) ]) ])
 
 pub returns-clause-ends : goal.returns-clause-ends
 returns-clause-ends g c = ends_without_memory _ _

@@ -3,6 +3,8 @@ use Rattle.std.proofs.lemmas.List.{length-map}
 use Rattle.std.proofs.lemmas.List.FromFn.{length-map-range_with_len}
 use Rattle.tr_seats.proofs.OverwriteLemmas.{configured-overwrites}
 use Rattle.tr_seats.proofs.PlanLemmas.{configured-unused}
+use Rattle.tr_journal.specs.Journals.{JournalState}
+use Rattle.tr_operations.specs.declared.step.DeskStep.{DeskStep}
 use Rattle.tr_seats.proofs.making.plan_watched.Goals as goal
 use Rattle.tr_seats.specs.Books.{AreOverwriting}
 use Rattle.tr_seats.specs.Plans.{AreUnused, PlannedState, streams_in, tellers_in}
@@ -23,7 +25,7 @@ invariant_of-result g c =
     let items = c.in_ok-streams.streams.items in
     let whole : session_of c.into_parts-book.result.0 (streams_in items) ≡ c.in_ok-configure.field-0 =
     (λ j. session_of c.into_parts-book.result.0 (c.in_ok-streams.ensures.streams j)) ∙ c.into_parts-book.ensures.value in
-    let many : c.len.result ≡ length c.into_parts-book.result.1.items = omega (arith, c.len.ensures) in (
+    let many : c.len.result ≡ length c.into_parts-book.result.1.items = c.len.ensures ∙ c.into_parts-book.result.1.ok.0 in (
       record {
         books = length-map items (λ (p : PlannedState). p.books) ∙ sym (length-map items (λ (p : PlannedState). p.stream));
         session = subst HasItsStreams (sym whole) c.into_parts-book.ensures.own;
@@ -38,6 +40,7 @@ invariant_of-result g c =
           (c.in_ok-streams.ensures.tellers ∙ c.in_ok-tally.ensures.tellers),
       c.in_ok-tally.ensures.watchers
           ∙ ap (λ (t : TallyState). new_watchers t.table t.streams t.watchers) (sym c.in_ok-tally.ensures.tally),
+      ap (λ (j : JournalState DeskStep). j.lines) c.in_ok-journal.ensures.0,
     )
 
 pub returns-clause-session : goal.returns-clause-session

@@ -2,7 +2,9 @@ use Rattle.std.proofs.Common.{◌≡◌, ℕ, ◌+◌, ◌<◌, length, get_or, 
 use Rattle.tr_ledger.specs.Ledgers.{SeatState}
 use Rattle.tr_seats.proofs.AllTotals.{all-add_up, cleared-whole, cuts-whole, row-taken}
 use Rattle.tr_seats.proofs.settling.join_all.Goals as goal
+use Rattle.tr_seats.specs.Accounts.{IsTakenFrom}
 use Rattle.tr_seats.specs.Books.{IsPlanned}
+use Rattle.tr_seats.specs.Drainers.{DrainerState, taken_at}
 use Rattle.tr_seats.specs.Settling.{AreInPlace}
 use Rattle.tr_seats.specs.Slots.{SlotState}
 use Rattle.tr_seats.specs.Sums.{totals_in}
@@ -98,3 +100,9 @@ returns-clause-there g c = c.audit_producers.ensures.there
 
 pub returns-clause-accounts : goal.returns-clause-accounts
 returns-clause-accounts g c = c.audit_producers.ensures.accounts
+
+pub returns-clause-packets : goal.returns-clause-packets
+returns-clause-packets g c =
+    subst (λ (l : List SlotState). (k i : ℕ) (d : DrainerState) (s : SlotState) → k < length c.args.drainers.items → i < length l
+    → IsTakenFrom (taken_at (get_or c.args.drainers.items k d) i) (get_or l i s).stream)
+    c.audit_producers.ensures.same.0 c.join_drainers.ensures.packets

@@ -4,8 +4,10 @@ use Rattle.std.specs.List.{sum_by}
 use Rattle.tr_seats.proofs.settling.join_drainers.Given as goal
 use Rattle.tr_ledger.specs.Ledgers.{SeatState}
 use Rattle.tr_seats.specs.Books.{consumed_books}
+use Rattle.tr_seats.specs.Accounts.{IsTakenFrom}
+use Rattle.tr_seats.specs.Drainers.{DrainerState, taken_at}
 use Rattle.tr_seats.specs.Settling.{taken_of}
-use Rattle.tr_seats.specs.Slots.{AreJoined, amounts_of}
+use Rattle.tr_seats.specs.Slots.{AreJoined, SlotState, amounts_of}
 
 abbrev pub invariant-loop-drainer : goal.invariant-loop-drainer
 invariant-loop-drainer g l =
@@ -15,8 +17,11 @@ invariant-loop-drainer g l =
       within : length l.yielded ≤ length l.fn.drainers.items;
       seats : AreJoined (length l.yielded + 1) (consumed_books g.N.Names.plan.books) l.seats;
       amounts : sum (amounts_of l.seats)
-          ≡ sum (amounts_of l.initial.seats) + sum_by sum (take (length l.yielded) l.fn.drainers.items);
+          ≡ sum (amounts_of l.initial.seats)
+          + sum_by (λ (d : DrainerState). sum d.amounts) (take (length l.yielded) l.fn.drainers.items);
       each : (k : ℕ) (d : SeatState) → k < length g.N.Names.plan.books
           → (get_or l.seats k d).amount
           ≡ (get_or l.initial.seats k d).amount + taken_of (take (length l.yielded) l.fn.drainers.items) k;
+      packets : (k i : ℕ) (d : DrainerState) (s : SlotState) → k < length l.yielded → i < length l.initial.slots
+          → IsTakenFrom (taken_at (get_or l.fn.drainers.items k d) i) (get_or l.initial.slots i s).stream;
     }

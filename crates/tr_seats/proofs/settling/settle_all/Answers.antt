@@ -2,18 +2,20 @@ use Rattle.std.proofs.Common.{◌≡◌, ℕ, ◌+◌, ◌<◌, ◌++◌, List, 
 use Rattle.std.proofs.lemmas.Grind.{common_steps}
 use Rattle.std.proofs.lemmas.List.{length-map, take_at}
 use Rattle.tr_ledger.specs.Ledgers.{SeatState}
-use Rattle.tr_seats.proofs.AllTotals.{AreWithin, have-cleared, have-consumed, their-accounts, theirs}
+use Rattle.tr_seats.proofs.AllTotals.{AreWithin, have-cleared, have-consumed, their-accounts, their-packets, theirs}
 use Rattle.tr_seats.proofs.Joins.{tables-length}
 use Rattle.tr_seats.proofs.PlannedLemmas.{planned-mode}
 use Rattle.tr_seats.proofs.SettledLemmas.{settled-planned, settled-streams}
 use Rattle.tr_seats.proofs.settling.settle_all.Goals as goal
-use Rattle.tr_seats.specs.Accounts.{IsAccountOf}
+use Rattle.tr_seats.specs.Accounts.{IsAccountOf, IsTakenFrom}
 use Rattle.tr_seats.specs.Books.{Books, IsPlanned, PlanState, cleared_books, consumed_books, cut_books}
 use Rattle.tr_seats.specs.Desks.{DeskState}
+use Rattle.tr_seats.specs.Drainers.{DrainerState, taken_at}
 use Rattle.tr_seats.specs.Settling.{AddUp, HaveCleared, HaveConsumed, IsOneEach, IsSessionOf, WereConsumed, streams_of, taken_of, totals_of_seats}
 use Rattle.tr_seats.specs.Slots.{AreSeatsOf, IsOwn, ProducerState, SlotState, amounts_of}
 use Rattle.tr_seats.specs.Sums.{totals_in, totals_of}
 use Rattle.tr_session.specs.Session.{HasItsStreams, session_of}
+use Rattle.tr_session_book.specs.Book.{SessionBookState}
 use Rattle.tr_stream.specs.State.{StreamState}
 use Rattle.tr_terms.specs.declared.session_mode.SessionMode.TheVariants.{Snapshot}
 
@@ -63,7 +65,7 @@ from_parts-requires g c =
     let items : c.streams_out-streams.result.items ≡ streams_of all = c.streams_out-streams.ensures ∙ ap streams_of back in
     let planned : ArePlanned plan all = subst (ArePlanned plan) slots c.join_all.ensures.planned in
     let cut : AreCutAs (c.desk.inside.cuts.items, all) = subst AreCutAs (λ j. (cuts j, slots j)) c.join_all.ensures.cut in
-    subst (λ (l : List StreamState). HasItsStreams (session_of c.desk.inside.book l)) (sym items)
+    subst (λ (x : SessionBookState × List StreamState). HasItsStreams (session_of x.0 x.1)) (λ j. (sym c.into_book.ensures j, sym items j))
     (settled-streams plan c.desk.inside.book c.desk.inside.consumed.items c.desk.inside.cuts.items c.desk.inside.cleared.items all c.desk.invariant c.requires.slots planned
     cut)
 
@@ -78,7 +80,7 @@ returns-clause-planned g c =
     let planned : ArePlanned plan all = subst (ArePlanned plan) slots c.join_all.ensures.planned in
     let cut : AreCutAs (c.desk.inside.cuts.items, all) = subst AreCutAs (λ j. (cuts j, slots j)) c.join_all.ensures.cut in
     let made : c.of.result ≡ session_of c.desk.inside.book (streams_of all) =
-    c.of.ensures ∙ c.from_parts.ensures ∙ (λ j. session_of c.desk.inside.book (items j)) in
+    c.of.ensures ∙ c.from_parts.ensures ∙ (λ j. session_of (c.into_book.ensures j) (items j)) in
     subst (IsSessionOf plan) (sym made)
     (settled-planned plan c.desk.inside.book c.desk.inside.consumed.items c.desk.inside.cuts.items c.desk.inside.cleared.items all c.desk.invariant c.requires.slots planned
     cut)
@@ -88,7 +90,8 @@ returns-clause-session g c =
     let same = c.join_all.ensures.slots ∙ c.as_mut_slice.ensures.value in
     let back = written-back c.args.slots.items c.join_all.new.slots c.args.slots.len same c.args.slots.ok.0 in
     let items : c.streams_out-streams.result.items ≡ streams_of c.args.slots.items = c.streams_out-streams.ensures ∙ ap streams_of back in
-    c.of.ensures ∙ c.from_parts.ensures ∙ (λ j. session_of (c.desk.view_is j).book (items j))
+    let book : c.into_book.result ≡ c.args.desk.book = c.into_book.ensures ∙ ap (λ (d : DeskState). d.book) c.desk.view_is in
+    c.of.ensures ∙ c.from_parts.ensures ∙ (λ j. session_of (book j) (items j))
 
 pub returns-clause-totals : goal.returns-clause-totals
 returns-clause-totals g c = c.sums-totals.ensures.value ∙ ap (λ (l : List SlotState). totals_of (streams_of l)) c.deref.ensures.value
@@ -133,7 +136,7 @@ returns-clause-own g c =
     let own : AreOwn (c.args.producers.items, all) = subst AreOwn (λ j. (producers j, slots j)) c.join_all.ensures.own in
     theirs n c.args.producers.items all c.requires.slots there own
 
-abbrev AreTakenAs : List (List ℕ) → List SeatState × List SlotState → Type 0
+abbrev AreTakenAs : List DrainerState → List SeatState × List SlotState → Type 0
 AreTakenAs drainers x = (k : ℕ) (d : SeatState) (s : SlotState) → k < length x.1
     → (totals_in (get_or x.1 k s).stream).consumed ≡ (get_or x.0 k d).amount + taken_of drainers k
 
@@ -194,3 +197,15 @@ returns-clause-accounts g c =
     let own : AreAccountedIn (c.args.producers.items, all) =
     subst AreAccountedIn (λ j. (producers j, slots j)) c.join_all.ensures.accounts in
     their-accounts n c.args.producers.items all c.requires.slots there own
+
+abbrev ArePacketsIn : List DrainerState → List SlotState → Type 0
+ArePacketsIn drainers slots = (k i : ℕ) (d : DrainerState) (s : SlotState) → k < length drainers → i < length slots
+    → IsTakenFrom (taken_at (get_or drainers k d) i) (get_or slots i s).stream
+
+pub returns-clause-packets : goal.returns-clause-packets
+returns-clause-packets g c =
+    let all = c.args.slots.items in
+    let drainers = c.args.drainers.items in
+    let slots : c.as_mut_slice.result.now ≡ all = c.as_mut_slice.ensures.value in
+    let packets : ArePacketsIn drainers all = subst (ArePacketsIn drainers) slots c.join_all.ensures.packets in
+    their-packets drainers all packets

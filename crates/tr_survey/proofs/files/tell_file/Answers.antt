@@ -1,13 +1,12 @@
-use Rattle.std.proofs.Common.{◌≡◌, ◌+◌, ◌++◌, ◌∙◌, ◌<◌, ◌≤◌, ℕ, List, [], Bool, true, false, Some, take, length, refl, ap, sym, subst, arith, rules}
+use Rattle.std.proofs.Common.{◌≡◌, ◌++◌, ◌∙◌, ℕ, List, Bool, Some, take, refl, ap, sym, subst, arith}
 use Rattle.std.proofs.lemmas.Grind.{common_steps}
 use Rattle.std.proofs.lemmas.Result.{on_err_weaker, on_ok_weaker}
 use Rattle.tr_chunk.proofs.WaitingLemmas.{nothing_waits}
-use Rattle.tr_folders.specs.Tree.{File, IsBroken, Reads}
+use Rattle.tr_folders.specs.Tree.{Reads}
 use Rattle.tr_survey.specs.Listing.{key_of}
 use Rattle.tr_survey.specs.Prefix.{IsPrefixOut, IsTold}
 use Rattle.tr_survey.specs.Steps.{AreFew, IsHeld}
 use Rattle.tr_survey.specs.Streams.{file_told, left_told, place, unreadable_told}
-use Rattle.tr_survey.specs.Told.{Told}
 use Rattle.tr_survey.proofs.PrefixLemmas.{at_err, goes_told}
 use Rattle.tr_survey.proofs.TellLemmas.{ReadSoFar, read_broken, read_end, read_front, read_more, read_nothing, read_start, read_stopped, read_told}
 use Rattle.tr_survey.proofs.files.tell_file.Goals as goal

@@ -1,10 +1,9 @@
-use Rattle.std.proofs.Common.{◌≡◌, ◌+◌, ◌++◌, ◌∙◌, ℕ, List, Bool, Option, Some, suc, drop, refl, ap, sym, subst}
+use Rattle.std.proofs.Common.{◌+◌, ◌++◌, ◌∙◌, ℕ, List, Option, drop, refl, ap, sym, subst}
 use Rattle.tr_chunk.specs.Audit.{capped_count}
 use Rattle.tr_record.specs.Bytes.{and_then_bytes}
 use Rattle.tr_survey.specs.declared.tally.Last.{Last}
 use Rattle.std.proofs.lemmas.Result.{IfOk-weaker, on_err_weaker}
 use Rattle.tr_chunk.proofs.AuditLemmas.{front_within}
-use Rattle.tr_chunk.specs.declared.audit_fault.AuditCause.{AuditCause}
 use Rattle.tr_survey.specs.Listing.{key_of}
 use Rattle.tr_survey.specs.Prefix.{GoesOn, IsPrefixOut, IsTold}
 use Rattle.tr_survey.specs.Steps.{IsBad, IsStep}

@@ -1,11 +1,11 @@
-use Rattle.std.proofs.Common.{◌≡◌, ◌+◌, ◌++◌, ◌∙◌, ◌≤◌, ℕ, List, drop, length, ap, sym, subst, arith, rules}
+use Rattle.std.proofs.Common.{◌≡◌, ◌+◌, ◌∙◌, ℕ, List, drop, ap, sym, subst, arith, rules}
 use Rattle.std.proofs.lemmas.Grind.{common_steps}
 use Rattle.std.proofs.lemmas.List.{length-drop}
 use Rattle.tr_survey.specs.Listing.{key_of}
 use Rattle.tr_survey.specs.Steps.{AreFew, HasGone, IsStep}
 use Rattle.tr_survey.specs.Streams.{place}
 use Rattle.tr_survey.specs.declared.files.Step.{Step}
-use Rattle.tr_survey.specs.declared.files.Step.TheVariants.{Packet, Waits, Stopped}
+use Rattle.tr_survey.specs.declared.files.Step.TheVariants.{Packet, Stopped}
 use Rattle.tr_survey.specs.declared.tally.Tally.{Tally}
 use Rattle.std.specs.Prelude.{Option}
 use Rattle.tr_survey.proofs.PrefixLemmas.{at_err}

@@ -1,4 +1,4 @@
-use Rattle.std.proofs.Common.{◌≤◌, ◌<◌, length, arith}
+use Rattle.std.proofs.Common.{◌≤◌, length, arith}
 use Rattle.tr_folders.specs.Tree.{by_text}
 use Rattle.tr_survey.proofs.HeadLemmas.{order_end, order_step, pushed, pushed_all}
 use Rattle.tr_survey.proofs.heads.push_in_order.Goals as goal

@@ -1,4 +1,4 @@
-use Rattle.std.proofs.Common.{◌≡◌, ◌++◌, ◌-◌, ◌<◌, ◌≤◌, drop, map, length}
+use Rattle.std.proofs.Common.{◌≡◌, ◌++◌, ◌-◌, drop, map}
 use Rattle.tr_folders.specs.Tree.{by_text}
 use Rattle.tr_survey.specs.Heads.{wrong_in_order}
 use Rattle.tr_survey.specs.Listing.{key_of}

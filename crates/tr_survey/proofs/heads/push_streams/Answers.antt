@@ -1,4 +1,4 @@
-use Rattle.std.proofs.Common.{◌≡◌, ◌≤◌, ◌++◌, List, ℕ, length, map, drop, ap, ◌+◌, ◌∙◌, arith}
+use Rattle.std.proofs.Common.{◌≤◌, ◌++◌, ℕ, length, map, drop, ap, ◌+◌, ◌∙◌, arith}
 use Rattle.tr_folders.specs.Tree.{by_text}
 use Rattle.tr_survey.specs.Heads.{wrong_streams}
 use Rattle.tr_survey.specs.Listing.{key_of}

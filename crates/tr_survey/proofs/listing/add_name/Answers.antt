@@ -3,17 +3,11 @@ use Rattle.std.specs.BTreeSet.{insert_key}
 use Rattle.std.specs.String.{string_bytes}
 use Rattle.tr_survey.specs.Order.{name_cmp}
 use Rattle.tr_folders.specs.Tree.{by_text}
-use Rattle.tr_survey.proofs.ListingLemmas.{map-insert_key, name_more, no_name_more}
-use Rattle.tr_survey.proofs.NameLemmas.{refused, taken}
+use Rattle.tr_survey.proofs.ListingLemmas.{map-insert_key}
 use Rattle.tr_survey.proofs.listing.add_name.Goals as goal
-
-pub returns-then-is_none : goal.returns-then-is_none
-returns-then-is_none c =
-    no_name_more _ c.args.name.now (refused c.new.result c.is_none.result _ c.new.ensures.succeeds.1 c.is_none.ensures c.if-is_none.true)
 
 pub returns : goal.returns
 returns c =
     ap by_text c.in_ok-insert.ensures.keys
     ∙ map-insert_key string_bytes _ name_cmp (λ x y. refl) c.args.found.now.keys c.in_ok-from_str.field-0
     ∙ ap (insert_key name_cmp (by_text c.args.found.now.keys)) c.in_ok-from_str.ensures.ok
-    ∙ name_more _ c.args.name.now (taken c.new.result c.is_none.result _ c.new.ensures.succeeds.0 c.is_none.ensures c.if-is_none.false)

@@ -1,7 +1,5 @@
 use Rattle.std.proofs.Common.{◌≡◌, ◌<◌, ℕ, length, take, ap, ◌∙◌, false, true, subst}
-use Rattle.tr_folders.specs.Tree.{File}
 use Rattle.tr_survey.proofs.MetadataLemmas.{read_broken, read_whole}
-use Rattle.tr_terms.specs.declared.limits.TheConstants.{MOST_METADATA}
 use Rattle.tr_survey.proofs.naming.naming_read.Goals as goal
 
 pub returns-in_ok-naming_by-in-Ok-clause-naming : goal.returns-in_ok-naming_by-in-Ok-clause-naming

@@ -1,4 +1,4 @@
-use Rattle.std.proofs.Common.{◌≡◌, ◌∙◌, Option, Some, None, ap, sym, subst, string_bytes}
+use Rattle.std.proofs.Common.{◌≡◌, ◌∙◌, Option, ap, sym, subst, string_bytes}
 use Rattle.std.proofs.lemmas.Result.{on_err_weaker, on_ok_weaker}
 use Rattle.tr_chunk.specs.Files.{file_name}
 use Rattle.tr_folders.proofs.ReadLemmas.{closed, opened}

@@ -1,11 +1,12 @@
-use Rattle.std.proofs.Common.{◌≡◌, ◌∙◌, ℕ, List, Bool, map, refl, ap, sym, subst}
+use Rattle.std.proofs.Common.{◌≡◌, ◌∙◌, ℕ, List, Bool, map, refl, ap, subst}
 use Rattle.tr_record.specs.Bytes.{and_then_bytes}
 use Rattle.tr_survey.specs.Listing.{key_of}
 use Rattle.tr_survey.specs.Prefix.{IsPrefixOut, IsTold}
 use Rattle.tr_survey.specs.Streams.{are_deleted, ended_told, files_told, no_tally}
+use Rattle.tr_survey.specs.Sums.{sums_after_files}
 use Rattle.tr_survey.specs.Told.{Told}
 use Rattle.tr_survey.specs.declared.tally.Tally.{Tally}
-use Rattle.tr_survey.proofs.PrefixLemmas.{at_err, front_longer, front_nothing}
+use Rattle.tr_survey.proofs.PrefixLemmas.{at_err, front_nothing}
 use Rattle.tr_survey.proofs.TellLemmas.{both_told, second_front}
 use Rattle.tr_survey.proofs.streams.tell_stream.Goals as goal
 
@@ -52,3 +53,8 @@ returns-clause-ok g c t known =
     c.as_str.ensures.value ∙ c.in_ok-lines.ensures ∙ ap (λ (b : Bool). (ended_told stream b tally).text) c.are_deleted.ensures in
     both_told first second tally (g.K.ByteSink.taken c.args.sink.now) mid (g.K.ByteSink.taken c.put_line.new.sink) tally.faults is
     (record { out = c.in_ok-put_line.ensures.ok ∙ ap (and_then_bytes mid) lines; state_is = refl })
+
+pub returns-clause-sums : goal.returns-clause-sums
+returns-clause-sums g c t known =
+    c.in_ok-tell_files.ensures.sums t known
+    ∙ ap (λ (s : Tally). sums_after_files t c.args.folder.now c.args.uuid.now (key_of c.args.stream.now) s (map key_of c.args.archives.now) c.args.sums.now) c.new-tally.ensures

@@ -11,6 +11,6 @@ invariant-loop-name g l = record {
   reads : g.F.Folders.failures l.folders ≡ g.F.Folders.failures l.initial.folders;
   writes : g.K.ByteSink.failures l.sink ≡ g.K.ByteSink.failures l.initial.sink;
   goes : (t : Tree) → g.F.Folders.tree l.initial.folders ≡ Some t
-      → GoesOn (names_told t l.dir None (by_text l.names)) (names_told t l.dir l.faults (by_text (drop l.name-index l.names)))
+      → GoesOn (names_told l.asked t l.dir None (by_text l.names)) (names_told l.asked t l.dir l.faults (by_text (drop l.name-index l.names)))
       (g.K.ByteSink.taken l.initial.sink) (g.K.ByteSink.taken l.sink);
 }

@@ -82,6 +82,11 @@ finish-opened-requires-clause-book g c =
     let is = ap (λ (p : PlanState). p.session.book) (c.self.view_is ∙ c.requires) in
     search (rules, is)
 
+pub new-requires-clause-book : goal.new-requires-clause-book
+new-requires-clause-book g c =
+    let is = ap (λ (p : PlanState). p.session.book) (c.self.view_is ∙ c.requires) in
+    search (rules, is)
+
 pub finish-opened-requires-clause-room : goal.finish-opened-requires-clause-room
 finish-opened-requires-clause-room g c =
     let is = c.self.view_is ∙ c.requires in

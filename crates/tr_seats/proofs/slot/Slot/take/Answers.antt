@@ -1,15 +1,19 @@
 use Rattle.std.proofs.Common.{rules, ◌≡◌, ◌∙◌, ◌+◌, ◌<◌, Ok, length, ap, arith, subst, sym}
 use Rattle.std.proofs.lemmas.Grind.{common_steps}
 use Rattle.std.proofs.lemmas.List.{length-map}
-use Rattle.std.specs.Prelude.{slice_index, slice_set}
+use Rattle.tr_accounts.specs.Seats.{desk_seat}
+use Rattle.tr_accounts.specs.declared.step.StreamStep.{StreamStep}
+use Rattle.tr_journal.specs.Journals.{SeatState}
 use Rattle.tr_ledger.specs.Ledgers.{LedgerState}
 use Rattle.tr_seats.proofs.AccountLemmas.{kept-take}
 use Rattle.tr_seats.proofs.CountLemmas.{few-counted, refused-take, take-totals}
 use Rattle.tr_seats.proofs.Rows.{amounts-raised, consumed-at, length-seats, row-raised, table-there}
 use Rattle.tr_seats.proofs.SlotLemmas.{books-taken}
+use Rattle.tr_seats.proofs.TakeLemmas.{seats-after, taken-after}
 use Rattle.tr_seats.proofs.slot.Slot.take.Goals as goal
 use Rattle.tr_seats.specs.Accounts.{IsKeptAccount}
 use Rattle.tr_seats.specs.Books.{AreBooksOf, Books, IsPlanned, books_at, consumed_books, no_books, no_table}
+use Rattle.tr_seats.specs.Drainers.{drainer_after, drainer_state}
 use Rattle.tr_seats.specs.Sums.{totals_in}
 use Rattle.tr_seats.specs.declared.totals.Totals.{Totals}
 use Rattle.tr_stream.specs.State.{StreamState}
@@ -29,8 +33,23 @@ pub index_mut-requires : goal.index_mut-requires
 index_mut-requires g c =
     let lt = c.self.invariant.0 in
     let same : c.args.i ≡ c.self.inside.number = search rules in
+    omega (arith, lt, same, c.drainer.invariant.1.many)
+
+pub note_take-requires : goal.note_take-requires
+note_take-requires g c =
+    let books = g.N.Names.plan.books in
+    let i = c.args.i in
+    let same : i ≡ c.self.inside.number = search rules in
+    let lt : i < length books = subst (λ n. n < length books) (sym same) c.self.invariant.0 in
+    ap (λ (s : SeatState StreamStep). s.table) c.index_mut.ensures.value ∙ (c.drainer.invariant.1.each i c.index_mut.result.now lt).0
+    ∙ ap (λ n. (books_at books n).journal) same ∙ sym c.self.invariant.3.table_is
+
+pub index_mut-requires-2 : goal.index_mut-requires-2
+index_mut-requires-2 g c =
+    let lt = c.self.invariant.0 in
+    let same : c.args.i ≡ c.self.inside.number = search rules in
     let wide = length-map g.N.Names.plan.books (λ (b : Books). b.consumed) in
-    let seats = length-seats (consumed_books g.N.Names.plan.books) c.drainer.inside.seats.items c.drainer.invariant in
+    let seats = length-seats (consumed_books g.N.Names.plan.books) c.drainer.inside.seats.items c.drainer.invariant.0 in
     omega (arith, lt, same, wide, seats)
 
 pub raise-requires-clause-seat : goal.raise-requires-clause-seat
@@ -40,8 +59,8 @@ raise-requires-clause-seat g c =
     let same : i ≡ c.self.inside.number = search rules in
     let lt : i < length books = subst (λ n. n < length books) (sym same) c.self.invariant.0 in
     let wide : i < length (consumed_books books) = omega (arith, lt, length-map books (λ (b : Books). b.consumed)) in
-    table-there (consumed_books books) c.drainer.inside.seats.items i c.index_mut.result.now c.drainer.invariant wide
-    c.index_mut.ensures.value no_table
+    table-there (consumed_books books) c.drainer.inside.seats.items i c.index_mut-2.result.now c.drainer.invariant.0 wide
+    c.index_mut-2.ensures.value no_table
     ∙ consumed-at books i no_books lt ∙ ap (λ n. (books_at books n).consumed) same
     ∙ sym (ap (λ (l : LedgerState). l.table) c.self.invariant.1.consumed_is)
 
@@ -63,14 +82,20 @@ invariant_of-self-2 g c =
     let after : c.take.new.self ≡ state_after_take old.stream = search rules in
     let answer : Ok c.in_ok-taken.taken ≡ state_take_answer old.stream = search rules in
     let is = take-totals old.stream c.in_ok-taken.taken c.shows_kept.ensures.kept.sound answer in
-    let planned = subst (IsPlanned g.N.Names.plan old.number) (sym c.in_ok-taken.ensures.config) c.self.invariant.2 in (
+    let planned = subst (IsPlanned g.N.Names.plan old.number) (sym c.in_ok-taken.ensures.config) c.self.invariant.2 in
+    let i = c.args.i in
+    let same : i ≡ old.number = search rules in
+    let lt : i < length g.N.Names.plan.books = subst (λ n. n < length g.N.Names.plan.books) (sym same) c.self.invariant.0 in
+    let theirs : desk_seat < c.index_mut.result.now.who =
+    subst (λ (s : SeatState StreamStep). desk_seat < s.who) (sym c.index_mut.ensures.value)
+    (c.drainer.invariant.1.each i c.index_mut.result.now lt).1 in (
       c.self.invariant.0,
       books-taken (books_at g.N.Names.plan.books old.number) old.stream c.take.new.self old.consumed.made old.offered
           old.discarded old.overwritten old.overwritten_packets old.consumed old.cuts old.cleared c.self.invariant.1
           c.raise.new.self c.in_ok-taken.taken.count (ap totals_in after ∙ is.totals) c.raise.ensures.ledger,
       planned,
       kept-take (books_at g.N.Names.plan.books old.number).journal old.stream old.account c.note_take.new.self c.self.invariant.3
-          c.take.new.self (Ok c.in_ok-taken.taken) answer after c.note_take.ensures,
+          c.take.new.self c.index_mut.result.now.who (Ok c.in_ok-taken.taken) theirs answer after c.note_take.ensures.account,
     )
 
 pub invariant_of-drainer : goal.invariant_of-drainer
@@ -79,21 +104,26 @@ invariant_of-drainer g c =
     let i = c.args.i in
     let same : i ≡ c.self.inside.number = search rules in
     let lt : i < length books = subst (λ n. n < length books) (sym same) c.self.invariant.0 in
-    let wide : i < length (consumed_books books) = omega (arith, lt, length-map books (λ (b : Books). b.consumed)) in
-    row-raised (consumed_books books) c.drainer.inside.seats.items i c.index_mut.result.now c.drainer.invariant wide
-    c.index_mut.ensures.value c.raise.new.seat c.in_ok-taken.taken.count c.raise.ensures.seat
+    let wide : i < length (consumed_books books) = omega (arith, lt, length-map books (λ (b : Books). b.consumed)) in (
+      row-raised (consumed_books books) c.drainer.inside.seats.items i c.index_mut-2.result.now c.drainer.invariant.0 wide
+          c.index_mut-2.ensures.value c.raise.new.seat c.in_ok-taken.taken.count c.raise.ensures.seat,
+      seats-after (length books) books c.drainer.inside.takes.items c.drainer.invariant.1 i c.index_mut.result.now c.note_take.new.drainer
+          c.in_ok-taken.taken lt c.index_mut.ensures.value c.note_take.ensures.seat,
+    )
 
 pub returns-clause-seats : goal.returns-clause-seats
 returns-clause-seats g c =
     let books = g.N.Names.plan.books in
     let i = c.args.i in
-    let n = c.in_ok-taken.taken.count in
+    let taken = c.in_ok-taken.taken in
     let same : i ≡ c.self.inside.number = search rules in
     let lt : i < length books = subst (λ n. n < length books) (sym same) c.self.invariant.0 in
     let wide : i < length (consumed_books books) = omega (arith, lt, length-map books (λ (b : Books). b.consumed)) in
-    amounts-raised (consumed_books books) c.drainer.inside.seats.items i c.index_mut.result.now c.drainer.invariant wide
-    c.index_mut.ensures.value c.raise.new.seat n c.raise.ensures.seat
-    ∙ (λ k. slice_set (c.drainer.view_is k) i (slice_index (c.drainer.view_is k) i + n))
+    let amounts = amounts-raised (consumed_books books) c.drainer.inside.seats.items i c.index_mut-2.result.now c.drainer.invariant.0 wide
+    c.index_mut-2.ensures.value c.raise.new.seat taken.count c.raise.ensures.seat in
+    let packets = taken-after (length books) books c.drainer.inside.takes.items c.drainer.invariant.1 i c.index_mut.result.now
+    c.note_take.new.drainer taken lt c.index_mut.ensures.value c.note_take.ensures.seat in
+    (λ k. drainer_state (amounts k) (packets k)) ∙ ap (drainer_after (Ok taken) i) c.drainer.view_is
 
 pub returns-clause-some : goal.returns-clause-some
 returns-clause-some g c =

@@ -1,0 +1,239 @@
+/* What the static library libtr_cell.a exports: proved calls on one stream, on one session's book, on what a look shows and on
+ * an audit. No call locks, waits, starts a thread, prints, or touches a global.
+ *
+ * `rt lib --jobs 1` in crates/tr_cell makes crates/tr_cell/out/libtr_cell.a; link it with the toolchain's c/liblibc_c.a, which
+ * has malloc, realloc and free alone.
+ *
+ * What the caller owes, since nothing checks it:
+ * - One call at a time is given a handle; calls of several threads on it are ordered by a lock.
+ * - A handle is never copied, and written only once, as all zeros: then it is closed. Only `_new`, `trc_book_thread` and
+ *   `trc_book_look` open one, and `_free` closes it again; closed ones may be freed.
+ * - Each pointer to a result may be written, each slice may be read (a room: written) for its length, and points somewhere even
+ *   at length 0. A `bool` is 0 or 1. Results, rooms, slices and handles of one call don't overlap.
+ * - malloc, realloc and free are of one allocator, which aligns to 16 bytes. No call is made in a signal handler, or in a
+ *   forked child of a process with threads.
+ *
+ * Each call answers TRC_DONE or why it was refused. After a refusal its results are as they were, and so are the handles, unless
+ * the call says otherwise. Moments are nanoseconds since 1970. */
+#ifndef TRC_CELLS_H
+#define TRC_CELLS_H
+#include <stdbool.h>
+#include <stddef.h>
+#include <stdint.h>
+
+#ifdef __cplusplus
+extern "C" {
+#endif
+
+/* Refusals of the border itself. They are judged first, in the order: handles (CLOSED, IN_USE), then the other arguments in the
+ * order in which they are given. */
+enum {
+    TRC_DONE = 0,
+    TRC_NO_MEMORY = 1,  /* an allocation failed, where the call has no fault of its own for that */
+    TRC_CLOSED = 2,     /* a handle that should be open is closed */
+    TRC_IN_USE = 3,     /* a handle that should be closed is open */
+    TRC_BAD_MOMENT = 4, /* above 9,000,000,000,000,000,000 */
+    TRC_BAD_UUID = 5,   /* not of 16 bytes */
+    TRC_BAD_MODE = 6,   /* a mode that is neither 0 nor 1 */
+    TRC_BAD_NAME = 7,   /* not 1 to 64 letters, digits and underscores, a letter first */
+    TRC_BAD_OFFSET = 8, /* not from -1,439 to 1,439 minutes */
+    TRC_NO_ROOM = 9,    /* the room is too small for the text */
+    TRC_NO_PART = 10,   /* the stream has no part of this number */
+    TRC_TOO_MUCH = 11,  /* an audit was fed 2^62 bytes, or began 2^62 pieces */
+    TRC_MISPLACED = 120 /* S20: the stream isn't one of this book's trace */
+};
+
+/* Refusals of the session, a stream, a schedule and an audit are the numbers of the product's own codes: 100 + n for Sn,
+ * 200 + n for On (offer), 300 + n for Tn (take), 400 + n for Cn (cut), 500 + n for Xn (clear), 600 + n for Yn (release),
+ * 700 + n for Dn (schedule), 800 + n for An (audit), 900 + n for Gn (geometry). */
+enum {
+    TRC_S_SNAPSHOT_MODE = 101, TRC_S_NOT_SNAPSHOT_MODE = 102, TRC_S_NEVER_STARTED = 103, TRC_S_ROTATION_PENDING = 104,
+    TRC_S_ALREADY_ROTATED = 105, TRC_S_ALREADY_ACTIVE = 106, TRC_S_NOT_ACTIVE = 107, TRC_S_NO_STREAM = 108,
+    TRC_S_DISCARD_IN_SNAPSHOT = 109, TRC_S_ALREADY_STARTED = 110, TRC_S_BAD_GEOMETRY = 111, TRC_S_TOO_MANY = 112,
+    TRC_S_NOT_PENDING = 113, TRC_S_CUT_MISSING = 114, TRC_S_NAME_TAKEN = 115, TRC_S_NO_MEMORY = 116, TRC_S_NO_CHANNEL = 117,
+    TRC_S_NO_ARCHIVE = 118, TRC_S_RELEASED = 119, TRC_S_MISPLACED = 120,
+    TRC_O_INACTIVE = 201, TRC_O_TOO_BIG = 202, TRC_O_SPENT = 203,
+    TRC_T_NOTHING = 301, TRC_T_SNAPSHOT_MODE = 302, TRC_T_NO_MEMORY = 303,
+    TRC_C_SNAPSHOT_MODE = 401, TRC_C_NO_MEMORY = 402,
+    TRC_X_SNAPSHOT_MODE = 501, TRC_X_NO_MEMORY = 502,
+    TRC_Y_NO_PART = 601, TRC_Y_RELEASED = 602, TRC_Y_NO_MEMORY = 603,
+    TRC_D_ZERO_PERIOD = 701, TRC_D_ZERO_SIZE = 702,
+    TRC_A_PACKET = 801, TRC_A_NUMBER_REPEAT = 802, TRC_A_SERIAL_REPEAT = 803, TRC_A_FOREIGN = 804, TRC_A_NO_MEMORY = 805,
+    TRC_G_BAD_SIZE = 901, TRC_G_BAD_COUNT = 902
+};
+
+enum { TRC_DISCARD = 0, TRC_OVERWRITE = 1 };          /* modes of a channel */
+enum { TRC_LOCAL = 0, TRC_SNAPSHOT = 1 };             /* modes of a session */
+enum { TRC_NEW = 0, TRC_ACTIVE = 1, TRC_INACTIVE = 2 }; /* states of a session */
+
+/* ---- One stream ------------------------------------------------------------------------------------------------------- */
+
+typedef struct { void *at; bool live; } trc_stream;
+
+enum { TRC_STORED = 0, TRC_STORED_OVER = 1, TRC_DISCARDED = 2 };
+typedef struct {
+    uint32_t kind;                 /* TRC_STORED, TRC_STORED_OVER or TRC_DISCARDED */
+    uint64_t serial;               /* how many offers were accepted before it */
+    uint64_t seq;                  /* the number of its sub-buffer; 0 if discarded */
+    uint64_t gone_seq, gone_count; /* the overwritten sub-buffer and how many records that had; else 0 */
+} trc_offered;
+typedef struct { uint64_t seq, count, chunk; } trc_taken;       /* a packet, its records, its trace chunk */
+typedef struct { uint64_t chunk, packets, records; } trc_cut;   /* the chunk that a cut closed, and what it added */
+typedef struct { uint64_t packets, records; } trc_cleared;
+typedef struct { uint64_t packets, records, bytes; } trc_released;
+typedef struct {
+    uint64_t offered, discarded, overwritten, overwritten_packets, in_ring, consumed, in_chunks, cleared, withdrawn, cuts,
+        current_bytes;
+} trc_counts; /* offered = discarded + overwritten + cleared + in_ring + in_chunks; consumed = in_chunks + withdrawn */
+enum { TRC_NOT_OFFERED = 0, TRC_IN_RING = 1, TRC_IN_CHUNK = 2, TRC_WAS_DISCARDED = 3, TRC_WAS_OVERWRITTEN = 4, TRC_WAS_CLEARED = 5 };
+typedef struct { uint32_t kind; uint64_t chunk, seq; } trc_fate; /* chunk if IN_CHUNK; seq if IN_RING, IN_CHUNK, WAS_CLEARED; else 0 */
+typedef struct { uint64_t packets, records, bytes; bool released; } trc_part; /* what it has, or had before it was released */
+
+/* A stream by itself, which takes no offers yet. IN_USE, BAD_UUID, G1, G2, BAD_MODE, NO_MEMORY. */
+uint32_t trc_stream_new(trc_stream *, const uint8_t *uuid, size_t uuid_len, uint64_t number, uint64_t size, uint64_t count,
+                        uint32_t mode, uint32_t session_mode);
+/* Lets the stream take offers, or makes it refuse them. CLOSED. */
+uint32_t trc_stream_switch(trc_stream *, bool active);
+/* Offers a record. It takes no memory. CLOSED, BAD_MOMENT, O1 to O3. */
+uint32_t trc_stream_offer(trc_stream *, uint64_t moment, uint32_t id, const uint8_t *payload, size_t len, trc_offered *);
+/* Moves the oldest closed sub-buffer into the current trace chunk. CLOSED, T1 to T3. */
+uint32_t trc_stream_take(trc_stream *, trc_taken *);
+/* Moves all that the ring holds into the current trace chunk, and closes that. CLOSED, BAD_MOMENT, C1, C2. In a session use
+ * trc_rotate_cut. */
+uint32_t trc_stream_cut(trc_stream *, uint64_t moment, trc_cut *);
+/* Removes what the ring and the current chunk hold. CLOSED, X1, X2. In a session use trc_book_clear. */
+uint32_t trc_stream_clear(trc_stream *, trc_cleared *);
+/* Gives up the packets of a closed part. CLOSED, Y1 to Y3. In a session use trc_book_release. */
+uint32_t trc_stream_release(trc_stream *, uint64_t chunk, trc_released *);
+/* How many records were offered, and where they are. CLOSED. */
+uint32_t trc_stream_counts(trc_stream *, trc_counts *);
+/* What became of the offer with this serial. CLOSED. */
+uint32_t trc_stream_fate(trc_stream *, uint64_t serial, trc_fate *);
+/* How much the stream added to a trace chunk. CLOSED, NO_PART. */
+uint32_t trc_stream_part(trc_stream *, uint64_t chunk, trc_part *);
+/* Copies bytes of the packets that the stream added to a trace chunk, from byte `at` on, as many as there are and as fit: 0 at
+ * the end, and for a released part. The rest of the room is as it was. CLOSED, NO_PART. */
+uint32_t trc_stream_text(trc_stream *, uint64_t chunk, uint64_t at, uint8_t *room, size_t room_len, uint64_t *copied);
+/* Lets the stream go. */
+void trc_stream_free(trc_stream *);
+
+/* ---- A session's book: what it keeps beside its streams ---------------------------------------------------------------- */
+
+typedef struct { void *at; bool live; } trc_book;
+typedef struct { void *at; bool live; } trc_snap;
+
+typedef struct { uint64_t id, begin, end; } trc_archive;
+typedef struct {
+    uint32_t mode, state;       /* TRC_LOCAL or TRC_SNAPSHOT; TRC_NEW, TRC_ACTIVE or TRC_INACTIVE */
+    uint64_t channels, streams, archives;
+    uint64_t begin, last;       /* when the current chunk began, and the last stored moment; 0 before the first start */
+    bool pending;               /* whether a rotation is pending; its archive's number is `archives` */
+} trc_about;
+enum { TRC_IDLE = 0, TRC_TIMER = 1, TRC_SIZE = 2 };
+
+/* IN_USE, BAD_UUID, BAD_OFFSET (minutes that the clock of archives' names is ahead of UTC), BAD_MODE, NO_MEMORY. */
+uint32_t trc_book_new(trc_book *, const uint8_t *uuid, size_t uuid_len, int32_t east, uint32_t session_mode);
+/* Adds a channel: rings of `count` sub-buffers of `size` bytes. CLOSED, BAD_NAME, BAD_MODE, S9 to S12, S15, S16. */
+uint32_t trc_book_channel(trc_book *, const uint8_t *name, size_t len, uint64_t size, uint64_t count, uint32_t mode);
+/* Adds a thread to a channel, and opens its stream; both or neither. `number` is the stream's. CLOSED (book), IN_USE (stream),
+ * BAD_NAME, S10, S12, S16, S17. */
+uint32_t trc_book_thread(trc_book *, trc_stream *, const uint8_t *channel, size_t len, uint64_t *number);
+/* Starts the session; then each stream is to be switched on. CLOSED, BAD_MOMENT, S4, S6. */
+uint32_t trc_book_start(trc_book *, uint64_t moment);
+/* Stops the session; then each stream is to be switched off. CLOSED, S4, S7. */
+uint32_t trc_book_stop(trc_book *);
+/* Switches a stream as its session allows: on while that is active, off while it is stopped. CLOSED, MISPLACED, S8, S7 (on),
+ * S6 (off). */
+uint32_t trc_book_switch(trc_book *, trc_stream *, bool active);
+
+/* Begins a rotation, and answers with the number of the chunk that it archives. CLOSED, BAD_MOMENT, S1, S3, S4, S5, S16. */
+uint32_t trc_rotate_begin(trc_book *, uint64_t moment, uint64_t *id);
+/* Which stream the pending rotation cuts next: `number`, if `left` is true; else all are cut, and `number` is 0. CLOSED, S13. */
+uint32_t trc_rotate_next(trc_book *, bool *left, uint64_t *number);
+/* Cuts that stream at the rotation's end, and notes it. CLOSED (book, then stream), MISPLACED, S8, S13, S14 (another stream is
+ * next), C2: the stream is uncut, the rotation pending. */
+uint32_t trc_rotate_cut(trc_book *, trc_stream *, trc_cut *);
+/* Ends a rotation that has cut every stream. It takes no memory. CLOSED, S13, S14. */
+uint32_t trc_rotate_finish(trc_book *, trc_archive *);
+
+/* Whether streams can be cleared now. CLOSED, S1, S3, S4. */
+uint32_t trc_book_can_clear(trc_book *);
+/* Whether there is an archive of this number, whose parts can be released. CLOSED, S18. */
+uint32_t trc_book_can_release(trc_book *, uint64_t archive);
+/* Clears a stream as its session allows. CLOSED, MISPLACED, S8, S1, S3, S4, S16. */
+uint32_t trc_book_clear(trc_book *, trc_stream *, trc_cleared *);
+/* Gives up a stream's part of an archive. CLOSED, MISPLACED, S8, S18, S19, S16. */
+uint32_t trc_book_release(trc_book *, trc_stream *, uint64_t archive, trc_released *);
+
+/* Sets when rotations are due: each `every` nanoseconds if `timer`, at `size` bytes if `by_size`, or never if neither. CLOSED,
+ * S1, D1, D2. */
+uint32_t trc_book_schedule(trc_book *, bool timer, uint64_t every, bool by_size, uint64_t size);
+/* Why a rotation is due now: TRC_IDLE (it isn't), TRC_TIMER or TRC_SIZE. `sizes` has each stream's `current_bytes`. CLOSED,
+ * BAD_MOMENT. */
+uint32_t trc_book_due(trc_book *, uint64_t moment, const uint64_t *sizes, size_t len, uint32_t *cause);
+
+/* Begins a snapshot: `stored` is the moment, or the last one if that is later. CLOSED, BAD_MOMENT, S2, S3. */
+uint32_t trc_book_snapshot(trc_book *, uint64_t moment, uint64_t *stored);
+/* Opens what a stream shows at a moment; the stream stays as it is. CLOSED (book, then stream), IN_USE (snap), BAD_MOMENT,
+ * MISPLACED, S8, S2, S3, S16. */
+uint32_t trc_book_look(trc_book *, trc_stream *, uint64_t moment, trc_snap *);
+
+typedef struct {
+    uint64_t stream, offered, lost; /* its number, how many offers it had accepted, how many of these it had discarded */
+    uint64_t records, bytes;        /* how many records are shown, and the bytes of their packets */
+    bool any; uint64_t oldest;      /* whether one is shown, and the first one's serial, or 0 */
+} trc_shown;
+/* CLOSED. */
+uint32_t trc_snap_about(trc_snap *, trc_shown *);
+/* Copies bytes of the shown packets, as trc_stream_text. CLOSED. */
+uint32_t trc_snap_text(trc_snap *, uint64_t at, uint8_t *room, size_t room_len, uint64_t *copied);
+void trc_snap_free(trc_snap *);
+
+/* What the book says of the session. CLOSED. */
+uint32_t trc_book_about(trc_book *, trc_about *);
+/* An archive. CLOSED, S18. */
+uint32_t trc_book_archive(trc_book *, uint64_t id, trc_archive *);
+/* The name of an archive's folder, without a zero at its end: 62 bytes at most. CLOSED, S18, NO_MEMORY, NO_ROOM. */
+uint32_t trc_book_archive_name(trc_book *, uint64_t id, uint8_t *room, size_t room_len, uint64_t *copied);
+/* The name that an archive 0 of the current chunk would have if it ended at `stored`: for a snapshot's folder. CLOSED,
+ * BAD_MOMENT, NO_MEMORY, NO_ROOM. */
+uint32_t trc_book_snapshot_name(trc_book *, uint64_t stored, uint8_t *room, size_t room_len, uint64_t *copied);
+/* The name of a stream's file in it: 85 bytes at most. CLOSED, S8, NO_MEMORY, NO_ROOM. */
+uint32_t trc_book_file_name(trc_book *, uint64_t stream, uint8_t *room, size_t room_len, uint64_t *copied);
+/* The text of the file `metadata`: 4,096 bytes at most. CLOSED, NO_MEMORY, NO_ROOM. */
+uint32_t trc_book_metadata(trc_book *, uint8_t *room, size_t room_len, uint64_t *copied);
+void trc_book_free(trc_book *);
+
+/* DONE if this text is a name, of a session or a channel. BAD_NAME. */
+uint32_t trc_name(const uint8_t *name, size_t len);
+
+/* ---- The audit of one stream's files ----------------------------------------------------------------------------------- */
+
+typedef struct { void *at; bool live; } trc_audit;
+
+typedef struct {
+    uint64_t packets, records, absent; /* absent: how many packet numbers below the last one are missing */
+    bool any;                          /* whether there was a packet; the next two are 0 if not */
+    uint64_t last_seq, last_serial;
+    uint64_t last_lost;                /* how many records the stream had discarded by the last packet */
+} trc_audited;
+typedef struct {
+    uint64_t piece, offset; /* the file in which the packet begins, from 0 on, and the byte of that file */
+    uint32_t packet;        /* of A1: what is wrong with it, n of Pn (1 to 7); else 0 */
+} trc_flaw;
+
+/* Begins the audit of a stream's files. IN_USE, BAD_UUID, NO_MEMORY. */
+uint32_t trc_audit_new(trc_audit *, const uint8_t *uuid, size_t uuid_len, uint64_t stream);
+/* Audits the next bytes of this file, in any pieces. A1 to A5: `flaw` says where; each later call says the same. CLOSED,
+ * TOO_MUCH. */
+uint32_t trc_audit_feed(trc_audit *, const uint8_t *bytes, size_t len, trc_flaw *);
+/* Ends this file, and begins the next one. CLOSED, A1 to A5, TOO_MUCH. */
+uint32_t trc_audit_next(trc_audit *, trc_flaw *);
+/* Ends the last file and closes the handle, also after A1 to A5. CLOSED, A1 to A5. */
+uint32_t trc_audit_end(trc_audit *, trc_audited *, trc_flaw *);
+void trc_audit_free(trc_audit *);
+
+#ifdef __cplusplus
+}
+#endif
+#endif

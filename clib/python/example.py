@@ -1,0 +1,47 @@
+"""Records from two threads, rotates, writes the archive below the folder that is named, and reads it back."""
+import sys
+import threading
+
+import tracerd
+
+UUID = bytes(range(16))
+THREADS, RECORDS = 2, 1000
+
+
+def record(producer):
+    for k in range(RECORDS):
+        offered = producer.offer(tracerd.now(), 7, b"%d" % k)
+        assert (offered.outcome, offered.serial) == (tracerd.STORED, k), offered
+    producer.done()
+
+
+def main(folder):
+    session = tracerd.Session("snake", UUID)
+    session.channel("main", 65536, 16, tracerd.DISCARD)
+    producers = [session.producer("main") for _ in range(THREADS)]
+    session.start(tracerd.now())
+    threads = [threading.Thread(target=record, args=(it,)) for it in producers]
+    for it in threads:
+        it.start()
+    for it in threads:
+        it.join()
+    session.stop()
+    archive = session.rotate(tracerd.now())
+    totals = session.settle()
+    assert totals.offered == totals.in_chunks == THREADS * RECORDS, totals
+    session.write(archive, folder)
+    for stream in range(THREADS):
+        audited = tracerd.audit(folder, "snake", "main", stream, UUID)
+        assert (audited.records, audited.absent) == (RECORDS, 0), audited
+    try:
+        session.write(archive + 1, folder)
+        raise AssertionError("an archive that isn't there was written")
+    except tracerd.Refused as refused:
+        assert str(refused) == "NoArchive", refused
+    print(f"python: {totals.in_chunks} records in archive {archive}")
+
+
+if __name__ == "__main__":
+    if len(sys.argv) != 2:
+        sys.exit("usage: example.py DIR")
+    main(sys.argv[1])

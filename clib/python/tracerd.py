@@ -1,0 +1,225 @@
+"""A recorder: sessions of channels, in which each thread offers records by a producer of its own.
+
+    import tracerd
+    session = tracerd.Session("app", uuid.uuid4().bytes)
+    session.channel("main", 65536, 16, tracerd.DISCARD)
+    producer = session.producer("main")
+    session.start(tracerd.now())
+    producer.offer(tracerd.now(), 7, b"bytes")
+    session.write(session.rotate(tracerd.now()), "DIR")
+
+tracerd.h has the meaning of each call, its units and refusals. The library is that of the variable TRACERD_SO, or
+libtracerd.so.0 where the system finds libraries."""
+import ctypes
+import os
+from ctypes import POINTER, byref, c_char_p, c_int32, c_size_t, c_uint32, c_uint64, c_void_p
+
+__version__ = "0.9.0"
+LOCAL, SNAPSHOT = 0, 1
+DISCARD, OVERWRITE = 0, 1
+STORED, STORED_OVER, DISCARDED = 0, 1, 2
+IDLE, TIMER, SIZE = 0, 1, 2
+NOT_OFFERED, IN_RING, IN_CHUNK, WAS_DISCARDED, WAS_OVERWRITTEN, WAS_CLEARED = range(6)
+NEVER = 2**64 - 1
+
+
+class _Struct(ctypes.Structure):
+    """A structure that shows its fields."""
+
+    def __repr__(self):
+        return f"{type(self).__name__}({', '.join(f'{name}={getattr(self, name)}' for name, _ in self._fields_)})"
+
+
+def _numbers(*names):
+    return [(name, c_uint64) for name in names]
+
+
+class Offered(_Struct):
+    """What became of an accepted offer: `outcome` is STORED, STORED_OVER or DISCARDED."""
+
+    _fields_ = [("outcome", c_uint32), *_numbers("serial", "packet", "gone", "gone_count")]
+
+
+class Fate(_Struct):
+    """Where a record is, or how it was lost: `place` is NOT_OFFERED .. WAS_CLEARED."""
+
+    _fields_ = [("place", c_uint32), *_numbers("chunk", "packet")]
+
+
+class Counts(_Struct):
+    """`offered` is the sum of the others."""
+
+    _fields_ = _numbers("offered", "discarded", "overwritten", "cleared", "in_ring", "in_chunks")
+
+
+class Audited(_Struct):
+    """What an audit found."""
+
+    _fields_ = [
+        *_numbers("packets", "records", "absent", "discarded", "last_packet", "last_serial", "archive", "byte"),
+        ("packet_fault", c_uint32),
+    ]
+
+
+_library = ctypes.CDLL(os.environ.get("TRACERD_SO", "libtracerd.so.0"))
+
+
+def _call(name, *types, result=c_uint32):
+    found = getattr(_library, f"tracerd_{name}")
+    found.argtypes, found.restype = types, result
+    return found
+
+
+_number = POINTER(c_uint64)
+_status_name = _call("status_name", c_uint32, result=c_char_p)
+_new = _call("new", POINTER(c_void_p), c_char_p, c_char_p, c_int32, c_uint32)
+_free = _call("free", c_void_p, result=None)
+_channel = _call("channel", c_void_p, c_char_p, c_uint64, c_uint64, c_uint32)
+_producer_new = _call("producer_new", c_void_p, c_char_p, POINTER(c_void_p))
+_producer_number = _call("producer_number", c_void_p, result=c_uint64)
+_producer_done = _call("producer_done", c_void_p)
+_start = _call("start", c_void_p, c_uint64)
+_stop = _call("stop", c_void_p)
+_offer = _call("offer", c_void_p, c_uint64, c_uint32, c_char_p, c_size_t, POINTER(Offered))
+_drain = _call("drain", c_void_p, _number)
+_drainer_start = _call("drainer_start", c_void_p, c_uint64)
+_drainer_stop = _call("drainer_stop", c_void_p)
+_rotate = _call("rotate", c_void_p, c_uint64, _number)
+_rotate_on = _call("rotate_on", c_void_p, _number)
+_schedule = _call("schedule", c_void_p, c_uint64, c_uint64)
+_tick = _call("tick", c_void_p, c_uint64, POINTER(c_uint32), _number)
+_clear = _call("clear", c_void_p, _number)
+_write = _call("write", c_void_p, c_uint64, c_char_p)
+_release = _call("release", c_void_p, c_uint64)
+_snapshot = _call("snapshot", c_void_p, c_uint64, c_char_p)
+_audit = _call("audit", c_char_p, c_char_p, c_char_p, c_uint64, c_char_p, POINTER(Audited))
+_counts_of = _call("counts_of", c_void_p, POINTER(Counts))
+_counts_sum = _call("counts_sum", c_void_p, POINTER(Counts))
+_settle = _call("settle", c_void_p, POINTER(Counts), _number)
+_fate_of = _call("fate_of", c_void_p, c_uint64, POINTER(Fate))
+now = _call("now", result=c_uint64)
+
+
+class Refused(Exception):
+    """Why a call was refused: `status` is the number of tracerd.h, the text its name."""
+
+    def __init__(self, status):
+        super().__init__(_status_name(status).decode())
+        self.status = status
+
+
+def _must(status):
+    if status:
+        raise Refused(status)
+
+
+def _written(kind, call, *given):
+    """What a call writes to the place that is its last argument."""
+    value = kind()
+    _must(call(*given, byref(value)))
+    return value.value if kind is c_uint64 else value
+
+
+class Producer:
+    """One thread's right to offer. It keeps its session, and gives itself back."""
+
+    def __init__(self, session, channel):
+        self._handle = c_void_p()
+        self._session = session
+        _must(_producer_new(session._handle, channel.encode(), byref(self._handle)))
+
+    def __del__(self):
+        if self._handle:
+            self.done()
+
+    def done(self):
+        """Gives it back; once more changes nothing."""
+        _producer_done(self._handle)
+
+    @property
+    def number(self):
+        return _producer_number(self._handle)
+
+    def offer(self, moment, id, payload=b""):
+        return _written(Offered, _offer, self._handle, moment, id, payload, len(payload))
+
+    def counts(self):
+        return _written(Counts, _counts_of, self._handle)
+
+    def fate(self, serial):
+        return _written(Fate, _fate_of, self._handle, serial)
+
+
+class Session:
+    """A session, which threads share. It goes when nobody has it or one of its producers."""
+
+    def __init__(self, name, uuid, east=0, kind=LOCAL):
+        if len(uuid) != 16:
+            raise ValueError("an identifier has 16 bytes")
+        self._handle = c_void_p()
+        _must(_new(byref(self._handle), name.encode(), bytes(uuid), east, kind))
+
+    def __del__(self):
+        if self._handle:
+            _free(self._handle)
+
+    def channel(self, name, size, count, mode):
+        _must(_channel(self._handle, name.encode(), size, count, mode))
+
+    def producer(self, channel):
+        return Producer(self, channel)
+
+    def start(self, moment):
+        _must(_start(self._handle, moment))
+
+    def stop(self):
+        _must(_stop(self._handle))
+
+    def drain(self):
+        return _written(c_uint64, _drain, self._handle)
+
+    def drainer_start(self, period):
+        _must(_drainer_start(self._handle, period))
+
+    def drainer_stop(self):
+        _must(_drainer_stop(self._handle))
+
+    def rotate(self, moment):
+        return _written(c_uint64, _rotate, self._handle, moment)
+
+    def rotate_on(self):
+        return _written(c_uint64, _rotate_on, self._handle)
+
+    def schedule(self, every=NEVER, size=NEVER):
+        _must(_schedule(self._handle, every, size))
+
+    def tick(self, moment):
+        """Why a rotation was due (IDLE, TIMER or SIZE), and the archive's number, or None."""
+        cause = c_uint32()
+        archive = _written(c_uint64, _tick, self._handle, moment, byref(cause))
+        return cause.value, archive if cause.value else None
+
+    def clear(self):
+        return _written(c_uint64, _clear, self._handle)
+
+    def write(self, archive, folder):
+        _must(_write(self._handle, archive, os.fsencode(folder)))
+
+    def release(self, archive):
+        _must(_release(self._handle, archive))
+
+    def snapshot(self, moment, folder):
+        _must(_snapshot(self._handle, moment, os.fsencode(folder)))
+
+    def counts(self):
+        return _written(Counts, _counts_sum, self._handle)
+
+    def settle(self):
+        counts, stream = Counts(), c_uint64()
+        _must(_settle(self._handle, byref(counts), byref(stream)))
+        return counts
+
+
+def audit(folder, session, channel, stream, uuid):
+    """Reads a stream's files of all archives below a folder, and judges each packet."""
+    return _written(Audited, _audit, os.fsencode(folder), session.encode(), channel.encode(), stream, bytes(uuid))

@@ -1,0 +1,306 @@
+//! A recorder: sessions of channels, in which each thread offers records by a producer of its own. `tracerd.h` has the meaning
+//! of each call, its units and refusals.
+//!
+//! ```no_run
+//! use tracerd::{now, Kind, Mode, Session};
+//!
+//! fn main() -> Result<(), tracerd::Refused> {
+//!     let session = Session::new("app", [1; 16], 0, Kind::Local)?;
+//!     session.channel("main", 65_536, 16, Mode::Discard)?;
+//!     let mut producer = session.producer("main")?;
+//!     session.start(now())?;
+//!     producer.offer(now(), 7, b"bytes")?;
+//!     let archive = session.rotate(now())?;
+//!     session.write(archive, "DIR".as_ref())
+//! }
+//! ```
+mod ffi;
+
+use std::ffi::CString;
+use std::fmt;
+use std::os::unix::ffi::OsStrExt;
+use std::path::Path;
+use std::ptr::{null_mut, NonNull};
+use std::sync::Arc;
+
+pub use ffi::{Audited, Counts};
+
+macro_rules! refusals {
+    ($($name:ident = $code:literal,)*) => {
+        /// Why a call was refused. Its number is the status of `tracerd.h`.
+        #[derive(Clone, Copy, Debug, PartialEq, Eq)]
+        #[repr(u32)]
+        #[non_exhaustive]
+        pub enum Refused {
+            $($name = $code,)*
+        }
+
+        impl Refused {
+            fn from_status(status: u32) -> Refused {
+                match status {
+                    $($code => Refused::$name,)*
+                    _ => unreachable!("tracerd answered {status}"),
+                }
+            }
+        }
+    };
+}
+
+refusals! {
+    NoMemory = 1, Closed = 2, BadMoment = 4, BadMode = 6, BadName = 7, BadOffset = 8,
+    Write = 20, Read = 21, Missing = 22, Draining = 23, NotDraining = 24,
+    SnapshotMode = 101, NotSnapshotMode = 102, NeverStarted = 103, RotationPending = 104, AlreadyRotated = 105,
+    AlreadyActive = 106, NotActive = 107, DiscardInSnapshot = 109, AlreadyStarted = 110, BadGeometry = 111, TooMany = 112,
+    NotPending = 113, NameTaken = 115, NoChannel = 117, NoArchive = 118, Released = 119,
+    Inactive = 201, TooBig = 202, Spent = 203, ZeroPeriod = 701, ZeroSize = 702,
+    Packet = 801, NumberRepeat = 802, SerialRepeat = 803, Foreign = 804,
+}
+
+impl fmt::Display for Refused {
+    fn fmt(&self, out: &mut fmt::Formatter<'_>) -> fmt::Result {
+        fmt::Debug::fmt(self, out)
+    }
+}
+
+impl std::error::Error for Refused {}
+
+fn done(status: u32) -> Result<(), Refused> {
+    if status == 0 {
+        Ok(())
+    } else {
+        Err(Refused::from_status(status))
+    }
+}
+
+/// What a call writes to a place that it is given.
+fn written<T: Default>(call: impl FnOnce(&mut T) -> u32) -> Result<T, Refused> {
+    let mut value = T::default();
+    done(call(&mut value))?;
+    Ok(value)
+}
+
+fn name(text: &str) -> Result<CString, Refused> {
+    CString::new(text).map_err(|_| Refused::BadName)
+}
+
+fn path(folder: &Path, otherwise: Refused) -> Result<CString, Refused> {
+    CString::new(folder.as_os_str().as_bytes()).map_err(|_| otherwise)
+}
+
+/// The clock's moment, in nanoseconds since 1970.
+pub fn now() -> u64 {
+    unsafe { ffi::tracerd_now() }
+}
+
+/// A local session is rotated into archives, a snapshot session shows what its rings hold.
+#[derive(Clone, Copy, Debug, PartialEq, Eq)]
+pub enum Kind {
+    Local = 0,
+    Snapshot = 1,
+}
+
+/// What a full ring does: it discards the newest record, or overwrites its oldest sub-buffer.
+#[derive(Clone, Copy, Debug, PartialEq, Eq)]
+pub enum Mode {
+    Discard = 0,
+    Overwrite = 1,
+}
+
+/// What became of an accepted offer.
+#[derive(Clone, Copy, Debug, PartialEq, Eq)]
+pub enum Offered {
+    Stored { serial: u64, packet: u64 },
+    StoredOver { serial: u64, packet: u64, gone: u64, gone_count: u64 },
+    Discarded { serial: u64 },
+}
+
+/// Where a record is, or how it was lost.
+#[derive(Clone, Copy, Debug, PartialEq, Eq)]
+pub enum Fate {
+    NotOffered,
+    InRing { packet: u64 },
+    InChunk { chunk: u64, packet: u64 },
+    Discarded,
+    Overwritten,
+    Cleared { packet: u64 },
+}
+
+/// Why a tick rotated, and the archive that it made.
+#[derive(Clone, Copy, Debug, PartialEq, Eq)]
+pub enum Ticked {
+    Idle,
+    Timer(u64),
+    Size(u64),
+}
+
+/// A session in the library: it goes with the last that holds it.
+struct Handle(NonNull<ffi::RawSession>);
+
+// the library orders all calls on a session by locks
+unsafe impl Send for Handle {}
+unsafe impl Sync for Handle {}
+
+impl Drop for Handle {
+    fn drop(&mut self) {
+        unsafe { ffi::tracerd_free(self.0.as_ptr()) }
+    }
+}
+
+/// A session, which threads share by reference or by clones.
+#[derive(Clone)]
+pub struct Session(Arc<Handle>);
+
+/// One thread's right to offer. It keeps its session alive, and gives itself back.
+pub struct Producer {
+    raw: NonNull<ffi::RawProducer>,
+    _session: Arc<Handle>,
+}
+
+// a producer is used by one thread at a time: its offers take it by `&mut`
+unsafe impl Send for Producer {}
+
+impl Session {
+    pub fn new(session: &str, uuid: [u8; 16], east: i32, kind: Kind) -> Result<Session, Refused> {
+        let mut raw = null_mut();
+        let session = name(session)?;
+        done(unsafe { ffi::tracerd_new(&mut raw, session.as_ptr(), uuid.as_ptr(), east, kind as u32) })?;
+        Ok(Session(Arc::new(Handle(NonNull::new(raw).ok_or(Refused::NoMemory)?))))
+    }
+
+    fn raw(&self) -> *mut ffi::RawSession {
+        self.0 .0.as_ptr()
+    }
+
+    pub fn channel(&self, channel: &str, size: u64, count: u64, mode: Mode) -> Result<(), Refused> {
+        let channel = name(channel)?;
+        done(unsafe { ffi::tracerd_channel(self.raw(), channel.as_ptr(), size, count, mode as u32) })
+    }
+
+    pub fn producer(&self, channel: &str) -> Result<Producer, Refused> {
+        let mut raw = null_mut();
+        let channel = name(channel)?;
+        done(unsafe { ffi::tracerd_producer_new(self.raw(), channel.as_ptr(), &mut raw) })?;
+        Ok(Producer { raw: NonNull::new(raw).ok_or(Refused::NoMemory)?, _session: self.0.clone() })
+    }
+
+    pub fn start(&self, moment: u64) -> Result<(), Refused> {
+        done(unsafe { ffi::tracerd_start(self.raw(), moment) })
+    }
+
+    pub fn stop(&self) -> Result<(), Refused> {
+        done(unsafe { ffi::tracerd_stop(self.raw()) })
+    }
+
+    /// Takes all closed sub-buffers, and counts them.
+    pub fn drain(&self) -> Result<u64, Refused> {
+        written(|packets| unsafe { ffi::tracerd_drain(self.raw(), packets) })
+    }
+
+    pub fn drainer_start(&self, period: u64) -> Result<(), Refused> {
+        done(unsafe { ffi::tracerd_drainer_start(self.raw(), period) })
+    }
+
+    pub fn drainer_stop(&self) -> Result<(), Refused> {
+        done(unsafe { ffi::tracerd_drainer_stop(self.raw()) })
+    }
+
+    /// Ends the current chunk, and answers with the archive's number.
+    pub fn rotate(&self, moment: u64) -> Result<u64, Refused> {
+        written(|archive| unsafe { ffi::tracerd_rotate(self.raw(), moment, archive) })
+    }
+
+    pub fn rotate_on(&self) -> Result<u64, Refused> {
+        written(|archive| unsafe { ffi::tracerd_rotate_on(self.raw(), archive) })
+    }
+
+    pub fn schedule(&self, every: Option<u64>, bytes: Option<u64>) -> Result<(), Refused> {
+        done(unsafe { ffi::tracerd_schedule(self.raw(), every.unwrap_or(u64::MAX), bytes.unwrap_or(u64::MAX)) })
+    }
+
+    pub fn tick(&self, moment: u64) -> Result<Ticked, Refused> {
+        let (mut cause, mut archive) = (0, 0);
+        done(unsafe { ffi::tracerd_tick(self.raw(), moment, &mut cause, &mut archive) })?;
+        Ok(match cause {
+            0 => Ticked::Idle,
+            1 => Ticked::Timer(archive),
+            _ => Ticked::Size(archive),
+        })
+    }
+
+    /// Removes what the rings and the current chunk hold, and counts these records.
+    pub fn clear(&self) -> Result<u64, Refused> {
+        written(|records| unsafe { ffi::tracerd_clear(self.raw(), records) })
+    }
+
+    pub fn write(&self, archive: u64, folder: &Path) -> Result<(), Refused> {
+        let folder = path(folder, Refused::Write)?;
+        done(unsafe { ffi::tracerd_write(self.raw(), archive, folder.as_ptr()) })
+    }
+
+    pub fn release(&self, archive: u64) -> Result<(), Refused> {
+        done(unsafe { ffi::tracerd_release(self.raw(), archive) })
+    }
+
+    pub fn snapshot(&self, moment: u64, folder: &Path) -> Result<(), Refused> {
+        let folder = path(folder, Refused::Write)?;
+        done(unsafe { ffi::tracerd_snapshot(self.raw(), moment, folder.as_ptr()) })
+    }
+
+    pub fn counts(&self) -> Result<Counts, Refused> {
+        written(|counts| unsafe { ffi::tracerd_counts_sum(self.raw(), counts) })
+    }
+
+    /// The sums once every producer was given back.
+    pub fn settle(&self) -> Result<Counts, Refused> {
+        let mut stream = 0;
+        written(|counts| unsafe { ffi::tracerd_settle(self.raw(), counts, &mut stream) })
+    }
+}
+
+impl Producer {
+    #[inline]
+    pub fn offer(&mut self, moment: u64, id: u32, payload: &[u8]) -> Result<Offered, Refused> {
+        let (bytes, size) = (payload.as_ptr().cast(), payload.len());
+        let it: ffi::RawOffered = written(|it| unsafe { ffi::tracerd_offer(self.raw.as_ptr(), moment, id, bytes, size, it) })?;
+        Ok(match it.outcome {
+            0 => Offered::Stored { serial: it.serial, packet: it.packet },
+            1 => Offered::StoredOver { serial: it.serial, packet: it.packet, gone: it.gone, gone_count: it.gone_count },
+            _ => Offered::Discarded { serial: it.serial },
+        })
+    }
+
+    /// The number of its stream.
+    pub fn number(&self) -> u64 {
+        unsafe { ffi::tracerd_producer_number(self.raw.as_ptr()) }
+    }
+
+    pub fn counts(&self) -> Result<Counts, Refused> {
+        written(|counts| unsafe { ffi::tracerd_counts_of(self.raw.as_ptr(), counts) })
+    }
+
+    pub fn fate(&self, serial: u64) -> Result<Fate, Refused> {
+        let it: ffi::RawFate = written(|it| unsafe { ffi::tracerd_fate_of(self.raw.as_ptr(), serial, it) })?;
+        Ok(match it.place {
+            0 => Fate::NotOffered,
+            1 => Fate::InRing { packet: it.packet },
+            2 => Fate::InChunk { chunk: it.chunk, packet: it.packet },
+            3 => Fate::Discarded,
+            4 => Fate::Overwritten,
+            _ => Fate::Cleared { packet: it.packet },
+        })
+    }
+}
+
+impl Drop for Producer {
+    fn drop(&mut self) {
+        unsafe { ffi::tracerd_producer_done(self.raw.as_ptr()) };
+    }
+}
+
+/// Reads a stream's files of all archives below a folder, and judges each packet.
+pub fn audit(folder: &Path, session: &str, channel: &str, stream: u64, uuid: [u8; 16]) -> Result<Audited, Refused> {
+    let (folder, session, channel) = (path(folder, Refused::Read)?, name(session)?, name(channel)?);
+    written(|audited| unsafe {
+        ffi::tracerd_audit(folder.as_ptr(), session.as_ptr(), channel.as_ptr(), stream, uuid.as_ptr(), audited)
+    })
+}

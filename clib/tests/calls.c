@@ -1,0 +1,426 @@
+/* Each call of tracerd.h does what it says, and each refusal but SPENT (which 2^62 offers bring) and those for want of memory
+ * (tests/memory.c) is met.
+ *
+ *     calls DIR     a folder that is there, in which files are written
+ *
+ * Expected values are worked out by hand: a packet has 80 bytes before its records, a record 24 before its payload. */
+#include "testing.h"
+#include <errno.h>
+#include <pthread.h>
+#include <sys/stat.h>
+#include <time.h>
+#include <unistd.h>
+
+enum { ARCHIVES = 12 }; /* by their names the tenth comes before the second */
+static const uint64_t LAST_MOMENT = 9000000000000000000;
+static const char *dir;
+static char letters[70000];
+
+static const char *below(const char *name) {
+    static char path[4096];
+    snprintf(path, sizeof path, "%s/%s", dir, name);
+    return path;
+}
+
+static tracerd_session *fresh(tracerd_kind kind, tracerd_mode mode, tracerd_producer **producer) {
+    tracerd_session *s;
+    answers(OK, tracerd_new(&s, "s", ONE, 0, kind));
+    answers(OK, tracerd_channel(s, "c", 256, 2, mode));
+    answers(OK, tracerd_producer_new(s, "c", producer));
+    return s;
+}
+
+static void is_stored(tracerd_producer *p, uint64_t moment, size_t size, uint64_t serial, uint64_t packet) {
+    tracerd_offered o;
+    answers(OK, tracerd_offer(p, moment, 7, letters, size, &o));
+    is(o.outcome == TRACERD_STORED && o.serial == serial && o.packet == packet && !o.gone && !o.gone_count);
+}
+
+static void is_at(tracerd_producer *p, uint64_t serial, tracerd_place place, uint64_t chunk, uint64_t packet) {
+    tracerd_fate f;
+    answers(OK, tracerd_fate_of(p, serial, &f));
+    is(f.place == place && f.chunk == chunk && f.packet == packet);
+}
+
+static void has_counts(tracerd_counts c, uint64_t offered, uint64_t discarded, uint64_t overwritten, uint64_t cleared,
+                       uint64_t in_ring, uint64_t in_chunks) {
+    is(c.offered == offered && c.discarded == discarded && c.overwritten == overwritten && c.cleared == cleared);
+    is(c.in_ring == in_ring && c.in_chunks == in_chunks);
+}
+
+/* The session of examples/archives.script: the stage compares its archive with the one that the script makes. */
+static void records_and_archives(void) {
+    tracerd_producer *p;
+    tracerd_offered o;
+    tracerd_counts c;
+    tracerd_audited a;
+    uint64_t n = 99;
+    tracerd_session *s = fresh(TRACERD_LOCAL, TRACERD_DISCARD, &p);
+    is(tracerd_producer_number(p) == 0 && !p->active);
+    answers(INACTIVE, tracerd_offer(p, 0, 7, "x", 1, &o));
+    answers(OK, tracerd_start(s, 0));
+    is(p->active == 1);
+    for (uint64_t k = 0; k < 4; k++) is_stored(p, k + 1, 50, k, k / 2);
+    answers(OK, tracerd_offer(p, 5, 7, letters, 50, &o));
+    is(o.outcome == TRACERD_DISCARDED && o.serial == 4 && !o.packet);
+    is_stored(p, 6, 4, 5, 1);
+    answers(OK, tracerd_drain(s, &n));
+    is(n == 1);
+    is_at(p, 0, TRACERD_IN_CHUNK, 0, 0);
+    is_at(p, 5, TRACERD_IN_RING, 0, 1);
+    answers(OK, tracerd_counts_of(p, &c));
+    has_counts(c, 6, 1, 0, 0, 3, 2);
+    answers(OK, tracerd_rotate(s, 10, &n));
+    is(n == 0);
+    is_at(p, 4, TRACERD_WAS_DISCARDED, 0, 0);
+    is_at(p, 5, TRACERD_IN_CHUNK, 0, 1);
+    is_at(p, 6, TRACERD_NOT_OFFERED, 0, 0);
+    answers(OK, tracerd_write(s, 0, below("archives")));
+    answers(OK, tracerd_audit(below("archives"), "s", "c", 0, ONE, &a));
+    is(a.packets == 2 && a.records == 5 && a.absent == 0 && a.discarded == 1 && a.last_packet == 1 && a.last_serial == 5);
+    answers(OK, tracerd_counts_sum(s, &c));
+    has_counts(c, 6, 1, 0, 0, 0, 5);
+    answers(MISSING, tracerd_settle(s, &c, &n));
+    is(n == 0);
+    answers(OK, tracerd_producer_done(p));
+    answers(CLOSED, tracerd_producer_done(p));
+    answers(CLOSED, tracerd_offer(p, 11, 7, "x", 1, &o));
+    is(!p->active);
+    answers(OK, tracerd_settle(s, &c, &n));
+    has_counts(c, 6, 1, 0, 0, 0, 5);
+    tracerd_free(s);
+    tracerd_free(NULL);
+}
+
+static void refuses_what_is_planned_badly(void) {
+    tracerd_session *s = (void *)1;
+    tracerd_producer *p;
+    char name[66] = "a", number[3] = "c0";
+    memset(name + 1, 'b', 63);
+    answers(BAD_NAME, tracerd_new(&s, "1a", ONE, 0, TRACERD_LOCAL));
+    is(s == NULL);
+    answers(BAD_OFFSET, tracerd_new(&s, "a", ONE, 1440, TRACERD_LOCAL));
+    answers(BAD_OFFSET, tracerd_new(&s, "a", ONE, -1440, TRACERD_LOCAL));
+    answers(BAD_MODE, tracerd_new(&s, "a", ONE, 0, (tracerd_kind)2));
+    answers(OK, tracerd_new(&s, name, ONE, 1439, TRACERD_LOCAL));
+    name[64] = 'b';
+    answers(BAD_NAME, tracerd_channel(s, name, 256, 2, TRACERD_DISCARD));
+    answers(BAD_NAME, tracerd_channel(s, "", 256, 2, TRACERD_DISCARD));
+    answers(BAD_MODE, tracerd_channel(s, "c", 256, 2, (tracerd_mode)2));
+    answers(BAD_GEOMETRY, tracerd_channel(s, "c", 300, 2, TRACERD_DISCARD));
+    answers(BAD_GEOMETRY, tracerd_channel(s, "c", 256, 3, TRACERD_DISCARD));
+    for (int k = 0; k < 8; k++, number[1]++) answers(OK, tracerd_channel(s, number, 256, 2, TRACERD_DISCARD));
+    answers(NAME_TAKEN, tracerd_channel(s, "c0", 256, 2, TRACERD_DISCARD));
+    answers(TOO_MANY, tracerd_channel(s, "d", 256, 2, TRACERD_DISCARD));
+    answers(NO_CHANNEL, tracerd_producer_new(s, "d", &p));
+    answers(BAD_NAME, tracerd_producer_new(s, "-", &p));
+    for (int k = 0; k < 1024; k++) answers(OK, tracerd_producer_new(s, "c7", &p));
+    is(tracerd_producer_number(p) == 1023);
+    answers(TOO_MANY, tracerd_producer_new(s, "c7", &p));
+    answers(BAD_MOMENT, tracerd_start(s, LAST_MOMENT + 1));
+    answers(OK, tracerd_start(s, LAST_MOMENT));
+    answers(ALREADY_STARTED, tracerd_channel(s, "d", 256, 2, TRACERD_DISCARD));
+    answers(ALREADY_STARTED, tracerd_producer_new(s, "c7", &p));
+    tracerd_free(s);
+}
+
+static void refuses_at_the_wrong_time(void) {
+    tracerd_producer *p;
+    tracerd_offered o;
+    uint64_t n = 99;
+    tracerd_session *s = fresh(TRACERD_LOCAL, TRACERD_DISCARD, &p);
+    answers(NEVER_STARTED, tracerd_rotate(s, 0, &n));
+    answers(NEVER_STARTED, tracerd_clear(s, &n));
+    answers(NOT_ACTIVE, tracerd_stop(s));
+    answers(OK, tracerd_start(s, 0));
+    answers(ALREADY_ACTIVE, tracerd_start(s, 0));
+    answers(NOT_PENDING, tracerd_rotate_on(s, &n));
+    answers(NOT_SNAPSHOT_MODE, tracerd_snapshot(s, 0, below("none")));
+    answers(BAD_MOMENT, tracerd_offer(p, LAST_MOMENT + 1, 7, "x", 1, &o));
+    answers(TOO_BIG, tracerd_offer(p, 0, 7, letters, 153, &o));
+    is_stored(p, 0, 152, 0, 0);
+    answers(OK, tracerd_offer(p, 0, 7, NULL, 0, &o));
+    answers(TOO_BIG, tracerd_trace(p, 7, letters, 153));
+    answers(BAD_MOMENT, tracerd_rotate(s, LAST_MOMENT + 1, &n));
+    answers(OK, tracerd_stop(s));
+    is(!p->active);
+    answers(INACTIVE, tracerd_offer(p, 0, 7, "x", 1, &o));
+    answers(NO_ARCHIVE, tracerd_write(s, 0, below("none")));
+    answers(NO_ARCHIVE, tracerd_release(s, 0));
+    is(n == 99 && access(below("none"), F_OK));
+    answers(OK, tracerd_rotate(s, 1, &n));
+    answers(ALREADY_ROTATED, tracerd_rotate(s, 2, &n));
+    is(n == 0);
+    answers(WRITE, tracerd_write(s, 0, "/dev/null/below"));
+    is(errno == ENOTDIR);
+    memset(letters, '/', 4090);
+    answers(WRITE, tracerd_write(s, 0, letters));
+    is(errno == ENAMETOOLONG);
+    memset(letters, 'a', 4090);
+    answers(OK, tracerd_release(s, 0));
+    answers(RELEASED, tracerd_release(s, 0));
+    answers(RELEASED, tracerd_write(s, 0, below("none")));
+    is(access(below("none"), F_OK));
+    is_at(p, 0, TRACERD_IN_CHUNK, 0, 0);
+    tracerd_free(s);
+}
+
+static void works_without_streams(void) {
+    tracerd_session *s;
+    tracerd_cause cause;
+    tracerd_counts c;
+    uint64_t n = 99;
+    answers(OK, tracerd_new(&s, "bare", ONE, 0, TRACERD_LOCAL));
+    answers(NEVER_STARTED, tracerd_clear(s, &n));
+    answers(NO_ARCHIVE, tracerd_release(s, 0));
+    answers(OK, tracerd_start(s, 0));
+    answers(OK, tracerd_clear(s, &n));
+    is(n == 0);
+    answers(OK, tracerd_rotate(s, 5, &n));
+    answers(RELEASED, tracerd_release(s, 0));
+    answers(OK, tracerd_write(s, 0, below("bare")));
+    is(!access(below("bare/bare/archives/19700101T000000+0000-19700101T000000+0000-0/metadata"), F_OK));
+    answers(OK, tracerd_tick(s, 6, &cause, &n));
+    is(cause == TRACERD_IDLE && n == 0);
+    answers(OK, tracerd_settle(s, &c, &n));
+    has_counts(c, 0, 0, 0, 0, 0, 0);
+    tracerd_free(s);
+}
+
+static void rotates_when_due(void) {
+    tracerd_producer *p;
+    tracerd_cause cause;
+    uint64_t n = 99;
+    tracerd_session *s = fresh(TRACERD_LOCAL, TRACERD_DISCARD, &p);
+    answers(ZERO_PERIOD, tracerd_schedule(s, 0, TRACERD_NEVER));
+    answers(ZERO_SIZE, tracerd_schedule(s, TRACERD_NEVER, 0));
+    answers(OK, tracerd_schedule(s, 100, 200));
+    answers(OK, tracerd_start(s, 1000));
+    answers(BAD_MOMENT, tracerd_tick(s, LAST_MOMENT + 1, &cause, &n));
+    answers(OK, tracerd_tick(s, 1099, &cause, &n));
+    is(cause == TRACERD_IDLE && n == 99);
+    answers(OK, tracerd_tick(s, 1100, &cause, &n));
+    is(cause == TRACERD_TIMER && n == 0);
+    /* 80 + 2 * 60 bytes are a packet of 200 once it is drained */
+    for (uint64_t k = 0; k < 3; k++) is_stored(p, 1101, 36, k, k / 2);
+    answers(OK, tracerd_tick(s, 1102, &cause, &n));
+    is(cause == TRACERD_IDLE);
+    answers(OK, tracerd_drain(s, &n));
+    is(n == 1);
+    answers(OK, tracerd_tick(s, 1102, &cause, &n));
+    is(cause == TRACERD_SIZE && n == 1);
+    answers(OK, tracerd_schedule(s, TRACERD_NEVER, TRACERD_NEVER));
+    answers(OK, tracerd_tick(s, LAST_MOMENT, &cause, &n));
+    is(cause == TRACERD_IDLE && n == 1);
+    tracerd_free(s);
+}
+
+static void clears(void) {
+    tracerd_producer *p;
+    tracerd_counts c;
+    uint64_t n = 99;
+    tracerd_session *s = fresh(TRACERD_LOCAL, TRACERD_DISCARD, &p);
+    answers(OK, tracerd_start(s, 0));
+    for (uint64_t k = 0; k < 3; k++) is_stored(p, k, 50, k, k / 2);
+    answers(OK, tracerd_drain(s, &n));
+    answers(OK, tracerd_clear(s, &n));
+    is(n == 3);
+    answers(OK, tracerd_counts_of(p, &c));
+    has_counts(c, 3, 0, 0, 3, 0, 0);
+    is_at(p, 2, TRACERD_WAS_CLEARED, 0, 1);
+    is_stored(p, 4, 50, 3, 2);
+    tracerd_free(s);
+}
+
+/* The stream's file of archive K of the session below a folder, with `count` bytes from `at` on read, or written if `bytes`. */
+static void touch(const char *folder, int archive, long at, void *to, const void *bytes, size_t count) {
+    char path[4200];
+    snprintf(path, sizeof path, "%s/s/archives/19700101T000000+0000-19700101T000000+0000-%d/c_0", folder, archive);
+    FILE *file = fopen(path, "r+b");
+    is(file && !fseek(file, at, SEEK_SET));
+    if (file) is((to ? fread(to, 1, count, file) : fwrite(bytes, 1, count, file)) == count && !fclose(file));
+}
+
+/* A ring of two sub-buffers of two records each overwrites the first with the fifth record. */
+static void shows_snapshots(void) {
+    tracerd_producer *p;
+    tracerd_offered o;
+    tracerd_audited a;
+    uint64_t n = 99;
+    tracerd_session *s = fresh(TRACERD_SNAPSHOT, TRACERD_OVERWRITE, &p);
+    answers(DISCARD_IN_SNAPSHOT, tracerd_channel(s, "d", 256, 2, TRACERD_DISCARD));
+    answers(NEVER_STARTED, tracerd_snapshot(s, 0, below("shown")));
+    answers(OK, tracerd_start(s, 0));
+    for (uint64_t k = 0; k < 4; k++) is_stored(p, k + 1, 50, k, k / 2);
+    answers(OK, tracerd_offer(p, 5, 7, letters, 50, &o));
+    is(o.outcome == TRACERD_STORED_OVER && o.serial == 4 && o.packet == 2 && o.gone == 0 && o.gone_count == 2);
+    is_at(p, 1, TRACERD_WAS_OVERWRITTEN, 0, 0);
+    answers(OK, tracerd_snapshot(s, 6, below("shown")));
+    answers(OK, tracerd_audit(below("shown"), "s", "c", 0, ONE, &a));
+    is(a.packets == 2 && a.records == 3 && a.absent == 1 && a.discarded == 0 && a.last_packet == 2 && a.last_serial == 4);
+    is(!access(below("shown/s/archives/19700101T000000+0000-19700101T000000+0000-0/metadata"), F_OK));
+    /* the end of the packet after one of 80 + 2 * 74 bytes: the current sub-buffer, as if it were closed at this moment */
+    touch(below("shown"), 0, 228 + 40, &n, NULL, 8);
+    is(n == 6);
+    answers(WRITE, tracerd_snapshot(s, 7, "/dev/null"));
+    answers(SNAPSHOT_MODE, tracerd_rotate(s, 0, &n));
+    answers(SNAPSHOT_MODE, tracerd_clear(s, &n));
+    answers(SNAPSHOT_MODE, tracerd_drain(s, &n));
+    answers(SNAPSHOT_MODE, tracerd_drainer_start(s, 1));
+    answers(SNAPSHOT_MODE, tracerd_schedule(s, 1, 1));
+    answers(OK, tracerd_producer_done(p));
+    is(n == 6);
+    tracerd_free(s);
+}
+
+static void drains_by_itself(void) {
+    tracerd_producer *p;
+    tracerd_counts c;
+    uint64_t n;
+    tracerd_session *s = fresh(TRACERD_LOCAL, TRACERD_DISCARD, &p);
+    answers(NOT_DRAINING, tracerd_drainer_stop(s));
+    answers(OK, tracerd_start(s, 0));
+    answers(OK, tracerd_producer_done(p));
+    for (int round = 0; round < 2; round++) {
+        answers(OK, tracerd_drainer_start(s, round ? 1000000 : UINT64_MAX));
+        answers(DRAINING, tracerd_drainer_start(s, 1000000));
+        answers(DRAINING, tracerd_settle(s, &c, &n));
+        answers(OK, tracerd_drainer_stop(s));
+    }
+    answers(OK, tracerd_settle(s, &c, &n));
+    answers(OK, tracerd_drainer_start(s, 1000000));
+    tracerd_free(s); /* ends it */
+}
+
+static void audits(void) {
+    tracerd_producer *p;
+    tracerd_audited a;
+    uint64_t n, number = 1;
+    uint8_t first[131], two[16] = {2}; /* 80 + 24 + 27 */
+    tracerd_session *s = fresh(TRACERD_LOCAL, TRACERD_DISCARD, &p);
+    answers(OK, tracerd_start(s, 0));
+    for (uint64_t k = 0; k < ARCHIVES; k++) {
+        is_stored(p, k, 27, k, k);
+        answers(OK, tracerd_rotate(s, k, &n));
+        answers(OK, tracerd_write(s, n, below("audit")));
+    }
+    answers(OK, tracerd_audit(below("audit"), "s", "c", 0, ONE, &a));
+    is(a.packets == ARCHIVES && a.records == ARCHIVES && a.last_packet == 11 && a.last_serial == 11 && !a.archive && !a.byte);
+    answers(READ, tracerd_audit(below("nowhere"), "s", "c", 0, ONE, &a));
+    answers(READ, tracerd_audit(below("audit"), "s", "c", 1, ONE, &a));
+    is(errno == ENOENT);
+    answers(FOREIGN, tracerd_audit(below("audit"), "s", "c", 0, two, &a));
+    is(a.archive == 0 && a.byte == 0 && a.packets == 0 && !a.packet_fault);
+    touch(below("audit"), 0, 0, first, NULL, sizeof first);
+    touch(below("audit"), 1, 0, NULL, first, sizeof first);
+    answers(NUMBER_REPEAT, tracerd_audit(below("audit"), "s", "c", 0, ONE, &a));
+    is(a.archive == 1 && a.byte == 0);
+    touch(below("audit"), 1, 64, NULL, &number, 8);
+    answers(SERIAL_REPEAT, tracerd_audit(below("audit"), "s", "c", 0, ONE, &a));
+    is(a.archive == 1);
+    touch(below("audit"), 2, 131, NULL, "x", 1);
+    touch(below("audit"), 1, 0, NULL, "\0", 1);
+    answers(PACKET, tracerd_audit(below("audit"), "s", "c", 0, ONE, &a));
+    is(a.archive == 1 && a.byte == 0 && a.packet_fault == 2);
+    answers(OK, tracerd_write(s, 1, below("audit")));
+    answers(PACKET, tracerd_audit(below("audit"), "s", "c", 0, ONE, &a));
+    is(a.archive == 2 && a.byte == 131 && a.packet_fault == 1);
+    answers(OK, tracerd_write(s, 2, below("audit")));
+    answers(OK, tracerd_audit(below("audit"), "s", "c", 0, ONE, &a));
+    is(a.packets == ARCHIVES && a.absent == 0);
+    tracerd_free(s);
+}
+
+/* A file that takes nothing, where the stream's is to be: metadata, which comes last, isn't written. */
+static void meets_a_full_disk(void) {
+    tracerd_producer *p;
+    uint64_t n;
+    char archive[4200];
+    tracerd_session *s = fresh(TRACERD_LOCAL, TRACERD_DISCARD, &p);
+    answers(OK, tracerd_start(s, 0));
+    is_stored(p, 0, 27, 0, 0);
+    answers(OK, tracerd_rotate(s, 0, &n));
+    answers(OK, tracerd_write(s, 0, below("full")));
+    snprintf(archive, sizeof archive, "%s/s/archives/19700101T000000+0000-19700101T000000+0000-0", below("full"));
+    is(!chdir(archive) && !unlink("metadata") && !unlink("c_0") && !symlink("/dev/full", "c_0"));
+    answers(WRITE, tracerd_write(s, 0, below("full")));
+    is(errno == ENOSPC && access("metadata", F_OK));
+    is(!unlink("c_0"));
+    answers(OK, tracerd_write(s, 0, below("full")));
+    is(!access("metadata", F_OK) && !access("c_0", F_OK) && !chdir("/"));
+    tracerd_free(s);
+}
+
+static void *write_first(void *session) {
+    answers(OK, tracerd_write(session, 0, below("slow")));
+    return NULL;
+}
+
+static void *release_first(void *session) {
+    answers(OK, tracerd_release(session, 0));
+    return NULL;
+}
+
+/* A pipe is where the stream's file is to be: while it is written, a release waits, and the file gets all its bytes. */
+static void keeps_what_is_written(void) {
+    enum { RECORDS = 5, EACH = 65000 };
+    static char bytes[80 * RECORDS + RECORDS * (24 + EACH)];
+    tracerd_session *s;
+    tracerd_producer *p;
+    tracerd_offered o;
+    pthread_t writer, releaser;
+    char pipe[4200];
+    uint64_t n;
+    answers(OK, tracerd_new(&s, "s", ONE, 0, TRACERD_LOCAL));
+    answers(OK, tracerd_channel(s, "c", 65536, 8, TRACERD_DISCARD));
+    answers(OK, tracerd_producer_new(s, "c", &p));
+    answers(OK, tracerd_start(s, 0));
+    for (uint64_t k = 0; k < RECORDS; k++) answers(OK, tracerd_offer(p, k, 7, letters, EACH, &o));
+    answers(OK, tracerd_rotate(s, 0, &n));
+    answers(OK, tracerd_write(s, 0, below("slow")));
+    snprintf(pipe, sizeof pipe, "%s/s/archives/19700101T000000+0000-19700101T000000+0000-0/c_0", below("slow"));
+    is(!unlink(pipe) && !mkfifo(pipe, 0600));
+    is(!pthread_create(&writer, NULL, write_first, s));
+    FILE *file = fopen(pipe, "rb");
+    is(file && fread(bytes, 1, 1, file) == 1);
+    is(!pthread_create(&releaser, NULL, release_first, s));
+    nanosleep(&(struct timespec){0, 50000000}, NULL);
+    is(file && fread(bytes, 1, sizeof bytes, file) == sizeof bytes - 1 && !fclose(file));
+    pthread_join(writer, NULL);
+    pthread_join(releaser, NULL);
+    answers(RELEASED, tracerd_write(s, 0, below("slow")));
+    tracerd_free(s);
+}
+
+static void traces(void) {
+    tracerd_producer *p;
+    tracerd_counts c;
+    int evaluated = 0;
+    uint64_t before = tracerd_now();
+    tracerd_session *s = fresh(TRACERD_LOCAL, TRACERD_DISCARD, &p);
+    TRACERD_TRACE(p, 1, (evaluated++, "x"), 1);
+    is(evaluated == 0);
+    answers(OK, tracerd_start(s, before));
+    TRACERD_TRACE(p, 1, (evaluated++, "x"), 1);
+    is(evaluated == 1);
+    answers(OK, tracerd_counts_of(p, &c));
+    is(c.offered == 1 && c.in_ring == 1);
+    is(before > 1700000000000000000 && before < LAST_MOMENT && tracerd_now() >= before);
+    is(!strcmp(tracerd_status_name(TRACERD_TOO_BIG), "TooBig") && !strcmp(tracerd_status_name((tracerd_status)3), "Unknown"));
+    tracerd_free(s);
+}
+
+int main(int count, char **words) {
+    if (count != 2) return 2;
+    dir = words[1];
+    memset(letters, 'a', sizeof letters - 1);
+    void (*const tests[])(void) = {
+        records_and_archives, refuses_what_is_planned_badly, refuses_at_the_wrong_time, works_without_streams, rotates_when_due,
+        clears, shows_snapshots, drains_by_itself, audits, meets_a_full_disk,
+        keeps_what_is_written, traces};
+    for (size_t i = 0; i < sizeof tests / sizeof *tests; i++) {
+        tests[i]();
+        counts_as_one();
+    }
+    return closing();
+}

@@ -1,0 +1,190 @@
+/* Each allocation fails in turn: the call is answered NO_MEMORY, nothing is lost by it, the same call then goes through, and in
+ * the end all is given back. (A block that isn't made smaller is no want of memory.) A file that can't be closed wasn't
+ * written. Link with --wrap of malloc, calloc, realloc, aligned_alloc, free, scandir and close.
+ *
+ *     memory DIR     a folder that is there, in which files are written */
+#include "testing.h"
+#include <dirent.h>
+#include <errno.h>
+#include <malloc.h>
+#include <stdbool.h>
+
+static long fails_at = -1, asked, held, refused, shrunk;
+
+void *__real_malloc(size_t size);
+void *__real_calloc(size_t count, size_t size);
+void *__real_realloc(void *at, size_t size);
+void *__real_aligned_alloc(size_t alignment, size_t size);
+void __real_free(void *at);
+
+static bool is_refused(void) {
+    bool is_it = asked++ == fails_at;
+    refused += is_it;
+    return is_it;
+}
+
+static void *counted(void *at) {
+    held += at != NULL;
+    return at;
+}
+
+void *__wrap_malloc(size_t size) { return is_refused() ? NULL : counted(__real_malloc(size)); }
+void *__wrap_calloc(size_t count, size_t size) { return is_refused() ? NULL : counted(__real_calloc(count, size)); }
+void *__wrap_aligned_alloc(size_t to, size_t size) { return is_refused() ? NULL : counted(__real_aligned_alloc(to, size)); }
+void *__wrap_realloc(void *at, size_t size) {
+    bool shrinks = at && size <= malloc_usable_size(at);
+    if (is_refused()) {
+        refused -= shrinks;
+        shrunk += shrinks;
+        return NULL;
+    }
+    return at ? __real_realloc(at, size) : counted(__real_realloc(at, size));
+}
+void __wrap_free(void *at) {
+    held -= at != NULL;
+    __real_free(at);
+}
+
+typedef int chosen(const struct dirent *);
+typedef int compared(const struct dirent **, const struct dirent **);
+int __real_scandir(const char *path, struct dirent ***list, chosen *choose, compared *compare);
+
+/* What it answers is from the C library's own malloc. */
+int __wrap_scandir(const char *path, struct dirent ***list, chosen *choose, compared *compare) {
+    if (is_refused()) {
+        errno = ENOMEM;
+        return -1;
+    }
+    int count = __real_scandir(path, list, choose, compare);
+    if (count >= 0) held += count + (*list != NULL);
+    return count;
+}
+
+static bool fails_to_close;
+int __real_close(int file);
+
+int __wrap_close(int file) {
+    int status = __real_close(file);
+    if (fails_to_close) errno = EIO;
+    return fails_to_close ? -1 : status;
+}
+
+/* The call goes through, at the second try if an allocation fails at the first. */
+#define goes(call) do { \
+        long before = refused; \
+        tracerd_status status = (call); \
+        if (refused > before) { \
+            is_status(status, TRACERD_NO_MEMORY, #call, __FILE__, __LINE__); \
+            status = (call); \
+        } \
+        is_status(status, TRACERD_OK, #call, __FILE__, __LINE__); \
+    } while (0)
+
+/* A rotation for which there is no memory is pending, or not begun. */
+static void rotates(tracerd_session *s, uint64_t moment) {
+    uint64_t archive, records;
+    long before = refused;
+    tracerd_status status = tracerd_rotate(s, moment, &archive);
+    if (refused > before) {
+        is_status(status, TRACERD_NO_MEMORY, "rotate", __FILE__, __LINE__);
+        status = tracerd_rotate_on(s, &archive);
+        if (status == TRACERD_NOT_PENDING) status = tracerd_rotate(s, moment, &archive);
+        else answers(NOT_PENDING, tracerd_rotate_on(s, &archive));
+    }
+    is_status(status, TRACERD_OK, "rotate", __FILE__, __LINE__);
+    answers(OK, tracerd_clear(s, &records));
+}
+
+static bool was_pending;
+
+/* While it is pending, nothing but rotate_on goes on, and offers. */
+static void meets_the_pending(tracerd_session *s, tracerd_producer *p) {
+    tracerd_offered o;
+    uint64_t n;
+    long before = refused;
+    tracerd_status status = tracerd_rotate(s, 20, &n);
+    if (refused > before && tracerd_rotate(s, 21, &n) == TRACERD_ROTATION_PENDING) {
+        was_pending = true;
+        answers(ROTATION_PENDING, tracerd_start(s, 21));
+        answers(ROTATION_PENDING, tracerd_stop(s));
+        answers(ROTATION_PENDING, tracerd_clear(s, &n));
+        answers(OK, tracerd_offer(p, 22, 1, "abc", 3, &o));
+        answers(OK, tracerd_rotate_on(s, &n));
+        is(n == 1);
+        return;
+    }
+    is(status == TRACERD_OK || refused > before);
+}
+
+static void records(const char *dir) {
+    tracerd_session *s;
+    tracerd_producer *p, *q;
+    tracerd_offered o;
+    tracerd_counts c;
+    tracerd_audited a;
+    tracerd_cause cause;
+    uint64_t n;
+    char forty[40] = "abc";
+    goes(tracerd_new(&s, "a", ONE, 0, TRACERD_LOCAL));
+    goes(tracerd_channel(s, "c", 256, 2, TRACERD_DISCARD));
+    goes(tracerd_producer_new(s, "c", &p));
+    goes(tracerd_producer_new(s, "c", &q));
+    is(tracerd_producer_number(p) == 0 && tracerd_producer_number(q) == 1);
+    answers(OK, tracerd_start(s, 0));
+    long before = asked;
+    for (uint64_t k = 0; k < 8; k++) answers(OK, tracerd_offer(k & 1 ? p : q, k, 1, forty, 40, &o));
+    is(asked == before); /* no offer takes memory */
+    goes(tracerd_drain(s, &n));
+    rotates(s, 9);
+    goes(tracerd_write(s, 0, dir));
+    goes(tracerd_audit(dir, "a", "c", 0, ONE, &a));
+    is(a.records == 3 || a.records == 4);
+    for (uint64_t k = 0; k < 8; k++) answers(OK, tracerd_offer(k & 1 ? p : q, k, 1, "abc", 3, &o));
+    meets_the_pending(s, q);
+    goes(tracerd_release(s, 0));
+    for (uint64_t k = 0; k < 8; k++) answers(OK, tracerd_offer(q, k, 1, "abc", 3, &o));
+    goes(tracerd_clear(s, &n));
+    answers(OK, tracerd_schedule(s, 1, TRACERD_NEVER));
+    if (tracerd_tick(s, 99, &cause, &n) == TRACERD_NO_MEMORY && tracerd_rotate_on(s, &n) == TRACERD_NOT_PENDING)
+        answers(OK, tracerd_tick(s, 99, &cause, &n));
+    answers(OK, tracerd_counts_sum(s, &c));
+    is(c.offered == c.discarded + c.overwritten + c.cleared + c.in_ring + c.in_chunks && !c.in_ring);
+    tracerd_free(s);
+}
+
+static void shows(const char *dir) {
+    tracerd_session *s;
+    tracerd_producer *p;
+    tracerd_offered o;
+    tracerd_audited a;
+    goes(tracerd_new(&s, "z", ONE, 0, TRACERD_SNAPSHOT));
+    goes(tracerd_channel(s, "c", 256, 2, TRACERD_OVERWRITE));
+    goes(tracerd_producer_new(s, "c", &p));
+    answers(OK, tracerd_start(s, 0));
+    for (uint64_t k = 0; k < 20; k++) answers(OK, tracerd_offer(p, k, 1, "abc", 3, &o));
+    goes(tracerd_snapshot(s, 30, dir));
+    goes(tracerd_audit(dir, "z", "c", 0, ONE, &a));
+    is(a.last_serial == 19);
+    fails_to_close = true;
+    tracerd_status status = tracerd_snapshot(s, 30, dir);
+    is((status == TRACERD_WRITE && errno == EIO) || (status == TRACERD_NO_MEMORY && refused));
+    fails_to_close = false;
+    tracerd_free(s);
+}
+
+int main(int count, char **words) {
+    if (count != 2) return 2;
+    for (void (*const *run)(const char *) = (void (*const[])(const char *)){records, shows, NULL}; *run; run++) {
+        do {
+            asked = refused = shrunk = 0;
+            fails_at++;
+            (*run)(words[1]);
+            is(held == 0);
+            counts_as_one();
+        } while (refused || shrunk);
+        fails_at = -1;
+    }
+    is(was_pending);
+    counts_as_one();
+    return closing();
+}

@@ -1,0 +1,61 @@
+// tracerd.hpp: producers move to threads and give themselves back, a session goes with the last that holds it, and what is
+// refused is thrown.
+//
+//     wrapper DIR     a folder that is there, in which files are written
+#include <thread>
+#include <tracerd.hpp>
+#include <vector>
+
+#include "testing.h"
+
+static void record(tracerd::producer producer, char *is_good) {
+    for (uint64_t k = 0; k < 100; k++) *is_good &= producer.offer(k, 7, &k, sizeof k).serial == k;
+    TRACERD_TRACE(producer.get(), 7, "last", 4);
+    *is_good &= producer.fate(100).place == TRACERD_IN_RING && producer.counts().in_ring == 101;
+}
+
+static void records(const std::string &folder) {
+    tracerd::session session("app", {{1, 2, 3}}, -300);
+    session.channel("main", 16384, 4, TRACERD_DISCARD);
+    std::vector<tracerd::producer> producers;
+    for (int i = 0; i < 4; i++) producers.push_back(session.producer("main"));
+    session.start(0);
+    std::vector<std::thread> threads;
+    char good[4] = {1, 1, 1, 1};
+    for (int i = 0; i < 4; i++) threads.emplace_back(record, std::move(producers[i]), &good[i]);
+    for (auto &it : threads) it.join();
+    for (char it : good) is(it);
+    uint64_t archive = session.rotate(1000);
+    is(session.settle().in_chunks == 404);
+    session.write(archive, folder);
+    session.release(archive);
+    is(session.counts().offered == 404);
+}
+
+static void outlives() {
+    tracerd::session *session = new tracerd::session("app", {{1}});
+    session->channel("main", 256, 2, TRACERD_OVERWRITE);
+    tracerd::producer one = session->producer("main"), other = session->producer("main");
+    session->start(0);
+    tracerd_status status = TRACERD_OK;
+    try {
+        session->settle();
+    } catch (const tracerd::refused &why) {
+        status = why.status();
+        is(std::string(why.what()) == "Missing");
+    }
+    is(status == TRACERD_MISSING);
+    delete session;
+    is(one.offer(1, 7, nullptr, 0).outcome == TRACERD_STORED);
+    other = std::move(one);
+    is(other.number() == 0);
+}
+
+int main(int count, char **words) {
+    if (count != 2) return 2;
+    records(words[1]);
+    counts_as_one();
+    outlives();
+    counts_as_one();
+    return closing();
+}

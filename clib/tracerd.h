@@ -1,0 +1,232 @@
+/* tracerd: a recorder for programs in C and C++, and by clib/rust and clib/python in these.
+ *
+ * A session has channels; each recording thread has a producer of a channel, with a ring of sub-buffers of its own. A rotation
+ * closes what was recorded into an archive, which any reader of CTF 1.8 traces opens once it is written.
+ *
+ * Units. Moments are nanoseconds since 1970-01-01T00:00Z, at most 9,000,000,000,000,000,000; tracerd_now() is the clock's. A
+ * moment earlier than the stream's last one counts as that one. Sizes are bytes. Names are 1 to 64 letters, digits and
+ * underscores, a letter first, and end in NUL.
+ *
+ * Answers. A call answers TRACERD_OK, or why it was refused. After a refusal nothing has changed and no result is written,
+ * unless the call says otherwise. BAD_MOMENT goes for each moment. No pointer may be NULL but where that is said.
+ *
+ * Threads. Any thread may make any call at any time, except that a producer offers in one thread at a time, and that
+ * tracerd_free comes last, when no other call runs; the session's producers are gone then. An offer waits only while another
+ * call holds its own ring, for one copy of what is in that. Calls that write files, and releases, wait for each other. No call
+ * may be made in a signal handler, or in the child of a fork of a process with threads, and no thread may be cancelled in one.
+ * A call takes up to 32 KiB of the stack. The library has no global state, prints nothing and ends no process. It starts a
+ * thread only where tracerd_drainer_start asks for one. */
+#ifndef TRACERD_H
+#define TRACERD_H
+#include <stddef.h>
+#include <stdint.h>
+
+#define TRACERD_VERSION "0.9.0"
+
+#ifdef __cplusplus
+extern "C" {
+#endif
+
+typedef struct tracerd_session tracerd_session; /* a session */
+
+/* One thread's right to offer to one stream. `active` is 1 while offers are taken, for TRACERD_TRACE: nobody writes it. */
+typedef struct tracerd_producer { uint32_t active; } tracerd_producer;
+
+/* What a call answers. From 101 on these are the numbers of the product's own codes: 101 is S1, 201 O1, 701 D1, 801 A1. */
+typedef enum tracerd_status {
+    TRACERD_OK = 0,
+    TRACERD_NO_MEMORY = 1,           /* an allocation failed, or a thread could not be made */
+    TRACERD_CLOSED = 2,              /* the producer was given back */
+    TRACERD_BAD_MOMENT = 4,          /* a moment above 9,000,000,000,000,000,000 */
+    TRACERD_BAD_MODE = 6,            /* a mode that is none */
+    TRACERD_BAD_NAME = 7,            /* a name that is none */
+    TRACERD_BAD_OFFSET = 8,          /* minutes not from -1,439 to 1,439 */
+    TRACERD_WRITE = 20,              /* a folder or a file could not be made or written; errno says why */
+    TRACERD_READ = 21,               /* a folder or a file could not be read; errno says why */
+    TRACERD_MISSING = 22,            /* a producer was not given back */
+    TRACERD_DRAINING = 23,           /* the library's drainer runs */
+    TRACERD_NOT_DRAINING = 24,       /* it does not run */
+    TRACERD_SNAPSHOT_MODE = 101,     /* not in a snapshot session */
+    TRACERD_NOT_SNAPSHOT_MODE = 102, /* only in a snapshot session */
+    TRACERD_NEVER_STARTED = 103,     /* the session was never started */
+    TRACERD_ROTATION_PENDING = 104,  /* tracerd_rotate_on first */
+    TRACERD_ALREADY_ROTATED = 105,   /* rotated since it was stopped */
+    TRACERD_ALREADY_ACTIVE = 106,
+    TRACERD_NOT_ACTIVE = 107,
+    TRACERD_DISCARD_IN_SNAPSHOT = 109, /* in a snapshot session every ring overwrites */
+    TRACERD_ALREADY_STARTED = 110,   /* nothing is added once the session was started */
+    TRACERD_BAD_GEOMETRY = 111,      /* no ring has such sub-buffers */
+    TRACERD_TOO_MANY = 112,          /* 8 channels or 1,024 producers are there */
+    TRACERD_NOT_PENDING = 113,       /* no rotation is pending */
+    TRACERD_NAME_TAKEN = 115,        /* a channel has this name */
+    TRACERD_NO_CHANNEL = 117,        /* no channel has this name */
+    TRACERD_NO_ARCHIVE = 118,        /* no archive has this number */
+    TRACERD_RELEASED = 119,          /* the archive was released, or has no stream to release */
+    TRACERD_INACTIVE = 201,          /* the session takes no offers now */
+    TRACERD_TOO_BIG = 202,           /* the payload is longer than a sub-buffer's bytes less 104 */
+    TRACERD_SPENT = 203,             /* the stream has accepted 2^62 offers */
+    TRACERD_ZERO_PERIOD = 701,
+    TRACERD_ZERO_SIZE = 702,
+    TRACERD_PACKET = 801,            /* of an audit: no packet is there */
+    TRACERD_NUMBER_REPEAT = 802,     /* a packet's number is not above the one before */
+    TRACERD_SERIAL_REPEAT = 803,     /* a packet's first serial is not above the last one before */
+    TRACERD_FOREIGN = 804            /* a packet of another trace or another stream */
+} tracerd_status;
+
+/* The name of a status, as "TooBig"; of another number "Unknown". Never NULL. */
+const char *tracerd_status_name(tracerd_status);
+
+/* The clock's moment (CLOCK_REALTIME). */
+uint64_t tracerd_now(void);
+
+/* ---- A session is made ---- */
+
+typedef enum tracerd_kind { TRACERD_LOCAL = 0, TRACERD_SNAPSHOT = 1 } tracerd_kind;
+typedef enum tracerd_mode { TRACERD_DISCARD = 0, TRACERD_OVERWRITE = 1 } tracerd_mode;
+
+/* A session of this name, with the trace's identifier. A local one is rotated into archives, a snapshot one shows what its
+ * rings hold. `east` is how many minutes the clock of archives' names is ahead of UTC. BAD_NAME, BAD_OFFSET, BAD_MODE,
+ * NO_MEMORY: *session is NULL. */
+tracerd_status tracerd_new(tracerd_session **session, const char *name, const uint8_t uuid[16], int32_t east, tracerd_kind);
+/* Lets all go, also its producers and what was not written. NULL is let be. */
+void tracerd_free(tracerd_session *);
+
+/* A channel: its producers have rings of `count` sub-buffers of `size` bytes, powers of two of 2 to 64 and of 256 to 1,048,576.
+ * A full ring discards the newest record, or overwrites its oldest sub-buffer. BAD_NAME, BAD_MODE, ALREADY_STARTED, NAME_TAKEN,
+ * TOO_MANY, BAD_GEOMETRY, DISCARD_IN_SNAPSHOT, NO_MEMORY. */
+tracerd_status tracerd_channel(tracerd_session *, const char *name, uint64_t size, uint64_t count, tracerd_mode);
+
+/* A producer of a channel. Its ring takes its memory here: size * count bytes. BAD_NAME, ALREADY_STARTED, NO_CHANNEL, TOO_MANY,
+ * NO_MEMORY: no producer is added. */
+tracerd_status tracerd_producer_new(tracerd_session *, const char *channel, tracerd_producer **);
+/* The number of its stream: producers are numbered from 0 on. */
+uint64_t tracerd_producer_number(const tracerd_producer *);
+/* Gives it back: nothing is offered by it any more, and its records stay. CLOSED. */
+tracerd_status tracerd_producer_done(tracerd_producer *);
+
+/* From this moment on offers are taken; the first start begins the first trace chunk. ROTATION_PENDING, ALREADY_ACTIVE. */
+tracerd_status tracerd_start(tracerd_session *, uint64_t moment);
+/* From now on offers are refused. ROTATION_PENDING, NOT_ACTIVE. */
+tracerd_status tracerd_stop(tracerd_session *);
+
+/* ---- Recording ---- */
+
+typedef enum tracerd_outcome { TRACERD_STORED = 0, TRACERD_STORED_OVER = 1, TRACERD_DISCARDED = 2 } tracerd_outcome;
+
+/* What became of an accepted offer. */
+typedef struct tracerd_offered {
+    uint32_t outcome;    /* a tracerd_outcome: stored; stored, and the oldest sub-buffer is gone; or discarded */
+    uint64_t serial;     /* how many of its producer's offers were accepted before it */
+    uint64_t packet;     /* the number of its packet; 0 if discarded */
+    uint64_t gone;       /* the number of the packet that is gone, */
+    uint64_t gone_count; /* and how many records it had; else 0 */
+} tracerd_offered;
+
+/* Offers a record: `id` and `size` bytes, which are copied. `payload` may be NULL if there are none. It takes no memory.
+ * CLOSED, INACTIVE, TOO_BIG, SPENT. */
+tracerd_status tracerd_offer(tracerd_producer *, uint64_t moment, uint32_t id, const void *payload, size_t size,
+                             tracerd_offered *);
+
+/* The same at tracerd_now(), of which only a refusal is answered. */
+tracerd_status tracerd_trace(tracerd_producer *, uint32_t id, const void *payload, size_t size);
+
+/* A tracepoint: while the session is off it costs a load and a branch, and its payload is not evaluated. Refusals are lost:
+ * where they matter, call tracerd_trace. Each thread has the producer that it names. */
+#define TRACERD_TRACE(producer, id, payload, size)                                               \
+    do {                                                                                         \
+        tracerd_producer *tracerd_by = (producer);                                               \
+        if (__builtin_expect(__atomic_load_n(&tracerd_by->active, __ATOMIC_RELAXED) != 0, 0))    \
+            (void)tracerd_trace(tracerd_by, (id), (payload), (size));                            \
+    } while (0)
+
+/* ---- Draining: closed sub-buffers become packets of the current trace chunk ---- */
+
+/* Takes all closed sub-buffers, and counts them. Several threads may do so at once. SNAPSHOT_MODE. NO_MEMORY: what was taken
+ * stays taken. */
+tracerd_status tracerd_drain(tracerd_session *, uint64_t *packets);
+/* Starts a thread of the library's own that drains each `period` nanoseconds. SNAPSHOT_MODE, DRAINING, NO_MEMORY. */
+tracerd_status tracerd_drainer_start(tracerd_session *, uint64_t period);
+/* Ends it, after a last round, and answers what its last round was refused for, if it was: NO_MEMORY. NOT_DRAINING. */
+tracerd_status tracerd_drainer_stop(tracerd_session *);
+
+/* ---- Rotations: the current trace chunk becomes an archive ---- */
+
+/* Ends the current chunk: what it has and all that the rings hold becomes archive *archive; they are numbered from 0 on. Offers
+ * go on meanwhile. SNAPSHOT_MODE, NEVER_STARTED, ROTATION_PENDING, ALREADY_ROTATED. NO_MEMORY: nothing changed, or the rotation
+ * is pending, and tracerd_rotate_on goes on with it. */
+tracerd_status tracerd_rotate(tracerd_session *, uint64_t moment, uint64_t *archive);
+/* Goes on with a rotation for which there was no memory. NOT_PENDING; NO_MEMORY: it is still pending. */
+tracerd_status tracerd_rotate_on(tracerd_session *, uint64_t *archive);
+
+/* Rotations are due each `every` nanoseconds, and once `bytes` bytes were drained into the current chunk; TRACERD_NEVER of each
+ * leaves it out. Only tracerd_tick rotates. SNAPSHOT_MODE, ZERO_PERIOD, ZERO_SIZE. */
+#define TRACERD_NEVER UINT64_MAX
+tracerd_status tracerd_schedule(tracerd_session *, uint64_t every, uint64_t bytes);
+
+typedef enum tracerd_cause { TRACERD_IDLE = 0, TRACERD_TIMER = 1, TRACERD_SIZE = 2 } tracerd_cause;
+
+/* Rotates if that is due at this moment, and says why; *archive is written if so. NO_MEMORY: as of tracerd_rotate. */
+tracerd_status tracerd_tick(tracerd_session *, uint64_t moment, tracerd_cause *, uint64_t *archive);
+
+/* Removes what the rings and the current chunk hold, and counts these records. SNAPSHOT_MODE, NEVER_STARTED, ROTATION_PENDING.
+ * NO_MEMORY: some streams are cleared. */
+tracerd_status tracerd_clear(tracerd_session *, uint64_t *records);
+
+/* ---- Files ---- */
+
+/* Writes an archive to FOLDER/SESSION/archives/ARCHIVE: a file for each stream, and `metadata` last. Missing folders are made,
+ * files replaced. It may run while others record. NO_ARCHIVE, RELEASED: no folder is made. WRITE, NO_MEMORY: what was written
+ * stays, the next file may be broken, and `metadata` is missing or that of before. */
+tracerd_status tracerd_write(tracerd_session *, uint64_t archive, const char *folder);
+/* Gives up an archive's bytes; its records' fates and counts stay. NO_ARCHIVE, RELEASED. NO_MEMORY: some streams are
+ * released. */
+tracerd_status tracerd_release(tracerd_session *, uint64_t archive);
+/* Writes what the rings of a snapshot session hold, in the form of archive 0, below a folder that is to be this snapshot's
+ * alone. Each stream is shown as it is at one step, while offers go on. NOT_SNAPSHOT_MODE, NEVER_STARTED. WRITE, NO_MEMORY: as
+ * of tracerd_write, and the moment is stored. */
+tracerd_status tracerd_snapshot(tracerd_session *, uint64_t moment, const char *folder);
+
+typedef struct tracerd_audited {
+    uint64_t packets, records; /* how many there are */
+    uint64_t absent;           /* how many packet numbers below the last one are missing: overwritten or cleared */
+    uint64_t discarded;        /* how many records the stream had discarded by its last packet */
+    uint64_t last_packet, last_serial; /* 0 without packets */
+    uint64_t archive, byte;    /* of a fault: the number of the archive, and where in its file the packet begins */
+    uint32_t packet_fault;     /* of PACKET: 1 to 7 for P1 to P7; else 0 */
+} tracerd_audited;
+
+/* Reads FOLDER/SESSION/archives/ARCHIVE/CHANNEL_STREAM of all archives, in order of their numbers, and judges each packet. It
+ * wants no session. READ, NO_MEMORY. PACKET, NUMBER_REPEAT, SERIAL_REPEAT, FOREIGN: the last three fields say where, the others
+ * are 0. */
+tracerd_status tracerd_audit(const char *folder, const char *session, const char *channel, uint64_t stream,
+                             const uint8_t uuid[16], tracerd_audited *);
+
+/* ---- Accounts ---- */
+
+/* offered = discarded + overwritten + cleared + in_ring + in_chunks, where in_chunks counts released archives' records too. */
+typedef struct tracerd_counts { uint64_t offered, discarded, overwritten, cleared, in_ring, in_chunks; } tracerd_counts;
+
+/* Of one producer: as of one moment. */
+tracerd_status tracerd_counts_of(tracerd_producer *, tracerd_counts *);
+/* The sums over all producers, one after another. */
+tracerd_status tracerd_counts_sum(tracerd_session *, tracerd_counts *);
+/* The sums, once nobody can offer any more. MISSING: *stream is the first one whose producer was not given back. DRAINING. */
+tracerd_status tracerd_settle(tracerd_session *, tracerd_counts *, uint64_t *stream);
+
+typedef enum tracerd_place {
+    TRACERD_NOT_OFFERED = 0, TRACERD_IN_RING = 1, TRACERD_IN_CHUNK = 2,
+    TRACERD_WAS_DISCARDED = 3, TRACERD_WAS_OVERWRITTEN = 4, TRACERD_WAS_CLEARED = 5
+} tracerd_place;
+
+/* Where a record is, or how it was lost. */
+typedef struct tracerd_fate {
+    uint32_t place;  /* a tracerd_place */
+    uint64_t chunk;  /* in a chunk: its number, which is its archive's; else 0 */
+    uint64_t packet; /* its packet, unless it was not offered, discarded or overwritten; else 0 */
+} tracerd_fate;
+tracerd_status tracerd_fate_of(tracerd_producer *, uint64_t serial, tracerd_fate *);
+
+#ifdef __cplusplus
+}
+#endif
+#endif

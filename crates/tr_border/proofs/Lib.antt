@@ -1,0 +1,3 @@
+mod AbsentLemmas
+mod NameLemmas
+pub mod TextLemmas

@@ -1,0 +1,29 @@
+-- The numbers that calls answer.
+use Rattle.std.specs.Prelude.{ℕ, ◌+◌, ◌-◌, ◌*◌, ◌==◌, List, [], ◌∷◌, Result, Ok, Err, Option, Some, None, if◌then◌else◌}
+
+-- the hundred of a code's letter: S, O, T, C, X, Y, D, A, G
+abbrev pub hundred_of : ℕ → ℕ
+hundred_of letter =
+    if letter == 83 then 100 else (if letter == 79 then 200 else (if letter == 84 then 300 else (if letter == 67 then 400
+    else (if letter == 88 then 500 else (if letter == 89 then 600 else (if letter == 68 then 700 else (if letter == 65 then 800
+    else (if letter == 71 then 900 else 0))))))))
+
+-- the number that digits write, after those before
+abbrev pub written_after : ℕ → List ℕ → ℕ
+written_after n [] = n
+written_after n (digit ∷ digits) = written_after (10 * n + (digit - 48)) digits
+
+-- the number of a fault's code: its letter's hundred and its digits, as 116 for S16
+abbrev pub code_number : List ℕ → ℕ
+code_number [] = 0
+code_number (letter ∷ digits) = hundred_of letter + written_after 0 digits
+
+-- what a call answers: 0 if it was done
+abbrev pub code_of : {A E : Type 0} → (E → List ℕ) → Result A E → ℕ
+code_of code (Ok x) = 0
+code_of code (Err fault) = code_number (code fault)
+
+-- what stands in a call's result then, which stays as it was after a refusal
+abbrev pub given : {A B E : Type 0} → (A → B) → Result A E → B → B
+given out (Ok x) before = out x
+given out (Err fault) before = before

@@ -1,0 +1,6 @@
+pub mod Codes
+pub mod Outs
+pub mod Inputs
+pub mod Texts
+pub mod Pairs
+pub mod Audits

@@ -1,0 +1,23 @@
+-- Texts that are copied out.
+use Rattle.std.specs.Prelude.{◌≡◌, ℕ, ◌-◌, ◌<◌, ◌≤◌, min, List, ◌++◌, take, drop, length}
+use Rattle.tr_packet.specs.Metadata.{metadata_of}
+use Rattle.tr_border.specs.declared.codes.TheConstants.{DONE, NO_ROOM}
+
+-- how many bytes of a text go into a room, from byte `at` on
+abbrev pub copied : ℕ → List ℕ → List ℕ → ℕ
+copied at text room = min (length text - at) (length room)
+
+-- and what the room has then
+abbrev pub room_after : ℕ → List ℕ → List ℕ → List ℕ
+room_after at text room = take (copied at text room) (drop at text) ++ drop (copied at text room) room
+
+-- a call that answers this code copied the whole text, and says its length; or the room is too small, and nothing was done
+abbrev pub CopiesWhole : List ℕ → ℕ → List ℕ → List ℕ → ℕ → ℕ → Type 0
+CopiesWhole text code room room' count count' =
+    (length text ≤ length room
+    → (code ≡ DONE) × (room' ≡ text ++ drop (length text) room) × (count' ≡ length text))
+    × (length room < length text → (code ≡ NO_ROOM) × (room' ≡ room) × (count' ≡ count))
+
+-- the file `metadata` of the trace with this identifier
+unfoldable pub metadata_file : List ℕ → List ℕ
+metadata_file uuid = metadata_of uuid

@@ -1,0 +1,29 @@
+//! What crosses to C: the numbers of refusals and modes, structs of results, and texts that are copied out. And the steps of a
+//! session's book with one of its streams, which C lends it.
+//!
+//! # Example
+//!
+//! ```
+//! let code = session_code(SessionFault::NoMemory);  // 116, as S16
+//! let done = cut_stream(&mut book, &mut stream)?;   // the stream that the pending rotation cuts next
+//! ```
+//!
+//! # What is proved
+//!
+//! - A refusal's number is that of its code: the hundred of its letter, and its digits.
+//! - Each struct of a result has the numbers of the answer, one by one.
+//! - A text is copied whole or not at all; of a part's bytes as many as there are and as fit, from a place on.
+//! - A step of a book and a stream is answered by the session's rules. A stream of another trace is `Misplaced`.
+//! - A thread is added to the book together with its stream, or not at all.
+//!
+//! # What is only tested
+//!
+//! Nothing beside the proofs.
+#![tactic(auto)]
+
+pub mod audits;
+pub mod codes;
+pub mod inputs;
+pub mod outs;
+pub mod pairs;
+pub mod texts;

@@ -1,0 +1,38 @@
+//! What C calls: a static library. `clib/cells.h` declares each call, with its refusals.
+//!
+//! # Example
+//!
+//! ```c
+//! trc_stream stream = {0};                                     // a handle of nothing
+//! trc_stream_new(&stream, uuid, 16, 0, 4096, 4, TRC_OVERWRITE, TRC_LOCAL);
+//! trc_stream_offer(&stream, moment, id, payload, len, &offered);
+//! trc_stream_free(&stream);
+//! ```
+//!
+//! # What is proved
+//!
+//! - Each call answers by the rule of the call that it makes, says its results, and leaves its handles as that call does. A
+//!   closed handle is answered `CLOSED`; a refusal leaves results and handles as they were.
+//! - No call requires anything of its arguments, waits, or touches a global.
+//! - The audit that bytes are fed to finds what the audit of whole files finds.
+//!
+//! # What the caller owes
+//!
+//! Nothing checks it: one call at a time is given a handle, ordered by a lock; a handle is never copied, nor written but as
+//! zeros; results and rooms can be written, and slices point somewhere; what a call is given doesn't overlap; memory is of one
+//! allocator, aligned to 16; no call is made in a signal handler, or in a forked child of a process with threads.
+//!
+//! # What isn't proved
+//!
+//! That C lends a session's streams to its book, cuts all of them in a rotation, and orders its calls. Only the trace is tested
+//! (`Misplaced`).
+#![tactic(auto)]
+
+mod audits;
+mod book_reads;
+mod book_steps;
+mod books;
+mod sessions;
+mod snaps;
+mod stream_reads;
+mod streams;

@@ -1,0 +1,4 @@
+pub mod Names
+pub mod Apart
+pub mod Sending
+pub mod Sent

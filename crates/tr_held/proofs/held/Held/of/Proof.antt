@@ -1,0 +1,65 @@
+-- The box's address and its handle.
+use Rattle.tr_held.proofs.Names.{◌≡◌, List, [], ◌∷◌, ◌++◌, refl, sym, ap, ◌∙◌, subst, true, Val, vptr, vstruct, of_list, SProp, ent, emp, id⊢, WpFn, ‵, raw, ◌⊛◌, some, later, ◌$◌, ◌∵◌, !, qed, by, move, keep, drop, split, split3, join, fsplit, fjoin, fpick, pick, suffices, use0, use1, await, rewrite, feq_i, feq_l, stop, fld, true_lit, of_opd, no_more, and_then, returns, enter, alloc_all, pass_all, free_all, look_at, get, get_in, sets, lands_as, agg, sub, whole, fact, fact_i, tables, RattleType, owns, types_at, plain, Ptr, RawPtr, block_ptr, null_ptr, ptr_val, in_a_block, nothing, only, heard, param, layout, bounded, param_laws, triple_of, Stays, stay_dropped, walk_of, Goes-blank, handle_tells, proved_at, leaves, Some}
+use base.Fml.{ftrue, fsep, flft}
+use base.Logic.{never, fst∗}
+use mir.Syntax.{a_type, dcons, dnil}
+use mir.Raw.{raw as bare}
+use mir.MapTy.{inst_fn}
+use mathlib.Core.Bool.{Bool}
+use types.Logic.{sem}
+use denote.Exit.{no}
+use denote.Struct.Tuple.{Tuple}
+use denote.Triple.Call.{calls_at}
+use Rattle.core.proofs.atomic.Steps.{fm}
+use Rattle.std_alloc.specs.Box.Ownership.{box_owns}
+use Rattle.std_alloc.proofs.BoxSteps.Form as box
+use Rattle.std_alloc.proofs.BoxSteps.Steps.{box_out, box_in}
+use Rattle.std_alloc.specs.contracts.boxed.Box.into_raw_with_allocator as to_raw
+use Rattle.std_alloc.proofs.boxed.Box.into_raw_with_allocator.Met.{met}
+use Rattle.tr_held.specs.Holding.{holds}
+use Rattle.tr_held.proofs.Apart.{word, block_good, together}
+use Rattle.tr_held.specs.contracts.held.Held as held
+use Rattle.tr_held.specs.contracts.held.Held.of.{ended, clauses}
+use Rattle.tr_held.specs.contracts.held.Held.of.Key.{name as #self}
+use Rattle.tr_held.proofs.held.Held.of.Statement.{statement}
+use Rattle.tr_held.proofs.held.Held.of.Code as code
+
+pub of_spec : {M : Type 1} → statement M
+of_spec 𝓤 𝓛 𝓜 𝓡 wired T A L LA g d dx dd allocator glue glued =
+    let R : RattleType = param 0 T in let Z : RattleType = param 1 A in let LZ = param_laws 1 A LA in
+    let En = ended T A g d dx dd in let c = clauses T A g d dx dd 𝓛 𝓜.mem 𝓡.returns in
+    let given = bounded (a_type ∷ a_type ∷ []) (T, (A, tt)) (dcons d (dcons dx (dcons dd dnil))) in
+    let fn = inst_fn given code.function in let 𝓣 = tables 𝓤 𝓛.H 𝓜 𝓡 𝓡.env in
+    let E : box.Bx = record { row = T; laws = L; al = record { row = A; laws = LA; g = g; d = d; drops = dd } } in
+    let hs : Stays En.signature.params En.kept = (stay_dropped (plain (λ _. box.B E)) no, tt) in
+    proved_at 𝓛 En hs c 𝓜 𝓡 (Goes-blank 𝓛 2 (plain (λ _. box.B E)) no (λ κs x f. tt), tt) (#self given) fn (code.unfolded 𝓤 𝓛.H 𝓜 𝓡 wired (T, (A, tt)) d dx dd) (λ z are.
+    let κs = z.0.0 in let qs = z.0.1 in let v = z.0.3.0 in let a = v.alloc in
+    let Post : Val → SProp 𝓤 = (walk_of 𝓛 En hs c).post z in let Run : List Val → SProp 𝓤 = λ ws. WpFn 𝓤 𝓛.H 𝓣.C 𝓣.Λ fn ws Post in
+    let tokens = ‵ (flft κs.0 qs.0) ⊛ ‵ (flft κs.1.0 qs.1.0) ⊛ ‵ ftrue in let asked = raw ((c κs z.0.3).requires z.1) in
+    let Pair = Tuple (RawPtr ∷ Z ∷ []) in let k = triple_of 𝓛 (to_raw.signature T A g d dd dx) (to_raw.spec T A g d dd dx 𝓛 𝓜.mem 𝓡.returns) in
+    qed 𝓛 ((tokens ⊛ ‵ (owns (types_at En.signature.params κs) z.0.3 z.0.4)) ∷ asked ∷ []) ∵
+    split ! $ move ! (1 ∷ []) $ fsplit ! $ box_out E ! v z.0.4.0 (λ b o h is ws fits.
+    let w : Val = box.word E h b o in let typed = box.box_typed E h b o fits in let y : k.Ghost = ((κs, qs, tt, (v, tt), (w ∷ [], tt)), tt) in
+    box_in E ! v b o v.value is refl $ fjoin ! $ move ! (1 ∷ 0 ∷ []) $ join ! $ join ! $ use1 𝓛 (raw (k.pre y)) (id⊢ 𝓤 _) $
+    suffices ! (Run (w ∷ [])) (subst (λ (us : List Val). ent 𝓤 (Run (w ∷ [])) (Run us)) (sym (λ i. ws i ++ [])) (id⊢ 𝓤 (Run (w ∷ [])))) $
+    enter ! 𝓣.C 𝓣.Λ fn (w ∷ []) Post $ alloc_all ! (λ l. pass_all ! refl (typed, tt) $ sets ! (of_opd ! (get ! refl)) refl typed $
+    calls_at ! (fm 𝓛 𝓜 𝓡) k (met 𝓤 𝓛 𝓜 𝓡 (code.calls-std_alloc::boxed::Box::into_raw_with_allocator 𝓡.env wired) T A L LA g d dd dx allocator glued glue) y (and_then ! (get ! refl) (no_more !)) (λ u.
+    -- what the call gave: the address and the handle, and what lies there
+    use1 𝓛 (later (some (λ (r : Ptr × A.Denot). (tokens ⊛ ‵ (Pair.own_val r (u ∷ []))) ⊛ some (λ (_ : (Unit {0} × (Unit {0} × Unit {0})) × Unit {0}).
+    ‵ (fsep (fsep ftrue (fsep ftrue ftrue)) ftrue) ⊛ (raw (fact 𝓤 (r.1 ≡ a)) ⊛ ‵ (box_owns (g.dealloc_token a) R r.0 v.value)))))) (id⊢ 𝓤 _) $
+    await ! tt $ pick ! (λ r. split ! $ move ! (1 ∷ []) $ pick ! (λ _. split3 ! $ drop ! $ heard ! (r.1 ≡ a) (λ same.
+    in_a_block ! r.0 (λ p. box_owns (g.dealloc_token a) R p v.value) (fst∗ 𝓤 (never 𝓤) (sem 𝓛 (g.dealloc_token a (bare (layout T)) null_ptr))) (λ b₁ o₁ is₁.
+    move ! (1 ∷ []) $ split ! $ move ! (1 ∷ []) $ fpick ! (λ parts. fsplit ! $ feq_l ! (λ is_pair. fsplit ! $ feq_l ! (λ is_at. fsplit ! $
+    rewrite ! 0 (λ (s : A.Denot). ‵ (A.own_val s parts.1.0)) same refl $ handle_tells E.al ! a parts.1.0 (λ h₁ is_heap fits₁.
+    lands_as ! (ap only (is_pair ∙ (λ j. vstruct (of_list ((is_at ∙ ap (λ (p : Ptr). ptr_val p ∷ []) is₁) j ++ (is_heap j ++ []))) ∷ []))) refl (box.box_typed E h₁ b₁ o₁ fits₁) $
+    sets ! (of_opd ! (get_in ! (fld ! refl (stop !)) (sub ! 0 refl (whole !)))) refl (tt, tt) $
+    sets ! (of_opd ! (get_in ! (fld ! refl (stop !)) (sub ! 1 refl (whole !)))) refl fits₁ $
+    sets ! (of_opd ! (get ! refl)) refl fits₁ $
+    sets ! (agg ! (and_then ! (get ! refl) (and_then ! (true_lit !) (and_then ! (get ! refl) (no_more !))))) refl (block_good Z b₁ o₁ h₁ fits₁) $
+    -- the struct
+    let made : (held.the_row R Z g).Denot = record { at = block_ptr b₁ o₁; live = true; alloc = a; value = Some v.value } in
+    move ! (3 ∷ 0 ∷ []) $ feq_i ! Bool true true refl $ fjoin ! $
+    together Z LZ g (held.the_type R Z g).name (held.the_type R Z g).types ! (block_ptr b₁ o₁) true a (holds R (g.dealloc_token a) (block_ptr b₁ o₁) true (Some v.value)) h₁ $
+    use0 𝓛 (raw (fact 𝓤 (made.value ≡ Some v.value))) (fact_i 𝓤 (made.value ≡ Some v.value) (emp 𝓤) refl) $ nothing ! $ nothing ! $ fjoin ! $
+    returns ! (look_at ! 0 refl) $ free_all ! refl $ keep ! (4 ∷ 0 ∷ 2 ∷ 1 ∷ []) $
+    by ! (leaves 𝓛 En hs c z (word (vptr b₁ o₁) true h₁) made ((tt, (tt, tt)), tt) (tt, tt))))))))))))))

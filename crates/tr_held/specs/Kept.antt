@@ -1,0 +1,20 @@
+-- The types of what handles have.
+use denote.RattleType.{RattleType}
+use Rattle.std.specs.contracts.alloc.Global as heap
+use Rattle.std.specs.contracts.impls.GlobalAllocator.TheImpl.{ghosts}
+use Rattle.tr_book.specs.contracts.snap.StreamSnap as snap
+use Rattle.tr_chunk.specs.contracts.audit_reader.AuditReader as audit
+use Rattle.tr_session_book.specs.contracts.book.SessionBook as book
+use Rattle.tr_stream.specs.contracts.stream.Stream as stream
+
+abbrev pub stream_row : RattleType
+stream_row = stream.the_row heap.the_row ghosts
+
+abbrev pub book_row : RattleType
+book_row = book.the_row heap.the_row ghosts
+
+abbrev pub snap_row : RattleType
+snap_row = snap.the_row heap.the_row ghosts
+
+abbrev pub audit_row : RattleType
+audit_row = audit.the_row heap.the_row ghosts

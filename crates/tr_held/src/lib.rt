@@ -1,0 +1,38 @@
+//! What a C program holds across calls: a handle of a stream, a session's book, a look or an audit.
+//!
+//! A handle is an address and a flag, and has a value on the heap or nothing. All zeros are a handle of nothing. Contracts see
+//! what it has.
+//!
+//! # Example
+//!
+//! ```
+//! let Some(mut stream) = handle.take(alloc) else {  // the handle has nothing now
+//!     return CLOSED;
+//! };
+//! stream.set_active(true);
+//! handle.put(stream);
+//! ```
+//!
+//! # What is proved
+//!
+//! - What is taken out of a handle is what was put in, and the handle has nothing then. Its memory is freed with it.
+//! - `Held` is the same of any value and any heap. It is taken apart and put together in one place, and a handle is its three
+//!   fields: no struct of C's may have a type parameter.
+//! - Each handle may pass between threads: what it owns names no thread.
+//!
+//! # What the caller owes
+//!
+//! One call at a time is given a handle. C never copies one, and writes none but as zeros.
+#![tactic(auto)]
+
+mod audit_cell;
+mod book_cell;
+mod held;
+mod snap_cell;
+mod stream_cell;
+
+pub use audit_cell::AuditCell;
+pub use book_cell::BookCell;
+pub use held::Held;
+pub use snap_cell::SnapCell;
+pub use stream_cell::StreamCell;

@@ -1,0 +1,28 @@
+//! What the operators of a session did: the steps at its desk, how each is noted in the desk's journal in its operator's name,
+//! and a law that ties what is noted to the session's book.
+//!
+//! # Example
+//!
+//! ```
+//! let answer = book.start(moment);
+//! note(&mut journal, &mut seat, DeskStep::Start { moment, answer });  // of all this nothing is read
+//! ```
+//!
+//! # What is proved
+//!
+//! - What is noted is the step that is given, once.
+//! - If each step at a desk is noted, the noted steps lead from the book that was planned to the session's book, each answered as
+//!   the book answers it there (`LeadsTo`, `IsStepOf`). What an operator's seat has is then just what its holder did of it.
+//!
+//! # What is only tested
+//!
+//! Nothing. That whoever makes a step notes it is what the type's invariant of a layer above says, not this crate.
+#![tactic(auto)]
+
+mod laws;
+mod notes;
+mod step;
+
+pub use laws::every_operation;
+pub use notes::note;
+pub use step::DeskStep;

@@ -1,0 +1,11 @@
+use Rattle.std.proofs.Common.{refl, rules}
+use Rattle.tr_operations.specs.declared.step.DeskStep.TheVariants as step
+use Rattle.tr_seats.proofs.OperatorLemmas.{journal-noted}
+use Rattle.tr_seats.proofs.noted_book.NotedBook.note_clear.Goals as goal
+
+pub invariant_of-self : goal.invariant_of-self
+invariant_of-self g c =
+    let plan = g.N.Names.plan in
+    let old = c.self.inside in
+    journal-noted plan.desk plan.session.book old.book old.book old.journal c.note.new.journal c.operator.inside.seat.who
+    (step.Clear c.args.stream c.args.answer) c.self.invariant c.note.ensures.journal (search rules, refl)

@@ -1,0 +1,11 @@
+use Rattle.std.proofs.Common.{refl, rules}
+use Rattle.tr_operations.specs.declared.step.DeskStep.TheVariants as step
+use Rattle.tr_seats.proofs.OperatorLemmas.{journal-noted}
+use Rattle.tr_seats.proofs.noted_book.NotedBook.set_schedule.Goals as goal
+
+pub invariant_of-self : goal.invariant_of-self
+invariant_of-self g c =
+    let plan = g.N.Names.plan in
+    let old = c.self.inside in
+    journal-noted plan.desk plan.session.book old.book c.set_schedule-answer.new.self old.journal c.note.new.journal c.operator.inside.seat.who
+    (step.SetSchedule c.args.schedule c.set_schedule-answer.result) c.self.invariant c.note.ensures.journal (c.set_schedule-answer.ensures.answer, c.set_schedule-answer.ensures.after)

@@ -1,0 +1,76 @@
+-- The steps that an operator has more after a call.
+use Rattle.std.proofs.Common.{◌≡◌, ◌∙◌, ◌==◌, ◌+◌, ℕ, suc, Bool, true, false, List, [], ◌∷◌, ◌++◌, Result, Ok, Err, ap, append_assoc, arith, length, map, refl, sym, ⊎_elim}
+use Rattle.std.specs.Prelude.{IsErrAnd, sum}
+use Rattle.std.specs.List.{AllByRecursion}
+use Rattle.std.proofs.lemmas.List.{length_push, map-append}
+use Rattle.std.proofs.lemmas.List.Sums.{sum_by_push}
+use Rattle.tr_accounts.proofs.Lists.{all-both}
+use Rattle.tr_operations.specs.declared.step.DeskStep.{DeskStep}
+use Rattle.tr_operations.specs.declared.step.DeskStep.TheVariants.{Cut, Clear}
+use Rattle.tr_seats.specs.Clears.{desk_clear_answer}
+use Rattle.tr_seats.specs.Desks.{DeskState}
+use Rattle.tr_seats.specs.Operators.{operator_after_clear, with_step}
+use Rattle.tr_seats.specs.Slots.{SlotState}
+use Rattle.tr_session.specs.declared.faults.StepFault.{StepFault}
+use Rattle.tr_session.specs.declared.rotation.Next.{Next}
+use Rattle.tr_session.specs.declared.rotation.Next.TheVariants as next
+use Rattle.tr_session_book.specs.declared.faults.SessionFault.{SessionFault}
+use Rattle.tr_shared.specs.Operators.{AreCutsOf, IsCut, IsNextOf, clears_from}
+use Rattle.tr_stream.specs.declared.answers.Cleared.{Cleared}
+
+-- ---- rotations
+
+-- one cut more, or none
+pub cuts-more : (before mid after cuts : List DeskStep) (done : Next) → AllByRecursion IsCut cuts → mid ≡ before ++ cuts
+    → IsNextOf mid (Ok done) after → (more : List DeskStep) × AllByRecursion IsCut more × (after ≡ before ++ more)
+cuts-more before mid after cuts (next.Cut stream records) all was is = (
+  cuts ++ Cut stream (Ok is.0) ∷ [],
+  all-both IsCut cuts (Cut stream (Ok is.0) ∷ []) all (tt, tt),
+  is.2 ∙ ap (with_step (Cut stream (Ok is.0))) was ∙ append_assoc before cuts (Cut stream (Ok is.0) ∷ []),
+)
+cuts-more before mid after cuts next.AllCut all was is = (cuts, all, is ∙ was)
+
+pub cuts-stopped : (before mid after cuts : List DeskStep) (fault : SessionFault) → mid ≡ before ++ cuts → IsNextOf mid (Err fault) after
+    → (steps : List DeskStep) × (after ≡ before ++ steps)
+cuts-stopped before mid after cuts fault was is =
+    ⊎_elim
+    (λ (same : after ≡ mid). (cuts, same ∙ was))
+    (λ (t : (stream : ℕ) × (refusal : StepFault) × (after ≡ with_step (Cut stream (Err refusal)) mid)).
+    (cuts ++ Cut t.0 (Err t.1) ∷ [], t.2 ∙ ap (with_step (Cut t.0 (Err t.1))) was ∙ append_assoc before cuts (Cut t.0 (Err t.1) ∷ [])))
+    is
+
+-- no cut follows a refusal
+pub cuts-left : (before after : List DeskStep) (answer : Result Unit SessionFault) (of : SessionFault → Type 0) → IsErrAnd answer of
+    → (steps : List DeskStep) × (after ≡ before ++ steps) → AreCutsOf before answer after
+cuts-left before after (Ok done) of is steps = absurd is
+cuts-left before after (Err fault) of is steps = steps
+
+-- ---- clears
+
+pub clear-here : (i : ℕ) (desk : DeskState) (slot : SlotState) (steps : List DeskStep) (done : Cleared) → Ok done ≡ desk_clear_answer i desk slot
+    → operator_after_clear (Ok done) i slot steps ≡ with_step (Clear i (Ok done)) steps
+clear-here i desk slot steps done answer = go (i == slot.number) refl
+  where
+    go : (here : Bool) → (i == slot.number) ≡ here → operator_after_clear (Ok done) i slot steps ≡ with_step (Clear i (Ok done)) steps
+    go true at = cc
+    go false at = cc
+
+clears-push : (n i : ℕ) (dones : List Cleared) (done : Cleared) → i ≡ n + length dones
+    → clears_from n (dones ++ done ∷ []) ≡ clears_from n dones ++ Clear i (Ok done) ∷ []
+clears-push n i [] done at = ap (λ (k : ℕ). Clear k (Ok done) ∷ []) (omega (arith, at))
+clears-push n i (d ∷ dones) done at = ap (λ (l : List DeskStep). Clear n (Ok d) ∷ l) (clears-push (suc n) i dones done (omega (arith, at)))
+
+-- one stream more
+pub clears-more : (i records : ℕ) (before mid after : List DeskStep) (dones : List Cleared) (done : Cleared) → length dones ≡ i
+    → records ≡ sum (map (λ (d : Cleared). d.records) dones) → mid ≡ before ++ clears_from 0 dones
+    → after ≡ with_step (Clear i (Ok done)) mid
+    → (more : List Cleared) × (length more ≡ i + 1) × (records + done.records ≡ sum (map (λ (d : Cleared). d.records) more))
+    × (after ≡ before ++ clears_from 0 more)
+clears-more i records before mid after dones done many are was is = (
+  dones ++ done ∷ [],
+  length_push dones done ∙ ap (λ n. n + 1) many,
+  ap (λ n. n + done.records) are ∙ sym (ap sum (map-append (λ (d : Cleared). d.records) dones (done ∷ []))
+      ∙ sum_by_push (λ (n : ℕ). n) (map (λ (d : Cleared). d.records) dones) done.records),
+  is ∙ ap (with_step (Clear i (Ok done))) was ∙ append_assoc before (clears_from 0 dones) (Clear i (Ok done) ∷ [])
+      ∙ ap (λ (l : List DeskStep). before ++ l) (sym (clears-push 0 i dones done (omega (arith, many)))),
+)

@@ -1,0 +1,29 @@
+use Rattle.std.proofs.Common.{[], refl, sym}
+use Rattle.std.proofs.lemmas.List.{append-nil}
+use Rattle.tr_shared.proofs.StepLemmas.{cuts-left, cuts-more, cuts-stopped}
+use Rattle.tr_shared.proofs.shared.Shared.cut_on.Goals as goal
+
+pub loop-init : goal.loop-init
+loop-init g c = ([], tt, sym (append-nil c.args.operator.now))
+
+pub loop-preserved : goal.loop-preserved
+loop-preserved g c =
+    let v = c.loop.invariant in
+    cuts-more c.args.operator.now c.loop.operator c.rotate_next_by.new.operator v.0 c.in_ok-rotate_next_by.field-0 v.1 v.2
+    c.in_ok-rotate_next_by.ensures.steps
+
+pub returns-then-eq-clause-steps : goal.returns-then-eq-clause-steps
+returns-then-eq-clause-steps g c =
+    let v = c.loop.invariant in
+    cuts-more c.args.operator.now c.loop.operator c.rotate_next_by.new.operator v.0 c.in_ok-rotate_next_by.field-0 v.1 v.2
+    c.in_ok-rotate_next_by.ensures.steps
+
+pub returns-in_err-rotate_next_by-clause-steps : goal.returns-in_err-rotate_next_by-clause-steps
+returns-in_err-rotate_next_by-clause-steps g c =
+    let v = c.loop.invariant in
+    cuts-left c.args.operator.now c.rotate_next_by.new.operator c.from_residual.result _ c.from_residual.ensures.1
+    (cuts-stopped c.args.operator.now c.loop.operator c.rotate_next_by.new.operator v.0 c.in_err-rotate_next_by.field-0.0 v.2
+    c.in_err-rotate_next_by.ensures.steps)
+
+pub returns-after-loop-clause-steps : goal.returns-after-loop-clause-steps
+returns-after-loop-clause-steps g c = c.loop.invariant
