@@ -1,5 +1,5 @@
 -- What a call does in an operator's name: the steps that the operator has more.
-use Rattle.std.specs.Prelude.{◌≡◌, ◌⊎◌, ◌<◌, ℕ, zero, suc, Bool, List, [], ◌∷◌, ◌++◌, length, map, sum, Option, Some, None, Result, Ok, Err}
+use Rattle.std.specs.Prelude.{◌≡◌, ◌⊎◌, ◌<◌, ℕ, zero, suc, Bool, List, [], ◌∷◌, ◌++◌, length, map, sum, Option, Some, None, Result, Ok, Err, IsOk}
 use Rattle.std.specs.List.{AllByRecursion}
 use Rattle.tr_operations.specs.declared.step.DeskStep.{DeskStep}
 use Rattle.tr_operations.specs.declared.step.DeskStep.TheVariants.{Switch, RotateBegin, Cut, RotateFinish, Clear, SnapshotBegin}
@@ -13,6 +13,7 @@ use Rattle.tr_session.specs.declared.ticks.Ticked.TheVariants as ticked
 use Rattle.tr_session_book.specs.declared.archive.Archive.{Archive}
 use Rattle.tr_session_book.specs.declared.faults.SessionFault.{SessionFault}
 use Rattle.tr_session_book.specs.declared.faults.SessionFault.TheVariants.{Misplaced}
+use Rattle.tr_shared.specs.Operating.{as_next}
 use Rattle.tr_snapshot.specs.Snapshots.{SnapshotState}
 use Rattle.tr_stream.specs.declared.answers.Cleared.{Cleared}
 use Rattle.tr_stream.specs.declared.answers.CutDone.{CutDone}
@@ -41,18 +42,19 @@ abbrev pub IsNextOf : List DeskStep → Result Next SessionFault → List DeskSt
 IsNextOf before (Ok (next.Cut stream records)) after =
     (done : CutDone) × (done.records ≡ records) × (after ≡ with_step (Cut stream (Ok done)) before)
 IsNextOf before (Ok next.AllCut) after = after ≡ before
-IsNextOf before (Err fault) after =
-    (after ≡ before) ⊎ ((stream : ℕ) × (refusal : StepFault) × (after ≡ with_step (Cut stream (Err refusal)) before))
+IsNextOf before (Err fault) after = (after ≡ before)
+    ⊎ ((stream : ℕ) × (refusal : StepFault) × (as_next stream (Err refusal) ≡ Err fault)
+    × (after ≡ with_step (Cut stream (Err refusal)) before))
 
 -- a stream was cut
 abbrev pub IsCut : DeskStep → Type 0
 IsCut (Cut stream (Ok done)) = Unit {0}
 IsCut step = ⊥
 
--- a rotation goes on with cuts alone
+-- a rotation goes on with cuts alone, of which the last may be refused
 abbrev pub AreCutsOf : List DeskStep → Result Unit SessionFault → List DeskStep → Type 0
 AreCutsOf before (Ok done) after = (cuts : List DeskStep) × AllByRecursion IsCut cuts × (after ≡ before ++ cuts)
-AreCutsOf before (Err fault) after = (steps : List DeskStep) × (after ≡ before ++ steps)
+AreCutsOf before (Err fault) after = (cuts : List DeskStep) × AllByRecursion IsCut cuts × IsNextOf (before ++ cuts) (Err fault) after
 
 -- a rotation begins at this moment if it is due
 abbrev pub IsDueOf : ℕ → List DeskStep → Result (Option Cause) SessionFault → List DeskStep → Type 0
@@ -60,11 +62,15 @@ IsDueOf now before (Ok None) after = after ≡ before
 IsDueOf now before (Ok (Some cause)) after = (id : ℕ) × (after ≡ with_step (RotateBegin now (Ok id)) before)
 IsDueOf now before (Err fault) after = (after ≡ before) ⊎ (after ≡ with_step (RotateBegin now (Err fault)) before)
 
--- a rotation that has begun goes on with cuts alone, and is finished
+-- the end of a rotation, after cuts alone
+abbrev pub IsFinishOf : List DeskStep → Result Archive SessionFault → List DeskStep → Type 0
+IsFinishOf before answer after =
+    (cuts : List DeskStep) × AllByRecursion IsCut cuts × (after ≡ with_step (RotateFinish answer) (before ++ cuts))
+
+-- a rotation that has begun goes on with cuts alone, and is finished; the last of these steps may be refused
 abbrev pub IsEndOf : List DeskStep → Result Archive SessionFault → List DeskStep → Type 0
-IsEndOf before (Ok archive) after =
-    (cuts : List DeskStep) × AllByRecursion IsCut cuts × (after ≡ with_step (RotateFinish (Ok archive)) (before ++ cuts))
-IsEndOf before (Err fault) after = (steps : List DeskStep) × (after ≡ before ++ steps)
+IsEndOf before (Ok archive) after = IsFinishOf before (Ok archive) after
+IsEndOf before (Err fault) after = AreCutsOf before (Err fault) after ⊎ IsFinishOf before (Err fault) after
 
 -- a rotation at this moment: its beginning, cuts and its end
 abbrev pub IsRotationOf : ℕ → List DeskStep → Result Archive SessionFault → List DeskStep → Type 0
@@ -79,10 +85,11 @@ IsTickOf now before (Err fault) after = (after ≡ before) ⊎ IsRotationOf now 
 
 -- ---- snapshots
 
--- a snapshot: its beginning, with the moment that it shows
+-- a snapshot: its beginning, with the moment that it shows; if that is done, a stream may still not be shown
 abbrev pub IsSnapshotOf : ℕ → List DeskStep → Result SnapshotState SessionFault → List DeskStep → Type 0
 IsSnapshotOf moment before (Ok s) after = after ≡ with_step (SnapshotBegin moment (Ok s.moment)) before
-IsSnapshotOf moment before (Err fault) after = (answer : Result ℕ SessionFault) × (after ≡ with_step (SnapshotBegin moment answer) before)
+IsSnapshotOf moment before (Err fault) after = (answer : Result ℕ SessionFault) × ((answer ≡ Err fault) ⊎ IsOk answer)
+    × (after ≡ with_step (SnapshotBegin moment answer) before)
 
 -- ---- clears
 
@@ -91,8 +98,13 @@ abbrev pub clears_from : ℕ → List Cleared → List DeskStep
 clears_from i [] = []
 clears_from i (done ∷ dones) = Clear i (Ok done) ∷ clears_from (suc i) dones
 
--- n streams are cleared, of so many records together
+-- the streams before one are cleared, in order; its own clear is refused, which is noted if the stream was in its place
+abbrev pub IsClearedTo : ℕ → List DeskStep → SessionFault → List DeskStep → Type 0
+IsClearedTo n before fault after = (dones : List Cleared) × (length dones < n)
+    × ((after ≡ before ++ clears_from 0 dones) ⊎ (after ≡ with_step (Clear (length dones) (Err fault)) (before ++ clears_from 0 dones)))
+
+-- n streams are cleared, of so many records together; or none, if the book refuses that
 abbrev pub IsClearOf : ℕ → List DeskStep → Result ℕ SessionFault → List DeskStep → Type 0
 IsClearOf n before (Ok records) after = (dones : List Cleared) × (length dones ≡ n)
     × (records ≡ sum (map (λ (done : Cleared). done.records) dones)) × (after ≡ before ++ clears_from 0 dones)
-IsClearOf n before (Err fault) after = (steps : List DeskStep) × (after ≡ before ++ steps)
+IsClearOf n before (Err fault) after = (after ≡ before) ⊎ IsClearedTo n before fault after

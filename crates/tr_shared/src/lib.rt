@@ -74,6 +74,8 @@
 //!
 //! - an offer that is always `Misplaced`, and a take that is always refused;
 //! - without an operator: a start, a stop, a schedule or a rotation that only answers, and a start at another moment;
+//! - with one: a call that does something more at the desk in another operator's name, and a `rotate_next_by` that answers
+//!   `AllCut` without looking;
 //! - a drainer, a `build` or a snapshot that is always refused, or a call with an operator that is refused for a stream that
 //!   isn't in its place or out of memory;
 //! - a tick that is always idle, and a snapshot without packets (except of its producer's stream);

@@ -1,6 +1,7 @@
 use Rattle.std.proofs.Common.{[], refl, sym}
 use Rattle.std.proofs.lemmas.List.{append-nil}
-use Rattle.tr_shared.proofs.StepLemmas.{cuts-left, cuts-more, cuts-stopped}
+use Rattle.std.proofs.lemmas.Result.{err_from_is_err_and}
+use Rattle.tr_shared.proofs.StepLemmas.{cuts-more, cuts-stopped}
 use Rattle.tr_shared.proofs.shared.Shared.cut_on.Goals as goal
 
 pub loop-init : goal.loop-init
@@ -21,8 +22,9 @@ returns-then-eq-clause-steps g c =
 pub returns-in_err-rotate_next_by-clause-steps : goal.returns-in_err-rotate_next_by-clause-steps
 returns-in_err-rotate_next_by-clause-steps g c =
     let v = c.loop.invariant in
-    cuts-left c.args.operator.now c.rotate_next_by.new.operator c.from_residual.result _ c.from_residual.ensures.1
-    (cuts-stopped c.args.operator.now c.loop.operator c.rotate_next_by.new.operator v.0 c.in_err-rotate_next_by.field-0.0 v.2
+    let fault = c.in_err-rotate_next_by.field-0.0 in
+    let p = err_from_is_err_and c.from_residual.result c.from_residual.ensures.1 in
+    rw (p.1, p.2) (cuts-stopped c.args.operator.now c.loop.operator c.rotate_next_by.new.operator v.0 fault v.1 v.2
     c.in_err-rotate_next_by.ensures.steps)
 
 pub returns-after-loop-clause-steps : goal.returns-after-loop-clause-steps
