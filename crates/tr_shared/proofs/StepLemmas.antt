@@ -56,8 +56,10 @@ clear-stopped i n slot before mid after dones fault many few was is =
     go true at = inr (is ∙ here at ∙ ap (λ (l : List DeskStep). with_step (Clear i (Err fault)) l) was
         ∙ ap (λ (k : ℕ). with_step (Clear k (Err fault)) (before ++ clears_from 0 dones)) (sym many))
     go false at = inl (is ∙ away at ∙ was)
+
     here : (i == slot.number) ≡ true → operator_after_clear (Err fault) i slot mid ≡ with_step (Clear i (Err fault)) mid
     here at = cc
+
     away : (i == slot.number) ≡ false → operator_after_clear (Err fault) i slot mid ≡ mid
     away at = cc
 
