@@ -4,7 +4,7 @@ use Rattle.std.specs.List.{AllByRecursion}
 use Rattle.std.specs.List.Sorted.{IsStrictlyIncreasing}
 use Rattle.atomic_table.specs.Seated.{TableId}
 use Rattle.tr_accounts.proofs.JournalLemmas.{journal-clear, journal-cut, journal-holds, journal-moved, journal-new, journal-offer, journal-switch, journal-take}
-use Rattle.tr_accounts.proofs.SeatLemmas.{offers-theirs}
+use Rattle.tr_accounts.proofs.SeatLemmas.{offers-theirs, operations-theirs}
 use Rattle.tr_accounts.proofs.TakeLemmas.{own-rise, own-were}
 use Rattle.tr_accounts.specs.Accounts.{history_of}
 use Rattle.tr_accounts.specs.Seats.{IsJournalOf, desk_seat, producer_seat}
@@ -14,7 +14,7 @@ use Rattle.tr_accounts.specs.Takes.{WasTaken}
 use Rattle.tr_accounts.specs.declared.step.StreamStep.{StreamStep}
 use Rattle.tr_journal.specs.Journals.{IsSeatOf, JournalState, SeatState, journal_after, new_seat}
 use Rattle.tr_journal.specs.Views.{all_done, done_by, line}
-use Rattle.tr_seats.specs.Accounts.{IsAccountOf, IsKeptAccount, IsNewAccount, IsSeatAt, IsTakenFrom}
+use Rattle.tr_seats.specs.Accounts.{IsAccountOf, IsKeptAccount, IsNewAccount, IsOperatedBy, IsSeatAt, IsTakenFrom}
 use Rattle.tr_seats.specs.Plans.{IsUnused}
 use Rattle.tr_stream.proofs.TakeLemmas.{starts}
 use Rattle.tr_stream.specs.Kept.{IsKept}
@@ -70,23 +70,23 @@ module _ (table : TableId) (s : StreamState) (before after : JournalState Stream
       noted who (take_step told) t (state_after_take s) is same
       (journal-take before.lines s was.lines_are who told theirs answer)
 
-  pub kept-cut : (t : StreamState) (moment : ℕ) (told : Result CutDone CutFault) → told ≡ state_cut_answer moment s
-      → t ≡ state_after_cut moment s → after ≡ journal_after desk_seat (cut_step moment told) before → IsKeptAccount table t after
-  kept-cut t moment told answer same is =
-      noted desk_seat (cut_step moment told) t (state_after_cut moment s) is same
-      (journal-cut before.lines s was.lines_are desk_seat moment told refl answer)
+  pub kept-cut : (t : StreamState) (who moment : ℕ) (told : Result CutDone CutFault) → who ≡ desk_seat → told ≡ state_cut_answer moment s
+      → t ≡ state_after_cut moment s → after ≡ journal_after who (cut_step moment told) before → IsKeptAccount table t after
+  kept-cut t who moment told desk answer same is =
+      noted who (cut_step moment told) t (state_after_cut moment s) is same
+      (journal-cut before.lines s was.lines_are who moment told desk answer)
 
-  pub kept-clear : (t : StreamState) (told : Result Cleared ClearFault) → told ≡ state_clear_answer s → t ≡ state_after_clear s
-      → after ≡ journal_after desk_seat (clear_step told) before → IsKeptAccount table t after
-  kept-clear t told answer same is =
-      noted desk_seat (clear_step told) t (state_after_clear s) is same
-      (journal-clear before.lines s was.lines_are desk_seat told refl answer)
+  pub kept-clear : (t : StreamState) (who : ℕ) (told : Result Cleared ClearFault) → who ≡ desk_seat → told ≡ state_clear_answer s
+      → t ≡ state_after_clear s → after ≡ journal_after who (clear_step told) before → IsKeptAccount table t after
+  kept-clear t who told desk answer same is =
+      noted who (clear_step told) t (state_after_clear s) is same
+      (journal-clear before.lines s was.lines_are who told desk answer)
 
-  pub kept-switch : (t : StreamState) (active : Bool) → t ≡ state_after_switch active s
-      → after ≡ journal_after desk_seat (switch_step active) before → IsKeptAccount table t after
-  kept-switch t active same is =
-      noted desk_seat (switch_step active) t (state_after_switch active s) is same
-      (journal-switch before.lines s was.lines_are desk_seat active refl)
+  pub kept-switch : (t : StreamState) (who : ℕ) (active : Bool) → who ≡ desk_seat → t ≡ state_after_switch active s
+      → after ≡ journal_after who (switch_step active) before → IsKeptAccount table t after
+  kept-switch t who active desk same is =
+      noted who (switch_step active) t (state_after_switch active s) is same
+      (journal-switch before.lines s was.lines_are who active desk)
 
 -- what a producer's seat has
 pub account-of : (table : TableId) (s : StreamState) (account : JournalState StreamStep) (seat : SeatState StreamStep)
@@ -99,6 +99,18 @@ account-of table s account seat kept at own =
       accounted = kept.lines_are.accounted;
       offers = offers-theirs lines kept.lines_are.theirs ∙ sym mine;
       holds = subst (λ steps. HoldsOffers (accepted_in steps) s) (sym mine) (journal-holds lines s kept.lines_are);
+    }
+
+-- what the desk's seat has
+pub operated-by : (table : TableId) (s : StreamState) (account : JournalState StreamStep) (seat : SeatState StreamStep)
+    → IsKeptAccount table s account → IsSeatAt table desk_seat seat → IsSeatOf account seat → IsOperatedBy seat.own s
+operated-by table s account seat kept at own =
+    let lines = account.lines in
+    let mine : seat.own ≡ done_by desk_seat lines = own.each.0.1 ∙ ap (λ who. done_by who lines) at.1 in
+    record {
+      all = all_done lines;
+      accounted = kept.lines_are.accounted;
+      operations = operations-theirs lines kept.lines_are.theirs ∙ sym mine;
     }
 
 -- what a drainer's seat has

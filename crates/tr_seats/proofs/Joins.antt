@@ -1,7 +1,7 @@
 -- A row of seats is joined into another, one by one.
-use Rattle.std.proofs.Common.{◌≡◌, ◌≢◌, ℕ, ◌+◌, ◌<◌, ◌≤◌, List, [], ◌∷◌, ◌++◌, length, get_or, map, set, take, Some, true, false, eqb, leb, ⊎_elim, le_refl, sym, ap, ◌∙◌, subst, arith, get_or-set_other, get_or-set_same, if◌then◌else◌}
+use Rattle.std.proofs.Common.{◌≡◌, ◌≢◌, ℕ, ◌+◌, ◌<◌, ◌≤◌, List, [], ◌∷◌, ◌++◌, drop, length, get_or, map, set, take, Some, true, false, eqb, leb, ⊎_elim, le_refl, sym, ap, ◌∙◌, subst, arith, get_or-set_other, get_or-set_same, if◌then◌else◌}
 use Rattle.std.specs.Prelude.{nat_lt, slice_get, sum}
-use Rattle.std.proofs.lemmas.List.{map-set, length-map, get_or-map, get_or_default, map-append, set-get_or, take_more}
+use Rattle.std.proofs.lemmas.List.{map-set, length-map, get_or-map, get_or_default, map-append, set-get_or, take_at, take_more}
 use Rattle.std.proofs.lemmas.List.Sums.{sum_by-set, sum_by_push}
 use Rattle.std.proofs.lemmas.Option.{get_or_from_slice_get, slice_get_within}
 use Rattle.std.proofs.lemmas.Bool.Decides.{eqb_tells, leb_tells, nat_tests}
@@ -29,6 +29,11 @@ raised-apart n more i k ne =
 -- what is read may be put back
 pub put-back : {X : Type 0} → (xs : List X) (i : ℕ) (x d : X) → x ≡ get_or xs i d → set xs i x ≡ xs
 put-back xs i x d is = ap (set xs i) is ∙ set-get_or xs i d
+
+-- what is written back over a list
+pub written-back : {X : Type 0} → (xs ys : List X) (n : ℕ) → ys ≡ xs → n ≡ length xs → take n (ys ++ drop (length ys) xs) ≡ xs
+written-back {X = X} xs ys n same long =
+    ap (λ (l : List X). take n (l ++ drop (length l) xs)) same ∙ take_at xs (drop (length xs) xs) n (sym long)
 
 -- what is read of a list is read of an equal one
 pub read-same : {X : Type 0} → (xs ys : List X) (i : ℕ) (d e : X) → xs ≡ ys → i < length ys → get_or xs i d ≡ get_or ys i e

@@ -1,19 +1,23 @@
 -- What is noted of a stream's calls under its lock, and what that says of its producer.
-use Rattle.std.specs.Prelude.{◌≡◌, ◌<◌, ℕ, List, [], length, map, slice_index_or}
+use Rattle.std.specs.Prelude.{◌≡◌, ◌<◌, ℕ, List, [], Result, Ok, Err, length, map, slice_index_or}
 use Rattle.std.specs.List.{AllByRecursion}
 use Rattle.std.specs.List.Sorted.{IsStrictlyIncreasing}
 use Rattle.atomic_table.specs.Seated.{TableId}
 use Rattle.tr_accounts.specs.Accounts.{IsAccounted, history_of}
 use Rattle.tr_accounts.specs.Holds.{HoldsOffers}
-use Rattle.tr_accounts.specs.Seats.{IsJournalOf, desk_seat, is_offer, steps_of}
-use Rattle.tr_accounts.specs.StreamSteps.{accepted_in, taken_in}
+use Rattle.tr_accounts.specs.Seats.{IsJournalOf, desk_seat, is_offer, is_operation, steps_of}
+use Rattle.tr_accounts.specs.StreamSteps.{accepted_in, clear_step, cut_step, taken_in}
 use Rattle.tr_accounts.specs.Takes.{WasTaken}
 use Rattle.tr_accounts.specs.declared.step.StreamStep.{StreamStep}
-use Rattle.tr_journal.specs.Journals.{JournalState, SeatState}
+use Rattle.tr_journal.specs.Journals.{JournalState, SeatState, seat_after}
 use Rattle.tr_journal.specs.Views.{all_done, done_by}
 use Rattle.tr_journal.specs.declared.rule.Line.{Line}
 use Rattle.tr_seats.specs.Books.{Books, books_at}
 use Rattle.tr_stream.specs.State.{StreamState}
+use Rattle.tr_stream.specs.declared.answers.ClearFault.{ClearFault}
+use Rattle.tr_stream.specs.declared.answers.Cleared.{Cleared}
+use Rattle.tr_stream.specs.declared.answers.CutDone.{CutDone}
+use Rattle.tr_stream.specs.declared.answers.CutFault.{CutFault}
 use Rattle.tr_stream.specs.declared.answers.Taken.{Taken}
 
 -- ---- a stream's journal
@@ -21,11 +25,6 @@ use Rattle.tr_stream.specs.declared.answers.Taken.{Taken}
 -- a seat of this table and this number, with nothing joined to it
 abbrev pub IsSeatAt : TableId → ℕ → SeatState StreamStep → Type 0
 IsSeatAt table who seat = (seat.table ≡ table) × (seat.who ≡ who) × (seat.joined ≡ [])
-
--- the seat of operations, in its journal, in which all later seats are drainers'
-pub record HasSeats (journal : JournalState StreamStep) (desk : SeatState StreamStep) : Type 0 where
-  pub desk_is : IsSeatAt journal.table desk_seat desk
-  pub made : desk_seat < journal.made
 
 abbrev pub IsNewAccount : JournalState StreamStep → Type 0
 IsNewAccount account = account.lines ≡ []
@@ -44,6 +43,24 @@ pub record IsAccountOf (steps : List StreamStep) (stream : StreamState) : Type 0
   pub accounted : IsAccounted all stream
   pub offers : steps_of is_offer all ≡ steps
   pub holds : HoldsOffers (accepted_in steps) stream
+
+-- ---- the desk
+
+-- what the desk did to a stream is what the stream has: the stream stands for a history of calls, each answered as in that
+-- history, among which all but offers and takes are just the desk's
+pub record IsOperatedBy (steps : List StreamStep) (stream : StreamState) : Type 0 where
+  pub all : List StreamStep
+  pub accounted : IsAccounted all stream
+  pub operations : steps_of is_operation all ≡ steps
+
+-- the desk's seat after a cut and a clear; what is refused isn't noted
+abbrev pub seat_noting_cut : ℕ → Result CutDone CutFault → SeatState StreamStep → SeatState StreamStep
+seat_noting_cut moment (Ok done) seat = seat_after (cut_step moment (Ok done)) seat
+seat_noting_cut moment (Err fault) seat = seat
+
+abbrev pub seat_noting_clear : Result Cleared ClearFault → SeatState StreamStep → SeatState StreamStep
+seat_noting_clear (Ok done) seat = seat_after (clear_step (Ok done)) seat
+seat_noting_clear (Err fault) seat = seat
 
 -- ---- drainers
 

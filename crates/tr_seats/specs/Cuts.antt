@@ -6,6 +6,7 @@ use Rattle.tr_seats.specs.Slots.{SlotState}
 use Rattle.tr_session.specs.Steps.{cut_as_step}
 use Rattle.tr_session.specs.declared.faults.StepFault.{StepFault}
 use Rattle.tr_session.specs.declared.faults.StepFault.TheVariants.{Session}
+use Rattle.tr_session_book.specs.Book.{SessionBookState}
 use Rattle.tr_session_book.specs.BookSteps.{cut_moment, with_cut}
 use Rattle.tr_session_book.specs.declared.faults.SessionFault.{SessionFault}
 use Rattle.tr_session_book.specs.declared.faults.SessionFault.TheVariants.{Misplaced}
@@ -41,6 +42,11 @@ desk_after_cut (Ok done) i desk = record desk {
   cuts = slice_set desk.cuts i (slice_index desk.cuts i + 1);
 }
 desk_after_cut (Err fault) i desk = desk
+
+-- a cut that was done is noted in the book
+abbrev pub book_if_cut : Result CutDone CutFault → SessionBookState → SessionBookState
+book_if_cut (Ok done) book = with_cut book
+book_if_cut (Err fault) book = book
 
 -- the desk's seats of the stream that is cut
 abbrev pub seat_after_cut : Result CutDone CutFault → SeatState → SeatState

@@ -1,26 +1,66 @@
 -- A desk's book with the journal of its operators' steps.
-use Rattle.std.specs.Prelude.{◌≡◌, ◌++◌, ◌==◌, ◌∷◌, [], ℕ, List, Result, Ok, Err, if◌then◌else◌}
+use Rattle.std.specs.Prelude.{◌≡◌, ◌<◌, ◌++◌, ◌==◌, ◌∷◌, [], ℕ, List, Result, Ok, Err, if◌then◌else◌, length, slice_index_or}
 use Rattle.atomic_table.specs.Seated.{TableId}
+use Rattle.tr_accounts.specs.Seats.{desk_seat}
+use Rattle.tr_accounts.specs.StreamSteps.{clear_step, cut_step, switch_step}
+use Rattle.tr_accounts.specs.declared.step.StreamStep.{StreamStep}
 use Rattle.tr_journal.specs.Journals.{JournalState, SeatState}
 use Rattle.tr_journal.specs.Views.{all_done}
-use Rattle.tr_operations.specs.Operations.{LeadsTo}
+use Rattle.tr_operations.specs.Operations.{IsStepOf, LeadsTo}
 use Rattle.tr_operations.specs.declared.step.DeskStep.{DeskStep}
 use Rattle.tr_operations.specs.declared.step.DeskStep.TheVariants.{Switch, Cut, Clear}
+use Rattle.tr_seats.specs.Accounts.{IsSeatAt}
+use Rattle.tr_seats.specs.Books.{Books, PlanState, books_at}
 use Rattle.tr_seats.specs.Desks.{DeskState}
 use Rattle.tr_seats.specs.Slots.{SlotState}
 use Rattle.tr_session.specs.declared.faults.StepFault.{StepFault}
 use Rattle.tr_session_book.specs.Book.{SessionBookState}
-use Rattle.tr_session_book.specs.BookSteps.{is_active}
+use Rattle.tr_session_book.specs.BookSteps.{cut_moment, is_active}
 use Rattle.tr_session_book.specs.declared.faults.SessionFault.{SessionFault}
 use Rattle.tr_session_book.specs.declared.faults.SessionFault.TheVariants.{Misplaced}
 use Rattle.tr_stream.specs.StateSteps.{state_after_switch}
 use Rattle.tr_stream.specs.declared.answers.Cleared.{Cleared}
 use Rattle.tr_stream.specs.declared.answers.CutDone.{CutDone}
 
--- the journal in this table leads from the book that was planned to the book that is
-pub record IsDeskJournal (table : TableId) (planned book : SessionBookState) (journal : JournalState DeskStep) : Type 0 where
-  pub table_is : journal.table ≡ table
-  pub leads : LeadsTo (all_done journal.lines) planned book
+-- what a step at a desk with this book does to the stream of this number: a switch, a clear, or a cut at the pending rotation's
+-- end; nothing if it is refused
+
+abbrev pub cuts_at : Result ℕ SessionFault → CutDone → List StreamStep
+cuts_at (Ok moment) done = cut_step moment (Ok done) ∷ []
+cuts_at (Err fault) done = []
+
+abbrev pub done_to : ℕ → DeskStep → SessionBookState → List StreamStep
+done_to i (Switch stream active) b = if i == stream then switch_step active ∷ [] else []
+done_to i (Cut stream (Ok done)) b = if i == stream then cuts_at (cut_moment stream b) done else []
+done_to i (Clear stream (Ok done)) b = if i == stream then clear_step (Ok done) ∷ [] else []
+done_to i step b = []
+
+-- steps lead from one book to another, one after the other, and do just this to the stream of this number
+abbrev pub DoTo : ℕ → List DeskStep → SessionBookState → SessionBookState → List StreamStep → Type 0
+DoTo i [] b d done = (d ≡ b) × (done ≡ [])
+DoTo i (step ∷ steps) b d done = (c : SessionBookState) × IsStepOf step b c × (rest : List StreamStep)
+    × (done ≡ done_to i step b ++ rest) × DoTo i steps c d rest
+
+-- the desk's seat in the journal of the stream of this number has what the steps at the desk did to that stream
+pub record IsDeskSeat (plan : PlanState) (i : ℕ) (steps : List DeskStep) (book : SessionBookState) (seat : SeatState StreamStep) : Type 0 where
+  pub seat_is : IsSeatAt (books_at plan.books i).journal desk_seat seat
+  pub did : DoTo i steps plan.session.book book seat.own
+
+-- the desk's seats in the journals of the first n streams, with which nothing was noted
+pub record AreNewDeskSeats (n : ℕ) (books : List Books) (seats : List (SeatState StreamStep)) : Type 0 where
+  pub many : length seats ≡ n
+  pub each : (i : ℕ) (d : SeatState StreamStep) → i < n
+      → IsSeatAt (books_at books i).journal desk_seat (slice_index_or seats i d) × ((slice_index_or seats i d).own ≡ [])
+
+-- the journal of a plan's desk leads from the book that was planned to the book that is, and the desk's seats in the streams'
+-- journals have what its steps did to them
+pub record IsDeskJournal (plan : PlanState) (book : SessionBookState) (journal : JournalState DeskStep)
+    (seats : List (SeatState StreamStep)) : Type 0 where
+  pub table_is : journal.table ≡ plan.desk
+  pub leads : LeadsTo (all_done journal.lines) plan.session.book book
+  pub many : length seats ≡ length plan.books
+  pub each : (i : ℕ) (d : SeatState StreamStep) → i < length plan.books
+      → IsDeskSeat plan i (all_done journal.lines) book (slice_index_or seats i d)
 
 -- an operator's seat in this table, with nothing joined to it
 abbrev pub IsOperatorSeat : TableId → SeatState DeskStep → Type 0

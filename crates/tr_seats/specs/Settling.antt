@@ -1,16 +1,23 @@
 -- What settling answers.
 use Rattle.std.specs.Prelude.{◌≡◌, ◌≢◌, ℕ, ◌+◌, ◌<◌, ◌≤◌, ◌==◌, List, Some, length, map, sum, count_by, slice_get, slice_index, slice_index_or, All}
 use Rattle.std.specs.List.{sum_by}
-use Rattle.tr_seats.specs.Accounts.{IsAccountOf, IsTakenFrom}
+use Rattle.tr_accounts.specs.declared.step.StreamStep.{StreamStep}
+use Rattle.tr_journal.specs.Views.{all_done, done_by}
+use Rattle.tr_journal.specs.declared.rule.Line.{Line}
+use Rattle.tr_operations.specs.Operations.{LeadsTo}
+use Rattle.tr_operations.specs.declared.step.DeskStep.{DeskStep}
+use Rattle.tr_seats.specs.Accounts.{IsAccountOf, IsOperatedBy, IsTakenFrom}
 use Rattle.tr_seats.specs.Books.{IsPlanned, PlanState}
 use Rattle.tr_seats.specs.Desks.{DeskState, IsOfPlan}
 use Rattle.tr_seats.specs.Drainers.{DrainerState, taken_at}
+use Rattle.tr_seats.specs.Operators.{DoTo}
 use Rattle.tr_seats.specs.Slots.{IsOwn, ProducerState, SlotState}
 use Rattle.tr_seats.specs.Sums.{totals_in}
 use Rattle.tr_seats.specs.declared.settling.SettleError.{SettleError}
 use Rattle.tr_seats.specs.declared.settling.SettleError.TheVariants.{ProducerMissing, DrainerMissing, Misplaced}
 use Rattle.tr_seats.specs.declared.totals.Totals.{Totals}
 use Rattle.tr_session.specs.Session.{SessionOf}
+use Rattle.tr_session_book.specs.Book.{SessionBookState}
 use Rattle.tr_stream.specs.State.{StreamState, in_parts, in_ring}
 
 -- a session out of its locks
@@ -103,6 +110,23 @@ AreAccountsOf producers streams = (k : ℕ) (p : ProducerState) (t : StreamState
 abbrev pub ArePacketsOf : List DrainerState → List StreamState → Type 0
 ArePacketsOf drainers streams = (k i : ℕ) (d : DrainerState) (t : StreamState) → k < length drainers → i < length streams
     → IsTakenFrom (taken_at (slice_index_or drainers k d) i) (slice_index_or streams i t)
+
+-- what the steps at a desk did to the stream of this number is what it has
+pub record WasOperated (i : ℕ) (steps : List DeskStep) (planned book : SessionBookState) (t : StreamState) : Type 0 where
+  pub operations : List StreamStep
+  pub did : DoTo i steps planned book operations
+  pub are : IsOperatedBy operations t
+
+-- what an operator did is what a session has: steps lead from the book that was planned to its own, of which those of one seat
+-- are just the operator's; and all that was done to its streams but offers and takes, they did, each at its moment
+pub record HasOperated (planned : SessionBookState) (steps : List DeskStep) (book : SessionBookState)
+    (streams : List StreamState) : Type 0 where
+  pub lines : List (Line DeskStep)
+  pub leads : LeadsTo (all_done lines) planned book
+  pub who : ℕ
+  pub own : steps ≡ done_by who lines
+  pub streams_are : (i : ℕ) (t : StreamState) → i < length streams
+      → WasOperated i (all_done lines) planned book (slice_index_or streams i t)
 
 -- what was consumed of each stream is what the desk's seat of it and the drainers' have
 abbrev pub HaveConsumed : List ℕ → List DrainerState → List StreamState → Type 0

@@ -13,35 +13,36 @@ use tr_journal::{Journal, Seat};
 use tr_stream::{ClearFault, Cleared, CutDone, CutFault, OfferFault, Offered, TakeFault, Taken};
 use tr_terms::Moment;
 
-/// A stream's journal, with the seat of its operations; its producer has that of its offers, and each drainer one of its
+/// A stream's journal. Its producer has the seat of its offers, the desk that of its operations, and each drainer one of its
 /// takes. Contracts see a `JournalState`.
 #[derive(Drop)]
 pub(crate) struct Account<A: Allocator = Global> {
     journal: Journal<StreamStep, A>,
-    desk: Seat<StreamStep>,
 }
 
 impl<A: Allocator> Model for Account<A> {
     ghost use Rattle.tr_accounts.specs.declared.step.StreamStep.{StreamStep};
+    ghost use Rattle.std.specs.Prelude.{◌<◌};
+    ghost use Rattle.tr_accounts.specs.Seats.{desk_seat};
     ghost use Rattle.tr_journal.specs.Journals.{JournalState};
-    ghost use Rattle.tr_seats.specs.Accounts.{HasSeats};
 
     ghost Value = { JournalState StreamStep };
 
     ghost view = { λ a. a.journal };
 
-    ghost invariant = { λ a. HasSeats a.journal a.desk };
+    // the seats of the producer and of the desk were made
+    ghost invariant = { λ a. desk_seat < a.journal.made };
 }
 
-/// A drainer's seat in the journal of a stream, by that stream's number: a seat without bytes can't be lent by its place.
+/// A seat in the journal of a stream, with that stream's number: a seat without bytes can't be lent by its place in a row.
 /// Contracts see a `SeatState`.
 #[derive(Drop)]
-pub(crate) struct TakeSeat {
+pub(crate) struct StreamSeat {
     stream: usize,
     noted: Seat<StreamStep>,
 }
 
-impl Model for TakeSeat {
+impl Model for StreamSeat {
     ghost use Rattle.tr_accounts.specs.declared.step.StreamStep.{StreamStep};
     ghost use Rattle.tr_journal.specs.Journals.{SeatState};
 
@@ -50,24 +51,36 @@ impl Model for TakeSeat {
     ghost view = { λ s. s.noted };
 }
 
+impl StreamSeat {
+    /// A seat in the journal of the stream of this number.
+    pub(crate) fn of(stream: usize, noted: Seat<StreamStep>) -> StreamSeat
+        ensures { result ≡ noted }
+    {
+        StreamSeat { stream, noted }
+    }
+}
+
 impl<A: Allocator> Account<A> {
-    /// The account of a stream of which nothing was called, and its producer's seat. Only this call takes memory.
-    pub(crate) fn open(alloc: A) -> Result<(Account<A>, Seat<StreamStep>), AllocError>
-        ensures { IfOk result (λ r. IsNewAccount r.0 × (r.1 ≡ new_seat r.0.table producer_seat)) }
+    /// The account of a stream of which nothing was called, its producer's seat, and the desk's. Only this call takes memory.
+    pub(crate) fn open(
+        alloc: A,
+    ) -> Result<(Account<A>, Seat<StreamStep>, Seat<StreamStep>), AllocError>
+        ensures { IfOk result (λ r. IsNewAccount r.0 × (r.1 ≡ new_seat r.0.table producer_seat)
+            × (r.2 ≡ new_seat r.0.table desk_seat)) }
     {
         let (mut journal, producer) = Journal::open(alloc)?;
         let desk = journal.split();
-        Ok((Account { journal, desk }, producer))
+        Ok((Account { journal }, producer, desk))
     }
 
     /// A new seat for the takes of one drainer from the stream of this number. It takes no memory.
-    pub(crate) fn split(&mut self, stream: usize) -> TakeSeat
+    pub(crate) fn split(&mut self, stream: usize) -> StreamSeat
         ensures account { self.new ≡ journal_with_seat self.old }
         ensures seat { result ≡ new_seat self.old.table self.old.made }
         ensures drainer { desk_seat < result.who }
     {
         let noted = self.journal.split();
-        TakeSeat { stream, noted }
+        StreamSeat { stream, noted }
     }
 
     /// The producer offered a record, and this was answered.
@@ -89,7 +102,7 @@ impl<A: Allocator> Account<A> {
     }
 
     /// A drainer took a packet, or this was answered.
-    pub(crate) fn note_take(&mut self, drainer: &mut TakeSeat, answer: Result<Taken, TakeFault>)
+    pub(crate) fn note_take(&mut self, drainer: &mut StreamSeat, answer: Result<Taken, TakeFault>)
         requires { drainer.old.table ≡ self.old.table }
         ensures account { self.new ≡ journal_after drainer.old.who (take_step answer) self.old }
         ensures seat { drainer.new ≡ seat_after (take_step answer) drainer.old }
@@ -97,25 +110,36 @@ impl<A: Allocator> Account<A> {
         note_take(&mut self.journal, &mut drainer.noted, answer);
     }
 
-    /// The stream was cut, and this was answered.
-    pub(crate) fn note_cut(&mut self, moment: Moment, answer: Result<CutDone, CutFault>)
-        ensures { self.new ≡ journal_after desk_seat (cut_step moment answer) self.old }
+    /// The desk cut the stream, and this was answered.
+    pub(crate) fn note_cut(
+        &mut self,
+        desk: &mut StreamSeat,
+        moment: Moment,
+        answer: Result<CutDone, CutFault>,
+    )
+        requires { desk.old.table ≡ self.old.table }
+        ensures account { self.new ≡ journal_after desk.old.who (cut_step moment answer) self.old }
+        ensures seat { desk.new ≡ seat_after (cut_step moment answer) desk.old }
     {
-        note_cut(&mut self.journal, &mut self.desk, moment, answer);
+        note_cut(&mut self.journal, &mut desk.noted, moment, answer);
     }
 
-    /// The stream was cleared, and this was answered.
-    pub(crate) fn note_clear(&mut self, answer: Result<Cleared, ClearFault>)
-        ensures { self.new ≡ journal_after desk_seat (clear_step answer) self.old }
+    /// The desk cleared the stream, and this was answered.
+    pub(crate) fn note_clear(&mut self, desk: &mut StreamSeat, answer: Result<Cleared, ClearFault>)
+        requires { desk.old.table ≡ self.old.table }
+        ensures account { self.new ≡ journal_after desk.old.who (clear_step answer) self.old }
+        ensures seat { desk.new ≡ seat_after (clear_step answer) desk.old }
     {
-        note_clear(&mut self.journal, &mut self.desk, answer);
+        note_clear(&mut self.journal, &mut desk.noted, answer);
     }
 
-    /// The stream was let take offers, or made refuse them.
-    pub(crate) fn note_switch(&mut self, active: bool)
-        ensures { self.new ≡ journal_after desk_seat (switch_step active) self.old }
+    /// The desk let the stream take offers, or made it refuse them.
+    pub(crate) fn note_switch(&mut self, desk: &mut StreamSeat, active: bool)
+        requires { desk.old.table ≡ self.old.table }
+        ensures account { self.new ≡ journal_after desk.old.who (switch_step active) self.old }
+        ensures seat { desk.new ≡ seat_after (switch_step active) desk.old }
     {
-        note_switch(&mut self.journal, &mut self.desk, active);
+        note_switch(&mut self.journal, &mut desk.noted, active);
     }
 
     /// Changes nothing, and shows that what the producer noted is all that is noted in its seat's name.
@@ -127,12 +151,12 @@ impl<A: Allocator> Account<A> {
         self.journal.audit(producer);
     }
 
-    /// Changes nothing, and shows that what a drainer noted is all that is noted in its seat's name.
-    pub(crate) fn audit_takes(&mut self, drainer: &mut TakeSeat)
-        requires { drainer.old.table ≡ self.old.table }
-        ensures same { (self.new ≡ self.old) × (drainer.new ≡ drainer.old) }
-        ensures own { IsSeatOf self.old drainer.old }
+    /// The same of a drainer, or of the desk.
+    pub(crate) fn audit_of_stream(&mut self, seat: &mut StreamSeat)
+        requires { seat.old.table ≡ self.old.table }
+        ensures same { (self.new ≡ self.old) × (seat.new ≡ seat.old) }
+        ensures own { IsSeatOf self.old seat.old }
     {
-        self.journal.audit(&mut drainer.noted);
+        self.journal.audit(&mut seat.noted);
     }
 }

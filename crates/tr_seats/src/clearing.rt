@@ -2,7 +2,6 @@
 
 ghost use Rattle.std.specs.Prelude.{◌≡◌, ◌≢◌, ◌+◌, ◌<◌, Err, length};
 ghost use Rattle.tr_seats.specs.Clears.{desk_after_clear, desk_clear_answer, slot_after_clear};
-ghost use Rattle.tr_operations.specs.Operations.{IsClearedIfAllowed};
 ghost use Rattle.tr_seats.specs.Operators.{operator_after_clear};
 ghost use Rattle.tr_session.specs.Steps.{ClearsPackets};
 ghost use Rattle.tr_session_book.specs.BookSteps.{book_clear_answer};
@@ -56,29 +55,14 @@ impl<N: Names, A: Allocator + Copy> Desk<N, A> {
         ensures mode { result ≡ Err SessionFault.SnapshotMode → N.plan.session.book.mode ≡ SessionMode.Snapshot }
         ensures steps { operator.new ≡ operator_after_clear result i slot.old operator.old }
     {
-        let here = i == slot.number();
-        let answer = self.clear_unnoted(slot, i);
-        if here {
-            self.book.note_clear(operator, i, answer);
-        }
-        answer
-    }
-
-    /// The same, which nobody has done yet.
-    fn clear_unnoted(&mut self, slot: &mut Slot<N, A>, i: usize) -> Result<Cleared, SessionFault>
-        ensures value { result ≢ Err SessionFault.NoMemory →
-            (result ≡ desk_clear_answer i self.old slot.old) × (slot.new ≡ slot_after_clear i self.old slot.old) }
-        ensures seats { self.new ≡ desk_after_clear result i self.old }
-        ensures no_memory { result ≡ Err SessionFault.NoMemory → slot.new ≡ slot.old }
-        ensures memory { result ≡ Err SessionFault.NoMemory → ClearsPackets (desk_clear_answer i self.old slot.old) }
-        ensures mode { result ≡ Err SessionFault.SnapshotMode → N.plan.session.book.mode ≡ SessionMode.Snapshot }
-        ensures allowed { i ≡ slot.old.number → IsClearedIfAllowed result (book_clear_answer self.old.book) }
-    {
         if i != slot.number() {
             return Err(SessionFault::Misplaced);
         }
-        self.book().clear_allowed()?;
-        let done = match slot.clear(&mut self.cleared[i]) {
+        if let Err(fault) = self.book().clear_allowed() {
+            self.book.note_refused_clear(operator, i, fault);
+            return Err(fault);
+        }
+        let done = match self.book.clear(operator, slot, &mut self.cleared[i]) {
             Ok(done) => done,
             Err(fault) => return Err(clear_fault(fault)),
         };

@@ -1,17 +1,19 @@
 //! The book of a session, as its lock guards it.
 
-ghost use Rattle.std.specs.Prelude.{◌≡◌, ◌≢◌, [], Err, IsOk};
+ghost use Rattle.std.specs.Prelude.{◌≡◌, ◌≢◌, [], Err, IsOk, length};
 ghost use Rattle.tr_operations.specs.Operations.{IsOperatorOf};
 ghost use Rattle.tr_operations.specs.declared.step.DeskStep.TheVariants as step;
 ghost use Rattle.tr_seats.specs.Books.{IsPlan};
 ghost use Rattle.tr_seats.specs.Desks.{IsOfPlan, desk_after_begin, desk_begin_answer};
 ghost use Rattle.tr_seats.specs.Operators.{with_step};
+ghost use Rattle.tr_seats.specs.Settling.{AreInPlace, HasOperated, streams_of};
 ghost use Rattle.tr_session_book.specs.BookSteps.{book_after_start, book_after_stop, book_start_answer, book_stop_answer};
 
 use crate::drainer::DrainerBegun;
 use crate::names::Names;
 use crate::noted_book::NotedBook;
 use crate::operator::Operator;
+use crate::slot::Slot;
 use std::alloc::{Allocator, Global};
 use std::marker::{Model, PhantomData};
 use tr_ledger::Seat;
@@ -58,6 +60,15 @@ impl<N: Names, A: Allocator> Desk<N, A> {
         ensures own { IsOperatorOf N.plan.session.book operator.old self.old.book }
     {
         self.book.audit(operator);
+    }
+
+    /// The same, and that what all operators did to the streams in these slots is what those have.
+    pub(crate) fn audit_streams(&mut self, operator: &mut Operator<N>, slots: &mut [Slot<N, A>])
+        requires { (length slots.old ≡ length N.plan.books) × AreInPlace slots.old }
+        ensures same { (self.new ≡ self.old) × (operator.new ≡ operator.old) × (slots.new ≡ slots.old) }
+        ensures own { HasOperated N.plan.session.book operator.old self.old.book (streams_of slots.old) }
+    {
+        self.book.audit_streams(operator, slots);
     }
 
     /// Starts the session at a moment, as its book does: its streams are to be switched next.

@@ -5,7 +5,7 @@ ghost use Rattle.tr_seats.specs.Accounts.{IsTakenFrom};
 ghost use Rattle.tr_seats.specs.Drainers.{new_drainer, taken_at};
 ghost use Rattle.tr_seats.specs.Slots.{slot_after_split, slot_split_answer};
 
-use crate::account::TakeSeat;
+use crate::account::StreamSeat;
 use crate::both::both;
 use crate::names::Names;
 use crate::slot::Slot;
@@ -19,7 +19,7 @@ use tr_session_book::SessionFault;
 #[derive(Drop)]
 pub struct Drainer<N: Names, A: Allocator = Global> {
     pub(crate) seats: Vec<Seat, A>,
-    pub(crate) takes: Vec<TakeSeat, A>,
+    pub(crate) takes: Vec<StreamSeat, A>,
     pub(crate) of: PhantomData<N>,
 }
 
@@ -64,7 +64,7 @@ impl<N: Names, A: Allocator> Drainer<N, A> {
 #[derive(Drop)]
 pub struct DrainerBegun<N: Names, A: Allocator = Global> {
     seats: Vec<Seat, A>,
-    takes: Vec<TakeSeat, A>,
+    takes: Vec<StreamSeat, A>,
     of: PhantomData<N>,
 }
 

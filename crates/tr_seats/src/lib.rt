@@ -29,6 +29,8 @@
 //! - A step at the desk is noted with its answer, and is the last of its operator's list. The session's book is what all noted
 //!   steps lead to from the one that was planned, each answered as the book answers it there (`IsOperatorOf`). A stream is
 //!   switched to what the book is.
+//! - What is done to a stream at the desk is noted in the stream's journal too. So all that was done to it but offers and takes
+//!   is what the desk's steps did: its switches, its clears, and its cuts, each at the end of its rotation (`HasOperated`).
 //! - A cut is the session's rule on its desk and one slot: at the pending rotation's end, in order of stream. What it moves
 //!   goes to the desk's seats. Each stream has as many closed chunks as there are archives, and one more if the pending
 //!   rotation has cut it.

@@ -1,12 +1,15 @@
 //! Streams get the names of their plan, one after another.
 
-ghost use Rattle.std.specs.Prelude.{◌≡◌, ◌+◌, ◌≤◌, Some, IfOk, length, slice_get, vec_capacity, vec_len};
-ghost use Rattle.tr_seats.specs.Books.{IsPlan};
+ghost use Rattle.std.specs.Prelude.{◌≡◌, ◌+◌, ◌≤◌, [], Some, IfOk, length, slice_get, vec_capacity, vec_len};
+ghost use Rattle.tr_accounts.specs.Seats.{desk_seat};
+ghost use Rattle.tr_seats.specs.Accounts.{IsSeatAt};
+ghost use Rattle.tr_seats.specs.Books.{IsPlan, books_at};
 ghost use Rattle.tr_seats.specs.Plans.{AreUnused, opened_of};
 ghost use Rattle.tr_ledger.specs.Ledgers.{seat_state};
 ghost use Rattle.tr_seats.specs.Slots.{AreNew, new_producer, slot_state};
 ghost use Rattle.tr_tally.specs.Tallies.{teller_state};
 
+use crate::account::StreamSeat;
 use crate::desk::Desk;
 use crate::names::Names;
 use crate::noted_book::NotedBook;
@@ -16,7 +19,10 @@ use crate::producer::Producer;
 use crate::slot::Slot;
 use std::alloc::{AllocError, Allocator, Global};
 use std::marker::{Model, PhantomData};
+use tr_journal::Journal;
 use tr_ledger::Seat;
+use tr_operations::DeskStep;
+use tr_session_book::SessionBook;
 use tr_stream::Stream;
 
 /// The streams that have their names so far. Contracts see how many there are.
@@ -27,10 +33,12 @@ pub(crate) struct Named<N: Names, A: Allocator = Global> {
     consumed: Vec<Seat, A>,
     cuts: Vec<Seat, A>,
     cleared: Vec<Seat, A>,
+    operations: Vec<StreamSeat, A>,
 }
 
 impl<N: Names, A: Allocator> Model for Named<N, A> {
     ghost use Rattle.std.specs.Prelude.{ℕ, length};
+    ghost use Rattle.tr_seats.specs.Operators.{AreNewDeskSeats};
     ghost use Rattle.tr_seats.specs.Plans.{AreNamed};
 
     ghost Value = { ℕ };
@@ -38,7 +46,8 @@ impl<N: Names, A: Allocator> Model for Named<N, A> {
     ghost view = { λ n. length n.slots.items };
 
     ghost invariant = { λ n. AreNamed N.plan n.slots.items n.producers.items n.consumed.items n.cuts.items
-        n.cleared.items };
+        n.cleared.items
+        × AreNewDeskSeats (length n.slots.items) N.plan.books n.operations.items };
 }
 
 impl<N: Names, A: Allocator + Copy> Named<N, A> {
@@ -52,6 +61,7 @@ impl<N: Names, A: Allocator + Copy> Named<N, A> {
             consumed: Vec::new(alloc),
             cuts: Vec::new(alloc),
             cleared: Vec::new(alloc),
+            operations: Vec::new(alloc),
         }
     }
 
@@ -68,6 +78,7 @@ impl<N: Names, A: Allocator + Copy> Named<N, A> {
             mut consumed,
             mut cuts,
             mut cleared,
+            mut operations,
         } = self;
         let (slot, producer, seats) = named_as(slots.len(), planned);
         slots.push(slot)?;
@@ -75,12 +86,14 @@ impl<N: Names, A: Allocator + Copy> Named<N, A> {
         consumed.push(seats.consumed)?;
         cuts.push(seats.cuts)?;
         cleared.push(seats.cleared)?;
+        operations.push(seats.operations)?;
         Ok(Named {
             slots,
             producers,
             consumed,
             cuts,
             cleared,
+            operations,
         })
     }
 
@@ -88,12 +101,14 @@ impl<N: Names, A: Allocator + Copy> Named<N, A> {
     pub(crate) fn finish(
         self,
         alloc: A,
-        book: NotedBook<N, A>,
+        book: SessionBook<A>,
+        journal: Journal<DeskStep, A>,
         room: Vec<Stream<A>, A>,
     ) -> (Opened<N, A>, Vec<Producer<N, A>, A>)
         requires all { self ≡ length N.plan.books }
         requires plan { IsPlan N.plan × AreUnused N.plan.session.streams }
         requires book { book ≡ N.plan.session.book }
+        requires journal { (journal.table ≡ N.plan.desk) × (journal.lines ≡ []) }
         requires room { (vec_len room ≡ 0) × (length N.plan.books ≤ vec_capacity room) }
         ensures opened { result.0 ≡ opened_of N.plan }
         ensures producers { AreNew (length N.plan.books) result.1.items }
@@ -104,9 +119,10 @@ impl<N: Names, A: Allocator + Copy> Named<N, A> {
             consumed,
             cuts,
             cleared,
+            operations,
         } = self;
         let desk = Desk {
-            book,
+            book: NotedBook::new(book, journal, operations),
             drainers: 0,
             consumed,
             cuts,
@@ -117,12 +133,14 @@ impl<N: Names, A: Allocator + Copy> Named<N, A> {
     }
 }
 
-/// The whole seats of a stream that the desk keeps: of what it consumes, of its cuts, and of what is cleared.
+/// The seats of a stream that the desk keeps: the whole ones of what it consumes, of its cuts, and of what is cleared, and that
+/// of its operations.
 #[derive(Drop)]
 struct DeskSeats {
     consumed: Seat,
     cuts: Seat,
     cleared: Seat,
+    operations: StreamSeat,
 }
 
 /// A stream with this number in its slot, its producer, and the desk's seats of it.
@@ -138,6 +156,8 @@ fn named_as<N: Names, A: Allocator>(
     ensures consumed { result.2.consumed ≡ seat_state planned.books.consumed 0 1 }
     ensures cuts { result.2.cuts ≡ seat_state planned.books.cuts 0 1 }
     ensures cleared { result.2.cleared ≡ seat_state planned.books.cleared 0 1 }
+    ensures operations { IsSeatAt (books_at N.plan.books number).journal desk_seat result.2.operations
+        × (result.2.operations.own ≡ []) }
 {
     let PlannedStream {
         stream,
@@ -148,7 +168,7 @@ fn named_as<N: Names, A: Allocator>(
         consumed: (consumed, consumed_seat),
         cuts: (cuts, cut_seat),
         cleared: (cleared, cleared_seat),
-        account: (account, account_seat),
+        account: (account, account_seat, desk_seat),
         teller,
     } = planned;
     let producer = Producer {
@@ -178,6 +198,7 @@ fn named_as<N: Names, A: Allocator>(
         consumed: consumed_seat,
         cuts: cut_seat,
         cleared: cleared_seat,
+        operations: StreamSeat::of(number, desk_seat),
     };
     (slot, producer, seats)
 }

@@ -1,28 +1,46 @@
 //! A session's book, with the journal of what operators do to it.
 
-ghost use Rattle.std.specs.Prelude.{◌≡◌, ◌≢◌, ◌+◌, ◌<◌, ◌^◌, [], Ok, Err, IsOk, OnOk, length};
-ghost use Rattle.tr_operations.specs.Operations.{IsClearedIfAllowed, IsOperatorOf, IsStepOf};
+ghost use Rattle.std.specs.Prelude.{◌≡◌, ◌≢◌, ◌+◌, ◌<◌, ◌^◌, [], ℕ, Ok, Err, IsOk, length, slice_index_or};
+ghost use Rattle.tr_accounts.specs.Seats.{desk_seat};
+ghost use Rattle.tr_accounts.specs.declared.step.StreamStep.{StreamStep};
+ghost use Rattle.tr_journal.specs.Journals.{SeatState};
+ghost use Rattle.tr_operations.specs.Operations.{IsOperatorOf, IsStepOf};
 ghost use Rattle.tr_operations.specs.declared.step.DeskStep.TheVariants as step;
-ghost use Rattle.tr_seats.specs.Operators.{with_step};
-ghost use Rattle.tr_session_book.specs.BookSteps.{book_after_note_cut, book_after_rotate_begin, book_after_rotate_finish, book_after_schedule, book_after_snapshot_begin, book_after_start, book_after_stop, book_clear_answer, book_rotate_begin_answer, book_rotate_finish_answer, book_schedule_answer, book_snapshot_begin_answer, book_start_answer, book_stop_answer, cut_moment, is_active};
+ghost use Rattle.tr_seats.specs.Accounts.{IsOperatedBy, IsSeatAt};
+ghost use Rattle.tr_seats.specs.Books.{IsPlanned, books_at};
+ghost use Rattle.tr_seats.specs.Clears.{seat_after_clear};
+ghost use Rattle.tr_seats.specs.Cuts.{book_if_cut, seat_after_cut, seat_of_cuts_after};
+ghost use Rattle.tr_seats.specs.Operators.{AreNewDeskSeats, with_step};
+ghost use Rattle.tr_seats.specs.Settling.{AreInPlace, HasOperated, streams_of};
+ghost use Rattle.tr_seats.specs.Slots.{SlotState};
+ghost use Rattle.tr_seats.specs.Sums.{totals_in};
+ghost use Rattle.tr_session.specs.Steps.{clear_as_session, cut_as_step};
+ghost use Rattle.tr_session_book.specs.BookSteps.{book_after_rotate_begin, book_after_rotate_finish, book_after_schedule, book_after_snapshot_begin, book_after_start, book_after_stop, book_clear_answer, book_rotate_begin_answer, book_rotate_finish_answer, book_schedule_answer, book_snapshot_begin_answer, book_start_answer, book_stop_answer, cut_moment, is_active};
+ghost use Rattle.tr_stream.specs.StateSteps.{state_after_clear, state_after_cut, state_after_switch, state_clear_answer, state_cut_answer};
+ghost use Rattle.tr_stream.specs.Steps.{ClearsSome};
 
+use crate::account::StreamSeat;
 use crate::names::Names;
 use crate::operator::Operator;
+use crate::slot::Slot;
 use std::alloc::{Allocator, Global};
 use std::marker::{Model, PhantomData};
 use tr_journal::Journal;
+use tr_ledger::Seat;
 use tr_operations::{DeskStep, note};
 use tr_schedule::Schedule;
-use tr_session::StepFault;
+use tr_session::{StepFault, clear_fault};
 use tr_session_book::{Archive, SessionBook, SessionFault, State};
-use tr_stream::{Cleared, CutDone};
+use tr_stream::{ClearFault, Cleared, CutDone, CutFault};
 use tr_terms::{Moment, SessionMode};
 
-/// A session's book, and the journal of its operators' steps. Contracts see the book's value.
+/// A session's book, the journal of its operators' steps, and the desk's seats in the journals of the streams, in order of
+/// number: what is done to a stream is done here, so that both journals have it. Contracts see the book's value.
 #[derive(Drop)]
 pub(crate) struct NotedBook<N: Names, A: Allocator = Global> {
     book: SessionBook<A>,
     journal: Journal<DeskStep, A>,
+    streams: Vec<StreamSeat, A>,
     of: PhantomData<N>,
 }
 
@@ -34,19 +52,25 @@ impl<N: Names, A: Allocator> Model for NotedBook<N, A> {
 
     ghost view = { λ b. b.book };
 
-    ghost invariant = { λ b. IsDeskJournal N.plan.desk N.plan.session.book b.book b.journal };
+    ghost invariant = { λ b. IsDeskJournal N.plan b.book b.journal b.streams.items };
 }
 
 impl<N: Names, A: Allocator> NotedBook<N, A> {
     /// The book that was planned, with its journal, of which nothing was noted.
-    pub(crate) fn new(book: SessionBook<A>, journal: Journal<DeskStep, A>) -> NotedBook<N, A>
+    pub(crate) fn new(
+        book: SessionBook<A>,
+        journal: Journal<DeskStep, A>,
+        streams: Vec<StreamSeat, A>,
+    ) -> NotedBook<N, A>
         requires book { book ≡ N.plan.session.book }
         requires journal { (journal.table ≡ N.plan.desk) × (journal.lines ≡ []) }
+        requires streams { AreNewDeskSeats (length N.plan.books) N.plan.books streams.items }
         ensures { result ≡ book }
     {
         NotedBook {
             book,
             journal,
+            streams,
             of: PhantomData,
         }
     }
@@ -65,6 +89,7 @@ impl<N: Names, A: Allocator> NotedBook<N, A> {
         let NotedBook {
             book,
             journal: _,
+            streams: _,
             of: _,
         } = self;
         book
@@ -121,19 +146,22 @@ impl<N: Names, A: Allocator> NotedBook<N, A> {
         answer
     }
 
-    /// Notes that a stream was switched to what the session is.
-    pub(crate) fn note_switch(&mut self, operator: &mut Operator<N>, stream: usize) -> bool
-        ensures active { result ≡ is_active self.old.state }
+    /// Switches the stream in a slot to what the session is.
+    pub(crate) fn switch(&mut self, operator: &mut Operator<N>, slot: &mut Slot<N, A>)
+        ensures slot { slot.new
+            ≡ record slot.old { stream = state_after_switch (is_active self.old.state) slot.old.stream } }
         ensures same { self.new ≡ self.old }
-        ensures steps { operator.new ≡ with_step (step.Switch stream result) operator.old }
+        ensures steps { operator.new
+            ≡ with_step (step.Switch slot.old.number (is_active self.old.state)) operator.old }
     {
+        let stream = slot.number();
         let active = self.book.state() == State::Active;
+        slot.switch(&mut self.streams[stream], active);
         note(
             &mut self.journal,
             &mut operator.seat,
             DeskStep::Switch { stream, active },
         );
-        active
     }
 
     pub(crate) fn set_schedule(
@@ -196,22 +224,51 @@ impl<N: Names, A: Allocator> NotedBook<N, A> {
         answer
     }
 
-    /// Notes that a stream was cut, whose cut is due.
-    pub(crate) fn note_cut(&mut self, operator: &mut Operator<N>, stream: usize, done: CutDone)
-        requires { IsOk (cut_moment stream self.old) }
-        ensures after { self.new ≡ book_after_note_cut stream self.old }
-        ensures steps { operator.new ≡ with_step (step.Cut stream (Ok done)) operator.old }
+    /// Cuts the stream in a slot, whose cut is due, and raises the desk's seats of it, as the slot does.
+    ///
+    /// # Errors
+    ///
+    /// Those of `Slot::cut`: nothing changed, and the operator has the call with its answer.
+    pub(crate) fn cut(
+        &mut self,
+        operator: &mut Operator<N>,
+        slot: &mut Slot<N, A>,
+        consumed: &mut Seat,
+        cuts: &mut Seat,
+        moment: Moment,
+    ) -> Result<CutDone, CutFault>
+    where
+        A: Copy,
+        requires due { cut_moment slot.old.number self.old ≡ Ok moment }
+        requires consumed { consumed.old.table ≡ (books_at N.plan.books slot.old.number).consumed }
+        requires cuts { cuts.old.table ≡ (books_at N.plan.books slot.old.number).cuts }
+        requires room { (totals_in slot.old.stream).cuts + 1 < 2 ^ 64 }
+        ensures value { result ≢ Err CutFault.NoMemory → (result ≡ state_cut_answer moment slot.old.stream)
+            × (slot.new ≡ record slot.old { stream = state_after_cut moment slot.old.stream }) }
+        ensures consumed { consumed.new ≡ seat_after_cut result consumed.old }
+        ensures cuts { cuts.new ≡ seat_of_cuts_after result cuts.old }
+        ensures no_memory { result ≡ Err CutFault.NoMemory → slot.new ≡ slot.old }
+        ensures memory { result ≡ Err CutFault.NoMemory → IsOk (state_cut_answer moment slot.old.stream) }
+        ensures after { self.new ≡ book_if_cut result self.old }
+        ensures steps { operator.new ≡ with_step (step.Cut slot.old.number (cut_as_step result)) operator.old }
     {
-        // the cut is due, so this isn't refused
-        let _ = self.book.note_cut(stream as u64);
-        note(
-            &mut self.journal,
-            &mut operator.seat,
-            DeskStep::Cut {
-                stream,
-                answer: Ok(done),
-            },
-        );
+        let stream = slot.number();
+        match slot.cut(consumed, cuts, &mut self.streams[stream], moment) {
+            Ok(done) => {
+                // the cut is due, so this isn't refused
+                let _ = self.book.note_cut(stream as u64);
+                let answer = Ok(done);
+                let step = DeskStep::Cut { stream, answer };
+                note(&mut self.journal, &mut operator.seat, step);
+                Ok(done)
+            }
+            Err(fault) => {
+                let answer = Err(StepFault::Cut(fault));
+                let step = DeskStep::Cut { stream, answer };
+                note(&mut self.journal, &mut operator.seat, step);
+                Err(fault)
+            }
+        }
     }
 
     /// Notes that a cut was refused.
@@ -251,21 +308,85 @@ impl<N: Names, A: Allocator> NotedBook<N, A> {
         answer
     }
 
-    /// Notes that a stream was cleared, or why it wasn't.
-    pub(crate) fn note_clear(
+    /// Clears the stream in a slot, and raises the desk's seat of it, as the slot does, if the book allows it.
+    ///
+    /// # Errors
+    ///
+    /// Those of `Slot::clear`: nothing changed, and the operator has the call with its answer.
+    pub(crate) fn clear(
+        &mut self,
+        operator: &mut Operator<N>,
+        slot: &mut Slot<N, A>,
+        cleared: &mut Seat,
+    ) -> Result<Cleared, ClearFault>
+    where
+        A: Copy,
+        requires allowed { IsOk (book_clear_answer self.old) }
+        requires cleared { cleared.old.table ≡ (books_at N.plan.books slot.old.number).cleared }
+        ensures value { result ≢ Err ClearFault.NoMemory → (result ≡ state_clear_answer slot.old.stream)
+            × (slot.new ≡ record slot.old { stream = state_after_clear slot.old.stream }) }
+        ensures seat { cleared.new ≡ seat_after_clear result cleared.old }
+        ensures no_memory { result ≡ Err ClearFault.NoMemory → slot.new ≡ slot.old }
+        ensures memory { result ≡ Err ClearFault.NoMemory → ClearsSome (state_clear_answer slot.old.stream) }
+        ensures planned { IsPlanned N.plan slot.old.number slot.old.stream.config }
+        ensures same { self.new ≡ self.old }
+        ensures steps { operator.new ≡ with_step (step.Clear slot.old.number (clear_as_session result)) operator.old }
+    {
+        let stream = slot.number();
+        match slot.clear(cleared, &mut self.streams[stream]) {
+            Ok(done) => {
+                let answer = Ok(done);
+                let step = DeskStep::Clear { stream, answer };
+                note(&mut self.journal, &mut operator.seat, step);
+                Ok(done)
+            }
+            Err(fault) => {
+                let answer = Err(clear_fault(fault));
+                let step = DeskStep::Clear { stream, answer };
+                note(&mut self.journal, &mut operator.seat, step);
+                Err(fault)
+            }
+        }
+    }
+
+    /// Notes that the book refused to have a stream cleared.
+    pub(crate) fn note_refused_clear(
         &mut self,
         operator: &mut Operator<N>,
         stream: usize,
-        answer: Result<Cleared, SessionFault>,
+        fault: SessionFault,
     )
-        requires { IsClearedIfAllowed answer (book_clear_answer self.old) }
+        requires { book_clear_answer self.old ≡ Err fault }
         ensures same { self.new ≡ self.old }
-        ensures steps { operator.new ≡ with_step (step.Clear stream answer) operator.old }
+        ensures steps { operator.new ≡ with_step (step.Clear stream (Err fault)) operator.old }
     {
-        note(
-            &mut self.journal,
-            &mut operator.seat,
-            DeskStep::Clear { stream, answer },
-        );
+        let answer = Err(fault);
+        let step = DeskStep::Clear { stream, answer };
+        note(&mut self.journal, &mut operator.seat, step);
+    }
+
+    /// Changes nothing, and shows that what an operator did is what the book and the streams in these slots have.
+    pub(crate) fn audit_streams(&mut self, operator: &mut Operator<N>, slots: &mut [Slot<N, A>])
+        requires { (length slots.old ≡ length N.plan.books) × AreInPlace slots.old }
+        ensures same { (self.new ≡ self.old) × (operator.new ≡ operator.old) × (slots.new ≡ slots.old) }
+        ensures own { HasOperated N.plan.session.book operator.old self.old (streams_of slots.old) }
+    {
+        audit_operations(slots, self.streams.as_mut_slice());
+        self.journal.audit(&mut operator.seat);
+    }
+}
+
+/// Changes nothing, and shows that what the desk's seats noted of the streams' operations is what the streams have.
+fn audit_operations<N: Names, A: Allocator>(slots: &mut [Slot<N, A>], seats: &mut [StreamSeat])
+    requires slots { (length slots.old ≡ length N.plan.books) × AreInPlace slots.old }
+    requires many { length seats.old ≡ length N.plan.books }
+    requires seats { (i : ℕ) (d : SeatState StreamStep) → i < length N.plan.books
+        → IsSeatAt (books_at N.plan.books i).journal desk_seat (slice_index_or seats.old i d) }
+    ensures same { (slots.new ≡ slots.old) × (seats.new ≡ seats.old) }
+    ensures operated { (i : ℕ) (d : SeatState StreamStep) (s : SlotState) → i < length slots.old
+        → IsOperatedBy (slice_index_or seats.old i d).own (slice_index_or slots.old i s).stream }
+{
+    for i in 0..slots.len() {
+        slots[i].audit_operations(&mut seats[i]);
     }
 }

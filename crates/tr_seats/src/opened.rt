@@ -2,7 +2,7 @@
 
 ghost use Rattle.std.specs.Prelude.{◌≡◌, ◌+◌, ◌≤◌, IfErr, IfOk, length, sum_by, vec_capacity, vec_len};
 ghost use Rattle.tr_operations.specs.Operations.{IsOperatorOf};
-ghost use Rattle.tr_seats.specs.Settling.{AddUp, AreAccountsOf, ArePacketsOf, AreTheirs, CanSettle, HaveCleared, HaveConsumed, WereConsumed, IsSessionOf, IsWhy, opened_state, streams_of, totals_of_seats};
+ghost use Rattle.tr_seats.specs.Settling.{AddUp, AreAccountsOf, AreInPlace, ArePacketsOf, AreTheirs, CanSettle, HasOperated, HaveCleared, HaveConsumed, WereConsumed, IsSessionOf, IsWhy, opened_state, streams_of, totals_of_seats};
 ghost use Rattle.tr_seats.specs.Sums.{totals_of};
 ghost use Rattle.tr_session.specs.Session.{session_of};
 
@@ -12,7 +12,7 @@ use crate::names::Names;
 use crate::operator::Operator;
 use crate::producer::Producer;
 use crate::settled::Settled;
-use crate::settling::{SettleError, settle_all, why_not};
+use crate::settling::{SettleError, are_in_place, settle_all, why_not};
 use crate::slot::Slot;
 use crate::totals::Totals;
 use std::alloc::{Allocator, Global};
@@ -91,12 +91,18 @@ impl<N: Names, A: Allocator> Opened<N, A> {
         (alloc, desk, slots, room)
     }
 
-    /// Changes nothing, and shows that what an operator did is what the session's book has.
+    /// Changes nothing, and shows that what an operator did is what the session's book has; and, if each stream lies where its
+    /// number says, that what all operators did to the streams is what those have.
     pub fn audit_operator(&mut self, operator: &mut Operator<N>)
         ensures same { (self.new ≡ self.old) × (operator.new ≡ operator.old) }
         ensures own { IsOperatorOf N.plan.session.book operator.old self.old.desk.book }
+        ensures streams { AreInPlace self.old.slots
+            → HasOperated N.plan.session.book operator.old self.old.desk.book (streams_of self.old.slots) }
     {
         self.desk.audit_operator(operator);
+        if are_in_place(&self.slots) {
+            self.desk.audit_streams(operator, self.slots.as_mut_slice());
+        }
     }
 }
 

@@ -71,8 +71,7 @@ impl<N: Names, A: Allocator> Desk<N, A> {
         if i != slot.number() {
             return Err(SessionFault::Misplaced);
         }
-        let active = self.book.note_switch(operator, i);
-        slot.set_active(active);
+        self.book.switch(operator, slot);
         Ok(())
     }
 
@@ -256,16 +255,11 @@ impl<N: Names, A: Allocator + Copy> Desk<N, A> {
             → IsOk (state_cut_answer moment slot.old.stream) }
         ensures steps { operator.new ≡ with_step (step.Cut i result) operator.old }
     {
-        match slot.cut(&mut self.consumed[i], &mut self.cuts[i], moment) {
-            Ok(done) => {
-                self.book.note_cut(operator, i, done);
-                Ok(done)
-            }
-            Err(fault) => {
-                let fault = StepFault::Cut(fault);
-                self.book.note_refused_cut(operator, i, fault);
-                Err(fault)
-            }
-        }
+        let (consumed, cuts) = (&mut self.consumed[i], &mut self.cuts[i]);
+        let done = match self.book.cut(operator, slot, consumed, cuts, moment) {
+            Ok(done) => done,
+            Err(fault) => return Err(StepFault::Cut(fault)),
+        };
+        Ok(done)
     }
 }

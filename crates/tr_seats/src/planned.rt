@@ -9,7 +9,6 @@ use crate::account::Account;
 use crate::both::both;
 use crate::names::Names;
 use crate::naming::Named;
-use crate::noted_book::NotedBook;
 use crate::opened::Opened;
 use crate::producer::Producer;
 use std::alloc::{AllocError, Allocator, Global};
@@ -22,8 +21,8 @@ use tr_session_book::{SessionBook, SessionFault};
 use tr_stream::Stream;
 use tr_tally::{Tally, Teller, Watcher};
 
-/// A stream on which nothing was done, with its books and their whole seats, which nothing names yet, with its account and its
-/// producer's seat there, and with its teller.
+/// A stream on which nothing was done, with its books and their whole seats, which nothing names yet, with its account and the
+/// seats there of its producer and of the desk, and with its teller.
 /// Contracts see a `PlannedState`.
 #[derive(Drop)]
 pub(crate) struct PlannedStream<A: Allocator = Global> {
@@ -35,13 +34,17 @@ pub(crate) struct PlannedStream<A: Allocator = Global> {
     pub(crate) consumed: (Ledger<A>, Seat),
     pub(crate) cuts: (Ledger<A>, Seat),
     pub(crate) cleared: (Ledger<A>, Seat),
-    pub(crate) account: (Account<A>, tr_journal::Seat<StreamStep>),
+    pub(crate) account: (
+        Account<A>,
+        tr_journal::Seat<StreamStep>,
+        tr_journal::Seat<StreamStep>,
+    ),
     pub(crate) teller: Teller<A>,
 }
 
 impl<A: Allocator> Model for PlannedStream<A> {
     ghost use Rattle.std.specs.Prelude.{◌≡◌};
-    ghost use Rattle.tr_accounts.specs.Seats.{producer_seat};
+    ghost use Rattle.tr_accounts.specs.Seats.{desk_seat, producer_seat};
     ghost use Rattle.tr_journal.specs.Journals.{new_seat};
     ghost use Rattle.tr_seats.specs.Accounts.{IsNewAccount};
     ghost use Rattle.tr_seats.specs.Books.{books_of};
@@ -57,7 +60,8 @@ impl<A: Allocator> Model for PlannedStream<A> {
         × IsOpened p.discarded.0 p.discarded.1 × IsOpened p.overwritten.0 p.overwritten.1
         × IsOpened p.overwritten_packets.0 p.overwritten_packets.1 × IsOpened p.consumed.0 p.consumed.1
         × IsOpened p.cuts.0 p.cuts.1 × IsOpened p.cleared.0 p.cleared.1
-        × IsNewAccount p.account.0 × (p.account.1 ≡ new_seat p.account.0.table producer_seat) };
+        × IsNewAccount p.account.0 × (p.account.1 ≡ new_seat p.account.0.table producer_seat)
+        × (p.account.2 ≡ new_seat p.account.0.table desk_seat) };
 }
 
 /// Three books in which nothing is, with their whole seats.
@@ -185,7 +189,7 @@ impl<A: Allocator + Copy> Plan<A> {
         for planned in streams {
             named = named.with(planned)?;
         }
-        let (opened, producers) = named.finish(alloc, NotedBook::new(book, journal), room);
+        let (opened, producers) = named.finish(alloc, book, journal, room);
         Ok((opened, producers, watchers))
     }
 }

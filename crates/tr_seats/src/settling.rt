@@ -96,7 +96,7 @@ fn have_all_made<N: Names, A: Allocator>(slots: &[Slot<N, A>], made: u64) -> boo
 }
 
 /// Whether each stream is where its number says.
-fn are_in_place<N: Names, A: Allocator>(slots: &[Slot<N, A>]) -> bool
+pub(crate) fn are_in_place<N: Names, A: Allocator>(slots: &[Slot<N, A>]) -> bool
     ensures { IsTrue result ↔ AreInPlace slots.now }
 {
     for i in 0..slots.len() {

@@ -1,8 +1,10 @@
 //! A stream under a lock of its own.
 
 ghost use Rattle.std.specs.Prelude.{◌≡◌, ◌≢◌, ◌≤◌, ◌<◌, ◌+◌, ◌^◌, Ok, Err, IsOk, IfOk, OnErr, [], length};
-ghost use Rattle.tr_accounts.specs.StreamSteps.{taken_in};
-ghost use Rattle.tr_seats.specs.Accounts.{IsAccountOf, IsTakeSeat, IsTakenFrom};
+ghost use Rattle.tr_accounts.specs.StreamSteps.{switch_step, taken_in};
+ghost use Rattle.tr_accounts.specs.Seats.{desk_seat};
+ghost use Rattle.tr_journal.specs.Journals.{seat_after};
+ghost use Rattle.tr_seats.specs.Accounts.{IsAccountOf, IsOperatedBy, IsSeatAt, IsTakeSeat, IsTakenFrom, seat_noting_clear, seat_noting_cut};
 ghost use Rattle.tr_seats.specs.Clears.{seat_after_clear};
 ghost use Rattle.tr_seats.specs.Cuts.{seat_after_cut, seat_of_cuts_after};
 ghost use Rattle.tr_seats.specs.Drainers.{drainer_after};
@@ -10,13 +12,15 @@ ghost use Rattle.tr_seats.specs.Slots.{IsOwn, producer_after, slot_after_offer, 
 ghost use Rattle.tr_ledger.specs.Ledgers.{seat_state};
 ghost use Rattle.tr_seats.specs.Books.{IsPlanned, IsTooBig, books_at};
 ghost use Rattle.tr_seats.specs.Sums.{totals_in};
+ghost use Rattle.tr_session_book.specs.BookSteps.{is_active};
 ghost use Rattle.tr_terms.specs.declared.limits.TheConstants.{MOST_OFFERS};
 ghost use Rattle.tr_stream.specs.Consistent.{IsConsistent};
 ghost use Rattle.tr_stream.specs.Kept.{IsKept};
 ghost use Rattle.tr_stream.specs.Steps.{ClearsSome};
 ghost use Rattle.tr_stream.specs.StateSteps.{state_after_clear, state_after_cut, state_after_switch, state_clear_answer, state_counts, state_cut_answer, state_snap};
 
-use crate::account::{Account, TakeSeat};
+use crate::account::{Account, StreamSeat};
+use crate::desk::Desk;
 use crate::drainer::Drainer;
 use crate::names::Names;
 use crate::producer::Producer;
@@ -196,12 +200,27 @@ impl<N: Names, A: Allocator> Slot<N, A> {
         self.stream.counts()
     }
 
-    /// Lets the stream take offers, or makes it refuse them.
-    pub fn set_active(&mut self, active: bool)
-        ensures { self.new ≡ record self.old { stream = state_after_switch active self.old.stream } }
+    /// Lets the stream take offers if the session is active at its desk, or makes it refuse them, by an operator of its own.
+    pub fn set_active(&mut self, desk: &mut Desk<N, A>)
+        ensures value { self.new ≡ record self.old {
+          stream = state_after_switch (is_active desk.old.book.state) self.old.stream;
+        } }
+        ensures same { desk.new ≡ desk.old }
+    {
+        let mut operator = desk.operator();
+        let number = self.number;
+        // the stream is that of its own number, so this isn't refused
+        let _ = desk.switch_by(&mut operator, self, number);
+    }
+
+    /// Lets the stream take offers, or makes it refuse them, and notes it in the desk's name.
+    pub(crate) fn switch(&mut self, desk: &mut StreamSeat, active: bool)
+        requires { IsSeatAt (books_at N.plan.books self.old.number).journal desk_seat desk.old }
+        ensures value { self.new ≡ record self.old { stream = state_after_switch active self.old.stream } }
+        ensures seat { desk.new ≡ seat_after (switch_step active) desk.old }
     {
         self.stream.set_active(active);
-        self.account.note_switch(active);
+        self.account.note_switch(desk, active);
     }
 
     /// A new seat of the records consumed from this stream. It takes no memory.
@@ -223,7 +242,7 @@ impl<N: Names, A: Allocator> Slot<N, A> {
     }
 
     /// A new seat of the takes from this stream, of which nothing was noted. It takes no memory.
-    pub(crate) fn split_takes(&mut self) -> TakeSeat
+    pub(crate) fn split_takes(&mut self) -> StreamSeat
         ensures slot { self.new ≡ self.old }
         ensures seat { IsTakeSeat (books_at N.plan.books self.old.number).journal result }
         ensures new { result.own ≡ [] }
@@ -232,13 +251,22 @@ impl<N: Names, A: Allocator> Slot<N, A> {
     }
 
     /// Changes nothing, and shows that what a drainer's seat noted of its takes is what the stream has.
-    pub(crate) fn audit_takes(&mut self, seat: &mut TakeSeat)
+    pub(crate) fn audit_takes(&mut self, seat: &mut StreamSeat)
         requires { IsTakeSeat (books_at N.plan.books self.old.number).journal seat.old }
         ensures same { (self.new ≡ self.old) × (seat.new ≡ seat.old) }
         ensures taken { IsTakenFrom (taken_in seat.old.own) self.old.stream }
     {
         self.stream.shows_kept();
-        self.account.audit_takes(seat);
+        self.account.audit_of_stream(seat);
+    }
+
+    /// Changes nothing, and shows that what the desk's seat noted of the stream's operations is what the stream has.
+    pub(crate) fn audit_operations(&mut self, seat: &mut StreamSeat)
+        requires { IsSeatAt (books_at N.plan.books self.old.number).journal desk_seat seat.old }
+        ensures same { (self.new ≡ self.old) × (seat.new ≡ seat.old) }
+        ensures operated { IsOperatedBy seat.old.own self.old.stream }
+    {
+        self.account.audit_of_stream(seat);
     }
 
     /// Changes nothing, and shows that the numbers of the stream's producer are the stream's own, and that what it offered is
@@ -268,8 +296,8 @@ impl<N: Names, A: Allocator> Slot<N, A> {
         self.consumed.join(mine, other);
     }
 
-    /// Cuts the stream as it does itself, and raises the desk's seats of it: that of its records by those that the cut moved,
-    /// and that of its cuts by one.
+    /// Cuts the stream as it does itself, raises the desk's seats of it, that of its records by those that the cut moved and
+    /// that of its cuts by one, and notes the cut in the desk's name.
     ///
     /// # Errors
     ///
@@ -278,23 +306,26 @@ impl<N: Names, A: Allocator> Slot<N, A> {
         &mut self,
         consumed: &mut Seat,
         cuts: &mut Seat,
+        desk: &mut StreamSeat,
         moment: Moment,
     ) -> Result<CutDone, CutFault>
     where
         A: Copy,
         requires consumed { consumed.old.table ≡ (books_at N.plan.books self.old.number).consumed }
         requires cuts { cuts.old.table ≡ (books_at N.plan.books self.old.number).cuts }
+        requires desk { IsSeatAt (books_at N.plan.books self.old.number).journal desk_seat desk.old }
         requires room { (totals_in self.old.stream).cuts + 1 < 2 ^ 64 }
         ensures value { result ≢ Err CutFault.NoMemory → (result ≡ state_cut_answer moment self.old.stream)
             × (self.new ≡ record self.old { stream = state_after_cut moment self.old.stream }) }
         ensures consumed { consumed.new ≡ seat_after_cut result consumed.old }
         ensures cuts { cuts.new ≡ seat_of_cuts_after result cuts.old }
+        ensures desk { desk.new ≡ seat_noting_cut moment result desk.old }
         ensures no_memory { result ≡ Err CutFault.NoMemory → self.new ≡ self.old }
         ensures memory { result ≡ Err CutFault.NoMemory → IsOk (state_cut_answer moment self.old.stream) }
     {
         self.stream.shows_kept();
         let done = self.stream.cut(moment)?;
-        self.account.note_cut(moment, Ok(done));
+        self.account.note_cut(desk, moment, Ok(done));
         self.stream.shows_kept();
         self.consumed.raise(consumed, done.records);
         self.cuts.raise_by_one(cuts);
@@ -321,26 +352,32 @@ impl<N: Names, A: Allocator> Slot<N, A> {
         self.cuts.audit(mine);
     }
 
-    /// Clears the stream as it does itself, and raises the desk's seat of its cleared records by those that were removed. It
-    /// is the stream that the plan made for its number.
+    /// Clears the stream as it does itself, raises the desk's seat of its cleared records by those that were removed, and notes
+    /// the clear in the desk's name. It is the stream that the plan made for its number.
     ///
     /// # Errors
     ///
     /// Those of `Stream::clear`: nothing changed.
-    pub(crate) fn clear(&mut self, cleared: &mut Seat) -> Result<Cleared, ClearFault>
+    pub(crate) fn clear(
+        &mut self,
+        cleared: &mut Seat,
+        desk: &mut StreamSeat,
+    ) -> Result<Cleared, ClearFault>
     where
         A: Copy,
-        requires { cleared.old.table ≡ (books_at N.plan.books self.old.number).cleared }
+        requires cleared { cleared.old.table ≡ (books_at N.plan.books self.old.number).cleared }
+        requires desk { IsSeatAt (books_at N.plan.books self.old.number).journal desk_seat desk.old }
         ensures value { result ≢ Err ClearFault.NoMemory → (result ≡ state_clear_answer self.old.stream)
             × (self.new ≡ record self.old { stream = state_after_clear self.old.stream }) }
         ensures seat { cleared.new ≡ seat_after_clear result cleared.old }
+        ensures desk { desk.new ≡ seat_noting_clear result desk.old }
         ensures no_memory { result ≡ Err ClearFault.NoMemory → self.new ≡ self.old }
         ensures memory { result ≡ Err ClearFault.NoMemory → ClearsSome (state_clear_answer self.old.stream) }
         ensures planned { IsPlanned N.plan self.old.number self.old.stream.config }
     {
         self.stream.shows_kept();
         let done = self.stream.clear()?;
-        self.account.note_clear(Ok(done));
+        self.account.note_clear(desk, Ok(done));
         self.stream.shows_kept();
         self.cleared.raise(cleared, done.records);
         Ok(done)

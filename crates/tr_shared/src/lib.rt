@@ -27,7 +27,8 @@
 //! - What an operator did is what the desk has: a call in its name adds just its steps to its list, each at the moment that was
 //!   given and with its answer. A start or a stop that succeeds has switched every stream, a rotation has begun at its moment,
 //!   cut streams and ended with its archive, a clear has cleared every stream, and a snapshot shows the moment that was stored.
-//!   If the operator is lent to settling, the settled session's book is what its steps, among others', lead to (`settle_with`).
+//!   If the operator is lent to settling, the settled session's book is what its steps, among others', lead to, and all that was
+//!   done to each stream but offers and takes is what those steps did, each cut at the end of its rotation (`settle_with`).
 //! - An offer moves its producer's seats by what was answered, and a take the drainer's seat of that stream, whatever other
 //!   threads do meanwhile.
 //! - When an offer returns, its producer has published how many of its offers were accepted, also if this one was refused.

@@ -2,7 +2,7 @@
 
 ghost use Rattle.std.specs.Prelude.{◌≡◌, ◌≤◌, ◌↔◌, IfErr, IfOk, length, vec_capacity, vec_len};
 ghost use Rattle.tr_operations.specs.Operations.{IsOperatorOf};
-ghost use Rattle.tr_seats.specs.Settling.{AddUp, AreAccountsOf, ArePacketsOf, AreTheirs, IsOneEach, IsSessionOf, WereConsumed, streams_of};
+ghost use Rattle.tr_seats.specs.Settling.{AddUp, AreAccountsOf, AreInPlace, ArePacketsOf, AreTheirs, HasOperated, IsOneEach, IsSessionOf, WereConsumed, streams_of};
 ghost use Rattle.tr_seats.specs.Sums.{totals_of};
 ghost use Rattle.tr_session.specs.Session.{session_of};
 ghost use Rattle.tr_shared.specs.Calls.{AreOffersOf, HaveTaken};
@@ -48,7 +48,8 @@ impl<N: Names, A: Allocator + Copy> Shared<N, A> {
         settle_opened(opened, locks, producers, drainers)
     }
 
-    /// The same, which also shows that what an operator did is what the settled session's book has.
+    /// The same, which also shows that what an operator did is what the settled session has, and that all that was done to its
+    /// streams but offers and takes is what operators did, each at its moment.
     ///
     /// # Errors
     ///
@@ -61,6 +62,7 @@ impl<N: Names, A: Allocator + Copy> Shared<N, A> {
     ) -> Result<(Settled<A>, Totals), SettleFault<N, A>>
         ensures same { operator.new ≡ operator.old }
         ensures operator { IfOk result (λ r. IsOperatorOf N.plan.session.book operator.old r.0.book) }
+        ensures streams { IfOk result (λ r. HasOperated N.plan.session.book operator.old r.0.book r.0.streams) }
         ensures planned { IfOk result (λ r. IsSessionOf N.plan r.0) }
         ensures totals { IfOk result (λ r. r.1 ≡ totals_of r.0.streams) }
         ensures seats { IfOk result (λ r. AreOffersOf producers.items drainers.items r.1) }
@@ -93,6 +95,7 @@ fn settle_opened<N: Names, A: Allocator + Copy>(
     requires slots { length opened.slots ≡ length N.plan.books }
     requires locks { (vec_len locks ≡ 0) × (length N.plan.books ≤ vec_capacity locks) }
     ensures session { IfOk result (λ r. r.0 ≡ session_of opened.desk.book (streams_of opened.slots)) }
+    ensures in_place { IfOk result (λ r. AreInPlace opened.slots) }
     ensures planned { IfOk result (λ r. IsSessionOf N.plan r.0) }
     ensures totals { IfOk result (λ r. r.1 ≡ totals_of r.0.streams) }
     ensures seats { IfOk result (λ r. AreOffersOf producers.items drainers.items r.1) }

@@ -16,12 +16,18 @@ use tr_stream::{OfferFault, Offered, TakeFault, Taken};
 use tr_terms::{Mode, SessionMode};
 use tr_testing::moment;
 
-/// Lets the stream of number `i` take offers.
-fn activate<N: Names>(rt: &impl Abort, slots: &mut Vec<Slot<N>>, i: usize)
+/// Starts the desk, and lets the stream of number `i` take offers.
+fn activate<N: Names>(
+    rt: &impl Abort,
+    desk: &mut Desk<N>,
+    slots: &mut Vec<Slot<N>>,
+    i: usize,
+)
     ensures { length slots.new.items ≡ length slots.old.items }
 {
     assert!(rt; i < slots.len());
-    slots[i].set_active(true);
+    assert_started(rt, desk, 0, Ok(()));
+    slots[i].set_active(desk);
 }
 
 /// Asserts what an offer of `len` bytes to the slot at a place answers.
@@ -103,13 +109,13 @@ fn offers<N: Names>(rt: &impl Abort, plan: Plan, steps: &[Step])
     requires { plan ≡ N.plan }
 {
     let (opened, mut producers) = built::<N>(rt, plan);
-    let (_, desk, mut slots, _) = opened.into_parts();
+    let (_, mut desk, mut slots, _) = opened.into_parts();
     let mut producer = last(rt, &mut producers);
     assert_same(rt, producer.stream(), 0);
     assert_numbers(rt, &producer, (0, 0, 0, 0));
     let inactive = Err(OfferFault::Inactive);
     assert_offered(rt, &mut slots, 0, &mut producer, 1, 50, inactive);
-    activate(rt, &mut slots, 0);
+    activate(rt, &mut desk, &mut slots, 0);
     let mut at = 1;
     'steps: for (len, answer, numbers) in steps {
         assert_offered(rt, &mut slots, 0, &mut producer, at, *len, *answer);
@@ -201,7 +207,7 @@ fn takes<N: Names>(rt: &impl Abort, alloc: Global, plan: Plan)
     let mut second = last(rt, &mut producers);
     let mut drainer = drainer_of(rt, alloc, &mut desk, &mut slots);
     assert_same(rt, desk.drainers(), 1);
-    activate(rt, &mut slots, 1);
+    activate(rt, &mut desk, &mut slots, 1);
     assert_offered(rt, &mut slots, 1, &mut second, 1, 64, stored(0, 0));
     assert_offered(rt, &mut slots, 1, &mut second, 1, 64, stored(1, 0));
     assert_offered(rt, &mut slots, 1, &mut second, 1, 64, stored(2, 1));

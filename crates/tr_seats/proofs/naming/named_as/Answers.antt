@@ -1,9 +1,12 @@
-use Rattle.std.proofs.Common.{◌≡◌, ◌∙◌, Some, ap, arith, sym}
+use Rattle.std.proofs.Common.{◌≡◌, ◌∙◌, Some, ap, arith, subst, sym}
 use Rattle.std.proofs.lemmas.Option.{get_or_from_slice_get, slice_get_within}
-use Rattle.tr_accounts.specs.Seats.{producer_seat}
+use Rattle.tr_accounts.specs.Seats.{desk_seat, producer_seat}
+use Rattle.tr_accounts.specs.declared.step.StreamStep.{StreamStep}
+use Rattle.tr_journal.specs.Journals.{SeatState}
 use Rattle.tr_seats.proofs.AccountLemmas.{kept-new, seat-new}
 use Rattle.tr_seats.proofs.NameLemmas.{books-opened, planned-there, seats-opened}
 use Rattle.tr_seats.proofs.naming.named_as.Goals as goal
+use Rattle.tr_seats.specs.Accounts.{IsSeatAt}
 use Rattle.tr_seats.specs.Books.{Books, books_at, no_books}
 use Rattle.tr_seats.specs.Plans.{PlannedState}
 use Rattle.tr_tally.specs.Tallies.{TellerState}
@@ -47,4 +50,17 @@ invariant_of-producer g c =
       },
       seat-new (books_at plan.books c.args.number).journal producer_seat in_it.account.0 in_it.account.1
           (ap (λ (b : Books). b.journal) books) is.9,
+    )
+
+pub returns-clause-operations : goal.returns-clause-operations
+returns-clause-operations g c =
+    let plan = g.N.Names.plan in
+    let in_it = c.planned.inside in
+    let here : books_at plan.books c.args.number ≡ c.args.planned.books =
+    get_or_from_slice_get plan.books c.args.number c.args.planned.books no_books c.requires.books in
+    let books = ap (λ (p : PlannedState). p.books) c.planned.view_is ∙ sym here in
+    let seat = c.planned.invariant.10 in (
+      subst (IsSeatAt (books_at plan.books c.args.number).journal desk_seat) (sym c.of.ensures)
+          (seat-new (books_at plan.books c.args.number).journal desk_seat in_it.account.0 in_it.account.2 (ap (λ (b : Books). b.journal) books) seat),
+      ap (λ (s : SeatState StreamStep). s.own) (c.of.ensures ∙ seat),
     )

@@ -1,9 +1,9 @@
-use Rattle.std.proofs.Common.{◌≡◌, ℕ, ◌+◌, ◌<◌, ◌++◌, List, ap, arith, drop, get_or, length, subst, sym, take, ◌∙◌}
+use Rattle.std.proofs.Common.{◌≡◌, ℕ, ◌+◌, ◌<◌, List, ap, arith, get_or, length, subst, sym, ◌∙◌}
 use Rattle.std.proofs.lemmas.Grind.{common_steps}
-use Rattle.std.proofs.lemmas.List.{length-map, take_at}
+use Rattle.std.proofs.lemmas.List.{length-map}
 use Rattle.tr_ledger.specs.Ledgers.{SeatState}
 use Rattle.tr_seats.proofs.AllTotals.{AreWithin, have-cleared, have-consumed, their-accounts, their-packets, theirs}
-use Rattle.tr_seats.proofs.Joins.{tables-length}
+use Rattle.tr_seats.proofs.Joins.{tables-length, written-back}
 use Rattle.tr_seats.proofs.PlannedLemmas.{planned-mode}
 use Rattle.tr_seats.proofs.SettledLemmas.{settled-planned, settled-streams}
 use Rattle.tr_seats.proofs.settling.settle_all.Goals as goal
@@ -18,11 +18,6 @@ use Rattle.tr_session.specs.Session.{HasItsStreams, session_of}
 use Rattle.tr_session_book.specs.Book.{SessionBookState}
 use Rattle.tr_stream.specs.State.{StreamState}
 use Rattle.tr_terms.specs.declared.session_mode.SessionMode.TheVariants.{Snapshot}
-
--- what is written back over a list
-written-back : {X : Type 0} → (xs ys : List X) (n : ℕ) → ys ≡ xs → n ≡ length xs → take n (ys ++ drop (length ys) xs) ≡ xs
-written-back {X = X} xs ys n same long =
-    ap (λ (l : List X). take n (l ++ drop (length l) xs)) same ∙ take_at xs (drop (length xs) xs) n (sym long)
 
 abbrev ArePlanned : PlanState → List SlotState → Type 0
 ArePlanned plan slots = (k : ℕ) (s : SlotState) → k < length slots → IsPlanned plan k (get_or slots k s).stream.config

@@ -2,7 +2,7 @@ use Rattle.std.proofs.Common.{◌≡◌, ◌∙◌, ◌+◌, ◌<◌, ℕ, Ok, a
 use Rattle.std.proofs.lemmas.Grind.{common_steps}
 use Rattle.std.proofs.lemmas.List.{length-map}
 use Rattle.std.specs.Prelude.{slice_index, slice_set}
-use Rattle.tr_seats.proofs.DeskLemmas.{desk-cut, noted}
+use Rattle.tr_seats.proofs.DeskLemmas.{desk-cut}
 use Rattle.tr_seats.proofs.Rows.{amounts-raised, consumed-at, cuts-at, table-there}
 use Rattle.tr_seats.proofs.desk.Desk.cut_at.Goals as goal
 use Rattle.tr_seats.specs.Books.{Books, books_at, consumed_books, cut_books, no_books, no_table}
@@ -28,30 +28,27 @@ cut-requires-clause-cuts g c =
     wide c.index_mut-2.ensures.value no_table
     ∙ cuts-at books c.args.i no_books lt ∙ ap (λ (n : ℕ). (books_at books n).cuts) c.requires.here.0
 
-pub invariant_of-self : goal.invariant_of-self
-invariant_of-self g c =
+pub invariant_of-self-2 : goal.invariant_of-self-2
+invariant_of-self-2 g c =
     let plan = g.N.Names.plan in
     let old = c.self.inside in
     let i = c.args.i in
     let due : cut_moment i old.book ≡ Ok c.args.moment =
     subst (λ (d : DeskState). cut_moment i d.book ≡ Ok c.args.moment) (sym c.self.view_is) c.requires.due in
-    let book = noted i c.args.moment old.book due in
     let consumed = slice_set old.consumed.items i c.cut.new.consumed in
     let cuts = slice_set old.cuts.items i c.cut.new.cuts in
-    subst (λ b. IsDesk plan b consumed cuts old.cleared.items) (sym (c.note_cut.ensures.after ∙ book))
+    subst (λ b. IsDesk plan b consumed cuts old.cleared.items) (sym c.in-Ok.ensures.after)
     (desk-cut plan old.book old.consumed.items old.cuts.items old.cleared.items i c.args.moment c.index_mut.result.now c.index_mut-2.result.now
     c.self.invariant due c.requires.here.1 c.index_mut.ensures.value c.index_mut-2.ensures.value c.in-Ok.done.records
     c.cut.new.consumed c.cut.new.cuts c.in-Ok.ensures.consumed c.in-Ok.ensures.cuts)
 
-pub returns-in-Ok-clause-seats : goal.returns-in-Ok-clause-seats
-returns-in-Ok-clause-seats g c =
+pub returns-clause-seats : goal.returns-clause-seats
+returns-clause-seats g c =
     let books = g.N.Names.plan.books in
     let old = c.self.inside in
     let i = c.args.i in
     let lt = c.requires.here.1 in
-    let due : cut_moment i old.book ≡ Ok c.args.moment =
-    subst (λ (d : DeskState). cut_moment i d.book ≡ Ok c.args.moment) (sym c.self.view_is) c.requires.due in
-    let book = c.note_cut.ensures.after ∙ noted i c.args.moment old.book due in
+    let book = c.in-Ok.ensures.after in
     let consumed = amounts-raised (consumed_books books) old.consumed.items i c.index_mut.result.now c.self.invariant.consumed_are
     (omega (arith, lt, length-map books (λ (b : Books). b.consumed))) c.index_mut.ensures.value c.cut.new.consumed
     c.in-Ok.done.records c.in-Ok.ensures.consumed in
@@ -71,8 +68,8 @@ index_mut-requires g c = grind (arith, common_steps)
 pub index_mut-requires-2 : goal.index_mut-requires-2
 index_mut-requires-2 g c = grind (arith, common_steps)
 
-pub invariant_of-self-in-Err : goal.invariant_of-self-in-Err
-invariant_of-self-in-Err g c = grind (arith, common_steps)
+pub invariant_of-self : goal.invariant_of-self
+invariant_of-self g c = grind (arith, common_steps)
 
 pub returns-in-Err-clause-seats : goal.returns-in-Err-clause-seats
 returns-in-Err-clause-seats g c = grind (arith, common_steps)

@@ -7,5 +7,5 @@ pub invariant_of-self : goal.invariant_of-self
 invariant_of-self g c =
     let plan = g.N.Names.plan in
     let old = c.self.inside in
-    journal-noted plan.desk plan.session.book old.book old.book old.journal c.note.new.journal c.operator.inside.seat.who
-    (step.Cut c.args.stream (Err c.args.fault)) c.self.invariant c.note.ensures.journal (search rules)
+    journal-noted plan old.book old.book old.journal c.note.new.journal c.operator.inside.seat.who
+    (step.Cut c.args.stream (Err c.args.fault)) old.streams.items c.self.invariant c.note.ensures.journal (search rules) (λ i. refl)

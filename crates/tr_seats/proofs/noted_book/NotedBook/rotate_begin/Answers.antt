@@ -7,5 +7,5 @@ pub invariant_of-self : goal.invariant_of-self
 invariant_of-self g c =
     let plan = g.N.Names.plan in
     let old = c.self.inside in
-    journal-noted plan.desk plan.session.book old.book c.rotate_begin-answer.new.self old.journal c.note.new.journal c.operator.inside.seat.who
-    (step.RotateBegin c.args.moment c.rotate_begin-answer.result) c.self.invariant c.note.ensures.journal (c.rotate_begin-answer.ensures.value, λ failed. (c.rotate_begin-answer.ensures.memory failed, c.rotate_begin-answer.ensures.no_memory failed))
+    journal-noted plan old.book c.rotate_begin-answer.new.self old.journal c.note.new.journal c.operator.inside.seat.who
+    (step.RotateBegin c.args.moment c.rotate_begin-answer.result) old.streams.items c.self.invariant c.note.ensures.journal (c.rotate_begin-answer.ensures.value, λ failed. (c.rotate_begin-answer.ensures.memory failed, c.rotate_begin-answer.ensures.no_memory failed)) (λ i. refl)

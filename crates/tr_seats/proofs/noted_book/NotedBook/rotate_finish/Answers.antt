@@ -7,5 +7,5 @@ pub invariant_of-self : goal.invariant_of-self
 invariant_of-self g c =
     let plan = g.N.Names.plan in
     let old = c.self.inside in
-    journal-noted plan.desk plan.session.book old.book c.rotate_finish-answer.new.self old.journal c.note.new.journal c.operator.inside.seat.who
-    (step.RotateFinish c.rotate_finish-answer.result) c.self.invariant c.note.ensures.journal (c.rotate_finish-answer.ensures.answer, c.rotate_finish-answer.ensures.after)
+    journal-noted plan old.book c.rotate_finish-answer.new.self old.journal c.note.new.journal c.operator.inside.seat.who
+    (step.RotateFinish c.rotate_finish-answer.result) old.streams.items c.self.invariant c.note.ensures.journal (c.rotate_finish-answer.ensures.answer, c.rotate_finish-answer.ensures.after) (λ i. refl)

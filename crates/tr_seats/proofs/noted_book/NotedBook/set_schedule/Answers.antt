@@ -7,5 +7,5 @@ pub invariant_of-self : goal.invariant_of-self
 invariant_of-self g c =
     let plan = g.N.Names.plan in
     let old = c.self.inside in
-    journal-noted plan.desk plan.session.book old.book c.set_schedule-answer.new.self old.journal c.note.new.journal c.operator.inside.seat.who
-    (step.SetSchedule c.args.schedule c.set_schedule-answer.result) c.self.invariant c.note.ensures.journal (c.set_schedule-answer.ensures.answer, c.set_schedule-answer.ensures.after)
+    journal-noted plan old.book c.set_schedule-answer.new.self old.journal c.note.new.journal c.operator.inside.seat.who
+    (step.SetSchedule c.args.schedule c.set_schedule-answer.result) old.streams.items c.self.invariant c.note.ensures.journal (c.set_schedule-answer.ensures.answer, c.set_schedule-answer.ensures.after) (λ i. refl)

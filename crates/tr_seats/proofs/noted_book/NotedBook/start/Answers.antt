@@ -7,5 +7,5 @@ pub invariant_of-self : goal.invariant_of-self
 invariant_of-self g c =
     let plan = g.N.Names.plan in
     let old = c.self.inside in
-    journal-noted plan.desk plan.session.book old.book c.start-answer.new.self old.journal c.note.new.journal c.operator.inside.seat.who
-    (step.Start c.args.moment c.start-answer.result) c.self.invariant c.note.ensures.journal (c.start-answer.ensures.answer, c.start-answer.ensures.after)
+    journal-noted plan old.book c.start-answer.new.self old.journal c.note.new.journal c.operator.inside.seat.who
+    (step.Start c.args.moment c.start-answer.result) old.streams.items c.self.invariant c.note.ensures.journal (c.start-answer.ensures.answer, c.start-answer.ensures.after) (λ i. refl)

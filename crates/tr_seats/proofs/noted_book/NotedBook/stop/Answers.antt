@@ -7,5 +7,5 @@ pub invariant_of-self : goal.invariant_of-self
 invariant_of-self g c =
     let plan = g.N.Names.plan in
     let old = c.self.inside in
-    journal-noted plan.desk plan.session.book old.book c.stop-answer.new.self old.journal c.note.new.journal c.operator.inside.seat.who
-    (step.Stop c.stop-answer.result) c.self.invariant c.note.ensures.journal (c.stop-answer.ensures.answer, c.stop-answer.ensures.after)
+    journal-noted plan old.book c.stop-answer.new.self old.journal c.note.new.journal c.operator.inside.seat.who
+    (step.Stop c.stop-answer.result) old.streams.items c.self.invariant c.note.ensures.journal (c.stop-answer.ensures.answer, c.stop-answer.ensures.after) (λ i. refl)

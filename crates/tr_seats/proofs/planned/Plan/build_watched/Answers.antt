@@ -82,10 +82,9 @@ finish-opened-requires-clause-book g c =
     let is = ap (λ (p : PlanState). p.session.book) (c.self.view_is ∙ c.requires) in
     search (rules, is)
 
-pub new-requires-clause-book : goal.new-requires-clause-book
-new-requires-clause-book g c =
-    let is = ap (λ (p : PlanState). p.session.book) (c.self.view_is ∙ c.requires) in
-    search (rules, is)
+pub finish-opened-requires-clause-journal : goal.finish-opened-requires-clause-journal
+finish-opened-requires-clause-journal g c =
+    (ap (λ (p : PlanState). p.desk) (c.self.view_is ∙ c.requires), c.self.invariant.4)
 
 pub finish-opened-requires-clause-room : goal.finish-opened-requires-clause-room
 finish-opened-requires-clause-room g c =

@@ -12,4 +12,4 @@ returns-clause-taken g c =
     let seat = c.args.seat.now in
     subst (λ (x : SlotState). IsTakenFrom (taken_in seat.own) x.stream) c.self.view_is
     (taken-from (books_at g.N.Names.plan.books old.number).journal old.stream old.account seat c.self.invariant.3
-    c.shows_kept.ensures.kept c.audit_takes.ensures.own)
+    c.shows_kept.ensures.kept c.audit_of_stream.ensures.own)

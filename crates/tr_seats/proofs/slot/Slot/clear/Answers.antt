@@ -46,5 +46,5 @@ invariant_of-self-2 g c =
           c.raise.new.self done.records (ap totals_in after ∙ clear-totals old.stream done answer) c.raise.ensures.ledger,
       planned,
       kept-clear (books_at g.N.Names.plan.books old.number).journal old.stream old.account c.note_clear.new.self c.self.invariant.3
-          c.clear.new.self (Ok done) answer after c.note_clear.ensures,
+          c.clear.new.self c.args.desk.now.who (Ok done) c.requires.desk.1 answer after c.note_clear.ensures.account,
     )

@@ -49,7 +49,7 @@ invariant_of-self-2 g c =
           c.raise_by_one.ensures.ledger,
       planned,
       kept-cut (books_at g.N.Names.plan.books old.number).journal old.stream old.account c.note_cut.new.self c.self.invariant.3
-          c.cut.new.self c.args.moment (Ok done) answer after c.note_cut.ensures,
+          c.cut.new.self c.args.desk.now.who c.args.moment (Ok done) c.requires.desk.1 answer after c.note_cut.ensures.account,
     )
 
 pub returns-in_err-done-clause-consumed : goal.returns-in_err-done-clause-consumed

@@ -1,0 +1,42 @@
+use Rattle.std.proofs.Common.{ℕ, ◌<◌, ◌∙◌, List, get_or, length, subst, sym}
+use Rattle.tr_accounts.specs.Seats.{desk_seat}
+use Rattle.tr_accounts.specs.declared.step.StreamStep.{StreamStep}
+use Rattle.tr_journal.specs.Journals.{JournalState, SeatState}
+use Rattle.tr_operations.specs.declared.step.DeskStep.{DeskStep}
+use Rattle.tr_seats.proofs.Joins.{written-back}
+use Rattle.tr_seats.proofs.OperatorLemmas.{operated-all}
+use Rattle.tr_seats.proofs.noted_book.NotedBook.audit_streams.Goals as goal
+use Rattle.tr_seats.specs.Accounts.{IsOperatedBy, IsSeatAt}
+use Rattle.tr_seats.specs.Books.{books_at}
+use Rattle.tr_seats.specs.Operators.{IsDeskJournal}
+use Rattle.tr_seats.specs.Settling.{HasOperated, streams_of}
+use Rattle.tr_seats.specs.Slots.{SlotState}
+use Rattle.tr_session_book.specs.Book.{SessionBookState}
+
+pub audit_operations-requires-clause-seats : goal.audit_operations-requires-clause-seats
+audit_operations-requires-clause-seats g c =
+    let books = g.N.Names.plan.books in
+    subst (λ (seats : List (SeatState StreamStep)). (i : ℕ) (d : SeatState StreamStep) → i < length books
+    → IsSeatAt (books_at books i).journal desk_seat (get_or seats i d)) (sym c.as_mut_slice.ensures.value)
+    (λ i d lt. (c.self.invariant.each i d lt).seat_is)
+
+pub invariant_of-self : goal.invariant_of-self
+invariant_of-self g c =
+    let old = c.self.inside in
+    let seats = old.streams in
+    let back = written-back seats.items c.audit_operations.new.seats seats.len (c.audit_operations.ensures.same.1 ∙ c.as_mut_slice.ensures.value)
+    seats.ok.0 in
+    subst (λ (x : JournalState DeskStep × List (SeatState StreamStep)). IsDeskJournal g.N.Names.plan old.book x.0 x.1)
+    (λ j. (sym c.audit.ensures.same.0 j, sym back j)) c.self.invariant
+
+pub returns-clause-own : goal.returns-clause-own
+returns-clause-own g c =
+    let old = c.self.inside in
+    let slots = c.args.slots.now in
+    let plan = g.N.Names.plan in
+    subst (λ (x : List DeskStep × SessionBookState). HasOperated plan.session.book x.0 x.1 (streams_of slots))
+    (λ j. (c.operator.view_is j, c.self.view_is j))
+    (operated-all plan old.book old.journal c.operator.inside.seat old.streams.items slots c.self.invariant c.audit.ensures.own
+    c.requires.0
+    (subst (λ (seats : List (SeatState StreamStep)). (i : ℕ) (d : SeatState StreamStep) (s : SlotState) → i < length slots
+    → IsOperatedBy (get_or seats i d).own (get_or slots i s).stream) c.as_mut_slice.ensures.value c.audit_operations.ensures.operated))
