@@ -1,198 +1,15 @@
 //! Surveys of folders in memory: a worked example, and what can be wrong.
 
 mod failing;
+mod room;
 
 use crate::asserting::assert_same;
+use room::{Room, STAMPS, Thing, furnished, packets, text, uuid};
 use std::alloc::Global;
 use std::process::Abort;
-use tr_folders::MemoryFolders;
-use tr_packet::{Head, Packet, encode_packet, metadata_text};
-use tr_record::{MemorySink, Rec};
+use tr_packet::metadata_text;
+use tr_record::MemorySink;
 use tr_survey::{Surveyed, survey};
-use tr_terms::Moment;
-use uuid::Uuid;
-
-/// The name of an archive, up to its number.
-const STAMPS: &str = "19700101T000000+0000-19700101T000000+0000-";
-
-fn uuid(last: u8) -> Uuid {
-    Uuid::from_bytes([0, 0, 0, 0, 0, 0, 0, 0, 0, 0, 0, 0, 0, 0, 0, last])
-}
-
-fn text(rt: &impl Abort, alloc: Global, parts: &[&str]) -> String {
-    let mut text = String::new(alloc);
-    for part in parts {
-        text.push_str(part).expect(rt, "memory");
-    }
-    text
-}
-
-/// A packet of a stream: its number, how many records were discarded by its end, the moment of all that is in it, and the serials
-/// of its records.
-type Row = (u64, u64, u64, &'static [u64]);
-
-/// The bytes of packets of the trace 1.
-fn packets(rt: &impl Abort, alloc: Global, stream: u64, rows: &[Row]) -> Vec<u8> {
-    let mut bytes = Vec::new(alloc);
-    for (seq, lost, moment, serials) in rows {
-        let moment = Moment::new(*moment).expect(rt, "a moment");
-        let mut records = Vec::new(alloc);
-        for serial in serials.iter() {
-            let record = Rec::copy_of(alloc, *serial, moment, 7, &[0x61; 50]);
-            records
-                .push(record.expect(rt, "memory"))
-                .expect(rt, "memory");
-        }
-        let head = Head {
-            uuid: uuid(1),
-            stream,
-            begin: moment,
-            end: moment,
-            seq: *seq,
-            lost: *lost,
-        };
-        let packet = Packet::checked(head, records).expect(rt, "a packet");
-        let packet = encode_packet(alloc, &packet).expect(rt, "memory");
-        for byte in &packet {
-            bytes.push(*byte).expect(rt, "memory");
-        }
-    }
-    bytes
-}
-
-/// Folders below `d` with the names in them, and files.
-#[derive(Drop)]
-struct Room<'a, R: Abort> {
-    rt: &'a R,
-    alloc: Global,
-    folders: Vec<(String, Vec<String>)>,
-    files: Vec<(String, Vec<u8>)>,
-    hidden: Vec<String>,
-}
-
-impl<'a, R: Abort> Room<'a, R> {
-    fn new(rt: &'a R, alloc: Global) -> Self {
-        Room {
-            rt,
-            alloc,
-            folders: Vec::new(alloc),
-            files: Vec::new(alloc),
-            hidden: Vec::new(alloc),
-        }
-    }
-
-    fn add_folder(&mut self, path: String, names: Vec<String>) {
-        self.folders.push((path, names)).expect(self.rt, "memory");
-    }
-
-    fn add_file(&mut self, path: String, bytes: Vec<u8>) {
-        self.files.push((path, bytes)).expect(self.rt, "memory");
-    }
-
-    fn kept(self, piece: usize) -> MemoryFolders {
-        MemoryFolders::with_hidden(self.alloc, self.folders, self.files, self.hidden, piece)
-    }
-
-    /// What stands at this path can't be read, or not to its end.
-    fn hide(&mut self, path: &[&str]) {
-        let path = text(self.rt, self.alloc, path);
-        self.hidden.push(path).expect(self.rt, "memory");
-    }
-
-    fn folder(&mut self, path: &[&str], names: &[&str]) {
-        let path = text(self.rt, self.alloc, path);
-        let mut found = Vec::new(self.alloc);
-        for name in names {
-            let name = text(self.rt, self.alloc, &[name]);
-            found.push(name).expect(self.rt, "memory");
-        }
-        self.add_folder(path, found);
-    }
-
-    fn archive(&mut self, number: &str, files: &[&str]) {
-        self.folder(&["d/s/archives/", STAMPS, number], files);
-    }
-
-    fn file(&mut self, archive: &str, name: &str, bytes: Vec<u8>) {
-        let path = text(
-            self.rt,
-            self.alloc,
-            &["d/s/archives/", STAMPS, archive, "/", name],
-        );
-        self.add_file(path, bytes);
-    }
-
-    fn metadata(&mut self, archive: &str, uuid: Uuid) {
-        let text = metadata_text(self.alloc, &uuid).expect(self.rt, "memory");
-        self.file(archive, "metadata", text.into_bytes());
-    }
-
-    fn packets(&mut self, archive: &str, name: &str, stream: u64, rows: &[Row]) {
-        let bytes = packets(self.rt, self.alloc, stream, rows);
-        self.file(archive, name, bytes);
-    }
-
-    fn session(&mut self, archives: &[&str]) {
-        self.folder(&["d"], &["s"]);
-        let mut names = Vec::new(self.alloc);
-        for archive in archives {
-            let name = text(self.rt, self.alloc, &[STAMPS, archive]);
-            names.push(name).expect(self.rt, "memory");
-        }
-        let path = text(self.rt, self.alloc, &["d/s/archives"]);
-        self.add_folder(path, names);
-    }
-
-    fn says(self, piece: usize, expected: &str, faults: u64) {
-        self.answers(piece, false, expected, Surveyed::Faults(faults));
-    }
-
-    /// With a line for each archive, if these are asked for.
-    fn answers(self, piece: usize, archives: bool, expected: &str, said: Surveyed) {
-        let rt = self.rt;
-        let alloc = self.alloc;
-        let mut folders = self.kept(piece);
-        let mut sink = MemorySink::new(alloc, 7);
-        let found = survey(alloc, &mut folders, &mut sink, "d", archives);
-        assert_same(rt, found, Ok(said));
-        let found = String::from_utf8(sink.into_bytes()).expect(rt, "text");
-        assert_same(rt, found.as_str(), expected);
-    }
-}
-
-/// What a room has.
-enum Thing {
-    /// The session, with its archives of these numbers.
-    Session(&'static [&'static str]),
-    /// The folder of an archive, with the names of the files in it.
-    Archive(&'static str, &'static [&'static str]),
-    /// The metadata of an archive, which name this identifier.
-    Metadata(&'static str, u8),
-    /// A file of an archive with packets of a stream, as `packets` takes them.
-    Packets(&'static str, &'static str, u64, &'static [Row]),
-}
-
-impl<'a, R: Abort> Room<'a, R> {
-    fn thing(&mut self, thing: &Thing) {
-        match thing {
-            Thing::Session(archives) => self.session(archives),
-            Thing::Archive(number, files) => self.archive(number, files),
-            Thing::Metadata(archive, last) => self.metadata(archive, uuid(*last)),
-            Thing::Packets(archive, name, stream, rows) => {
-                self.packets(archive, name, *stream, rows);
-            }
-        }
-    }
-}
-
-/// A room with these things.
-fn furnished<'a, R: Abort>(rt: &'a R, alloc: Global, things: &[Thing]) -> Room<'a, R> {
-    let mut room = Room::new(rt, alloc);
-    for thing in things {
-        room.thing(thing);
-    }
-    room
-}
 
 static EXAMPLE: [Thing; 10] = [
     Thing::Session(&["1", "0"]),
@@ -210,7 +27,7 @@ static EXAMPLE: [Thing; 10] = [
 /// The worked example: two archives, three streams, one of which is cut off in its second packet.
 fn worked<'a, R: Abort>(rt: &'a R, alloc: Global) -> Room<'a, R> {
     let mut room = furnished(rt, alloc, &EXAMPLE);
-    let mut cut = packets(rt, alloc, 2, &[(0, 0, 0, &[0, 1]), (1, 0, 0, &[2])]);
+    let mut cut = packets(rt, alloc, 1, 2, &[(0, 0, 0, &[0, 1]), (1, 0, 0, &[2])]);
     cut.truncate(300);
     room.file("0", "c_2", cut);
     room
@@ -388,8 +205,7 @@ static NAMELESS: [Thing; 6] = [
 #[test]
 fn identifier_of_packets(rt: HostRuntime) {
     let mut room = furnished(&rt, rt.alloc(), &NAMELESS);
-    let mut other = packets(&rt, rt.alloc(), 0, &[(0, 0, 0, &[0])]);
-    other[19] = 2;
+    let other = packets(&rt, rt.alloc(), 2, 0, &[(0, 0, 0, &[0])]);
     room.file("0", "c_0", other);
     let expected = "session s uuid 00000000-0000-0000-0000-000000000001 archives 3
 uuid of packets

@@ -1,6 +1,6 @@
 -- The steps that an operator has more after a call.
-use Rattle.std.proofs.Common.{◌≡◌, ◌∙◌, ◌==◌, ◌+◌, ℕ, suc, Bool, true, false, List, [], ◌∷◌, ◌++◌, Result, Ok, Err, ap, append_assoc, arith, inl, inr, length, map, refl, subst, sym}
-use Rattle.std.specs.Prelude.{◌⊎◌, ◌<◌, sum}
+use Rattle.std.proofs.Common.{◌≡◌, ◌∙◌, ◌==◌, ◌+◌, ℕ, suc, Bool, true, false, List, [], ◌∷◌, ◌++◌, Result, Ok, Err, ap, append_assoc, arith, length, map, refl, subst, sym}
+use Rattle.std.specs.Prelude.{sum}
 use Rattle.std.specs.List.{AllByRecursion}
 use Rattle.std.proofs.lemmas.List.{length_push, map-append}
 use Rattle.std.proofs.lemmas.List.Sums.{sum_by_push}
@@ -14,7 +14,7 @@ use Rattle.tr_seats.specs.Slots.{SlotState}
 use Rattle.tr_session.specs.declared.rotation.Next.{Next}
 use Rattle.tr_session.specs.declared.rotation.Next.TheVariants as next
 use Rattle.tr_session_book.specs.declared.faults.SessionFault.{SessionFault}
-use Rattle.tr_shared.specs.Operators.{AreCutsOf, IsClearedTo, IsCut, IsNextOf, clears_from}
+use Rattle.tr_shared.specs.Operators.{AreCutsOf, IsCut, IsNextOf, clears_from}
 use Rattle.tr_stream.specs.declared.answers.Cleared.{Cleared}
 
 -- ---- rotations
@@ -43,25 +43,6 @@ clear-here i desk slot steps done answer = go (i == slot.number) refl
     go : (here : Bool) → (i == slot.number) ≡ here → operator_after_clear (Ok done) i slot steps ≡ with_step (Clear i (Ok done)) steps
     go true at = cc
     go false at = cc
-
--- no stream follows one whose clear is refused
-pub clear-stopped : (i n : ℕ) (slot : SlotState) (before mid after : List DeskStep) (dones : List Cleared) (fault : SessionFault)
-    → length dones ≡ i → i < n → mid ≡ before ++ clears_from 0 dones → after ≡ operator_after_clear (Err fault) i slot mid
-    → IsClearedTo n before fault after
-clear-stopped i n slot before mid after dones fault many few was is =
-    (dones, subst (λ (k : ℕ). k < n) (sym many) few, go (i == slot.number) refl)
-  where
-    go : (here : Bool) → (i == slot.number) ≡ here
-        → (after ≡ before ++ clears_from 0 dones) ⊎ (after ≡ with_step (Clear (length dones) (Err fault)) (before ++ clears_from 0 dones))
-    go true at = inr (is ∙ here at ∙ ap (λ (l : List DeskStep). with_step (Clear i (Err fault)) l) was
-        ∙ ap (λ (k : ℕ). with_step (Clear k (Err fault)) (before ++ clears_from 0 dones)) (sym many))
-    go false at = inl (is ∙ away at ∙ was)
-
-    here : (i == slot.number) ≡ true → operator_after_clear (Err fault) i slot mid ≡ with_step (Clear i (Err fault)) mid
-    here at = cc
-
-    away : (i == slot.number) ≡ false → operator_after_clear (Err fault) i slot mid ≡ mid
-    away at = cc
 
 clears-push : (n i : ℕ) (dones : List Cleared) (done : Cleared) → i ≡ n + length dones
     → clears_from n (dones ++ done ∷ []) ≡ clears_from n dones ++ Clear i (Ok done) ∷ []
