@@ -17,12 +17,7 @@ use tr_terms::{Mode, SessionMode};
 use tr_testing::moment;
 
 /// Starts the desk, and lets the stream of number `i` take offers.
-fn activate<N: Names>(
-    rt: &impl Abort,
-    desk: &mut Desk<N>,
-    slots: &mut Vec<Slot<N>>,
-    i: usize,
-)
+fn activate<N: Names>(rt: &impl Abort, desk: &mut Desk<N>, slots: &mut Vec<Slot<N>>, i: usize)
     ensures { length slots.new.items ≡ length slots.old.items }
 {
     assert!(rt; i < slots.len());
