@@ -11,7 +11,7 @@ HasNoSlash = AllByRecursion (λ (b : ℕ). eqb b 47 ≡ false)
 pub same-byte : (b : ℕ) → eqb b b ≡ true
 same-byte b = grind (arith, common_steps)
 
-turned : (b : ℕ) → eqb b 47 ≡ false → eqb 47 b ≡ false
+pub turned : (b : ℕ) → eqb b 47 ≡ false → eqb 47 b ≡ false
 turned b other = grind (arith, common_steps, other)
 
 pub same-name : (name : List ℕ) → pointwise eqb name name ≡ true

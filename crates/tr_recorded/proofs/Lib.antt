@@ -1,8 +1,12 @@
 pub mod BelowLemmas
 pub mod BoxLemmas
+pub mod FolderLemmas
+pub mod LeafLemmas
 pub mod ListedLemmas
 pub mod LossLemmas
 pub mod OrderLemmas
 pub mod PathLemmas
+pub mod PlainLemmas
 pub mod SetLemmas
 pub mod StoredLemmas
+pub mod TimeLemmas

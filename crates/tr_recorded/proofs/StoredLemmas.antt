@@ -30,11 +30,11 @@ pub record IsStored (folder : List ℕ) (ms : Makings) (b : Box) : Type 0 where
   pub files : (name : List ℕ) → file_made (file_path folder b.archive.name name) ms ≡ leaf_file name b.leaves
   pub made : list_any (makes_folder (path_of folder b.archive.name)) ms ≡ true
 
-or-none : {X : Type 0} (o : Option X) → option_or o None ≡ o
+pub or-none : {X : Type 0} (o : Option X) → option_or o None ≡ o
 or-none None = refl
 or-none (Some x) = refl
 
-or-assoc : {X : Type 0} (a b c : Option X) → option_or (option_or a b) c ≡ option_or a (option_or b c)
+pub or-assoc : {X : Type 0} (a b c : Option X) → option_or (option_or a b) c ≡ option_or a (option_or b c)
 or-assoc None b c = refl
 or-assoc (Some x) b c = refl
 
