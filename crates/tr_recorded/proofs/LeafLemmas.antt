@@ -139,6 +139,14 @@ leaves-append name (l ∷ xs) ys =
     ap (λ (o : Option File). option_or o (cond (pointwise eqb name l.0) (Some (file_of l.1 false)) None)) (leaves-append name xs ys)
     ∙ or-assoc (leaf_file name ys) (leaf_file name xs) (cond (pointwise eqb name l.0) (Some (file_of l.1 false)) None)
 
+module _ (s : SessionOf StreamState) (streams : (i : ℕ) → i < length s.streams → StreamAt s i) where
+  pub recorded-is : (i : ℕ) (below : i < length s.streams)
+      → stream_recorded (archives_named s.book) i (channel_of i s.book) (slice_get s.streams i)
+      ≡ (of_parts (streams i below).channel i, recorded_of (archives_named s.book) (streams i below).stream) ∷ []
+  recorded-is i below =
+      ap (λ (c : Option (List ℕ)). stream_recorded (archives_named s.book) i c (slice_get s.streams i)) (streams i below).named
+      ∙ ap (stream_recorded (archives_named s.book) i (Some (streams i below).channel)) (streams i below).at
+
 module _ (s : SessionOf StreamState) (streams : (i : ℕ) → i < length s.streams → StreamAt s i) (id : ℕ) (within : id < length s.book.archives) where
   -- the part of a stream, and its file
   pub part-of : (i : ℕ) (below : i < length s.streams)
@@ -153,13 +161,6 @@ module _ (s : SessionOf StreamState) (streams : (i : ℕ) → i < length s.strea
   leaf-is i below =
       ap (λ (c : Option (List ℕ)). leaf_of i c (part_of_stream i id s)) (streams i below).named
       ∙ ap (leaf_of i (Some (streams i below).channel)) (part-of i below).2
-
-  recorded-is : (i : ℕ) (below : i < length s.streams)
-      → stream_recorded (archives_named s.book) i (channel_of i s.book) (slice_get s.streams i)
-      ≡ (of_parts (streams i below).channel i, recorded_of (archives_named s.book) (streams i below).stream) ∷ []
-  recorded-is i below =
-      ap (λ (c : Option (List ℕ)). stream_recorded (archives_named s.book) i c (slice_get s.streams i)) (streams i below).named
-      ∙ ap (stream_recorded (archives_named s.book) i (Some (streams i below).channel)) (streams i below).at
 
   module _ (few : length s.streams ≤ 2 ^ 64) where
     read-as : (i : ℕ) (below : i < length s.streams) → stream_named (file_name (streams i below).channel i) ≡ Some (of_parts (streams i below).channel i)
@@ -178,7 +179,7 @@ module _ (s : SessionOf StreamState) (streams : (i : ℕ) → i < length s.strea
         ∙ ap (λ (l : List Numbered). streams_in (streams_recorded s i) ++ l)
         (ap (λ (l : List Leaf). filter_map stream_named (names-of l)) (leaf-is i below)
         ∙ ap (λ (o : Option Numbered). cons_option o []) (read-as i below)
-        ∙ ap streams_in (sym (recorded-is i below)))
+        ∙ ap streams_in (sym (recorded-is s streams i below)))
         ∙ sym (map-append (λ (f : StreamFiles). f.0) (streams_recorded s i) one)
 
     pub have-streams : filter_map stream_named (names-of (leaves_of s id (length s.streams) ++ metadata_leaf s)) ≡ streams_in (streams_recorded s (length s.streams))
