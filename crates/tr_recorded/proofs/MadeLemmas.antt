@@ -15,7 +15,7 @@ use Rattle.tr_packet.specs.Metadata.{metadata_of}
 use Rattle.tr_recorded.proofs.BoxLemmas.{Box, Leaf, box_made, boxes_made, leaf_made}
 use Rattle.tr_recorded.proofs.LeafLemmas.{box_of, leaf_of, leaves_of, metadata_leaf, part-is}
 use Rattle.tr_recorded.proofs.PathLemmas.{file_is, folder_is}
-use Rattle.tr_recorded.specs.Recorded.{NoneReleased, archive_named}
+use Rattle.tr_recorded.specs.Recorded.{HasItsArchives, archive_named}
 use Rattle.tr_session.specs.Session.{SessionOf}
 use Rattle.tr_session.specs.Sizes.{archive_released, part_released}
 use Rattle.tr_session_book.specs.BookSteps.{channel_of}
@@ -24,25 +24,6 @@ use Rattle.tr_stream.specs.Fates.{all_parts}
 use Rattle.tr_stream.specs.Rules.{by_state}
 use Rattle.tr_stream.specs.State.{StreamState}
 use Rattle.tr_survey.specs.Paths.{archives_folder, path_of}
-
--- ---- nothing was released
-
-none-at : (ps : List PartState) (k : ℕ) → AllByRecursion (λ (p : PartState). p.released ≡ None) ps → option_map_or part_released (slice_get ps k) 0 ≡ 0
-none-at [] k none = refl
-none-at (p ∷ ps) zero none = ap (λ o. cond (is_some o) 1 0) none.0
-none-at (p ∷ ps) (suc k) none = none-at ps k none.1
-
-none-of : (id : ℕ) (streams : List StreamState) → AllByRecursion NoneReleased streams
-    → sum_by (λ (t : StreamState). option_map_or part_released (part_at id t.parts) 0) streams ≡ 0
-none-of id [] none = refl
-none-of id (t ∷ streams) none =
-    let count : StreamState → ℕ = λ t. option_map_or part_released (part_at id t.parts) 0 in
-    let own : count t ≡ 0 = ap (λ (o : Option PartState). option_map_or part_released o 0) (part-is t.parts id) ∙ none-at (all_parts t.parts) id none.0 in
-    let all = sum_by-cons count t streams in
-    let more = none-of id streams none.1 in
-    omega (arith, own, all, more)
-
--- ---- files and folders
 
 module _ (dir name : List ℕ) (s : SessionOf StreamState) where
   abbrev folder : List ℕ
@@ -79,17 +60,16 @@ module _ (dir name : List ℕ) (s : SessionOf StreamState) where
       (sym (map-append (leaf_made folder archive) (leaves_of s a.id n) (metadata_leaf s)))
       ∙ ap (λ (path : List ℕ). made.Folder path ∷ map (leaf_made folder archive) (leaves_of s a.id n ++ metadata_leaf s)) (sym (folder_is dir name archive))
 
-  module _ (none : AllByRecursion NoneReleased s.streams) where
-    archive-made : (a : Archive) → archive_made dir name s a ≡ box_made folder (box_of s a)
-    archive-made a =
-        ap (λ (n : ℕ). cond (nat_eq n 0) (chunk_made (export.folder_of dir name (archive_named s.book a).name) a.id s) []) (none-of a.id s.streams none)
-        ∙ chunk-made a
+  archive-made : (a : Archive) → archive_released by_state a.id s ≡ 0 → archive_made dir name s a ≡ box_made folder (box_of s a)
+  archive-made a none =
+      ap (λ (n : ℕ). cond (nat_eq n 0) (chunk_made (export.folder_of dir name (archive_named s.book a).name) a.id s) []) none ∙ chunk-made a
 
-    each-made : (archives : List Archive) → flat_map (archive_made dir name s) archives ≡ boxes_made folder (map (box_of s) archives)
-    each-made [] = refl
-    each-made (a ∷ archives) =
-        ap (λ (m : Makings). m ++ flat_map (archive_made dir name s) archives) (archive-made a)
-        ∙ ap (λ (m : Makings). box_made folder (box_of s a) ++ m) (each-made archives)
+  each-made : (archives : List Archive) → AllByRecursion (λ (a : Archive). archive_released by_state a.id s ≡ 0) archives
+      → flat_map (archive_made dir name s) archives ≡ boxes_made folder (map (box_of s) archives)
+  each-made [] none = refl
+  each-made (a ∷ archives) none =
+      ap (λ (m : Makings). m ++ flat_map (archive_made dir name s) archives) (archive-made a none.0)
+      ∙ ap (λ (m : Makings). box_made folder (box_of s a) ++ m) (each-made archives none.1)
 
-    pub made-is : archives_made dir name s ≡ boxes_made folder (map (box_of s) s.book.archives)
-    made-is = each-made s.book.archives
+  pub made-is : HasItsArchives s → archives_made dir name s ≡ boxes_made folder (map (box_of s) s.book.archives)
+  made-is none = each-made s.book.archives none

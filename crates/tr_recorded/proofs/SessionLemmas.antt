@@ -1,29 +1,32 @@
 -- What is written of a session is what a survey finds nothing wrong with.
-use Rattle.std.proofs.Common.{◌≡◌, ◌≢◌, ◌∙◌, ◌+◌, ◌<◌, ◌≤◌, ◌^◌, ℕ, zero, suc, Bool, true, false, refl, sym, ap, subst, arith, List, [], ◌∷◌, ◌++◌, length, map, Option, Some, None, slice_get, length-append}
+use Rattle.std.proofs.Common.{◌≡◌, ◌≢◌, ◌∙◌, ◌+◌, ◌<◌, ◌≤◌, ◌^◌, ℕ, zero, suc, Bool, true, false, refl, sym, ap, subst, arith, List, [], ◌∷◌, ◌++◌, length, map, take, Option, Some, None, slice_get, length-append}
 use Rattle.std.proofs.lemmas.List.{length-map, map-append}
 use Rattle.std.specs.List.{All, AllByRecursion, zip}
 use Rattle.std.specs.Prelude.{codes}
 use Rattle.tr_book.specs.Parts.{PartState}
 use Rattle.tr_chunk.specs.Files.{file_name, packets_text}
+use Rattle.tr_export.proofs.HeldLemmas.{part-held}
 use Rattle.tr_export.specs.Archives.{archives_made}
 use Rattle.tr_folders.specs.Kept.{file_of}
 use Rattle.tr_folders.specs.Tree.{File, Tree}
 use Rattle.tr_packet.specs.Packets.{Contents}
 use Rattle.tr_recorded.proofs.BoxLemmas.{Box, IsBox, archives_in, boxes_made}
 use Rattle.tr_recorded.proofs.FolderLemmas.{HaveMetadata, HaveStreams, files-are, stands-alone}
-use Rattle.tr_recorded.proofs.LeafLemmas.{StreamAt, box_of, have-streams, leaves-plain, metadata-found, part-of, recorded-is, stream-at, stream-found}
+use Rattle.tr_recorded.proofs.LeafLemmas.{StreamAt, box_of, have-streams, leaves-plain, metadata-found, part-is, part-of, recorded-is, some-at, stream-at, stream-found}
 use Rattle.tr_recorded.proofs.MadeLemmas.{made-is}
 use Rattle.tr_recorded.proofs.OrderLemmas.{Numbers}
 use Rattle.tr_recorded.proofs.PlainLemmas.{archive-plain, name-plain}
 use Rattle.tr_recorded.proofs.StoredLemmas.{leaf_file}
 use Rattle.tr_recorded.proofs.TimeLemmas.{AreWithin, book-within, follow, numbers}
 use Rattle.tr_recorded.specs.Made.{Shows}
-use Rattle.tr_recorded.specs.Recorded.{NoneReleased, archive_named, archives_named, recorded_of, session_recorded_text, stream_recorded, streams_recorded}
+use Rattle.tr_recorded.specs.Recorded.{HasItsArchives, NoneReleased, archive_named, archives_named, recorded_of, session_recorded_text, stream_recorded, streams_recorded}
 use Rattle.tr_session.specs.Audits.{packets_by_part}
 use Rattle.tr_session.specs.Session.{HasItsStreams, SessionOf}
+use Rattle.tr_session.specs.Sizes.{archive_released}
 use Rattle.tr_session_book.specs.BookSteps.{AreChained, IsBook, archive_pending, channel_of, first_begin}
 use Rattle.tr_session_book.specs.declared.archive.Archive.{Archive}
 use Rattle.tr_stream.specs.Fates.{all_parts}
+use Rattle.tr_stream.specs.Rules.{by_state}
 use Rattle.tr_stream.specs.State.{StreamState}
 use Rattle.tr_survey.proofs.SessionLemmas.{whole_is}
 use Rattle.tr_survey.proofs.StampLemmas.{archive_is_of_number}
@@ -40,7 +43,7 @@ use Rattle.tr_terms.specs.declared.limits.TheConstants.{LAST_MOMENT, MOST_STREAM
 
 -- what each archive has of a stream is what a survey has no fault in
 abbrev pub Keeps : StreamState → Type 0
-Keeps t = (archives : List Numbered) → length archives ≤ length (all_parts t.parts) → NoneReleased t
+Keeps t = (archives : List Numbered) → length archives ≤ length (all_parts t.parts) → NoneReleased (length archives) t
     → AreRecorded t.config.uuid t.config.number (recorded_of archives t)
 
 -- ---- lists
@@ -58,6 +61,17 @@ at-place : {X : Type 0} (P : X → Type 0) (xs : List X) (i : ℕ) (x : X) → A
 at-place P [] i x are at = absurd cc
 at-place P (y ∷ xs) zero x are at = let same : y ≡ x = cc in subst P same are.0
 at-place P (y ∷ xs) (suc i) x are at = at-place P xs i x are.1 at
+
+all-first : {X : Type 0} (P : X → Type 0) (xs : List X) (k : ℕ) → ((j : ℕ) (x : X) → j < k → slice_get xs j ≡ Some x → P x) → AllByRecursion P (take k xs)
+all-first P xs zero each = tt
+all-first P [] (suc k) each = tt
+all-first P (x ∷ xs) (suc k) each =
+    (each 0 x (omega arith) refl, all-first P xs k (λ j y lt at. each (suc j) y (omega (arith, lt)) at))
+
+number-at : (k : ℕ) (archives : List Archive) (j : ℕ) (a : Archive) → AreWithin k archives → slice_get archives j ≡ Some a → a.id ≡ k + j
+number-at k [] j a own at = absurd cc
+number-at k (b ∷ archives) zero a own at = let same : b ≡ a = cc in omega (arith, own.0, ap (λ (x : Archive). x.id) same)
+number-at k (b ∷ archives) (suc j) a own at = let more = number-at (k + 1) archives j a own.4 at in omega (arith, more)
 
 numbered-push : (k : ℕ) (xs : List Numbered) (x : Numbered) → NumberedFrom k xs → x.number ≡ k + length xs → k + length xs + 1 < 2 ^ 64
     → NumberedFrom k (xs ++ x ∷ [])
@@ -158,7 +172,22 @@ module _ (s : SessionOf StreamState) (streams : (i : ℕ) → i < length s.strea
         )
 
     module _ (has : AllByRecursion HasItsLeaves (map (box_of s) s.book.archives)) (own : AreWithin 0 s.book.archives)
-        (keeps : (i : ℕ) (u : StreamState) → slice_get s.streams i ≡ Some u → Keeps u) (none : AllByRecursion NoneReleased s.streams) where
+        (keeps : (i : ℕ) (u : StreamState) → slice_get s.streams i ≡ Some u → Keeps u) (none : HasItsArchives s) where
+      held-at : (i : ℕ) (below : i < length s.streams) (j : ℕ) (p : PartState) → j < length s.book.archives
+          → slice_get (all_parts (streams i below).stream.parts) j ≡ Some p → p.released ≡ None
+      held-at i below j p within at =
+          let x = streams i below in
+          let a = some-at s.book.archives j within in
+          let number = number-at 0 s.book.archives j a.0 own a.1 in
+          let id : a.0.id ≡ j = omega (arith, number) in
+          part-held j i s x.stream p (subst (λ (n : ℕ). archive_released by_state n s ≡ 0) id (at-place (λ (b : Archive). archive_released by_state b.id s ≡ 0) s.book.archives j a.0 none a.1))
+          x.at (part-is x.stream.parts j ∙ at)
+
+      held : (i : ℕ) (below : i < length s.streams) (k : ℕ) → k ≤ length s.book.archives → NoneReleased k (streams i below).stream
+      held i below k le =
+          all-first (λ (p : PartState). p.released ≡ None) (all_parts (streams i below).stream.parts) k
+          (λ j p lt at. held-at i below j p (omega (arith, lt, le)) at)
+
       one-stream : (i : ℕ) (below : i < length s.streams)
           → HasItsFiles t folder s.book.uuid (archives_named s.book) (of_parts (streams i below).channel i, recorded_of (archives_named s.book) (streams i below).stream)
       one-stream i below =
@@ -166,7 +195,7 @@ module _ (s : SessionOf StreamState) (streams : (i : ℕ) → i < length s.strea
           let archives = archives_named s.book in
           let as-many = length-map s.book.archives (archive_named s.book) in
           let parts = length-map (all_parts x.stream.parts) (λ (p : PartState). p.packets) in
-          let kept = keeps i x.stream x.at archives (omega (arith, as-many, x.parts)) (at-place NoneReleased s.streams i x.stream none x.at) in
+          let kept = keeps i x.stream x.at archives (omega (arith, as-many, x.parts)) (held i below (length archives) (omega (arith, as-many))) in
           record {
             each = first-of-zip archives (packets_by_part x.stream) (omega (arith, as-many, parts, x.parts));
             files = files-recorded i below 0 s.book.archives (all_parts x.stream.parts) has own (omega arith)
@@ -189,7 +218,7 @@ module _ (s : SessionOf StreamState) (streams : (i : ℕ) → i < length s.strea
 
   module _ (own : AreWithin 0 s.book.archives) (chunk : ℕ) (chained : AreChained s.book.archives chunk) (sixteen : length s.book.uuid ≡ 16)
       (bytes : All (λ b. b < 256) s.book.uuid) (keeps : (i : ℕ) (u : StreamState) → slice_get s.streams i ≡ Some u → Keeps u)
-      (none : AllByRecursion NoneReleased s.streams) (t : Tree) (dir name : List ℕ) (named : is_name name ≡ true)
+      (none : HasItsArchives s) (t : Tree) (dir name : List ℕ) (named : is_name name ≡ true)
       (shows : Shows t dir (archives_made dir name s)) where
     stands : (first : Archive) (others : List Archive) → s.book.archives ≡ first ∷ others
         → StandsAlone t dir name s.book.uuid (archives_named s.book) (streams_recorded s (length s.streams))
@@ -225,7 +254,7 @@ module _ (s : SessionOf StreamState) (streams : (i : ℕ) → i < length s.strea
 pub whole-session : (s : SessionOf StreamState) → IsBook s.book → s.book.begin ≤ LAST_MOMENT → IsOffset s.book.offset → length s.book.uuid ≡ 16
     → All (λ b. b < 256) s.book.uuid → length s.book.archives ≤ 2 ^ 64 → length s.streams ≤ MOST_STREAMS → HasItsStreams s
     → ((i : ℕ) (u : StreamState) → slice_get s.streams i ≡ Some u → Keeps u)
-    → (asked : Bool) (t : Tree) (dir name : List ℕ) → is_name name ≡ true → s.book.archives ≢ [] → AllByRecursion NoneReleased s.streams
+    → (asked : Bool) (t : Tree) (dir name : List ℕ) → is_name name ≡ true → s.book.archives ≢ [] → HasItsArchives s
     → Shows t dir (archives_made dir name s) → survey_of asked t dir ≡ told (session_recorded_text asked t dir name s) (Faults 0)
 whole-session s book begin offset sixteen bytes few streams its keeps asked t dir name named some none shows =
     let more = archive_pending s.book.pending in
