@@ -1,2 +1,14 @@
+pub mod BelowLemmas
+pub mod BoxLemmas
+pub mod FolderLemmas
+pub mod LeafLemmas
+pub mod ListedLemmas
 pub mod LossLemmas
+pub mod MadeLemmas
+pub mod OrderLemmas
 pub mod PathLemmas
+pub mod PlainLemmas
+pub mod SessionLemmas
+pub mod SetLemmas
+pub mod StoredLemmas
+pub mod TimeLemmas

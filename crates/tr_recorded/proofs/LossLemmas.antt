@@ -1,8 +1,7 @@
 -- A stream's counts of discarded records don't fall from one packet to the next.
-use Rattle.std.proofs.Common.{◌≡◌, ◌≢◌, ◌+◌, ◌≤◌, ℕ, Bool, true, false, cond, refl, sym, ap, subst, ◌∙◌, arith, List, [], ◌∷◌, ◌++◌, length, map, take, drop, Option, Some, None}
+use Rattle.std.proofs.Common.{◌≡◌, ◌≢◌, ◌+◌, ◌≤◌, ℕ, zero, suc, Bool, true, false, cond, refl, sym, ap, subst, ◌∙◌, arith, List, [], ◌∷◌, ◌++◌, length, map, take, Option, Some, None, append_assoc}
 use Rattle.std.specs.List.{AllByRecursion, zip}
-use Rattle.std.proofs.lemmas.Grind.{flat_map-append}
-use Rattle.std.proofs.lemmas.List.{map-append, take-append-drop}
+use Rattle.std.proofs.lemmas.List.{map-append, take-map}
 use Rattle.tr_book.specs.Parts.{PartState, Rest}
 use Rattle.tr_chunk.specs.Audit.{AreOfStream, all_of}
 use Rattle.tr_packet.specs.Packets.{Contents}
@@ -10,7 +9,7 @@ use Rattle.tr_record.specs.Records.{Entry}
 use Rattle.tr_recorded.specs.Recorded.{NoneReleased, recorded_of}
 use Rattle.tr_ring.specs.ClosedBuffer.{ClosedBuffer}
 use Rattle.tr_session.proofs.PrefixLemmas.{front-passes}
-use Rattle.tr_session.specs.Audits.{packets_by_part, packets_in}
+use Rattle.tr_session.specs.Audits.{packets_by_part}
 use Rattle.tr_stream.specs.Chunks.{ring_buffers}
 use Rattle.tr_stream.specs.Consistent.{AreLeftOf, DiscardsAgree, GapsAgree, HasRecord, IsConsistent, PartsLeft, Piece, Rising, buffer_in, buffers_of, first_in, first_serial, held_among}
 use Rattle.tr_stream.specs.Fates.{all_parts}
@@ -100,13 +99,23 @@ left_is : (packets : List Contents) (released : Option Rest) (own : List ClosedB
 left_is packets None own none left = left
 left_is packets (Some rest) own none left = absurd cc
 
-kept_are : (parts : List PartState) (kept : List ClosedBuffer) → AllByRecursion (λ (p : PartState). p.released ≡ None) parts → PartsLeft parts kept
-    → kept ≡ map buffer_in (all_of (map (λ (p : PartState). p.packets) parts))
-kept_are [] kept none left = left
-kept_are (p ∷ parts) kept none left =
-    left.2 ∙ ap (λ (l : List ClosedBuffer). l ++ left.1) (sym (left_is p.packets p.released left.0 none.0 left.3))
-    ∙ ap (λ (l : List ClosedBuffer). map buffer_in p.packets ++ l) (kept_are parts left.1 none.1 left.4)
-    ∙ sym (map-append buffer_in p.packets (all_of (map (λ (q : PartState). q.packets) parts)))
+abbrev packets_by : List PartState → List (List Contents)
+packets_by parts = map (λ (p : PartState). p.packets) parts
+
+-- the first k parts come first
+kept_first : (k : ℕ) (parts : List PartState) (kept : List ClosedBuffer) → AllByRecursion (λ (p : PartState). p.released ≡ None) (take k parts)
+    → PartsLeft parts kept → (rest : List ClosedBuffer) × (kept ≡ map buffer_in (all_of (packets_by (take k parts))) ++ rest)
+kept_first zero parts kept none left = (kept, refl)
+kept_first (suc k) [] kept none left = (kept, refl)
+kept_first (suc k) (p ∷ parts) kept none left =
+    let more = kept_first k parts left.1 none.1 left.4 in
+    let all = all_of (packets_by (take k parts)) in (
+      more.0,
+      left.2 ∙ ap (λ (l : List ClosedBuffer). l ++ left.1) (sym (left_is p.packets p.released left.0 none.0 left.3))
+          ∙ ap (λ (l : List ClosedBuffer). map buffer_in p.packets ++ l) more.1
+          ∙ sym (append_assoc (map buffer_in p.packets) (map buffer_in all) more.0)
+          ∙ ap (λ (l : List ClosedBuffer). l ++ more.0) (sym (map-append buffer_in p.packets all)),
+    )
 
 -- ---- packets
 
@@ -114,17 +123,15 @@ packets_stay : (from : ℕ) (ps : List Contents) → Stay from (map buffer_in ps
 packets_stay from [] stay = tt
 packets_stay from (p ∷ ps) stay = (stay.0, packets_stay p.head.lost ps stay.1)
 
-losses_front : (from : ℕ) (ps qs : List Contents) → LossesStay from (ps ++ qs) → LossesStay from ps
-losses_front from [] qs stay = tt
-losses_front from (p ∷ ps) qs stay = (stay.0, losses_front p.head.lost ps qs stay.1)
-
-all_stay : (s : StreamState) → NoneReleased s → IsConsistent s → LossesStay 0 (packets_in s)
-all_stay s none c =
-    let kept = kept_are (all_parts s.parts) c.are.kept none c.are.left in
-    packets_stay 0 (packets_in s)
-    (subst (Stay 0) kept
+first_stay : (s : StreamState) (k : ℕ) → NoneReleased k s → IsConsistent s → LossesStay 0 (all_of (packets_by (take k (all_parts s.parts))))
+first_stay s k none c =
+    let all = all_of (packets_by (take k (all_parts s.parts))) in
+    let first = kept_first k (all_parts s.parts) c.are.kept none c.are.left in
+    packets_stay 0 all
+    (stay_front 0 (map buffer_in all) first.0
+    (subst (Stay 0) first.1
     (stay_front 0 c.are.kept (ring_buffers s.counters.last s.ring)
-    (subst (Stay 0) c.are.held (held_stay 0 c.pieces (by_mode s s.config.mode refl c)))))
+    (subst (Stay 0) c.are.held (held_stay 0 c.pieces (by_mode s s.config.mode refl c))))))
 
 -- ---- archive by archive
 
@@ -133,15 +140,14 @@ second_of_zip [] ys = refl
 second_of_zip (x ∷ xs) [] = refl
 second_of_zip {Y = Y} (x ∷ xs) (y ∷ ys) = ap (λ (l : List Y). y ∷ l) (second_of_zip xs ys)
 
-pub recorded : (s : StreamState) (archives : List Numbered) → NoneReleased s → IsKept s → IsConsistent s
+pub recorded : (s : StreamState) (archives : List Numbered) → NoneReleased (length archives) s → IsKept s → IsConsistent s
     → AreRecorded s.config.uuid s.config.number (recorded_of archives s)
 recorded s archives none kept c =
     let k = length archives in
     let pss = packets_by_part s in
     let are : packets_of (recorded_of archives s) ≡ all_of (take k pss) = ap all_of (second_of_zip archives pss) in
-    let parted : packets_in s ≡ all_of (take k pss) ++ all_of (drop k pss) =
-    sym (ap all_of (take-append-drop k pss)) ∙ flat_map-append (λ (ps : List Contents). ps) (take k pss) (drop k pss) in
+    let by : take k pss ≡ packets_by (take k (all_parts s.parts)) = take-map (λ (p : PartState). p.packets) k (all_parts s.parts) in
     record {
       sound = subst (AreOfStream s.config.uuid s.config.number) (sym are) (front-passes s kept.history.0 k kept.sound kept.history.1).sound;
-      losses = subst (LossesStay 0) (sym are) (losses_front 0 (all_of (take k pss)) (all_of (drop k pss)) (subst (LossesStay 0) parted (all_stay s none c)));
+      losses = subst (LossesStay 0) (sym (are ∙ ap all_of by)) (first_stay s k none c);
     }

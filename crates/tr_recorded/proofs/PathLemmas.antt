@@ -5,7 +5,7 @@ use Rattle.tr_export.specs.Paths as export
 use Rattle.tr_survey.specs.Paths.{archives_folder, file_path, path_of}
 
 -- a path below the folder of a session's archives
-below : (dir session rest : List ℕ) → archives_folder dir session ++ rest ≡ dir ++ (codes "/" ++ (session ++ (codes "/archives" ++ rest)))
+pub below : (dir session rest : List ℕ) → archives_folder dir session ++ rest ≡ dir ++ (codes "/" ++ (session ++ (codes "/archives" ++ rest)))
 below dir session rest =
     append_assoc dir (codes "/" ++ (session ++ codes "/archives")) rest
     ∙ ap (λ (l : List ℕ). dir ++ (47 ∷ l)) (append_assoc session (codes "/archives") rest)

@@ -1,19 +1,29 @@
 //! What the parts of every stream hold, and where they are written.
 
-ghost use Rattle.std.specs.Prelude.{◌≡◌, ◌≤◌, ℕ, List, length};
+ghost use Rattle.std.specs.Prelude.{◌≡◌, ◌≢◌, ◌<◌, ◌≤◌, ℕ, Bool, IsTrue, List, [], length};
+ghost use Rattle.std.specs.List.{All};
+ghost use Rattle.tr_export.specs.Archives.{archives_made};
 ghost use Rattle.tr_export.specs.Paths as export;
-ghost use Rattle.tr_recorded.specs.Recorded.{NoneReleased, recorded_of};
+ghost use Rattle.tr_folders.specs.Tree.{Tree};
+ghost use Rattle.tr_recorded.specs.Made.{Shows};
+ghost use Rattle.tr_recorded.specs.Recorded.{HasItsArchives, NoneReleased, recorded_of, session_recorded_text};
 ghost use Rattle.tr_stream.specs.Fates.{all_parts};
 ghost use Rattle.tr_survey.specs.Order.{Numbered};
 ghost use Rattle.tr_survey.specs.Paths.{archives_folder, file_path, path_of};
+ghost use Rattle.tr_survey.specs.Sessions.{survey_of};
+ghost use Rattle.tr_survey.specs.Told.{told};
 ghost use Rattle.tr_survey.specs.Whole.{AreRecorded};
+ghost use Rattle.tr_survey.specs.declared.faults.Surveyed.TheVariants.{Faults};
+ghost use Rattle.tr_terms.specs.Names.{is_name};
 
 use std::alloc::Allocator;
+use tr_session::Session;
 use tr_stream::Stream;
 
-/// If none of a stream's parts was released, its parts hold, archive by archive, what a survey has no fault in. Does nothing.
+/// If none of a stream's parts in these archives was released, they hold, archive by archive, what a survey has no fault in. Does
+/// nothing.
 pub fn every_stream_is_recorded<A: Allocator>(stream: &Stream<A>)
-    ensures { (archives : List Numbered) → length archives ≤ length (all_parts stream.now.parts) → NoneReleased stream.now
+    ensures { (archives : List Numbered) → length archives ≤ length (all_parts stream.now.parts) → NoneReleased (length archives) stream.now
         → AreRecorded stream.now.config.uuid stream.now.config.number (recorded_of archives stream.now) }
 {
     let _ = stream.config();
@@ -26,3 +36,27 @@ pub fn archives_are_read_where_they_are_written()
     ensures files { (dir session archive file : List ℕ)
         → file_path (archives_folder dir session) archive file ≡ export.path_of (export.folder_of dir session archive) file }
 {}
+
+/// Each of these is a byte. Does nothing.
+fn bytes_fit(bytes: &[u8])
+    ensures { All (λ b. b < 256) bytes.now }
+{}
+
+/// What is written of a session to a folder that was empty is whole to a survey, if it has an archive and no part of one was
+/// released: the survey says just its archives, its streams, and what each of them lost. It does nothing but look at each stream.
+pub fn what_is_written_is_whole<A: Allocator>(session: &Session<A>)
+    ensures { (asked : Bool) (t : Tree) (dir name : List ℕ) → IsTrue (is_name name) → session.now.book.archives ≢ []
+        → HasItsArchives session.now → Shows t dir (archives_made dir name session.now)
+        → survey_of asked t dir ≡ told (session_recorded_text asked t dir name session.now) (Faults 0) }
+{
+    session.book().every_book_obeys();
+    let uuid = session.book().uuid();
+    bytes_fit(uuid.as_bytes());
+    let _ = session.book().offset().get();
+    let _ = session.book().archives().len();
+    'streams: for i in 0..session.streams() {
+        if let Some(stream) = session.stream(i) {
+            every_stream_is_recorded(stream);
+        }
+    }
+}

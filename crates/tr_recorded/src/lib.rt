@@ -18,4 +18,4 @@
 
 mod laws;
 
-pub use laws::{archives_are_read_where_they_are_written, every_stream_is_recorded};
+pub use laws::{archives_are_read_where_they_are_written, every_stream_is_recorded, what_is_written_is_whole};

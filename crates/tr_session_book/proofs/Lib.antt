@@ -1,3 +1,4 @@
 pub mod BookLemmas
 pub mod ListLemmas
 pub mod NameLemmas
+pub mod TimeLemmas

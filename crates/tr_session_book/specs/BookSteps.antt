@@ -58,10 +58,29 @@ abbrev pub AreNumbered : SessionBookState → Type 0
 AreNumbered b = ((k : ℕ) (archive : Archive) → slice_get b.archives k ≡ Some archive → archive.id ≡ k)
     × ((pending : Pending) → b.pending ≡ Some pending → pending.archive.id ≡ length b.archives)
 
+-- the archive of a rotation, if one is pending
+abbrev pub archive_pending : Option Pending → List Archive
+archive_pending None = []
+archive_pending (Some p) = p.archive ∷ []
+
+-- when the first of these archives began, or else the chunk after them
+abbrev pub first_begin : List Archive → ℕ → ℕ
+first_begin [] chunk = chunk
+first_begin (a ∷ archives) chunk = a.begin
+
+-- no archive ends before it begins; each ends when the next one begins, and the last one when this chunk does
+abbrev pub AreChained : List Archive → ℕ → Type 0
+AreChained [] chunk = Unit {0}
+AreChained (a ∷ archives) chunk = (a.begin ≤ a.end) × (a.end ≡ first_begin archives chunk) × AreChained archives chunk
+
+-- the archives, the pending rotation's after them, and the current chunk follow each other, up to the last stored moment
+abbrev pub FollowInTime : SessionBookState → Type 0
+FollowInTime b = AreChained (b.archives ++ archive_pending b.pending) b.begin × (b.begin ≤ b.last)
+
 -- what every book obeys; only a local session has a pending rotation
 abbrev pub IsBook : SessionBookState → Type 0
 IsBook b = IsWithinLimits b × BeginsBare b × AreNumbered b × (is_some b.pending ≡ true → b.mode ≡ Local)
-    × AreNamed b.channels
+    × AreNamed b.channels × FollowInTime b
 
 abbrev pub channel_named : List ℕ → SessionBookState → Option Channel
 channel_named name b = lookup (bytes_eq name) b.channels

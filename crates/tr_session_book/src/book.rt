@@ -185,6 +185,7 @@ impl<A: Allocator + Copy> SessionBook<A> {
         requires id { id ≡ length self.old.archives }
         requires local { self.old.mode ≡ SessionMode.Local }
         requires started { is_new self.old.state ≡ false }
+        requires none { self.old.pending ≡ None }
         ensures ok { OnOk result (self.new ≡ with_pending moment self.old) }
         ensures err { OnErr result (self.new ≡ self.old) }
     {
@@ -278,6 +279,7 @@ impl<A: Allocator> SessionBook<A> {
         ensures value { result ≡ book_rotate_begin_answer self.now }
         ensures local { OnOk result (self.now.mode ≡ SessionMode.Local) }
         ensures started { OnOk result (is_new self.now.state ≡ false) }
+        ensures none { OnOk result (self.now.pending ≡ None) }
     {
         match self.mode {
             SessionMode::Snapshot => return Err(SessionFault::SnapshotMode),

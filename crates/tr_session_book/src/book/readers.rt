@@ -2,8 +2,8 @@
 
 ghost use Rattle.std.specs.Prelude.{◌≡◌, ◌≤◌, ℕ, Some, None, IfSome, length, option_copied, slice_get};
 ghost use Rattle.tr_session_book.specs.declared.archive.Archive as value;
-ghost use Rattle.tr_session_book.specs.BookSteps.{channel_named, channel_of};
-ghost use Rattle.tr_terms.specs.declared.limits.TheConstants.{MOST_CHANNELS, MOST_STREAMS};
+ghost use Rattle.tr_session_book.specs.BookSteps.{IsBook, channel_named, channel_of};
+ghost use Rattle.tr_terms.specs.declared.limits.TheConstants.{LAST_MOMENT, MOST_CHANNELS, MOST_STREAMS};
 
 use super::SessionBook;
 use crate::archive::{Archive, Pending};
@@ -95,6 +95,15 @@ impl<A: Allocator> SessionBook<A> {
             → archive.id ≡ k }
     {
         self.archives.as_slice()
+    }
+
+    /// What every book obeys: its limits, its numbers, its channels' names, and that its archives follow each other in time, up
+    /// to a moment within the limit. Does nothing.
+    pub fn every_book_obeys(&self)
+        ensures book { IsBook self.now }
+        ensures within { self.now.begin ≤ LAST_MOMENT }
+    {
+        let _ = self.begin.get();
     }
 
     /// The rotation that has begun and isn't finished. Its archive's number is the number of archives.

@@ -39,4 +39,4 @@ invariant_of-self-2 g c =
       c.requires.room,
     ) in
     let named = subst AreNamed (sym added) (named-more (by_name es) name c.args.channel kept.4 c.as_str.ensures.name) in
-    (c.self.invariant.0, ((fits, kept.0.1), kept.1, kept.2, kept.3, named))
+    (c.self.invariant.0, ((fits, kept.0.1), kept.1, kept.2, kept.3, named, kept.5))
