@@ -17,9 +17,8 @@
  * the call says otherwise. Moments are nanoseconds since 1970. */
 #ifndef TRC_CELLS_H
 #define TRC_CELLS_H
+#include "tracerd.h" /* an offer's answer and a fate are written as they are there */
 #include <stdbool.h>
-#include <stddef.h>
-#include <stdint.h>
 
 #ifdef __cplusplus
 extern "C" {
@@ -70,13 +69,6 @@ enum { TRC_NEW = 0, TRC_ACTIVE = 1, TRC_INACTIVE = 2 }; /* states of a session *
 
 typedef struct { void *at; bool live; } trc_stream;
 
-enum { TRC_STORED = 0, TRC_STORED_OVER = 1, TRC_DISCARDED = 2 };
-typedef struct {
-    uint32_t kind;                 /* TRC_STORED, TRC_STORED_OVER or TRC_DISCARDED */
-    uint64_t serial;               /* how many offers were accepted before it */
-    uint64_t seq;                  /* the number of its sub-buffer; 0 if discarded */
-    uint64_t gone_seq, gone_count; /* the overwritten sub-buffer and how many records that had; else 0 */
-} trc_offered;
 typedef struct { uint64_t seq, count, chunk; } trc_taken;       /* a packet, its records, its trace chunk */
 typedef struct { uint64_t chunk, packets, records; } trc_cut;   /* the chunk that a cut closed, and what it added */
 typedef struct { uint64_t packets, records; } trc_cleared;
@@ -85,8 +77,6 @@ typedef struct {
     uint64_t offered, discarded, overwritten, overwritten_packets, in_ring, consumed, in_chunks, cleared, withdrawn, cuts,
         current_bytes;
 } trc_counts; /* offered = discarded + overwritten + cleared + in_ring + in_chunks; consumed = in_chunks + withdrawn */
-enum { TRC_NOT_OFFERED = 0, TRC_IN_RING = 1, TRC_IN_CHUNK = 2, TRC_WAS_DISCARDED = 3, TRC_WAS_OVERWRITTEN = 4, TRC_WAS_CLEARED = 5 };
-typedef struct { uint32_t kind; uint64_t chunk, seq; } trc_fate; /* chunk if IN_CHUNK; seq if IN_RING, IN_CHUNK, WAS_CLEARED; else 0 */
 typedef struct { uint64_t packets, records, bytes; bool released; } trc_part; /* what it has, or had before it was released */
 
 /* A stream by itself, which takes no offers yet. IN_USE, BAD_UUID, G1, G2, BAD_MODE, NO_MEMORY. */
@@ -95,7 +85,8 @@ uint32_t trc_stream_new(trc_stream *, const uint8_t *uuid, size_t uuid_len, uint
 /* Lets the stream take offers, or makes it refuse them. CLOSED. */
 uint32_t trc_stream_switch(trc_stream *, bool active);
 /* Offers a record. It takes no memory. CLOSED, BAD_MOMENT, O1 to O3. */
-uint32_t trc_stream_offer(trc_stream *, uint64_t moment, uint32_t id, const uint8_t *payload, size_t len, trc_offered *);
+uint32_t trc_stream_offer(trc_stream *, uint64_t moment, uint32_t id, const uint8_t *payload, size_t len,
+                          tracerd_offered *);
 /* Moves the oldest closed sub-buffer into the current trace chunk. CLOSED, T1 to T3. */
 uint32_t trc_stream_take(trc_stream *, trc_taken *);
 /* Moves all that the ring holds into the current trace chunk, and closes that. CLOSED, BAD_MOMENT, C1, C2. In a session use
@@ -108,7 +99,7 @@ uint32_t trc_stream_release(trc_stream *, uint64_t chunk, trc_released *);
 /* How many records were offered, and where they are. CLOSED. */
 uint32_t trc_stream_counts(trc_stream *, trc_counts *);
 /* What became of the offer with this serial. CLOSED. */
-uint32_t trc_stream_fate(trc_stream *, uint64_t serial, trc_fate *);
+uint32_t trc_stream_fate(trc_stream *, uint64_t serial, tracerd_fate *);
 /* How much the stream added to a trace chunk. CLOSED, NO_PART. */
 uint32_t trc_stream_part(trc_stream *, uint64_t chunk, trc_part *);
 /* Copies bytes of the packets that the stream added to a trace chunk, from byte `at` on, as many as there are and as fit: 0 at
@@ -150,8 +141,8 @@ uint32_t trc_book_switch(trc_book *, trc_stream *, bool active);
 uint32_t trc_rotate_begin(trc_book *, uint64_t moment, uint64_t *id);
 /* Which stream the pending rotation cuts next: `number`, if `left` is true; else all are cut, and `number` is 0. CLOSED, S13. */
 uint32_t trc_rotate_next(trc_book *, bool *left, uint64_t *number);
-/* Cuts that stream at the rotation's end, and notes it. CLOSED (book, then stream), MISPLACED, S8, S13, S14 (another stream is
- * next), C2: the stream is uncut, the rotation pending. */
+/* Cuts that stream at the rotation's end, and notes it. CLOSED (book, then stream), MISPLACED, S8, S13 (also of a stream that
+ * the rotation has cut), S14 (another stream is next), C2: the stream is uncut, the rotation pending. */
 uint32_t trc_rotate_cut(trc_book *, trc_stream *, trc_cut *);
 /* Ends a rotation that has cut every stream. It takes no memory. CLOSED, S13, S14. */
 uint32_t trc_rotate_finish(trc_book *, trc_archive *);

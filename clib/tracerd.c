@@ -1,128 +1,162 @@
-/* Locks and loops over streams round the proved calls of cells.h. */
-#define _POSIX_C_SOURCE 200809L
-#include "session.h"
+/* Locks, loops over streams and files round the proved calls of cells.h. Nothing here is proved.
+ *
+ * Order of locks: `files`, then `desk`, then one slot's `lock`. */
+#define _GNU_SOURCE
+#include "cells.h"
+#include <dirent.h>
 #include <errno.h>
+#include <fcntl.h>
+#include <inttypes.h>
+#include <pthread.h>
+#include <semaphore.h>
+#include <signal.h>
+#include <stdatomic.h>
+#include <stdio.h>
 #include <stdlib.h>
 #include <string.h>
+#include <sys/stat.h>
 #include <time.h>
+#include <unistd.h>
 
-_Static_assert(sizeof(tracerd_offered) == sizeof(trc_offered), "an offer's answer is written by the cell");
-_Static_assert(offsetof(tracerd_offered, gone_count) == offsetof(trc_offered, gone_count), "in the same places");
+enum { STREAMS = 1024, APART = 128, NAME = 64, FILE_NAME = 96, PATH = 4096, ROOM = 65536, SMALL_ROOM = 16384 };
+enum { MOMENTS = 42, SECOND = 1000000000 }; /* bytes of an archive's name before its number; nanoseconds */
+enum { OFF, ON, BUSY };
 
-/* The memory of cells: the build has them call this in place of malloc. A block is whole pairs of cache lines, so that no other
- * thread's data shares one with it. What grows later may share one, and no offer lets anything grow. */
+/* A producer and its stream, in memory that no other slot's thread touches. */
+typedef struct {
+    _Alignas(APART) tracerd_producer front;
+    pthread_mutex_t lock; /* guards what follows, and writes of `front` */
+    trc_stream stream;
+    bool is_out; /* not given back */
+    uint64_t number;
+} slot;
+
+struct tracerd_session {
+    char name[NAME + 1];
+    tracerd_kind kind;
+    pthread_mutex_t desk; /* guards the book, and additions of slots; recursive */
+    trc_book book;
+    slot *_Atomic slots[STREAMS + 1]; /* NULL after the last: EACH reads them without the desk */
+    pthread_mutex_t files; /* guards `room`, and keeps an archive from being released while it is written */
+    uint8_t room[ROOM];
+    _Atomic int drainer; /* OFF, ON, or BUSY: what follows is the thread's that starts or stops it */
+    uint64_t period;
+    sem_t bell; /* rung, it ends the drainer */
+    pthread_t thread;
+};
+
+/* ---- Calls are chained by `?:`, up to the first that is refused ---- */
+
+/* A cell's answer. A want of memory has codes of each call's own there, and one of the session's here. */
+static tracerd_status said(uint32_t code) {
+    if (code == TRC_S_NO_MEMORY || code == TRC_T_NO_MEMORY || code == TRC_C_NO_MEMORY || code == TRC_A_NO_MEMORY)
+        return TRACERD_NO_MEMORY;
+    return code == TRC_TOO_MUCH ? TRACERD_READ : (tracerd_status)code;
+}
+
+static tracerd_status leave(pthread_mutex_t *lock, uint32_t code) {
+    pthread_mutex_unlock(lock);
+    return said(code);
+}
+
+/* An answer, but for one that is no refusal here. */
+static tracerd_status except(uint32_t fine, uint32_t code) { return code == fine ? TRACERD_OK : said(code); }
+
+/* What is done once all before went through. */
+#define DONE(effect) ((effect), (tracerd_status)TRACERD_OK)
+
+/* What is called while a lock is held. */
+#define LOCKED(lock, call) (pthread_mutex_lock(lock), leave(lock, call))
+
+/* What is called with each slot `s` of a session, in order, up to the first that is refused. */
+#define EACH(t, s, call) __extension__({                                                       \
+    tracerd_status status_ = TRACERD_OK;                                                       \
+    slot *s;                                                                                   \
+    for (slot *_Atomic *at_ = (t)->slots; !status_ && (s = *at_); at_++) status_ = said(call); \
+    status_;                                                                                   \
+})
+#define EACH_LOCKED(t, s, call) EACH(t, s, LOCKED(&s->lock, call))
+
+/* ---- A session is made ---- */
+
+/* The memory of cells: the build has them call this in place of malloc. A block is whole pairs of cache lines, so that
+ * no other thread's data shares one with it. What grows later may share one, and no offer lets anything grow. */
 void *trc_apart(size_t size) {
     return size > SIZE_MAX - APART ? NULL : aligned_alloc(APART, (size + APART - 1) / APART * APART);
 }
 
-uint32_t trc_each(tracerd_session *t, action *act, void *with) {
-    uint32_t code = TRC_DONE, streams = __atomic_load_n(&t->streams, __ATOMIC_ACQUIRE);
-    for (uint32_t i = 0; i < streams && !code; i++) code = locked(t, t->slots[i], act, with);
-    return code;
-}
-
-uint64_t tracerd_now(void) {
-    struct timespec now;
-    clock_gettime(CLOCK_REALTIME, &now);
-    return (uint64_t)now.tv_sec * 1000000000 + (uint64_t)now.tv_nsec;
-}
-
-/* ---- A session is made ---- */
-
 tracerd_status tracerd_new(tracerd_session **session, const char *name, const uint8_t uuid[16], int32_t east,
                            tracerd_kind kind) {
     *session = NULL;
-    uint32_t code = trc_name((const uint8_t *)name, strlen(name));
-    if (code) return said(code);
+    if (trc_name((const uint8_t *)name, strlen(name))) return TRACERD_BAD_NAME;
     tracerd_session *t = calloc(1, sizeof *t);
     if (!t) return TRACERD_NO_MEMORY;
-    code = trc_book_new(&t->book, uuid, 16, east, kind);
-    if (code) {
-        free(t);
-        return said(code);
-    }
-    t->desk = t->files = t->bell = (pthread_mutex_t)PTHREAD_MUTEX_INITIALIZER;
+    t->desk = (pthread_mutex_t)PTHREAD_RECURSIVE_MUTEX_INITIALIZER_NP;
+    t->files = (pthread_mutex_t)PTHREAD_MUTEX_INITIALIZER;
+    t->kind = kind;
     strcpy(t->name, name);
-    *session = t;
-    return TRACERD_OK;
+    tracerd_status status = said(trc_book_new(&t->book, uuid, 16, east, kind)) ?: DONE(*session = t);
+    if (status) free(t);
+    return status;
 }
 
 void tracerd_free(tracerd_session *t) {
     if (!t) return;
     tracerd_drainer_stop(t);
-    for (uint32_t i = 0; i < t->streams; i++) {
-        trc_stream_free(&t->slots[i]->stream);
-        free(t->slots[i]);
-    }
+    (void)EACH(t, s, DONE((trc_stream_free(&s->stream), free(s))));
     trc_book_free(&t->book);
     free(t);
 }
 
 tracerd_status tracerd_channel(tracerd_session *t, const char *name, uint64_t size, uint64_t count, tracerd_mode mode) {
-    pthread_mutex_lock(&t->desk);
-    return leave(&t->desk, trc_book_channel(&t->book, (const uint8_t *)name, strlen(name), size, count, mode));
+    return LOCKED(&t->desk, trc_book_channel(&t->book, (const uint8_t *)name, strlen(name), size, count, mode));
 }
 
 tracerd_status tracerd_producer_new(tracerd_session *t, const char *channel, tracerd_producer **producer) {
     slot *s = aligned_alloc(APART, sizeof *s);
     if (!s) return TRACERD_NO_MEMORY;
     *s = (slot){.lock = PTHREAD_MUTEX_INITIALIZER, .is_out = true};
-    pthread_mutex_lock(&t->desk);
-    uint32_t code = trc_book_thread(&t->book, &s->stream, (const uint8_t *)channel, strlen(channel), &s->number);
-    if (!code && s->number >= STREAMS) code = TRC_S_TOO_MANY; /* never, since STREAMS is the book's own limit */
-    if (code) {
-        trc_stream_free(&s->stream);
-        free(s);
-        return leave(&t->desk, code);
-    }
-    t->slots[s->number] = s;
-    __atomic_store_n(&t->streams, (uint32_t)s->number + 1, __ATOMIC_RELEASE);
-    *producer = &s->front;
-    return leave(&t->desk, TRC_DONE);
+    tracerd_status status = LOCKED(&t->desk, /* a book has STREAMS at most */
+        trc_book_thread(&t->book, &s->stream, (const uint8_t *)channel, strlen(channel), &s->number) ?:
+        DONE(*producer = &(t->slots[s->number] = s)->front));
+    if (status) free(s);
+    return status;
 }
 
 uint64_t tracerd_producer_number(const tracerd_producer *producer) { return ((const slot *)producer)->number; }
 
-static void set_active(slot *s, bool active) { __atomic_store_n(&s->front.active, active && s->is_out, __ATOMIC_RELAXED); }
+static void set_active(slot *s, bool on) { __atomic_store_n(&s->front.active, on && s->is_out, __ATOMIC_RELAXED); }
 
 tracerd_status tracerd_producer_done(tracerd_producer *producer) {
     slot *s = (slot *)producer;
-    pthread_mutex_lock(&s->lock);
-    uint32_t code = s->is_out ? TRC_DONE : TRC_CLOSED;
-    s->is_out = false;
-    set_active(s, false);
-    return leave(&s->lock, code);
+    return LOCKED(&s->lock, s->is_out ? DONE(set_active(s, s->is_out = false)) : TRACERD_CLOSED);
 }
 
-static uint32_t switch_stream(tracerd_session *t, slot *s, void *active) {
-    uint32_t code = trc_book_switch(&t->book, &s->stream, *(bool *)active);
-    if (!code) set_active(s, *(bool *)active);
-    return code;
+static tracerd_status switch_all(tracerd_session *t, bool active) {
+    return EACH_LOCKED(t, s, trc_book_switch(&t->book, &s->stream, active) ?: DONE(set_active(s, active)));
 }
 
 tracerd_status tracerd_start(tracerd_session *t, uint64_t moment) {
-    pthread_mutex_lock(&t->desk);
-    uint32_t code = trc_book_start(&t->book, moment);
-    return leave(&t->desk, code ? code : trc_each(t, switch_stream, &(bool){true}));
+    return LOCKED(&t->desk, trc_book_start(&t->book, moment) ?: switch_all(t, true));
 }
 
 tracerd_status tracerd_stop(tracerd_session *t) {
-    pthread_mutex_lock(&t->desk);
-    uint32_t code = trc_book_stop(&t->book);
-    return leave(&t->desk, code ? code : trc_each(t, switch_stream, &(bool){false}));
+    return LOCKED(&t->desk, trc_book_stop(&t->book) ?: switch_all(t, false));
 }
 
 /* ---- Recording and draining ---- */
 
+uint64_t tracerd_now(void) {
+    struct timespec now;
+    clock_gettime(CLOCK_REALTIME, &now);
+    return (uint64_t)now.tv_sec * SECOND + (uint64_t)now.tv_nsec;
+}
+
 tracerd_status tracerd_offer(tracerd_producer *producer, uint64_t moment, uint32_t id, const void *payload, size_t size,
                              tracerd_offered *offered) {
-    static const uint8_t nowhere; /* a slice of no bytes still points somewhere */
     slot *s = (slot *)producer;
-    uint32_t code = TRC_CLOSED;
-    pthread_mutex_lock(&s->lock);
-    if (s->is_out) code = trc_stream_offer(&s->stream, moment, id, size ? payload : &nowhere, size, (trc_offered *)offered);
-    pthread_mutex_unlock(&s->lock);
-    return (tracerd_status)code;
+    return LOCKED(&s->lock, !s->is_out ? TRACERD_CLOSED : /* a slice of no bytes still points somewhere */
+        trc_stream_offer(&s->stream, moment, id, size ? payload : "", size, offered));
 }
 
 tracerd_status tracerd_trace(tracerd_producer *producer, uint32_t id, const void *payload, size_t size) {
@@ -130,235 +164,271 @@ tracerd_status tracerd_trace(tracerd_producer *producer, uint32_t id, const void
     return tracerd_offer(producer, tracerd_now(), id, payload, size, &offered);
 }
 
-static uint32_t take(tracerd_session *t, slot *s, void *packets) {
+static tracerd_status drain_stream(slot *s, uint64_t *packets) {
     trc_taken taken;
-    (void)t;
-    uint32_t code = trc_stream_take(&s->stream, &taken);
-    *(uint64_t *)packets += !code;
-    return code;
+    tracerd_status status = TRACERD_OK;
+    while (!status) /* an offer may come between two takes */
+        status = LOCKED(&s->lock, trc_stream_take(&s->stream, &taken)) ?: DONE(++*packets);
+    return except(TRC_T_NOTHING, status);
 }
 
 tracerd_status tracerd_drain(tracerd_session *t, uint64_t *packets) {
     uint64_t count = 0;
-    uint32_t code = TRC_DONE, streams = __atomic_load_n(&t->streams, __ATOMIC_ACQUIRE);
-    for (uint32_t i = 0; i < streams && !code; i++) {
-        while (!code) code = locked(t, t->slots[i], take, &count); /* an offer may come between two takes */
-        if (code == TRC_T_NOTHING) code = TRC_DONE;
-    }
-    if (!code) *packets = count;
-    return said(code);
+    if (t->kind == TRACERD_SNAPSHOT) return TRACERD_SNAPSHOT_MODE;
+    return EACH(t, s, drain_stream(s, &count)) ?: DONE(*packets = count);
 }
 
 static void *drain_each_period(void *session) {
     tracerd_session *t = session;
     uint64_t packets;
-    pthread_mutex_lock(&t->bell);
+    struct timespec until;
     do {
-        struct timespec until;
+        (void)tracerd_drain(t, &packets); /* what there is no memory for is taken in a later round */
         clock_gettime(CLOCK_MONOTONIC, &until);
-        uint64_t nanoseconds = (uint64_t)until.tv_nsec + t->period % 1000000000;
-        until.tv_sec += (time_t)(t->period / 1000000000 + nanoseconds / 1000000000);
-        until.tv_nsec = (long)(nanoseconds % 1000000000);
-        while (t->drainer == ON && pthread_cond_timedwait(&t->rung, &t->bell, &until) != ETIMEDOUT) {}
-        pthread_mutex_unlock(&t->bell);
-        tracerd_status drained = tracerd_drain(t, &packets);
-        pthread_mutex_lock(&t->bell);
-        t->drained = drained;
-    } while (t->drainer == ON);
-    pthread_mutex_unlock(&t->bell);
+        uint64_t nanoseconds = (uint64_t)until.tv_nsec + t->period % SECOND;
+        until.tv_sec += (time_t)(t->period / SECOND + nanoseconds / SECOND);
+        until.tv_nsec = (long)(nanoseconds % SECOND);
+    } while (sem_clockwait(&t->bell, CLOCK_MONOTONIC, &until));
     return NULL;
 }
 
 tracerd_status tracerd_drainer_start(tracerd_session *t, uint64_t period) {
-    uint64_t packets;
-    pthread_condattr_t monotonic;
-    tracerd_status status = tracerd_drain(t, &packets);
-    if (status) return status;
-    pthread_mutex_lock(&t->bell);
-    if (t->drainer != OFF) return leave(&t->bell, TRACERD_DRAINING);
-    if (pthread_condattr_init(&monotonic)) return leave(&t->bell, TRACERD_NO_MEMORY);
-    pthread_condattr_setclock(&monotonic, CLOCK_MONOTONIC);
-    status = pthread_cond_init(&t->rung, &monotonic) ? TRACERD_NO_MEMORY : TRACERD_OK;
-    pthread_condattr_destroy(&monotonic);
-    if (status) return leave(&t->bell, status);
-    t->period = period, t->drainer = ON;
-    if (!pthread_create(&t->thread, NULL, drain_each_period, t)) return leave(&t->bell, TRACERD_OK);
-    t->drainer = OFF;
-    pthread_cond_destroy(&t->rung);
-    return leave(&t->bell, TRACERD_NO_MEMORY);
+    sigset_t all, before;
+    if (t->kind == TRACERD_SNAPSHOT) return TRACERD_SNAPSHOT_MODE;
+    if (!atomic_compare_exchange_strong(&t->drainer, &(int){OFF}, BUSY)) return TRACERD_DRAINING;
+    t->period = period;
+    sem_init(&t->bell, 0, 0);
+    sigfillset(&all);
+    pthread_sigmask(SIG_SETMASK, &all, &before); /* signals are for the program's own threads */
+    bool is_made = !pthread_create(&t->thread, NULL, drain_each_period, t);
+    pthread_sigmask(SIG_SETMASK, &before, NULL);
+    t->drainer = is_made ? ON : OFF;
+    return is_made ? TRACERD_OK : TRACERD_NO_MEMORY;
 }
 
 tracerd_status tracerd_drainer_stop(tracerd_session *t) {
-    pthread_mutex_lock(&t->bell);
-    if (t->drainer != ON) return leave(&t->bell, TRACERD_NOT_DRAINING);
-    t->drainer = ENDING;
-    pthread_cond_signal(&t->rung);
-    pthread_mutex_unlock(&t->bell);
+    uint64_t packets;
+    if (!atomic_compare_exchange_strong(&t->drainer, &(int){ON}, BUSY)) return TRACERD_NOT_DRAINING;
+    sem_post(&t->bell);
     pthread_join(t->thread, NULL);
-    pthread_mutex_lock(&t->bell);
+    tracerd_status last = tracerd_drain(t, &packets); /* with what was closed behind its last round */
     t->drainer = OFF;
-    pthread_cond_destroy(&t->rung);
-    return leave(&t->bell, t->drained);
+    return last;
 }
 
-/* ---- Rotations, clears and releases ---- */
+/* ---- Rotations, clears, releases and accounts ---- */
 
-static uint32_t cut(tracerd_session *t, slot *s, void *done) { return trc_rotate_cut(&t->book, &s->stream, done); }
-
-/* Cuts what the pending rotation has not cut, and ends it. The desk is held. */
-static uint32_t go_on(tracerd_session *t, uint64_t *archive) {
+tracerd_status tracerd_rotate_on(tracerd_session *t, uint64_t *archive) {
     trc_archive made;
-    trc_cut done;
-    bool left;
-    uint64_t number;
-    uint32_t code = trc_rotate_next(&t->book, &left, &number);
-    while (!code && left) {
-        code = locked(t, t->slots[number], cut, &done);
-        if (!code) code = trc_rotate_next(&t->book, &left, &number);
-    }
-    if (!code) code = trc_rotate_finish(&t->book, &made);
-    if (!code) *archive = made.id;
-    return code;
+    trc_cut cut; /* of a stream that was cut before none is pending */
+    return LOCKED(&t->desk,
+        EACH_LOCKED(t, s, except(TRC_S_NOT_PENDING, trc_rotate_cut(&t->book, &s->stream, &cut))) ?:
+        trc_rotate_finish(&t->book, &made) ?: DONE(*archive = made.id));
 }
 
 tracerd_status tracerd_rotate(tracerd_session *t, uint64_t moment, uint64_t *archive) {
     uint64_t chunk;
-    pthread_mutex_lock(&t->desk);
-    uint32_t code = trc_rotate_begin(&t->book, moment, &chunk);
-    return leave(&t->desk, code ? code : go_on(t, archive));
-}
-
-tracerd_status tracerd_rotate_on(tracerd_session *t, uint64_t *archive) {
-    pthread_mutex_lock(&t->desk);
-    return leave(&t->desk, go_on(t, archive));
+    return LOCKED(&t->desk, trc_rotate_begin(&t->book, moment, &chunk) ?: tracerd_rotate_on(t, archive));
 }
 
 tracerd_status tracerd_schedule(tracerd_session *t, uint64_t every, uint64_t bytes) {
-    pthread_mutex_lock(&t->desk);
-    return leave(&t->desk, trc_book_schedule(&t->book, every != TRACERD_NEVER, every, bytes != TRACERD_NEVER, bytes));
-}
-
-static uint32_t measure(tracerd_session *t, slot *s, void *sizes) {
-    trc_counts counts;
-    (void)t;
-    uint32_t code = trc_stream_counts(&s->stream, &counts);
-    if (!code) ((uint64_t *)sizes)[s->number] = counts.current_bytes;
-    return code;
+    return LOCKED(&t->desk, trc_book_schedule(&t->book, every != TRACERD_NEVER, every, bytes != TRACERD_NEVER, bytes));
 }
 
 tracerd_status tracerd_tick(tracerd_session *t, uint64_t moment, tracerd_cause *cause, uint64_t *archive) {
-    uint64_t sizes[STREAMS], chunk;
+    uint64_t sizes[STREAMS], streams = 0;
+    trc_counts counts;
     uint32_t due;
-    pthread_mutex_lock(&t->desk);
-    uint32_t code = trc_each(t, measure, sizes);
-    if (!code) code = trc_book_due(&t->book, moment, sizes, t->streams, &due);
-    if (!code && due != TRC_IDLE) {
-        code = trc_rotate_begin(&t->book, moment, &chunk);
-        if (!code) code = go_on(t, archive);
-    }
-    if (!code) *cause = (tracerd_cause)due;
-    return leave(&t->desk, code);
-}
-
-static uint32_t clear(tracerd_session *t, slot *s, void *records) {
-    trc_cleared cleared;
-    uint32_t code = trc_book_clear(&t->book, &s->stream, &cleared);
-    if (!code) *(uint64_t *)records += cleared.records;
-    return code;
+    return LOCKED(&t->desk,
+        EACH_LOCKED(t, s, trc_stream_counts(&s->stream, &counts) ?: DONE(sizes[streams++] = counts.current_bytes)) ?:
+        trc_book_due(&t->book, moment, sizes, streams, &due) ?:
+        due == TRC_IDLE ? TRACERD_OK : tracerd_rotate(t, moment, archive)) ?: DONE(*cause = (tracerd_cause)due);
 }
 
 tracerd_status tracerd_clear(tracerd_session *t, uint64_t *records) {
     uint64_t count = 0;
-    pthread_mutex_lock(&t->desk);
-    uint32_t code = trc_book_can_clear(&t->book);
-    if (!code) code = trc_each(t, clear, &count);
-    if (!code) *records = count;
-    return leave(&t->desk, code);
-}
-
-typedef struct { uint64_t archive; bool is_any; } releasing;
-
-static uint32_t release(tracerd_session *t, slot *s, void *with) {
-    releasing *it = with;
-    trc_released released;
-    uint32_t code = trc_book_release(&t->book, &s->stream, it->archive, &released);
-    it->is_any |= !code;
-    return code == TRC_S_RELEASED ? (uint32_t)TRC_DONE : code;
+    trc_cleared cleared;
+    return LOCKED(&t->desk, trc_book_can_clear(&t->book) ?:
+        EACH_LOCKED(t, s, trc_book_clear(&t->book, &s->stream, &cleared) ?: DONE(count += cleared.records))) ?:
+        DONE(*records = count);
 }
 
 tracerd_status tracerd_release(tracerd_session *t, uint64_t archive) {
-    releasing it = {archive, false};
-    pthread_mutex_lock(&t->files);
-    pthread_mutex_lock(&t->desk);
-    uint32_t code = trc_book_can_release(&t->book, archive);
-    if (!code) code = trc_each(t, release, &it);
-    if (!code && !it.is_any) code = TRC_S_RELEASED;
-    return leave(&t->files, leave(&t->desk, code));
+    trc_released given;
+    uint32_t last = TRC_S_RELEASED; /* of no streams; else all are released if the last one is */
+    return LOCKED(&t->files, LOCKED(&t->desk, trc_book_can_release(&t->book, archive) ?:
+        EACH_LOCKED(t, s, except(TRC_S_RELEASED, last = trc_book_release(&t->book, &s->stream, archive, &given))) ?:
+        last));
 }
 
-/* ---- Accounts ---- */
-
-static uint32_t add_counts(tracerd_session *t, slot *s, void *sum) {
-    tracerd_counts *all = sum;
-    trc_counts counts;
-    (void)t;
-    uint32_t code = trc_stream_counts(&s->stream, &counts);
-    if (code) return code;
-    all->offered += counts.offered, all->discarded += counts.discarded, all->overwritten += counts.overwritten;
-    all->cleared += counts.cleared, all->in_ring += counts.in_ring, all->in_chunks += counts.in_chunks;
+static uint32_t add_counts(slot *s, tracerd_counts *sum) {
+    trc_counts one = {0};
+    uint32_t code = trc_stream_counts(&s->stream, &one);
+    *sum = (tracerd_counts){sum->offered + one.offered,         sum->discarded + one.discarded,
+                            sum->overwritten + one.overwritten, sum->cleared + one.cleared,
+                            sum->in_ring + one.in_ring,         sum->in_chunks + one.in_chunks};
     return code;
 }
 
 tracerd_status tracerd_counts_of(tracerd_producer *producer, tracerd_counts *counts) {
+    slot *s = (slot *)producer;
     *counts = (tracerd_counts){0};
-    return said(locked(NULL, (slot *)producer, add_counts, counts));
+    return LOCKED(&s->lock, add_counts(s, counts));
 }
 
 tracerd_status tracerd_counts_sum(tracerd_session *t, tracerd_counts *counts) {
     *counts = (tracerd_counts){0};
-    return said(trc_each(t, add_counts, counts));
-}
-
-static uint32_t is_back(tracerd_session *t, slot *s, void *stream) {
-    (void)t;
-    if (s->is_out) *(uint64_t *)stream = s->number;
-    return s->is_out ? (uint32_t)TRACERD_MISSING : (uint32_t)TRC_DONE;
+    return EACH_LOCKED(t, s, add_counts(s, counts));
 }
 
 tracerd_status tracerd_settle(tracerd_session *t, tracerd_counts *counts, uint64_t *stream) {
-    pthread_mutex_lock(&t->bell);
-    tracerd_status status = leave(&t->bell, t->drainer == OFF ? TRACERD_OK : TRACERD_DRAINING);
-    if (!status) status = said(trc_each(t, is_back, stream));
-    return status ? status : tracerd_counts_sum(t, counts);
+    if (t->drainer != OFF) return TRACERD_DRAINING;
+    return LOCKED(&t->desk, /* no producer is added meanwhile */
+        EACH_LOCKED(t, s, s->is_out ? (*stream = s->number, TRACERD_MISSING) : TRACERD_OK) ?:
+        tracerd_counts_sum(t, counts));
 }
 
 tracerd_status tracerd_fate_of(tracerd_producer *producer, uint64_t serial, tracerd_fate *fate) {
     slot *s = (slot *)producer;
-    trc_fate found = {0};
-    pthread_mutex_lock(&s->lock);
-    tracerd_status status = leave(&s->lock, trc_stream_fate(&s->stream, serial, &found));
-    if (!status) *fate = (tracerd_fate){found.kind, found.chunk, found.seq};
-    return status;
+    return LOCKED(&s->lock, trc_stream_fate(&s->stream, serial, fate));
 }
-
-/* ---- Names ---- */
-
-#define NAMED(status, name) case TRACERD_##status: return name
 
 const char *tracerd_status_name(tracerd_status status) {
     switch (status) {
-    NAMED(OK, "Ok"); NAMED(NO_MEMORY, "NoMemory"); NAMED(CLOSED, "Closed"); NAMED(BAD_MOMENT, "BadMoment");
-    NAMED(BAD_MODE, "BadMode"); NAMED(BAD_NAME, "BadName"); NAMED(BAD_OFFSET, "BadOffset"); NAMED(WRITE, "Write");
-    NAMED(READ, "Read"); NAMED(MISSING, "Missing"); NAMED(DRAINING, "Draining"); NAMED(NOT_DRAINING, "NotDraining");
-    NAMED(SNAPSHOT_MODE, "SnapshotMode"); NAMED(NOT_SNAPSHOT_MODE, "NotSnapshotMode");
-    NAMED(NEVER_STARTED, "NeverStarted"); NAMED(ROTATION_PENDING, "RotationPending");
-    NAMED(ALREADY_ROTATED, "AlreadyRotated"); NAMED(ALREADY_ACTIVE, "AlreadyActive"); NAMED(NOT_ACTIVE, "NotActive");
-    NAMED(DISCARD_IN_SNAPSHOT, "DiscardInSnapshot"); NAMED(ALREADY_STARTED, "AlreadyStarted");
-    NAMED(BAD_GEOMETRY, "BadGeometry"); NAMED(TOO_MANY, "TooMany"); NAMED(NOT_PENDING, "NotPending");
-    NAMED(NAME_TAKEN, "NameTaken"); NAMED(NO_CHANNEL, "NoChannel"); NAMED(NO_ARCHIVE, "NoArchive");
-    NAMED(RELEASED, "Released"); NAMED(INACTIVE, "Inactive"); NAMED(TOO_BIG, "TooBig"); NAMED(SPENT, "Spent");
-    NAMED(ZERO_PERIOD, "ZeroPeriod"); NAMED(ZERO_SIZE, "ZeroSize"); NAMED(PACKET, "Packet");
-    NAMED(NUMBER_REPEAT, "NumberRepeat"); NAMED(SERIAL_REPEAT, "SerialRepeat"); NAMED(FOREIGN, "Foreign");
+#include "status_names.h" /* of each status of tracerd.h a case, which clib/build makes */
     }
     return "Unknown";
+}
+
+/* ---- Archives and snapshots as files, and the audit of these ---- */
+
+/* Puts together a path. `otherwise` if it is too long. */
+#define PUT(path, otherwise, ...) \
+    ((unsigned)snprintf(path, PATH, __VA_ARGS__) < PATH ? TRACERD_OK : (errno = ENAMETOOLONG, otherwise))
+
+/* Makes the folders that a path names, each before a slash. */
+static tracerd_status make_folders(char *path) {
+    for (char *end = strchr(path + 1, '/'); end; end = strchr(end + 1, '/')) {
+        *end = 0;
+        if (mkdir(path, 0777) && errno != EEXIST) return TRACERD_WRITE;
+        *end = '/';
+    }
+    return TRACERD_OK;
+}
+
+static tracerd_status write_whole(int file, const uint8_t *bytes, uint64_t size) {
+    for (ssize_t done; size; bytes += done, size -= (uint64_t)done) {
+        done = TEMP_FAILURE_RETRY(write(file, bytes, size));
+        if (done <= 0) return TRACERD_WRITE;
+    }
+    return TRACERD_OK;
+}
+
+/* Writes a slot's file below a folder: what it shows at a moment, or else its part of an archive. Without a slot it is
+ * the metadata, of which none is left rather than a piece. Each file is written in pieces, up to an empty one. */
+static tracerd_status write_file(tracerd_session *t, const char *below, slot *s, uint64_t archive, uint64_t *moment) {
+    char path[PATH], name[FILE_NAME] = "metadata";
+    uint64_t at = 0, size = strlen(name);
+    trc_snap snap = {0};
+    tracerd_status status = !s ? TRACERD_OK : LOCKED(&t->desk,
+        trc_book_file_name(&t->book, s->number, (uint8_t *)name, FILE_NAME, &size) ?:
+        !moment ? TRACERD_OK : LOCKED(&s->lock, trc_book_look(&t->book, &s->stream, *moment, &snap)));
+    status = status ?: PUT(path, TRACERD_WRITE, "%s%.*s", below, (int)size, name);
+    int file = status ? -1 : TEMP_FAILURE_RETRY(open(path, O_WRONLY | O_CREAT | O_TRUNC | O_CLOEXEC, 0666));
+    if (file < 0) status = status ?: TRACERD_WRITE;
+    while (!status && size) {
+        size = 0;
+        if (moment && s) status = said(trc_snap_text(&snap, at, t->room, ROOM, &size));
+        else if (s) status = LOCKED(&s->lock, trc_stream_text(&s->stream, archive, at, t->room, ROOM, &size));
+        else if (!at) status = LOCKED(&t->desk, trc_book_metadata(&t->book, t->room, ROOM, &size));
+        status = status ?: write_whole(file, t->room, size);
+        at += size;
+    }
+    if (file >= 0 && close(file)) status = status ?: TRACERD_WRITE;
+    if (file >= 0 && status && !s) unlink(path);
+    trc_snap_free(&snap);
+    return status;
+}
+
+/* The name of an archive's folder, all parts of which have their bytes; or of a snapshot's, which is begun. */
+static tracerd_status name_folder(tracerd_session *t, uint64_t archive, uint64_t *moment, char name[NAME]) {
+    uint64_t size;
+    trc_part part;
+    if (moment) return trc_book_snapshot(&t->book, *moment, moment) ?:
+                       trc_book_snapshot_name(&t->book, *moment, (uint8_t *)name, NAME - 1, &size);
+    return trc_book_archive_name(&t->book, archive, (uint8_t *)name, NAME - 1, &size) ?:
+           EACH_LOCKED(t, s, trc_stream_part(&s->stream, archive, &part) ?:
+                             part.released ? TRACERD_RELEASED : TRACERD_OK);
+}
+
+/* Writes the folder of an archive, or of a snapshot if there is a moment: metadata last. `files` is held. */
+static tracerd_status write_folder(tracerd_session *t, uint64_t archive, uint64_t *moment, const char *below) {
+    char folder[PATH], name[NAME] = "";
+    return LOCKED(&t->desk, name_folder(t, archive, moment, name)) ?:
+           PUT(folder, TRACERD_WRITE, "%s/%s/archives/%s/", below, t->name, name) ?: make_folders(folder) ?:
+           EACH(t, s, write_file(t, folder, s, archive, moment)) ?: write_file(t, folder, NULL, archive, moment);
+}
+
+tracerd_status tracerd_write(tracerd_session *t, uint64_t archive, const char *folder) {
+    return LOCKED(&t->files, write_folder(t, archive, NULL, folder));
+}
+
+tracerd_status tracerd_snapshot(tracerd_session *t, uint64_t moment, const char *folder) {
+    return LOCKED(&t->files, write_folder(t, 0, &moment, folder));
+}
+
+static int is_archive(const struct dirent *entry) {
+    static const char form[] = "%*8[0-9]T%*6[0-9]%*1[+-]%*4[0-9]-%*8[0-9]T%*6[0-9]%*1[+-]%*4[0-9]-%n%*[0-9]%n";
+    int moments = 0, all = 0;
+    sscanf(entry->d_name, form, &moments, &all);
+    return moments == MOMENTS && all && !entry->d_name[all];
+}
+
+static uint64_t number_of(const struct dirent *archive) { return strtoull(archive->d_name + MOMENTS, NULL, 10); }
+
+static int by_number(const struct dirent **one, const struct dirent **other) {
+    return (number_of(*one) > number_of(*other)) - (number_of(*one) < number_of(*other));
+}
+
+static tracerd_status feed_file(trc_audit *audit, const char *path, trc_flaw *flaw) {
+    uint8_t room[SMALL_ROOM];
+    ssize_t size;
+    tracerd_status status;
+    int file = TEMP_FAILURE_RETRY(open(path, O_RDONLY | O_CLOEXEC));
+    if (file < 0) return TRACERD_READ;
+    do {
+        size = TEMP_FAILURE_RETRY(read(file, room, sizeof room));
+        status = size < 0 ? TRACERD_READ : said(trc_audit_feed(audit, room, (size_t)size, flaw));
+    } while (!status && size);
+    close(file);
+    return status;
+}
+
+tracerd_status tracerd_audit(const char *folder, const char *session, const char *channel, uint64_t stream,
+                             const uint8_t uuid[16], tracerd_audited *audited) {
+    char path[PATH];
+    struct dirent **all;
+    trc_audit audit = {0};
+    trc_audited found = {0};
+    trc_flaw flaw = {0};
+    if (PUT(path, TRACERD_READ, "%s/%s/archives/", folder, session)) return TRACERD_READ;
+    int count = scandir(path, &all, is_archive, by_number);
+    if (count < 0) return errno == ENOMEM ? TRACERD_NO_MEMORY : TRACERD_READ;
+    tracerd_status status = said(trc_audit_new(&audit, uuid, 16, stream));
+    for (int i = 0; i < count && !status; i++) {
+        const char *archive = all[i]->d_name;
+        if (i) status = said(trc_audit_next(&audit, &flaw));
+        status = status ?:
+            PUT(path, TRACERD_READ, "%s/%s/archives/%s/%s_%" PRIu64, folder, session, archive, channel, stream) ?:
+            feed_file(&audit, path, &flaw);
+    }
+    status = status ?: said(trc_audit_end(&audit, &found, &flaw));
+    trc_audit_free(&audit);
+    if (!status || status >= TRACERD_PACKET)
+        *audited = (tracerd_audited){found.packets, found.records, found.absent, found.last_lost,
+                                     found.last_seq, found.last_serial, status ? number_of(all[flaw.piece]) : 0,
+                                     flaw.offset, flaw.packet};
+    while (count) free(all[--count]);
+    free(all);
+    return status;
 }

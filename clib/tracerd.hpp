@@ -6,6 +6,7 @@
 #include <memory>
 #include <stdexcept>
 #include <string>
+#include <utility>
 
 namespace tracerd {
 
@@ -23,6 +24,12 @@ inline void must(tracerd_status status) {
     if (status != TRACERD_OK) throw refused(status);
 }
 
+// A name or a path for C, which would end it at a zero byte.
+inline const char *text(const std::string &given, tracerd_status otherwise) {
+    if (given.find('\0') != std::string::npos) throw refused(otherwise);
+    return given.c_str();
+}
+
 // One thread's right to offer: it may be moved to a thread, gives itself back, and keeps its session alive.
 class producer {
 public:
@@ -30,8 +37,9 @@ public:
         other.handle_ = nullptr;
     }
     producer &operator=(producer &&other) noexcept {
-        std::swap(session_, other.session_);
-        std::swap(handle_, other.handle_);
+        producer moved(std::move(other)); // so that what this one had is given back now
+        std::swap(session_, moved.session_);
+        std::swap(handle_, moved.handle_);
         return *this;
     }
     ~producer() {
@@ -68,15 +76,15 @@ class session {
 public:
     session(const std::string &name, const std::array<uint8_t, 16> &uuid, int32_t east = 0, tracerd_kind kind = TRACERD_LOCAL) {
         tracerd_session *handle;
-        must(tracerd_new(&handle, name.c_str(), uuid.data(), east, kind));
+        must(tracerd_new(&handle, text(name, TRACERD_BAD_NAME), uuid.data(), east, kind));
         handle_.reset(handle, tracerd_free);
     }
     void channel(const std::string &name, uint64_t size, uint64_t count, tracerd_mode mode) {
-        must(tracerd_channel(get(), name.c_str(), size, count, mode));
+        must(tracerd_channel(get(), text(name, TRACERD_BAD_NAME), size, count, mode));
     }
     class producer producer(const std::string &channel) {
         tracerd_producer *handle;
-        must(tracerd_producer_new(get(), channel.c_str(), &handle));
+        must(tracerd_producer_new(get(), text(channel, TRACERD_BAD_NAME), &handle));
         return {handle_, handle};
     }
     void start(uint64_t moment) { must(tracerd_start(get(), moment)); }
@@ -97,9 +105,13 @@ public:
         must(tracerd_tick(get(), moment, &cause, &archive));
         return cause;
     }
-    void write(uint64_t archive, const std::string &folder) { must(tracerd_write(get(), archive, folder.c_str())); }
+    void write(uint64_t archive, const std::string &folder) {
+        must(tracerd_write(get(), archive, text(folder, TRACERD_WRITE)));
+    }
     void release(uint64_t archive) { must(tracerd_release(get(), archive)); }
-    void snapshot(uint64_t moment, const std::string &folder) { must(tracerd_snapshot(get(), moment, folder.c_str())); }
+    void snapshot(uint64_t moment, const std::string &folder) {
+        must(tracerd_snapshot(get(), moment, text(folder, TRACERD_WRITE)));
+    }
     tracerd_counts counts() const {
         tracerd_counts counts;
         must(tracerd_counts_sum(get(), &counts));

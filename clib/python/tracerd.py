@@ -21,6 +21,7 @@ STORED, STORED_OVER, DISCARDED = 0, 1, 2
 IDLE, TIMER, SIZE = 0, 1, 2
 NOT_OFFERED, IN_RING, IN_CHUNK, WAS_DISCARDED, WAS_OVERWRITTEN, WAS_CLEARED = range(6)
 NEVER = 2**64 - 1
+_BAD_NAME, _WRITE, _READ = 7, 20, 21
 
 
 class _Struct(ctypes.Structure):
@@ -61,6 +62,20 @@ class Audited(_Struct):
     ]
 
 
+class _Number:
+    """A number of this kind, which ctypes would cut off without a word."""
+
+    def __init__(self, kind):
+        self._kind = kind
+
+    def from_param(self, value):
+        made = self._kind(value)
+        if made.value != value:
+            raise OverflowError(f"{value} is no {self._kind.__name__}")
+        return made
+
+
+_i32, _u32, _u64 = _Number(c_int32), _Number(c_uint32), _Number(c_uint64)
 _library = ctypes.CDLL(os.environ.get("TRACERD_SO", "libtracerd.so.0"))
 
 
@@ -71,32 +86,32 @@ def _call(name, *types, result=c_uint32):
 
 
 _number = POINTER(c_uint64)
-_status_name = _call("status_name", c_uint32, result=c_char_p)
-_new = _call("new", POINTER(c_void_p), c_char_p, c_char_p, c_int32, c_uint32)
+_status_name = _call("status_name", _u32, result=c_char_p)
+_new = _call("new", POINTER(c_void_p), c_char_p, c_char_p, _i32, _u32)
 _free = _call("free", c_void_p, result=None)
-_channel = _call("channel", c_void_p, c_char_p, c_uint64, c_uint64, c_uint32)
+_channel = _call("channel", c_void_p, c_char_p, _u64, _u64, _u32)
 _producer_new = _call("producer_new", c_void_p, c_char_p, POINTER(c_void_p))
 _producer_number = _call("producer_number", c_void_p, result=c_uint64)
 _producer_done = _call("producer_done", c_void_p)
-_start = _call("start", c_void_p, c_uint64)
+_start = _call("start", c_void_p, _u64)
 _stop = _call("stop", c_void_p)
-_offer = _call("offer", c_void_p, c_uint64, c_uint32, c_char_p, c_size_t, POINTER(Offered))
+_offer = _call("offer", c_void_p, _u64, _u32, c_char_p, c_size_t, POINTER(Offered))
 _drain = _call("drain", c_void_p, _number)
-_drainer_start = _call("drainer_start", c_void_p, c_uint64)
+_drainer_start = _call("drainer_start", c_void_p, _u64)
 _drainer_stop = _call("drainer_stop", c_void_p)
-_rotate = _call("rotate", c_void_p, c_uint64, _number)
+_rotate = _call("rotate", c_void_p, _u64, _number)
 _rotate_on = _call("rotate_on", c_void_p, _number)
-_schedule = _call("schedule", c_void_p, c_uint64, c_uint64)
-_tick = _call("tick", c_void_p, c_uint64, POINTER(c_uint32), _number)
+_schedule = _call("schedule", c_void_p, _u64, _u64)
+_tick = _call("tick", c_void_p, _u64, POINTER(c_uint32), _number)
 _clear = _call("clear", c_void_p, _number)
-_write = _call("write", c_void_p, c_uint64, c_char_p)
-_release = _call("release", c_void_p, c_uint64)
-_snapshot = _call("snapshot", c_void_p, c_uint64, c_char_p)
-_audit = _call("audit", c_char_p, c_char_p, c_char_p, c_uint64, c_char_p, POINTER(Audited))
+_write = _call("write", c_void_p, _u64, c_char_p)
+_release = _call("release", c_void_p, _u64)
+_snapshot = _call("snapshot", c_void_p, _u64, c_char_p)
+_audit = _call("audit", c_char_p, c_char_p, c_char_p, _u64, c_char_p, POINTER(Audited))
 _counts_of = _call("counts_of", c_void_p, POINTER(Counts))
 _counts_sum = _call("counts_sum", c_void_p, POINTER(Counts))
 _settle = _call("settle", c_void_p, POINTER(Counts), _number)
-_fate_of = _call("fate_of", c_void_p, c_uint64, POINTER(Fate))
+_fate_of = _call("fate_of", c_void_p, _u64, POINTER(Fate))
 now = _call("now", result=c_uint64)
 
 
@@ -120,17 +135,48 @@ def _written(kind, call, *given):
     return value.value if kind is c_uint64 else value
 
 
+def _text(given, status):
+    """A name or a path for C, which would end it at a zero byte."""
+    if b"\0" in given:
+        raise Refused(status)
+    return given
+
+
+def _name(text):
+    return _text(text.encode(), _BAD_NAME)
+
+
+def _path(folder, status):
+    return _text(os.fsencode(folder), status)
+
+
+def _uuid(uuid):
+    if len(uuid) != 16:
+        raise ValueError("an identifier has 16 bytes")
+    return bytes(uuid)
+
+
+def _let_go(holders):
+    """A session's object and its producers hold it, and may end in any order: each takes an entry, and the last one, which is
+    the handle, frees the session."""
+    handle = holders.pop()
+    if handle is not None:
+        _free(handle)
+
+
 class Producer:
     """One thread's right to offer. It keeps its session, and gives itself back."""
 
     def __init__(self, session, channel):
         self._handle = c_void_p()
-        self._session = session
-        _must(_producer_new(session._handle, channel.encode(), byref(self._handle)))
+        self._holders = session._holders
+        _must(_producer_new(session._handle, _name(channel), byref(self._handle)))
+        self._holders.append(None)
 
     def __del__(self):
         if self._handle:
             self.done()
+            _let_go(self._holders)
 
     def done(self):
         """Gives it back; once more changes nothing."""
@@ -154,17 +200,16 @@ class Session:
     """A session, which threads share. It goes when nobody has it or one of its producers."""
 
     def __init__(self, name, uuid, east=0, kind=LOCAL):
-        if len(uuid) != 16:
-            raise ValueError("an identifier has 16 bytes")
         self._handle = c_void_p()
-        _must(_new(byref(self._handle), name.encode(), bytes(uuid), east, kind))
+        _must(_new(byref(self._handle), _name(name), _uuid(uuid), east, kind))
+        self._holders = [self._handle]
 
     def __del__(self):
         if self._handle:
-            _free(self._handle)
+            _let_go(self._holders)
 
     def channel(self, name, size, count, mode):
-        _must(_channel(self._handle, name.encode(), size, count, mode))
+        _must(_channel(self._handle, _name(name), size, count, mode))
 
     def producer(self, channel):
         return Producer(self, channel)
@@ -203,13 +248,13 @@ class Session:
         return _written(c_uint64, _clear, self._handle)
 
     def write(self, archive, folder):
-        _must(_write(self._handle, archive, os.fsencode(folder)))
+        _must(_write(self._handle, archive, _path(folder, _WRITE)))
 
     def release(self, archive):
         _must(_release(self._handle, archive))
 
     def snapshot(self, moment, folder):
-        _must(_snapshot(self._handle, moment, os.fsencode(folder)))
+        _must(_snapshot(self._handle, moment, _path(folder, _WRITE)))
 
     def counts(self):
         return _written(Counts, _counts_sum, self._handle)
@@ -222,4 +267,4 @@ class Session:
 
 def audit(folder, session, channel, stream, uuid):
     """Reads a stream's files of all archives below a folder, and judges each packet."""
-    return _written(Audited, _audit, os.fsencode(folder), session.encode(), channel.encode(), stream, bytes(uuid))
+    return _written(Audited, _audit, _path(folder, _READ), _name(session), _name(channel), stream, _uuid(uuid))

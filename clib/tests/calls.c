@@ -1,5 +1,5 @@
-/* Each call of tracerd.h does what it says, and each refusal but SPENT (which 2^62 offers bring) and those for want of memory
- * (tests/memory.c) is met.
+/* Each call of tracerd.h does what it says, and each refusal is met but those for want of memory (tests/memory.c) and SPENT:
+ * no test meets that, since only 2^62 offers bring a stream there, and no call sets how many it has taken.
  *
  *     calls DIR     a folder that is there, in which files are written
  *
@@ -7,6 +7,7 @@
 #include "testing.h"
 #include <errno.h>
 #include <pthread.h>
+#include <signal.h>
 #include <sys/stat.h>
 #include <time.h>
 #include <unistd.h>
@@ -15,6 +16,10 @@ enum { ARCHIVES = 12 }; /* by their names the tenth comes before the second */
 static const uint64_t LAST_MOMENT = 9000000000000000000;
 static const char *dir;
 static char letters[70000];
+
+static volatile sig_atomic_t handled;
+
+static void handle(int signal) { handled = signal; }
 
 static const char *below(const char *name) {
     static char path[4096];
@@ -49,13 +54,11 @@ static void has_counts(tracerd_counts c, uint64_t offered, uint64_t discarded, u
 }
 
 /* The session of examples/archives.script: the stage compares its archive with the one that the script makes. */
-static void records_and_archives(void) {
-    tracerd_producer *p;
+static void records_and_archives(tracerd_session *s, tracerd_producer *p) {
     tracerd_offered o;
     tracerd_counts c;
     tracerd_audited a;
     uint64_t n = 99;
-    tracerd_session *s = fresh(TRACERD_LOCAL, TRACERD_DISCARD, &p);
     is(tracerd_producer_number(p) == 0 && !p->active);
     answers(INACTIVE, tracerd_offer(p, 0, 7, "x", 1, &o));
     answers(OK, tracerd_start(s, 0));
@@ -88,7 +91,6 @@ static void records_and_archives(void) {
     is(!p->active);
     answers(OK, tracerd_settle(s, &c, &n));
     has_counts(c, 6, 1, 0, 0, 0, 5);
-    tracerd_free(s);
     tracerd_free(NULL);
 }
 
@@ -124,11 +126,9 @@ static void refuses_what_is_planned_badly(void) {
     tracerd_free(s);
 }
 
-static void refuses_at_the_wrong_time(void) {
-    tracerd_producer *p;
+static void refuses_at_the_wrong_time(tracerd_session *s, tracerd_producer *p) {
     tracerd_offered o;
     uint64_t n = 99;
-    tracerd_session *s = fresh(TRACERD_LOCAL, TRACERD_DISCARD, &p);
     answers(NEVER_STARTED, tracerd_rotate(s, 0, &n));
     answers(NEVER_STARTED, tracerd_clear(s, &n));
     answers(NOT_ACTIVE, tracerd_stop(s));
@@ -162,6 +162,15 @@ static void refuses_at_the_wrong_time(void) {
     answers(RELEASED, tracerd_write(s, 0, below("none")));
     is(access(below("none"), F_OK));
     is_at(p, 0, TRACERD_IN_CHUNK, 0, 0);
+}
+
+/* What a snapshot session refuses of a drainer it refuses before it has a stream, too. */
+static void drains_no_snapshots(void) {
+    tracerd_session *s;
+    uint64_t n;
+    answers(OK, tracerd_new(&s, "bare", ONE, 0, TRACERD_SNAPSHOT));
+    answers(SNAPSHOT_MODE, tracerd_drain(s, &n));
+    answers(SNAPSHOT_MODE, tracerd_drainer_start(s, 1));
     tracerd_free(s);
 }
 
@@ -187,11 +196,9 @@ static void works_without_streams(void) {
     tracerd_free(s);
 }
 
-static void rotates_when_due(void) {
-    tracerd_producer *p;
+static void rotates_when_due(tracerd_session *s, tracerd_producer *p) {
     tracerd_cause cause;
     uint64_t n = 99;
-    tracerd_session *s = fresh(TRACERD_LOCAL, TRACERD_DISCARD, &p);
     answers(ZERO_PERIOD, tracerd_schedule(s, 0, TRACERD_NEVER));
     answers(ZERO_SIZE, tracerd_schedule(s, TRACERD_NEVER, 0));
     answers(OK, tracerd_schedule(s, 100, 200));
@@ -212,14 +219,11 @@ static void rotates_when_due(void) {
     answers(OK, tracerd_schedule(s, TRACERD_NEVER, TRACERD_NEVER));
     answers(OK, tracerd_tick(s, LAST_MOMENT, &cause, &n));
     is(cause == TRACERD_IDLE && n == 1);
-    tracerd_free(s);
 }
 
-static void clears(void) {
-    tracerd_producer *p;
+static void clears(tracerd_session *s, tracerd_producer *p) {
     tracerd_counts c;
     uint64_t n = 99;
-    tracerd_session *s = fresh(TRACERD_LOCAL, TRACERD_DISCARD, &p);
     answers(OK, tracerd_start(s, 0));
     for (uint64_t k = 0; k < 3; k++) is_stored(p, k, 50, k, k / 2);
     answers(OK, tracerd_drain(s, &n));
@@ -229,7 +233,6 @@ static void clears(void) {
     has_counts(c, 3, 0, 0, 3, 0, 0);
     is_at(p, 2, TRACERD_WAS_CLEARED, 0, 1);
     is_stored(p, 4, 50, 3, 2);
-    tracerd_free(s);
 }
 
 /* The stream's file of archive K of the session below a folder, with `count` bytes from `at` on read, or written if `bytes`. */
@@ -273,11 +276,9 @@ static void shows_snapshots(void) {
     tracerd_free(s);
 }
 
-static void drains_by_itself(void) {
-    tracerd_producer *p;
+static void drains_by_itself(tracerd_session *s, tracerd_producer *p) {
     tracerd_counts c;
     uint64_t n;
-    tracerd_session *s = fresh(TRACERD_LOCAL, TRACERD_DISCARD, &p);
     answers(NOT_DRAINING, tracerd_drainer_stop(s));
     answers(OK, tracerd_start(s, 0));
     answers(OK, tracerd_producer_done(p));
@@ -288,22 +289,38 @@ static void drains_by_itself(void) {
         answers(OK, tracerd_drainer_stop(s));
     }
     answers(OK, tracerd_settle(s, &c, &n));
-    answers(OK, tracerd_drainer_start(s, 1000000));
-    tracerd_free(s); /* ends it */
+    answers(OK, tracerd_drainer_start(s, 1000000)); /* which the session's end ends */
 }
 
-static void audits(void) {
-    tracerd_producer *p;
+/* The drainer's thread handles no signal of the program's, though it began when none was blocked. */
+static void leaves_signals_alone(tracerd_session *s, tracerd_producer *p) {
+    sigset_t one;
+    (void)p;
+    sigemptyset(&one);
+    sigaddset(&one, SIGUSR1);
+    signal(SIGUSR1, handle);
+    handled = 0;
+    answers(OK, tracerd_drainer_start(s, UINT64_MAX));
+    is(!pthread_sigmask(SIG_BLOCK, &one, NULL) && !kill(getpid(), SIGUSR1));
+    nanosleep(&(struct timespec){0, 50000000}, NULL); /* by then another thread would have handled it */
+    is(sigtimedwait(&one, NULL, &(struct timespec){5, 0}) == SIGUSR1 && !handled);
+    is(!pthread_sigmask(SIG_UNBLOCK, &one, NULL));
+    answers(OK, tracerd_drainer_stop(s));
+}
+
+static void audits(tracerd_session *s, tracerd_producer *p) {
     tracerd_audited a;
     uint64_t n, number = 1;
     uint8_t first[131], two[16] = {2}; /* 80 + 24 + 27 */
-    tracerd_session *s = fresh(TRACERD_LOCAL, TRACERD_DISCARD, &p);
     answers(OK, tracerd_start(s, 0));
     for (uint64_t k = 0; k < ARCHIVES; k++) {
         is_stored(p, k, 27, k, k);
         answers(OK, tracerd_rotate(s, k, &n));
         answers(OK, tracerd_write(s, n, below("audit")));
     }
+    is(!mkdir(below("audit/s/archives/19700101T000000+0000-19700101T000000+0000-"), 0777)); /* no archives by their names */
+    is(!mkdir(below("audit/s/archives/19700101T000000+0000-19700101T000000+0000-1x"), 0777));
+    is(!mkdir(below("audit/s/archives/1970101T000000+00000-19700101T000000+0000-1"), 0777));
     answers(OK, tracerd_audit(below("audit"), "s", "c", 0, ONE, &a));
     is(a.packets == ARCHIVES && a.records == ARCHIVES && a.last_packet == 11 && a.last_serial == 11 && !a.archive && !a.byte);
     answers(READ, tracerd_audit(below("nowhere"), "s", "c", 0, ONE, &a));
@@ -328,15 +345,13 @@ static void audits(void) {
     answers(OK, tracerd_write(s, 2, below("audit")));
     answers(OK, tracerd_audit(below("audit"), "s", "c", 0, ONE, &a));
     is(a.packets == ARCHIVES && a.absent == 0);
-    tracerd_free(s);
 }
 
-/* A file that takes nothing, where the stream's is to be: metadata, which comes last, isn't written. */
-static void meets_a_full_disk(void) {
-    tracerd_producer *p;
+/* A file that takes nothing, where the stream's is to be: metadata, which comes last, isn't written. Where metadata is to be:
+ * none is left. */
+static void meets_a_full_disk(tracerd_session *s, tracerd_producer *p) {
     uint64_t n;
     char archive[4200];
-    tracerd_session *s = fresh(TRACERD_LOCAL, TRACERD_DISCARD, &p);
     answers(OK, tracerd_start(s, 0));
     is_stored(p, 0, 27, 0, 0);
     answers(OK, tracerd_rotate(s, 0, &n));
@@ -345,10 +360,11 @@ static void meets_a_full_disk(void) {
     is(!chdir(archive) && !unlink("metadata") && !unlink("c_0") && !symlink("/dev/full", "c_0"));
     answers(WRITE, tracerd_write(s, 0, below("full")));
     is(errno == ENOSPC && access("metadata", F_OK));
-    is(!unlink("c_0"));
+    is(!unlink("c_0") && !symlink("/dev/full", "metadata"));
+    answers(WRITE, tracerd_write(s, 0, below("full")));
+    is(errno == ENOSPC && !access("c_0", F_OK) && unlink("metadata"));
     answers(OK, tracerd_write(s, 0, below("full")));
     is(!access("metadata", F_OK) && !access("c_0", F_OK) && !chdir("/"));
-    tracerd_free(s);
 }
 
 static void *write_first(void *session) {
@@ -361,7 +377,8 @@ static void *release_first(void *session) {
     return NULL;
 }
 
-/* A pipe is where the stream's file is to be: while it is written, a release waits, and the file gets all its bytes. */
+/* A pipe is where the stream's file is to be: while it is written, a release waits, and the file gets all its bytes, though
+ * signals interrupt both the writer's waits. */
 static void keeps_what_is_written(void) {
     enum { RECORDS = 5, EACH = 65000 };
     static char bytes[80 * RECORDS + RECORDS * (24 + EACH)];
@@ -380,24 +397,29 @@ static void keeps_what_is_written(void) {
     answers(OK, tracerd_write(s, 0, below("slow")));
     snprintf(pipe, sizeof pipe, "%s/s/archives/19700101T000000+0000-19700101T000000+0000-0/c_0", below("slow"));
     is(!unlink(pipe) && !mkfifo(pipe, 0600));
+    is(!sigaction(SIGUSR1, &(struct sigaction){.sa_handler = handle}, NULL));
+    alarm(60); /* the pipe may not be opened again */
     is(!pthread_create(&writer, NULL, write_first, s));
+    nanosleep(&(struct timespec){0, 50000000}, NULL);
+    is(!pthread_kill(writer, SIGUSR1));
     FILE *file = fopen(pipe, "rb");
     is(file && fread(bytes, 1, 1, file) == 1);
+    nanosleep(&(struct timespec){0, 50000000}, NULL);
+    is(!pthread_kill(writer, SIGUSR1));
     is(!pthread_create(&releaser, NULL, release_first, s));
     nanosleep(&(struct timespec){0, 50000000}, NULL);
     is(file && fread(bytes, 1, sizeof bytes, file) == sizeof bytes - 1 && !fclose(file));
     pthread_join(writer, NULL);
     pthread_join(releaser, NULL);
+    alarm(0);
     answers(RELEASED, tracerd_write(s, 0, below("slow")));
     tracerd_free(s);
 }
 
-static void traces(void) {
-    tracerd_producer *p;
+static void traces(tracerd_session *s, tracerd_producer *p) {
     tracerd_counts c;
     int evaluated = 0;
     uint64_t before = tracerd_now();
-    tracerd_session *s = fresh(TRACERD_LOCAL, TRACERD_DISCARD, &p);
     TRACERD_TRACE(p, 1, (evaluated++, "x"), 1);
     is(evaluated == 0);
     answers(OK, tracerd_start(s, before));
@@ -407,19 +429,26 @@ static void traces(void) {
     is(c.offered == 1 && c.in_ring == 1);
     is(before > 1700000000000000000 && before < LAST_MOMENT && tracerd_now() >= before);
     is(!strcmp(tracerd_status_name(TRACERD_TOO_BIG), "TooBig") && !strcmp(tracerd_status_name((tracerd_status)3), "Unknown"));
-    tracerd_free(s);
 }
 
 int main(int count, char **words) {
     if (count != 2) return 2;
     dir = words[1];
     memset(letters, 'a', sizeof letters - 1);
-    void (*const tests[])(void) = {
-        records_and_archives, refuses_what_is_planned_badly, refuses_at_the_wrong_time, works_without_streams, rotates_when_due,
-        clears, shows_snapshots, drains_by_itself, audits, meets_a_full_disk,
-        keeps_what_is_written, traces};
-    for (size_t i = 0; i < sizeof tests / sizeof *tests; i++) {
-        tests[i]();
+    void (*const alone[])(void) = {
+        refuses_what_is_planned_badly, drains_no_snapshots, works_without_streams, shows_snapshots, keeps_what_is_written};
+    void (*const with_session[])(tracerd_session *, tracerd_producer *) = {
+        records_and_archives, refuses_at_the_wrong_time, rotates_when_due, clears, drains_by_itself,
+        leaves_signals_alone, audits, meets_a_full_disk, traces};
+    for (size_t i = 0; i < sizeof alone / sizeof *alone; i++) {
+        alone[i]();
+        counts_as_one();
+    }
+    for (size_t i = 0; i < sizeof with_session / sizeof *with_session; i++) {
+        tracerd_producer *producer;
+        tracerd_session *session = fresh(TRACERD_LOCAL, TRACERD_DISCARD, &producer);
+        with_session[i](session, producer);
+        tracerd_free(session);
         counts_as_one();
     }
     return closing();

@@ -1,15 +1,20 @@
 /* Each allocation fails in turn: the call is answered NO_MEMORY, nothing is lost by it, the same call then goes through, and in
  * the end all is given back. (A block that isn't made smaller is no want of memory.) A file that can't be closed wasn't
- * written. Link with --wrap of malloc, calloc, realloc, aligned_alloc, free, scandir and close.
+ * written. Link with --wrap of malloc, calloc, realloc, aligned_alloc, free, scandir, close and pthread_create.
  *
  *     memory DIR     a folder that is there, in which files are written */
 #include "testing.h"
 #include <dirent.h>
 #include <errno.h>
 #include <malloc.h>
+#include <pthread.h>
+#include <sched.h>
+#include <stdatomic.h>
 #include <stdbool.h>
+#include <time.h>
 
-static long fails_at = -1, asked, held, refused, shrunk;
+static long fails_at = -1;
+static atomic_long asked, held, refused, shrunk;
 
 void *__real_malloc(size_t size);
 void *__real_calloc(size_t count, size_t size);
@@ -17,8 +22,11 @@ void *__real_realloc(void *at, size_t size);
 void *__real_aligned_alloc(size_t alignment, size_t size);
 void __real_free(void *at);
 
+static atomic_bool is_slow, is_in_it;
+
 static bool is_refused(void) {
     bool is_it = asked++ == fails_at;
+    if (is_slow && !atomic_exchange(&is_in_it, true)) nanosleep(&(struct timespec){0, 100000000}, NULL);
     refused += is_it;
     return is_it;
 }
@@ -67,6 +75,13 @@ int __wrap_close(int file) {
     int status = __real_close(file);
     if (fails_to_close) errno = EIO;
     return fails_to_close ? -1 : status;
+}
+
+static bool fails_to_create;
+int __real_pthread_create(pthread_t *thread, const pthread_attr_t *how, void *(*run)(void *), void *with);
+
+int __wrap_pthread_create(pthread_t *thread, const pthread_attr_t *how, void *(*run)(void *), void *with) {
+    return fails_to_create ? EAGAIN : __real_pthread_create(thread, how, run, with);
 }
 
 /* The call goes through, at the second try if an allocation fails at the first. */
@@ -172,8 +187,38 @@ static void shows(const char *dir) {
     tracerd_free(s);
 }
 
+/* The drainer is slow at the second stream when a sub-buffer of the first is closed, and ends only after it has taken that. */
+static void drains_to_the_last(void) {
+    tracerd_session *s;
+    tracerd_producer *p, *q;
+    tracerd_offered o;
+    tracerd_counts c;
+    char payload[152] = "abc";
+    answers(OK, tracerd_new(&s, "a", ONE, 0, TRACERD_LOCAL));
+    answers(OK, tracerd_channel(s, "c", 256, 2, TRACERD_DISCARD));
+    answers(OK, tracerd_producer_new(s, "c", &p));
+    answers(OK, tracerd_producer_new(s, "c", &q));
+    answers(OK, tracerd_start(s, 0));
+    answers(OK, tracerd_offer(p, 0, 1, payload, sizeof payload, &o));
+    fails_to_create = true;
+    answers(NO_MEMORY, tracerd_drainer_start(s, 1));
+    answers(NOT_DRAINING, tracerd_drainer_stop(s));
+    fails_to_create = false;
+    answers(OK, tracerd_drainer_start(s, 1));
+    is_slow = true;
+    for (int k = 0; k < 2; k++) answers(OK, tracerd_offer(q, 0, 1, payload, sizeof payload, &o));
+    while (!is_in_it) sched_yield();
+    answers(OK, tracerd_offer(p, 0, 1, payload, sizeof payload, &o));
+    answers(OK, tracerd_drainer_stop(s));
+    answers(OK, tracerd_counts_of(p, &c));
+    is(c.in_ring == 1 && c.in_chunks == 1);
+    tracerd_free(s);
+}
+
 int main(int count, char **words) {
     if (count != 2) return 2;
+    drains_to_the_last();
+    counts_as_one();
     for (void (*const *run)(const char *) = (void (*const[])(const char *)){records, shows, NULL}; *run; run++) {
         do {
             asked = refused = shrunk = 0;

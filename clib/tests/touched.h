@@ -1,5 +1,6 @@
 /* Included before the C layer where ThreadSanitizer watches it: each call on a cell first writes to its handle, so that two
  * calls on one that no lock orders are seen, though the cells themselves aren't watched. */
+#define _GNU_SOURCE
 #include "../cells.h"
 
 static inline void touch(void *handle) {
@@ -24,7 +25,6 @@ static inline void touch(void *handle) {
 #define trc_book_stop(...) ONE(trc_book_stop, __VA_ARGS__)
 #define trc_book_switch(...) TWO(trc_book_switch, __VA_ARGS__)
 #define trc_rotate_begin(...) ONE(trc_rotate_begin, __VA_ARGS__)
-#define trc_rotate_next(...) ONE(trc_rotate_next, __VA_ARGS__)
 #define trc_rotate_cut(...) TWO(trc_rotate_cut, __VA_ARGS__)
 #define trc_rotate_finish(...) ONE(trc_rotate_finish, __VA_ARGS__)
 #define trc_book_can_clear(...) ONE(trc_book_can_clear, __VA_ARGS__)

@@ -32,19 +32,49 @@ static void records(const std::string &folder) {
     is(session.counts().offered == 404);
 }
 
+// What a call is refused for.
+template <typename call>
+static tracerd_status refusal(call made) {
+    try {
+        made();
+    } catch (const tracerd::refused &why) {
+        is(std::string(why.what()) == tracerd_status_name(why.status()));
+        return why.status();
+    }
+    return TRACERD_OK;
+}
+
+// A producer that another is moved to gives back what it had at once; what was moved from has nothing.
+static void moves() {
+    tracerd::session session("app", {{1}});
+    session.channel("main", 256, 2, TRACERD_OVERWRITE);
+    tracerd::producer one = session.producer("main"), other = session.producer("main");
+    tracerd::producer *same = &other;
+    other = std::move(one);
+    other = std::move(*same);
+    is(other.number() == 0 && !one.get());
+    answers(MISSING, refusal([&] { session.settle(); }));
+    { tracerd::producer last(std::move(other)); }
+    answers(OK, refusal([&] { session.settle(); }));
+}
+
+static void refuses_zero_bytes(const std::string &folder) {
+    const std::string zero("a\0b", 3);
+    tracerd::session session("app", {{1}});
+    answers(BAD_NAME, refusal([&] { tracerd::session(zero, {{1}}); }));
+    answers(BAD_NAME, refusal([&] { session.channel(zero, 256, 2, TRACERD_OVERWRITE); }));
+    answers(BAD_NAME, refusal([&] { session.producer(zero); }));
+    session.start(0);
+    uint64_t archive = session.rotate(0);
+    answers(WRITE, refusal([&] { session.write(archive, folder + "/" + zero); }));
+}
+
 static void outlives() {
     tracerd::session *session = new tracerd::session("app", {{1}});
     session->channel("main", 256, 2, TRACERD_OVERWRITE);
     tracerd::producer one = session->producer("main"), other = session->producer("main");
     session->start(0);
-    tracerd_status status = TRACERD_OK;
-    try {
-        session->settle();
-    } catch (const tracerd::refused &why) {
-        status = why.status();
-        is(std::string(why.what()) == "Missing");
-    }
-    is(status == TRACERD_MISSING);
+    answers(MISSING, refusal([&] { session->settle(); }));
     delete session;
     is(one.offer(1, 7, nullptr, 0).outcome == TRACERD_STORED);
     other = std::move(one);
@@ -54,6 +84,10 @@ static void outlives() {
 int main(int count, char **words) {
     if (count != 2) return 2;
     records(words[1]);
+    counts_as_one();
+    moves();
+    counts_as_one();
+    refuses_zero_bytes(words[1]);
     counts_as_one();
     outlives();
     counts_as_one();
