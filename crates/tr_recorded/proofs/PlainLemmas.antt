@@ -68,13 +68,13 @@ stamps-plain = all-plain (λ b. not (eqb b 47)) refl form_of_stamps refl
 
 pub archive-plain : (name : List ℕ) (n : ℕ) → archive_number name ≡ Some n → HasNoSlash name
 archive-plain name n is =
+    let front = length-take 42 name in
+    let long : length (take 42 name) ≤ 42 = omega (arith, front) in
     let p = some-if (nat_le 42 (length name) && list_all (λ (p : ℕ × ℕ). fits p.0 p.1) (zip form_of_stamps (take 42 name))) (number_of (drop 42 name)) n is in
     let stamps = (both _ _ p.0).1 in
     let text = drop 42 name in
     let q = some-if (nat_lt 0 (length text) && (list_all is_digit text && (not (has_spare_zero text) && nat_lt (digits_value 10 text) (2 ^ 64))))
     (Some (digits_value 10 text)) n p.1 in
     let digits = (both _ _ (both _ _ q.0).1).0 in
-    let front = length-take 42 name in
-    let long : length (take 42 name) ≤ 42 = omega (arith, front) in
     subst HasNoSlash (take-append-drop 42 name)
     (ends-plain (take 42 name) text (form-plain form_of_stamps (take 42 name) stamps-plain long stamps) (all-plain is_digit refl text digits))

@@ -245,7 +245,7 @@ module _ (s : SessionOf StreamState) (streams : (i : ℕ) → i < length s.strea
         (subst (λ (l : List Numbered). AllByRecursion (HasItsFiles t folder s.book.uuid l) (streams_recorded s (length s.streams))) (sym same) files))
 
     told-whole : (asked : Bool) (archives : List Archive) → s.book.archives ≡ archives → archives ≢ []
-        → survey_of asked t dir ≡ told (session_recorded_text asked t dir name s) (Faults 0)
+        → survey_of asked t dir ≡ told (session_recorded_text asked name s) (Faults 0)
     told-whole asked [] is some = absurd (some refl)
     told-whole asked (first ∷ others) is some =
         whole_is asked t dir name s.book.uuid (archives_named s.book) (streams_recorded s (length s.streams)) (stands first others is)
@@ -255,7 +255,7 @@ pub whole-session : (s : SessionOf StreamState) → IsBook s.book → s.book.beg
     → All (λ b. b < 256) s.book.uuid → length s.book.archives ≤ 2 ^ 64 → length s.streams ≤ MOST_STREAMS → HasItsStreams s
     → ((i : ℕ) (u : StreamState) → slice_get s.streams i ≡ Some u → Keeps u)
     → (asked : Bool) (t : Tree) (dir name : List ℕ) → is_name name ≡ true → s.book.archives ≢ [] → HasItsArchives s
-    → Shows t dir (archives_made dir name s) → survey_of asked t dir ≡ told (session_recorded_text asked t dir name s) (Faults 0)
+    → Shows t dir (archives_made dir name s) → survey_of asked t dir ≡ told (session_recorded_text asked name s) (Faults 0)
 whole-session s book begin offset sixteen bytes few streams its keeps asked t dir name named some none shows =
     let more = archive_pending s.book.pending in
     let time = book-within s.book.archives more s.book.begin book.5.0 begin book.2.0 few in

@@ -64,6 +64,14 @@ file_made path (m ∷ made) = option_or (file_made path made) (file_at path m)
 abbrev pub is_listed : List ℕ → List (List ℕ) → Bool
 is_listed name = list_any (pointwise nat_eq name)
 
+-- the folders and files that stand then in a folder that was empty
+abbrev pub tree_made : List ℕ → Makings → folders.Tree
+tree_made dir made = record {
+  names = λ path. if is_folder_made dir made path then Some (names_made path made) else None;
+  is_hidden = λ path. false;
+  file = λ path. file_made path made;
+}
+
 -- these folders and files stand in a folder that was empty, and nothing beside them; each can be read, and names are listed in any order
 pub record Shows (t : folders.Tree) (dir : List ℕ) (made : Makings) : Type 0 where
   pub seen : (path : List ℕ) → t.is_hidden path ≡ false
