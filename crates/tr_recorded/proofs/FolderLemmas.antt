@@ -1,5 +1,5 @@
 -- What a survey finds in folders that show archives.
-use Rattle.std.proofs.Common.{◌≡◌, ◌∙◌, ◌+◌, ◌<◌, ℕ, Bool, true, false, true≢false, cond, ◌||◌, refl, sym, ap, List, [], ◌∷◌, ◌++◌, length, map, Option, Some, None}
+use Rattle.std.proofs.Common.{◌≡◌, ◌∙◌, ◌+◌, ◌<◌, ℕ, Bool, true, false, true≢false, cond, ◌||◌, refl, ap, List, [], ◌∷◌, ◌++◌, length, map, Option, Some, None}
 use Rattle.std.specs.BTreeSet.{insert_key}
 use Rattle.std.specs.Cmp.Lexicographic.{pointwise}
 use Rattle.std.specs.List.{All, AllByRecursion, filter_map, flat_map, fold, list_any}
@@ -13,12 +13,12 @@ use Rattle.tr_folders.specs.Kept.{file_of}
 use Rattle.tr_folders.specs.Tree.{Tree}
 use Rattle.tr_packet.specs.Metadata.{metadata_of}
 use Rattle.tr_recorded.proofs.BelowLemmas.{HasNoSlash, below-is}
-use Rattle.tr_recorded.proofs.BoxLemmas.{AreFound, Box, IsBox, Leaf, archives-found, archives_in, box_made, boxes_made, leaf_made, session-names}
+use Rattle.tr_recorded.proofs.BoxLemmas.{AreFound, Box, IsBox, Leaf, archives-found, archives_in, boxes_made, leaf_made, session-names}
 use Rattle.tr_recorded.proofs.ListedLemmas.{AreSame, any-of-each, archives-same, filtered-same, names-same}
 use Rattle.tr_recorded.proofs.OrderLemmas.{Numbers, in-order, same-text}
 use Rattle.tr_recorded.proofs.SetLemmas.{number-same, number-total, same-keys}
 use Rattle.tr_recorded.proofs.StoredLemmas.{IsStored, all-stored, leaf_file}
-use Rattle.tr_recorded.specs.Made.{Shows, is_folder_at, is_listed, makes_folder, name_below, names_made, path_made}
+use Rattle.tr_recorded.specs.Made.{Shows, is_listed, makes_folder, names_made}
 use Rattle.tr_survey.proofs.MetadataTextLemmas.{metadata_are_of_trace}
 use Rattle.tr_survey.specs.Listing.{archives_of, is_folder, names_at, names_in_order, streams_at, streams_of}
 use Rattle.tr_survey.specs.Metadata.{naming_in}
@@ -26,7 +26,7 @@ use Rattle.tr_survey.specs.Names.{of_parts, stream_named}
 use Rattle.tr_survey.specs.Order.{Numbered, name_cmp, number_cmp}
 use Rattle.tr_survey.specs.Paths.{archives_folder, file_path, path_of}
 use Rattle.tr_survey.specs.Sessions.{namings_of}
-use Rattle.tr_survey.specs.Whole.{FollowEachOther, HasItsFiles, NumberedFrom, Stands, StandsAlone, StreamFiles, streams_in}
+use Rattle.tr_survey.specs.Whole.{FollowEachOther, HasItsFiles, NumberedFrom, StandsAlone, StreamFiles, streams_in}
 use Rattle.tr_terms.specs.Names.{is_name}
 
 or-true : (b : Bool) → (b || true) ≡ true

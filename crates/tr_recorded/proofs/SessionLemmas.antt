@@ -1,15 +1,13 @@
 -- What is written of a session is what a survey finds nothing wrong with.
-use Rattle.std.proofs.Common.{◌≡◌, ◌≢◌, ◌∙◌, ◌+◌, ◌<◌, ◌≤◌, ◌^◌, ℕ, zero, suc, Bool, true, false, refl, sym, ap, subst, arith, List, [], ◌∷◌, ◌++◌, length, map, take, Option, Some, None, slice_get, length-append}
+use Rattle.std.proofs.Common.{◌≡◌, ◌≢◌, ◌∙◌, ◌+◌, ◌<◌, ◌≤◌, ◌^◌, ℕ, zero, suc, Bool, true, false, refl, sym, ap, subst, arith, List, [], ◌∷◌, ◌++◌, length, map, take, Some, None, slice_get, length-append}
 use Rattle.std.proofs.lemmas.List.{length-map, map-append}
 use Rattle.std.specs.List.{All, AllByRecursion, zip}
-use Rattle.std.specs.Prelude.{codes}
 use Rattle.tr_book.specs.Parts.{PartState}
 use Rattle.tr_chunk.specs.Files.{file_name, packets_text}
 use Rattle.tr_export.proofs.HeldLemmas.{part-held}
 use Rattle.tr_export.specs.Archives.{archives_made}
 use Rattle.tr_folders.specs.Kept.{file_of}
-use Rattle.tr_folders.specs.Tree.{File, Tree}
-use Rattle.tr_packet.specs.Packets.{Contents}
+use Rattle.tr_folders.specs.Tree.{Tree}
 use Rattle.tr_recorded.proofs.BoxLemmas.{Box, IsBox, archives_in, boxes_made}
 use Rattle.tr_recorded.proofs.FolderLemmas.{HaveMetadata, HaveStreams, files-are, stands-alone}
 use Rattle.tr_recorded.proofs.LeafLemmas.{StreamAt, box_of, have-streams, leaves-plain, metadata-found, part-is, part-of, recorded-is, some-at, stream-at, stream-found}
@@ -97,8 +95,7 @@ module _ (s : SessionOf StreamState) (streams : (i : ℕ) → i < length s.strea
       → AllByRecursion IsBox (map (box_of s) archives)
   are-boxes k [] own le = tt
   are-boxes k (a ∷ archives) own le =
-      let number = archive_is_of_number a.begin a.end a.id s.book.offset own.2 own.3 offset (omega (arith, own.0, own.1)) in
-      (
+      let number = archive_is_of_number a.begin a.end a.id s.book.offset own.2 own.3 offset (omega (arith, own.0, own.1)) in (
         record {
           number = number;
           plain = archive-plain (archive_named s.book a).name a.id number;
@@ -161,8 +158,7 @@ module _ (s : SessionOf StreamState) (streams : (i : ℕ) → i < length s.strea
         let place : k + 0 ≡ a.id = omega (arith, own.0) in
         let here : slice_get (all_parts (streams i below).stream.parts) a.id ≡ Some p =
         subst (λ (n : ℕ). slice_get (all_parts (streams i below).stream.parts) n ≡ Some p) place (parts 0 p refl) in
-        let same : its.0 ≡ p = same-part its.0 p (sym its.1 ∙ here) in
-        (
+        let same : its.0 ≡ p = same-part its.0 p (sym its.1 ∙ here) in (
           has.0 (file_name (streams i below).channel i) ∙ stream-found s streams a.id within small i below
               ∙ ap (λ (q : PartState). Some (file_of (packets_text q.packets) false)) same,
           files-recorded i below (k + 1) archives ps has.1 own.4 (omega (arith, le))
