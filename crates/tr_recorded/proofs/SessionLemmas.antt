@@ -1,13 +1,15 @@
 -- What is written of a session is what a survey finds nothing wrong with.
-use Rattle.std.proofs.Common.{◌≡◌, ◌≢◌, ◌∙◌, ◌+◌, ◌<◌, ◌≤◌, ◌^◌, ℕ, zero, suc, Bool, true, false, refl, sym, ap, subst, arith, List, [], ◌∷◌, ◌++◌, length, map, take, Some, None, slice_get, length-append}
+use Rattle.std.proofs.Common.{◌≡◌, ◌≢◌, ◌∙◌, ◌+◌, ◌<◌, ◌≤◌, ◌^◌, ◌||◌, ℕ, zero, suc, Bool, true, false, true≢false, cond, refl, sym, ap, subst, arith, List, [], ◌∷◌, ◌++◌, length, map, take, Some, None, slice_get, length-append}
 use Rattle.std.proofs.lemmas.List.{length-map, map-append}
-use Rattle.std.specs.List.{All, AllByRecursion, zip}
+use Rattle.std.specs.List.{All, AllByRecursion, flat_map, zip}
+use Rattle.std.specs.Option.{unwrap_or}
 use Rattle.tr_book.specs.Parts.{PartState}
 use Rattle.tr_chunk.specs.Files.{file_name, packets_text}
 use Rattle.tr_export.proofs.HeldLemmas.{part-held}
-use Rattle.tr_export.specs.Archives.{archives_made}
+use Rattle.tr_export.specs.Archives.{archive_made, archives_made}
 use Rattle.tr_folders.specs.Kept.{file_of}
 use Rattle.tr_folders.specs.Tree.{Tree}
+use Rattle.tr_recorded.proofs.BelowLemmas.{same-name}
 use Rattle.tr_recorded.proofs.BoxLemmas.{Box, IsBox, archives_in, boxes_made}
 use Rattle.tr_recorded.proofs.FolderLemmas.{HaveMetadata, HaveStreams, files-are, stands-alone}
 use Rattle.tr_recorded.proofs.LeafLemmas.{StreamAt, box_of, have-streams, leaves-plain, metadata-found, part-is, part-of, recorded-is, some-at, stream-at, stream-found}
@@ -16,7 +18,7 @@ use Rattle.tr_recorded.proofs.OrderLemmas.{Numbers}
 use Rattle.tr_recorded.proofs.PlainLemmas.{archive-plain, name-plain}
 use Rattle.tr_recorded.proofs.StoredLemmas.{leaf_file}
 use Rattle.tr_recorded.proofs.TimeLemmas.{AreWithin, book-within, follow, numbers}
-use Rattle.tr_recorded.specs.Made.{Shows}
+use Rattle.tr_recorded.specs.Made.{Shows, is_listed}
 use Rattle.tr_recorded.specs.Recorded.{HasItsArchives, NoneReleased, archive_named, archives_named, recorded_of, session_recorded_text, stream_recorded, streams_recorded}
 use Rattle.tr_session.specs.Audits.{packets_by_part}
 use Rattle.tr_session.specs.Session.{HasItsStreams, SessionOf}
@@ -28,13 +30,14 @@ use Rattle.tr_stream.specs.Rules.{by_state}
 use Rattle.tr_stream.specs.State.{StreamState}
 use Rattle.tr_survey.proofs.SessionLemmas.{whole_is}
 use Rattle.tr_survey.proofs.StampLemmas.{archive_is_of_number}
+use Rattle.tr_survey.specs.Listing.{names_at, names_in_order}
 use Rattle.tr_survey.specs.Names.{of_parts}
 use Rattle.tr_survey.specs.Order.{Numbered}
 use Rattle.tr_survey.specs.Paths.{archives_folder, file_path}
-use Rattle.tr_survey.specs.Sessions.{survey_of}
+use Rattle.tr_survey.specs.Sessions.{ended_told, names_told, survey_of}
 use Rattle.tr_survey.specs.Told.{told}
 use Rattle.tr_survey.specs.Whole.{AreRecorded, FollowEachOther, HasFiles, HasItsFiles, NumberedFrom, StandsAlone, StreamFiles, streams_in}
-use Rattle.tr_survey.specs.declared.faults.Surveyed.TheVariants.{Faults}
+use Rattle.tr_survey.specs.declared.faults.Surveyed.TheVariants.{Faults, NoSession, Unlisted}
 use Rattle.tr_terms.specs.Names.{is_name}
 use Rattle.tr_terms.specs.Offsets.{IsOffset}
 use Rattle.tr_terms.specs.declared.limits.TheConstants.{LAST_MOMENT, MOST_STREAMS}
@@ -257,3 +260,22 @@ whole-session s book begin offset sixteen bytes few streams its keeps asked t di
     let time = book-within s.book.archives more s.book.begin book.5.0 begin book.2.0 few in
     told-whole s (stream-at s its book.4) streams offset time.0 (first_begin more s.book.begin) time.1 sixteen bytes keeps none t dir name named shows
     asked s.book.archives refl some
+
+-- ---- without an archive
+
+none-listed : (names : List (List ℕ)) → ((name : List ℕ) → is_listed name names ≡ false) → names ≡ []
+none-listed [] none = refl
+none-listed (x ∷ names) none =
+    absurd (true≢false (ap (λ (b : Bool). b || is_listed x names) (sym (same-name x)) ∙ none x))
+
+nothing-there : (asked : Bool) (t : Tree) (dir : List ℕ) → Shows t dir [] → survey_of asked t dir ≡ told [] NoSession
+nothing-there asked t dir shows =
+    let names : names_at t dir ≡ [] =
+    ap (λ (b : Bool). cond b [] (unwrap_or (t.names dir) [])) (shows.seen dir) ∙ none-listed (unwrap_or (t.names dir) []) (shows.names dir) in
+    ap (λ (b : Bool). cond b (told [] Unlisted) (ended_told (names_told asked t dir None (names_in_order (names_at t dir))))) (shows.seen dir)
+    ∙ ap (λ (l : List (List ℕ)). ended_told (names_told asked t dir None (names_in_order l))) names
+
+pub no-session : (s : SessionOf StreamState) (asked : Bool) (t : Tree) (dir name : List ℕ) → s.book.archives ≡ []
+    → Shows t dir (archives_made dir name s) → survey_of asked t dir ≡ told [] NoSession
+no-session s asked t dir name none shows =
+    nothing-there asked t dir (subst (Shows t dir) (ap (flat_map (archive_made dir name s)) none) shows)

@@ -14,7 +14,7 @@ ghost use Rattle.tr_survey.specs.Paths.{archives_folder, file_path, path_of};
 ghost use Rattle.tr_survey.specs.Sessions.{survey_of};
 ghost use Rattle.tr_survey.specs.Told.{told};
 ghost use Rattle.tr_survey.specs.Whole.{AreRecorded};
-ghost use Rattle.tr_survey.specs.declared.faults.Surveyed.TheVariants.{Faults};
+ghost use Rattle.tr_survey.specs.declared.faults.Surveyed.TheVariants.{Faults, NoSession};
 ghost use Rattle.tr_terms.specs.Names.{is_name};
 
 use std::alloc::Allocator;
@@ -49,11 +49,14 @@ fn bytes_fit(bytes: &[u8])
 {}
 
 /// What is written of a session to a folder that was empty is whole to a survey, if it has an archive and no part of one was
-/// released: the survey says just its archives, its streams, and what each of them lost. It does nothing but look at each stream.
+/// released: the survey says just its archives, its streams, and what each of them lost. Without an archive nothing is written, and
+/// there is no session. It does nothing but look at each stream.
 pub fn what_is_written_is_whole<A: Allocator>(session: &Session<A>)
-    ensures { (asked : Bool) (t : Tree) (dir name : List ℕ) → IsTrue (is_name name) → session.now.book.archives ≢ []
+    ensures whole { (asked : Bool) (t : Tree) (dir name : List ℕ) → IsTrue (is_name name) → session.now.book.archives ≢ []
         → HasItsArchives session.now → Shows t dir (archives_made dir name session.now)
         → survey_of asked t dir ≡ told (session_recorded_text asked name session.now) (Faults 0) }
+    ensures none { (asked : Bool) (t : Tree) (dir name : List ℕ) → session.now.book.archives ≡ []
+        → Shows t dir (archives_made dir name session.now) → survey_of asked t dir ≡ told [] NoSession }
 {
     session.book().every_book_obeys();
     let uuid = session.book().uuid();
