@@ -15,10 +15,10 @@ use Rattle.tr_recorded.proofs.FolderLemmas.{HaveMetadata, HaveStreams, files-are
 use Rattle.tr_recorded.proofs.LeafLemmas.{StreamAt, box_of, have-streams, leaves-plain, metadata-found, part-is, part-of, recorded-is, some-at, stream-at, stream-found}
 use Rattle.tr_recorded.proofs.MadeLemmas.{made-is}
 use Rattle.tr_recorded.proofs.OrderLemmas.{Numbers}
-use Rattle.tr_recorded.proofs.PlainLemmas.{archive-plain, name-plain}
+use Rattle.tr_recorded.proofs.PlainLemmas.{archive-plain, file-named, name-named, name-plain}
 use Rattle.tr_recorded.proofs.StoredLemmas.{leaf_file}
 use Rattle.tr_recorded.proofs.TimeLemmas.{AreWithin, book-within, follow, numbers}
-use Rattle.tr_recorded.specs.Made.{Shows, is_listed}
+use Rattle.tr_recorded.specs.Made.{Shows, is_listed, is_plain_name}
 use Rattle.tr_recorded.specs.Recorded.{HasItsArchives, NoneReleased, archive_named, archives_named, recorded_of, session_recorded_text, stream_recorded, streams_recorded}
 use Rattle.tr_session.specs.Audits.{packets_by_part}
 use Rattle.tr_session.specs.Session.{HasItsStreams, SessionOf}
@@ -147,7 +147,7 @@ module _ (s : SessionOf StreamState) (streams : (i : ℕ) → i < length s.strea
 
   module _ (t : Tree) (folder : List ℕ) where
     abbrev HasItsLeaves : Box → Type 0
-    HasItsLeaves b = (name : List ℕ) → t.file (file_path folder b.archive.name name) ≡ leaf_file name b.leaves
+    HasItsLeaves b = (name : List ℕ) → is_plain_name name ≡ true → t.file (file_path folder b.archive.name name) ≡ leaf_file name b.leaves
 
     files-recorded : (i : ℕ) (below : i < length s.streams) (k : ℕ) (archives : List Archive) (ps : List PartState)
         → AllByRecursion HasItsLeaves (map (box_of s) archives) → AreWithin k archives → k + length archives ≤ length s.book.archives
@@ -162,7 +162,8 @@ module _ (s : SessionOf StreamState) (streams : (i : ℕ) → i < length s.strea
         let here : slice_get (all_parts (streams i below).stream.parts) a.id ≡ Some p =
         subst (λ (n : ℕ). slice_get (all_parts (streams i below).stream.parts) n ≡ Some p) place (parts 0 p refl) in
         let same : its.0 ≡ p = same-part its.0 p (sym its.1 ∙ here) in (
-          has.0 (file_name (streams i below).channel i) ∙ stream-found s streams a.id within small i below
+          has.0 (file_name (streams i below).channel i) (file-named (streams i below).channel i (streams i below).valid (omega (arith, below, small)))
+              ∙ stream-found s streams a.id within small i below
               ∙ ap (λ (q : PartState). Some (file_of (packets_text q.packets) false)) same,
           files-recorded i below (k + 1) archives ps has.1 own.4 (omega (arith, le))
               (λ j q at.
@@ -225,6 +226,7 @@ module _ (s : SessionOf StreamState) (streams : (i : ℕ) → i < length s.strea
         let folder = archives_folder dir name in
         let boxes = map (box_of s) (first ∷ others) in
         let plain = name-plain name named in
+        let its-name = name-named name named in
         let within : AreWithin 0 (first ∷ others) = subst (AreWithin 0) is own in
         let le : 0 + length (first ∷ others) ≤ length s.book.archives = let long = ap length is in omega (arith, long) in
         let seen : Shows t dir (boxes_made folder boxes) =
@@ -233,11 +235,11 @@ module _ (s : SessionOf StreamState) (streams : (i : ℕ) → i < length s.strea
         let numbered = subst (Numbers 0) (sym (named-in (first ∷ others))) (numbers s.book 0 (first ∷ others) within) in
         let same : archives_in boxes ≡ archives_named s.book =
         named-in (first ∷ others) ∙ ap (map (archive_named s.book)) (sym is) in
-        let leaves = files-are t dir name (box_of s first) (map (box_of s) others) seen plain are numbered in
+        let leaves = files-are t dir name (box_of s first) (map (box_of s) others) seen plain its-name are numbered in
         let files = files-upto t folder (subst (λ (l : List Archive). AllByRecursion (HasItsLeaves t folder) (map (box_of s) l)) (sym is) leaves) own keeps none
         (length s.streams) (omega arith) in
         subst (λ (l : List Numbered). StandsAlone t dir name s.book.uuid l (streams_recorded s (length s.streams))) same
-        (stands-alone t dir name (box_of s first) (map (box_of s) others) seen plain are numbered s.book.uuid (streams_recorded s (length s.streams))
+        (stands-alone t dir name (box_of s first) (map (box_of s) others) seen plain its-name are numbered s.book.uuid (streams_recorded s (length s.streams))
         sixteen bytes named
         (subst (FollowEachOther 0) (sym (named-in (first ∷ others))) (follow s.book 0 (first ∷ others) chunk (subst (λ (l : List Archive). AreChained l chunk) is chained) within))
         (have-metadata 0 (first ∷ others) within le) (numbered-upto (length s.streams) (omega arith)) (have-all 0 (first ∷ others) within le)
@@ -271,8 +273,8 @@ none-listed (x ∷ names) none =
 nothing-there : (asked : Bool) (t : Tree) (dir : List ℕ) → Shows t dir [] → survey_of asked t dir ≡ told [] NoSession
 nothing-there asked t dir shows =
     let names : names_at t dir ≡ [] =
-    ap (λ (b : Bool). cond b [] (unwrap_or (t.names dir) [])) (shows.seen dir) ∙ none-listed (unwrap_or (t.names dir) []) (shows.names dir) in
-    ap (λ (b : Bool). cond b (told [] Unlisted) (ended_told (names_told asked t dir None (names_in_order (names_at t dir))))) (shows.seen dir)
+    ap (λ (b : Bool). cond b [] (unwrap_or (t.names dir) [])) (shows.seen [] tt) ∙ none-listed (unwrap_or (t.names dir) []) (shows.names [] tt) in
+    ap (λ (b : Bool). cond b (told [] Unlisted) (ended_told (names_told asked t dir None (names_in_order (names_at t dir))))) (shows.seen [] tt)
     ∙ ap (λ (l : List (List ℕ)). ended_told (names_told asked t dir None (names_in_order l))) names
 
 pub no-session : (s : SessionOf StreamState) (asked : Bool) (t : Tree) (dir name : List ℕ) → s.book.archives ≡ []

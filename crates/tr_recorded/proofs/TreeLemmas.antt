@@ -4,7 +4,7 @@ use Rattle.std.specs.Cmp.Lexicographic.{pointwise}
 use Rattle.std.specs.List.{cons_option, list_any}
 use Rattle.std.specs.Prelude.{is_some, nat_eq, unwrap_or}
 use Rattle.tr_export.specs.Making.{Makings}
-use Rattle.tr_recorded.specs.Made.{Shows, is_folder_at, is_folder_made, is_listed, makes_folder, name_below, names_made, path_made, tree_made}
+use Rattle.tr_recorded.specs.Made.{Shows, is_folder_at, is_folder_made, is_listed, makes_folder, name_below, names_made, path_by, path_made, tree_made}
 
 -- where no folder stands nothing is below
 none-below : (path : List ℕ) (made : Makings) → list_any (makes_folder path) made ≡ false → names_made path made ≡ []
@@ -26,10 +26,12 @@ there false names = refl
 
 pub tree-shows : (dir : List ℕ) (made : Makings) → Shows (tree_made dir made) dir made
 tree-shows dir made = record {
-  seen = λ path. refl;
-  folders = λ path. there (is_folder_made dir made path) (names_made path made);
-  names = λ path name. listed (pointwise nat_eq path dir) (list_any (makes_folder path) made) path name (none-below path made);
-  files = λ path. refl;
+  seen = λ through plain. refl;
+  folders = λ through plain. there (is_folder_made dir made (path_by dir through)) (names_made (path_by dir through) made);
+  names = λ through plain name.
+      let path = path_by dir through in
+      listed (pointwise nat_eq path dir) (list_any (makes_folder path) made) path name (none-below path made);
+  files = λ through plain. refl;
 }
   where
     listed : (a b : Bool) (path name : List ℕ) → (b ≡ false → names_made path made ≡ [])
