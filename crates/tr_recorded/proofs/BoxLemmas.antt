@@ -1,20 +1,18 @@
 -- What stands where archives were made, each of them a folder with its files.
-use Rattle.std.proofs.Common.{◌≡◌, ◌≢◌, ◌∙◌, ◌<◌, ◌≤◌, ◌+◌, ℕ, suc, Bool, true, false, cond, eqb, ◌&&◌, refl, sym, ap, subst, arith, List, [], ◌∷◌, ◌++◌, length, map, Option, Some, None, append_assoc, append-nil}
+use Rattle.std.proofs.Common.{◌≡◌, ◌∙◌, ◌+◌, ℕ, refl, sym, ap, subst, List, [], ◌∷◌, ◌++◌, map, Option, Some, append_assoc, append-nil}
 use Rattle.std.proofs.lemmas.Grind.{fold-append}
 use Rattle.std.proofs.lemmas.List.Elements.{filter_map-append}
 use Rattle.std.specs.BTreeSet.{insert_key}
 use Rattle.std.specs.List.{AllByRecursion, cons_option, filter_map, flat_map}
-use Rattle.std.specs.Option.{option_or}
 use Rattle.std.specs.Prelude.{codes}
 use Rattle.tr_export.specs.Making.{Makings}
 use Rattle.tr_export.specs.declared.made.Made.{Made}
 use Rattle.tr_export.specs.declared.made.Made.TheVariants as made
-use Rattle.tr_folders.specs.Kept.{file_of}
-use Rattle.tr_folders.specs.Tree.{File, Tree}
-use Rattle.tr_recorded.proofs.BelowLemmas.{HasNoSlash, below-front, below-is, beside, further-below, not-below, other-path, same-front}
+use Rattle.tr_folders.specs.Tree.{Tree}
+use Rattle.tr_recorded.proofs.BelowLemmas.{HasNoSlash, below-is, further-below}
 use Rattle.tr_recorded.proofs.OrderLemmas.{Numbers, as-often}
 use Rattle.tr_recorded.proofs.PathLemmas.{below}
-use Rattle.tr_recorded.specs.Made.{file_at, file_made, name_below, names_made, path_made}
+use Rattle.tr_recorded.specs.Made.{name_below, names_made, path_made}
 use Rattle.tr_survey.specs.Listing.{archive_at, with_keys}
 use Rattle.tr_survey.specs.Names.{archive_number}
 use Rattle.tr_survey.specs.Order.{Numbered, number_cmp}

@@ -1,5 +1,5 @@
 -- What a survey finds in folders that show archives.
-use Rattle.std.proofs.Common.{◌≡◌, ◌∙◌, ◌+◌, ◌<◌, ℕ, Bool, true, false, true≢false, cond, ◌||◌, refl, sym, ap, List, [], ◌∷◌, ◌++◌, length, map, Option, Some, None}
+use Rattle.std.proofs.Common.{◌≡◌, ◌∙◌, ◌+◌, ◌<◌, ℕ, Bool, true, false, true≢false, cond, ◌||◌, refl, ap, subst, append_assoc, List, [], ◌∷◌, ◌++◌, length, map, Option, Some, None}
 use Rattle.std.specs.BTreeSet.{insert_key}
 use Rattle.std.specs.Cmp.Lexicographic.{pointwise}
 use Rattle.std.specs.List.{All, AllByRecursion, filter_map, flat_map, fold, list_any}
@@ -13,12 +13,13 @@ use Rattle.tr_folders.specs.Kept.{file_of}
 use Rattle.tr_folders.specs.Tree.{Tree}
 use Rattle.tr_packet.specs.Metadata.{metadata_of}
 use Rattle.tr_recorded.proofs.BelowLemmas.{HasNoSlash, below-is}
-use Rattle.tr_recorded.proofs.BoxLemmas.{AreFound, Box, IsBox, Leaf, archives-found, archives_in, box_made, boxes_made, leaf_made, session-names}
+use Rattle.tr_recorded.proofs.BoxLemmas.{AreFound, Box, IsBox, Leaf, archives-found, archives_in, boxes_made, leaf_made, session-names}
 use Rattle.tr_recorded.proofs.ListedLemmas.{AreSame, any-of-each, archives-same, filtered-same, names-same}
 use Rattle.tr_recorded.proofs.OrderLemmas.{Numbers, in-order, same-text}
+use Rattle.tr_recorded.proofs.PlainLemmas.{archive-is-named}
 use Rattle.tr_recorded.proofs.SetLemmas.{number-same, number-total, same-keys}
 use Rattle.tr_recorded.proofs.StoredLemmas.{IsStored, all-stored, leaf_file}
-use Rattle.tr_recorded.specs.Made.{Shows, is_folder_at, is_listed, makes_folder, name_below, names_made, path_made}
+use Rattle.tr_recorded.specs.Made.{ArePlain, Shows, file_made, is_folder_made, is_listed, is_plain_name, makes_folder, names_made, path_by}
 use Rattle.tr_survey.proofs.MetadataTextLemmas.{metadata_are_of_trace}
 use Rattle.tr_survey.specs.Listing.{archives_of, is_folder, names_at, names_in_order, streams_at, streams_of}
 use Rattle.tr_survey.specs.Metadata.{naming_in}
@@ -26,7 +27,7 @@ use Rattle.tr_survey.specs.Names.{of_parts, stream_named}
 use Rattle.tr_survey.specs.Order.{Numbered, name_cmp, number_cmp}
 use Rattle.tr_survey.specs.Paths.{archives_folder, file_path, path_of}
 use Rattle.tr_survey.specs.Sessions.{namings_of}
-use Rattle.tr_survey.specs.Whole.{FollowEachOther, HasItsFiles, NumberedFrom, Stands, StandsAlone, StreamFiles, streams_in}
+use Rattle.tr_survey.specs.Whole.{FollowEachOther, HasItsFiles, NumberedFrom, StandsAlone, StreamFiles, streams_in}
 use Rattle.tr_terms.specs.Names.{is_name}
 
 or-true : (b : Bool) → (b || true) ≡ true
@@ -62,27 +63,57 @@ same-session {M = M} session (m ∷ ms) =
 one-session : {M : Type 0} (session : List ℕ) (m : M) (ms : List M) → names_in_order (map (λ (x : M). session) (m ∷ ms)) ≡ session ∷ []
 one-session session m ms = same-session session ms
 
+-- a path from this folder on
+abbrev pub Reached : List ℕ → List ℕ → Type 0
+Reached dir path = (through : List (List ℕ)) × ArePlain through × (path_by dir through ≡ path)
+
 module _ (t : Tree) (dir session : List ℕ) (first : Box) (others : List Box) (shows : Shows t dir (boxes_made (archives_folder dir session) (first ∷ others)))
-    (plain : HasNoSlash session) (are : AllByRecursion IsBox (first ∷ others)) (numbers : Numbers 0 (archives_in (first ∷ others))) where
+    (plain : HasNoSlash session) (session-plain : is_plain_name session ≡ true) (are : AllByRecursion IsBox (first ∷ others)) (numbers : Numbers 0 (archives_in (first ∷ others))) where
   abbrev folder : List ℕ
   folder = archives_folder dir session
 
   abbrev ms : Makings
   ms = boxes_made folder (first ∷ others)
 
-  listed : (path : List ℕ) → AreSame (names_at t path) (names_made path ms)
-  listed path name =
-      ap (λ (b : Bool). is_listed name (cond b [] (unwrap_or (t.names path) []))) (shows.seen path) ∙ shows.names path name
+  seen : (path : List ℕ) → Reached dir path → t.is_hidden path ≡ false
+  seen path way = subst (λ (p : List ℕ). t.is_hidden p ≡ false) way.2 (shows.seen way.0 way.1)
+
+  file-there : (path : List ℕ) → Reached dir path → t.file path ≡ file_made path ms
+  file-there path way = subst (λ (p : List ℕ). t.file p ≡ file_made p ms) way.2 (shows.files way.0 way.1)
+
+  to-folder : Reached dir folder
+  to-folder = (session ∷ codes "archives" ∷ [], (session-plain, (refl, tt)), append_assoc dir (47 ∷ session) (codes "/archives"))
+
+  to-archive : (b : Box) → IsBox b → Reached dir (path_of folder b.archive.name)
+  to-archive b is = (
+    session ∷ codes "archives" ∷ b.archive.name ∷ [],
+    (session-plain, (refl, (archive-is-named b.archive.name b.archive.number is.number, tt))),
+    ap (λ (p : List ℕ). path_of p b.archive.name) (append_assoc dir (47 ∷ session) (codes "/archives")),
+  )
+
+  to-file : (b : Box) (name : List ℕ) → IsBox b → is_plain_name name ≡ true → Reached dir (file_path folder b.archive.name name)
+  to-file b name is plain-name = (
+    session ∷ codes "archives" ∷ b.archive.name ∷ name ∷ [],
+    (session-plain, (refl, (archive-is-named b.archive.name b.archive.number is.number, (plain-name, tt)))),
+    ap (λ (p : List ℕ). path_of (path_of p b.archive.name) name) (append_assoc dir (47 ∷ session) (codes "/archives"))
+        ∙ append_assoc folder (47 ∷ b.archive.name) (47 ∷ name),
+  )
+
+  listed : (path : List ℕ) → Reached dir path → AreSame (names_at t path) (names_made path ms)
+  listed path way name =
+      ap (λ (b : Bool). is_listed name (cond b [] (unwrap_or (t.names path) []))) (seen path way)
+      ∙ subst (λ (p : List ℕ). is_listed name (unwrap_or (t.names p) []) ≡ is_listed name (names_made p ms)) way.2 (shows.names way.0 way.1 name)
 
   stored : AllByRecursion (IsStored folder ms) (first ∷ others)
   stored = all-stored folder [] (first ∷ others) tt are numbers
 
-  names-there : (path : List ℕ) → list_any (makes_folder path) ms ≡ true → is_some (t.names path) ≡ true
-  names-there path is-made =
-      shows.folders path ∙ ap (λ (b : Bool). pointwise nat_eq path dir || b) is-made ∙ or-true (pointwise nat_eq path dir)
+  names-there : (path : List ℕ) → Reached dir path → list_any (makes_folder path) ms ≡ true → is_some (t.names path) ≡ true
+  names-there path way is-made =
+      subst (λ (p : List ℕ). is_some (t.names p) ≡ is_folder_made dir ms p) way.2 (shows.folders way.0 way.1)
+      ∙ ap (λ (b : Bool). pointwise nat_eq path dir || b) is-made ∙ or-true (pointwise nat_eq path dir)
 
-  folder-there : (path : List ℕ) → list_any (makes_folder path) ms ≡ true → is_folder t path ≡ true
-  folder-there path is-made = ap (λ (b : Bool). b || is_some (t.names path)) (shows.seen path) ∙ names-there path is-made
+  folder-there : (path : List ℕ) → Reached dir path → list_any (makes_folder path) ms ≡ true → is_folder t path ≡ true
+  folder-there path way is-made = ap (λ (b : Bool). b || is_some (t.names path)) (seen path way) ∙ names-there path way is-made
 
   -- ---- archives
 
@@ -90,37 +121,37 @@ module _ (t : Tree) (dir session : List ℕ) (first : Box) (others : List Box) (
   found [] is has = tt
   found (b ∷ bs) is has = (
     ap (option_and_then (λ (n : ℕ). cond (is_folder t (path_of folder b.archive.name)) (Some (of_parts b.archive.name n)) None)) is.0.number
-        ∙ ap (λ (test : Bool). cond test (Some b.archive) None) (folder-there (path_of folder b.archive.name) has.0.made),
+        ∙ ap (λ (test : Bool). cond test (Some b.archive) None) (folder-there (path_of folder b.archive.name) (to-archive b is.0) has.0.made),
     found bs is.1 has.1,
   )
 
   archives-are : archives_of t folder (names_at t folder) ≡ archives_in (first ∷ others)
   archives-are =
-      archives-same t folder (names_at t folder) (names_made folder ms) (listed folder)
+      archives-same t folder (names_at t folder) (names_made folder ms) (listed folder to-folder)
       ∙ archives-found t folder [] (first ∷ others) are (found (first ∷ others) are stored) numbers
 
   there : is_some (t.names folder) ≡ true
   there =
       let path = path_of folder first.archive.name in
       let rest = list_any (makes_folder folder) (map (leaf_made folder first.archive.name) first.leaves ++ boxes_made folder others) in
-      names-there folder
+      names-there folder to-folder
       (ap (λ (o : Option (List ℕ)). (is_some o || pointwise nat_eq folder path) || rest) (below-is folder first.archive.name are.0.plain))
 
   alone : names_in_order (names_at t dir) ≡ session ∷ []
   alone =
-      names-same (names_at t dir) (names_made dir ms) (listed dir) ∙ ap names_in_order (session-names dir session (first ∷ others) plain)
+      names-same (names_at t dir) (names_made dir ms) (listed dir ([], tt, refl)) ∙ ap names_in_order (session-names dir session (first ∷ others) plain)
       ∙ one-session session (made.Folder (path_of folder first.archive.name)) (map (leaf_made folder first.archive.name) first.leaves ++ boxes_made folder others)
 
   -- ---- streams
 
-  each-has : (p : Numbered → Bool) (streams : List Numbered) (bs : List Box) → AllByRecursion (IsStored folder ms) bs → HaveStreams streams bs
+  each-has : (p : Numbered → Bool) (streams : List Numbered) (bs : List Box) → AllByRecursion IsBox bs → AllByRecursion (IsStored folder ms) bs → HaveStreams streams bs
       → AllByRecursion (λ (a : Numbered). list_any p (streams_at t folder a) ≡ list_any p streams) (archives_in bs)
-  each-has p streams [] has have = tt
-  each-has p streams (b ∷ bs) has have =
+  each-has p streams [] is has have = tt
+  each-has p streams (b ∷ bs) is has have =
       let path = path_of folder b.archive.name in (
-        filtered-same p stream_named (names_at t path) (names_made path ms) (listed path)
+        filtered-same p stream_named (names_at t path) (names_made path ms) (listed path (to-archive b is.0))
             ∙ ap (λ (l : List (List ℕ)). list_any p (filter_map stream_named l)) has.0.names ∙ ap (list_any p) have.0,
-        each-has p streams bs has.1 have.1,
+        each-has p streams bs is.1 has.1 have.1,
       )
 
   streams-are : (streams : List Numbered) → Numbers 0 streams → HaveStreams streams (first ∷ others)
@@ -128,27 +159,32 @@ module _ (t : Tree) (dir session : List ℕ) (first : Box) (others : List Box) (
   streams-are streams are-numbered have =
       same-keys number-total number-same (flat_map (streams_at t folder) (archives_in (first ∷ others))) streams
       (λ q. any-of-each (eq_by_cmp number_cmp q) (streams_at t folder) streams first.archive (archives_in others)
-      (each-has (eq_by_cmp number_cmp q) streams (first ∷ others) stored have))
+      (each-has (eq_by_cmp number_cmp q) streams (first ∷ others) are stored have))
       ∙ in-order [] streams are-numbered
 
   -- ---- files
 
-  namings-are : (uuid : List ℕ) (bs : List Box) → AllByRecursion (IsStored folder ms) bs → HaveMetadata uuid bs
+  namings-are : (uuid : List ℕ) (bs : List Box) → AllByRecursion IsBox bs → AllByRecursion (IsStored folder ms) bs → HaveMetadata uuid bs
       → namings_of t folder (archives_in bs) ≡ map (λ (a : Numbered). naming_in (Some (file_of (metadata_of uuid) false))) (archives_in bs)
-  namings-are uuid [] has have = refl
-  namings-are uuid (b ∷ bs) has have =
+  namings-are uuid [] is has have = refl
+  namings-are uuid (b ∷ bs) is has have =
       both-same _ _ _ _
-      (not-so _ _ _ (shows.seen (path_of folder b.archive.name))
-      ∙ ap naming_in (shows.files (file_path folder b.archive.name (codes "metadata")) ∙ has.0.files (codes "metadata") ∙ have.0))
-      (namings-are uuid bs has.1 have.1)
+      (not-so _ _ _ (seen (path_of folder b.archive.name) (to-archive b is.0))
+      ∙ ap naming_in (file-there (file_path folder b.archive.name (codes "metadata")) (to-file b (codes "metadata") is.0 refl)
+      ∙ has.0.files (codes "metadata") ∙ have.0))
+      (namings-are uuid bs is.1 has.1 have.1)
 
-  files-of : (bs : List Box) → AllByRecursion (IsStored folder ms) bs
-      → AllByRecursion (λ (b : Box). (name : List ℕ) → t.file (file_path folder b.archive.name name) ≡ leaf_file name b.leaves) bs
-  files-of [] has = tt
-  files-of (b ∷ bs) has = (λ name. shows.files (file_path folder b.archive.name name) ∙ has.0.files name, files-of bs has.1)
+  files-of : (bs : List Box) → AllByRecursion IsBox bs → AllByRecursion (IsStored folder ms) bs
+      → AllByRecursion (λ (b : Box). (name : List ℕ) → is_plain_name name ≡ true → t.file (file_path folder b.archive.name name) ≡ leaf_file name b.leaves) bs
+  files-of [] is has = tt
+  files-of (b ∷ bs) is has = (
+    λ name plain-name. file-there (file_path folder b.archive.name name) (to-file b name is.0 plain-name) ∙ has.0.files name,
+    files-of bs is.1 has.1,
+  )
 
-  pub files-are : AllByRecursion (λ (b : Box). (name : List ℕ) → t.file (file_path folder b.archive.name name) ≡ leaf_file name b.leaves) (first ∷ others)
-  files-are = files-of (first ∷ others) stored
+  pub files-are : AllByRecursion (λ (b : Box). (name : List ℕ) → is_plain_name name ≡ true → t.file (file_path folder b.archive.name name) ≡ leaf_file name b.leaves)
+      (first ∷ others)
+  files-are = files-of (first ∷ others) are stored
 
   -- ---- the session
 
@@ -157,18 +193,18 @@ module _ (t : Tree) (dir session : List ℕ) (first : Box) (others : List Box) (
       → AllByRecursion (HasItsFiles t folder uuid (archives_in (first ∷ others))) streams
       → StandsAlone t dir session uuid (archives_in (first ∷ others)) streams
   stands-alone uuid streams sixteen bytes name follow metadata numbered have files = record {
-    seen = shows.seen dir;
+    seen = seen dir ([], tt, refl);
     alone = alone;
     named = name;
     stands = record {
-      seen = shows.seen folder;
+      seen = seen folder to-folder;
       there = there;
       archives_are = archives-are;
       first = first.archive;
       others = archives_in others;
       some = refl;
       follow = follow;
-      metadata = namings-are uuid (first ∷ others) stored metadata
+      metadata = namings-are uuid (first ∷ others) are stored metadata
           ∙ ap (λ n. map (λ (a : Numbered). n) (archives_in (first ∷ others))) (metadata_are_of_trace uuid sixteen bytes);
       streams_are = streams-are (streams_in streams) (numbers-of 0 (streams_in streams) numbered) have;
       numbered = numbered;

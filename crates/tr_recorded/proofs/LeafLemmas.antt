@@ -1,5 +1,5 @@
 -- The files of a session's archives.
-use Rattle.std.proofs.Common.{◌≡◌, ◌≢◌, ◌∙◌, ◌<◌, ◌≤◌, ◌+◌, ◌-◌, ◌^◌, ◌⊎◌, ⊎_elim, ℕ, zero, suc, Bool, true, false, true≢false, cond, eqb, refl, sym, ap, subst, arith, List, [], ◌∷◌, ◌++◌, length, map, Option, Some, None, slice_get, append_assoc, append-nil}
+use Rattle.std.proofs.Common.{◌≡◌, ◌≢◌, ◌∙◌, ◌<◌, ◌≤◌, ◌^◌, ◌⊎◌, ⊎_elim, ℕ, zero, suc, Bool, true, false, cond, eqb, refl, sym, ap, subst, arith, List, [], ◌∷◌, ◌++◌, length, map, Option, Some, None, slice_get, append-nil}
 use Rattle.std.proofs.Math.Bridge.{le_prop}
 use Rattle.std.proofs.Math.Dec.{eqb-suc-suc, eqb-suc-zero, eqb-zero-suc}
 use Rattle.std.proofs.lemmas.Bool.{cases_order}
@@ -20,9 +20,8 @@ use Rattle.tr_recorded.proofs.BoxLemmas.{Box, Leaf}
 use Rattle.tr_recorded.proofs.PlainLemmas.{file-plain}
 use Rattle.tr_recorded.proofs.StoredLemmas.{leaf_file, or-assoc, or-none}
 use Rattle.tr_recorded.specs.Recorded.{archive_named, archives_named, recorded_of, stream_recorded, streams_recorded}
-use Rattle.tr_session.specs.Session.{HasItsStreams, IsStreamOf, SessionOf}
-use Rattle.tr_session_book.specs.Book.{SessionBookState}
-use Rattle.tr_session_book.specs.BookSteps.{channel_of, is_cut}
+use Rattle.tr_session.specs.Session.{HasItsStreams, SessionOf}
+use Rattle.tr_session_book.specs.BookSteps.{channel_of}
 use Rattle.tr_session_book.specs.Names.{AreNamed}
 use Rattle.tr_session_book.specs.declared.archive.Archive.{Archive}
 use Rattle.tr_session_book.specs.declared.channel.Channel.{Channel}

@@ -12,3 +12,4 @@ pub mod SessionLemmas
 pub mod SetLemmas
 pub mod StoredLemmas
 pub mod TimeLemmas
+pub mod TreeLemmas

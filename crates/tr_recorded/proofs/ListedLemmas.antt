@@ -1,5 +1,5 @@
 -- What is found among names that are listed in any order.
-use Rattle.std.proofs.Common.{◌≡◌, ◌∙◌, ℕ, Bool, true, false, true≢false, cond, eqb, ◌||◌, refl, sym, ap, subst, List, [], ◌∷◌, ◌++◌, Option, Some, None}
+use Rattle.std.proofs.Common.{◌≡◌, ◌∙◌, ℕ, Bool, true, false, true≢false, eqb, ◌||◌, refl, sym, ap, List, [], ◌∷◌, Option, Some, None}
 use Rattle.std.proofs.lemmas.List.Folds.{list_any-append}
 use Rattle.std.proofs.lemmas.Cmp.{nat_list_cmp_total}
 use Rattle.std.specs.Cmp.Lexicographic.{bytes_decides, pointwise}
@@ -10,8 +10,8 @@ use Rattle.tr_folders.specs.Tree.{Tree}
 use Rattle.tr_recorded.proofs.BelowLemmas.{same-name}
 use Rattle.tr_recorded.proofs.SetLemmas.{name-same, number-same, number-total, same-keys}
 use Rattle.tr_recorded.specs.Made.{is_listed}
-use Rattle.tr_survey.specs.Listing.{archive_at, archives_of, names_in_order, with_keys}
-use Rattle.tr_survey.specs.Order.{Numbered, name_cmp, number_cmp}
+use Rattle.tr_survey.specs.Listing.{archive_at, archives_of, names_in_order}
+use Rattle.tr_survey.specs.Order.{name_cmp, number_cmp}
 
 bools : (a b : Bool) → (a ≡ true → b ≡ true) → (b ≡ true → a ≡ true) → a ≡ b
 bools true b to from = sym (to refl)

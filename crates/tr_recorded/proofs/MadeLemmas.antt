@@ -1,29 +1,26 @@
 -- What is made of a session's archives, none of them released.
-use Rattle.std.proofs.Common.{◌≡◌, ◌∙◌, ◌+◌, ℕ, zero, suc, Bool, cond, refl, sym, ap, arith, List, [], ◌∷◌, ◌++◌, length, map, Option, Some, None, slice_get}
+use Rattle.std.proofs.Common.{◌≡◌, ◌∙◌, ℕ, zero, suc, cond, refl, sym, ap, List, [], ◌∷◌, ◌++◌, length, map, Option, Some, None}
 use Rattle.std.proofs.lemmas.List.{map-append}
-use Rattle.std.proofs.lemmas.List.Sums.{sum_by-cons}
-use Rattle.std.specs.List.{AllByRecursion, flat_map, sum_by}
-use Rattle.std.specs.Option.{option_map_or}
-use Rattle.std.specs.Prelude.{codes, is_some, nat_eq}
-use Rattle.tr_book.specs.Parts.{PartState, part_at}
+use Rattle.std.specs.List.{AllByRecursion, flat_map}
+use Rattle.std.specs.Prelude.{codes, nat_eq}
+use Rattle.tr_book.specs.Parts.{PartState}
 use Rattle.tr_chunk.specs.Files.{file_name, packets_text}
 use Rattle.tr_export.specs.Archives.{archive_made, archives_made, chunk_made, metadata_file, part_file, part_of_stream, stream_files}
 use Rattle.tr_export.specs.Making.{Makings}
 use Rattle.tr_export.specs.Paths as export
 use Rattle.tr_export.specs.declared.made.Made.TheVariants as made
 use Rattle.tr_packet.specs.Metadata.{metadata_of}
-use Rattle.tr_recorded.proofs.BoxLemmas.{Box, Leaf, box_made, boxes_made, leaf_made}
-use Rattle.tr_recorded.proofs.LeafLemmas.{box_of, leaf_of, leaves_of, metadata_leaf, part-is}
+use Rattle.tr_recorded.proofs.BoxLemmas.{box_made, boxes_made, leaf_made}
+use Rattle.tr_recorded.proofs.LeafLemmas.{box_of, leaf_of, leaves_of, metadata_leaf}
 use Rattle.tr_recorded.proofs.PathLemmas.{file_is, folder_is}
 use Rattle.tr_recorded.specs.Recorded.{HasItsArchives, archive_named}
 use Rattle.tr_session.specs.Session.{SessionOf}
-use Rattle.tr_session.specs.Sizes.{archive_released, part_released}
+use Rattle.tr_session.specs.Sizes.{archive_released}
 use Rattle.tr_session_book.specs.BookSteps.{channel_of}
 use Rattle.tr_session_book.specs.declared.archive.Archive.{Archive}
-use Rattle.tr_stream.specs.Fates.{all_parts}
 use Rattle.tr_stream.specs.Rules.{by_state}
 use Rattle.tr_stream.specs.State.{StreamState}
-use Rattle.tr_survey.specs.Paths.{archives_folder, path_of}
+use Rattle.tr_survey.specs.Paths.{archives_folder}
 
 module _ (dir name : List ℕ) (s : SessionOf StreamState) where
   abbrev folder : List ℕ

@@ -1,12 +1,11 @@
 -- Numbered keys that come in order stay so in a set, each once.
-use Rattle.std.proofs.Common.{◌≡◌, ◌∙◌, ◌<◌, ◌+◌, ℕ, zero, suc, Bool, true, false, cond, eqb, refl, sym, ap, subst, arith, List, [], ◌∷◌, ◌++◌, length, map, Option, Some, None, append_assoc, append-nil}
+use Rattle.std.proofs.Common.{◌≡◌, ◌∙◌, ◌<◌, ◌+◌, ℕ, zero, suc, refl, sym, ap, subst, arith, List, [], ◌∷◌, ◌++◌, length, map, Some, append_assoc, append-nil}
 use Rattle.std.proofs.lemmas.Grind.{common_steps}
 use Rattle.std.specs.BTreeSet.{insert_key}
-use Rattle.std.specs.List.{fold}
 use Rattle.std.specs.Ordering.{match_ordering, nat_cmp, ordering_then}
-use Rattle.std.specs.Prelude.{nat_lt, slice_get}
+use Rattle.std.specs.Prelude.{slice_get}
 use Rattle.std.specs.declared.cmp.Ordering.{Ordering}
-use Rattle.std.specs.declared.cmp.Ordering.TheVariants.{Less, Equal, Greater}
+use Rattle.std.specs.declared.cmp.Ordering.TheVariants.{Equal, Greater}
 use Rattle.tr_survey.specs.Listing.{with_keys}
 use Rattle.tr_survey.specs.Order.{Numbered, name_cmp, number_cmp}
 
@@ -93,12 +92,3 @@ in-order xs (k ∷ ks) are =
     ap (λ (l : List Numbered). with_keys l ks) (next-last 0 xs k (first-numbers 0 xs (k ∷ ks) are) (next-number 0 xs k ks are))
     ∙ in-order (xs ++ k ∷ []) ks (subst (Numbers 0) (sym (append_assoc xs (k ∷ []) ks)) are)
     ∙ append_assoc xs (k ∷ []) ks
-
--- all of them again
-pub all-again : (front ks : List Numbered) → Numbers 0 (front ++ ks) → with_keys (front ++ ks) ks ≡ front ++ ks
-all-again front [] are = refl
-all-again front (k ∷ ks) are =
-    let whole = front ++ k ∷ ks in
-    let more : (front ++ k ∷ []) ++ ks ≡ whole = append_assoc front (k ∷ []) ks in
-    ap (λ (l : List Numbered). with_keys l ks) (known 0 (length front) whole k are (place-of front k ks))
-    ∙ subst (λ (l : List Numbered). with_keys l ks ≡ l) more (all-again (front ++ k ∷ []) ks (subst (Numbers 0) (sym more) are))

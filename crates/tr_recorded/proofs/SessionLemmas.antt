@@ -1,24 +1,24 @@
 -- What is written of a session is what a survey finds nothing wrong with.
-use Rattle.std.proofs.Common.{◌≡◌, ◌≢◌, ◌∙◌, ◌+◌, ◌<◌, ◌≤◌, ◌^◌, ℕ, zero, suc, Bool, true, false, refl, sym, ap, subst, arith, List, [], ◌∷◌, ◌++◌, length, map, take, Option, Some, None, slice_get, length-append}
+use Rattle.std.proofs.Common.{◌≡◌, ◌≢◌, ◌∙◌, ◌+◌, ◌<◌, ◌≤◌, ◌^◌, ◌||◌, ℕ, zero, suc, Bool, true, false, true≢false, cond, refl, sym, ap, subst, arith, List, [], ◌∷◌, ◌++◌, length, map, take, Some, None, slice_get, length-append}
 use Rattle.std.proofs.lemmas.List.{length-map, map-append}
-use Rattle.std.specs.List.{All, AllByRecursion, zip}
-use Rattle.std.specs.Prelude.{codes}
+use Rattle.std.specs.List.{All, AllByRecursion, flat_map, zip}
+use Rattle.std.specs.Option.{unwrap_or}
 use Rattle.tr_book.specs.Parts.{PartState}
 use Rattle.tr_chunk.specs.Files.{file_name, packets_text}
 use Rattle.tr_export.proofs.HeldLemmas.{part-held}
-use Rattle.tr_export.specs.Archives.{archives_made}
+use Rattle.tr_export.specs.Archives.{archive_made, archives_made}
 use Rattle.tr_folders.specs.Kept.{file_of}
-use Rattle.tr_folders.specs.Tree.{File, Tree}
-use Rattle.tr_packet.specs.Packets.{Contents}
+use Rattle.tr_folders.specs.Tree.{Tree}
+use Rattle.tr_recorded.proofs.BelowLemmas.{same-name}
 use Rattle.tr_recorded.proofs.BoxLemmas.{Box, IsBox, archives_in, boxes_made}
 use Rattle.tr_recorded.proofs.FolderLemmas.{HaveMetadata, HaveStreams, files-are, stands-alone}
 use Rattle.tr_recorded.proofs.LeafLemmas.{StreamAt, box_of, have-streams, leaves-plain, metadata-found, part-is, part-of, recorded-is, some-at, stream-at, stream-found}
 use Rattle.tr_recorded.proofs.MadeLemmas.{made-is}
 use Rattle.tr_recorded.proofs.OrderLemmas.{Numbers}
-use Rattle.tr_recorded.proofs.PlainLemmas.{archive-plain, name-plain}
+use Rattle.tr_recorded.proofs.PlainLemmas.{archive-plain, file-named, name-named, name-plain}
 use Rattle.tr_recorded.proofs.StoredLemmas.{leaf_file}
 use Rattle.tr_recorded.proofs.TimeLemmas.{AreWithin, book-within, follow, numbers}
-use Rattle.tr_recorded.specs.Made.{Shows}
+use Rattle.tr_recorded.specs.Made.{Shows, is_listed, is_plain_name}
 use Rattle.tr_recorded.specs.Recorded.{HasItsArchives, NoneReleased, archive_named, archives_named, recorded_of, session_recorded_text, stream_recorded, streams_recorded}
 use Rattle.tr_session.specs.Audits.{packets_by_part}
 use Rattle.tr_session.specs.Session.{HasItsStreams, SessionOf}
@@ -30,13 +30,14 @@ use Rattle.tr_stream.specs.Rules.{by_state}
 use Rattle.tr_stream.specs.State.{StreamState}
 use Rattle.tr_survey.proofs.SessionLemmas.{whole_is}
 use Rattle.tr_survey.proofs.StampLemmas.{archive_is_of_number}
+use Rattle.tr_survey.specs.Listing.{names_at, names_in_order}
 use Rattle.tr_survey.specs.Names.{of_parts}
 use Rattle.tr_survey.specs.Order.{Numbered}
 use Rattle.tr_survey.specs.Paths.{archives_folder, file_path}
-use Rattle.tr_survey.specs.Sessions.{survey_of}
+use Rattle.tr_survey.specs.Sessions.{ended_told, names_told, survey_of}
 use Rattle.tr_survey.specs.Told.{told}
 use Rattle.tr_survey.specs.Whole.{AreRecorded, FollowEachOther, HasFiles, HasItsFiles, NumberedFrom, StandsAlone, StreamFiles, streams_in}
-use Rattle.tr_survey.specs.declared.faults.Surveyed.TheVariants.{Faults}
+use Rattle.tr_survey.specs.declared.faults.Surveyed.TheVariants.{Faults, NoSession, Unlisted}
 use Rattle.tr_terms.specs.Names.{is_name}
 use Rattle.tr_terms.specs.Offsets.{IsOffset}
 use Rattle.tr_terms.specs.declared.limits.TheConstants.{LAST_MOMENT, MOST_STREAMS}
@@ -97,8 +98,7 @@ module _ (s : SessionOf StreamState) (streams : (i : ℕ) → i < length s.strea
       → AllByRecursion IsBox (map (box_of s) archives)
   are-boxes k [] own le = tt
   are-boxes k (a ∷ archives) own le =
-      let number = archive_is_of_number a.begin a.end a.id s.book.offset own.2 own.3 offset (omega (arith, own.0, own.1)) in
-      (
+      let number = archive_is_of_number a.begin a.end a.id s.book.offset own.2 own.3 offset (omega (arith, own.0, own.1)) in (
         record {
           number = number;
           plain = archive-plain (archive_named s.book a).name a.id number;
@@ -147,7 +147,7 @@ module _ (s : SessionOf StreamState) (streams : (i : ℕ) → i < length s.strea
 
   module _ (t : Tree) (folder : List ℕ) where
     abbrev HasItsLeaves : Box → Type 0
-    HasItsLeaves b = (name : List ℕ) → t.file (file_path folder b.archive.name name) ≡ leaf_file name b.leaves
+    HasItsLeaves b = (name : List ℕ) → is_plain_name name ≡ true → t.file (file_path folder b.archive.name name) ≡ leaf_file name b.leaves
 
     files-recorded : (i : ℕ) (below : i < length s.streams) (k : ℕ) (archives : List Archive) (ps : List PartState)
         → AllByRecursion HasItsLeaves (map (box_of s) archives) → AreWithin k archives → k + length archives ≤ length s.book.archives
@@ -161,9 +161,9 @@ module _ (s : SessionOf StreamState) (streams : (i : ℕ) → i < length s.strea
         let place : k + 0 ≡ a.id = omega (arith, own.0) in
         let here : slice_get (all_parts (streams i below).stream.parts) a.id ≡ Some p =
         subst (λ (n : ℕ). slice_get (all_parts (streams i below).stream.parts) n ≡ Some p) place (parts 0 p refl) in
-        let same : its.0 ≡ p = same-part its.0 p (sym its.1 ∙ here) in
-        (
-          has.0 (file_name (streams i below).channel i) ∙ stream-found s streams a.id within small i below
+        let same : its.0 ≡ p = same-part its.0 p (sym its.1 ∙ here) in (
+          has.0 (file_name (streams i below).channel i) (file-named (streams i below).channel i (streams i below).valid (omega (arith, below, small)))
+              ∙ stream-found s streams a.id within small i below
               ∙ ap (λ (q : PartState). Some (file_of (packets_text q.packets) false)) same,
           files-recorded i below (k + 1) archives ps has.1 own.4 (omega (arith, le))
               (λ j q at.
@@ -226,6 +226,7 @@ module _ (s : SessionOf StreamState) (streams : (i : ℕ) → i < length s.strea
         let folder = archives_folder dir name in
         let boxes = map (box_of s) (first ∷ others) in
         let plain = name-plain name named in
+        let its-name = name-named name named in
         let within : AreWithin 0 (first ∷ others) = subst (AreWithin 0) is own in
         let le : 0 + length (first ∷ others) ≤ length s.book.archives = let long = ap length is in omega (arith, long) in
         let seen : Shows t dir (boxes_made folder boxes) =
@@ -234,18 +235,18 @@ module _ (s : SessionOf StreamState) (streams : (i : ℕ) → i < length s.strea
         let numbered = subst (Numbers 0) (sym (named-in (first ∷ others))) (numbers s.book 0 (first ∷ others) within) in
         let same : archives_in boxes ≡ archives_named s.book =
         named-in (first ∷ others) ∙ ap (map (archive_named s.book)) (sym is) in
-        let leaves = files-are t dir name (box_of s first) (map (box_of s) others) seen plain are numbered in
+        let leaves = files-are t dir name (box_of s first) (map (box_of s) others) seen plain its-name are numbered in
         let files = files-upto t folder (subst (λ (l : List Archive). AllByRecursion (HasItsLeaves t folder) (map (box_of s) l)) (sym is) leaves) own keeps none
         (length s.streams) (omega arith) in
         subst (λ (l : List Numbered). StandsAlone t dir name s.book.uuid l (streams_recorded s (length s.streams))) same
-        (stands-alone t dir name (box_of s first) (map (box_of s) others) seen plain are numbered s.book.uuid (streams_recorded s (length s.streams))
+        (stands-alone t dir name (box_of s first) (map (box_of s) others) seen plain its-name are numbered s.book.uuid (streams_recorded s (length s.streams))
         sixteen bytes named
         (subst (FollowEachOther 0) (sym (named-in (first ∷ others))) (follow s.book 0 (first ∷ others) chunk (subst (λ (l : List Archive). AreChained l chunk) is chained) within))
         (have-metadata 0 (first ∷ others) within le) (numbered-upto (length s.streams) (omega arith)) (have-all 0 (first ∷ others) within le)
         (subst (λ (l : List Numbered). AllByRecursion (HasItsFiles t folder s.book.uuid l) (streams_recorded s (length s.streams))) (sym same) files))
 
     told-whole : (asked : Bool) (archives : List Archive) → s.book.archives ≡ archives → archives ≢ []
-        → survey_of asked t dir ≡ told (session_recorded_text asked t dir name s) (Faults 0)
+        → survey_of asked t dir ≡ told (session_recorded_text asked name s) (Faults 0)
     told-whole asked [] is some = absurd (some refl)
     told-whole asked (first ∷ others) is some =
         whole_is asked t dir name s.book.uuid (archives_named s.book) (streams_recorded s (length s.streams)) (stands first others is)
@@ -255,9 +256,28 @@ pub whole-session : (s : SessionOf StreamState) → IsBook s.book → s.book.beg
     → All (λ b. b < 256) s.book.uuid → length s.book.archives ≤ 2 ^ 64 → length s.streams ≤ MOST_STREAMS → HasItsStreams s
     → ((i : ℕ) (u : StreamState) → slice_get s.streams i ≡ Some u → Keeps u)
     → (asked : Bool) (t : Tree) (dir name : List ℕ) → is_name name ≡ true → s.book.archives ≢ [] → HasItsArchives s
-    → Shows t dir (archives_made dir name s) → survey_of asked t dir ≡ told (session_recorded_text asked t dir name s) (Faults 0)
+    → Shows t dir (archives_made dir name s) → survey_of asked t dir ≡ told (session_recorded_text asked name s) (Faults 0)
 whole-session s book begin offset sixteen bytes few streams its keeps asked t dir name named some none shows =
     let more = archive_pending s.book.pending in
     let time = book-within s.book.archives more s.book.begin book.5.0 begin book.2.0 few in
     told-whole s (stream-at s its book.4) streams offset time.0 (first_begin more s.book.begin) time.1 sixteen bytes keeps none t dir name named shows
     asked s.book.archives refl some
+
+-- ---- without an archive
+
+none-listed : (names : List (List ℕ)) → ((name : List ℕ) → is_listed name names ≡ false) → names ≡ []
+none-listed [] none = refl
+none-listed (x ∷ names) none =
+    absurd (true≢false (ap (λ (b : Bool). b || is_listed x names) (sym (same-name x)) ∙ none x))
+
+nothing-there : (asked : Bool) (t : Tree) (dir : List ℕ) → Shows t dir [] → survey_of asked t dir ≡ told [] NoSession
+nothing-there asked t dir shows =
+    let names : names_at t dir ≡ [] =
+    ap (λ (b : Bool). cond b [] (unwrap_or (t.names dir) [])) (shows.seen [] tt) ∙ none-listed (unwrap_or (t.names dir) []) (shows.names [] tt) in
+    ap (λ (b : Bool). cond b (told [] Unlisted) (ended_told (names_told asked t dir None (names_in_order (names_at t dir))))) (shows.seen [] tt)
+    ∙ ap (λ (l : List (List ℕ)). ended_told (names_told asked t dir None (names_in_order l))) names
+
+pub no-session : (s : SessionOf StreamState) (asked : Bool) (t : Tree) (dir name : List ℕ) → s.book.archives ≡ []
+    → Shows t dir (archives_made dir name s) → survey_of asked t dir ≡ told [] NoSession
+no-session s asked t dir name none shows =
+    nothing-there asked t dir (subst (Shows t dir) (ap (flat_map (archive_made dir name s)) none) shows)

@@ -1,5 +1,5 @@
 -- What stands in the folder of each archive.
-use Rattle.std.proofs.Common.{◌≡◌, ◌≢◌, ◌∙◌, ◌<◌, ◌≤◌, ◌+◌, ℕ, suc, Bool, true, false, cond, eqb, ◌&&◌, ◌||◌, refl, sym, ap, subst, arith, List, [], ◌∷◌, ◌++◌, length, map, Option, Some, None, append_assoc, append-nil}
+use Rattle.std.proofs.Common.{◌≡◌, ◌≢◌, ◌∙◌, ◌<◌, ◌≤◌, ◌+◌, ℕ, suc, Bool, true, false, cond, eqb, ◌||◌, refl, sym, ap, subst, arith, List, [], ◌∷◌, ◌++◌, length, map, Option, Some, None, append_assoc, append-nil}
 use Rattle.std.proofs.lemmas.Grind.{flat_map-append}
 use Rattle.std.proofs.lemmas.List.Folds.{list_any-append}
 use Rattle.std.specs.Cmp.Lexicographic.{bytes_decides, pointwise}
@@ -7,16 +7,13 @@ use Rattle.std.specs.List.{AllByRecursion, cons_option, list_any}
 use Rattle.std.specs.Option.{option_or}
 use Rattle.std.specs.Prelude.{is_some}
 use Rattle.tr_export.specs.Making.{Makings}
-use Rattle.tr_export.specs.declared.made.Made.{Made}
-use Rattle.tr_export.specs.declared.made.Made.TheVariants as made
 use Rattle.tr_folders.specs.Kept.{file_of}
 use Rattle.tr_folders.specs.Tree.{File}
 use Rattle.tr_recorded.proofs.BelowLemmas.{HasNoSlash, below-front, below-is, beside, not-below, other-path, same-front, same-name}
 use Rattle.tr_recorded.proofs.BoxLemmas.{Box, IsBox, Leaf, archives_in, box_made, boxes_made, leaf_made, names-append}
 use Rattle.tr_recorded.proofs.OrderLemmas.{Numbers}
-use Rattle.tr_recorded.specs.Made.{file_at, file_made, makes_folder, name_below, names_made, path_made}
+use Rattle.tr_recorded.specs.Made.{file_at, file_made, makes_folder, name_below, names_made}
 use Rattle.tr_survey.specs.Names.{archive_number}
-use Rattle.tr_survey.specs.Order.{Numbered}
 use Rattle.tr_survey.specs.Paths.{file_path, path_of}
 
 -- the last of these files that has this name
@@ -207,8 +204,7 @@ all-stored folder front [] before are numbers = tt
 all-stored folder front (b ∷ rest) before are numbers =
     let n = number-after 0 front b rest numbers in
     let more : (front ++ b ∷ []) ++ rest ≡ front ++ b ∷ rest = append_assoc front (b ∷ []) rest in
-    let number : b.archive.number ≡ length front = omega (arith, n.0) in
-    (
+    let number : b.archive.number ≡ length front = omega (arith, n.0) in (
       among folder front b rest before are.0 are.1
           (earlier-differ 0 b.archive.number b.archive.name front are.0.number (omega (arith, number)) before n.1)
           (later-differ (0 + length front + 1) b.archive.number b.archive.name rest are.0.number (omega (arith, number)) are.1 n.2),

@@ -1,5 +1,5 @@
 -- A session's archives, by number and name, follow each other.
-use Rattle.std.proofs.Common.{◌≡◌, ◌∙◌, ◌<◌, ◌≤◌, ◌+◌, ◌^◌, ℕ, zero, suc, true, eqb, refl, sym, ap, subst, arith, List, [], ◌∷◌, ◌++◌, length, take, drop, map, Some, ℤ, pos, negsuc, append_assoc, length-append}
+use Rattle.std.proofs.Common.{◌≡◌, ◌∙◌, ◌<◌, ◌≤◌, ◌+◌, ◌^◌, ℕ, suc, true, eqb, refl, sym, ap, arith, List, [], ◌∷◌, ◌++◌, length, take, drop, map, Some, ℤ, pos, negsuc, append_assoc, length-append}
 use Rattle.std.proofs.lemmas.List.{drop_at, take_at}
 use Rattle.std.specs.Cmp.Lexicographic.{pointwise}
 use Rattle.std.specs.Fmt.{decimal}
@@ -13,7 +13,6 @@ use Rattle.tr_session_book.specs.BookSteps.{AreChained, first_begin}
 use Rattle.tr_session_book.specs.declared.archive.Archive.{Archive}
 use Rattle.tr_survey.specs.Heads.{is_next}
 use Rattle.tr_survey.specs.Names.{begin_stamp, end_stamp}
-use Rattle.tr_survey.specs.Order.{Numbered}
 use Rattle.tr_survey.specs.Whole.{FollowEachOther}
 use Rattle.tr_terms.specs.declared.limits.TheConstants.{LAST_MOMENT}
 
@@ -52,13 +51,16 @@ pub book-within : (archives more : List Archive) (chunk : ℕ) → AreChained (a
     → ((i : ℕ) (a : Archive) → slice_get archives i ≡ Some a → a.id ≡ i) → length archives ≤ 2 ^ 64
     → AreWithin 0 archives × AreChained archives (first_begin more chunk)
 book-within archives more chunk are le numbered few =
-    let front = front-chained archives more chunk are in
-    (within 0 archives (first_begin more chunk) front (more-within more chunk (back archives more chunk are) le)
-    (λ i a at. let own = numbered i a at in omega (arith, own)) (omega (arith, few)), front)
+    let front = front-chained archives more chunk are in (
+      within 0 archives (first_begin more chunk) front (more-within more chunk (back archives more chunk are) le)
+          (λ i a at. let own = numbered i a at in omega (arith, own)) (omega (arith, few)),
+      front,
+    )
   where
     back : (archives more : List Archive) (chunk : ℕ) → AreChained (archives ++ more) chunk → AreChained more chunk
     back [] more chunk are = are
     back (a ∷ archives) more chunk are = back archives more chunk are.2
+
     more-within : (more : List Archive) (chunk : ℕ) → AreChained more chunk → chunk ≤ LAST_MOMENT → first_begin more chunk ≤ LAST_MOMENT
     more-within more chunk are le = first-within more chunk are le
 

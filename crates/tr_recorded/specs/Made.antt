@@ -1,13 +1,15 @@
 -- What stands in a folder that was empty, after folders and files were made there.
 use Rattle.std.specs.Prelude.{◌≡◌, ℕ, Bool, true, false, ◌||◌, ◌==◌, nat_eq, List, [], ◌∷◌, Option, Some, None, is_some, unwrap_or, if◌then◌else◌}
 use Rattle.std.specs.Cmp.Lexicographic.{pointwise}
-use Rattle.std.specs.List.{filter_map, list_any}
+use Rattle.std.specs.List.{AllByRecursion, filter_map, list_all, list_any}
 use Rattle.std.specs.Option.{option_or}
 use Rattle.tr_export.specs.Making.{Makings}
 use Rattle.tr_export.specs.declared.made.Made.{Made}
 use Rattle.tr_export.specs.declared.made.Made.TheVariants.{Folder, File, Broken}
 use Rattle.tr_folders.specs.Kept.{file_of}
 use Rattle.tr_folders.specs.Tree as folders
+use Rattle.tr_survey.specs.Paths.{path_of}
+use Rattle.tr_terms.specs.Names.{is_plain}
 
 abbrev pub path_made : Made (List ℕ) (List ℕ) → List ℕ
 path_made (Folder path) = path
@@ -64,9 +66,33 @@ file_made path (m ∷ made) = option_or (file_made path made) (file_at path m)
 abbrev pub is_listed : List ℕ → List (List ℕ) → Bool
 is_listed name = list_any (pointwise nat_eq name)
 
--- these folders and files stand in a folder that was empty, and nothing beside them; each can be read, and names are listed in any order
+-- the folders and files that stand then in a folder that was empty
+abbrev pub tree_made : List ℕ → Makings → folders.Tree
+tree_made dir made = record {
+  names = λ path. if is_folder_made dir made path then Some (names_made path made) else None;
+  is_hidden = λ path. false;
+  file = λ path. file_made path made;
+}
+
+-- a name in a path: not empty, and without a slash or a dot
+abbrev pub is_plain_name : List ℕ → Bool
+is_plain_name [] = false
+is_plain_name (b ∷ name) = list_all is_plain (b ∷ name)
+
+-- the path from a folder on through these names
+abbrev pub path_by : List ℕ → List (List ℕ) → List ℕ
+path_by folder [] = folder
+path_by folder (name ∷ names) = path_by (path_of folder name) names
+
+abbrev pub ArePlain : List (List ℕ) → Type 0
+ArePlain = AllByRecursion (λ (name : List ℕ). is_plain_name name ≡ true)
+
+-- below a folder that was empty stand these folders and files and nothing beside them, by paths through plain names; each can be
+-- read, and names are listed in any order
 pub record Shows (t : folders.Tree) (dir : List ℕ) (made : Makings) : Type 0 where
-  pub seen : (path : List ℕ) → t.is_hidden path ≡ false
-  pub folders : (path : List ℕ) → is_some (t.names path) ≡ is_folder_made dir made path
-  pub names : (path name : List ℕ) → is_listed name (unwrap_or (t.names path) []) ≡ is_listed name (names_made path made)
-  pub files : (path : List ℕ) → t.file path ≡ file_made path made
+  pub seen : (through : List (List ℕ)) → ArePlain through → t.is_hidden (path_by dir through) ≡ false
+  pub folders : (through : List (List ℕ)) → ArePlain through
+      → is_some (t.names (path_by dir through)) ≡ is_folder_made dir made (path_by dir through)
+  pub names : (through : List (List ℕ)) → ArePlain through → (name : List ℕ)
+      → is_listed name (unwrap_or (t.names (path_by dir through)) []) ≡ is_listed name (names_made (path_by dir through) made)
+  pub files : (through : List (List ℕ)) → ArePlain through → t.file (path_by dir through) ≡ file_made (path_by dir through) made

@@ -3,7 +3,6 @@ use Rattle.std.specs.Prelude.{◌≡◌, ℕ, zero, suc, Bool, List, [], ◌∷�
 use Rattle.std.specs.List.{AllByRecursion, zip}
 use Rattle.tr_book.specs.Parts.{PartState}
 use Rattle.tr_chunk.specs.ArchiveName.{archive_name_text}
-use Rattle.tr_folders.specs.Tree.{Tree}
 use Rattle.tr_session.specs.Audits.{packets_by_part}
 use Rattle.tr_session.specs.Session.{SessionOf}
 use Rattle.tr_session.specs.Sizes.{archive_released}
@@ -15,7 +14,6 @@ use Rattle.tr_stream.specs.Rules.{by_state}
 use Rattle.tr_stream.specs.State.{StreamState}
 use Rattle.tr_survey.specs.Names.{of_parts}
 use Rattle.tr_survey.specs.Order.{Numbered}
-use Rattle.tr_survey.specs.Paths.{archives_folder}
 use Rattle.tr_survey.specs.Whole.{Recorded, StreamFiles, recorded_text}
 
 -- none of its first k parts was released
@@ -51,7 +49,7 @@ streams_recorded s zero = []
 streams_recorded s (suc i) =
     streams_recorded s i ++ stream_recorded (archives_named s.book) i (channel_of i s.book) (slice_get s.streams i)
 
--- what is told of a session's archives and streams, and of what each stream lost
-abbrev pub session_recorded_text : Bool → Tree → List ℕ → List ℕ → SessionOf StreamState → List ℕ
-session_recorded_text asked t dir name s =
-    recorded_text asked t (archives_folder dir name) name s.book.uuid (archives_named s.book) (streams_recorded s (length s.streams))
+-- what is told of a session of this name: its archives and streams, and what each stream lost
+abbrev pub session_recorded_text : Bool → List ℕ → SessionOf StreamState → List ℕ
+session_recorded_text asked name s =
+    recorded_text asked name s.book.uuid (archives_named s.book) (streams_recorded s (length s.streams))

@@ -3,9 +3,10 @@
 ghost use Rattle.std.specs.Prelude.{◌≡◌, ◌≢◌, ◌<◌, ◌≤◌, ℕ, Bool, IsTrue, List, [], length};
 ghost use Rattle.std.specs.List.{All};
 ghost use Rattle.tr_export.specs.Archives.{archives_made};
+ghost use Rattle.tr_export.specs.Making.{Makings};
 ghost use Rattle.tr_export.specs.Paths as export;
 ghost use Rattle.tr_folders.specs.Tree.{Tree};
-ghost use Rattle.tr_recorded.specs.Made.{Shows};
+ghost use Rattle.tr_recorded.specs.Made.{Shows, tree_made};
 ghost use Rattle.tr_recorded.specs.Recorded.{HasItsArchives, NoneReleased, recorded_of, session_recorded_text};
 ghost use Rattle.tr_stream.specs.Fates.{all_parts};
 ghost use Rattle.tr_survey.specs.Order.{Numbered};
@@ -13,7 +14,7 @@ ghost use Rattle.tr_survey.specs.Paths.{archives_folder, file_path, path_of};
 ghost use Rattle.tr_survey.specs.Sessions.{survey_of};
 ghost use Rattle.tr_survey.specs.Told.{told};
 ghost use Rattle.tr_survey.specs.Whole.{AreRecorded};
-ghost use Rattle.tr_survey.specs.declared.faults.Surveyed.TheVariants.{Faults};
+ghost use Rattle.tr_survey.specs.declared.faults.Surveyed.TheVariants.{Faults, NoSession};
 ghost use Rattle.tr_terms.specs.Names.{is_name};
 
 use std::alloc::Allocator;
@@ -37,17 +38,25 @@ pub fn archives_are_read_where_they_are_written()
         → file_path (archives_folder dir session) archive file ≡ export.path_of (export.folder_of dir session archive) file }
 {}
 
+/// The folders and files that stand where things were made show what was made. Does nothing.
+pub fn a_tree_shows_what_was_made()
+    ensures { (dir : List ℕ) (made : Makings) → Shows (tree_made dir made) dir made }
+{}
+
 /// Each of these is a byte. Does nothing.
 fn bytes_fit(bytes: &[u8])
     ensures { All (λ b. b < 256) bytes.now }
 {}
 
 /// What is written of a session to a folder that was empty is whole to a survey, if it has an archive and no part of one was
-/// released: the survey says just its archives, its streams, and what each of them lost. It does nothing but look at each stream.
+/// released: the survey says just its archives, its streams, and what each of them lost. Without an archive nothing is written, and
+/// there is no session. It does nothing but look at each stream.
 pub fn what_is_written_is_whole<A: Allocator>(session: &Session<A>)
-    ensures { (asked : Bool) (t : Tree) (dir name : List ℕ) → IsTrue (is_name name) → session.now.book.archives ≢ []
+    ensures whole { (asked : Bool) (t : Tree) (dir name : List ℕ) → IsTrue (is_name name) → session.now.book.archives ≢ []
         → HasItsArchives session.now → Shows t dir (archives_made dir name session.now)
-        → survey_of asked t dir ≡ told (session_recorded_text asked t dir name session.now) (Faults 0) }
+        → survey_of asked t dir ≡ told (session_recorded_text asked name session.now) (Faults 0) }
+    ensures none { (asked : Bool) (t : Tree) (dir name : List ℕ) → session.now.book.archives ≡ []
+        → Shows t dir (archives_made dir name session.now) → survey_of asked t dir ≡ told [] NoSession }
 {
     session.book().every_book_obeys();
     let uuid = session.book().uuid();

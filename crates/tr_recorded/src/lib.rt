@@ -5,6 +5,10 @@
 //!
 //! # What is proved
 //!
+//! - What tr_export makes of a session in a folder that was empty is `whole` to a survey (`what_is_written_is_whole`), if the
+//!   session has an archive, no part of its archives was released, and its name is one. The survey says just its archives,
+//!   its streams, and what each of them lost, as a definition over the session says it (`session_recorded_text`). This holds
+//!   of all folders that list what was made in them, in any order, and nothing else (`Shows`).
 //! - The packets of a stream's parts, none of which was released, are what tr_survey has no fault in (`AreRecorded`), one archive
 //!   after another: packets of this trace and stream, whose numbers and serials rise, and whose counts of discarded records
 //!   don't fall.
@@ -12,10 +16,12 @@
 //!
 //! # What is only tested
 //!
-//! That folders list what was made in them, and that the archives which a session made begin one when another ends: so that a
-//! survey of what tr_export makes of a session says `whole` (`examples/audit/run`).
+//! That a file system's folders list what was made in them, and its files have the bytes that were written (`examples/audit/run`).
 #![tactic(auto)]
 
 mod laws;
 
-pub use laws::{archives_are_read_where_they_are_written, every_stream_is_recorded, what_is_written_is_whole};
+pub use laws::{
+    a_tree_shows_what_was_made, archives_are_read_where_they_are_written, every_stream_is_recorded,
+    what_is_written_is_whole,
+};

@@ -8,6 +8,7 @@ pub mod MetadataTextLemmas
 pub mod NameLemmas
 pub mod NumberLemmas
 pub mod PrefixLemmas
+pub mod RecordedSumLemmas
 pub mod SessionLemmas
 pub mod StampLemmas
 pub mod SumLemmas

@@ -1,6 +1,6 @@
 -- A session as a recorder writes it is told of without a fault.
 use Rattle.std.proofs.Common.{◌≡◌, ◌+◌, ◌-◌, ◌||◌, ◌&&◌, ℕ, Bool, true, false, cond, eqb, refl, sym, ap, subst, ◌∙◌, arith, List, [], ◌∷◌, ◌++◌, length, map, Option, Some, None, append-nil, append_assoc}
-use Rattle.std.specs.Prelude.{codes, is_some, nat_lt}
+use Rattle.std.specs.Prelude.{codes, is_some, nat_lt, replicate}
 use Rattle.std.specs.Cmp.Lexicographic.{pointwise}
 use Rattle.std.specs.List.{AllByRecursion, fold, zip}
 use Rattle.std.proofs.lemmas.Grind.{common_steps}
@@ -15,13 +15,15 @@ use Rattle.tr_survey.specs.Order.{Numbered}
 use Rattle.tr_survey.specs.Paths.{archives_folder}
 use Rattle.tr_survey.specs.Sessions.{able_told, archives_told, closed_told, counted, ended_told, has_archives, listed_told, name_told, named_told, names_told, passed_told, session_told, streams_and_sums_told, survey_of}
 use Rattle.tr_survey.specs.Streams.{stream_told, streams_told}
-use Rattle.tr_survey.specs.Sums.{lines_asked, sums_of}
+use Rattle.tr_survey.specs.Sums.{lines_asked, no_sums, sums_of}
 use Rattle.tr_survey.specs.Told.{Told, and_then, faults_told, told}
-use Rattle.tr_survey.specs.Whole.{FollowEachOther, HasItsFiles, NumberedFrom, Stands, StandsAlone, StreamFiles, recorded_stream_told, recorded_streams_told, recorded_text, streams_in}
+use Rattle.tr_survey.specs.Whole.{FollowEachOther, HasItsFiles, NumberedFrom, Stands, StandsAlone, StreamFiles, recorded_stream_told, recorded_streams_told, recorded_sums, recorded_text, streams_in}
 use Rattle.tr_survey.specs.declared.faults.Surveyed.TheVariants.{Unlisted, Faults}
 use Rattle.tr_survey.specs.declared.identifiers.Identity.TheVariants.{OfMetadata}
 use Rattle.tr_survey.specs.declared.naming.Naming.{Naming}
 use Rattle.tr_survey.specs.declared.naming.Naming.TheVariants.{Named}
+use Rattle.tr_survey.specs.declared.sums.Sums.{Sums}
+use Rattle.tr_survey.proofs.RecordedSumLemmas.{streams_add}
 use Rattle.tr_survey.proofs.WholeLemmas.{no_fault_more, recorded_stream}
 
 -- ---- archives
@@ -129,22 +131,25 @@ head_is session uuid a archives streams follow numbered =
     ∙ ap (λ (l : List (List ℕ)). and_then begin (and_then [] (and_then [] (faults_told 0 l)))) none
     ∙ ap (λ (l : List ℕ). told l 0) (append-nil begin)
 
-abbrev body_text : Bool → Tree → List ℕ → List ℕ → List Numbered → List StreamFiles → List ℕ
-body_text asked t folder uuid archives streams =
-    (recorded_streams_told uuid streams 0).text ++ lines_asked asked archives (sums_of t folder uuid archives 0 (streams_in streams))
+abbrev body_text : Bool → List ℕ → List Numbered → List StreamFiles → List ℕ
+body_text asked uuid archives streams =
+    (recorded_streams_told uuid streams 0).text ++ lines_asked asked archives (recorded_sums uuid archives streams)
 
 body_is : (asked : Bool) (t : Tree) (folder uuid : List ℕ) (archives : List Numbered) (streams : List StreamFiles)
     → AllByRecursion (HasItsFiles t folder uuid archives) streams
-    → streams_and_sums_told asked t folder uuid archives (streams_in streams) 0 ≡ told (body_text asked t folder uuid archives streams) 0
+    → streams_and_sums_told asked t folder uuid archives (streams_in streams) 0 ≡ told (body_text asked uuid archives streams) 0
 body_is asked t folder uuid archives streams have =
+    let text = (recorded_streams_told uuid streams 0).text in
     let lines = lines_asked asked archives (sums_of t folder uuid archives 0 (streams_in streams)) in
     ap (λ (o : Told ℕ). and_then o.text (told lines o.state)) (streams_are t folder uuid archives streams 0 have)
-    ∙ ap (λ (n : ℕ). told (body_text asked t folder uuid archives streams) n) (faults_are t folder uuid archives streams 0 have)
+    ∙ ap (λ (n : ℕ). told (text ++ lines) n) (faults_are t folder uuid archives streams 0 have)
+    ∙ ap (λ (l : List Sums). told (text ++ lines_asked asked archives l) 0)
+    (streams_add t folder uuid archives streams 0 (replicate (length archives) no_sums) have)
 
 session_is : (asked : Bool) (t : Tree) (session folder uuid : List ℕ) (archives : List Numbered) (streams : List StreamFiles)
     → (s : Stands t folder uuid archives streams)
     → session_told asked t folder 0 session
-    ≡ told (session_text session (Some uuid) (length archives) ++ body_text asked t folder uuid archives streams) 0
+    ≡ told (session_text session (Some uuid) (length archives) ++ body_text asked uuid archives streams) 0
 session_is asked t session folder uuid archives streams s =
     let namings : List Numbered → List Naming = λ l. map (λ (a : Numbered). Named uuid) l in
     let packets = uuid_of_packets t folder archives (streams_in streams) in
@@ -165,12 +170,12 @@ session_is asked t session folder uuid archives streams s =
 -- the folder, of which it is the only session
 pub whole_is : (asked : Bool) (t : Tree) (dir session uuid : List ℕ) (archives : List Numbered) (streams : List StreamFiles)
     → (s : StandsAlone t dir session uuid archives streams)
-    → survey_of asked t dir ≡ told (recorded_text asked t (archives_folder dir session) session uuid archives streams) (Faults 0)
+    → survey_of asked t dir ≡ told (recorded_text asked session uuid archives streams) (Faults 0)
 whole_is asked t dir session uuid archives streams s =
     let folder = archives_folder dir session in
     let begin = session_text session (Some uuid) (length archives) in
     let streams-text = (recorded_streams_told uuid streams 0).text in
-    let lines = lines_asked asked archives (sums_of t folder uuid archives 0 (streams_in streams)) in
+    let lines = lines_asked asked archives (recorded_sums uuid archives streams) in
     let there : has_archives t dir session ≡ true = ap (λ (b : Bool). b || is_some (t.names folder)) s.stands.seen ∙ s.stands.there in
     let here : name_told asked t dir None session ≡ told (begin ++ (streams-text ++ lines)) (Some 0) =
     ap (λ (b : Bool). cond b (able_told asked t dir None session) (told (passed_told t dir session) None)) s.named

@@ -27,13 +27,13 @@ use Rattle.tr_survey.specs.declared.tally.Tally.{Tally}
 use Rattle.tr_survey.proofs.BytesLemmas.{end_step, packet_step}
 
 -- the packets that are still to come of a stream with this tally are at no fault
-record Goes (uuid : List ℕ) (stream : ℕ) (s : Tally) (ps : List Contents) : Type 0 where
-  known : s.is_broken ≡ false
-  packets : AllByRecursion IsPacket ps
-  belong : AllByRecursion (BelongsTo uuid stream) ps
-  numbers : IsTrue (numbers_rise_after (option_map (λ (l : Last). l.seq) s.last) (numbers_of ps))
-  serials : IsTrue (serials_rise_after (option_map (λ (l : Last). l.serial) s.last) (records_of_packets ps))
-  losses : LossesStay (lost_by s.last) ps
+pub record Goes (uuid : List ℕ) (stream : ℕ) (s : Tally) (ps : List Contents) : Type 0 where
+  pub known : s.is_broken ≡ false
+  pub packets : AllByRecursion IsPacket ps
+  pub belong : AllByRecursion (BelongsTo uuid stream) ps
+  pub numbers : IsTrue (numbers_rise_after (option_map (λ (l : Last). l.seq) s.last) (numbers_of ps))
+  pub serials : IsTrue (serials_rise_after (option_map (λ (l : Last). l.serial) s.last) (records_of_packets ps))
+  pub losses : LossesStay (lost_by s.last) ps
 
 -- ---- one packet
 
@@ -117,11 +117,11 @@ same_faults uuid at s p ps goes = ap (λ (b : Bool). cond b (capped_count (s.fau
 
 -- ---- a file
 
-record Told-of (uuid : List ℕ) (at : Place) (s : Tally) (ps rest : List Contents) : Type 0 where
-  goes : Goes uuid at.stream (packets_told at s ps).state rest
-  faults : (packets_told at s ps).state.faults ≡ s.faults
+pub record Told-of (uuid : List ℕ) (at : Place) (s : Tally) (ps rest : List Contents) : Type 0 where
+  pub goes : Goes uuid at.stream (packets_told at s ps).state rest
+  pub faults : (packets_told at s ps).state.faults ≡ s.faults
 
-after_packets : (uuid : List ℕ) (at : Place) (s : Tally) (ps rest : List Contents) → Goes uuid at.stream s (ps ++ rest) → Told-of uuid at s ps rest
+pub after_packets : (uuid : List ℕ) (at : Place) (s : Tally) (ps rest : List Contents) → Goes uuid at.stream s (ps ++ rest) → Told-of uuid at s ps rest
 after_packets uuid at s [] rest goes = record { goes = goes; faults = refl }
 after_packets uuid at s (p ∷ ps) rest goes =
     let more = after_packets uuid at (tally_after at s p) ps rest (next uuid at s p (ps ++ rest) goes) in
@@ -148,7 +148,7 @@ bytes_are (suc n) at s offset (p ∷ ps) rest enough goes =
     (bytes_are n at after further ps rest less (next at.uuid at s p (ps ++ rest) goes))
     ∙ ap (λ (l : List ℕ). and_then l (packets_told at after ps)) (told_at at.uuid at s offset p (ps ++ rest) goes)
 
-file_is : (at : Place) (s : Tally) (ps rest : List Contents) → Goes at.uuid at.stream s (ps ++ rest)
+pub file_is : (at : Place) (s : Tally) (ps rest : List Contents) → Goes at.uuid at.stream s (ps ++ rest)
     → file_told at s (Some (file_of (packets_text ps) false)) ≡ packets_told at s ps
 file_is at s ps rest goes = bytes_are (suc (length (packets_text ps))) at s 0 ps rest (omega arith) goes
 
@@ -173,7 +173,7 @@ faults_stay uuid stream s (r ∷ files) goes =
     let more = after_packets uuid (place uuid stream r.0) s r.1 (packets_of files) goes in
     faults_stay uuid stream (packets_told (place uuid stream r.0) s r.1).state files more.goes ∙ more.faults
 
-begun : (uuid : List ℕ) (stream n : ℕ) (files : List Recorded) → AreRecorded uuid stream files → Goes uuid stream (no_tally n) (packets_of files)
+pub begun : (uuid : List ℕ) (stream n : ℕ) (files : List Recorded) → AreRecorded uuid stream files → Goes uuid stream (no_tally n) (packets_of files)
 begun uuid stream n files are = record {
   known = refl;
   packets = are.sound.packets;

@@ -1,5 +1,5 @@
 -- What a survey says of what a recorder writes: packets of streams at no fault, in archives that follow each other.
-use Rattle.std.specs.Prelude.{◌≡◌, ◌<◌, ◌≤◌, ◌^◌, ℕ, ◌+◌, Bool, true, false, List, [], ◌∷◌, ◌++◌, codes, length, map, Some, is_some}
+use Rattle.std.specs.Prelude.{◌≡◌, ◌<◌, ◌≤◌, ◌^◌, ℕ, ◌+◌, Bool, true, false, List, [], ◌∷◌, ◌++◌, codes, length, map, replicate, Some, is_some}
 use Rattle.std.specs.List.{AllByRecursion}
 use Rattle.tr_chunk.specs.Audit.{AreOfStream, all_of}
 use Rattle.tr_chunk.specs.Files.{packets_text}
@@ -13,9 +13,10 @@ use Rattle.tr_survey.specs.Order.{Numbered}
 use Rattle.tr_survey.specs.Paths.{archives_folder, file_in}
 use Rattle.tr_survey.specs.Sessions.{namings_of}
 use Rattle.tr_survey.specs.Streams.{Place, are_deleted, ended_told, gap_told, lost_told, no_tally, place, tally_after}
-use Rattle.tr_survey.specs.Sums.{lines_asked, sums_of}
+use Rattle.tr_survey.specs.Sums.{lines_asked, no_sums, with_rises}
 use Rattle.tr_survey.specs.Told.{Told, and_then, told}
 use Rattle.tr_survey.specs.declared.naming.Naming.TheVariants.{Named}
+use Rattle.tr_survey.specs.declared.sums.Sums.{Sums}
 use Rattle.tr_survey.specs.declared.tally.Tally.{Tally}
 use Rattle.tr_terms.specs.Names.{is_name}
 
@@ -111,13 +112,30 @@ pub record Stands (t : Tree) (folder uuid : List ℕ) (archives : List Numbered)
   pub numbered : NumberedFrom 0 (streams_in streams)
   pub files : AllByRecursion (HasItsFiles t folder uuid archives) streams
 
+-- the sums of archives after a stream's files in them, each with the stream's counts before it
+abbrev pub sums_with_files : List ℕ → ℕ → Tally → List Recorded → List Sums → List Sums
+sums_with_files uuid stream s files [] = []
+sums_with_files uuid stream s [] (x ∷ sums) = x ∷ sums
+sums_with_files uuid stream s (r ∷ files) (x ∷ sums) =
+    with_rises x s (packets_told (place uuid stream r.0) s r.1).state
+    ∷ sums_with_files uuid stream (packets_told (place uuid stream r.0) s r.1).state files sums
+
+-- those after all streams
+abbrev pub sums_with_streams : List ℕ → ℕ → List StreamFiles → List Sums → List Sums
+sums_with_streams uuid n [] sums = sums
+sums_with_streams uuid n (s ∷ streams) sums =
+    sums_with_streams uuid (recorded_stream_told uuid s.0 s.1 n).state streams (sums_with_files uuid s.0.number (no_tally n) s.1 sums)
+
+abbrev pub recorded_sums : List ℕ → List Numbered → List StreamFiles → List Sums
+recorded_sums uuid archives streams = sums_with_streams uuid 0 streams (replicate (length archives) no_sums)
+
 -- what is told of it: its archives, and where numbers are absent and what was lost in each stream, with its counts; then each
 -- archive, if that is asked for
-abbrev pub recorded_text : Bool → Tree → List ℕ → List ℕ → List ℕ → List Numbered → List StreamFiles → List ℕ
-recorded_text asked t folder session uuid archives streams =
+abbrev pub recorded_text : Bool → List ℕ → List ℕ → List Numbered → List StreamFiles → List ℕ
+recorded_text asked session uuid archives streams =
     session_text session (Some uuid) (length archives)
     ++ ((recorded_streams_told uuid streams 0).text
-    ++ (lines_asked asked archives (sums_of t folder uuid archives 0 (streams_in streams)) ++ codes "whole\n"))
+    ++ (lines_asked asked archives (recorded_sums uuid archives streams) ++ codes "whole\n"))
 
 -- it stands below a folder, as its only session
 pub record StandsAlone (t : Tree) (dir session uuid : List ℕ) (archives : List Numbered) (streams : List StreamFiles) : Type 0 where

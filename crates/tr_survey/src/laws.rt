@@ -10,7 +10,6 @@ ghost use Rattle.tr_packet.specs.Metadata.{metadata_of};
 ghost use Rattle.tr_survey.specs.Metadata.{naming_in};
 ghost use Rattle.tr_survey.specs.Names.{archive_number, of_parts, stream_named};
 ghost use Rattle.tr_survey.specs.Order.{Numbered};
-ghost use Rattle.tr_survey.specs.Paths.{archives_folder};
 ghost use Rattle.tr_survey.specs.Sessions.{survey_of};
 ghost use Rattle.tr_survey.specs.Streams.{stream_told};
 ghost use Rattle.tr_survey.specs.Told.{told};
@@ -54,5 +53,5 @@ pub fn a_recorded_stream_has_no_fault()
 pub fn a_recorded_session_is_whole()
     ensures { (asked : Bool) (t : Tree) (dir session uuid : List ℕ) (archives : List Numbered) (streams : List StreamFiles)
         → StandsAlone t dir session uuid archives streams
-        → survey_of asked t dir ≡ told (recorded_text asked t (archives_folder dir session) session uuid archives streams) (Faults 0) }
+        → survey_of asked t dir ≡ told (recorded_text asked session uuid archives streams) (Faults 0) }
 {}

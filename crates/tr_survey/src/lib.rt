@@ -48,9 +48,9 @@
 //!
 //! - that memory is there, and that a survey which answers `NoMemory` had to;
 //! - how many bytes of an archive's metadata are read (`MOST_METADATA`, which clauses name), beyond those that the recorder
-//!   writes;
-//! - that what tr_export writes of a session stands so: that the folder of its archives is the one that is read, that they
-//!   follow each other, and that counts of discarded records don't fall. `examples/audit` shows it.
+//!   writes.
+//!
+//! That what tr_export writes of a session stands so is proved in tr_recorded.
 #![tactic(auto)]
 
 mod faults;

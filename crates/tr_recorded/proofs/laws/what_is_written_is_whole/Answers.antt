@@ -1,8 +1,8 @@
-use Rattle.std.proofs.Common.{◌≡◌, ◌∙◌, ◌<◌, ◌≤◌, ◌^◌, ℕ, List, Some, ap, arith, length, rules, subst, sym}
+use Rattle.std.proofs.Common.{◌≡◌, ◌∙◌, ◌<◌, ◌≤◌, ◌^◌, ℕ, List, Some, ap, arith, length, rules, subst}
 use Rattle.std.proofs.lemmas.Option.{slice_get_within}
 use Rattle.std.specs.List.{All}
 use Rattle.std.specs.Prelude.{slice_get}
-use Rattle.tr_recorded.proofs.SessionLemmas.{Keeps, whole-session}
+use Rattle.tr_recorded.proofs.SessionLemmas.{Keeps, no-session, whole-session}
 use Rattle.tr_recorded.proofs.laws.what_is_written_is_whole.Goals as goal
 use Rattle.tr_session_book.specs.Book.{SessionBookState}
 use Rattle.tr_session_book.specs.BookSteps.{IsBook}
@@ -11,8 +11,8 @@ use Rattle.tr_stream.specs.State.{StreamState}
 use Rattle.tr_terms.specs.Offsets.{IsOffset}
 use Rattle.tr_terms.specs.declared.limits.TheConstants.{LAST_MOMENT, MOST_STREAMS}
 
-pub returns : goal.returns
-returns g c =
+pub returns-clause-whole : goal.returns-clause-whole
+returns-clause-whole g c =
     let s = c.args.session.now in
     let book : IsBook s.book = subst IsBook c.book.ensures c.every_book_obeys.ensures.book in
     let begin : s.book.begin ≤ LAST_MOMENT = subst (λ (b : SessionBookState). b.begin ≤ LAST_MOMENT) c.book.ensures c.every_book_obeys.ensures.within in
@@ -31,3 +31,6 @@ returns g c =
     λ j t at. let below = slice_get_within s.streams j t at in c.streams.invariant j t (omega (arith, below, end, c.streams-test.false)) at in
     whole-session s book begin offset (subst (λ (u : List ℕ). length u ≡ 16) uuid own-sixteen) (subst (All (λ b. b < 256)) uuid own-bytes)
     (subst (λ (l : List Archive). length l ≤ 2 ^ 64) archives own-few) streams c.streams-i-end.ensures.own keeps
+
+pub returns-clause-none : goal.returns-clause-none
+returns-clause-none g c = no-session c.args.session.now
