@@ -211,7 +211,7 @@ tracerd_status tracerd_drainer_stop(tracerd_session *t) {
     if (!atomic_compare_exchange_strong(&t->drainer, &(int){ON}, BUSY)) return TRACERD_NOT_DRAINING;
     sem_post(&t->bell);
     pthread_join(t->thread, NULL);
-    tracerd_status last = tracerd_drain(t, &packets); /* with what was closed behind its last round */
+    tracerd_status last = tracerd_drain(t, &packets); /* with what was closed after its last round */
     t->drainer = OFF;
     return last;
 }
