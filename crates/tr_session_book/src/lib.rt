@@ -13,8 +13,8 @@
 //! - Each call is a rule of the session, with the refusals in their order. A refused call changes nothing.
 //! - Only a local session has a pending rotation, and its end takes no memory.
 //! - Archives are numbered by their places, from 0 on.
-//! - No archive ends before it begins. Each ends when the next one begins, and the last one when the current chunk did, or the
-//!   chunk of a pending rotation (`every_book_obeys`).
+//! - No archive ends before it begins. Each ends when the next one begins, and the last one when the chunk of a pending rotation
+//!   began, or else the current chunk (`every_book_obeys`).
 #![tactic(auto)]
 
 mod archive;
