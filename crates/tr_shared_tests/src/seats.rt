@@ -16,12 +16,11 @@ use tr_stream::{OfferFault, Offered, TakeFault, Taken};
 use tr_terms::{Mode, SessionMode};
 use tr_testing::moment;
 
-/// Starts the desk, and lets the stream of number `i` take offers.
+/// Lets the stream of number `i` take offers, if its desk has started.
 fn activate<N: Names>(rt: &impl Abort, desk: &mut Desk<N>, slots: &mut Vec<Slot<N>>, i: usize)
     ensures { length slots.new.items ≡ length slots.old.items }
 {
     assert!(rt; i < slots.len());
-    assert_started(rt, desk, 0, Ok(()));
     slots[i].set_active(desk);
 }
 
@@ -110,6 +109,7 @@ fn offers<N: Names>(rt: &impl Abort, plan: Plan, steps: &[Step])
     assert_numbers(rt, &producer, (0, 0, 0, 0));
     let inactive = Err(OfferFault::Inactive);
     assert_offered(rt, &mut slots, 0, &mut producer, 1, 50, inactive);
+    assert_started(rt, &mut desk, 0, Ok(()));
     activate(rt, &mut desk, &mut slots, 0);
     let mut at = 1;
     'steps: for (len, answer, numbers) in steps {
@@ -117,6 +117,9 @@ fn offers<N: Names>(rt: &impl Abort, plan: Plan, steps: &[Step])
         assert_numbers(rt, &producer, *numbers);
         at = 2;
     }
+    assert_stopped(rt, &mut desk, (Ok(()), State::Inactive));
+    activate(rt, &mut desk, &mut slots, 0);
+    assert_offered(rt, &mut slots, 0, &mut producer, 2, 50, inactive);
     drop(producer);
     drop(slots);
     drop(desk);
@@ -202,6 +205,7 @@ fn takes<N: Names>(rt: &impl Abort, alloc: Global, plan: Plan)
     let mut second = last(rt, &mut producers);
     let mut drainer = drainer_of(rt, alloc, &mut desk, &mut slots);
     assert_same(rt, desk.drainers(), 1);
+    assert_started(rt, &mut desk, 0, Ok(()));
     activate(rt, &mut desk, &mut slots, 1);
     assert_offered(rt, &mut slots, 1, &mut second, 1, 64, stored(0, 0));
     assert_offered(rt, &mut slots, 1, &mut second, 1, 64, stored(1, 0));

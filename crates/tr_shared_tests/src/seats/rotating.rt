@@ -97,8 +97,8 @@ fn rotates<N: Names>(rt: &impl Abort, alloc: Global, plan: Plan)
     let mut second = last(rt, &mut producers);
     let mut first = last(rt, &mut producers);
     assert_started(rt, &mut desk, 0, Ok(()));
-    activate(rt, &mut slots, 0);
-    activate(rt, &mut slots, 1);
+    activate(rt, &mut desk, &mut slots, 0);
+    activate(rt, &mut desk, &mut slots, 1);
     assert_offered(rt, &mut slots, 0, &mut first, 1, 64, stored(0, 0));
     assert_offered(rt, &mut slots, 0, &mut first, 2, 64, stored(1, 0));
     assert_offered(rt, &mut slots, 0, &mut first, 3, 64, stored(2, 1));

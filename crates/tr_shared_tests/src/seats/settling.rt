@@ -2,7 +2,9 @@
 
 ghost use Rattle.std.specs.Prelude.{◌≡◌, length};
 
-use super::{activate, assert_offered, assert_taken, built, drainer_of, settled, stored};
+use super::{
+    activate, assert_offered, assert_started, assert_taken, built, drainer_of, settled, stored,
+};
 use crate::plans::{assert_same, last, plan_of, push};
 use std::alloc::Global;
 use std::marker::Brand;
@@ -44,8 +46,9 @@ fn settles<N: Names>(rt: &impl Abort, alloc: Global, plan: Plan)
     let mut second = last(rt, &mut producers);
     let mut first = last(rt, &mut producers);
     let mut drainer = drainer_of(rt, alloc, &mut desk, &mut slots);
-    activate(rt, &mut slots, 0);
-    activate(rt, &mut slots, 1);
+    assert_started(rt, &mut desk, 0, Ok(()));
+    activate(rt, &mut desk, &mut slots, 0);
+    activate(rt, &mut desk, &mut slots, 1);
     offer_five(rt, &mut slots, &mut first);
     let taken = Taken {
         seq: 0,
