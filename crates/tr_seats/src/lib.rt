@@ -27,8 +27,8 @@
 //! - A take answers and steps as the stream's does, adds the number of records taken, at least one, to the drainer's seat of
 //!   that stream, and is the last of the drainer's list.
 //! - A step at the desk is noted with its answer, and is the last of its operator's list. The session's book is what all noted
-//!   steps lead to from the one that was planned, each answered as the book answers it there (`IsOperatorOf`). A stream is
-//!   switched to what the book is.
+//!   steps lead to from the one that was planned, each answered there as the book answers it, or a cut or a clear that it lets
+//!   through as the stream does, if no allocation failed (`IsOperatorOf`). A stream is switched to what the book is.
 //! - What is done to a stream at the desk is noted in the stream's journal too. So all that was done to it but offers and takes
 //!   is what the desk's steps did: its switches, its clears, and its cuts, each at the end of its rotation (`HasOperated`).
 //! - A cut is the session's rule on its desk and one slot: at the pending rotation's end, in order of stream. What it moves
@@ -36,7 +36,7 @@
 //!   rotation has cut it.
 //! - A clear is the session's rule on its desk and one slot, if the desk's book allows it, and adds the records that it
 //!   removed to the desk's count of cleared ones.
-//! - A call for another stream than the slot's is refused as `Misplaced`; no call assumes that it isn't.
+//! - A call for another stream than the slot's is refused as `Misplaced`; no call but `Slot::audit` assumes that it isn't.
 //! - A plan is refused as a session's channels and threads are. What is built of it has one producer for each stream, in
 //!   order, with nothing offered.
 //! - A session is settled if and only if there is one producer for each stream, every drainer that was begun, each stream in
@@ -54,7 +54,8 @@
 //!
 //! # What is only tested
 //!
-//! Nothing beside the proofs. Tests add the answers and the producer's numbers of a ring that fills, in both modes; a take,
+//! That a call at the desk notes nothing in another operator's name which leaves the book as the call's clause says. Tests add
+//! the answers and the producer's numbers of a ring that fills, in both modes; a take,
 //! and what is `Misplaced`; a session that isn't settled without a producer, without a drainer, and with its streams in each
 //! other's place, and is settled after that, with its totals; a rotation of two streams at the desk, what is refused on its
 //! way, and the settling of what it moved.

@@ -26,7 +26,8 @@
 //!   chunk or was cleared since.
 //! - What an operator did is what the desk has: a call in its name adds just its steps to its list, each at the moment that was
 //!   given and with its answer. A start or a stop that succeeds has switched every stream, a rotation has begun at its moment,
-//!   cut streams and ended with its archive, a clear has cleared every stream, and a snapshot shows the moment that was stored.
+//!   cut streams and ended one with the archive that is answered, a clear has cleared every stream, and a snapshot shows the
+//!   moment that was stored.
 //!   If the operator is lent to settling, the settled session's book is what its steps, among others', lead to, and all that was
 //!   done to each stream but offers and takes is what those steps did, each cut at the end of its rotation (`settle_with`).
 //! - An offer moves its producer's seats by what was answered, and a take the drainer's seat of that stream, whatever other
@@ -55,15 +56,15 @@
 //!
 //! # What is only tested
 //!
-//! Contracts can't name a value under a lock: what a call did there shows in its caller's seats alone. An operator's call
-//! without an `Operator` has none, and makes the one with; only tests show that it does, and that no call adds refusals. Which
+//! Contracts can't name a value under a lock: what a call did there shows in its caller's seats alone. A call that is lent no
+//! `Operator` makes the `_by` call with one of its own; only tests show that it does, and that no call adds refusals. Which
 //! locks a call holds, and from when to when, can be read in its few lines of code, and is in no contract: an offer and a take
 //! hold one stream's lock and no other; an operator holds the desk's, and then one stream's at most. Not promised by a call
 //! that takes a lock are:
 //!
 //! - when a take has `Nothing`;
 //! - that nothing is `Misplaced`;
-//! - that a start, a stop, a schedule or a step of a rotation without an operator does anything;
+//! - that a start, a stop, a schedule, a clear or a step of a rotation does anything if no operator is lent;
 //! - when a tick of a local session rotates, and why; how many streams a rotation cuts itself, since another operator may have
 //!   cut some of them;
 //! - how much later than the moment given a snapshot's is;
@@ -74,12 +75,14 @@
 //! So these bodies meet the contracts:
 //!
 //! - an offer that is always `Misplaced`, and a take that is always refused;
-//! - without an operator: a start, a stop, a schedule or a rotation that only answers, and a start at another moment;
-//! - with one: a call that does something more at the desk in another operator's name, and a `rotate_next_by` that answers
-//!   `AllCut` without looking;
+//! - if no operator is lent: a start, a stop, a schedule, a clear or a rotation that only answers, and a start at another moment;
+//! - any call that does something more at the desk in another operator's name, or takes in another drainer's;
+//! - a `rotate_next_by` that answers `AllCut` without looking, or is always refused as `NotPending`, and so a `rotate_by` that
+//!   begins and is refused then; a `tick_by` or a `clear_by` that is always refused by one of its codes;
 //! - a drainer, a `build` or a snapshot that is always refused, or a call with an operator that is refused for a stream that
 //!   isn't in its place or out of memory;
-//! - a tick that is always idle, and a snapshot without packets (except of its producer's stream);
+//! - a tick that is always idle, and a snapshot without packets (except of its producer's stream), or whose moment isn't stored
+//!   if no operator is lent;
 //! - a `hold_stream` that holds nothing, or the desk too;
 //! - a `settle` that is always refused by E2 or E3 once all producers are there;
 //! - a `build` or a `settle` that does something more at the desk or to the slots, as to set a schedule or to stop the

@@ -49,7 +49,7 @@ impl<N: Names, A: Allocator + Copy> Shared<N, A> {
     }
 
     /// The same, which also shows that what an operator did is what the settled session has, and that all that was done to its
-    /// streams but offers and takes is what operators did, each at its moment.
+    /// streams but offers and takes is what operators did, each cut at the end of its rotation.
     ///
     /// # Errors
     ///
