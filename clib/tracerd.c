@@ -18,7 +18,8 @@
 #include <time.h>
 #include <unistd.h>
 
-enum { STREAMS = 1024, APART = 128, NAME = 64, FILE_NAME = 96, PATH = 4096, ROOM = 65536, SMALL_ROOM = 16384 };
+enum { STREAMS = 1024, SUB_BUFFERS = 64, NAME = 64, FILE_NAME = 96, PATH = 4096 };
+enum { APART = 128, ROOM = 65536, SMALL_ROOM = 16384 };
 enum { MOMENTS = 42, SECOND = 1000000000 }; /* bytes of an archive's name before its number; nanoseconds */
 enum { OFF, ON, BUSY };
 
@@ -167,7 +168,7 @@ tracerd_status tracerd_trace(tracerd_producer *producer, uint32_t id, const void
 static tracerd_status drain_stream(slot *s, uint64_t *packets) {
     trc_taken taken;
     tracerd_status status = TRACERD_OK;
-    while (!status) /* an offer may come between two takes */
+    for (int i = 0; i < SUB_BUFFERS && !status; i++) /* what offers close meanwhile may be left: they may never end */
         status = LOCKED(&s->lock, trc_stream_take(&s->stream, &taken)) ?: DONE(++*packets);
     return except(TRC_T_NOTHING, status);
 }

@@ -12,10 +12,11 @@
  *
  * Threads. Any thread may make any call at any time, except that a producer offers in one thread at a time, and that
  * tracerd_free comes last, when no other call runs; the session's producers are gone then. An offer waits only while another
- * call holds its own ring, for one copy of what is in that. Calls that write files, and releases, wait for each other. No call
- * may be made in a signal handler, or in the child of a fork of a process with threads, and no thread may be cancelled in one.
- * A call takes up to 32 KiB of the stack. The library has no global state, prints nothing and ends no process. It starts a
- * thread only where tracerd_drainer_start asks for one. */
+ * call holds its own stream: for a copy of its ring, of what was drained of it since the last rotation, or of 64 KiB of an
+ * archive, or while a part is let go. Calls that write files, and releases, wait for each other. No call may be made in a
+ * signal handler, or in the child of a fork of a process with threads, and no thread may be cancelled in one. A call takes up
+ * to 32 KiB of the stack. The library has no global state, prints nothing and ends no process. It starts a thread only where
+ * tracerd_drainer_start asks for one. */
 #ifndef TRACERD_H
 #define TRACERD_H
 #include <stddef.h>
@@ -88,7 +89,7 @@ typedef enum tracerd_mode { TRACERD_DISCARD = 0, TRACERD_OVERWRITE = 1 } tracerd
  * rings hold. `east` is how many minutes the clock of archives' names is ahead of UTC. BAD_NAME, BAD_OFFSET, BAD_MODE,
  * NO_MEMORY: *session is NULL. */
 tracerd_status tracerd_new(tracerd_session **session, const char *name, const uint8_t uuid[16], int32_t east, tracerd_kind);
-/* Lets all go, also its producers and what was not written. NULL is let be. */
+/* Lets all go, also its producers and what was not written. NULL is ignored. */
 void tracerd_free(tracerd_session *);
 
 /* A channel: its producers have rings of `count` sub-buffers of `size` bytes, powers of two of 2 to 64 and of 256 to 1,048,576.
@@ -141,8 +142,8 @@ tracerd_status tracerd_trace(tracerd_producer *, uint32_t id, const void *payloa
 
 /* ---- Draining: closed sub-buffers become packets of the current trace chunk ---- */
 
-/* Takes all closed sub-buffers, and counts them. Several threads may do so at once. SNAPSHOT_MODE. NO_MEMORY: what was taken
- * stays taken. */
+/* Takes all sub-buffers that were closed before the call, maybe some that are closed meanwhile, and counts them. Several
+ * threads may do so at once. SNAPSHOT_MODE. NO_MEMORY: what was taken stays taken. */
 tracerd_status tracerd_drain(tracerd_session *, uint64_t *packets);
 /* Starts a thread of the library's own that drains each `period` nanoseconds. SNAPSHOT_MODE, DRAINING, NO_MEMORY. */
 tracerd_status tracerd_drainer_start(tracerd_session *, uint64_t period);
@@ -197,7 +198,7 @@ typedef struct tracerd_audited {
 
 /* Reads FOLDER/SESSION/archives/ARCHIVE/CHANNEL_STREAM of all archives, in order of their numbers, and judges each packet. It
  * wants no session. READ, NO_MEMORY. PACKET, NUMBER_REPEAT, SERIAL_REPEAT, FOREIGN: the last three fields say where, the others
- * are 0. */
+ * are 0. Without an archive all are 0. */
 tracerd_status tracerd_audit(const char *folder, const char *session, const char *channel, uint64_t stream,
                              const uint8_t uuid[16], tracerd_audited *);
 

@@ -116,11 +116,12 @@ now = _call("now", result=c_uint64)
 
 
 class Refused(Exception):
-    """Why a call was refused: `status` is the number of tracerd.h, the text its name."""
+    """Why a call was refused: `status` is the number of tracerd.h, the text its name, and `found` what the call wrote all the
+    same, if tracerd.h says that it does."""
 
-    def __init__(self, status):
+    def __init__(self, status, found=None):
         super().__init__(_status_name(status).decode())
-        self.status = status
+        self.status, self.found = status, found
 
 
 def _must(status):
@@ -130,9 +131,12 @@ def _must(status):
 
 def _written(kind, call, *given):
     """What a call writes to the place that is its last argument."""
-    value = kind()
-    _must(call(*given, byref(value)))
-    return value.value if kind is c_uint64 else value
+    made = kind()
+    status = call(*given, byref(made))
+    value = made.value if kind is c_uint64 else made
+    if status:
+        raise Refused(status, value)
+    return value
 
 
 def _text(given, status):
@@ -168,14 +172,16 @@ class Producer:
     """One thread's right to offer. It keeps its session, and gives itself back."""
 
     def __init__(self, session, channel):
-        self._handle = c_void_p()
+        self._handle, self._holders = c_void_p(), None
+        # whatever interrupts this, no entry is let go that isn't this one's
+        session._holders.append(None)
         self._holders = session._holders
         _must(_producer_new(session._handle, _name(channel), byref(self._handle)))
-        self._holders.append(None)
 
     def __del__(self):
         if self._handle:
             self.done()
+        if self._holders is not None:
             _let_go(self._holders)
 
     def done(self):
@@ -260,8 +266,9 @@ class Session:
         return _written(Counts, _counts_sum, self._handle)
 
     def settle(self):
-        counts, stream = Counts(), c_uint64()
-        _must(_settle(self._handle, byref(counts), byref(stream)))
+        """The sums. Where a producer wasn't given back, `found` is the number of the first one."""
+        counts = Counts()
+        _written(c_uint64, _settle, self._handle, byref(counts))
         return counts
 
 

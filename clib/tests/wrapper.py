@@ -67,6 +67,24 @@ def refuses_zero_bytes(folder="nowhere/a\0b"):
         assert isinstance(raised(call, *given), tracerd.Refused), (call, given)
 
 
+def tells_what_was_found():
+    session = planned()
+    first, second = session.producer("main"), session.producer("main")
+    first.done()
+    why = raised(session.settle)
+    assert (str(why), why.found) == ("Missing", second.number), (why, why.found)
+
+
+def lets_no_entry_go_but_its_own():
+    """A producer that isn't made leaves its session as it was."""
+    session = planned()
+    holders = len(session._holders)
+    assert isinstance(raised(session.producer, "other"), tracerd.Refused)
+    gc.collect()
+    assert len(session._holders) == holders
+    session.start(0)
+
+
 def wants_a_whole_identifier():
     told = []
     before, sys.unraisablehook = sys.unraisablehook, told.append
@@ -79,7 +97,14 @@ def wants_a_whole_identifier():
 
 if __name__ == "__main__":
     failed = 0
-    tests = ends_in_any_order, cuts_no_number_off, refuses_zero_bytes, wants_a_whole_identifier
+    tests = (
+        ends_in_any_order,
+        cuts_no_number_off,
+        refuses_zero_bytes,
+        tells_what_was_found,
+        lets_no_entry_go_but_its_own,
+        wants_a_whole_identifier,
+    )
     for test in tests:
         why = raised(test)
         failed += why is not None
