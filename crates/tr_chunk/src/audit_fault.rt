@@ -20,21 +20,17 @@ pub struct AuditFault {
 /// What is wrong with a packet. If several causes apply, an audit gives the first of `Packet`, `Foreign`, `NumberRepeat` and
 /// `SerialRepeat`. `NoMemory` comes last: nothing is wrong with the packet, and numbers are absent right before its own.
 #[derive(Clone, Copy, Debug, PartialEq, Eq, Error)]
+#[error("{} {}", self.code(), self.name())]
 pub enum AuditCause {
     /// The bytes there don't start with a packet.
-    #[error("A1 Packet")]
     Packet(PacketFault),
     /// Its number isn't above the one before.
-    #[error("A2 NumberRepeat")]
     NumberRepeat,
     /// Its first serial isn't above the last one before.
-    #[error("A3 SerialRepeat")]
     SerialRepeat,
     /// It is of another trace or another stream.
-    #[error("A4 Foreign")]
     Foreign,
     /// An allocation failed.
-    #[error("A5 NoMemory")]
     NoMemory,
 }
 

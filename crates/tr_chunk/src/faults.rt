@@ -9,12 +9,11 @@ use tr_record::Failed;
 
 /// Why a text isn't written, or not all of it.
 #[derive(Clone, Copy, Debug, PartialEq, Eq, Error)]
+#[error("{} {}", self.code(), self.name())]
 pub enum WriteFault {
     /// The sink failed.
-    #[error("W1 Write")]
     Write,
     /// An allocation failed.
-    #[error("W2 NoMemory")]
     NoMemory,
 }
 

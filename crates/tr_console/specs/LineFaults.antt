@@ -26,12 +26,9 @@ line_fault_name (Step fault) = step_fault_name fault
 
 -- an allocation failed
 abbrev pub wants_memory : LineFault → Bool
-wants_memory NoSession = false
-wants_memory BadUuid = false
-wants_memory BadName = false
-wants_memory (Schedule fault) = false
 wants_memory (Session fault) = session_wants_memory fault
 wants_memory (Step fault) = step_wants_memory fault
+wants_memory other = false
 
 -- no allocation failed
 abbrev pub HasMemory : {R : Type 0} → Result R LineFault → Type 0

@@ -12,24 +12,19 @@ use tr_session_book::SessionFault;
 /// allocation failed may be pending, that of a clear whose allocation failed the first streams may be cleared, and that of a
 /// release whose allocation failed some parts may be released.
 #[derive(Clone, Copy, Debug, PartialEq, Eq, Error)]
+#[error("{} {}", self.code(), self.name())]
 pub(crate) enum LineFault {
     /// There is no session of this name.
-    #[error("K1 NoSession")]
     NoSession,
     /// The text is no UUID.
-    #[error("K2 BadUuid")]
     BadUuid,
     /// What is to be created can't have this name.
-    #[error("K3 BadName")]
     BadName,
     /// There is no such schedule.
-    #[error("{0}")]
     Schedule(ScheduleFault),
     /// The session refused, or the console did with a session's fault.
-    #[error("{0}")]
     Session(SessionFault),
     /// The session or the stream refused a step.
-    #[error("{0}")]
     Step(StepFault),
 }
 

@@ -10,19 +10,16 @@ use tr_record::Failed;
 
 /// Why a run of a script ended early. No line was run after it.
 #[derive(Clone, Copy, Debug, PartialEq, Eq, Error)]
+#[error("{} {}", self.code(), self.name())]
 pub enum ScriptFault {
     /// The source failed. All whole lines before are answered, and the one that broke off isn't.
-    #[error("Q1 Read")]
     Read,
     /// The script has more than `LONGEST_SCRIPT` bytes. All whole lines within these are answered.
-    #[error("Q2 TooLong")]
     TooLong,
     /// The sink failed. A prefix of the answer went out.
-    #[error("Q3 Write")]
     Write,
     /// An allocation failed. A prefix of the lines that were read whole is answered, each of them whole: at least all but one
     /// of those that end before the last `LONGEST_PIECE` bytes that were read.
-    #[error("Q4 NoMemory")]
     NoMemory,
 }
 

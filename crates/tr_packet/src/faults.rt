@@ -7,28 +7,22 @@ use thiserror::Error;
 
 /// Why bytes don't start with a packet. If several apply, a decoder answers the first one in its order.
 #[derive(Clone, Copy, Debug, PartialEq, Eq, Error)]
+#[error("{} {}", self.code(), self.name())]
 pub enum PacketFault {
     /// There are fewer bytes than `PACKET_HEADER`, or fewer than packet_size says.
-    #[error("P1 Short")]
     Short,
     /// The first four bytes aren't the magic.
-    #[error("P2 BadMagic")]
     BadMagic,
     /// The stream_id isn't 0.
-    #[error("P3 BadStreamId")]
     BadStreamId,
     /// content_size and packet_size aren't equal, or aren't a number of whole bytes from `SMALLEST_PACKET` to
     /// `LARGEST_PACKET`.
-    #[error("P4 BadSize")]
     BadSize,
     /// The bytes from the header's end to the packet's aren't whole records.
-    #[error("P5 BadRecord")]
     BadRecord,
     /// The serials don't rise strictly.
-    #[error("P6 SerialOrder")]
     SerialOrder,
     /// The moments fall, begin isn't the first record's, end is before the last one's, or a moment is above the limit.
-    #[error("P7 MomentOrder")]
     MomentOrder,
 }
 

@@ -43,9 +43,9 @@ impl Report {
 
 /// What a log and its stream don't agree on.
 #[derive(Clone, Copy, PartialEq, Eq, Debug, Error)]
+#[error("{} {}", self.code(), self.name())]
 pub enum Mismatch {
     /// A record isn't that of the item at its serial: another id or payload, or a lesser moment.
-    #[error("M1 WrongRecord")]
     WrongRecord {
         /// The number of its stream.
         stream: u64,
@@ -53,7 +53,6 @@ pub enum Mismatch {
         serial: u64,
     },
     /// A stream has no log, or its first log hasn't as many items as the stream has offers.
-    #[error("M2 LogLength")]
     LogLength {
         /// The number of the stream.
         stream: u64,

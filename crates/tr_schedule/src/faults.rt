@@ -7,12 +7,11 @@ use thiserror::Error;
 
 /// Why a period and a size limit make no schedule.
 #[derive(Clone, Copy, Debug, PartialEq, Eq, Error)]
+#[error("{} {}", self.code(), self.name())]
 pub enum ScheduleFault {
     /// The period is zero.
-    #[error("D1 ZeroPeriod")]
     ZeroPeriod,
     /// The size limit is zero.
-    #[error("D2 ZeroSize")]
     ZeroSize,
 }
 

@@ -28,15 +28,13 @@ use tr_terms::SessionMode;
 
 /// Why a session was not settled.
 #[derive(Clone, Copy, Debug, PartialEq, Eq, Error)]
+#[error("{} {}", self.code(), self.name())]
 pub enum SettleError {
     /// There isn't one producer for each stream.
-    #[error("E1 ProducerMissing")]
     ProducerMissing,
     /// A drainer that was made, or begun, is missing.
-    #[error("E2 DrainerMissing")]
     DrainerMissing,
     /// A stream isn't where its number says, or gave a seat to another number of drainers than there are.
-    #[error("E3 Misplaced")]
     Misplaced,
 }
 

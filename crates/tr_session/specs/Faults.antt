@@ -25,13 +25,9 @@ step_fault_name (Cut fault) = cut_fault_name fault
 -- an allocation failed
 abbrev pub step_wants_memory : StepFault → Bool
 step_wants_memory (Session fault) = session_wants_memory fault
-step_wants_memory (Offer fault) = false
 step_wants_memory (Take take.NoMemory) = true
-step_wants_memory (Take take.Nothing) = false
-step_wants_memory (Take take.SnapshotMode) = false
-step_wants_memory (Take take.Misplaced) = false
 step_wants_memory (Cut cut.NoMemory) = true
-step_wants_memory (Cut cut.SnapshotMode) = false
+step_wants_memory other = false
 
 abbrev pub step_refused_memory : {R : Type 0} → Result R StepFault → Bool
 step_refused_memory (Ok r) = false

@@ -10,18 +10,15 @@ use tr_stream::{ClearFault, CutFault, OfferFault, ReleaseFault, TakeFault};
 
 /// Why a step of a stream was refused: by the session, or by the stream. Nothing changed.
 #[derive(Clone, Copy, Debug, PartialEq, Eq, Error)]
+#[error("{} {}", self.code(), self.name())]
 pub enum StepFault {
     /// The session refused the step.
-    #[error("{0}")]
     Session(SessionFault),
     /// The stream refused an offer.
-    #[error("{0}")]
     Offer(OfferFault),
     /// The stream refused a take.
-    #[error("{0}")]
     Take(TakeFault),
     /// The stream refused a cut.
-    #[error("{0}")]
     Cut(CutFault),
 }
 

@@ -50,22 +50,4 @@ session_fault_name Misplaced = codes "Misplaced"
 -- an allocation failed
 abbrev pub session_wants_memory : SessionFault → Bool
 session_wants_memory NoMemory = true
-session_wants_memory SnapshotMode = false
-session_wants_memory NotSnapshotMode = false
-session_wants_memory NeverStarted = false
-session_wants_memory RotationPending = false
-session_wants_memory AlreadyRotated = false
-session_wants_memory AlreadyActive = false
-session_wants_memory NotActive = false
-session_wants_memory NoStream = false
-session_wants_memory DiscardInSnapshot = false
-session_wants_memory AlreadyStarted = false
-session_wants_memory BadGeometry = false
-session_wants_memory TooMany = false
-session_wants_memory NotPending = false
-session_wants_memory CutMissing = false
-session_wants_memory NameTaken = false
-session_wants_memory NoChannel = false
-session_wants_memory NoArchive = false
-session_wants_memory Released = false
-session_wants_memory Misplaced = false
+session_wants_memory other = false

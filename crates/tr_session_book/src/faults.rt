@@ -10,67 +10,48 @@ use thiserror::Error;
 /// leave a rotation pending, a `clear` some streams cleared, and a `release` some parts released. What a call of a shared
 /// session leaves stands at that call.
 #[derive(Clone, Copy, Debug, PartialEq, Eq, Error)]
+#[error("{} {}", self.code(), self.name())]
 pub enum SessionFault {
     /// A snapshot session isn't rotated.
-    #[error("S1 SnapshotMode")]
     SnapshotMode,
     /// Only a snapshot session has snapshots.
-    #[error("S2 NotSnapshotMode")]
     NotSnapshotMode,
     /// The session was never started.
-    #[error("S3 NeverStarted")]
     NeverStarted,
     /// A rotation is pending.
-    #[error("S4 RotationPending")]
     RotationPending,
     /// The session was already rotated since its last stop.
-    #[error("S5 AlreadyRotated")]
     AlreadyRotated,
     /// The session is active already.
-    #[error("S6 AlreadyActive")]
     AlreadyActive,
     /// The session isn't active.
-    #[error("S7 NotActive")]
     NotActive,
     /// There is no stream of this number.
-    #[error("S8 NoStream")]
     NoStream,
     /// In a snapshot session every ring overwrites.
-    #[error("S9 DiscardInSnapshot")]
     DiscardInSnapshot,
     /// The session was started, so nothing can be added.
-    #[error("S10 AlreadyStarted")]
     AlreadyStarted,
     /// No ring can have such sub-buffers.
-    #[error("S11 BadGeometry")]
     BadGeometry,
     /// There are as many as are allowed.
-    #[error("S12 TooMany")]
     TooMany,
     /// No rotation is pending, or it has already cut this stream.
-    #[error("S13 NotPending")]
     NotPending,
     /// A stream that must be cut first isn't cut.
-    #[error("S14 CutMissing")]
     CutMissing,
     /// The name is taken.
-    #[error("S15 NameTaken")]
     NameTaken,
     /// An allocation failed.
-    #[error("S16 NoMemory")]
     NoMemory,
     /// There is no channel of this name.
-    #[error("S17 NoChannel")]
     NoChannel,
     /// There is no archive of this number. The chunk of a pending rotation is none yet.
-    #[error("S18 NoArchive")]
     NoArchive,
     /// The parts of the archive were already released.
-    #[error("S19 Released")]
     Released,
     /// Another stream is in the place of one of the session's. No call of a book or of a `Session` answers it: it is for those
     /// who keep streams by number.
-    #[error("S20 Misplaced")]
     Misplaced,
 }
 

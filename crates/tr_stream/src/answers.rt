@@ -37,18 +37,15 @@ pub enum Offered {
 /// Why an offer was refused. The stream is as it was. An offer takes no memory; O4 was its want of memory once, and names
 /// nothing else.
 #[derive(Clone, Copy, Debug, PartialEq, Eq, Error)]
+#[error("{} {}", self.code(), self.name())]
 pub enum OfferFault {
     /// The stream takes no offers now.
-    #[error("O1 Inactive")]
     Inactive,
     /// The payload fits no sub-buffer of this stream.
-    #[error("O2 TooBig")]
     TooBig,
     /// The stream has accepted 2^62 offers.
-    #[error("O3 Spent")]
     Spent,
     /// Another stream is in this one's place. No call of this crate answers it: it is for those who keep streams by number.
-    #[error("O5 Misplaced")]
     Misplaced,
 }
 
@@ -91,18 +88,15 @@ pub struct Taken {
 
 /// Why a take was refused. The stream is as it was.
 #[derive(Clone, Copy, Debug, PartialEq, Eq, Error)]
+#[error("{} {}", self.code(), self.name())]
 pub enum TakeFault {
     /// No sub-buffer waits.
-    #[error("T1 Nothing")]
     Nothing,
     /// In a snapshot session nothing is taken.
-    #[error("T2 SnapshotMode")]
     SnapshotMode,
     /// An allocation failed.
-    #[error("T3 NoMemory")]
     NoMemory,
     /// Another stream is in this one's place. No call of this crate answers it: it is for those who keep streams by number.
-    #[error("T4 Misplaced")]
     Misplaced,
 }
 
@@ -156,12 +150,11 @@ pub struct CutDone {
 
 /// Why a cut was refused. The stream is as it was.
 #[derive(Clone, Copy, Debug, PartialEq, Eq, Error)]
+#[error("{} {}", self.code(), self.name())]
 pub enum CutFault {
     /// In a snapshot session nothing is cut.
-    #[error("C1 SnapshotMode")]
     SnapshotMode,
     /// An allocation failed.
-    #[error("C2 NoMemory")]
     NoMemory,
 }
 
@@ -209,12 +202,11 @@ pub struct Cleared {
 
 /// Why a clear was refused. The stream is as it was.
 #[derive(Clone, Copy, Debug, PartialEq, Eq, Error)]
+#[error("{} {}", self.code(), self.name())]
 pub enum ClearFault {
     /// In a snapshot session nothing is cleared.
-    #[error("X1 SnapshotMode")]
     SnapshotMode,
     /// An allocation failed.
-    #[error("X2 NoMemory")]
     NoMemory,
 }
 
@@ -264,15 +256,13 @@ pub struct Released {
 
 /// Why a release was refused. The stream is as it was.
 #[derive(Clone, Copy, Debug, PartialEq, Eq, Error)]
+#[error("{} {}", self.code(), self.name())]
 pub enum ReleaseFault {
     /// No closed part has this number.
-    #[error("Y1 NoPart")]
     NoPart,
     /// The part was released before.
-    #[error("Y2 Released")]
     Released,
     /// An allocation failed.
-    #[error("Y3 NoMemory")]
     NoMemory,
 }
 

@@ -29,12 +29,11 @@ impl Model for Geometry {
 
 /// Why a size and a count make no geometry.
 #[derive(Clone, Copy, Debug, PartialEq, Eq, Error)]
+#[error("{} {}", self.code(), self.name())]
 pub enum GeometryFault {
     /// The size isn't a power of two from `SMALLEST_SUB_BUFFER` to `LARGEST_PACKET`.
-    #[error("G1 BadSize")]
     BadSize,
     /// The count isn't a power of two from `FEWEST_SUB_BUFFERS` to `MOST_SUB_BUFFERS`.
-    #[error("G2 BadCount")]
     BadCount,
 }
 

@@ -7,12 +7,11 @@ use thiserror::Error;
 
 /// What was missing.
 #[derive(Clone, Copy, PartialEq, Eq, Debug, Error)]
+#[error("{} {}", self.code(), self.name())]
 pub enum PoolError {
     /// The system gave fewer threads than were asked for.
-    #[error("U1 NoThread")]
     NoThread,
     /// An allocation failed.
-    #[error("U2 NoMemory")]
     NoMemory,
 }
 
