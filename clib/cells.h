@@ -17,7 +17,7 @@
  * the call says otherwise. Moments are nanoseconds since 1970. */
 #ifndef TRC_CELLS_H
 #define TRC_CELLS_H
-#include "tracerd.h" /* an offer's answer and a fate are written as they are there */
+#include "tracerd.h" /* an offer's answer, a fate, sums of counts and what an audit finds are written as they are there */
 #include <stdbool.h>
 
 #ifdef __cplusplus
@@ -28,7 +28,7 @@ extern "C" {
  * order in which they are given. */
 enum {
     TRC_DONE = 0,
-    TRC_NO_MEMORY = 1,  /* an allocation failed, where the call has no fault of its own for that */
+    TRC_NO_MEMORY = 1,  /* an allocation failed: also in place of S16, T3, C2, X2, Y3 and A5 */
     TRC_CLOSED = 2,     /* a handle that should be open is closed */
     TRC_IN_USE = 3,     /* a handle that should be closed is open */
     TRC_BAD_MOMENT = 4, /* above 9,000,000,000,000,000,000 */
@@ -38,7 +38,7 @@ enum {
     TRC_BAD_OFFSET = 8, /* not from -1,439 to 1,439 minutes */
     TRC_NO_ROOM = 9,    /* the room is too small for the text */
     TRC_NO_PART = 10,   /* the stream has no part of this number */
-    TRC_TOO_MUCH = 11,  /* an audit was fed 2^62 bytes, or began 2^62 pieces */
+    TRC_TOO_MUCH = TRACERD_READ, /* an audit was fed 2^62 bytes, or began 2^62 pieces */
     TRC_MISPLACED = 120 /* S20: the stream isn't one of this book's trace */
 };
 
@@ -49,15 +49,15 @@ enum {
     TRC_S_SNAPSHOT_MODE = 101, TRC_S_NOT_SNAPSHOT_MODE = 102, TRC_S_NEVER_STARTED = 103, TRC_S_ROTATION_PENDING = 104,
     TRC_S_ALREADY_ROTATED = 105, TRC_S_ALREADY_ACTIVE = 106, TRC_S_NOT_ACTIVE = 107, TRC_S_NO_STREAM = 108,
     TRC_S_DISCARD_IN_SNAPSHOT = 109, TRC_S_ALREADY_STARTED = 110, TRC_S_BAD_GEOMETRY = 111, TRC_S_TOO_MANY = 112,
-    TRC_S_NOT_PENDING = 113, TRC_S_CUT_MISSING = 114, TRC_S_NAME_TAKEN = 115, TRC_S_NO_MEMORY = 116, TRC_S_NO_CHANNEL = 117,
+    TRC_S_NOT_PENDING = 113, TRC_S_CUT_MISSING = 114, TRC_S_NAME_TAKEN = 115, TRC_S_NO_CHANNEL = 117,
     TRC_S_NO_ARCHIVE = 118, TRC_S_RELEASED = 119, TRC_S_MISPLACED = 120,
     TRC_O_INACTIVE = 201, TRC_O_TOO_BIG = 202, TRC_O_SPENT = 203,
-    TRC_T_NOTHING = 301, TRC_T_SNAPSHOT_MODE = 302, TRC_T_NO_MEMORY = 303,
-    TRC_C_SNAPSHOT_MODE = 401, TRC_C_NO_MEMORY = 402,
-    TRC_X_SNAPSHOT_MODE = 501, TRC_X_NO_MEMORY = 502,
-    TRC_Y_NO_PART = 601, TRC_Y_RELEASED = 602, TRC_Y_NO_MEMORY = 603,
+    TRC_T_NOTHING = 301, TRC_T_SNAPSHOT_MODE = 302,
+    TRC_C_SNAPSHOT_MODE = 401,
+    TRC_X_SNAPSHOT_MODE = 501,
+    TRC_Y_NO_PART = 601, TRC_Y_RELEASED = 602,
     TRC_D_ZERO_PERIOD = 701, TRC_D_ZERO_SIZE = 702,
-    TRC_A_PACKET = 801, TRC_A_NUMBER_REPEAT = 802, TRC_A_SERIAL_REPEAT = 803, TRC_A_FOREIGN = 804, TRC_A_NO_MEMORY = 805,
+    TRC_A_PACKET = 801, TRC_A_NUMBER_REPEAT = 802, TRC_A_SERIAL_REPEAT = 803, TRC_A_FOREIGN = 804,
     TRC_G_BAD_SIZE = 901, TRC_G_BAD_COUNT = 902
 };
 
@@ -87,17 +87,19 @@ uint32_t trc_stream_switch(trc_stream *, bool active);
 /* Offers a record. It takes no memory. CLOSED, BAD_MOMENT, O1 to O3. */
 uint32_t trc_stream_offer(trc_stream *, uint64_t moment, uint32_t id, const uint8_t *payload, size_t len,
                           tracerd_offered *);
-/* Moves the oldest closed sub-buffer into the current trace chunk. CLOSED, T1 to T3. */
+/* Moves the oldest closed sub-buffer into the current trace chunk. CLOSED, T1, T2, NO_MEMORY. */
 uint32_t trc_stream_take(trc_stream *, trc_taken *);
-/* Moves all that the ring holds into the current trace chunk, and closes that. CLOSED, BAD_MOMENT, C1, C2. In a session use
- * trc_rotate_cut. */
+/* Moves all that the ring holds into the current trace chunk, and closes that. CLOSED, BAD_MOMENT, C1, NO_MEMORY. In a session
+ * use trc_rotate_cut. */
 uint32_t trc_stream_cut(trc_stream *, uint64_t moment, trc_cut *);
-/* Removes what the ring and the current chunk hold. CLOSED, X1, X2. In a session use trc_book_clear. */
+/* Removes what the ring and the current chunk hold. CLOSED, X1, NO_MEMORY. In a session use trc_book_clear. */
 uint32_t trc_stream_clear(trc_stream *, trc_cleared *);
-/* Gives up the packets of a closed part. CLOSED, Y1 to Y3. In a session use trc_book_release. */
+/* Gives up the packets of a closed part. CLOSED, Y1, Y2, NO_MEMORY. In a session use trc_book_release. */
 uint32_t trc_stream_release(trc_stream *, uint64_t chunk, trc_released *);
 /* How many records were offered, and where they are. CLOSED. */
 uint32_t trc_stream_counts(trc_stream *, trc_counts *);
+/* Adds the stream's counts to sums; what is more than the greatest uint64_t is that. CLOSED. */
+uint32_t trc_stream_add_counts(trc_stream *, tracerd_counts *sums);
 /* What became of the offer with this serial. CLOSED. */
 uint32_t trc_stream_fate(trc_stream *, uint64_t serial, tracerd_fate *);
 /* How much the stream added to a trace chunk. CLOSED, NO_PART. */
@@ -124,10 +126,10 @@ enum { TRC_IDLE = 0, TRC_TIMER = 1, TRC_SIZE = 2 };
 
 /* IN_USE, BAD_UUID, BAD_OFFSET (minutes that the clock of archives' names is ahead of UTC), BAD_MODE, NO_MEMORY. */
 uint32_t trc_book_new(trc_book *, const uint8_t *uuid, size_t uuid_len, int32_t east, uint32_t session_mode);
-/* Adds a channel: rings of `count` sub-buffers of `size` bytes. CLOSED, BAD_NAME, BAD_MODE, S9 to S12, S15, S16. */
+/* Adds a channel: rings of `count` sub-buffers of `size` bytes. CLOSED, BAD_NAME, BAD_MODE, S9 to S12, S15, NO_MEMORY. */
 uint32_t trc_book_channel(trc_book *, const uint8_t *name, size_t len, uint64_t size, uint64_t count, uint32_t mode);
 /* Adds a thread to a channel, and opens its stream; both or neither. `number` is the stream's. CLOSED (book), IN_USE (stream),
- * BAD_NAME, S10, S12, S16, S17. */
+ * BAD_NAME, S10, S12, S17, NO_MEMORY. */
 uint32_t trc_book_thread(trc_book *, trc_stream *, const uint8_t *channel, size_t len, uint64_t *number);
 /* Starts the session; then each stream is to be switched on. CLOSED, BAD_MOMENT, S4, S6. */
 uint32_t trc_book_start(trc_book *, uint64_t moment);
@@ -137,12 +139,12 @@ uint32_t trc_book_stop(trc_book *);
  * S6 (off). */
 uint32_t trc_book_switch(trc_book *, trc_stream *, bool active);
 
-/* Begins a rotation, and answers with the number of the chunk that it archives. CLOSED, BAD_MOMENT, S1, S3, S4, S5, S16. */
+/* Begins a rotation, and answers with the number of the chunk that it archives. CLOSED, BAD_MOMENT, S1, S3, S4, S5, NO_MEMORY. */
 uint32_t trc_rotate_begin(trc_book *, uint64_t moment, uint64_t *id);
 /* Which stream the pending rotation cuts next: `number`, if `left` is true; else all are cut, and `number` is 0. CLOSED, S13. */
 uint32_t trc_rotate_next(trc_book *, bool *left, uint64_t *number);
 /* Cuts that stream at the rotation's end, and notes it. CLOSED (book, then stream), MISPLACED, S8, S13 (also of a stream that
- * the rotation has cut), S14 (another stream is next), C2: the stream is uncut, the rotation pending. */
+ * the rotation has cut), S14 (another stream is next), NO_MEMORY: the stream is uncut, the rotation pending. */
 uint32_t trc_rotate_cut(trc_book *, trc_stream *, trc_cut *);
 /* Ends a rotation that has cut every stream. It takes no memory. CLOSED, S13, S14. */
 uint32_t trc_rotate_finish(trc_book *, trc_archive *);
@@ -151,9 +153,9 @@ uint32_t trc_rotate_finish(trc_book *, trc_archive *);
 uint32_t trc_book_can_clear(trc_book *);
 /* Whether there is an archive of this number, whose parts can be released. CLOSED, S18. */
 uint32_t trc_book_can_release(trc_book *, uint64_t archive);
-/* Clears a stream as its session allows. CLOSED, MISPLACED, S8, S1, S3, S4, S16. */
+/* Clears a stream as its session allows. CLOSED, MISPLACED, S8, S1, S3, S4, NO_MEMORY. */
 uint32_t trc_book_clear(trc_book *, trc_stream *, trc_cleared *);
-/* Gives up a stream's part of an archive. CLOSED, MISPLACED, S8, S18, S19, S16. */
+/* Gives up a stream's part of an archive. CLOSED, MISPLACED, S8, S18, S19, NO_MEMORY. */
 uint32_t trc_book_release(trc_book *, trc_stream *, uint64_t archive, trc_released *);
 
 /* Sets when rotations are due: each `every` nanoseconds if `timer`, at `size` bytes if `by_size`, or never if neither. CLOSED,
@@ -166,7 +168,7 @@ uint32_t trc_book_due(trc_book *, uint64_t moment, const uint64_t *sizes, size_t
 /* Begins a snapshot: `stored` is the moment, or the last one if that is later. CLOSED, BAD_MOMENT, S2, S3. */
 uint32_t trc_book_snapshot(trc_book *, uint64_t moment, uint64_t *stored);
 /* Opens what a stream shows at a moment; the stream stays as it is. CLOSED (book, then stream), IN_USE (snap), BAD_MOMENT,
- * MISPLACED, S8, S2, S3, S16. */
+ * MISPLACED, S8, S2, S3, NO_MEMORY. */
 uint32_t trc_book_look(trc_book *, trc_stream *, uint64_t moment, trc_snap *);
 
 typedef struct {
@@ -202,26 +204,18 @@ uint32_t trc_name(const uint8_t *name, size_t len);
 
 typedef struct { void *at; bool live; } trc_audit;
 
-typedef struct {
-    uint64_t packets, records, absent; /* absent: how many packet numbers below the last one are missing */
-    bool any;                          /* whether there was a packet; the next two are 0 if not */
-    uint64_t last_seq, last_serial;
-    uint64_t last_lost;                /* how many records the stream had discarded by the last packet */
-} trc_audited;
-typedef struct {
-    uint64_t piece, offset; /* the file in which the packet begins, from 0 on, and the byte of that file */
-    uint32_t packet;        /* of A1: what is wrong with it, n of Pn (1 to 7); else 0 */
-} trc_flaw;
+/* The number of an archive, by the name of its folder. BAD_NAME. */
+uint32_t trc_archive_number(const uint8_t *name, size_t len, uint64_t *number);
 
 /* Begins the audit of a stream's files. IN_USE, BAD_UUID, NO_MEMORY. */
 uint32_t trc_audit_new(trc_audit *, const uint8_t *uuid, size_t uuid_len, uint64_t stream);
-/* Audits the next bytes of this file, in any pieces. A1 to A5: `flaw` says where; each later call says the same. CLOSED,
- * TOO_MUCH. */
-uint32_t trc_audit_feed(trc_audit *, const uint8_t *bytes, size_t len, trc_flaw *);
-/* Ends this file, and begins the next one. CLOSED, A1 to A5, TOO_MUCH. */
-uint32_t trc_audit_next(trc_audit *, trc_flaw *);
-/* Ends the last file and closes the handle, also after A1 to A5. CLOSED, A1 to A5. */
-uint32_t trc_audit_end(trc_audit *, trc_audited *, trc_flaw *);
+/* Audits the next bytes of this file, in any pieces. A1 to A4, NO_MEMORY: the last three fields say where, `archive` as the
+ * file of the packet, from 0 on, and the others are 0; each later call says the same. CLOSED, TOO_MUCH. */
+uint32_t trc_audit_feed(trc_audit *, const uint8_t *bytes, size_t len, tracerd_audited *);
+/* Ends this file, and begins the next one. CLOSED, A1 to A4, NO_MEMORY, TOO_MUCH. */
+uint32_t trc_audit_next(trc_audit *, tracerd_audited *);
+/* Ends the last file and closes the handle, also after a refusal, and says what all have. CLOSED, A1 to A4, NO_MEMORY. */
+uint32_t trc_audit_end(trc_audit *, tracerd_audited *);
 void trc_audit_free(trc_audit *);
 
 #ifdef __cplusplus

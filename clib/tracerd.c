@@ -19,8 +19,7 @@
 #include <unistd.h>
 
 enum { STREAMS = 1024, SUB_BUFFERS = 64, NAME = 64, FILE_NAME = 96, PATH = 4096 };
-enum { APART = 128, ROOM = 65536, SMALL_ROOM = 16384 };
-enum { MOMENTS = 42, SECOND = 1000000000 }; /* bytes of an archive's name before its number; nanoseconds */
+enum { APART = 128, ROOM = 65536, SMALL_ROOM = 16384, SECOND = 1000000000 };
 enum { OFF, ON, BUSY };
 
 /* A producer and its stream, in memory that no other slot's thread touches. */
@@ -48,20 +47,13 @@ struct tracerd_session {
 
 /* ---- Calls are chained by `?:`, up to the first that is refused ---- */
 
-/* A cell's answer. A want of memory has codes of each call's own there, and one of the session's here. */
-static tracerd_status said(uint32_t code) {
-    if (code == TRC_S_NO_MEMORY || code == TRC_T_NO_MEMORY || code == TRC_C_NO_MEMORY || code == TRC_A_NO_MEMORY)
-        return TRACERD_NO_MEMORY;
-    return code == TRC_TOO_MUCH ? TRACERD_READ : (tracerd_status)code;
-}
-
-static tracerd_status leave(pthread_mutex_t *lock, uint32_t code) {
+static tracerd_status leave(pthread_mutex_t *lock, tracerd_status status) {
     pthread_mutex_unlock(lock);
-    return said(code);
+    return status;
 }
 
 /* An answer, but for one that is no refusal here. */
-static tracerd_status except(uint32_t fine, uint32_t code) { return code == fine ? TRACERD_OK : said(code); }
+static tracerd_status except(uint32_t fine, uint32_t status) { return status == fine ? TRACERD_OK : status; }
 
 /* What is done once all before went through. */
 #define DONE(effect) ((effect), (tracerd_status)TRACERD_OK)
@@ -69,12 +61,15 @@ static tracerd_status except(uint32_t fine, uint32_t code) { return code == fine
 /* What is called while a lock is held. */
 #define LOCKED(lock, call) (pthread_mutex_lock(lock), leave(lock, call))
 
+/* What is called while the slot `s` of a producer is locked. */
+#define OWN(producer, s, call) __extension__({ slot *s = (slot *)(producer); LOCKED(&s->lock, call); })
+
 /* What is called with each slot `s` of a session, in order, up to the first that is refused. */
-#define EACH(t, s, call) __extension__({                                                       \
-    tracerd_status status_ = TRACERD_OK;                                                       \
-    slot *s;                                                                                   \
-    for (slot *_Atomic *at_ = (t)->slots; !status_ && (s = *at_); at_++) status_ = said(call); \
-    status_;                                                                                   \
+#define EACH(t, s, call) __extension__({                                                 \
+    tracerd_status status_ = TRACERD_OK;                                                 \
+    slot *s;                                                                             \
+    for (slot *_Atomic *at_ = (t)->slots; !status_ && (s = *at_); at_++) status_ = call; \
+    status_;                                                                             \
 })
 #define EACH_LOCKED(t, s, call) EACH(t, s, LOCKED(&s->lock, call))
 
@@ -96,7 +91,7 @@ tracerd_status tracerd_new(tracerd_session **session, const char *name, const ui
     t->files = (pthread_mutex_t)PTHREAD_MUTEX_INITIALIZER;
     t->kind = kind;
     strcpy(t->name, name);
-    tracerd_status status = said(trc_book_new(&t->book, uuid, 16, east, kind)) ?: DONE(*session = t);
+    tracerd_status status = trc_book_new(&t->book, uuid, 16, east, kind) ?: DONE(*session = t);
     if (status) free(t);
     return status;
 }
@@ -119,7 +114,7 @@ tracerd_status tracerd_producer_new(tracerd_session *t, const char *channel, tra
     *s = (slot){.lock = PTHREAD_MUTEX_INITIALIZER, .is_out = true};
     tracerd_status status = LOCKED(&t->desk, /* a book has STREAMS at most */
         trc_book_thread(&t->book, &s->stream, (const uint8_t *)channel, strlen(channel), &s->number) ?:
-        DONE(*producer = &(t->slots[s->number] = s)->front));
+        DONE((atomic_store(&t->slots[s->number], s), *producer = &s->front)));
     if (status) free(s);
     return status;
 }
@@ -129,8 +124,7 @@ uint64_t tracerd_producer_number(const tracerd_producer *producer) { return ((co
 static void set_active(slot *s, bool on) { __atomic_store_n(&s->front.active, on && s->is_out, __ATOMIC_RELAXED); }
 
 tracerd_status tracerd_producer_done(tracerd_producer *producer) {
-    slot *s = (slot *)producer;
-    return LOCKED(&s->lock, s->is_out ? DONE(set_active(s, s->is_out = false)) : TRACERD_CLOSED);
+    return OWN(producer, s, s->is_out ? DONE(set_active(s, s->is_out = false)) : TRACERD_CLOSED);
 }
 
 static tracerd_status switch_all(tracerd_session *t, bool active) {
@@ -147,29 +141,28 @@ tracerd_status tracerd_stop(tracerd_session *t) {
 
 /* ---- Recording and draining ---- */
 
-uint64_t tracerd_now(void) {
+static uint64_t now_by(clockid_t clock) {
     struct timespec now;
-    clock_gettime(CLOCK_REALTIME, &now);
+    clock_gettime(clock, &now);
     return (uint64_t)now.tv_sec * SECOND + (uint64_t)now.tv_nsec;
 }
 
+uint64_t tracerd_now(void) { return now_by(CLOCK_REALTIME); }
+
 tracerd_status tracerd_offer(tracerd_producer *producer, uint64_t moment, uint32_t id, const void *payload, size_t size,
                              tracerd_offered *offered) {
-    slot *s = (slot *)producer;
-    return LOCKED(&s->lock, !s->is_out ? TRACERD_CLOSED : /* a slice of no bytes still points somewhere */
+    return OWN(producer, s, !s->is_out ? TRACERD_CLOSED : /* a slice of no bytes still points somewhere */
         trc_stream_offer(&s->stream, moment, id, size ? payload : "", size, offered));
 }
 
 tracerd_status tracerd_trace(tracerd_producer *producer, uint32_t id, const void *payload, size_t size) {
-    tracerd_offered offered;
-    return tracerd_offer(producer, tracerd_now(), id, payload, size, &offered);
+    return tracerd_offer(producer, tracerd_now(), id, payload, size, &(tracerd_offered){0});
 }
 
 static tracerd_status drain_stream(slot *s, uint64_t *packets) {
-    trc_taken taken;
     tracerd_status status = TRACERD_OK;
     for (int i = 0; i < SUB_BUFFERS && !status; i++) /* what offers close meanwhile may be left: they may never end */
-        status = LOCKED(&s->lock, trc_stream_take(&s->stream, &taken)) ?: DONE(++*packets);
+        status = LOCKED(&s->lock, trc_stream_take(&s->stream, &(trc_taken){0})) ?: DONE(++*packets);
     return except(TRC_T_NOTHING, status);
 }
 
@@ -181,15 +174,11 @@ tracerd_status tracerd_drain(tracerd_session *t, uint64_t *packets) {
 
 static void *drain_each_period(void *session) {
     tracerd_session *t = session;
-    uint64_t packets;
-    struct timespec until;
+    uint64_t next;
     do {
-        (void)tracerd_drain(t, &packets); /* what there is no memory for is taken in a later round */
-        clock_gettime(CLOCK_MONOTONIC, &until);
-        uint64_t nanoseconds = (uint64_t)until.tv_nsec + t->period % SECOND;
-        until.tv_sec += (time_t)(t->period / SECOND + nanoseconds / SECOND);
-        until.tv_nsec = (long)(nanoseconds % SECOND);
-    } while (sem_clockwait(&t->bell, CLOCK_MONOTONIC, &until));
+        (void)tracerd_drain(t, &(uint64_t){0}); /* what there is no memory for is taken in a later round */
+        next = now_by(CLOCK_MONOTONIC) + t->period;
+    } while (sem_clockwait(&t->bell, CLOCK_MONOTONIC, &(struct timespec){(time_t)(next / SECOND), (long)(next % SECOND)}));
     return NULL;
 }
 
@@ -197,7 +186,7 @@ tracerd_status tracerd_drainer_start(tracerd_session *t, uint64_t period) {
     sigset_t all, before;
     if (t->kind == TRACERD_SNAPSHOT) return TRACERD_SNAPSHOT_MODE;
     if (!atomic_compare_exchange_strong(&t->drainer, &(int){OFF}, BUSY)) return TRACERD_DRAINING;
-    t->period = period;
+    t->period = period < INT64_MAX ? period : INT64_MAX; /* for ever */
     sem_init(&t->bell, 0, 0);
     sigfillset(&all);
     pthread_sigmask(SIG_SETMASK, &all, &before); /* signals are for the program's own threads */
@@ -208,11 +197,10 @@ tracerd_status tracerd_drainer_start(tracerd_session *t, uint64_t period) {
 }
 
 tracerd_status tracerd_drainer_stop(tracerd_session *t) {
-    uint64_t packets;
     if (!atomic_compare_exchange_strong(&t->drainer, &(int){ON}, BUSY)) return TRACERD_NOT_DRAINING;
     sem_post(&t->bell);
     pthread_join(t->thread, NULL);
-    tracerd_status last = tracerd_drain(t, &packets); /* with what was closed after its last round */
+    tracerd_status last = tracerd_drain(t, &(uint64_t){0}); /* with what was closed after its last round */
     t->drainer = OFF;
     return last;
 }
@@ -223,7 +211,7 @@ tracerd_status tracerd_rotate_on(tracerd_session *t, uint64_t *archive) {
     trc_archive made;
     trc_cut cut; /* of a stream that was cut before none is pending */
     return LOCKED(&t->desk,
-        EACH_LOCKED(t, s, except(TRC_S_NOT_PENDING, trc_rotate_cut(&t->book, &s->stream, &cut))) ?:
+        EACH_LOCKED(t, s, except(TRACERD_NOT_PENDING, trc_rotate_cut(&t->book, &s->stream, &cut))) ?:
         trc_rotate_finish(&t->book, &made) ?: DONE(*archive = made.id));
 }
 
@@ -255,31 +243,20 @@ tracerd_status tracerd_clear(tracerd_session *t, uint64_t *records) {
 }
 
 tracerd_status tracerd_release(tracerd_session *t, uint64_t archive) {
-    trc_released given;
-    uint32_t last = TRC_S_RELEASED; /* of no streams; else all are released if the last one is */
+    tracerd_status last = TRACERD_RELEASED; /* of no streams; else all are released if the last one is */
     return LOCKED(&t->files, LOCKED(&t->desk, trc_book_can_release(&t->book, archive) ?:
-        EACH_LOCKED(t, s, except(TRC_S_RELEASED, last = trc_book_release(&t->book, &s->stream, archive, &given))) ?:
+        EACH_LOCKED(t, s, except(TRACERD_RELEASED, last = trc_book_release(&t->book, &s->stream, archive, &(trc_released){0}))) ?:
         last));
 }
 
-static uint32_t add_counts(slot *s, tracerd_counts *sum) {
-    trc_counts one = {0};
-    uint32_t code = trc_stream_counts(&s->stream, &one);
-    *sum = (tracerd_counts){sum->offered + one.offered,         sum->discarded + one.discarded,
-                            sum->overwritten + one.overwritten, sum->cleared + one.cleared,
-                            sum->in_ring + one.in_ring,         sum->in_chunks + one.in_chunks};
-    return code;
-}
-
 tracerd_status tracerd_counts_of(tracerd_producer *producer, tracerd_counts *counts) {
-    slot *s = (slot *)producer;
     *counts = (tracerd_counts){0};
-    return LOCKED(&s->lock, add_counts(s, counts));
+    return OWN(producer, s, trc_stream_add_counts(&s->stream, counts));
 }
 
 tracerd_status tracerd_counts_sum(tracerd_session *t, tracerd_counts *counts) {
     *counts = (tracerd_counts){0};
-    return EACH_LOCKED(t, s, add_counts(s, counts));
+    return EACH_LOCKED(t, s, trc_stream_add_counts(&s->stream, counts));
 }
 
 tracerd_status tracerd_settle(tracerd_session *t, tracerd_counts *counts, uint64_t *stream) {
@@ -290,16 +267,10 @@ tracerd_status tracerd_settle(tracerd_session *t, tracerd_counts *counts, uint64
 }
 
 tracerd_status tracerd_fate_of(tracerd_producer *producer, uint64_t serial, tracerd_fate *fate) {
-    slot *s = (slot *)producer;
-    return LOCKED(&s->lock, trc_stream_fate(&s->stream, serial, fate));
+    return OWN(producer, s, trc_stream_fate(&s->stream, serial, fate));
 }
 
-const char *tracerd_status_name(tracerd_status status) {
-    switch (status) {
-#include "status_names.h" /* of each status of tracerd.h a case, which clib/build makes */
-    }
-    return "Unknown";
-}
+#include "status_names.h" /* tracerd_status_name, which clib/build makes of tracerd.h */
 
 /* ---- Archives and snapshots as files, and the audit of these ---- */
 
@@ -318,10 +289,8 @@ static tracerd_status make_folders(char *path) {
 }
 
 static tracerd_status write_whole(int file, const uint8_t *bytes, uint64_t size) {
-    for (ssize_t done; size; bytes += done, size -= (uint64_t)done) {
-        done = TEMP_FAILURE_RETRY(write(file, bytes, size));
-        if (done <= 0) return TRACERD_WRITE;
-    }
+    for (ssize_t done; size; bytes += done, size -= (uint64_t)done)
+        if ((done = TEMP_FAILURE_RETRY(write(file, bytes, size))) <= 0) return TRACERD_WRITE;
     return TRACERD_OK;
 }
 
@@ -339,7 +308,7 @@ static tracerd_status write_file(tracerd_session *t, const char *below, slot *s,
     if (file < 0) status = status ?: TRACERD_WRITE;
     while (!status && size) {
         size = 0;
-        if (moment && s) status = said(trc_snap_text(&snap, at, t->room, ROOM, &size));
+        if (moment && s) status = trc_snap_text(&snap, at, t->room, ROOM, &size);
         else if (s) status = LOCKED(&s->lock, trc_stream_text(&s->stream, archive, at, t->room, ROOM, &size));
         else if (!at) status = LOCKED(&t->desk, trc_book_metadata(&t->book, t->room, ROOM, &size));
         status = status ?: write_whole(file, t->room, size);
@@ -378,20 +347,20 @@ tracerd_status tracerd_snapshot(tracerd_session *t, uint64_t moment, const char 
     return LOCKED(&t->files, write_folder(t, 0, &moment, folder));
 }
 
-static int is_archive(const struct dirent *entry) {
-    static const char form[] = "%*8[0-9]T%*6[0-9]%*1[+-]%*4[0-9]-%*8[0-9]T%*6[0-9]%*1[+-]%*4[0-9]-%n%*[0-9]%n";
-    int moments = 0, all = 0;
-    sscanf(entry->d_name, form, &moments, &all);
-    return moments == MOMENTS && all && !entry->d_name[all];
+/* The number of an archive's folder; TRACERD_NEVER of another name. */
+static uint64_t number_of(const struct dirent *folder) {
+    uint64_t number = TRACERD_NEVER;
+    (void)trc_archive_number((const uint8_t *)folder->d_name, strlen(folder->d_name), &number);
+    return number;
 }
 
-static uint64_t number_of(const struct dirent *archive) { return strtoull(archive->d_name + MOMENTS, NULL, 10); }
+static int is_archive(const struct dirent *entry) { return number_of(entry) != TRACERD_NEVER; }
 
 static int by_number(const struct dirent **one, const struct dirent **other) {
     return (number_of(*one) > number_of(*other)) - (number_of(*one) < number_of(*other));
 }
 
-static tracerd_status feed_file(trc_audit *audit, const char *path, trc_flaw *flaw) {
+static tracerd_status feed_file(trc_audit *audit, const char *path, tracerd_audited *found) {
     uint8_t room[SMALL_ROOM];
     ssize_t size;
     tracerd_status status;
@@ -399,7 +368,7 @@ static tracerd_status feed_file(trc_audit *audit, const char *path, trc_flaw *fl
     if (file < 0) return TRACERD_READ;
     do {
         size = TEMP_FAILURE_RETRY(read(file, room, sizeof room));
-        status = size < 0 ? TRACERD_READ : said(trc_audit_feed(audit, room, (size_t)size, flaw));
+        status = size < 0 ? TRACERD_READ : trc_audit_feed(audit, room, (size_t)size, found);
     } while (!status && size);
     close(file);
     return status;
@@ -410,25 +379,20 @@ tracerd_status tracerd_audit(const char *folder, const char *session, const char
     char path[PATH];
     struct dirent **all;
     trc_audit audit = {0};
-    trc_audited found = {0};
-    trc_flaw flaw = {0};
-    if (PUT(path, TRACERD_READ, "%s/%s/archives/", folder, session)) return TRACERD_READ;
-    int count = scandir(path, &all, is_archive, by_number);
+    tracerd_audited found = {0};
+    int count = PUT(path, -1, "%s/%s/archives/", folder, session) ?: scandir(path, &all, is_archive, by_number);
     if (count < 0) return errno == ENOMEM ? TRACERD_NO_MEMORY : TRACERD_READ;
-    tracerd_status status = said(trc_audit_new(&audit, uuid, 16, stream));
+    tracerd_status status = trc_audit_new(&audit, uuid, 16, stream);
     for (int i = 0; i < count && !status; i++) {
         const char *archive = all[i]->d_name;
-        if (i) status = said(trc_audit_next(&audit, &flaw));
-        status = status ?:
+        status = (i ? trc_audit_next(&audit, &found) : TRACERD_OK) ?:
             PUT(path, TRACERD_READ, "%s/%s/archives/%s/%s_%" PRIu64, folder, session, archive, channel, stream) ?:
-            feed_file(&audit, path, &flaw);
+            feed_file(&audit, path, &found);
     }
-    status = status ?: said(trc_audit_end(&audit, &found, &flaw));
+    status = status ?: trc_audit_end(&audit, &found);
     trc_audit_free(&audit);
-    if (!status || status >= TRACERD_PACKET)
-        *audited = (tracerd_audited){found.packets, found.records, found.absent, found.last_lost,
-                                     found.last_seq, found.last_serial, status ? number_of(all[flaw.piece]) : 0,
-                                     flaw.offset, flaw.packet};
+    if (status >= TRACERD_PACKET) found.archive = number_of(all[found.archive]); /* the cell's is a place in the order */
+    if (!status || status >= TRACERD_PACKET) *audited = found;
     while (count) free(all[--count]);
     free(all);
     return status;

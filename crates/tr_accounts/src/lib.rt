@@ -28,5 +28,5 @@ mod notes;
 mod step;
 
 pub use laws::{every_call, every_log, every_seat, every_take};
-pub use notes::{note_clear, note_cut, note_look, note_offer, note_switch, note_take};
+pub use notes::{note_clear, note_cut, note_offer, note_switch, note_take};
 pub use step::StreamStep;

@@ -1,13 +1,12 @@
 //! How a stream's calls are noted. Nothing of what is noted is read when it runs: a note is three plain loads.
 
 ghost use Rattle.std.specs.Prelude.{◌≡◌};
-ghost use Rattle.tr_accounts.specs.StreamSteps.{clear_step, cut_step, look_step, offer_step, switch_step, take_step};
+ghost use Rattle.tr_accounts.specs.StreamSteps.{clear_step, cut_step, offer_step, switch_step, take_step};
 ghost use Rattle.tr_journal.specs.Journals.{IsSeatOf, journal_after, seat_after};
 
 use crate::step::StreamStep;
 use std::alloc::Allocator;
 use std::marker::Brand;
-use tr_book::StreamSnap;
 use tr_journal::{Journal, Noted, Seat};
 use tr_stream::{ClearFault, Cleared, CutDone, CutFault, OfferFault, Offered, TakeFault, Taken};
 use tr_terms::Moment;
@@ -177,39 +176,6 @@ fn note_switch_as<A: Allocator, K: Noted<StreamStep>>(
     requires done { K.done ≡ switch_step active }
     ensures journal { journal.new ≡ journal_after seat.old.who (switch_step active) journal.old }
     ensures seat { seat.new ≡ seat_after (switch_step active) seat.old }
-    ensures own { IsSeatOf journal.old seat.old }
-{
-    journal.note::<K>(seat);
-}
-
-/// The seat's holder looked at the stream, and was shown this.
-#[inline(always)]
-pub fn note_look<A: Allocator>(
-    journal: &mut Journal<StreamStep, A>,
-    seat: &mut Seat<StreamStep>,
-    moment: Moment,
-    snap: &StreamSnap<A>,
-)
-    requires { seat.old.table ≡ journal.old.table }
-    ensures journal { journal.new ≡ journal_after seat.old.who (look_step moment snap.now) journal.old }
-    ensures seat { seat.new ≡ seat_after (look_step moment snap.now) seat.old }
-    ensures own { IsSeatOf journal.old seat.old }
-{
-    note_look_as::<A, Brand>(journal, seat, moment, snap);
-}
-
-/// The seat's holder looked at the stream, and was shown this.
-#[inline(always)]
-fn note_look_as<A: Allocator, K: Noted<StreamStep>>(
-    journal: &mut Journal<StreamStep, A>,
-    seat: &mut Seat<StreamStep>,
-    moment: Moment,
-    snap: &StreamSnap<A>,
-)
-    requires seat { seat.old.table ≡ journal.old.table }
-    requires done { K.done ≡ look_step moment snap.now }
-    ensures journal { journal.new ≡ journal_after seat.old.who (look_step moment snap.now) journal.old }
-    ensures seat { seat.new ≡ seat_after (look_step moment snap.now) seat.old }
     ensures own { IsSeatOf journal.old seat.old }
 {
     journal.note::<K>(seat);

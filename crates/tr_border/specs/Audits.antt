@@ -1,13 +1,12 @@
 -- What an audit's calls answer.
-use Rattle.std.specs.Prelude.{◌≡◌, ℕ, ◌+◌, ◌-◌, ◌^◌, ◌≤◌, min, List, [], ◌∷◌, ◌++◌, map, sum, is_some, unwrap_or, Option, Some, None}
+use Rattle.std.specs.Prelude.{◌≡◌, ℕ, ◌+◌, ◌-◌, ◌^◌, ◌≤◌, min, List, [], ◌∷◌, ◌++◌, map, sum, unwrap_or, Option, Some, None}
 use Rattle.tr_border.specs.Codes.{code_number}
 use Rattle.tr_border.specs.declared.audits.AuditedOut.{AuditedOut}
-use Rattle.tr_border.specs.declared.audits.FlawOut.{FlawOut}
 use Rattle.tr_chunk.specs.Audit.{AreAudited, all_of, audit_of}
 use Rattle.tr_chunk.specs.Faults.{audit_cause_code}
 use Rattle.tr_chunk.specs.Reading.{HasRead, Reading, ReaderStopsAt}
 use Rattle.tr_chunk.specs.declared.audit_fault.AuditCause.{AuditCause}
-use Rattle.tr_chunk.specs.declared.audit_fault.AuditCause.TheVariants.{Packet, NumberRepeat, SerialRepeat, Foreign, NoMemory}
+use Rattle.tr_chunk.specs.declared.audit_fault.AuditCause.TheVariants.{Packet}
 use Rattle.tr_chunk.specs.declared.audit_fault.AuditFault.{AuditFault}
 use Rattle.tr_chunk.specs.declared.stream_audit.StreamAudit.{StreamAudit}
 use Rattle.tr_packet.specs.Packets.{Contents}
@@ -19,16 +18,24 @@ fault_code f = audit_cause_code f.cause
 -- the digits of the packet's fault, if that is the cause
 abbrev pub packet_out : AuditCause → ℕ
 packet_out (Packet fault) = code_number (packet_fault_code fault)
-packet_out NumberRepeat = 0
-packet_out SerialRepeat = 0
-packet_out Foreign = 0
-packet_out NoMemory = 0
+packet_out other = 0
 
-abbrev pub flaw_out : AuditFault → FlawOut
-flaw_out f = record { piece = f.piece; offset = f.offset; packet = packet_out f.cause }
+-- where the audit stopped; nothing is counted then
+abbrev pub flaw_out : AuditFault → AuditedOut
+flaw_out f = record {
+  packets = 0;
+  records = 0;
+  absent = 0;
+  last_lost = 0;
+  last_seq = 0;
+  last_serial = 0;
+  piece = f.piece;
+  offset = f.offset;
+  packet = packet_out f.cause;
+}
 
 -- where the audit stopped, if it did
-abbrev pub flaw_given : Option AuditFault → FlawOut → FlawOut
+abbrev pub flaw_given : Option AuditFault → AuditedOut → AuditedOut
 flaw_given None before = before
 flaw_given (Some f) before = flaw_out f
 
@@ -41,10 +48,12 @@ audited_out a = record {
   packets = a.packets;
   records = a.records;
   absent = absent_of a.gaps;
-  any = is_some a.last_seq;
+  last_lost = a.last_lost;
   last_seq = unwrap_or a.last_seq 0;
   last_serial = unwrap_or a.last_serial 0;
-  last_lost = a.last_lost;
+  piece = 0;
+  offset = 0;
+  packet = 0;
 }
 
 -- a reader has read these bytes more of its piece

@@ -1,5 +1,8 @@
 -- The numbers that calls answer.
-use Rattle.std.specs.Prelude.{ℕ, ◌+◌, ◌-◌, ◌*◌, ◌==◌, List, [], ◌∷◌, Result, Ok, Err, Option, Some, None, if◌then◌else◌}
+use Rattle.std.specs.Prelude.{ℕ, ◌+◌, ◌-◌, ◌*◌, ◌==◌, List, [], ◌∷◌, codes, Result, Ok, Err, Option, Some, None, if◌then◌else◌}
+use Rattle.std.specs.List.{list_any}
+use Rattle.std.specs.Str.{bytes_eq}
+use Rattle.tr_border.specs.declared.codes.TheConstants.{NO_MEMORY}
 
 -- the hundred of a code's letter: S, O, T, C, X, Y, D, A, G
 abbrev pub hundred_of : ℕ → ℕ
@@ -13,10 +16,18 @@ abbrev pub written_after : ℕ → List ℕ → ℕ
 written_after n [] = n
 written_after n (digit ∷ digits) = written_after (10 * n + (digit - 48)) digits
 
--- the number of a fault's code: its letter's hundred and its digits, as 116 for S16
+-- the number that a code writes: its letter's hundred and its digits, as 115 for S15
+abbrev pub number_of_code : List ℕ → ℕ
+number_of_code [] = 0
+number_of_code (letter ∷ digits) = hundred_of letter + written_after 0 digits
+
+-- the codes of a failed allocation: a session's, a take's, a cut's, a clear's, a release's and an audit's
+abbrev pub memory_codes : List (List ℕ)
+memory_codes = codes "S16" ∷ codes "T3" ∷ codes "C2" ∷ codes "X2" ∷ codes "Y3" ∷ codes "A5" ∷ []
+
+-- the number of a fault's code, and one for all failed allocations
 abbrev pub code_number : List ℕ → ℕ
-code_number [] = 0
-code_number (letter ∷ digits) = hundred_of letter + written_after 0 digits
+code_number code = if list_any (bytes_eq code) memory_codes then NO_MEMORY else number_of_code code
 
 -- what a call answers: 0 if it was done
 abbrev pub code_of : {A E : Type 0} → (E → List ℕ) → Result A E → ℕ

@@ -1,5 +1,5 @@
 -- What results say.
-use Rattle.std.specs.Prelude.{ℕ, Bool, is_some, length, unwrap_or, slice_get, ◌-◌, ◌^◌, min, Option, Some, None}
+use Rattle.std.specs.Prelude.{ℕ, Bool, is_some, length, unwrap_or, slice_get, ◌+◌, ◌-◌, ◌^◌, min, Option, Some, None}
 use Rattle.tr_book.specs.Parts.{PartState, part_bytes, part_packets, part_records}
 use Rattle.tr_book.specs.declared.counts.Counts.{Counts}
 use Rattle.tr_book.specs.Snaps.{SnapState}
@@ -32,7 +32,12 @@ use Rattle.tr_border.specs.declared.outs.OfferedOut.{OfferedOut}
 use Rattle.tr_border.specs.declared.outs.PartOut.{PartOut}
 use Rattle.tr_border.specs.declared.outs.ReleasedOut.{ReleasedOut}
 use Rattle.tr_border.specs.declared.outs.ShownOut.{ShownOut}
+use Rattle.tr_border.specs.declared.outs.SumOut.{SumOut}
 use Rattle.tr_border.specs.declared.outs.TakenOut.{TakenOut}
+
+-- a number, or the greatest 64-bit number if it is more
+abbrev pub bounded : ℕ → ℕ
+bounded n = min n (2 ^ 64 - 1)
 
 abbrev pub offered_out : Offered → OfferedOut
 offered_out (offered.Stored serial seq) =
@@ -51,9 +56,8 @@ cut_out d = record { chunk = d.chunk; packets = d.packets; records = d.records }
 abbrev pub cleared_out : Cleared → ClearedOut
 cleared_out c = record { packets = c.packets; records = c.records }
 
--- the bytes, or the greatest 64-bit number if they are more
 abbrev pub released_out : Released → ReleasedOut
-released_out r = record { packets = r.packets; records = r.records; bytes = min r.bytes (2 ^ 64 - 1) }
+released_out r = record { packets = r.packets; records = r.records; bytes = bounded r.bytes }
 
 abbrev pub counts_out : Counts → CountsOut
 counts_out c = record {
@@ -70,6 +74,17 @@ counts_out c = record {
   current_bytes = c.current_bytes;
 }
 
+-- sums with one stream's counts more
+abbrev pub sum_out : SumOut → Counts → SumOut
+sum_out sum c = record {
+  offered = bounded (sum.offered + c.offered);
+  discarded = bounded (sum.discarded + c.discarded);
+  overwritten = bounded (sum.overwritten + c.overwritten);
+  cleared = bounded (sum.cleared + c.cleared);
+  in_ring = bounded (sum.in_ring + c.in_ring);
+  in_chunks = bounded (sum.in_chunks + c.in_chunks);
+}
+
 abbrev pub fate_out : Option Fate → FateOut
 fate_out None = record { kind = 0; chunk = 0; seq = 0 }
 fate_out (Some (fate.InRing seq)) = record { kind = 1; chunk = 0; seq = seq }
@@ -82,7 +97,7 @@ abbrev pub part_out : PartState → PartOut
 part_out p = record {
   packets = part_packets p;
   records = part_records p;
-  bytes = min (part_bytes p) (2 ^ 64 - 1);
+  bytes = bounded (part_bytes p);
   released = is_some p.released;
 }
 

@@ -11,31 +11,23 @@ use crate::codes::packet_code;
 use std::alloc::Global;
 use tr_chunk::{AuditCause, AuditFault, AuditReader, StreamAudit};
 
-/// What an audit found in a stream's files.
+/// What an audit found in a stream's files, or where it stopped.
 #[repr(C)]
 #[derive(Drop, Clone, Copy)]
 pub struct AuditedOut {
-    /// How many packets there are.
+    /// How many packets there are. After a fault this and the next five are 0.
     pub packets: u64,
     /// How many records they have.
     pub records: u64,
     /// How many numbers below the last one no packet has, or the greatest u64 if they are more.
     pub absent: u64,
-    /// Whether there is a packet.
-    pub any: bool,
+    /// How many records the stream had discarded by the last packet.
+    pub last_lost: u64,
     /// The last packet's number, or 0.
     pub last_seq: u64,
     /// The last record's serial, or 0.
     pub last_serial: u64,
-    /// How many records the stream had discarded by the last packet.
-    pub last_lost: u64,
-}
-
-/// Where an audit stops.
-#[repr(C)]
-#[derive(Drop, Clone, Copy)]
-pub struct FlawOut {
-    /// The file in which the packet begins, from 0 on.
+    /// The file in which the packet at fault begins, from 0 on. Without a fault this and the next two are 0.
     pub piece: u64,
     /// The byte of that file at which it begins.
     pub offset: u64,
@@ -47,14 +39,20 @@ pub struct FlawOut {
 pub const MOST: u64 = 1 << 62;
 
 /// Where and why an audit stops.
-pub fn flaw_out(fault: AuditFault) -> FlawOut
+pub fn flaw_out(fault: AuditFault) -> AuditedOut
     ensures { result ≡ flaw_out fault }
 {
     let packet = match fault.cause {
         AuditCause::Packet(wrong) => packet_code(wrong),
         _ => 0,
     };
-    FlawOut {
+    AuditedOut {
+        packets: 0,
+        records: 0,
+        absent: 0,
+        last_lost: 0,
+        last_seq: 0,
+        last_serial: 0,
         piece: fault.piece,
         offset: fault.offset,
         packet,
@@ -77,10 +75,12 @@ pub fn audited_out(audit: &StreamAudit<Global>) -> AuditedOut
         packets: audit.packets,
         records: audit.records,
         absent: absent_of(audit.gaps.as_slice()),
-        any: audit.last_seq.is_some(),
+        last_lost: audit.last_lost,
         last_seq: audit.last_seq.unwrap_or(0),
         last_serial: audit.last_serial.unwrap_or(0),
-        last_lost: audit.last_lost,
+        piece: 0,
+        offset: 0,
+        packet: 0,
     }
 }
 

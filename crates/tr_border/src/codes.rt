@@ -41,7 +41,7 @@ pub const NO_ROOM: u32 = 9;
 /// The stream has no part of this number.
 pub const NO_PART: u32 = 10;
 /// An audit was fed too much.
-pub const TOO_MUCH: u32 = 11;
+pub const TOO_MUCH: u32 = 21;
 
 /// The number of an offer's refusal.
 pub fn offer_code(fault: OfferFault) -> u32
@@ -62,7 +62,7 @@ pub fn take_code(fault: TakeFault) -> u32
     match fault {
         TakeFault::Nothing => 301,
         TakeFault::SnapshotMode => 302,
-        TakeFault::NoMemory => 303,
+        TakeFault::NoMemory => NO_MEMORY,
         TakeFault::Misplaced => 304,
     }
 }
@@ -73,7 +73,7 @@ pub fn cut_code(fault: CutFault) -> u32
 {
     match fault {
         CutFault::SnapshotMode => 401,
-        CutFault::NoMemory => 402,
+        CutFault::NoMemory => NO_MEMORY,
     }
 }
 
@@ -83,7 +83,7 @@ pub fn clear_code(fault: ClearFault) -> u32
 {
     match fault {
         ClearFault::SnapshotMode => 501,
-        ClearFault::NoMemory => 502,
+        ClearFault::NoMemory => NO_MEMORY,
     }
 }
 
@@ -94,7 +94,7 @@ pub fn release_code(fault: ReleaseFault) -> u32
     match fault {
         ReleaseFault::NoPart => 601,
         ReleaseFault::Released => 602,
-        ReleaseFault::NoMemory => 603,
+        ReleaseFault::NoMemory => NO_MEMORY,
     }
 }
 
@@ -128,7 +128,7 @@ pub fn session_code(fault: SessionFault) -> u32
         SessionFault::NotPending => 113,
         SessionFault::CutMissing => 114,
         SessionFault::NameTaken => 115,
-        SessionFault::NoMemory => 116,
+        SessionFault::NoMemory => NO_MEMORY,
         SessionFault::NoChannel => 117,
         SessionFault::NoArchive => 118,
         SessionFault::Released => 119,
@@ -177,7 +177,7 @@ pub fn audit_code(cause: AuditCause) -> u32
         AuditCause::NumberRepeat => 802,
         AuditCause::SerialRepeat => 803,
         AuditCause::Foreign => 804,
-        AuditCause::NoMemory => 805,
+        AuditCause::NoMemory => NO_MEMORY,
     }
 }
 

@@ -4,13 +4,13 @@
 //! # Example
 //!
 //! ```
-//! let code = session_code(SessionFault::NoMemory);  // 116, as S16
+//! let code = session_code(SessionFault::NameTaken); // 115, as S15
 //! let done = cut_stream(&mut book, &mut stream)?;   // the stream that the pending rotation cuts next
 //! ```
 //!
 //! # What is proved
 //!
-//! - A refusal's number is that of its code: the hundred of its letter, and its digits.
+//! - A refusal's number is that of its code: the hundred of its letter, and its digits; or 1, if an allocation failed.
 //! - Each struct of a result has the numbers of the answer, one by one.
 //! - A text is copied whole or not at all; of a part's bytes as many as there are and as fit, from a place on.
 //! - A step of a book and a stream is answered by the session's rules. A stream of another trace is `Misplaced`.

@@ -1,7 +1,7 @@
 //! What results say, as C reads it.
 
 ghost use Rattle.std.specs.Prelude.{◌≡◌, ◌-◌, ◌^◌, min};
-ghost use Rattle.tr_border.specs.Outs.{about_out, archive_out, cause_out, cleared_out, counts_out, cut_out, fate_out, offered_out, part_out, released_out, session_mode_out, shown_out, state_out, taken_out};
+ghost use Rattle.tr_border.specs.Outs.{about_out, archive_out, cause_out, cleared_out, counts_out, cut_out, fate_out, offered_out, part_out, released_out, session_mode_out, shown_out, state_out, sum_out, taken_out};
 
 use std::alloc::Global;
 use tr_book::{Counts, Part, StreamSnap};
@@ -99,6 +99,24 @@ pub struct CountsOut {
     pub cuts: u64,
     /// The bytes of the current part.
     pub current_bytes: u64,
+}
+
+/// Sums of several streams' counts, each the greatest u64 if it is more.
+#[repr(C)]
+#[derive(Drop, Clone, Copy)]
+pub struct SumOut {
+    /// How many offers were accepted.
+    pub offered: u64,
+    /// How many of their records were discarded.
+    pub discarded: u64,
+    /// How many were overwritten.
+    pub overwritten: u64,
+    /// How many were cleared.
+    pub cleared: u64,
+    /// How many the rings have.
+    pub in_ring: u64,
+    /// How many the parts have.
+    pub in_chunks: u64,
 }
 
 /// What became of an offer.
@@ -281,6 +299,20 @@ pub fn counts_out(counts: Counts) -> CountsOut
         withdrawn: counts.withdrawn,
         cuts: counts.cuts,
         current_bytes: counts.current_bytes,
+    }
+}
+
+/// Sums with one stream's counts more.
+pub fn sum_out(sum: SumOut, counts: Counts) -> SumOut
+    ensures { result ≡ sum_out sum counts }
+{
+    SumOut {
+        offered: sum.offered.saturating_add(counts.offered),
+        discarded: sum.discarded.saturating_add(counts.discarded),
+        overwritten: sum.overwritten.saturating_add(counts.overwritten),
+        cleared: sum.cleared.saturating_add(counts.cleared),
+        in_ring: sum.in_ring.saturating_add(counts.in_ring),
+        in_chunks: sum.in_chunks.saturating_add(counts.in_chunks),
     }
 }
 

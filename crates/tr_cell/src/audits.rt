@@ -3,18 +3,35 @@
 ghost use Rattle.std.specs.Prelude.{◌≡◌, ◌≢◌, ◌≤◌, ◌<◌, ◌+◌, ◌^◌, ◌∷◌, ◌++◌, [], ℕ, List, true, false, Some, None, MatchOption, IfOk, IfErr, length};
 ghost use Rattle.tr_border.specs.Audits.{HasReadOn, HasReadPiece, IsFound, StopsAtEnd, absent_of, audited_out, fault_code, flaw_given, flaw_out, packet_out};
 ghost use Rattle.tr_border.specs.Codes.{code_number, code_of};
-ghost use Rattle.tr_border.specs.declared.codes.TheConstants.{BAD_UUID, CLOSED, DONE, IN_USE, NO_MEMORY, TOO_MUCH};
+ghost use Rattle.tr_border.specs.declared.codes.TheConstants.{BAD_NAME, BAD_UUID, CLOSED, DONE, IN_USE, NO_MEMORY, TOO_MUCH};
 ghost use Rattle.tr_chunk.specs.Reading.{HasRead, answer_at};
 ghost use Rattle.tr_chunk.specs.declared.audit_fault.AuditFault.{AuditFault};
+ghost use Rattle.tr_survey.specs.Names.{archive_number};
 
 use std::alloc::Global;
-use tr_border::audits::{
-    AuditedOut, FlawOut, MOST, end_of, end_piece, feed_on, flaw_out, has_room,
+use tr_border::audits::{AuditedOut, MOST, end_of, end_piece, feed_on, flaw_out, has_room};
+use tr_border::codes::{
+    BAD_NAME, BAD_UUID, CLOSED, DONE, IN_USE, NO_MEMORY, TOO_MUCH, audit_code,
 };
-use tr_border::codes::{BAD_UUID, CLOSED, DONE, IN_USE, NO_MEMORY, TOO_MUCH, audit_code};
 use tr_border::inputs::uuid_of;
 use tr_chunk::AuditReader;
 use tr_held::AuditCell;
+use tr_survey::archive_number;
+
+/// The number of an archive, by the name of its folder.
+#[unsafe(no_mangle)]
+pub extern "C" fn trc_archive_number(name: &[u8], number: &mut u64) -> u32
+    ensures { MatchOption (archive_number name.now) ((result ≡ BAD_NAME) × (number.new ≡ number.old))
+        (λ n. (result ≡ DONE) × (number.new ≡ n)) }
+{
+    match archive_number(name) {
+        Some(found) => {
+            *number = found;
+            DONE
+        }
+        None => BAD_NAME,
+    }
+}
 
 /// Begins the audit of a stream's files.
 #[unsafe(no_mangle)]
@@ -56,14 +73,14 @@ pub extern "C" fn trc_audit_feed(
     alloc: Global,
     handle: &mut AuditCell,
     bytes: &[u8],
-    flaw: &mut FlawOut,
+    found: &mut AuditedOut,
 ) -> u32
-    ensures closed { handle.old.value ≡ None → (result ≡ CLOSED) × (handle.new.value ≡ None) × (flaw.new ≡ flaw.old) }
+    ensures closed { handle.old.value ≡ None → (result ≡ CLOSED) × (handle.new.value ≡ None) × (found.new ≡ found.old) }
     ensures read { result ≢ TOO_MUCH → MatchOption handle.old.value (result ≡ CLOSED)
         (λ r. MatchOption handle.new.value ⊥ (λ after. HasReadOn bytes.now r after)) }
     ensures answer { result ≢ TOO_MUCH → MatchOption handle.new.value (result ≡ CLOSED)
-        (λ after. (result ≡ code_of fault_code (answer_at after.fault)) × (flaw.new ≡ flaw_given after.fault flaw.old)) }
-    ensures too_much { result ≡ TOO_MUCH → (handle.new.value ≡ handle.old.value) × (flaw.new ≡ flaw.old)
+        (λ after. (result ≡ code_of fault_code (answer_at after.fault)) × (found.new ≡ flaw_given after.fault found.old)) }
+    ensures too_much { result ≡ TOO_MUCH → (handle.new.value ≡ handle.old.value) × (found.new ≡ found.old)
         × MatchOption handle.old.value ⊥ (λ r. 2 ^ 62 ≤ r.bytes + length bytes.now) }
 {
     let Some(mut reader) = handle.take(alloc) else {
@@ -78,7 +95,7 @@ pub extern "C" fn trc_audit_feed(
     match answer {
         Ok(()) => DONE,
         Err(fault) => {
-            *flaw = flaw_out(fault);
+            *found = flaw_out(fault);
             audit_code(fault.cause)
         }
     }
@@ -86,13 +103,13 @@ pub extern "C" fn trc_audit_feed(
 
 /// Ends this file, and begins the next one.
 #[unsafe(no_mangle)]
-pub extern "C" fn trc_audit_next(alloc: Global, handle: &mut AuditCell, flaw: &mut FlawOut) -> u32
-    ensures closed { handle.old.value ≡ None → (result ≡ CLOSED) × (handle.new.value ≡ None) × (flaw.new ≡ flaw.old) }
+pub extern "C" fn trc_audit_next(alloc: Global, handle: &mut AuditCell, found: &mut AuditedOut) -> u32
+    ensures closed { handle.old.value ≡ None → (result ≡ CLOSED) × (handle.new.value ≡ None) × (found.new ≡ found.old) }
     ensures read { result ≢ TOO_MUCH → MatchOption handle.old.value (result ≡ CLOSED)
         (λ r. MatchOption handle.new.value ⊥ (λ after. HasReadPiece r after)) }
     ensures answer { result ≢ TOO_MUCH → MatchOption handle.new.value (result ≡ CLOSED)
-        (λ after. (result ≡ code_of fault_code (answer_at after.fault)) × (flaw.new ≡ flaw_given after.fault flaw.old)) }
-    ensures too_much { result ≡ TOO_MUCH → (handle.new.value ≡ handle.old.value) × (flaw.new ≡ flaw.old)
+        (λ after. (result ≡ code_of fault_code (answer_at after.fault)) × (found.new ≡ flaw_given after.fault found.old)) }
+    ensures too_much { result ≡ TOO_MUCH → (handle.new.value ≡ handle.old.value) × (found.new ≡ found.old)
         × MatchOption handle.old.value ⊥ (λ r. 2 ^ 62 ≤ r.pieces + 1) }
 {
     let Some(mut reader) = handle.take(alloc) else {
@@ -107,7 +124,7 @@ pub extern "C" fn trc_audit_next(alloc: Global, handle: &mut AuditCell, flaw: &m
     match answer {
         Ok(()) => DONE,
         Err(fault) => {
-            *flaw = flaw_out(fault);
+            *found = flaw_out(fault);
             audit_code(fault.cause)
         }
     }
@@ -118,26 +135,24 @@ pub extern "C" fn trc_audit_next(alloc: Global, handle: &mut AuditCell, flaw: &m
 pub extern "C" fn trc_audit_end(
     alloc: Global,
     handle: &mut AuditCell,
-    out: &mut AuditedOut,
-    flaw: &mut FlawOut,
+    found: &mut AuditedOut,
 ) -> u32
     ensures closed { handle.new.value ≡ None }
-    ensures none { handle.old.value ≡ None → (result ≡ CLOSED) × (out.new ≡ out.old) × (flaw.new ≡ flaw.old) }
-    ensures found { result ≡ DONE → MatchOption handle.old.value ⊥ (λ r. IsFound r out.new) }
-    ensures fault { result ≢ DONE → out.new ≡ out.old }
+    ensures none { handle.old.value ≡ None → (result ≡ CLOSED) × (found.new ≡ found.old) }
+    ensures found { result ≡ DONE → MatchOption handle.old.value ⊥ (λ r. IsFound r found.new) }
     ensures why { result ≢ DONE → handle.old.value ≢ None → MatchOption handle.old.value ⊥
-        (λ r. (f : AuditFault) × StopsAtEnd r f × (result ≡ code_number (fault_code f)) × (flaw.new ≡ flaw_out f)) }
+        (λ r. (f : AuditFault) × StopsAtEnd r f × (result ≡ code_number (fault_code f)) × (found.new ≡ flaw_out f)) }
 {
     let Some(reader) = handle.take(alloc) else {
         return CLOSED;
     };
     match end_of(Box::into_inner(reader)) {
         Ok(audited) => {
-            *out = audited;
+            *found = audited;
             DONE
         }
         Err(fault) => {
-            *flaw = flaw_out(fault);
+            *found = flaw_out(fault);
             audit_code(fault.cause)
         }
     }

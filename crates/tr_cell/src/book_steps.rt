@@ -6,7 +6,7 @@ ghost use Rattle.tr_border.specs.Codes.{code_number, code_of, given};
 ghost use Rattle.tr_border.specs.Inputs.{mode_of, schedule_given};
 ghost use Rattle.tr_border.specs.Outs.{cause_out, left_out, number_out, or_zero};
 ghost use Rattle.tr_border.specs.Pairs.{next_answer};
-ghost use Rattle.tr_border.specs.declared.codes.TheConstants.{BAD_MODE, BAD_MOMENT, BAD_NAME, CLOSED, DONE};
+ghost use Rattle.tr_border.specs.declared.codes.TheConstants.{BAD_MODE, BAD_MOMENT, BAD_NAME, CLOSED, DONE, NO_MEMORY};
 ghost use Rattle.tr_schedule.specs.Schedules.{schedule_fault_code};
 ghost use Rattle.tr_session_book.specs.Book.{SessionBookState};
 ghost use Rattle.tr_session_book.specs.BookSteps.{book_add_channel, book_after_schedule, book_after_snapshot_begin, book_clear_answer, book_release_answer, book_schedule_answer, book_snapshot_begin_answer, due_now};
@@ -50,13 +50,13 @@ pub extern "C" fn trc_book_channel(
     ensures closed { handle.old.value ≡ None → result ≡ CLOSED }
     ensures bad_name { handle.old.value ≢ None → is_name name.now ≡ false → result ≡ BAD_NAME }
     ensures bad_mode { handle.old.value ≢ None → is_name name.now ≡ true → mode_of mode ≡ None → result ≡ BAD_MODE }
-    ensures why { result ≢ 116 → is_name name.now ≡ true → (m : Mode) → mode_of mode ≡ Some m
+    ensures why { result ≢ NO_MEMORY → is_name name.now ≡ true → (m : Mode) → mode_of mode ≡ Some m
         → MatchOption handle.old.value (result ≡ CLOSED)
         (λ b. result ≡ code_of session_fault_code (book_add_channel name.now size count m b)) }
     ensures done { result ≡ DONE → (m : Mode) → mode_of mode ≡ Some m → MatchOption handle.old.value ⊥
         (λ b. (after : SessionBookState) × (book_add_channel name.now size count m b ≡ Ok after)
         × (handle.new.value ≡ Some after)) }
-    ensures no_memory { result ≡ 116 → (m : Mode) → mode_of mode ≡ Some m → MatchOption handle.old.value ⊥
+    ensures no_memory { result ≡ NO_MEMORY → (m : Mode) → mode_of mode ≡ Some m → MatchOption handle.old.value ⊥
         (λ b. IsOk (book_add_channel name.now size count m b)) }
     ensures refused { result ≢ DONE → handle.new.value ≡ handle.old.value }
 {

@@ -116,11 +116,11 @@ pub extern "C" fn trc_rotate_begin(
         → (result ≡ CLOSED) × (handle.new.value ≡ None) × (id.new ≡ id.old) }
     ensures moment { LAST_MOMENT < moment → MatchOption handle.old.value (result ≡ CLOSED) (λ _. result ≡ BAD_MOMENT)
         × (handle.new.value ≡ handle.old.value) × (id.new ≡ id.old) }
-    ensures value { moment ≤ LAST_MOMENT → result ≢ 116 → MatchOption handle.old.value (result ≡ CLOSED)
+    ensures value { moment ≤ LAST_MOMENT → result ≢ NO_MEMORY → MatchOption handle.old.value (result ≡ CLOSED)
         (λ b. (result ≡ code_of session_fault_code (book_rotate_begin_answer b))
         × (id.new ≡ given number_out (book_rotate_begin_answer b) id.old)
         × (handle.new.value ≡ Some (book_after_rotate_begin moment b))) }
-    ensures no_memory { result ≡ 116 → (handle.new.value ≡ handle.old.value) × (id.new ≡ id.old)
+    ensures no_memory { result ≡ NO_MEMORY → (handle.new.value ≡ handle.old.value) × (id.new ≡ id.old)
         × MatchOption handle.old.value (result ≡ CLOSED) (λ b. IsOk (book_rotate_begin_answer b)) }
 {
     let Some(mut book) = handle.take(alloc) else {

@@ -4,7 +4,7 @@ ghost use Rattle.std.specs.Prelude.{◌≡◌, ◌≢◌, true, false, Some, Non
 ghost use Rattle.tr_border.specs.Codes.{code_of, given};
 ghost use Rattle.tr_border.specs.Outs.{cleared_out, cut_out, released_out};
 ghost use Rattle.tr_border.specs.Pairs.{after_clear, after_release, after_switch, book_after_cut, clear_answer, cut_answer, release_answer, stream_after_cut, switch_answer, thread_config};
-ghost use Rattle.tr_border.specs.declared.codes.TheConstants.{BAD_NAME, CLOSED, DONE, IN_USE};
+ghost use Rattle.tr_border.specs.declared.codes.TheConstants.{BAD_NAME, CLOSED, DONE, IN_USE, NO_MEMORY};
 ghost use Rattle.tr_session.specs.Faults.{step_fault_code};
 ghost use Rattle.tr_session.specs.Steps.{ClearsPackets, ReleasesPackets};
 ghost use Rattle.tr_session_book.specs.Book.{SessionBookState};
@@ -40,9 +40,9 @@ pub extern "C" fn trc_book_thread(
         × (number.new ≡ length b.threads)) }
     ensures refused { result ≢ DONE → (handle.new.value ≡ handle.old.value) × (stream.new.value ≡ stream.old.value)
         × (number.new ≡ number.old) }
-    ensures why { result ≢ 116 → is_name channel.now ≡ true → stream.old.value ≡ None → MatchOption handle.old.value (result ≡ CLOSED)
+    ensures why { result ≢ NO_MEMORY → is_name channel.now ≡ true → stream.old.value ≡ None → MatchOption handle.old.value (result ≡ CLOSED)
         (λ b. result ≡ code_of session_fault_code (book_add_thread channel.now b)) }
-    ensures no_memory { result ≡ 116 → MatchOption handle.old.value ⊥ (λ b. IsOk (book_add_thread channel.now b)) }
+    ensures no_memory { result ≡ NO_MEMORY → MatchOption handle.old.value ⊥ (λ b. IsOk (book_add_thread channel.now b)) }
 {
     let Some(mut book) = handle.take(alloc) else {
         return CLOSED;
@@ -104,11 +104,11 @@ pub extern "C" fn trc_rotate_cut(
     stream: &mut StreamCell,
     out: &mut CutOut,
 ) -> u32
-    ensures value { result ≢ 402 → MatchOption handle.old.value (result ≡ CLOSED) (λ b. MatchOption stream.old.value (result ≡ CLOSED)
+    ensures value { result ≢ NO_MEMORY → MatchOption handle.old.value (result ≡ CLOSED) (λ b. MatchOption stream.old.value (result ≡ CLOSED)
         (λ s. (result ≡ code_of step_fault_code (cut_answer b s))
         × (out.new ≡ given cut_out (cut_answer b s) out.old)
         × (stream.new.value ≡ Some (stream_after_cut b s)) × (handle.new.value ≡ Some (book_after_cut b s)))) }
-    ensures no_memory { result ≡ 402 → MatchOption handle.old.value ⊥ (λ b. MatchOption stream.old.value ⊥ (λ s. IsOk (cut_answer b s))) }
+    ensures no_memory { result ≡ NO_MEMORY → MatchOption handle.old.value ⊥ (λ b. MatchOption stream.old.value ⊥ (λ s. IsOk (cut_answer b s))) }
     ensures refused { result ≢ DONE → (handle.new.value ≡ handle.old.value) × (stream.new.value ≡ stream.old.value)
         × (out.new ≡ out.old) }
 {
@@ -139,11 +139,11 @@ pub extern "C" fn trc_book_clear(
     stream: &mut StreamCell,
     out: &mut ClearedOut,
 ) -> u32
-    ensures value { result ≢ 116 → MatchOption handle.old.value (result ≡ CLOSED) (λ b. MatchOption stream.old.value (result ≡ CLOSED)
+    ensures value { result ≢ NO_MEMORY → MatchOption handle.old.value (result ≡ CLOSED) (λ b. MatchOption stream.old.value (result ≡ CLOSED)
         (λ s. (result ≡ code_of session_fault_code (clear_answer b s))
         × (out.new ≡ given cleared_out (clear_answer b s) out.old)
         × (stream.new.value ≡ Some (after_clear b s)))) }
-    ensures no_memory { result ≡ 116 → MatchOption handle.old.value ⊥ (λ b. MatchOption stream.old.value ⊥ (λ s. ClearsPackets (clear_answer b s))) }
+    ensures no_memory { result ≡ NO_MEMORY → MatchOption handle.old.value ⊥ (λ b. MatchOption stream.old.value ⊥ (λ s. ClearsPackets (clear_answer b s))) }
     ensures refused { result ≢ DONE → (stream.new.value ≡ stream.old.value) × (out.new ≡ out.old) }
     ensures book { handle.new.value ≡ handle.old.value }
 {
@@ -175,11 +175,11 @@ pub extern "C" fn trc_book_release(
     archive: u64,
     out: &mut ReleasedOut,
 ) -> u32
-    ensures value { result ≢ 116 → MatchOption handle.old.value (result ≡ CLOSED) (λ b. MatchOption stream.old.value (result ≡ CLOSED)
+    ensures value { result ≢ NO_MEMORY → MatchOption handle.old.value (result ≡ CLOSED) (λ b. MatchOption stream.old.value (result ≡ CLOSED)
         (λ s. (result ≡ code_of session_fault_code (release_answer archive b s))
         × (out.new ≡ given released_out (release_answer archive b s) out.old)
         × (stream.new.value ≡ Some (after_release archive b s)))) }
-    ensures no_memory { result ≡ 116 → MatchOption handle.old.value ⊥ (λ b. MatchOption stream.old.value ⊥ (λ s. ReleasesPackets (release_answer archive b s))) }
+    ensures no_memory { result ≡ NO_MEMORY → MatchOption handle.old.value ⊥ (λ b. MatchOption stream.old.value ⊥ (λ s. ReleasesPackets (release_answer archive b s))) }
     ensures refused { result ≢ DONE → (stream.new.value ≡ stream.old.value) × (out.new ≡ out.old) }
     ensures book { handle.new.value ≡ handle.old.value }
 {

@@ -5,7 +5,7 @@ ghost use Rattle.tr_border.specs.Codes.{code_number};
 ghost use Rattle.tr_border.specs.Outs.{shown_out};
 ghost use Rattle.tr_border.specs.Pairs.{look_answer};
 ghost use Rattle.tr_border.specs.Texts.{copied, room_after};
-ghost use Rattle.tr_border.specs.declared.codes.TheConstants.{BAD_MOMENT, CLOSED, DONE, IN_USE};
+ghost use Rattle.tr_border.specs.declared.codes.TheConstants.{BAD_MOMENT, CLOSED, DONE, IN_USE, NO_MEMORY};
 ghost use Rattle.tr_packet.specs.Texts.{packets_text};
 ghost use Rattle.tr_session_book.specs.Faults.{session_fault_code};
 ghost use Rattle.tr_terms.specs.declared.limits.TheConstants.{LAST_MOMENT};
@@ -34,12 +34,12 @@ pub extern "C" fn trc_book_look(
     ensures in_use { handle.old.value ≢ None → stream.old.value ≢ None → snap.old.value ≢ None → result ≡ IN_USE }
     ensures moment { handle.old.value ≢ None → stream.old.value ≢ None → snap.old.value ≡ None → LAST_MOMENT < moment
         → result ≡ BAD_MOMENT }
-    ensures value { snap.old.value ≡ None → moment ≤ LAST_MOMENT → result ≢ 116
+    ensures value { snap.old.value ≡ None → moment ≤ LAST_MOMENT → result ≢ NO_MEMORY
         → MatchOption handle.old.value (result ≡ CLOSED) (λ b. MatchOption stream.old.value (result ≡ CLOSED)
         (λ s. MatchResult (look_answer moment b s)
         (λ shown. (result ≡ DONE) × (snap.new.value ≡ Some shown))
         (λ fault. result ≡ code_number (session_fault_code fault)))) }
-    ensures no_memory { result ≡ 116 → MatchOption handle.old.value ⊥ (λ b. MatchOption stream.old.value ⊥
+    ensures no_memory { result ≡ NO_MEMORY → MatchOption handle.old.value ⊥ (λ b. MatchOption stream.old.value ⊥
         (λ s. IsOk (look_answer moment b s))) }
     ensures refused { result ≢ DONE → snap.new.value ≡ snap.old.value }
     ensures same { (handle.new.value ≡ handle.old.value) × (stream.new.value ≡ stream.old.value) }
@@ -67,10 +67,10 @@ fn look_into(
 ) -> u32
     ensures in_use { snap.old.value ≢ None → result ≡ IN_USE }
     ensures moment { snap.old.value ≡ None → LAST_MOMENT < moment → result ≡ BAD_MOMENT }
-    ensures value { snap.old.value ≡ None → moment ≤ LAST_MOMENT → result ≢ 116 → MatchResult (look_answer moment book.now stream.now)
+    ensures value { snap.old.value ≡ None → moment ≤ LAST_MOMENT → result ≢ NO_MEMORY → MatchResult (look_answer moment book.now stream.now)
         (λ shown. (result ≡ DONE) × (snap.new.value ≡ Some shown))
         (λ fault. result ≡ code_number (session_fault_code fault)) }
-    ensures no_memory { result ≡ 116 → IsOk (look_answer moment book.now stream.now) }
+    ensures no_memory { result ≡ NO_MEMORY → IsOk (look_answer moment book.now stream.now) }
     ensures refused { result ≢ DONE → snap.new.value ≡ snap.old.value }
     ensures open { result ≢ CLOSED }
 {

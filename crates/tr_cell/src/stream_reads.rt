@@ -2,7 +2,7 @@
 
 ghost use Rattle.std.specs.Prelude.{◌≡◌, ◌≢◌, ◌≤◌, ◌+◌, ◌-◌, ◌++◌, min, take, drop, length, List, ℕ, Option, Some, None, Ok, Err, IfOk, IfErr, MatchOption, MatchResult, IsOk};
 ghost use Rattle.tr_book.specs.Parts.{part_at};
-ghost use Rattle.tr_border.specs.Outs.{counts_out, fate_out, part_out};
+ghost use Rattle.tr_border.specs.Outs.{counts_out, fate_out, part_out, sum_out};
 ghost use Rattle.tr_border.specs.Inputs.{config_of};
 ghost use Rattle.tr_border.specs.Texts.{copied, room_after};
 ghost use Rattle.tr_packet.specs.Texts.{packets_text};
@@ -13,7 +13,9 @@ ghost use Rattle.tr_stream.specs.StateSteps.{new_state, state_counts};
 use std::alloc::Global;
 use tr_border::codes::{CLOSED, DONE, IN_USE, NO_MEMORY, NO_PART};
 use tr_border::inputs::config_of;
-use tr_border::outs::{CountsOut, FateOut, PartOut, counts_out, fate_out, part_out};
+use tr_border::outs::{
+    CountsOut, FateOut, PartOut, SumOut, counts_out, fate_out, part_out, sum_out,
+};
 use tr_border::pairs::made;
 use tr_border::texts::copy_from;
 use tr_held::StreamCell;
@@ -33,6 +35,25 @@ pub extern "C" fn trc_stream_counts(
         return CLOSED;
     };
     *out = counts_out(stream.counts());
+    handle.put(stream);
+    DONE
+}
+
+/// Adds the stream's counts to sums.
+#[unsafe(no_mangle)]
+pub extern "C" fn trc_stream_add_counts(
+    alloc: Global,
+    handle: &mut StreamCell,
+    sum: &mut SumOut,
+) -> u32
+    ensures value { MatchOption handle.old.value ((result ≡ CLOSED) × (sum.new ≡ sum.old))
+        (λ s. (result ≡ DONE) × (sum.new ≡ sum_out sum.old (state_counts s))) }
+    ensures same { handle.new.value ≡ handle.old.value }
+{
+    let Some(stream) = handle.take(alloc) else {
+        return CLOSED;
+    };
+    *sum = sum_out(*sum, stream.counts());
     handle.put(stream);
     DONE
 }

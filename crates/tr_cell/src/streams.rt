@@ -4,7 +4,7 @@ ghost use Rattle.std.specs.Option.{option_map};
 ghost use Rattle.std.specs.Prelude.{◌≡◌, ◌≢◌, ◌≤◌, ◌<◌, Some, None, MatchOption, IsOk};
 ghost use Rattle.tr_border.specs.Codes.{code_of, given};
 ghost use Rattle.tr_border.specs.Outs.{cleared_out, cut_out, offered_out, released_out, taken_out};
-ghost use Rattle.tr_border.specs.declared.codes.TheConstants.{BAD_MOMENT, CLOSED, DONE};
+ghost use Rattle.tr_border.specs.declared.codes.TheConstants.{BAD_MOMENT, CLOSED, DONE, NO_MEMORY};
 ghost use Rattle.tr_stream.specs.Calls.{ClearsSome, ReleasesSome};
 ghost use Rattle.tr_stream.specs.Faults.{clear_fault_code, cut_fault_code, offer_fault_code, release_fault_code, take_fault_code};
 ghost use Rattle.tr_stream.specs.StateSteps.{state_after_clear, state_after_cut, state_after_offer, state_after_release, state_after_switch, state_after_take, state_clear_answer, state_cut_answer, state_offer_answer, state_release_answer, state_take_answer};
@@ -77,11 +77,11 @@ pub extern "C" fn trc_stream_offer(
 pub extern "C" fn trc_stream_take(alloc: Global, handle: &mut StreamCell, out: &mut TakenOut) -> u32
     ensures closed { handle.old.value ≡ None
         → (result ≡ CLOSED) × (handle.new.value ≡ None) × (out.new ≡ out.old) }
-    ensures value { result ≢ 303 → MatchOption handle.old.value (result ≡ CLOSED)
+    ensures value { result ≢ NO_MEMORY → MatchOption handle.old.value (result ≡ CLOSED)
         (λ s. (result ≡ code_of take_fault_code (state_take_answer s))
         × (out.new ≡ given taken_out (state_take_answer s) out.old)
         × (handle.new.value ≡ Some (state_after_take s))) }
-    ensures no_memory { result ≡ 303 → (handle.new.value ≡ handle.old.value) × (out.new ≡ out.old)
+    ensures no_memory { result ≡ NO_MEMORY → (handle.new.value ≡ handle.old.value) × (out.new ≡ out.old)
         × MatchOption handle.old.value (result ≡ CLOSED) (λ s. IsOk (state_take_answer s)) }
 {
     let Some(mut stream) = handle.take(alloc) else {
@@ -110,11 +110,11 @@ pub extern "C" fn trc_stream_cut(
         → (result ≡ CLOSED) × (handle.new.value ≡ None) × (out.new ≡ out.old) }
     ensures moment { LAST_MOMENT < moment → MatchOption handle.old.value (result ≡ CLOSED) (λ _. result ≡ BAD_MOMENT)
         × (handle.new.value ≡ handle.old.value) × (out.new ≡ out.old) }
-    ensures value { moment ≤ LAST_MOMENT → result ≢ 402 → MatchOption handle.old.value (result ≡ CLOSED)
+    ensures value { moment ≤ LAST_MOMENT → result ≢ NO_MEMORY → MatchOption handle.old.value (result ≡ CLOSED)
         (λ s. (result ≡ code_of cut_fault_code (state_cut_answer moment s))
         × (out.new ≡ given cut_out (state_cut_answer moment s) out.old)
         × (handle.new.value ≡ Some (state_after_cut moment s))) }
-    ensures no_memory { result ≡ 402 → (handle.new.value ≡ handle.old.value) × (out.new ≡ out.old)
+    ensures no_memory { result ≡ NO_MEMORY → (handle.new.value ≡ handle.old.value) × (out.new ≡ out.old)
         × MatchOption handle.old.value (result ≡ CLOSED) (λ s. IsOk (state_cut_answer moment s)) }
 {
     let Some(mut stream) = handle.take(alloc) else {
@@ -144,11 +144,11 @@ pub extern "C" fn trc_stream_clear(
 ) -> u32
     ensures closed { handle.old.value ≡ None
         → (result ≡ CLOSED) × (handle.new.value ≡ None) × (out.new ≡ out.old) }
-    ensures value { result ≢ 502 → MatchOption handle.old.value (result ≡ CLOSED)
+    ensures value { result ≢ NO_MEMORY → MatchOption handle.old.value (result ≡ CLOSED)
         (λ s. (result ≡ code_of clear_fault_code (state_clear_answer s))
         × (out.new ≡ given cleared_out (state_clear_answer s) out.old)
         × (handle.new.value ≡ Some (state_after_clear s))) }
-    ensures no_memory { result ≡ 502 → (handle.new.value ≡ handle.old.value) × (out.new ≡ out.old)
+    ensures no_memory { result ≡ NO_MEMORY → (handle.new.value ≡ handle.old.value) × (out.new ≡ out.old)
         × MatchOption handle.old.value (result ≡ CLOSED) (λ s. ClearsSome (state_clear_answer s)) }
 {
     let Some(mut stream) = handle.take(alloc) else {
@@ -175,11 +175,11 @@ pub extern "C" fn trc_stream_release(
 ) -> u32
     ensures closed { handle.old.value ≡ None
         → (result ≡ CLOSED) × (handle.new.value ≡ None) × (out.new ≡ out.old) }
-    ensures value { result ≢ 603 → MatchOption handle.old.value (result ≡ CLOSED)
+    ensures value { result ≢ NO_MEMORY → MatchOption handle.old.value (result ≡ CLOSED)
         (λ s. (result ≡ code_of release_fault_code (state_release_answer chunk s))
         × (out.new ≡ given released_out (state_release_answer chunk s) out.old)
         × (handle.new.value ≡ Some (state_after_release chunk s))) }
-    ensures no_memory { result ≡ 603 → (handle.new.value ≡ handle.old.value) × (out.new ≡ out.old)
+    ensures no_memory { result ≡ NO_MEMORY → (handle.new.value ≡ handle.old.value) × (out.new ≡ out.old)
         × MatchOption handle.old.value (result ≡ CLOSED) (λ s. ReleasesSome (state_release_answer chunk s)) }
 {
     let Some(mut stream) = handle.take(alloc) else {

@@ -77,4 +77,5 @@ pub use laws::{
     a_file_is_named_for_its_stream, a_recorded_session_is_whole, a_recorded_stream_has_no_fault,
     an_archive_is_named_for_its_number, metadata_name_their_trace,
 };
+pub use names::archive_number;
 pub use surveying::survey;

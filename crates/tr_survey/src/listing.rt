@@ -95,7 +95,7 @@ fn archive_at<F: Folders>(
     ensures failures { F.failures folders.new ≡ reads_after result (F.failures folders.old) }
     ensures writes { (n : ℕ) → writes_after result n ≡ n }
 {
-    let Some(number) = archive_number(name) else {
+    let Some(number) = archive_number(name.as_bytes()) else {
         return Ok(None);
     };
     let path = path_in(alloc, folder, name)?;

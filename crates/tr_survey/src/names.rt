@@ -43,15 +43,14 @@ fn are_stamps(bytes: &[u8]) -> bool
         .all(|(form, byte)| fits(*form, *byte))
 }
 
-/// The number that ends an archive's name. None if the name is no archive's.
-pub(crate) fn archive_number(name: &str) -> Option<u64>
+/// The number that ends the name of an archive's folder. None if the name is no archive's.
+pub fn archive_number(name: &[u8]) -> Option<u64>
     ensures { result ≡ archive_number name.now }
 {
-    let bytes = name.as_bytes();
-    if bytes.len() < STAMPS {
+    if name.len() < STAMPS {
         return None;
     }
-    let (stamps, number) = bytes.split_at(STAMPS);
+    let (stamps, number) = name.split_at(STAMPS);
     if !are_stamps(stamps) {
         return None;
     }
