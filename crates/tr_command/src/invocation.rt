@@ -95,11 +95,11 @@ fn texts_of<'a>(alloc: Global, strings: &'a [String]) -> Result<Vec<&'a str>, Al
 }
 
 /// The words after the program's name, which comes first.
-pub fn words_behind<'a>(alloc: Global, given: &'a [String]) -> Result<Vec<&'a str>, AllocError>
+pub fn words_after<'a>(alloc: Global, given: &'a [String]) -> Result<Vec<&'a str>, AllocError>
     ensures { IfOk result (λ words. map (λ w. w.now) words.items ≡ words_of given.now) }
 {
     match given {
-        [_, behind @ ..] => texts_of(alloc, behind),
+        [_, words @ ..] => texts_of(alloc, words),
         [] => Ok(Vec::new(alloc)),
     }
 }

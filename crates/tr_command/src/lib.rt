@@ -31,7 +31,7 @@ mod parsing;
 mod requests;
 mod values;
 
-pub use invocation::{Job, collected, job_of, with_program, words_behind};
+pub use invocation::{Job, collected, job_of, with_program, words_after};
 pub use notice::notice_given;
 pub use numbers::number;
 pub use parsing::parse;

@@ -5,7 +5,7 @@ ghost use Rattle.std.specs.Vec.Iter.{into_iter_items};
 ghost use Rattle.tr_command.specs.Invocation.{job_asked, words_of};
 ghost use Rattle.tr_command.specs.Notices.{load_notice, notice_of};
 
-use crate::invocation::{Job, collected, job_of, with_program, words_behind};
+use crate::invocation::{Job, collected, job_of, with_program, words_after};
 use std::alloc::{AllocError, Global};
 use std::env::Args;
 
@@ -60,6 +60,6 @@ pub fn notice_given(alloc: Global, given: Args) -> Result<Option<String>, AllocE
         (λ notice. option_map string_bytes notice ≡ notice_of (job_asked (words_of (into_iter_items given)))) }
 {
     let given = collected(alloc, given)?;
-    let words = words_behind(alloc, given.as_slice())?;
+    let words = words_after(alloc, given.as_slice())?;
     notice_of(alloc, words.as_slice())
 }

@@ -21,7 +21,7 @@ use std::io;
 use std::sync::Wait;
 use std::thread::Threads;
 use std::time::Clock;
-use tr_command::{Job, collected, job_of, with_program, words_behind};
+use tr_command::{Job, collected, job_of, with_program, words_after};
 use tr_console::{Console, run_script};
 use tr_export::{Disk, ExportFault, write_archives};
 use tr_folders::Folders;
@@ -277,7 +277,7 @@ fn run_arguments<
     let Ok(given) = collected(alloc, given) else {
         return tell(Ending::NoMemory, err);
     };
-    match words_behind(alloc, given.as_slice()) {
+    match words_after(alloc, given.as_slice()) {
         Ok(words) => run(
             rt,
             alloc,
