@@ -173,7 +173,7 @@ fn archive(
     }
 }
 
-/// Reads packets from the input, and reads them again in this many rounds.
+/// Reads packets from the input, and reads them again in `rounds` rounds.
 fn read(
     rt: &impl Print,
     alloc: Global,

@@ -188,8 +188,7 @@ impl<A: Allocator> Part<A> {
         }
     }
 
-    /// Writes the packet of this head and these records, of which there are `count`, at the end. If an allocation fails, the
-    /// part is as it was.
+    /// Writes the packet of this head and these `count` records at the end. If an allocation fails, the part is as it was.
     pub(crate) fn push(
         &mut self,
         head: Head,

@@ -87,8 +87,8 @@ impl<A: Allocator> Parts<A> {
         self.closed.len() as u64
     }
 
-    /// Writes the packet of this head and these records, of which there are `count`, at the end of the current part. If an
-    /// allocation fails, all is as it was.
+    /// Writes the packet of this head and these `count` records at the end of the current part. If an allocation fails, all is
+    /// as it was.
     pub fn push(
         &mut self,
         head: Head,

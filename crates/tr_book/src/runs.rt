@@ -100,7 +100,7 @@ impl<A: Allocator> Runs<A> {
         if run.has(serial) { Some(run.seq) } else { None }
     }
 
-    /// Adds the runs of the records of a packet with this number, of which there are `count`, at the end.
+    /// Adds the runs of the `count` records of a packet with this number at the end.
     pub fn push_records(
         &mut self,
         seq: u64,

@@ -123,7 +123,7 @@ stops_next uuid stream texts at f stops =
 
 -- ---- feeds of one piece
 
--- this many of these feeds are read
+-- the first `at` of these feeds are read
 pub record FedUpTo {A : Type 0} (first now : Reading A) (feeds : List (Bor (List ℕ))) (at : ℕ) : Type 0 where
   pub none : now.fault ≡ None
   pub counts : now.bytes ≡ first.bytes + length (bytes_fed (take at feeds))
@@ -180,7 +180,7 @@ answered_none (Some g) e = absurd (cc)
 
 -- ---- pieces of feeds
 
--- this many of these pieces are read
+-- the first `at` of these pieces are read
 pub record ReadUpTo {A : Type 0} (uuid : List ℕ) (stream : ℕ) (now : Reading A) (texts : List (List ℕ)) (at : ℕ) : Type 0 where
   pub none : now.fault ≡ None
   pub read : HasRead uuid stream (take at texts) [] now

@@ -363,7 +363,7 @@ finish_found uuid stream done piece r none free has =
 
 -- ---- a feed
 
--- this many of the bytes of a feed are taken; the first reader has counted them all and taken none
+-- the first `at` bytes of a feed are taken; the first reader has counted them all and taken none
 pub record Fed {A : Type 0} (first now : Reading A) (bytes : List ℕ) (at : ℕ) : Type 0 where
   pub within : at ≤ length bytes
   pub room : now.offset + length now.held + (length bytes - at) ≤ now.bytes

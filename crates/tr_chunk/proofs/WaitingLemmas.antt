@@ -51,7 +51,7 @@ not_short false true c e = cc
 not_short false false true e = cc
 not_short false false false e = cc
 
--- the first fault of more than the fields, of this many bytes
+-- the first fault of these bytes, given that of their fields and whether there are too few
 abbrev behind_fields : List ℕ → Option PacketFault → Bool → Option PacketFault
 behind_fields bytes fields lacks =
     option_or (option_or fields (cond lacks (Some Short) None)) (records_fault (begin_in bytes) (end_in bytes) (entries_at (body_in bytes)))

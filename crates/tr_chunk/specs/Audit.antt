@@ -117,13 +117,13 @@ pub record TakesMemory (uuid : List ℕ) (stream : ℕ) (number serial : Option 
   pub right : packet_cause uuid stream number serial packet ≡ None
   pub absent : gap_before number packet.head.seq ≢ []
 
--- the header and the context at the front are right, and say that the packet has more than this many bytes
+-- the header and the context at the front are right, and say that the packet has more than `room` bytes
 pub record IsLarger (room : ℕ) (bytes : List ℕ) : Type 0 where
   pub fields : fields_fault bytes ≡ None
   pub more : room < packet_bits_in bytes / 8
 
 -- why an audit stops at these bytes: they don't start with a packet, or it is at fault, or else an allocation failed. It has
--- room for packets of this many bytes, and asks for more only at a larger one
+-- room for packets of `room` bytes, and asks for more only at a larger one
 abbrev pub IsCause : ℕ → List ℕ → ℕ → Option ℕ → Option ℕ → AuditCause → List ℕ → Type 0
 IsCause room uuid stream number serial NoMemory bytes = TakesMemory uuid stream number serial bytes ⊎ IsLarger room bytes
 IsCause room uuid stream number serial (Packet f) bytes = first_fault bytes ≡ Some f
@@ -144,8 +144,7 @@ pub record StopsIn (room : ℕ) (uuid : List ℕ) (stream : ℕ) (before : List 
 abbrev pub all_of : List (List Contents) → List Contents
 all_of = flat_map (λ (ps : List Contents). ps)
 
--- the audit, which has room for packets of this many bytes, stops in this piece, and the pieces before it are packets of the
--- stream
+-- an audit that has room for packets of `room` bytes stops in this piece, and the pieces before it are packets of the stream
 pub record StopsAt (room : ℕ) (uuid : List ℕ) (stream : ℕ) (pieces : List (List ℕ)) (fault : AuditFault) : Type 0 where
   pub before : List (List Contents)
   pub bytes : List ℕ

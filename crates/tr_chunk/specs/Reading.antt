@@ -100,7 +100,7 @@ answer_at (Some fault) = Err fault
 abbrev pub with_front : {A : Type 0} → Reading A → StreamAudit A → List ℕ → ℕ → Reading A
 with_front r audit held offset = record r { audit = audit; held = held; offset = offset }
 
--- a step took this many of these bytes
+-- a step took the first `n` of these bytes
 pub record Takes {A : Type 0} (before after : Reading A) (bytes : List ℕ) (n : ℕ) : Type 0 where
   pub some : 0 < n
   pub within : n ≤ length bytes

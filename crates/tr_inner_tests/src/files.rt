@@ -245,7 +245,7 @@ static WRITES: [(u64, Result<(), WriteFault>); 5] = [
     (484, Ok(())),
 ];
 
-/// Asserts what writing a part answers if the sink takes this many bytes.
+/// Asserts what writing a part answers if the sink takes so many `bytes`.
 fn assert_write(rt: &impl Abort, part: &Part, bytes: u64, want: Result<(), WriteFault>) {
     let mut sink = WriterSink::new(FailsAfter::new(bytes));
     assert_same(rt, (bytes, write_held(rt, &mut sink, part)), (bytes, want));

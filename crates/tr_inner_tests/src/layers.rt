@@ -39,7 +39,7 @@ fn assert_record(rt: &impl Abort, record: Option<RecView<'_>>, wanted: (u64, u64
 /// The longest payload is what all others are the front of.
 static PAYLOAD: [u8; 152] = [0x61; 152];
 
-/// A payload of this many bytes.
+/// A payload of `len` bytes.
 fn payload(rt: &impl Abort, len: usize) -> &'static [u8] {
     PAYLOAD.get(..len).expect(rt, "a shorter payload")
 }

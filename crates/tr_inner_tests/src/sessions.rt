@@ -38,9 +38,9 @@ enum Step {
     Stop(Result<(), SessionFault>),
     /// A schedule's period and size.
     Schedule(Option<(u64, Option<u64>)>, Result<(), SessionFault>),
-    /// An offer to a stream, at this moment, of a payload of this many bytes.
+    /// An offer to a stream: its number, the moment, and the payload's bytes.
     Offer((u64, u64, usize), Result<Offered, StepFault>),
-    /// Offers to stream 0 that are accepted, at the moments from the first up to the second, of this many bytes.
+    /// Offers to stream 0 that are accepted: from the first moment up to the second, and how many bytes each payload has.
     Offers(u64, u64, usize),
     Take(u64, Result<Taken, StepFault>),
     /// A whole rotation at this moment.

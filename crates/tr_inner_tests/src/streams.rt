@@ -25,7 +25,7 @@ use uuid::Uuid;
 /// The serial, the moment and the length of a record.
 type Row = (u64, u64, usize);
 
-/// A packet of stream 0 as a test expects it: each of its records has id 7, and a payload of this many bytes, all 97.
+/// A packet of stream 0 as a test expects it: each of its records has id 7, and a payload of bytes that are all 97.
 #[derive(Clone, Copy)]
 struct PacketRow {
     seq: u64,
@@ -41,9 +41,9 @@ enum Step {
     /// From now on the stream takes offers.
     Start,
     Stop,
-    /// An offer at this moment of this many bytes, all 97.
+    /// An offer: its moment, and how many bytes its payload has, all 97.
     Offer(u64, usize, Result<Offered, OfferFault>),
-    /// Offers at the moments from the first up to the second of this many bytes, whatever the answers.
+    /// Offers from the first moment up to the second, each with so many bytes of payload, whatever the answers.
     Offers(u64, u64, usize),
     Take(Result<Taken, TakeFault>),
     /// A cut at this moment.
@@ -193,7 +193,7 @@ fn assert_ring(rt: &impl Abort, stream: &Stream, place: Place, rows: &[Row]) {
     assert_at(rt, place, stream.ring_at(u64::MAX).is_none(), true);
 }
 
-/// Asserts that a record has this serial, this moment, id 7 and a payload of this many bytes, all 97.
+/// Asserts that a record has this serial, this moment, id 7 and a payload of `len` bytes, all 97.
 fn assert_record(rt: &impl Abort, place: Place, record: &RecView<'_>, (serial, at, len): Row) {
     let found = (record.serial(), record.moment().get(), record.id());
     assert_at(rt, place, found, (serial, at, 7));

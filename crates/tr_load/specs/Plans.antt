@@ -17,7 +17,7 @@ load_identifier = 0 ∷ 0 ∷ 0 ∷ 0 ∷ 0 ∷ 0 ∷ 64 ∷ 0 ∷ 128 ∷ 0 ∷
 abbrev pub load_channel : ℕ → ChannelConfig
 load_channel threads = record { name = codes "load"; size = SIZE; count = COUNT; mode = Discard; threads = threads }
 
--- a local session at offset 0 with the one channel, and this many streams
+-- a local session at offset 0 with the one channel, a stream for each thread
 abbrev pub load_session : ℕ → Result (SessionOf StreamState) SessionFault
 load_session threads =
     configure_channels by_state (load_channel threads ∷ []) (new_session load_identifier (pos 0) Local)

@@ -8,6 +8,6 @@ use Rattle.tr_threads.specs.declared.items.Item.{Item}
 abbrev pub item_of : ℕ → ℕ → Item
 item_of t k = record { moment = k; id = k; payload = to_le_bytes w32 t ++ to_le_bytes w32 k }
 
--- the first items, this many, of the feeder of number t
+-- the first `records` items of the feeder of number `t`
 abbrev pub work_of : ℕ → ℕ → List Item
 work_of records t = map (item_of t) (range_with_len 0 records)

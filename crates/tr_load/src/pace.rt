@@ -58,7 +58,7 @@ impl Pace {
     }
 }
 
-/// The paces of this many workers.
+/// The paces of so many workers.
 pub(crate) fn paces(alloc: Global, workers: usize) -> Result<Vec<Pace>, AllocError>
     ensures { IfOk result (λ paces. vec_len paces ≡ workers) }
 {

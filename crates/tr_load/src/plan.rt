@@ -19,8 +19,8 @@ const COUNT: u64 = 2;
 /// The identifier of every load's trace: 00000000-0000-4000-8000-000000000001.
 const IDENTIFIER: [u8; 16] = [0, 0, 0, 0, 0, 0, 64, 0, 128, 0, 0, 0, 0, 0, 0, 1];
 
-/// The plan of a load's session: local, at offset 0, with the channel `load` of this many streams, each with `COUNT` sub-buffers of
-/// `SIZE` bytes, in discard mode, and with this many watchers.
+/// The plan of a load's session: local, at offset 0, with so many watchers and the channel `load`. That has a stream for each
+/// thread, with `COUNT` sub-buffers of `SIZE` bytes, in discard mode.
 ///
 /// # Errors
 ///

@@ -5,7 +5,7 @@ pub trait Progress {
     /// Whether anybody looks.
     fn is_shown(&self) -> bool;
 
-    /// Says that this many records were offered so far.
+    /// Says that `offered` records were offered so far.
     fn show(&self, offered: u128);
 }
 

@@ -94,7 +94,7 @@ fn run<N: Names + Send + Sync, R: Threads + Wait + Clock + Sync, P: Progress + S
 }
 
 /// A load: on a session of its own, started at moment 0, as many feeders as there are `threads` offer `records` records each,
-/// in threads of their own, and this many workers drain them meanwhile, until each has made one more round since the feeders
+/// in threads of their own, and so many `workers` drain them meanwhile, until each has made one more round since the feeders
 /// ended. Then the session is stopped, rotated at the moment that is the number of records, settled, and compared with what
 /// the feeders logged.
 ///

@@ -31,7 +31,7 @@ fn write_load<D: Disk>(
     write_archives(alloc, disk, dir, &name, session)
 }
 
-/// Puts what is said of a load of this many threads to an output, and then writes the archives of its session below a folder, if
+/// Puts what is said of a load of `threads` threads to an output, and then writes the archives of its session below a folder if
 /// one is named: `DIR/load/archives/NAME`. So it does whether the load's logs agree or not.
 ///
 /// # Errors

@@ -73,7 +73,7 @@ pub fn progress_text(alloc: Global, offered: u128) -> Result<String, AllocError>
     Ok(text)
 }
 
-/// What is said of a load of this many threads, each line with its line feed: how many threads there were and where the records
+/// What is said of a load of `threads` threads, each line with its line feed: how many threads there were and where the records
 /// are, a line for each number, what a watcher learned, if there was one, and `reconciled`; or one line with the mismatch.
 ///
 /// # Errors

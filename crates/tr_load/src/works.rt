@@ -25,7 +25,7 @@ fn load_item(alloc: Global, t: u32, k: u32) -> Result<Item, AllocError>
     })
 }
 
-/// The work of the feeder of number `t`: this many items, each with 8 bytes of payload.
+/// The work of the feeder of number `t`: `records` items, each with 8 bytes of payload.
 ///
 /// # Errors
 ///
@@ -41,7 +41,7 @@ pub fn load_work(alloc: Global, t: u32, records: u64) -> Result<Vec<Item>, Alloc
     Ok(items)
 }
 
-/// The work of each feeder, in order of number: this many items each.
+/// The work of each feeder, in order of number: `records` items each.
 pub(crate) fn load_works(
     alloc: Global,
     threads: usize,

@@ -47,7 +47,7 @@ fn session_of(rt: &impl Abort, alloc: Global) -> Session {
     session
 }
 
-/// A session with this many threads of the channel, started at moment 0.
+/// A session with `threads` threads of the channel, started at moment 0.
 fn started(rt: &impl Abort, alloc: Global, threads: u64) -> Session {
     let mut session = session_of(rt, alloc);
     for _ in 0..threads {

@@ -77,7 +77,7 @@ type Case = (
     u64,
 );
 
-/// Asserts that a script, read and written in pieces of this size, has this answer, with this many refused lines.
+/// Asserts that a script, read and written in pieces of this size, has this answer and so many refused lines.
 fn assert_in_pieces(
     rt: &impl Abort,
     alloc: Global,
@@ -96,7 +96,7 @@ fn assert_in_pieces(
     );
 }
 
-/// Asserts that a script has this answer, with this many refused lines, whatever pieces it is read and written in.
+/// Asserts that a script has this answer and so many refused lines, whatever pieces it is read and written in.
 fn assert_answered(
     rt: &impl Abort,
     alloc: Global,

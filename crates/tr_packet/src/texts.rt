@@ -68,8 +68,7 @@ impl<A: Allocator> PacketTexts<A> {
         self.bytes.as_slice()
     }
 
-    /// Writes the packet of this head and these records, of which there are `count`, after the others. If an allocation
-    /// fails, all is as it was.
+    /// Writes the packet of this head and these `count` records after the others. If an allocation fails, all is as it was.
     pub fn push(
         &mut self,
         head: Head,

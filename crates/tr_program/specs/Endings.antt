@@ -70,7 +70,7 @@ abbrev pub ending_of_told : Result Report Mismatch → Result (Unit {0}) ExportF
 ending_of_told outcome (Ok done) = ending_of_outcome outcome
 ending_of_told outcome (Err fault) = ending_of_export fault
 
--- an audit that came to its end: the folder can't be read, or has no session, or there are this many faults
+-- an audit that came to its end: the folder can't be read, or has no session, or there are so many faults
 abbrev pub ending_of_audit : Surveyed → Ending
 ending_of_audit surveyed.Unlisted = ReadOrWrite
 ending_of_audit surveyed.NoSession = NoSession

@@ -79,7 +79,7 @@ fn end_script<S: ByteSource, K: ByteSink, D: Disk>(
     Ending::of_refused(done.refused)
 }
 
-/// Says what a load of this many threads came to, and writes its archives.
+/// Says what a load of `threads` threads came to, and writes its archives.
 fn end_load<K: ByteSink, D: Disk>(
     alloc: Global,
     out: &mut K,

@@ -12,7 +12,7 @@ use tr_load::{LoadFault, Loaded, NoProgress, load, load_work, outcome_text};
 use tr_pool::{Items, Log, Mismatch, PoolError, Report, reconcile};
 use tr_terms::limits::{MOST_FEEDERS, MOST_RECORDS, MOST_WORKERS};
 
-/// A load of this many threads with this many records each, and this many workers.
+/// A load of `threads` threads with `records` records each, and of so many workers.
 fn loaded<R: Threads + Wait + Clock + Abort + Sync>(
     rt: &R,
     alloc: Global,
@@ -52,7 +52,7 @@ fn a_worker_takes_while_records_are_offered(rt: HostRuntime) {
     assert_same(&rt, told, Some(100_000));
 }
 
-/// The log of a feeder that offered this many records of a load, the second of them with this id.
+/// The log of a feeder that offered `records` records of a load, the second of them with this id.
 fn log_with(rt: &impl Abort, alloc: Global, records: u64, id: u32) -> Vec<Log> {
     assert!(rt; records <= MOST_RECORDS);
     let mut items = load_work(alloc, 0, records).expect(rt, "memory");

@@ -80,7 +80,7 @@ fn assert_whole(rt: &impl Abort, disk: &MemoryDisk, whole: &MemoryDisk) {
     assert_same(rt, (is_broken, count), (false, wanted));
 }
 
-/// Writes archives with this many requests granted, and once more with memory. How many items were made at first, if a request
+/// Writes archives with so many requests granted, and once more with memory. How many items were made at first, if a request
 /// was refused.
 fn write_rationed(
     rt: &impl Abort,

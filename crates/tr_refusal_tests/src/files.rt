@@ -167,7 +167,7 @@ fn metadata<A: Allocator>(alloc: A, plain: Global) -> Told {
 /// More bytes than any test feeds.
 const MANY: u64 = 1 << 32;
 
-/// Feeds bytes, of which there are few.
+/// Feeds a few bytes.
 pub(crate) fn feed<A: Allocator>(
     rt: &impl Abort,
     reader: &mut AuditReader<A>,
@@ -178,7 +178,7 @@ pub(crate) fn feed<A: Allocator>(
     reader.feed(bytes)
 }
 
-/// Begins the next piece, of which there are few.
+/// Begins the next of a few pieces.
 fn next_piece<A: Allocator>(
     rt: &impl Abort,
     reader: &mut AuditReader<A>,

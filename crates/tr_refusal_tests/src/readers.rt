@@ -11,7 +11,7 @@ use tr_terms::limits::{LARGEST_PACKET, SMALLEST_PACKET};
 use tr_testing::{Rationed, moment};
 use uuid::Uuid;
 
-/// The packet of this number, with one record, that has this many bytes.
+/// The packet of this number, of `bytes` bytes, with one record.
 fn packet(rt: &impl Abort, alloc: Global, number: u64, bytes: usize) -> Vec<u8> {
     assert!(rt; SMALLEST_PACKET <= bytes && bytes <= LARGEST_PACKET);
     let payload = vec![in alloc; 0x61; bytes - SMALLEST_PACKET].expect(rt, "memory");
@@ -29,7 +29,7 @@ fn packet(rt: &impl Abort, alloc: Global, number: u64, bytes: usize) -> Vec<u8> 
     encode_packet(alloc, &packet).expect(rt, "memory")
 }
 
-/// A file of two packets: one of 105 bytes, and one of this many.
+/// A file of two packets: one of 105 bytes, and one of `bytes` bytes.
 fn file(rt: &impl Abort, alloc: Global, bytes: usize) -> Vec<u8> {
     let mut file = packet(rt, alloc, 0, 105);
     let second = packet(rt, alloc, 1, bytes);

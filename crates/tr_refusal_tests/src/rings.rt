@@ -17,7 +17,7 @@ enum What {
     Stream,
 }
 
-/// A ring or a stream to be made, with this many sub-buffers of 256 bytes.
+/// A ring or a stream to be made, with `count` sub-buffers of 256 bytes.
 #[derive(Clone, Copy)]
 struct Row {
     what: What,

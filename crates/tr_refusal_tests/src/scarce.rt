@@ -18,7 +18,7 @@ pub(crate) fn small_heap(rt: &impl Abort, plain: Global) -> LocalHeap {
     LocalHeap::new(plain, 65_536).expect(rt, "a heap")
 }
 
-/// Blocks that fill a heap but for this many bytes, which lie in one piece, until they are dropped.
+/// Blocks that fill a heap, until they are dropped, but for `bytes` bytes in one piece.
 pub(crate) fn fill_all_but<'h>(
     rt: &impl Abort,
     plain: Global,

@@ -128,7 +128,7 @@ fn add_channel<A: Allocator + Copy>(
     session.add_channel(&name, 256, 4, mode)
 }
 
-/// Adds this many threads.
+/// Adds `count` threads.
 fn add_threads<A: Allocator + Copy>(
     rt: &impl Abort,
     session: &mut Session<A>,
@@ -140,7 +140,7 @@ fn add_threads<A: Allocator + Copy>(
     }
 }
 
-/// Offers this many records.
+/// Offers `count` records.
 fn make_offers<A: Allocator + Copy>(rt: &impl Abort, session: &mut Session<A>, i: u64, count: u64) {
     for at in 1..=count {
         session

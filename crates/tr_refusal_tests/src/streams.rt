@@ -139,7 +139,7 @@ pub(crate) fn offer_many<A: Allocator + Copy>(stream: &mut Stream<A>, count: u64
     }
 }
 
-/// Makes this many pairs of offers.
+/// Makes `count` pairs of offers.
 fn offer_pairs<A: Allocator + Copy>(stream: &mut Stream<A>, count: u64) {
     for at in 1..=count {
         let _ = stream.offer(moment(at), 7, &[0x61; 152]);
@@ -147,14 +147,14 @@ fn offer_pairs<A: Allocator + Copy>(stream: &mut Stream<A>, count: u64) {
     }
 }
 
-/// Takes this many packets.
+/// Takes `count` packets.
 fn take_many<A: Allocator + Copy>(rt: &impl Abort, stream: &mut Stream<A>, count: u64) {
     for _ in 0..count {
         stream.take().expect(rt, "a packet");
     }
 }
 
-/// Makes this many cuts, each of a ring of one record.
+/// Makes `count` cuts, each of a ring of one record.
 fn cut_many<A: Allocator + Copy>(rt: &impl Abort, stream: &mut Stream<A>, count: u64) {
     for _ in 0..count {
         offer_many(stream, 1);
@@ -162,7 +162,7 @@ fn cut_many<A: Allocator + Copy>(rt: &impl Abort, stream: &mut Stream<A>, count:
     }
 }
 
-/// Makes this many clears, each of a ring of one record.
+/// Makes `count` clears, each of a ring of one record.
 fn clear_many<A: Allocator + Copy>(rt: &impl Abort, stream: &mut Stream<A>, count: u64) {
     for _ in 0..count {
         offer_many(stream, 1);
@@ -184,7 +184,7 @@ fn prepare<A: Allocator + Copy>(rt: &impl Abort, stream: &mut Stream<A>, before:
     }
 }
 
-/// Makes a stream whose ring has this many sub-buffers of 256 bytes.
+/// Makes a stream whose ring has `count` sub-buffers of 256 bytes.
 pub(crate) fn try_stream<A: Allocator + Copy>(
     rt: &impl Abort,
     alloc: A,

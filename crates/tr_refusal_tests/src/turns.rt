@@ -63,8 +63,8 @@ pub(crate) trait Call<A: Allocator + Copy> {
     }
 }
 
-/// Makes a call with this many free bytes, asserts that what stands after it is what its answer says, and makes it again with
-/// memory if it was refused. Its first answer.
+/// Makes a call with `bytes` free bytes, asserts that what it leaves is what its answer says, and makes it again with memory if
+/// it was refused. Its first answer.
 fn make_with<'h, C: Call<&'h LocalHeap>>(
     rt: &impl Abort,
     plain: Global,

@@ -64,7 +64,7 @@ offer-totals moment id payload s offered is = go (refusal_of (length payload) s)
         let after : state_after_offer moment id payload s ≡ state_with_offer e s = cc in
         ap totals_in after ∙ pushed-totals e s ∙ ap (λ (o : Offered). totals_after_offer o (totals_in s)) (sym same)
 
--- a sound stream's counts are at most its offers, of which there are at most 2^62
+-- a sound stream's counts are at most its offers, and those at most 2^62
 pub record AreFew (t : Totals) : Type 0 where
   pub offered : t.offered ≤ 2 ^ 62
   pub discarded : t.discarded ≤ 2 ^ 62

@@ -69,7 +69,7 @@ taken_of drainers i = sum_by (λ (d : DrainerState). slice_index d.amounts i) dr
 abbrev pub IsOneEach : ℕ → List ProducerState → Type 0
 IsOneEach n producers = (i : ℕ) → i < n → count_by (λ (p : ProducerState). p.number == i) producers ≡ 1
 
--- each stream has made this many seats beside the first
+-- each stream has made `made` seats beside the first
 abbrev pub AreAllMade : ℕ → List SlotState → Type 0
 AreAllMade made slots = All (λ (s : SlotState). s.made ≡ made) slots
 

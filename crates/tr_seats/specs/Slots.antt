@@ -127,7 +127,7 @@ slot_after_split i slot =
     then (if nat_le MOST_DRAINERS slot.made then slot else record slot { made = slot.made + 1 })
     else slot
 
--- a seat of each of these tables, in each of which this many are joined
+-- a seat of each of these tables, each joined from `mark` seats
 abbrev pub AreJoined : ℕ → List TableId → List SeatState → Type 0
 AreJoined mark tables seats =
     (map (λ (s : SeatState). s.table) seats ≡ tables) × All (λ (s : SeatState). s.mark ≡ mark) seats

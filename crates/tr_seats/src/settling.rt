@@ -81,7 +81,7 @@ fn has_one_each<N: Names, A: Allocator>(producers: &[Producer<N, A>], streams: u
     true
 }
 
-/// Whether each stream made this many seats beside the first.
+/// Whether each stream made `made` seats beside the first.
 fn have_all_made<N: Names, A: Allocator>(slots: &[Slot<N, A>], made: u64) -> bool
     ensures { IsTrue result ↔ AreAllMade made slots.now }
 {

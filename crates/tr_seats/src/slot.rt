@@ -123,9 +123,9 @@ impl<N: Names, A: Allocator + Copy> Slot<N, A> {
         Ok(offered)
     }
 
-    /// Takes a packet as the stream does, raises the drainer's seat of this stream by the packet's records, of which there is
-    /// at least one, and notes the packet in its name. A take from another stream than that of number `i` is `Misplaced`. A
-    /// take that is refused changes nothing, and isn't noted.
+    /// Takes a packet as the stream does, raises the drainer's seat of this stream by the packet's records (at least one), and
+    /// notes the packet in its name. A take from another stream than that of number `i` is `Misplaced`. A take that is refused
+    /// changes nothing, and isn't noted.
     pub fn take(&mut self, drainer: &mut Drainer<N, A>, i: usize) -> Result<Taken, TakeFault>
         ensures value { result ≢ Err TakeFault.NoMemory →
             (result ≡ slot_take_answer i self.old) × (self.new ≡ slot_after_take i self.old) }

@@ -70,7 +70,7 @@ next-cleared n s allowed as_many within =
     ∙ ap (λ (ts : List StreamState). (let t : SessionOf StreamState = record { book = s.book; streams = ts } in t))
     (changed-next state_after_clear n s.streams within)
 
--- this many clears, one after another
+-- `n` clears, one after another
 pub clears-are : (s : SessionOf StreamState) → book_clear_answer s.book ≡ Ok tt → length s.streams ≡ length s.book.threads
     → (n : ℕ) → n ≤ length s.streams → clear_first by_state n s ≡ with_first_cleared by_state n s
 clears-are s allowed as_many zero within = refl
@@ -96,7 +96,7 @@ clears-can s is local allowed (suc n) within =
 
 -- ---- the loop over the streams
 
--- the first streams are cleared, and had this many records
+-- the first `n` streams are cleared, and had `records` records
 pub record ClearsSo (n : ℕ) (s now : SessionOf StreamState) (records : ℕ) : Type 0 where
   pub is : now ≡ with_first_cleared by_state n s
   pub answer : clear_first_answer by_state n s ≡ Ok records

@@ -13,7 +13,7 @@ use Rattle.tr_stream.specs.Rules.{by_state}
 use Rattle.tr_stream.specs.State.{StreamState}
 use Rattle.tr_stream.specs.StateSteps.{state_after_cut}
 
--- a book whose pending rotation makes this archive, and has cut this many streams
+-- a book whose pending rotation makes this archive, and has cut `n` streams
 abbrev cutting : SessionBookState → Archive → ℕ → SessionBookState
 cutting b a n = record b { pending = Some (record { archive = a; cut = n }) }
 
@@ -24,7 +24,7 @@ next-due b a n within =
     let same : nat_lt n n ≡ false = grind (arith, nat_tests) in
     rw (here, same) refl
 
--- this many cuts, one after another
+-- `n` cuts, one after another
 cuts-are : (b : SessionBookState) (a : Archive) (ts : List StreamState) → length ts ≡ length b.threads → (n : ℕ) → n ≤ length ts
     → cut_first by_state n (record { book = cutting b a 0; streams = ts })
     ≡ record { book = cutting b a n; streams = changed_before n (state_after_cut a.end) ts }

@@ -240,7 +240,7 @@ session_next_answer rules s = next_in rules s.book.pending s
 abbrev pub session_after_next : {S : Type 0} → StreamRules S → SessionOf S → SessionOf S
 session_after_next rules s = option_map_or (λ (p : Pending). session_after_cut rules p.cut s) s.book.pending s
 
--- the first streams, this many, are cut one after another
+-- the first `n` streams are cut, one after another
 abbrev pub cut_first : {S : Type 0} → StreamRules S → ℕ → SessionOf S → SessionOf S
 cut_first rules zero s = s
 cut_first rules (suc n) s = session_after_cut rules n (cut_first rules n s)
@@ -282,7 +282,7 @@ IsHeldUp rules moment s t = (t ≡ s) ⊎ IsCutSome rules (session_after_rotate_
 
 -- ---- clears
 
--- the first streams, this many, are cleared one after another
+-- the first `n` streams are cleared, one after another
 abbrev pub clear_first : {S : Type 0} → StreamRules S → ℕ → SessionOf S → SessionOf S
 clear_first rules zero s = s
 clear_first rules (suc n) s = session_after_clear rules n (clear_first rules n s)
@@ -316,7 +316,7 @@ records_cleared (Err fault) = 0
 abbrev pub cleared_in_all : {S : Type 0} → StreamRules S → SessionOf S → ℕ
 cleared_in_all rules s = sum_by (λ t. records_cleared (rules.clear_answer t)) s.streams
 
--- the first streams, this many, are cleared, and the others are as they were
+-- the first `n` streams are cleared, and the others are as they were
 abbrev pub with_first_cleared : {S : Type 0} → StreamRules S → ℕ → SessionOf S → SessionOf S
 with_first_cleared rules n s = record s { streams = map rules.after_clear (take n s.streams) ++ drop n s.streams }
 
@@ -345,7 +345,7 @@ abbrev pub session_after_release_all : {S : Type 0} → StreamRules S → ℕ �
 session_after_release_all rules k s =
     unless_refused (book_release_answer k s.book) (record s { streams = map (rules.after_release k) s.streams }) s
 
--- the first streams, this many, have released their parts, and the others are as they were
+-- the first `n` streams have released their parts, and the others are as they were
 abbrev pub with_first_released : {S : Type 0} → StreamRules S → ℕ → ℕ → SessionOf S → SessionOf S
 with_first_released rules k n s =
     record s { streams = map (rules.after_release k) (take n s.streams) ++ drop n s.streams }

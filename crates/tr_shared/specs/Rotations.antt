@@ -17,7 +17,7 @@ cut_slot i None s = s
 cut_slot i (Some slot) s =
     opened_state (desk_after_cut (desk_cut_answer i s.desk slot) i s.desk) (slice_set s.slots i (slot_after_cut i s.desk slot))
 
--- the first slots, this many, are cut one after another
+-- the first `n` slots are cut, one after another
 abbrev pub cut_slots : ℕ → OpenedState → OpenedState
 cut_slots zero s = s
 cut_slots (suc n) s = cut_slot n (slice_get (cut_slots n s).slots n) (cut_slots n s)

@@ -17,7 +17,7 @@ use tr_stream::{Fate, Payload};
 use tr_terms::{Mode, SessionMode};
 use tr_testing::moment;
 
-/// A plan of this many streams, each with two sub-buffers of this many bytes, in discard mode.
+/// A plan of `threads` streams, each with two sub-buffers of `size` bytes, in discard mode.
 fn plan_of(rt: &impl Abort, alloc: Global, size: u64, threads: u64) -> Plan {
     plan_with(rt, alloc, SessionMode::Local, Mode::Discard, size, threads).expect(rt, "a plan")
 }

@@ -64,7 +64,7 @@ fn config_with(
     }
 }
 
-/// What planning a session answers: one channel `c` with this many threads, of two sub-buffers of this many bytes each.
+/// What planning a session answers: one channel `c` with `threads` threads, of two sub-buffers of `size` bytes each.
 pub(crate) fn plan_with(
     rt: &impl Abort,
     alloc: Global,
@@ -82,7 +82,7 @@ pub(crate) fn plan_of_watched(rt: &impl Abort, alloc: Global, watchers: usize) -
     plan_watched(alloc, &config, watchers).expect(rt, "a plan")
 }
 
-/// A plan of this many streams with two sub-buffers of 256 bytes each.
+/// A plan of `threads` streams with two sub-buffers of 256 bytes each.
 pub(crate) fn plan_of(rt: &impl Abort, alloc: Global, mode: Mode, threads: u64) -> Plan {
     plan_with(rt, alloc, SessionMode::Local, mode, 256, threads).expect(rt, "a plan")
 }

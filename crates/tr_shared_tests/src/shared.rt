@@ -56,7 +56,7 @@ fn assert_stopped<N: Names>(
     assert_same(rt, shared.stop(rt), want);
 }
 
-/// Asserts what an offer of this many bytes at a moment answers.
+/// Asserts what an offer of `len` bytes at a moment answers.
 fn assert_offered<N: Names>(
     rt: &(impl Abort + Wait),
     shared: &Shared<N>,

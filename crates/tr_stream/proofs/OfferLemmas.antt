@@ -24,7 +24,7 @@ use Rattle.tr_subbuf.specs.SubBuffer.{has_room}
 use Rattle.tr_ring.specs.Ring.{push_answer}
 use Rattle.tr_terms.specs.declared.limits.TheConstants.{PACKET_HEADER, SMALLEST_PACKET}
 
--- an offer of this many bytes that is accepted
+-- an offer of `len` bytes that is accepted
 pub record IsAccepted (s : StreamState) (len : ℕ) : Type 0 where
   pub active : s.active ≡ true
   pub small : len ≤ s.config.geometry.size - SMALLEST_PACKET

@@ -39,7 +39,7 @@ use Rattle.tr_terms.specs.declared.limits.TheConstants.{MOST_OFFERS, SMALLEST_PA
 abbrev pub state_entry : ℕ → ℕ → List ℕ → StreamState → Entry
 state_entry moment id payload s = entry s.counters.offered (max moment s.counters.last) id payload
 
--- why an offer of this many bytes is refused: the first of these that applies
+-- why an offer of `len` bytes is refused: the first of these that applies
 abbrev pub refusal_of : ℕ → StreamState → Option OfferFault
 refusal_of len s =
     if not s.active then Some Inactive

@@ -213,7 +213,7 @@ impl Tally {
         }
     }
 
-    /// The counts after a packet of an archive, which has this many bytes.
+    /// The counts after a packet of an archive, which has `size` bytes.
     pub(crate) fn after(&self, archive: &Numbered, packet: &PacketView<'_>, size: usize) -> Tally
         requires { size ≡ packet_size packet.now }
         ensures { (uuid : List ℕ) (stream : ℕ) → result ≡ tally_after (place uuid stream (key_of archive.now)) self.now packet.now }

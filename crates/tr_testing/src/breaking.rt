@@ -2,7 +2,7 @@
 
 use tr_record::{ByteSink, ByteSource, Failed};
 
-/// Gives bytes one at a time, then a line of this many bytes, and then fails.
+/// Gives bytes one at a time, then a line of `line` bytes, and then fails.
 #[derive(Drop)]
 pub struct Breaking<'a> {
     /// The bytes that are left.

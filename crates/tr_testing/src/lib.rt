@@ -12,7 +12,7 @@ pub use full::fill;
 pub use rationed::Rationed;
 use tr_terms::Moment;
 
-/// The moment of this many nanoseconds, and zero if that is beyond the limit.
+/// The moment of so many nanoseconds, and zero if that is beyond the limit.
 pub fn moment(nanoseconds: u64) -> Moment {
     Moment::new(nanoseconds).unwrap_or(Moment::zero())
 }

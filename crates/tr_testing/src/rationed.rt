@@ -50,7 +50,7 @@ impl Rationed {
         }
     }
 
-    /// Grants this many requests from now on, and refuses all later ones.
+    /// Grants so many requests from now on, and refuses all later ones.
     pub fn limit(&self, requests: u64) {
         self.ration.left.set(Some(requests));
         self.ration.refused.set(0);

@@ -82,7 +82,7 @@ kept_aside P Q (Producer s) (Drainer u) (inr did) = absurd did
 kept_aside P Q (Drainer u) (Producer s) (inr did) = absurd did
 kept_aside P Q (Drainer u) (Drainer v) (inr did) = inr did
 
--- what comes back of a row of both sides, of which this many are feeders'
+-- what comes back of a row of both sides: the first `n` are the feeders'
 pub all_aside : {S U : Type 0} (P : ℕ → S → S → Type 0) (E : ℕ → U → U → Type 0) (n : ℕ) (xs : List S) (ys : List U) (line back : List (Side S U))
     → line ≡ map Producer xs ++ map Drainer ys → length xs ≡ n
     → EachCame (λ (i : ℕ). DidAside (P i) (E (i - n))) line back

@@ -14,7 +14,7 @@ use std::alloc::Global;
 use std::sync::Wait;
 use std::thread::Threads;
 
-/// The work of this many workers on a target, by a gate.
+/// The work of so many workers on a target, by a gate.
 #[derive(Drop)]
 pub(crate) struct Draining<'a, T: Target, G: Gate> {
     pub(crate) target: &'a T,

@@ -15,7 +15,7 @@ use Rattle.tr_stream.specs.Rules.{StreamRules}
 use Rattle.tr_terms.specs.declared.session_mode.SessionMode.TheVariants.{Local, Snapshot}
 use Rattle.tr_terms.specs.declared.session_mode.SessionMode.{SessionMode}
 
--- a number, right-aligned in this many places; a longer one takes the places that it needs
+-- a number, right-aligned in so many `places`; a longer one takes the places that it needs
 abbrev pub right_aligned : ℕ → ℕ → Text
 right_aligned places n = replicate (places - length (decimal n)) 32 ++ decimal n
 

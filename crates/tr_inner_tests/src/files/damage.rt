@@ -77,7 +77,7 @@ fn assert_wanted(
     assert_told(rt, alloc, case, &[bytes], &told);
 }
 
-/// For each length from the first number up to the second, what the audit of this many bytes of the file is to say.
+/// For each length from the first number up to the second, what the audit of so many bytes of the file is to say.
 static CUTS: [(usize, usize, Want); 4] = [
     (0, 1, Want::Nothing),
     (1, 228, Want::Fault(0, Packet(Short))),

@@ -14,14 +14,14 @@ use uuid::Uuid;
 /// More bytes than any test feeds.
 const MANY: u64 = 1 << 32;
 
-/// Feeds bytes, of which there are few.
+/// Feeds a few bytes.
 fn feed(rt: &impl Abort, reader: &mut AuditReader, bytes: &[u8]) -> Result<(), AuditFault> {
     assert!(rt; reader.bytes() < MANY);
     assert!(rt; (bytes.len() as u64) < MANY);
     reader.feed(bytes)
 }
 
-/// Begins the next piece, of which there are few.
+/// Begins the next of a few pieces.
 fn next_piece(rt: &impl Abort, reader: &mut AuditReader) -> Result<(), AuditFault> {
     assert!(rt; reader.pieces() < MANY);
     reader.next_piece()

@@ -6,7 +6,7 @@ use std::process::Abort;
 use tr_ring::{ClosedSubBuf, Pushed, Ring};
 use tr_testing::moment;
 
-/// A ring of this many sub-buffers of 256 bytes.
+/// A ring of `count` sub-buffers of 256 bytes.
 fn ring(rt: &impl Abort, alloc: Global, count: usize, overwrite: bool) -> Ring {
     assert!(rt; 2 <= count);
     let ring = Ring::new(alloc, 256, count, overwrite).expect(rt, "memory");
@@ -139,7 +139,7 @@ fn assert_in_front(rt: &impl Abort, ring: &Ring, place: usize, serial: u64, len:
     assert_front_record(rt, ring, place, wanted);
 }
 
-/// Makes the steps of a ring with this many sub-buffers.
+/// Makes the steps of a ring with `count` sub-buffers.
 fn make_steps(rt: &impl Abort, alloc: Global, count: usize, overwrite: bool, steps: &[Step]) {
     let mut ring = ring(rt, alloc, count, overwrite);
     for step in steps {

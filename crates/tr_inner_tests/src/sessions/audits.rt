@@ -12,7 +12,7 @@ use tr_terms::{Geometry, Mode, SessionMode};
 use tr_testing::moment;
 use uuid::Uuid;
 
-/// Offers are made at the moments from the first number up to the second, each of this many bytes.
+/// Offers at the moments from the first number up to the second; the third is how many bytes each payload has.
 type Offers = (u64, u64, usize);
 
 /// Makes an offer to a stream, whatever the answer.

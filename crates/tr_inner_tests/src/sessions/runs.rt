@@ -124,7 +124,7 @@ fn assert_answer(rt: &impl Abort, place: Place, answer: &Answer, call: &Call) {
     }
 }
 
-/// Runs a session of this many streams over these calls, and asserts what each answers.
+/// Runs a session of `threads` streams over these calls, and asserts what each answers.
 fn run(
     rt: &impl Abort,
     alloc: Global,
@@ -201,7 +201,7 @@ static BEHIND: [Step; 3] = [
     Step::Fate(1, 2, Ok(Some(Fate::InChunk { chunk: 0, seq: 1 }))),
 ];
 
-/// Runs this many calls of that rotation, and asserts the fates.
+/// Runs the first `len` calls of that rotation, and asserts the fates.
 fn assert_fates(rt: &impl Abort, alloc: Global, len: usize, calls: &[Call], fates: &[Step]) {
     let calls = calls.get(..len).expect(rt, "more calls");
     let mut session = run(rt, alloc, LOCAL, 2, calls);
@@ -232,7 +232,7 @@ static ENDED: [Call; 13] = [
     Stop(1, Ok(())),
 ];
 
-/// Runs this many calls of that, and asserts that one stream is cut.
+/// Runs the first `len` of these calls, and asserts that one stream is cut.
 fn assert_pending(rt: &impl Abort, alloc: Global, len: usize, calls: &[Call]) {
     let calls = calls.get(..len).expect(rt, "more calls");
     let session = run(rt, alloc, LOCAL, 2, calls);

@@ -11,7 +11,7 @@ use tr_export::{Disk, ExportFault};
 use tr_record::{ByteSink, Failed};
 use tr_session::Session;
 
-/// A file that takes this many bytes more, and then fails.
+/// A file that takes `room` more bytes, and then fails.
 #[derive(Drop)]
 struct ShortFile {
     room: usize,

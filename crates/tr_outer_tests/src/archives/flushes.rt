@@ -157,7 +157,7 @@ impl Files for SeenFiles {
     }
 }
 
-/// Writes the archive of one stream to files of which this many can be flushed. Asserts the answer, how often the disk
+/// Writes the archive of one stream to files of which `room` can be flushed. Asserts the answer, how often the disk
 /// failed, and what was seen.
 fn assert_seen(
     rt: &impl Abort,

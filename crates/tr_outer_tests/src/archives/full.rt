@@ -40,7 +40,7 @@ impl FileSystem for FullFiles {
     }
 }
 
-/// Writes the archive of one stream to a disk with room for this many files. Asserts the answer, how often the disk failed,
+/// Writes the archive of one stream to a disk with room for `room` files. Asserts the answer, how often the disk failed,
 /// how many files were ended, and what was made.
 fn assert_left(
     rt: &impl Abort,

@@ -103,7 +103,7 @@ fn answers_a_line_before_it_asks_for_the_next(rt: HostRuntime) {
     assert_same(&rt, (source.given, source.is_late), (4, false));
 }
 
-/// Asserts that a script breaks off where the sink has taken this many bytes of its answer.
+/// Asserts that a script breaks off where the sink has taken `room` bytes of its answer.
 fn assert_filled(rt: &impl Abort, alloc: Global, script: &[u8], answer: &[u8], room: usize) {
     let mut source = MemorySource::new(script, 1);
     let mut sink = Filling {
@@ -155,7 +155,7 @@ impl ByteSource for Feeds {
     }
 }
 
-/// Asserts what a script of this many newlines comes to, and after how many calls of its source.
+/// Asserts what a script of `left` newlines comes to, and after how many calls of its source.
 fn assert_fed(
     rt: &impl Abort,
     alloc: Global,

@@ -10,7 +10,7 @@ use tr_folders::{Folders, MemoryFolders, ReadFault};
 use tr_record::{ByteSink, Failed, MemorySink};
 use tr_survey::{SurveyFault, Surveyed, survey};
 
-/// Folders that fail after this many calls.
+/// Folders that fail after `calls` calls.
 #[derive(Drop)]
 struct FailingFolders {
     folders: MemoryFolders,
@@ -81,7 +81,7 @@ impl Folders for FailingFolders {
     }
 }
 
-/// A sink that has room for this many bytes more, and then fails.
+/// A sink that has room for `room` more bytes, and then fails.
 #[derive(Drop)]
 struct ShortSink {
     sink: MemorySink,
@@ -123,8 +123,8 @@ fn lines_of(out: &[u8]) -> (usize, bool) {
     (lines, out.is_empty() || out.ends_with(b"\n"))
 }
 
-/// How many lines are known once the folders have answered this many calls: 14 for what stands there and the metadata, and then
-/// for each file one to open it, one for its bytes if it has some, and one for its end.
+/// How many lines are known once the folders have answered so many calls: 14 for what is there and the metadata, and then for
+/// each file one to open it, one for its bytes if it has some, and one for its end.
 fn lines_known(calls: u64) -> usize {
     match calls {
         0..=13 => 0,

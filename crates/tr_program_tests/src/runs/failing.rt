@@ -84,7 +84,7 @@ impl ByteSink for Void {
     }
 }
 
-/// Lets this many calls through, and fails at each later one.
+/// Lets so many calls through, and fails at each later one.
 #[derive(Drop)]
 struct FailingDisk {
     left: usize,
@@ -168,7 +168,8 @@ fn ends<R: Threads + Wait + Clock + Sync, S: ByteSource, K: ByteSink>(
     (status, disk.left, err.into_bytes().as_slice() == FAULT)
 }
 
-/// What a script with `--out d` came to if the input gives these bytes, a line of this many bytes, and then fails; and whether this answer went out.
+/// What a script with `--out d` came to if the input gives these bytes, then a line of `line` bytes, and then fails; and
+/// whether this answer went out.
 fn ends_broken<R: Threads + Wait + Clock + Sync>(
     rt: &R,
     alloc: Global,
@@ -186,7 +187,7 @@ fn ends_broken<R: Threads + Wait + Clock + Sync>(
     (status, left, told, out.into_bytes().as_slice() == answer)
 }
 
-/// The same if the disk lets this many calls through, and the script is given whole.
+/// The same if the disk lets `calls` calls through, and the script is given whole.
 fn ends_on_disk<R: Threads + Wait + Clock + Sync>(
     rt: &R,
     alloc: Global,

@@ -66,7 +66,7 @@ fn settle<'h, N: Names>(
 /// How many free bytes a call has, and the refusal after which it is made again with memory, if it is.
 type Memory = (usize, Option<Told>);
 
-/// Makes the steps of a row, then its call with this many free bytes, and settles the session.
+/// Makes the steps of a row, then its call with so many free bytes, and settles the session.
 fn work<'h, N: Names>(
     rt: &(impl Abort + Wait),
     plain: Global,
@@ -177,7 +177,7 @@ impl<'a> Case<'a> {
     }
 }
 
-/// Makes a call with this many free bytes, and settles the session. If it was refused, all is done once more, and the call made
+/// Makes a call with `bytes` free bytes, and settles the session. If it was refused, all is done once more, and the call made
 /// again with memory before that. Its first answer.
 fn make_case<'h>(
     rt: &(impl Abort + Wait),

@@ -19,7 +19,7 @@ use tr_testing::moment;
 /// How many turns a thread waits for others at most.
 const TURNS: u64 = 20_000_000;
 
-/// Waits for others to raise a count, this many turns at most, and says whether they did.
+/// Waits at most `turns` turns for others to raise a count, and says whether they did.
 fn reached(count: &AtomicU64, wanted: u64, turns: u64) -> bool {
     for _ in 0..turns {
         if count.load(Ordering::SeqCst) >= wanted {
@@ -35,7 +35,7 @@ fn raise(count: &AtomicU64) {
     count.fetch_add(1, Ordering::SeqCst);
 }
 
-/// Comes to a meeting of this many threads, and waits for the others.
+/// Comes to a meeting of `threads` threads, and waits for the others.
 fn meet(rt: &impl Abort, come: &AtomicU64, threads: u64) {
     raise(come);
     assert!(rt;

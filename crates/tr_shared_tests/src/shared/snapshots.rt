@@ -24,7 +24,7 @@ use tr_terms::{Mode, Moment, SessionMode};
 use tr_testing::moment;
 use uuid::Uuid;
 
-/// A plan of this many streams with two sub-buffers of 256 bytes each, of a snapshot session: a packet's records have 176
+/// A plan of `threads` streams with two sub-buffers of 256 bytes each, of a snapshot session: a packet's records have 176
 /// bytes, each its payload's and 24 more.
 fn snapshot_plan(rt: &impl Abort, alloc: Global, threads: u64) -> Plan {
     let plan = plan_with(

@@ -172,7 +172,7 @@ fn gather<N: Names>(rt: &impl Abort, alloc: Global, given_back: Vec<Done<N>>) ->
     }
 }
 
-/// A thread for each producer, for each of two drainers, and for each of this many operators.
+/// A thread for each producer, for each of two drainers, and for each of `operators` operators.
 pub(super) fn work<N: Names + Send + Sync, R: Threads + Wait + Abort + Sync>(
     rt: &R,
     alloc: Global,

@@ -82,7 +82,7 @@ fn a_watcher_reads_what_was_offered(rt: HostRuntime) {
     reads::<Brand>(&rt, plan_of_watched(&rt, rt.alloc(), 1));
 }
 
-/// Offers this many records.
+/// Offers `OFFERS` records.
 fn offer_all<N: Names>(
     rt: &(impl Abort + Wait),
     shared: &Shared<N>,

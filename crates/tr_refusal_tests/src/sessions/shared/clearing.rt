@@ -31,7 +31,7 @@ fn cleared_of<A: Allocator>(rt: &impl Abort, session: &Session<A>, i: u64) -> u6
     stream.counts().cleared
 }
 
-/// Clears a session with this many free bytes, and once more with memory if that is wanted. What the last clear answered, and
+/// Clears a session with so many free bytes, and once more with memory if that is wanted. What the last clear answered, and
 /// what is cleared.
 fn clear<'h, N: Names>(
     rt: &(impl Abort + Wait),

@@ -18,7 +18,7 @@ use tr_terms::SessionMode;
 /// How many streams and how many producers a session has that was made.
 type Made = Result<(usize, usize), SessionFault>;
 
-/// Builds a session with this many free bytes.
+/// Builds a session with `bytes` free bytes.
 fn build<'h, N: Names>(
     rt: &impl Abort,
     plain: Global,
@@ -47,7 +47,7 @@ enum Scarce {
 /// Enough memory for either.
 const ENOUGH: usize = 32_768;
 
-/// Plans a session and builds it, with this many free bytes for one of the two. All memory comes back.
+/// Plans a session and builds it, with `bytes` free bytes for one of the two. All memory comes back.
 fn make<'h>(
     rt: &impl Abort,
     plain: Global,

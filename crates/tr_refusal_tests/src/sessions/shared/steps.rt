@@ -98,7 +98,7 @@ pub(super) fn built<N: Names, A: Allocator + Copy>(
     }
 }
 
-/// Offers this many records of 50 bytes to a stream, at the moments from 1 on.
+/// Offers `count` records of 50 bytes to a stream, at the moments from 1 on.
 fn make_offers<N: Names, A: Allocator + Copy>(
     rt: &(impl Abort + Wait),
     seated: &mut Seated<N, A>,
@@ -271,7 +271,7 @@ pub(super) fn asked_of<N: Names, A: Allocator + Copy>(
     }
 }
 
-/// Goes on with the pending rotation, which has made this many cuts, and ends it.
+/// Goes on with the pending rotation, which has made `cuts` cuts, and ends it.
 fn go_on<N: Names, A: Allocator + Copy>(
     rt: &(impl Abort + Wait),
     shared: &Shared<N, A>,

@@ -13,7 +13,7 @@ use std::test::*;
 use tr_shared::{Names, Plan, SettleError, SettleFault};
 use tr_terms::Mode;
 
-/// Takes this many away, and gives them back.
+/// Takes the last `count` items away, and gives them back.
 fn hold_back<T: Drop>(rt: &impl Abort, alloc: Global, items: &mut Vec<T>, count: usize) -> Vec<T> {
     let mut held = Vec::new(alloc);
     for _ in 0..count {
@@ -22,7 +22,7 @@ fn hold_back<T: Drop>(rt: &impl Abort, alloc: Global, items: &mut Vec<T>, count:
     held
 }
 
-/// A session of four producers and two drainers isn't settled while this many of each are held back, and is settled with all.
+/// A session of four producers and two drainers isn't settled while so many of each are held back, and is settled with all.
 fn settles<N: Names>(
     rt: &(impl Abort + Wait),
     alloc: Global,
