@@ -10,7 +10,7 @@ WasKept k Dropped = ⊥
 WasKept k (Kept j) = j ≡ k
 WasKept k (Cleared consumed) = consumed ≡ true
 
--- the block of this number has as many records as were told, and came to the chunk that was told
+-- the block with the take's number has as many records as the take answered, and came to the chunk that it named
 pub record WasTakenFrom (closed : List Closed) (taken : Taken) : Type 0 where
   pub block : Closed
   pub there : slice_get closed taken.seq ≡ Some block

@@ -75,8 +75,8 @@ pub fn every_log<X>()
         ≡ items_of item (accepted_in (steps ++ offer_step moment id payload told ∷ [])) }
 {}
 
-/// The takes of a stream are its packets in order: their numbers rise, each had as many records as was told, and is kept in
-/// the chunk that was told or was cleared since; so it is with what one seat's holder took of them. Does nothing.
+/// The takes of a stream are its packets in order: their numbers rise, each had as many records as the take answered, and is
+/// kept in the chunk that it named or was cleared since. The same holds of what one seat's holder took of them. Does nothing.
 pub fn every_take()
     ensures rise { (steps : List StreamStep) (s : StreamState) → IsAccounted steps s → IsKept s
         → IsStrictlyIncreasing (map (λ t. t.seq) (taken_in steps)) }

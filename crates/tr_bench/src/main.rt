@@ -39,7 +39,7 @@ use tr_command::number;
 use tr_record::ReaderSource;
 use tr_terms::limits::MOST_STREAMS;
 
-/// Tells why the rounds stopped.
+/// Prints why the rounds stopped.
 fn stopped(rt: &impl Print, fault: impl Debug + Drop) -> io::Result<ExitCode> {
     println!(rt; "stopped {fault:?}")?;
     Ok(ExitCode::FAILURE)
@@ -58,7 +58,7 @@ fn parse(rt: &impl Print, alloc: Global, input: impl io::Read + Drop) -> io::Res
     }
 }
 
-/// Tells what was offered.
+/// Prints what was offered.
 fn report<F: Debug + Drop>(rt: &impl Print, offered: Result<Total, F>) -> io::Result<ExitCode> {
     match offered {
         Ok(t) => {

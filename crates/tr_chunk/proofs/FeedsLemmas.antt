@@ -32,7 +32,7 @@ around [] at piece e = absurd (absent at piece e)
 around (t ∷ texts) zero piece e = ap (λ (x : List ℕ). x ∷ texts) (alike t piece e)
 around (t ∷ texts) (suc at) piece e = ap (λ (l : List (List ℕ)). t ∷ l) (around texts at piece e)
 
--- ---- an empty piece after all pieces tells nothing
+-- ---- an empty piece after all pieces changes nothing
 
 get_before : (texts : List (List ℕ)) (i : ℕ) (bytes : List ℕ) → slice_get (texts ++ [] ∷ []) i ≡ Some bytes → 0 < length bytes
     → (slice_get texts i ≡ Some bytes) × (i < length texts)
@@ -158,7 +158,7 @@ read_more uuid stream done piece after feeds at none within has =
     (append_assoc piece (bytes_fed (take at feeds)) (get_or feeds at none).now
     ∙ ap (λ (t : List ℕ). piece ++ t) (sym (bytes_more feeds at none within))) has
 
--- after a fault the other feeds tell nothing
+-- after a fault the other feeds change nothing
 pub read_rest : {A : Type 0} (uuid : List ℕ) (stream : ℕ) (done : List (List ℕ)) (piece : List ℕ) (after : Reading A) (f : AuditFault)
     (feeds : List (Bor (List ℕ))) (at : ℕ) → after.fault ≡ Some f → HasRead uuid stream done (piece ++ bytes_fed (take at feeds)) after
     → HasRead uuid stream done (piece ++ bytes_fed feeds) after

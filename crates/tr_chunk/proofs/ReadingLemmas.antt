@@ -207,7 +207,7 @@ at_start uuid stream a is = record {
   tells = record { sound = record { packets = tt; belong = tt; numbers = refl; serials = refl }; is = is };
 }
 
--- after a fault, whatever is fed is told by it
+-- a fault is the same, whatever is fed after it
 however_more : (uuid : List ℕ) (stream : ℕ) (done : List (List ℕ)) (piece bytes : List ℕ) (f : AuditFault)
     → StopsHowever uuid stream done piece f → StopsHowever uuid stream done (piece ++ bytes) f
 however_more uuid stream done piece bytes f stops =

@@ -12,7 +12,7 @@ behind : (e : Entry) (es : List Entry) (n : ℕ) → last_serial_after (Some e.s
 behind e [] n is = let same : e.serial ≡ n = cc in ap decimal same
 behind e (f ∷ fs) n is = behind f fs n is
 
--- its serial is told as the last
+-- its serial is shown as the last
 pub last_told : (es : List Entry) (n : ℕ) → last_serial_after None es ≡ Some n
     → serial_text (slice_get es (length es - 1)) ≡ decimal n
 last_told [] n is = cc
@@ -20,7 +20,7 @@ last_told (e ∷ es) n is =
     let at : length (e ∷ es) - 1 ≡ length es = omega arith in
     ap (λ (k : ℕ). serial_text (slice_get (e ∷ es) k)) at ∙ behind e es n is
 
--- a packet's line, by what is told of it
+-- a packet's line, by what it shows
 abbrev pub line_told : ℕ → ℕ → List ℕ → List ℕ → List ℕ
 line_told seq count first last =
     codes "packet " ++ (decimal seq ++ (codes " records " ++ (decimal count ++ (codes " first " ++ (first ++ (codes " last " ++ last))))))

@@ -281,12 +281,12 @@ fn make_offers<A: Allocator + Copy>(
     }
 }
 
-/// An archive as steps tell it.
+/// An archive as the steps write it.
 fn numbers(archive: &Archive) -> Row {
     (archive.id, archive.begin.get(), archive.end.get())
 }
 
-/// The answer to a rotation as steps tell it.
+/// The answer to a rotation as the steps write it.
 fn row(answer: Result<Archive, SessionFault>) -> Result<Row, SessionFault> {
     match answer {
         Ok(archive) => Ok(numbers(&archive)),
@@ -302,7 +302,7 @@ fn assert_archives(rt: &impl Abort, archives: &[Archive], rows: &[Row]) {
     }
 }
 
-/// A tick as steps tell it.
+/// A tick as the steps write it.
 fn ticked(answer: Result<Ticked, SessionFault>) -> Result<Option<(Cause, Row)>, SessionFault> {
     match answer {
         Ok(Ticked::Rotated { cause, archive }) => Ok(Some((cause, numbers(&archive)))),

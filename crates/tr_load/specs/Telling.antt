@@ -1,4 +1,4 @@
--- A load that is told to an output and a disk.
+-- A load that is reported to an output, and its archives on a disk.
 use Rattle.std.specs.Prelude.{◌≡◌, ◌⊎◌, ℕ, List, Option, Some, None, Result, Ok, Err, codes}
 use Rattle.tr_chunk.specs.Files.{Sunk, WentOut}
 use Rattle.tr_export.specs.Archives.{archives_made}

@@ -1,4 +1,4 @@
-//! A load that is told to an output and a disk.
+//! A load that is reported to an output, and its archives on a disk.
 
 ghost use Rattle.std.specs.Prelude.{option_map};
 ghost use Rattle.tr_chunk.specs.Files.{sunk_of};

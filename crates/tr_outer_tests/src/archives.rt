@@ -149,7 +149,7 @@ fn bytes_at(disk: &MemoryDisk, place: usize) -> &[u8] {
     }
 }
 
-/// Asserts that at this place a packet of this number begins, which tells of as many discarded records.
+/// Asserts that a packet of this number begins at this place, and says that as many records were discarded.
 fn assert_packet(rt: &impl Abort, bytes: &[u8], at: usize, number: u8) {
     let packet = bytes.get(at..).expect(rt, "a packet");
     assert_same(rt, packet.get(..4), Some(b"\xC1\x1F\xFC\xC1".as_slice()));

@@ -114,7 +114,8 @@ static FILES: [&str; 9] = [
     "c_0",
 ];
 
-/// What isn't named as a session, an archive or a stream's file is passed over, and if it has a folder of archives, that is told.
+/// What isn't named as a session, an archive or a stream's file is passed over, and if it has a folder of archives, a line says
+/// so.
 #[test]
 fn other_names(rt: HostRuntime) {
     let mut room = Room::new(&rt, rt.alloc());
@@ -321,7 +322,7 @@ faulty 1
     furnished(&rt, rt.alloc(), &DISCARDING).says(64, expected, 1);
 }
 
-/// What can't be read is told, and the rest too.
+/// What can't be read is reported, and the rest too.
 #[test]
 fn unreadable_things(rt: HostRuntime) {
     let mut room = Room::new(&rt, rt.alloc());

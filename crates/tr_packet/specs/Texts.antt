@@ -24,7 +24,7 @@ abbrev pub packets_in : List Label → List ℕ → List Contents
 packets_in [] bytes = []
 packets_in (l ∷ ls) bytes = packet_labelled l.head (take l.size bytes) ∷ packets_in ls (drop l.size bytes)
 
--- the label tells what this text has
+-- the label says what this text has
 pub record IsLabelled (l : Label) (text : List ℕ) : Type 0 where
   pub packet : IsPacket (packet_labelled l.head text)
   pub whole : AreWhole (body_of text)
@@ -32,7 +32,7 @@ pub record IsLabelled (l : Label) (text : List ℕ) : Type 0 where
   pub size : length text ≡ l.size
   pub is_text : text ≡ packet_text (packet_labelled l.head text)
 
--- the labels tell what lies in the bytes, one packet after another
+-- the labels say what lies in the bytes, one packet after another
 abbrev pub AreLabelled : List Label → List ℕ → Type 0
 AreLabelled [] bytes = bytes ≡ []
 AreLabelled (l ∷ ls) bytes = IsLabelled l (take l.size bytes) × AreLabelled ls (drop l.size bytes)

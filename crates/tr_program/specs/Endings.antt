@@ -65,7 +65,7 @@ abbrev pub ending_of_load : LoadFault → Ending
 ending_of_load load.Misplaced = Refused
 ending_of_load load.NoMemory = NoMemory
 
--- a load that was settled, and then told with this result
+-- a load that was settled, and then reported with this result
 abbrev pub ending_of_told : Result Report Mismatch → Result (Unit {0}) ExportFault → Ending
 ending_of_told outcome (Ok done) = ending_of_outcome outcome
 ending_of_told outcome (Err fault) = ending_of_export fault

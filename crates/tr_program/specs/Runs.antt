@@ -57,7 +57,7 @@ output_of host = record { taken = host.taken; failures = host.output_failures }
 abbrev pub disk_in : Host → DiskState
 disk_in host = record { made = host.made; failures = host.disk_failures }
 
--- what is known of folders at one step: what stands there, and how often reading failed
+-- what is known of folders at one step: what is there, and how often reading failed
 pub record FoldersState : Type 0 where
   pub tree : Option Tree
   pub failures : ℕ
@@ -76,12 +76,13 @@ outside_of source sink disks ghosts input out disk folders = record {
   folders = folders_of ghosts folders;
 }
 
--- what is told of a folder by an audit with this result, before which this was out, and after which that is
+-- what an audit with this result reports of a folder: this was out before it, and that is out after it
 abbrev pub TellsAudit : Tree → List ℕ → Bool → Result Surveyed SurveyFault → Option (List ℕ) → Option (List ℕ) → Type 0
 TellsAudit t dir archives (Ok said) before now = TellsFolder archives t dir said before now
 TellsAudit t dir archives (Err fault) before now = HasToldPrefix archives t dir before now
 
--- what stands in a folder was told to an output, archive by archive if that was asked for, or a front of it, and the ending says how many faults there are, or why not
+-- what is in a folder was reported to an output, archive by archive if that was asked for, or a front of that went out; and the
+-- ending says how many faults there are, or why that isn't known
 pub record HasAudited (dir : List ℕ) (archives : Bool) (folders folders_now : FoldersState) (out out_now : Sunk) (ending : Ending) : Type 0 where
   pub result : Result Surveyed SurveyFault
   pub ends : ending ≡ ending_of_survey result
@@ -89,7 +90,7 @@ pub record HasAudited (dir : List ℕ) (archives : Bool) (folders folders_now : 
   pub reads : folders_now.failures ≡ reads_after result folders.failures
   pub writes : out_now.failures ≡ writes_after result out.failures
 
--- no session stands in a folder, as far as is known
+-- a folder has no session, as far as is known
 abbrev pub HasNoSession : List ℕ → Option Tree → Type 0
 HasNoSession dir tree = (t : Tree) → tree ≡ Some t → sessions_of t dir ≡ []
 
@@ -97,7 +98,7 @@ HasNoSession dir tree = (t : Tree) → tree ≡ Some t → sessions_of t dir ≡
 abbrev pub CannotBeRead : List ℕ → Option Tree → Type 0
 CannotBeRead dir tree = (t : Tree) → tree ≡ Some t → t.is_hidden dir ≡ true
 
--- what a settled load came to was told to an output and a disk, and the ending says with which result
+-- what a settled load came to was reported to an output, and its archives to a disk; the ending says with which result
 pub record EndsTold (dir : Folder) (threads : ℕ) (session : SessionOf StreamState) (outcome : Result Report Mismatch) (watched : Option ℕ)
     (out out_now : Sunk) (disk disk_now : DiskState) (ending : Ending) : Type 0 where
   pub told : Result (Unit {0}) ExportFault
@@ -164,7 +165,7 @@ module _ (old new : Host) where
   EndsAs dir ReadOrWrite = EndsByFault dir
   EndsAs dir NoMemory = EndsByMemory dir
 
-  -- a load was settled, judged by its feeders' logs, watched if that was asked for, and told
+  -- a load was settled, judged by its feeders' logs, watched if that was asked for, and reported
   pub record HasLoaded (threads records : ℕ) (watch : Bool) (dir : Folder) (ending : Ending) : Type 0 where
     pub session : SessionOf StreamState
     pub outcome : Result Report Mismatch
@@ -177,7 +178,7 @@ module _ (old new : Host) where
   abbrev pub HasNotLoaded : Ending → Type 0
   HasNotLoaded ending = ((fault : LoadFault) × (ending ≡ ending_of_load fault)) × IsUntouched
 
-  -- a load was settled and told, or it wasn't settled and nothing was put out or made; it reads nothing
+  -- a load was settled and reported, or it wasn't settled and nothing was put out or made; it reads nothing
   abbrev pub EndsLoad : (threads records : ℕ) → Bool → Folder → Ending → Type 0
   EndsLoad threads records watch dir ending =
       (new.given ≡ old.given) × (HasLoaded threads records watch dir ending ⊎ HasNotLoaded ending)

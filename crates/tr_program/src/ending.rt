@@ -99,7 +99,7 @@ impl Ending {
         }
     }
 
-    /// How a load that was told ends the program.
+    /// How a load that was reported ends the program.
     pub fn of_outcome(outcome: &Result<Report, Mismatch>) -> Ending
         ensures { result ≡ ending_of_outcome outcome.now }
     {

@@ -201,8 +201,8 @@ fn tell<E: ByteSink>(ending: Ending, err: &mut E) -> u8
 /// refused, or if a load's logs don't agree with its session or one of its calls was refused, or if an audit found something
 /// wrong, 2 for a bad command line, 3 for a fault of input, output, a folder or a file, a script that is too long, or an audit
 /// that found no session, 4 for a failed allocation or a thread that can't be made. From 2 on `err` gets one line. Archives
-/// are made only once the input was read to its end and answered whole, or a load was told whole; if one can't be made, those
-/// before it stay, and a prefix of its own folder and files.
+/// are made only once the input was read to its end and answered whole, or a load was reported whole; if one can't be made,
+/// those before it stay, and a prefix of its own folder and files.
 ///
 /// Only a load starts threads and waits for them. If it is watched, it says by `progress` how far it is.
 pub fn run<

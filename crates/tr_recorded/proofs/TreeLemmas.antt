@@ -1,4 +1,4 @@
--- Folders and files that stand where things were made.
+-- Folders and files that are where things were made.
 use Rattle.std.proofs.Common.{◌≡◌, ℕ, Bool, true, false, true≢false, cond, ◌||◌, refl, sym, ap, List, [], ◌∷◌, Option, Some, None}
 use Rattle.std.specs.Cmp.Lexicographic.{pointwise}
 use Rattle.std.specs.List.{cons_option, list_any}
@@ -6,7 +6,7 @@ use Rattle.std.specs.Prelude.{is_some, nat_eq, unwrap_or}
 use Rattle.tr_export.specs.Making.{Makings}
 use Rattle.tr_recorded.specs.Made.{Shows, is_folder_at, is_folder_made, is_listed, makes_folder, name_below, names_made, path_by, path_made, tree_made}
 
--- where no folder stands nothing is below
+-- where there is no folder nothing is below
 none-below : (path : List ℕ) (made : Makings) → list_any (makes_folder path) made ≡ false → names_made path made ≡ []
 none-below path [] none = refl
 none-below path (m ∷ made) none = go (name_below path (path_made m)) none (none-below path made)

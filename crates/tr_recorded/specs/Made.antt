@@ -1,4 +1,4 @@
--- What stands in a folder that was empty, after folders and files were made there.
+-- What is in a folder that was empty, after folders and files were made there.
 use Rattle.std.specs.Prelude.{◌≡◌, ℕ, Bool, true, false, ◌||◌, ◌==◌, nat_eq, List, [], ◌∷◌, Option, Some, None, is_some, unwrap_or, if◌then◌else◌}
 use Rattle.std.specs.Cmp.Lexicographic.{pointwise}
 use Rattle.std.specs.List.{AllByRecursion, filter_map, list_all, list_any}
@@ -49,7 +49,7 @@ is_folder_made dir made path = pointwise nat_eq path dir || list_any (makes_fold
 
 -- ---- files
 
--- a file of this path; of what is in a broken one nothing can be told
+-- a file of this path; what is in a broken one isn't known
 abbrev pub file_at : List ℕ → Made (List ℕ) (List ℕ) → Option folders.File
 file_at path (Folder own) = None
 file_at path (File own text) = if pointwise nat_eq path own then Some (file_of text false) else None
@@ -66,7 +66,7 @@ file_made path (m ∷ made) = option_or (file_made path made) (file_at path m)
 abbrev pub is_listed : List ℕ → List (List ℕ) → Bool
 is_listed name = list_any (pointwise nat_eq name)
 
--- the folders and files that stand then in a folder that was empty
+-- the folders and files that are then in a folder that was empty
 abbrev pub tree_made : List ℕ → Makings → folders.Tree
 tree_made dir made = record {
   names = λ path. if is_folder_made dir made path then Some (names_made path made) else None;
@@ -87,7 +87,7 @@ path_by folder (name ∷ names) = path_by (path_of folder name) names
 abbrev pub ArePlain : List (List ℕ) → Type 0
 ArePlain = AllByRecursion (λ (name : List ℕ). is_plain_name name ≡ true)
 
--- below a folder that was empty stand these folders and files and nothing beside them, by paths through plain names; each can be
+-- below a folder that was empty are these folders and files and nothing beside them, by paths through plain names; each can be
 -- read, and names are listed in any order
 pub record Shows (t : folders.Tree) (dir : List ℕ) (made : Makings) : Type 0 where
   pub seen : (through : List (List ℕ)) → ArePlain through → t.is_hidden (path_by dir through) ≡ false

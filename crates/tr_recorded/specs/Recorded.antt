@@ -1,4 +1,4 @@
--- What the parts of a stream hold, archive by archive, and what a survey tells of them.
+-- What the parts of a stream hold, archive by archive, and what a survey reports of them.
 use Rattle.std.specs.Prelude.{◌≡◌, ℕ, zero, suc, Bool, List, [], ◌∷◌, ◌++◌, length, map, take, slice_get, Option, Some, None}
 use Rattle.std.specs.List.{AllByRecursion, zip}
 use Rattle.tr_book.specs.Parts.{PartState}
@@ -49,7 +49,7 @@ streams_recorded s zero = []
 streams_recorded s (suc i) =
     streams_recorded s i ++ stream_recorded (archives_named s.book) i (channel_of i s.book) (slice_get s.streams i)
 
--- what is told of a session of this name: its archives and streams, and what each stream lost
+-- what is reported of a session of this name: its archives and streams, and what each stream lost
 abbrev pub session_recorded_text : Bool → List ℕ → SessionOf StreamState → List ℕ
 session_recorded_text asked name s =
     recorded_text asked name s.book.uuid (archives_named s.book) (streams_recorded s (length s.streams))

@@ -38,7 +38,7 @@ pub fn archives_are_read_where_they_are_written()
         → file_path (archives_folder dir session) archive file ≡ export.path_of (export.folder_of dir session archive) file }
 {}
 
-/// The folders and files that stand where things were made show what was made. Does nothing.
+/// The folders and files that are where things were made show what was made. Does nothing.
 pub fn a_tree_shows_what_was_made()
     ensures { (dir : List ℕ) (made : Makings) → Shows (tree_made dir made) dir made }
 {}

@@ -2,9 +2,9 @@
 //! documentation says, and the same call made again with memory gives the ordinary answer. There are two ways:
 //!
 //! - each request of a call for memory is refused in turn: it is made with no request granted, with one, with two, and so on
-//!   until none is refused. A call is refused if and only if one of its requests was that it can't do without;
-//! - the call is made with no free memory, with 16 bytes, with 32, and so on until it has enough: so each request is refused that
-//!   wants more than those before it. Shared sessions are tested this way alone.
+//!   until none is refused. A call is refused if and only if one of the refused requests is one that it can't do without;
+//! - the call is made with no free memory, with 16 bytes, with 32, and so on until it has enough: so each request that wants
+//!   more than those before it is refused. Shared sessions are tested this way alone.
 //!
 //! In the first way each allocation is refused once, whatever its size, more than 380 in all. Only a release has one that it
 //! can do without: what it keeps moves to less room at its end, and stays where it is if that is refused.
@@ -14,9 +14,9 @@
 //!   events one by one (`Session::step`) and a run of ten of them; the bytes of a packet, the names of a stream's file and of an
 //!   archive, the metadata, and audits of whole pieces and in feeds; two archives, written to a disk; and two scripts, of 25
 //!   lines and of 8, which between them have each command.
-//! - What is left after a refusal can't be told, by all that a stream or a session shows, from what the documentation says: a
-//!   rotation and a tick on four streams are held up before they begin and at each of the four cuts, refuse a stop, and go on
-//!   from there. A run makes nothing.
+//! - What is left after a refusal is what the documentation says, by all that a stream or a session shows: a rotation and a
+//!   tick on four streams are held up before they begin and at each of the four cuts, refuse a stop, and go on from there. A
+//!   run makes nothing.
 //! - The script has answered whole lines only: it ends after none of its answers, after one, and so on, at each line that has
 //!   one. Of the archives the first folders and files are made, each as it is with memory, but that the last file may be broken.
 //! - Calls that take no memory ask for none.

@@ -103,7 +103,7 @@ fn assert_left<A: Allocator + Copy, C: Call<A>>(
 }
 
 /// Makes a call of which so many requests for memory are granted and the later ones refused, asserts that it is refused if and
-/// only if one of its requests was that it can't do without, and what stands after it. Its first answer.
+/// only if one of the refused requests is one that it can't do without, and what it leaves. Its first answer.
 fn make_rationed<'h, C: Call<&'h Rationed>>(
     rt: &impl Abort,
     memory: &'h Rationed,

@@ -11,8 +11,8 @@ use tr_session_book::SessionFault;
 
 impl<A: Allocator + Copy> Session<A> {
     /// Gives up the packets of an archive, whose files were written, say: each stream's part of it, in order of number. Parts
-    /// that were released before are passed over. What became of their records is told as before, and so is how much the
-    /// archive held. The book stays as it is. It takes memory only for parts that have packets.
+    /// that were released before are passed over. What became of their records is answered as before, and so is how much
+    /// the archive held. The book stays as it is. It takes memory only for parts that have packets.
     ///
     /// # Errors
     ///

@@ -253,8 +253,8 @@ impl<A: Allocator + Copy> Session<A> {
         }
     }
 
-    /// Gives up the packets of a stream's part of an archive. What became of their records is told as before. It takes memory
-    /// only if the part has packets.
+    /// Gives up the packets of a stream's part of an archive. What became of their records is answered as before. It takes
+    /// memory only if the part has packets.
     ///
     /// # Errors
     ///

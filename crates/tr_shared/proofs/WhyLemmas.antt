@@ -5,7 +5,7 @@ use Rattle.tr_seats.specs.Slots.{ProducerState}
 use Rattle.tr_seats.specs.declared.settling.SettleError.{SettleError}
 use Rattle.tr_seats.specs.declared.settling.SettleError.TheVariants.{ProducerMissing, DrainerMissing, Misplaced}
 
--- a producer is missing if and only if that is what is told
+-- a producer is missing if and only if that is the answer
 pub why-missing : (error : SettleError) (producers : List ProducerState) (drainers : ℕ) (s : OpenedState)
     → IsWhy error producers drainers s
     → (error ≡ ProducerMissing → ¬ IsOneEach (length s.slots) producers) × ((¬ IsOneEach (length s.slots) producers) → error ≡ ProducerMissing)

@@ -23,7 +23,7 @@ next_in streams (Some p) = Ok (if nat_lt p.cut streams then Some p.cut else None
 abbrev pub next_stream : SessionBookState → Result (Option ℕ) SessionFault
 next_stream b = next_in (length b.threads) b.pending
 
--- the answer to a cut, as a rotation's next step tells it; a stream refuses its cut only for want of memory
+-- the answer to a cut, as a rotation's next step gives it; a stream refuses its cut only if an allocation fails
 abbrev pub as_next : ℕ → Result CutDone StepFault → Result Next SessionFault
 as_next i (Ok done) = Ok (next.Cut i done.records)
 as_next i (Err (Session fault)) = Err fault

@@ -270,9 +270,9 @@ impl<A: Allocator + Copy> Stream<A> {
         Ok(cleared)
     }
 
-    /// Gives up the packets of closed part `k`, and keeps which serials each had: fates, counts and sizes are told as before.
-    /// The current part isn't closed. It takes memory only if the part has packets. A release that is refused, also because
-    /// an allocation failed, changes nothing.
+    /// Gives up the packets of closed part `k`, and keeps which serials each had: fates, counts and sizes are as before. The
+    /// current part isn't closed. It takes memory only if the part has packets. A release that is refused, also because an
+    /// allocation failed, changes nothing.
     pub fn release(&mut self, k: u64) -> Result<Released, ReleaseFault>
         ensures value { result ≢ Err ReleaseFault.NoMemory
             → (result ≡ state_release_answer k self.old) × (self.new ≡ state_after_release k self.old) }

@@ -1,4 +1,4 @@
--- What is told of bytes, packet by packet.
+-- What is reported of bytes, packet by packet.
 use Rattle.std.proofs.Common.{◌≡◌, ◌≢◌, ◌+◌, ℕ, suc, refl, sym, ap, subst, ◌∙◌, Bool, true, false, List, [], ◌++◌, drop, Option, Some, None, append_assoc}
 use Rattle.std.proofs.lemmas.List.{drop-append-le}
 use Rattle.tr_chunk.proofs.AuditLemmas.{front_within}
@@ -22,7 +22,7 @@ use Rattle.tr_survey.specs.declared.tally.Tally.{Tally}
 same_cause : (f g : PacketFault) → Packet f ≡ Packet g → f ≡ g
 same_cause f g e = cc
 
--- a fault that isn't want of bytes stands, whatever follows
+-- a fault other than too few bytes stays, whatever follows
 pub fault_stands : (bytes more : List ℕ) (f : PacketFault) → first_fault bytes ≡ Some f → f ≢ Short → first_fault (bytes ++ more) ≡ Some f
 fault_stands bytes more f is other = cause_stays 0 [] 0 None None (Packet f) bytes more is (λ e. other (same_cause f Short e))
 

@@ -52,9 +52,9 @@ front_step whole text more before mid now is out front =
 pub front_cut : (whole text more : List ℕ) (before now : Option (List ℕ)) → whole ≡ text ++ more → IsPrefixOut text before now → IsPrefixOut whole before now
 front_cut whole text more before now is front = same_front (text ++ more) whole before now (sym is) (front_longer text more before now front)
 
--- ---- what is told
+-- ---- what is reported
 
--- nothing is told yet
+-- nothing is reported yet
 pub goes_start : {S : Type 0} (whole : Told S) (before : Option (List ℕ)) → GoesOn whole whole before before
 goes_start whole before = record { out = refl; state = refl; front = λ after front. front }
 
@@ -81,17 +81,17 @@ pub goes_to : {S : Type 0} (whole rest other : Told S) (before now : Option (Lis
     → GoesOn whole other before now
 goes_to whole rest other before now is goes = subst (λ t. GoesOn whole t before now) is goes
 
--- the rest is told
+-- the rest is reported
 pub goes_told : {S : Type 0} (whole rest : Told S) (before now after : Option (List ℕ)) (state : S) → GoesOn whole rest before now
     → IsTold rest now after state → IsTold whole before after state
 goes_told whole rest before now after state goes is = record { out = is.out ∙ goes.out; state_is = is.state_is ∙ goes.state }
 
--- nothing is left to tell
+-- nothing is left to report
 pub goes_end : {S : Type 0} (whole : Told S) (before now : Option (List ℕ)) (state : S) → GoesOn whole (told [] state) before now
     → IsTold whole before now state
 goes_end whole before now state goes = record { out = sym (and_then_bytes-none now) ∙ goes.out; state_is = goes.state }
 
--- a part was told whole, and the rest follows
+-- a part was reported whole, and the rest follows
 pub goes_part : {S R : Type 0} (part : Told R) (rest : Told S) (state : R) (before now : Option (List ℕ)) → IsTold part before now state
     → GoesOn (and_then part.text rest) rest before now
 goes_part part rest state before now is = goes_text part.text rest before now is.out

@@ -1,4 +1,4 @@
--- A session as a recorder writes it is told of without a fault.
+-- A session as a recorder writes it is reported without a fault.
 use Rattle.std.proofs.Common.{◌≡◌, ◌+◌, ◌-◌, ◌||◌, ◌&&◌, ℕ, Bool, true, false, cond, eqb, refl, sym, ap, subst, ◌∙◌, arith, List, [], ◌∷◌, ◌++◌, length, map, Option, Some, None, append-nil, append_assoc}
 use Rattle.std.specs.Prelude.{codes, is_some, nat_lt, replicate}
 use Rattle.std.specs.Cmp.Lexicographic.{pointwise}

@@ -1,4 +1,4 @@
--- What is told of a folder, by what stands there.
+-- What is reported of a folder, by what is there.
 use Rattle.std.proofs.Common.{◌≡◌, ◌∙◌, ◌||◌, ◌&&◌, ℕ, Bool, true, false, cond, List, [], ◌∷◌, filter, Option, Some, None, refl, sym, ap}
 use Rattle.std.specs.Prelude.{is_some}
 use Rattle.std.specs.Option.{unwrap_or}
@@ -151,7 +151,7 @@ said_unlisted asked t dir e = unlisted_by asked t dir (names_in_order (names_at 
 
 -- ---- a session
 
--- what is told of a session by what is known of it, and what stands there
+-- what is reported of a session by what is known of it, and what is there
 pub listed_same : (asked : Bool) (t : Tree) (session folder : List ℕ) (archives streams : List Numbered) (namings : List Naming) (identity : Identity) (n : ℕ)
     → namings ≡ namings_of t folder archives → streams ≡ streams_of t folder archives → identity ≡ identity_of t folder archives namings streams
     → named_told asked t session folder identity archives namings streams n ≡ archives_told asked t session folder archives n

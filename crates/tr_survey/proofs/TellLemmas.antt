@@ -1,4 +1,4 @@
--- What is told of a stream's files, one step after another.
+-- What is reported of a stream's files, one step after another.
 use Rattle.std.proofs.Common.{◌≡◌, ◌+◌, ◌<◌, ◌≤◌, ℕ, zero, suc, refl, sym, ap, subst, ◌∙◌, arith, Bool, true, false, List, [], ◌∷◌, ◌++◌, length, map, drop, get_or, Option, Some, append-nil, append_assoc, drop-drop}
 use Rattle.std.proofs.lemmas.List.{length-append, length-drop}
 use Rattle.tr_chunk.specs.Audit.{capped_count}
@@ -202,7 +202,7 @@ second_front {R = R} first second r before mid now is front =
     subst (λ (x : R). IsPrefixOut (first.text ++ (second x).text) before now) is.state_is
     (front_then first.text (second r).text before mid now is.out front)
 
--- of a list of parts the next one is told
+-- of a list of parts the next one is reported
 pub goes_next : {R S : Type 0} (whole : Told S) (first : Told R) (second : R → Told S) (r : R) (before mid now : Option (List ℕ))
     → GoesOn whole (and_then first.text (second first.state)) before mid → IsTold first mid now r → GoesOn whole (second r) before now
 goes_next whole first second r before mid now goes is =

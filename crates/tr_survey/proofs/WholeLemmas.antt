@@ -1,4 +1,4 @@
--- Packets that a stream's audit passes are told of without a fault.
+-- Packets that a stream's audit passes are reported without a fault.
 use Rattle.std.proofs.Common.{◌≡◌, ◌+◌, ◌<◌, ◌≤◌, ℕ, zero, suc, Bool, true, false, cond, not, refl, sym, ap, subst, ◌∙◌, arith, List, [], ◌∷◌, ◌++◌, length, drop, Option, Some, None, append-nil}
 use Rattle.std.specs.Prelude.{IsTrue, nat_lt, unwrap_or, option_map}
 use Rattle.std.specs.List.{AllByRecursion, last_or}

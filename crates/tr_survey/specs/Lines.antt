@@ -68,11 +68,11 @@ between_text archive moment next next_moment =
     codes " between " ++ (decimal archive ++ (32 ∷ (decimal moment
     ++ (codes " and " ++ (decimal next ++ (32 ∷ (decimal next_moment ++ 10 ∷ [])))))))
 
--- a run of numbers that no packet of a stream has, before what tells where it lies
+-- a run of numbers that no packet of a stream has, before what says where it lies
 abbrev pub gap_text : ℕ → ℕ → ℕ → List ℕ
 gap_text stream first count = codes "gap " ++ (decimal stream ++ (32 ∷ (decimal first ++ (32 ∷ decimal count))))
 
--- records that a stream discarded, before what tells when
+-- records that a stream discarded, before what says when
 abbrev pub lost_text : ℕ → ℕ → List ℕ
 lost_text stream count = codes "lost " ++ (decimal stream ++ (32 ∷ decimal count))
 

@@ -7,12 +7,12 @@ use Rattle.tr_survey.specs.Told.{Told}
 abbrev pub IsPrefixOut : List ℕ → Option (List ℕ) → Option (List ℕ) → Type 0
 IsPrefixOut text before now = (k : ℕ) × (k ≤ length text) × (now ≡ and_then_bytes before (take k text))
 
--- it was told whole, and this stands then
+-- all of it was reported, and this is the state then
 pub record IsTold {S : Type 0} (t : Told S) (before now : Option (List ℕ)) (state : S) : Type 0 where
   pub out : now ≡ and_then_bytes before t.text
   pub state_is : state ≡ t.state
 
--- of what is to be told some is told, and the rest isn't: if that is told too, all is, and if a front of it, a front of all
+-- some of the whole is reported: once the rest is too, all of it is; and once a front of the rest is, a front of all is
 pub record GoesOn {S : Type 0} (whole rest : Told S) (before now : Option (List ℕ)) : Type 0 where
   pub out : and_then_bytes now rest.text ≡ and_then_bytes before whole.text
   pub state : rest.state ≡ whole.state

@@ -29,13 +29,13 @@ naming_of t folder archive =
 abbrev pub namings_of : Tree → List ℕ → List Numbered → List Naming
 namings_of t folder = map (naming_of t folder)
 
--- what is told of streams, and then of archives, if that is asked for
+-- what is reported of streams, and then of archives, if that is asked for
 abbrev pub streams_and_sums_told : Bool → Tree → List ℕ → List ℕ → List Numbered → List Numbered → ℕ → Told ℕ
 streams_and_sums_told asked t folder uuid archives streams n =
     and_then (streams_told t folder uuid archives n streams).text
     (told (lines_asked asked archives (sums_of t folder uuid archives n streams)) (streams_told t folder uuid archives n streams).state)
 
--- what is told of a session of this identifier with these archives and streams in a folder, whose metadata name these
+-- what is reported of a session of this identifier with these archives and streams in a folder, whose metadata name these
 abbrev pub named_told : Bool → Tree → List ℕ → List ℕ → Identity → List Numbered → List Naming → List Numbered → ℕ → Told ℕ
 named_told asked t session folder identity archives namings streams n =
     and_then (head_told session identity archives namings streams n).text
@@ -57,7 +57,7 @@ archives_told asked t session folder archives n =
 abbrev pub closed_told : List ℕ → ℕ → Told ℕ
 closed_told session n = told (session_text session None 0 ++ closed_text) (and_faults n (closed_text ∷ []))
 
--- what is told of a session, after this number of faults
+-- what is reported of a session, after this number of faults
 abbrev pub session_told : Bool → Tree → List ℕ → ℕ → List ℕ → Told ℕ
 session_told asked t folder n session =
     if t.is_hidden folder then closed_told session n
@@ -65,7 +65,7 @@ session_told asked t folder n session =
 
 -- ---- all sessions
 
--- a folder of archives stands below the folder of this name
+-- there is a folder of archives below the folder of this name
 abbrev pub has_archives : Tree → List ℕ → List ℕ → Bool
 has_archives t dir name = is_folder t (archives_folder dir name)
 
@@ -84,16 +84,16 @@ faults_of (Some n) = n
 abbrev pub counted : Told ℕ → Told (Option ℕ)
 counted t = told t.text (Some t.state)
 
--- what is told of a name that a session can have, after others; nothing if it is no session
+-- what is reported of a name that a session can have, after others; nothing if it is no session
 abbrev pub able_told : Bool → Tree → List ℕ → Option ℕ → List ℕ → Told (Option ℕ)
 able_told asked t dir n name =
     if has_archives t dir name then counted (session_told asked t (archives_folder dir name) (faults_of n) name) else told [] n
 
--- what is told of another name: that it is passed over, if it has a folder of archives
+-- what is reported of another name: that it is passed over, if it has a folder of archives
 abbrev pub passed_told : Tree → List ℕ → List ℕ → List ℕ
 passed_told t dir name = if has_archives t dir name then passed_text name else []
 
--- what is told of a name after others
+-- what is reported of a name after others
 abbrev pub name_told : Bool → Tree → List ℕ → Option ℕ → List ℕ → Told (Option ℕ)
 name_told asked t dir n name = if is_name name then able_told asked t dir n name else told (passed_told t dir name) n
 
@@ -102,7 +102,7 @@ names_told asked t dir n [] = told [] n
 names_told asked t dir n (name ∷ names) =
     and_then (name_told asked t dir n name).text (names_told asked t dir (name_told asked t dir n name).state names)
 
--- how a survey ends: nothing was a session, or this many faults were told
+-- how a survey ends: nothing was a session, or so many faults were reported
 abbrev pub surveyed_of : Option ℕ → Surveyed
 surveyed_of None = NoSession
 surveyed_of (Some n) = Faults n
@@ -119,7 +119,7 @@ abbrev pub survey_of : Bool → Tree → List ℕ → Told Surveyed
 survey_of asked t dir =
     if t.is_hidden dir then told [] Unlisted else ended_told (names_told asked t dir None (names_in_order (names_at t dir)))
 
--- it was told of a folder whole: its text went out, and this is said
+-- all of a folder was reported: its text went out, and this is said
 abbrev pub TellsFolder : Bool → Tree → List ℕ → Surveyed → Option (List ℕ) → Option (List ℕ) → Type 0
 TellsFolder asked t dir said before now = IsTold (survey_of asked t dir) before now said
 

@@ -15,8 +15,8 @@ use Rattle.tr_survey.specs.declared.tally.Tally.{Tally}
 abbrev pub AreFew : List ℕ → Type 0
 AreFew bytes = first_fault bytes ≡ Some Short
 
--- what came of the front of bytes, whatever follows them: a packet of this size was told, and the next one isn't yet; or they are
--- too few; or the file was told up to its end or its first fault
+-- what came of the front of bytes, whatever follows them: a packet of this size was reported, and the next one isn't yet; or
+-- they are too few; or the file was reported up to its end or its first fault
 abbrev pub IsStep : Place → Tally → ℕ → List ℕ → Step → Option (List ℕ) → Option (List ℕ) → Tally → Type 0
 IsStep at s offset bytes (Packet size) before now after =
     (0 < size) × (size ≤ length bytes)
@@ -33,14 +33,14 @@ IsBad at s offset fault (Packet size) before now after = ⊥
 IsBad at s offset fault Waits before now after = (fault ≡ Short) × (now ≡ before) × (after ≡ s)
 IsBad at s offset fault Stopped before now after = (fault ≢ Short) × IsTold (fault_told at s offset (cause.Packet fault)) before now after
 
--- of bytes that are held, and of what follows them, some is told, and the rest is told from these bytes on
+-- of bytes that are held, and of what follows them, some is reported, and the rest is reported from these bytes on
 pub record HasGone (at : Place) (s : Tally) (offset n : ℕ) (held rest : List ℕ) (breaks : Bool) (before now : Option (List ℕ))
     (after : Tally) (further : ℕ) (left : List ℕ) : Type 0 where
   pub most : ℕ
   pub enough : length (left ++ rest) < most
   pub goes : GoesOn (bytes_told n at s offset (held ++ rest) breaks) (bytes_told most at after further (left ++ rest) breaks) before now
 
--- what came of held bytes, whatever follows them: the file was told up to its first fault; or what is left of them is too few
+-- what came of held bytes, whatever follows them: the file was reported up to its first fault; or too few of them are left
 abbrev pub IsHeld : Place → Tally → ℕ → List ℕ → Bool → Option (List ℕ) → Option (List ℕ) → Tally → ℕ → List ℕ → Type 0
 IsHeld at s offset held true before now after further left =
     (n : ℕ) (rest : List ℕ) (breaks : Bool) → length (held ++ rest) < n → IsTold (bytes_told n at s offset (held ++ rest) breaks) before now after

@@ -1,4 +1,4 @@
--- What is told of a stream, packet by packet through its files.
+-- What is reported of a stream, packet by packet through its files.
 use Rattle.std.specs.Prelude.{ℕ, ◌+◌, ◌-◌, Bool, true, false, nat_eq, nat_lt, List, [], ◌∷◌, ◌++◌, codes, length, drop, zero, suc, Option, Some, None, unwrap_or, option_map, if◌then◌else◌}
 use Rattle.tr_chunk.specs.Audit.{capped_count, packet_cause}
 use Rattle.tr_chunk.specs.declared.audit_fault.AuditCause.{AuditCause}
@@ -74,7 +74,7 @@ abbrev pub fall_told : Place → Option Last → ℕ → Contents → List ℕ
 fall_told at last offset p =
     if falls last p then packet_fault_text at.stream at.archive.name offset (codes "lost falls") else []
 
--- what is told at a packet, if it is known what was before
+-- what is reported at a packet, if it is known what was before
 abbrev pub packet_told : Place → Tally → ℕ → Contents → List ℕ
 packet_told at s offset p =
     if s.is_broken then []
@@ -154,14 +154,14 @@ front_told more at s offset bytes breaks (Some fault) = end_told at s offset byt
 front_told more at s offset bytes breaks None =
     judged_told more at s offset bytes (contents_in bytes) (cause_of at.uuid at.stream (before s) (contents_in bytes))
 
--- what is told of the bytes from this one on, of which a file has no more, or no more that can be read: at most this many
+-- what is reported of bytes from this offset on, after which the file ends, or breaks and can't be read further: at most `n`
 -- packets, and what comes after them
 unfoldable pub bytes_told : ℕ → Place → Tally → ℕ → List ℕ → Bool → Told Tally
 bytes_told zero at s offset bytes breaks = told [] s
 bytes_told (suc n) at s offset bytes breaks =
     front_told (λ after further rest. bytes_told n at after further rest breaks) at s offset bytes breaks (first_fault bytes)
 
--- what is told of a stream's file in an archive: there are no more packets than bytes
+-- what is reported of a stream's file in an archive: there are no more packets than bytes
 abbrev pub file_told : Place → Tally → Option File → Told Tally
 file_told at s None = no_file_told at s
 file_told at s (Some file) = bytes_told (suc (length file.bytes)) at s 0 file.bytes file.breaks
@@ -199,11 +199,11 @@ abbrev pub are_deleted : List Numbered → Bool
 are_deleted [] = false
 are_deleted (a ∷ archives) = nat_lt 0 a.number
 
--- what is told after a stream's files
+-- what is reported after a stream's files
 abbrev pub ended_told : Numbered → Bool → Tally → Told ℕ
 ended_told stream deleted s = told (stream_line stream s ++ cleared_line stream (unexplained deleted s)) s.faults
 
--- what is told of a stream, after this number of faults
+-- what is reported of a stream, after this number of faults
 abbrev pub stream_told : Tree → List ℕ → List ℕ → List Numbered → ℕ → Numbered → Told ℕ
 stream_told t folder uuid archives n stream =
     and_then (files_told t folder uuid stream (no_tally n) archives).text

@@ -1,9 +1,9 @@
--- What is told, one text after another.
+-- What is reported, one text after another.
 use Rattle.std.specs.Prelude.{ℕ, ◌+◌, List, ◌++◌, length}
 use Rattle.std.specs.List.{flat_map}
 use Rattle.tr_chunk.specs.Audit.{capped_count}
 
--- a text, and what stands once it is told: a state, or the number of faults
+-- a text, and the state once it is reported, or the number of faults
 pub record Told (S : Type 0) : Type 0 where
   pub text : List ℕ
   pub state : S
@@ -11,7 +11,7 @@ pub record Told (S : Type 0) : Type 0 where
 abbrev pub told : {S : Type 0} → List ℕ → S → Told S
 told text state = record { text = text; state = state }
 
--- a text, and then what is told after it
+-- a text, and then what is reported after it
 abbrev pub and_then : {S : Type 0} → List ℕ → Told S → Told S
 and_then text more = told (text ++ more.text) more.state
 

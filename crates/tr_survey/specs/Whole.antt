@@ -44,7 +44,7 @@ pub record AreRecorded (uuid : List ℕ) (stream : ℕ) (files : List Recorded) 
 abbrev pub HasFiles : Tree → List ℕ → Numbered → List Recorded → Type 0
 HasFiles t folder stream = AllByRecursion (λ (r : Recorded). file_in t folder stream r.0 ≡ Some (file_of (packets_text r.1) false))
 
--- what is told of packets, one after another: where numbers are absent, and what was lost
+-- what is reported of packets, one after another: where numbers are absent, and what was lost
 abbrev pub packets_told : Place → Tally → List Contents → Told Tally
 packets_told at s [] = told [] s
 packets_told at s (p ∷ ps) = and_then (gap_told at s.last p ++ lost_told at s.last p) (packets_told at (tally_after at s p) ps)
@@ -59,7 +59,7 @@ recorded_told uuid stream s (r ∷ files) =
 abbrev pub archives_in : List Recorded → List Numbered
 archives_in files = map (λ (r : Recorded). r.0) files
 
--- what is told of a stream with these files
+-- what is reported of a stream with these files
 abbrev pub recorded_stream_told : List ℕ → Numbered → List Recorded → ℕ → Told ℕ
 recorded_stream_told uuid stream files n =
     and_then (recorded_told uuid stream.number (no_tally n) files).text
@@ -74,7 +74,7 @@ StreamFiles = Numbered × List Recorded
 abbrev pub streams_in : List StreamFiles → List Numbered
 streams_in files = map (λ (s : StreamFiles). s.0) files
 
--- what is told of streams, after this number of faults
+-- what is reported of streams, after this number of faults
 abbrev pub recorded_streams_told : List ℕ → List StreamFiles → ℕ → Told ℕ
 recorded_streams_told uuid [] n = told [] n
 recorded_streams_told uuid (s ∷ streams) n =
@@ -97,7 +97,7 @@ pub record HasItsFiles (t : Tree) (folder uuid : List ℕ) (archives : List Numb
   pub files : HasFiles t folder s.0 s.1
   pub packets : AreRecorded uuid s.0.number s.1
 
--- what a recorder writes of a session stands in a folder: archives from number 0 on, each with the metadata of the trace, and
+-- what a recorder writes of a session is in a folder: archives from number 0 on, each with the metadata of the trace, and
 -- streams from number 0 on, each with its files; nothing is missing, hidden, or there beside them
 pub record Stands (t : Tree) (folder uuid : List ℕ) (archives : List Numbered) (streams : List StreamFiles) : Type 0 where
   pub seen : t.is_hidden folder ≡ false
@@ -129,15 +129,15 @@ sums_with_streams uuid n (s ∷ streams) sums =
 abbrev pub recorded_sums : List ℕ → List Numbered → List StreamFiles → List Sums
 recorded_sums uuid archives streams = sums_with_streams uuid 0 streams (replicate (length archives) no_sums)
 
--- what is told of it: its archives, and where numbers are absent and what was lost in each stream, with its counts; then each
--- archive, if that is asked for
+-- what is reported of it: its archives, and where numbers are absent and what was lost in each stream, with its counts; then
+-- each archive, if that is asked for
 abbrev pub recorded_text : Bool → List ℕ → List ℕ → List Numbered → List StreamFiles → List ℕ
 recorded_text asked session uuid archives streams =
     session_text session (Some uuid) (length archives)
     ++ ((recorded_streams_told uuid streams 0).text
     ++ (lines_asked asked archives (recorded_sums uuid archives streams) ++ codes "whole\n"))
 
--- it stands below a folder, as its only session
+-- it is below a folder, as its only session
 pub record StandsAlone (t : Tree) (dir session uuid : List ℕ) (archives : List Numbered) (streams : List StreamFiles) : Type 0 where
   pub seen : t.is_hidden dir ≡ false
   pub alone : names_in_order (names_at t dir) ≡ session ∷ []

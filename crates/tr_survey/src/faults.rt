@@ -46,6 +46,6 @@ pub enum Surveyed {
     Unlisted,
     /// It has no session.
     NoSession,
-    /// It has sessions, and this is how many faults were told.
+    /// It has sessions, and this is how many faults were reported.
     Faults(u64),
 }

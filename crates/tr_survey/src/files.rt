@@ -1,4 +1,4 @@
-//! What is told of a stream's file in an archive.
+//! What is reported of a stream's file in an archive.
 
 ghost use Rattle.std.specs.Prelude.{◌≡◌, ◌≢◌, ◌++◌, ◌<◌, ℕ, Bool, List, Some, IfOk, OnOk, OnErr, length, suc};
 ghost use Rattle.tr_chunk.specs.declared.audit_fault.AuditCause.TheVariants as cause;
@@ -25,7 +25,7 @@ use uuid::Uuid;
 
 /// What came of the bytes at the front of what is there.
 pub(crate) enum Step {
-    /// A packet of this many bytes was told.
+    /// A packet of so many bytes was reported.
     Packet(usize),
     /// They are too few for a packet.
     Waits,
@@ -33,7 +33,7 @@ pub(crate) enum Step {
     Stopped,
 }
 
-/// Tells of a packet that something is wrong with it.
+/// Reports that something is wrong with a packet.
 fn tell_cause<K: ByteSink>(
     alloc: Global,
     sink: &mut K,
@@ -55,7 +55,7 @@ fn tell_cause<K: ByteSink>(
     put_fault(sink, line.as_str(), tally)
 }
 
-/// Tells that a file can't be read, or not any further.
+/// Reports that a file can't be read, or not any further.
 pub(crate) fn tell_unreadable<K: ByteSink>(
     alloc: Global,
     sink: &mut K,
@@ -74,7 +74,7 @@ pub(crate) fn tell_unreadable<K: ByteSink>(
     put_fault(sink, line.as_str(), tally)
 }
 
-/// Tells that an archive lacks a stream's file.
+/// Reports that an archive lacks a stream's file.
 pub(crate) fn tell_no_file<K: ByteSink>(
     alloc: Global,
     sink: &mut K,
@@ -93,7 +93,7 @@ pub(crate) fn tell_no_file<K: ByteSink>(
     put_fault(sink, line.as_str(), tally)
 }
 
-/// Tells of the bytes at a file's end, which are too few for a packet.
+/// Reports the bytes at a file's end, which are too few for a packet.
 fn tell_left<K: ByteSink>(
     alloc: Global,
     sink: &mut K,
@@ -124,7 +124,7 @@ fn tell_left<K: ByteSink>(
     }
 }
 
-/// Tells of bytes that don't start with a packet, for this reason, unless they are only too few.
+/// Reports bytes that don't start with a packet, for this reason, unless they are only too few.
 fn tell_bad<K: ByteSink>(
     alloc: Global,
     sink: &mut K,
@@ -152,7 +152,7 @@ fn tell_bad<K: ByteSink>(
     }
 }
 
-/// Tells of the packet that bytes start with, or why they don't start with one.
+/// Reports the packet that bytes start with, or why they don't start with one.
 fn tell_front<K: ByteSink>(
     alloc: Global,
     sink: &mut K,
@@ -192,7 +192,7 @@ fn bytes_of(alloc: Global, bytes: &[u8]) -> Result<Vec<u8>, AllocError>
     bytes.to_vec(alloc)
 }
 
-/// Tells of the packets that are held whole, and holds what comes after them. Whether nothing more of the file is judged.
+/// Reports the packets that are held whole, and holds what comes after them. Whether nothing more of the file is judged.
 fn tell_held<K: ByteSink>(
     alloc: Global,
     sink: &mut K,
@@ -228,7 +228,7 @@ fn tell_held<K: ByteSink>(
     Ok(false)
 }
 
-/// Tells of the open file, which is a stream's in an archive.
+/// Reports the open file, which is a stream's in an archive.
 pub(crate) fn tell_file<F: Folders, K: ByteSink>(
     alloc: Global,
     folders: &mut F,

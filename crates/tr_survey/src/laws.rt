@@ -38,8 +38,8 @@ pub fn metadata_name_their_trace()
         → naming_in (Some (file_of (metadata_of uuid) false)) ≡ Named uuid }
 {}
 
-/// A stream's files that hold packets which its audit passes, and whose counts of discarded records don't fall, have no fault: what
-/// is told of the stream is where numbers are absent, what was lost, and its counts. Does nothing.
+/// A stream's files that hold packets which its audit passes, and whose counts of discarded records don't fall, have no fault:
+/// what is reported of the stream is where numbers are absent, what was lost, and its counts. Does nothing.
 pub fn a_recorded_stream_has_no_fault()
     ensures told { (t : Tree) (folder uuid : List ℕ) (stream : Numbered) (files : List Recorded) (n : ℕ) → HasFiles t folder stream files
         → AreRecorded uuid stream.number files
@@ -48,8 +48,8 @@ pub fn a_recorded_stream_has_no_fault()
         → (recorded_stream_told uuid stream files n).state ≡ n }
 {}
 
-/// A session that stands in a folder as a recorder writes it, the only one there, is whole, and the survey says just its archives,
-/// its streams, and what each of them lost. Does nothing.
+/// A session that is in a folder as a recorder writes it, and is the only one there, is whole, and the survey says just its
+/// archives, its streams, and what each of them lost. Does nothing.
 pub fn a_recorded_session_is_whole()
     ensures { (asked : Bool) (t : Tree) (dir session uuid : List ℕ) (archives : List Numbered) (streams : List StreamFiles)
         → StandsAlone t dir session uuid archives streams

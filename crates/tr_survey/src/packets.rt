@@ -1,4 +1,4 @@
-//! What is told at a packet.
+//! What is reported at a packet.
 
 ghost use Rattle.std.specs.Prelude.{◌≡◌, ℕ, List, IfOk};
 ghost use Rattle.std.specs.String.{string_bytes};
@@ -91,7 +91,7 @@ fn fall_told(
     packet_fault_line(alloc, stream, archive.name.as_str(), offset, "lost falls")
 }
 
-/// What is told at a packet.
+/// What is reported at a packet.
 pub(crate) fn packet_told(
     alloc: Global,
     stream: u64,

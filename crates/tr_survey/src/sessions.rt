@@ -104,7 +104,7 @@ fn put_head<K: ByteSink>(
     put_faults(sink, faults, &lines)
 }
 
-/// Tells of streams, after this number of faults, and then of each archive, if that is asked for. How many faults there are then.
+/// Reports streams, after this number of faults, and then each archive, if that is asked for. How many faults there are then.
 fn tell_streams_and_sums<F: Folders, K: ByteSink>(
     alloc: Global,
     folders: &mut F,
@@ -162,7 +162,7 @@ fn identity_of<F: Folders>(
     }
 }
 
-/// Tells of a session of this identifier that has these archives and streams in a folder, whose metadata name these, after this
+/// Reports a session of this identifier that has these archives and streams in a folder, whose metadata name these, after this
 /// number of faults. How many there are then.
 fn tell_named<F: Folders, K: ByteSink>(
     alloc: Global,
@@ -200,7 +200,7 @@ fn tell_named<F: Folders, K: ByteSink>(
     )
 }
 
-/// Tells of a session that has these archives in a folder, after this number of faults. How many there are then.
+/// Reports a session that has these archives in a folder, after this number of faults. How many there are then.
 pub(crate) fn tell_archives<F: Folders, K: ByteSink>(
     alloc: Global,
     folders: &mut F,

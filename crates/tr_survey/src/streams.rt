@@ -1,4 +1,4 @@
-//! What is told of streams.
+//! What is reported of streams.
 
 ghost use Rattle.std.specs.Prelude.{◌≡◌, ◌<◌, Some, IfOk, OnOk, OnErr, length, map, ℕ, List};
 ghost use Rattle.std.specs.String.{string_bytes};
@@ -23,7 +23,7 @@ use tr_folders::{Folders, ReadFault};
 use tr_record::ByteSink;
 use uuid::Uuid;
 
-/// Tells of a stream's file in an archive of a folder.
+/// Reports a stream's file in an archive of a folder.
 fn tell_archive<F: Folders, K: ByteSink>(
     alloc: Global,
     folders: &mut F,
@@ -66,7 +66,8 @@ fn tell_archive<F: Folders, K: ByteSink>(
     }
 }
 
-/// Tells of a stream's files in the archives of a folder, and adds to the sums of each what its file adds to the stream's counts.
+/// Reports a stream's files in the archives of a folder. What each file adds to the stream's counts is added to the sums of its
+/// archive.
 fn tell_files<F: Folders, K: ByteSink>(
     alloc: Global,
     folders: &mut F,
@@ -154,7 +155,7 @@ fn are_deleted(archives: &[Numbered]) -> bool
     }
 }
 
-/// Tells of a stream, after this number of faults. How many there are then.
+/// Reports a stream, after this number of faults. How many there are then.
 fn tell_stream<F: Folders, K: ByteSink>(
     alloc: Global,
     folders: &mut F,
@@ -192,7 +193,7 @@ fn tell_stream<F: Folders, K: ByteSink>(
     Ok(tally.faults)
 }
 
-/// Tells of streams, after this number of faults, and adds to the sums of each archive. How many faults there are then.
+/// Reports streams, after this number of faults, and adds to the sums of each archive. How many faults there are then.
 pub(crate) fn tell_streams<F: Folders, K: ByteSink>(
     alloc: Global,
     folders: &mut F,

@@ -21,7 +21,7 @@ use tr_record::ByteSink;
 use tr_terms::Name;
 use tr_terms::limits::MOST_METADATA;
 
-/// Tells of a session whose folder of archives can't be read.
+/// Reports a session whose folder of archives can't be read.
 fn tell_closed<K: ByteSink>(
     alloc: Global,
     sink: &mut K,
@@ -46,7 +46,7 @@ fn faults_of(faults: Option<u64>) -> u64
     faults.unwrap_or(0)
 }
 
-/// Whether a folder of archives stands below the folder of this name, whether it can be read or not.
+/// Whether there is a folder of archives below the folder of this name, whether it can be read or not.
 fn has_archives<F: Folders>(
     alloc: Global,
     folders: &mut F,
@@ -66,7 +66,7 @@ fn has_archives<F: Folders>(
     }
 }
 
-/// Tells that a name is passed over, if it has a folder of archives.
+/// Reports that a name is passed over, if it has a folder of archives.
 fn tell_passed<F: Folders, K: ByteSink>(
     alloc: Global,
     folders: &mut F,
@@ -89,8 +89,8 @@ fn tell_passed<F: Folders, K: ByteSink>(
     put_bytes(sink, &line)
 }
 
-/// Tells of what has this name, which a session can have, if it is one. How many faults there are then; None if there was no
-/// session yet.
+/// Reports what has this name, which a session can have, if it is a session. How many faults there are then; None if there was
+/// no session yet.
 fn tell_able<F: Folders, K: ByteSink>(
     alloc: Global,
     folders: &mut F,
@@ -135,7 +135,7 @@ fn tell_able<F: Folders, K: ByteSink>(
     Ok(Some(count))
 }
 
-/// Tells of what has this name. How many faults there are then; None if there was no session yet.
+/// Reports what has this name. How many faults there are then; None if there was no session yet.
 fn tell_name<F: Folders, K: ByteSink>(
     alloc: Global,
     folders: &mut F,
@@ -163,7 +163,7 @@ fn tell_name<F: Folders, K: ByteSink>(
     tell_able(alloc, folders, sink, dir, name, asked, faults, buffer)
 }
 
-/// Tells of these names, in order. How many faults there are; None if none is a session.
+/// Reports what has these names, in order. How many faults there are; None if none is a session.
 fn tell_names<F: Folders, K: ByteSink>(
     alloc: Global,
     folders: &mut F,
@@ -217,10 +217,10 @@ fn put_end<K: ByteSink>(
     Ok(Surveyed::Faults(count))
 }
 
-/// Tells what stands below a folder, session by session, and what is wrong with it, as the crate says it, with a line for each
-/// archive if these are asked for. If the folder can't be read, nothing goes out. It holds the names of what it reads, the
-/// counts of each archive of a session, a piece of a file and the packet that it reads, however long the files are. What can't be
-/// read below the folder is told, and the survey goes on.
+/// Reports what is below a folder, session by session, and what is wrong with it, as the crate's front page says, with a line
+/// for each archive if that is asked for. If the folder can't be read, nothing goes out. It holds the names of what it reads,
+/// the counts of each archive of a session, a piece of a file and the packet that it reads, however long the files are. What
+/// can't be read below the folder is reported, and the survey goes on.
 ///
 /// # Errors
 ///

@@ -1,7 +1,7 @@
 //! The limits of the product, and the sizes of headers.
-//! Three numbers that look like limits stand where they are used: `MANY_RECORDS` of tr_command only says before which loads a
-//! terminal is told something, `FIRST_ROOM` of tr_chunk how much memory an audit takes at once, and `MOST_BYTES` of tr_folders
-//! belongs to the interface that reads folders, whose counts it keeps within a u64.
+//! Three numbers that look like limits are defined where they are used: `MANY_RECORDS` of tr_command only says before which
+//! loads the program prints a line at a terminal, `FIRST_ROOM` of tr_chunk how much memory an audit takes at once, and
+//! `MOST_BYTES` of tr_folders belongs to the interface that reads folders, and keeps its counts within a u64.
 
 /// The greatest moment, in nanoseconds since 1970.
 pub const LAST_MOMENT: u64 = 9_000_000_000_000_000_000;

@@ -1,4 +1,4 @@
--- `thread`: a thread of a channel, which is told by the number of its stream.
+-- `thread`: a thread of a channel; the answer is the number of its stream.
 use Rattle.std.specs.Fmt.{decimal}
 use Rattle.std.specs.Prelude.{◌++◌, codes, length}
 use Rattle.tr_console.specs.Steps.{Step, addition_step, session_step}

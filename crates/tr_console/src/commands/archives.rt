@@ -65,7 +65,7 @@ fn archives_of<A: Allocator + Copy>(alloc: A, session: &Session<A>) -> Result<St
 }
 
 impl<A: Allocator + Copy> Console<A> {
-    /// Tells the archives of the session of this name.
+    /// Lists the archives of the session of this name.
     pub(crate) fn archives(&self, session: &str) -> Result<Reply<A>, AllocError>
         ensures { IfOk result (Does (archives_step by_state self.now session.now) self.now) }
     {

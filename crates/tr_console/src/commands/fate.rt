@@ -44,7 +44,7 @@ fn fate_reply<A: Allocator + Copy>(
 }
 
 impl<A: Allocator + Copy> Console<A> {
-    /// Tells what became of an offer to a stream of the session of this name.
+    /// Says what became of an offer to a stream of the session of this name.
     pub(crate) fn fate(
         &self,
         session: &str,

@@ -176,7 +176,7 @@ fn status_of<A: Allocator + Copy>(
 }
 
 impl<A: Allocator + Copy> Console<A> {
-    /// Tells the numbers of the session of this name.
+    /// Shows the numbers of the session of this name.
     pub(crate) fn status(&self, session: &str) -> Result<Reply<A>, AllocError>
         ensures { IfOk result (Does (status_step by_state self.now session.now) self.now) }
     {

@@ -119,7 +119,7 @@ static FIRST_PACKET: [(usize, usize, Want); 18] = [
     (48, 64, Want::Fault(0, Packet(BadSize))),
     // The number is now above the second packet's, which is 1.
     (64, 72, Want::Fault(228, NumberRepeat)),
-    // The audit tells only the last packet's discarded records, and no ids.
+    // The audit reports only the last packet's discarded records, and no ids.
     (72, 84, Want::Both),
     (84, 92, Want::Fault(0, Packet(MomentOrder))),
     (92, 100, Want::Fault(0, Packet(SerialOrder))),
@@ -144,7 +144,7 @@ static SECOND_PACKET: [(usize, usize, Want); 23] = [
     (276, 292, Want::Fault(228, Packet(BadSize))),
     // The number is still above the first packet's, and no packet follows.
     (292, 300, Want::LastNumber),
-    // This is the last packet, so the audit tells its discarded records.
+    // This is the last packet, so the audit reports its discarded records.
     (300, 308, Want::LastDiscarded),
     (308, 312, Want::Both),
     (312, 320, Want::Fault(228, Packet(MomentOrder))),

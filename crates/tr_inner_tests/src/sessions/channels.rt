@@ -105,7 +105,7 @@ fn streams_stand_apart(rt: HostRuntime) {
     drop(session);
 }
 
-/// Fates tell where records are. Two records of 88 bytes fill a sub-buffer, and the fifth overwrites the first two.
+/// Fates say where records are. Two records of 88 bytes fill a sub-buffer, and the fifth overwrites the first two.
 static FATES: [Step; 30] = [
     Channel("c", (256, 2, Mode::Overwrite), Ok(())),
     Channel("d", (256, 2, Mode::Discard), Ok(())),
@@ -222,7 +222,7 @@ fn streams_are_refused_in_order(rt: HostRuntime) {
     drop(session);
 }
 
-/// The channel that the book tells of each stream.
+/// The channel that the book has for each stream.
 static CHANNEL_OF: [Step; 4] = [
     Channel("c", (256, 2, Mode::Discard), Ok(())),
     Channel("d", (512, 2, Mode::Overwrite), Ok(())),

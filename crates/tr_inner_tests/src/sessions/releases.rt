@@ -46,7 +46,7 @@ const TWO_RECORDS: Released = Released {
 };
 
 static RELEASED: [&[Step]; 3] = [
-    // what became of records is told as before, and so is how much an archive held; a released part isn't released again
+    // what became of records is answered as before, and so is how much an archive held; a released part isn't released again
     &[
         Start(0, Ok(())),
         Offers(1, 6, 50),

@@ -1,4 +1,4 @@
-//! Worked examples of releases: what they give up, what is told of it afterwards, and what stays.
+//! Worked examples of releases: what they give up, what is answered of it afterwards, and what stays.
 
 use super::Step::{
     self, Clear, Counts as Counted, Cut, Fate as FateOf, NoPart, Offer, Offers, Part, Peek,
@@ -71,7 +71,7 @@ const OVER_COUNTED: Counts = Counts {
 };
 
 static RELEASES: [(Mode, &[Step]); 3] = [
-    // what became of each offer is told as before, and so are all counts; the current part isn't closed
+    // what became of each offer is answered as before, and so are all counts; the current part isn't closed
     (
         Mode::Discard,
         &[

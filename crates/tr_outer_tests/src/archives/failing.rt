@@ -121,8 +121,8 @@ fn assert_told(
 }
 
 /// After how many calls the disk fails, how many bytes its first file has room for and each later one, and whether that is
-/// told. There are five calls: a folder, and the beginning and the end of two files. The stream's file has 484 bytes, and the
-/// metadata, which comes last, 1,082.
+/// reported. There are five calls: a folder, and the beginning and the end of two files. The stream's file has 484 bytes, and
+/// the metadata, which comes last, 1,082.
 static FAILURES: [(usize, usize, usize, bool); 13] = [
     (0, 4096, 4096, true),
     (1, 4096, 4096, true),

@@ -158,7 +158,7 @@ fn assert_sums<A: Allocator>(rt: &impl Abort, worked: &Worked<A>, sums: Sums) {
 }
 
 impl<'a> Case<'a> {
-    /// Asserts what the call left that came to this: what the session was settled with, and that nothing tells it from another.
+    /// Asserts what a call with this answer left: what the session was settled with, and that nothing tells it from another.
     fn assert_stands<A: Allocator + Copy>(
         &self,
         rt: &impl Abort,

@@ -110,7 +110,7 @@ returns-in_err-next_piece-clause-only g c =
     (memory_alone FIRST_ROOM c.args.reader.uuid c.args.reader.stream texts pss f audited
     (subst (λ r. IfErr r (λ f. ReaderStopsAt c.args.reader.uuid c.args.reader.stream texts f)) result (returns-in_err-next_piece-clause-fault g c)))
 
--- what `finish` was told: all pieces, and an empty one
+-- what the reader has read before `finish`: all pieces, and an empty one
 all_read : {A : Type 0} (uuid : List ℕ) (stream : ℕ) (reader : Reading A) (pieces : List (Bor (List (Bor (List ℕ))))) (at : ℕ)
     → ReadUpTo uuid stream reader (pieces_fed pieces) at → length pieces ≤ at → HasRead uuid stream (pieces_fed pieces) [] reader
 all_read uuid stream reader pieces at upto end =

@@ -47,7 +47,7 @@ struct Hold {
 }
 
 impl Hold {
-    /// Nothing was told.
+    /// Nothing was said yet.
     fn new() -> Hold {
         Hold {
             held: AtomicU64::new(0),
@@ -90,7 +90,7 @@ fn hold_first<N: Names>(rt: &(impl Abort + Wait), shared: &Shared<N>, hold: &Hol
     shared.hold_stream(rt, 0, || wait_beside(rt, hold))
 }
 
-/// Waits until the first stream is held, and tells that a call which wants it is begun.
+/// Waits until the first stream is held, and says that a call which wants it is begun.
 fn begin_waiting(rt: &impl Abort, hold: &Hold) {
     assert!(rt; reached(&hold.held, 1, TURNS), "the hold doesn't begin");
     raise(&hold.begun);
