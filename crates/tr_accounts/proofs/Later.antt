@@ -162,7 +162,7 @@ still-taken cs ds taken later was =
     let is = still-at taken.seq taken.count taken.chunk cs ds later was.block was.there was.count was.kept in
     record { block = is.0; there = is.1; count = is.2; kept = is.3 }
 
--- how many blocks stand before the first that waits
+-- how many blocks are before the first that waits
 abbrev pub settled : List Closed → ℕ
 settled [] = 0
 settled (c ∷ cs) = if is_waiting c.status then 0 else suc (settled cs)

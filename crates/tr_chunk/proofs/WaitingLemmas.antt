@@ -1,4 +1,4 @@
--- Bytes that are too few for a packet, and faults that stand firm whatever follows.
+-- Bytes that are too few for a packet, and faults that stay, whatever follows.
 use Rattle.std.proofs.Common.{◌≡◌, ◌≢◌, ℕ, ◌+◌, ◌*◌, ◌/◌, ◌%◌, ◌<◌, ◌≤◌, Bool, true, false, not, cond, ◌&&◌, leb, ltb, eqb, List, [], ◌∷◌, ◌++◌, length, take, drop, Option, Some, None, refl, sym, ap, ◌∙◌, append_assoc, length-append, arith, ◌⊎◌, inl, inr}
 use Rattle.std.specs.Int.{Width, w32, w64, byte_len, from_le_bytes}
 use Rattle.std.specs.List.{starts_with}
@@ -138,7 +138,7 @@ wanted_by_header bytes f waits fault =
     let is : f ≡ Short = some_same f Short (sym (fields_first bytes f (fields_fault bytes) fault) ∙ sym (first_is bytes) ∙ waits) in
     short_of bytes (ltb (length bytes) PACKET_HEADER) refl (fault ∙ ap Some is)
 
--- ---- a fault stands firm, whatever follows
+-- ---- a fault stays, whatever follows
 
 field_stays : (w : Width) (at : ℕ) (bytes more : List ℕ) → at + byte_len w ≤ length bytes
     → number_from w at (bytes ++ more) ≡ number_from w at bytes

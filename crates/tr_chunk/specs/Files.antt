@@ -34,7 +34,7 @@ WritesText text before after (Err Write) =
 WritesText text before after (Err NoMemory) =
     (after.taken ≡ before.taken) × (after.failures ≡ before.failures)
 
--- a call that writes a text that stands in memory: all of it went out; or one failure came and a prefix of it went out. It
+-- a call that writes a text that is in memory: all of it went out; or one failure came and a prefix of it went out. It
 -- takes no memory, and if the text is empty nothing fails.
 abbrev pub WritesStanding : List ℕ → Sunk → Sunk → Result (Unit {0}) WriteFault → Type 0
 WritesStanding text before after (Ok done) =

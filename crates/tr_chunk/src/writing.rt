@@ -11,7 +11,7 @@ use tr_packet::metadata_text;
 use tr_record::{ByteSink, put_all};
 use uuid::Uuid;
 
-/// Writes the text of packets as it stands in memory. After W1 a prefix of it went out.
+/// Writes the text of packets as it is in memory. After W1 a prefix of it went out.
 pub fn write_standing<K: ByteSink>(sink: &mut K, text: &[u8]) -> Result<(), WriteFault>
     ensures { WritesStanding text.now (sunk_of K.ByteSink sink.old) (sunk_of K.ByteSink sink.new) result }
 {

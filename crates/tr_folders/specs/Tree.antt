@@ -1,4 +1,4 @@
--- What stands in folders.
+-- What is in folders.
 use Rattle.std.specs.Prelude.{◌≡◌, ℕ, Bool, true, false, String, string_bytes, List, [], ◌++◌, map, Option, Some, None}
 
 -- what can be read of a file, and whether it can't be read to its end
@@ -16,12 +16,12 @@ pub record Tree : Type 0 where
 abbrev pub by_text : {Z : Type 0} → List (String Z) → List (List ℕ)
 by_text = map string_bytes
 
--- a file is opened, and has all its bytes to give, or no file stands there
+-- a file is opened, and has all its bytes to give, or there is no file
 abbrev pub Opens : Option File → Bool → Option File → Type 0
 Opens file true left = (one : File) × (file ≡ Some one) × (left ≡ Some one)
 Opens file false left = file ≡ None
 
--- of what a file had to give these bytes were given, and some is left; none were given at its end alone
+-- these bytes of what a file had to give were given, and this is left; only at the end none are given
 pub record Reads (before : File) (given : List ℕ) (left : Option File) : Type 0 where
   pub rest : List ℕ
   pub is : before.bytes ≡ given ++ rest

@@ -6,7 +6,7 @@ use thiserror::Error;
 /// Why a folder or a file isn't read.
 #[derive(Clone, Copy, Debug, PartialEq, Eq, Error)]
 pub enum ReadFault {
-    /// It can't be read, or, of a file, not any further. This is what stands there, and no failure.
+    /// It can't be read, or a file can't be read any further. That is what is there, and no failure.
     #[error("a folder or a file can't be read")]
     Unreadable,
     /// As many bytes of files were given as are ever given.

@@ -15,16 +15,16 @@ pub const MOST_BYTES: u64 = 1 << 62;
 
 /// Reads folders and files; one file at a time is open.
 pub trait Folders {
-    /// What stands there, if the type says. Reading changes none of it.
+    /// What is there, if the type says. Reading changes none of it.
     ghost tree: { Self → Option Tree };
     /// What the open file has still to give, if the type says. Nothing is left if no file is open.
     ghost left: { Self → Option File };
     /// How many bytes of files it gave in all. It fails before it gives 2^62.
     ghost given: { Self → ℕ };
-    /// How often it failed, modulo 2^64. Want of memory isn't counted, nor what can't be read.
+    /// How often it failed, modulo 2^64. A failed allocation isn't counted, nor what can't be read.
     ghost failures: { Self → ℕ };
 
-    /// The names in a folder, in any order. None if no folder stands there.
+    /// The names in a folder, in any order. None if there is no folder.
     fn names_in(&mut self, alloc: Global, path: &str) -> Result<Option<Vec<String>>, ReadFault>
         ensures names { IfOk result (λ found. (t : Tree) → tree self.old ≡ Some t
             → option_map (λ names. by_text names.items) found ≡ t.names path.now) }
@@ -35,9 +35,9 @@ pub trait Folders {
         ensures given { given self.new ≡ given self.old }
         ensures failures { failures self.new ≡ after_reading result (failures self.old) };
 
-    /// Opens a file for reading, in place of the one that was open. False if no file stands there: then, and after a fault,
-    /// nothing is said of which file is open. Where it is known what stands there, each file can be opened, and one that can't
-    /// be read breaks off when it is.
+    /// Opens a file for reading, in place of the one that was open. False if there is no file: then, and after a fault, nothing
+    /// is said of which file is open. Where it is known what is there, each file can be opened, and one that can't be read
+    /// breaks off when it is.
     fn open(&mut self, path: &str) -> Result<bool, ReadFault>
         ensures opens { IfOk result (λ is_file. (t : Tree) → tree self.old ≡ Some t
             → Opens (t.file path.now) is_file (left self.new)) }

@@ -11,7 +11,7 @@ use std::fs;
 use std::io::{Error, ErrorKind, Read};
 use std::rt::Files;
 
-/// The file system that the runtime reaches. Contracts know nothing of what stands there. Links are followed, and what is
+/// The file system that the runtime reaches. Contracts know nothing of what is there. Links are followed, and what is
 /// neither a folder nor a regular file isn't there. Names that aren't UTF-8 are left out.
 #[derive(Drop)]
 pub struct HostFolders<'a, R: Files + Alloc + Clone + Drop> {
@@ -51,7 +51,7 @@ impl<'a, R: Files + Alloc + Clone + Drop> HostFolders<'a, R> {
     }
 }
 
-/// Whether nothing stands at a path, or no folder.
+/// Whether there is nothing at a path, or no folder.
 fn is_absence(error: &Error) -> bool {
     matches!(error.kind(), ErrorKind::NotFound | ErrorKind::NotADirectory)
 }
@@ -63,7 +63,7 @@ fn fault_of(error: &Error) -> ReadFault {
     }
 }
 
-/// The names in a folder. None if no folder stands there.
+/// The names in a folder. None if there is no folder.
 fn names_below<R: Files + Alloc + Clone + Drop>(
     files: &R,
     alloc: Global,
@@ -85,7 +85,7 @@ fn names_below<R: Files + Alloc + Clone + Drop>(
     Ok(Some(names))
 }
 
-/// The regular file at a path, open for reading. None if none stands there.
+/// The regular file at a path, open for reading. None if there is none.
 fn file_at<R: Files>(files: &R, path: &str) -> Result<Option<R::File>, ReadFault> {
     match fs::metadata(files, path) {
         Ok(metadata) if metadata.is_file() => {}

@@ -73,7 +73,7 @@ impl MemoryFolders {
         }
     }
 
-    /// Whether what stands at this path can't be read.
+    /// Whether what is at this path can't be read.
     fn hides(&self, path: &str) -> bool
         ensures { result ≡ is_among self.now.hidden.items path.now }
     {

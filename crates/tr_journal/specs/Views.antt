@@ -115,7 +115,7 @@ noted done v = noted_in done v.log v.parts
 abbrev pub IsShown : {E : Type 0} → View E → Type 0
 IsShown v = (log : Log _) → v.log ≡ Some log → ArePartsOf log.made log.lines v.parts
 
--- what the rule says of one view: the log stands at one place, and the part of each number at one place
+-- what the rule says of one view: the log is at one place, and the part of each number at one place
 pub record Fits {E : Type 0} (log : Log E) (book_at : ℕ) (seat_at : ℕ → ℕ) (at : ℕ) (v : View E) : Type 0 where
   pub book : (l : Log E) → v.log ≡ Some l → (at ≡ book_at) × (l ≡ log)
   pub places : AllByRecursion (λ p. at ≡ seat_at p.who) v.parts

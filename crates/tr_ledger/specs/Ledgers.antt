@@ -22,7 +22,7 @@ pub record SeatState : Type 0 where
 abbrev pub seat_state : TableId → ℕ → ℕ → SeatState
 seat_state table amount mark = record { table = table; amount = amount; mark = mark }
 
--- how a seat stands to its ledger: it has at most the total, and the total itself if it is whole, with all seats in it
+-- how a seat relates to its ledger: it has at most the total, and the total itself if it is whole, with all seats in it
 abbrev pub IsSeatOf : LedgerState → SeatState → Type 0
 IsSeatOf ledger seat = IsShare seat.amount seat.mark ledger.total ledger.made
 

@@ -122,7 +122,7 @@ impl<A: Allocator> Ledger<A> {
         self.raise(seat, 1);
     }
 
-    /// Changes nothing, and shows how the seat stands to the total.
+    /// Changes nothing, and shows how the seat relates to the total.
     pub fn audit(&mut self, seat: &mut Seat)
         requires { seat.old.table ≡ self.old.table }
         ensures same { (self.new ≡ self.old) × (seat.new ≡ seat.old) }

@@ -27,7 +27,7 @@ abbrev pub AreWritten : List ℕ → SessionOf StreamState → DiskState → Dis
 AreWritten dir session before after (Ok done) = after.made ≡ and_then_made before.made (archives_made dir (codes "load") session)
 AreWritten dir session before after (Err fault) = MadePrefix before.made after.made (archives_made dir (codes "load") session)
 
--- a load's archives were written below a folder, if one is named, or one failure or want of memory came between
+-- a load's archives were written below a folder, if one is named, or a failure or a failed allocation came between
 abbrev pub WritesLoad : Option (List ℕ) → SessionOf StreamState → DiskState → DiskState → Result (Unit {0}) ExportFault → Type 0
 WritesLoad None session before after result = (after ≡ before) × (result ≡ Ok tt)
 WritesLoad (Some dir) session before after result =

@@ -14,7 +14,7 @@ use tr_load::NoProgress;
 use tr_program::run_given;
 use tr_record::{MemorySink, MemorySource};
 
-/// Folders in which nothing stands.
+/// Folders with nothing in them.
 fn no_folders(alloc: Global) -> MemoryFolders {
     MemoryFolders::new(alloc, Vec::new(alloc), Vec::new(alloc), 1)
 }

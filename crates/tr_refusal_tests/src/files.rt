@@ -229,7 +229,7 @@ fn read<A: Allocator + Copy>(rt: &impl Abort, alloc: A, pieces: &[&[u8]]) -> Tol
     found(reader.finish())
 }
 
-/// An audit's want of memory for its first list of gaps, which has room for four, or for the next one.
+/// Where an audit stops if it has no memory for its first list of gaps, which has room for four, or for the next one.
 static STOPS: [AuditFault; 2] = [
     AuditFault {
         piece: 0,

@@ -365,7 +365,7 @@ fn refuse_rows(rt: &impl Abort, plain: Global, rows: &[Row]) -> (usize, usize) {
     (tried, refused)
 }
 
-/// A session's want of memory.
+/// What a session answers if an allocation fails.
 const NO_MEMORY: SessionFault = SessionFault::NoMemory;
 
 /// Three streams: seven offers to the first one, which fill three sub-buffers and begin a fourth, and one offer to the third.

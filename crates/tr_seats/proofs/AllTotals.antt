@@ -66,7 +66,7 @@ of-row h slots seats len own =
     (λ k d s lt. own k d s (omega (arith, lt, len))))
     ∙ sum-map (λ (s : SeatState). s.amount) seats
 
--- the seats of a row that stand for the streams' counts
+-- the seats of a row have the streams' counts
 abbrev AreWholeOf : (Totals → ℕ) → List SlotState → List SeatState → Type 0
 AreWholeOf h slots seats = (k : ℕ) (d : SeatState) (s : SlotState) → k < length slots → (get_or seats k d).amount ≡ h (counted (get_or slots k s))
 

@@ -1,4 +1,4 @@
--- Seats that stand in a row, one for each stream.
+-- Seats in a row, one for each stream.
 use Rattle.std.proofs.Common.{true, false, eqb, ⊎_elim, ◌≡◌, ℕ, zero, suc, ◌+◌, ◌<◌, ◌≢◌, List, [], ◌∷◌, ◌++◌, length, get_or, map, set, take, drop, Some, ◌≤◌, add-one, refl, sym, ap, ◌∙◌, arith}
 use Rattle.std.specs.Prelude.{slice_index, slice_get, replicate}
 use Rattle.std.proofs.lemmas.List.{map-set, length-map, get_or-map, map-append, take_more, replicate_more, length_push, get_or_push}

@@ -8,7 +8,7 @@ use thiserror::Error;
 
 /// Why a call was refused. The book and a `Session` are as they were, except that after `NoMemory` a `rotate` or a `tick` may
 /// leave a rotation pending, a `clear` some streams cleared, and a `release` some parts released. What a call of a shared
-/// session leaves stands at that call.
+/// session leaves is said at that call.
 #[derive(Clone, Copy, Debug, PartialEq, Eq, Error)]
 #[error("{} {}", self.code(), self.name())]
 pub enum SessionFault {

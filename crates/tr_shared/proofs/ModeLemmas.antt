@@ -38,7 +38,7 @@ rotates-by Snapshot r not same = refl
 abbrev refused : Result ℕ SessionFault
 refused = Err SnapshotMode
 
--- a rotation is refused for the mode if and only if that is the session's, want of memory aside
+-- unless an allocation fails, a rotation is refused for the mode if and only if that is the session's
 pub begin-mode : (m : SessionMode) (b : SessionBookState) (r : Result ℕ SessionFault) → b.mode ≡ m
     → (r ≢ Err NoMemory → r ≡ book_rotate_begin_answer b) → (r ≡ Err NoMemory → IsOk (book_rotate_begin_answer b))
     → (r ≡ Err SnapshotMode) ↔ (m ≡ Snapshot)

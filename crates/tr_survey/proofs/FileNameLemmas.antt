@@ -31,7 +31,7 @@ digits_written =
     (λ n text more before. list_all-append is_digit text ((48 + n % 10) ∷ [])
     ∙ also _ _ before (also _ _ (digit_of (n % 10) (omega arith)) refl))
 
--- no zero stands in front of other digits
+-- no zero is in front of other digits
 no_zero_in_front : (text : List ℕ) → 48 < get_or text 0 0 → has_spare_zero text ≡ false
 no_zero_in_front [] above = refl
 no_zero_in_front (b ∷ []) above = refl
@@ -77,7 +77,7 @@ underscore_at channel digits =
     get_or-append_right channel (95 ∷ digits) (length channel) (length channel + 1 - 1) 0 refl (omega arith)
     ∙ ap (λ (n : ℕ). get_or (95 ∷ digits) n 0) place
 
--- after the last underscore stand the digits
+-- after the last underscore are the digits
 others_behind : (channel digits : List ℕ) → list_all is_digit digits ≡ true
     → suffix_len is_other (channel ++ (95 ∷ digits)) ≡ length digits
 others_behind channel digits all =

@@ -45,7 +45,7 @@ text_stays uuid =
     let here = by_index_at 36 (λ j. cond (is_hyphen_place j) 45 (hex_digit lower (nibble uuid (digit_place j)))) k d (omega (arith, long_so uuid)) in
     ap stays here ∙ character_stays (is_hyphen_place k) (nibble uuid (digit_place k)))
 
--- what stands between quotes is found
+-- what is between quotes is found
 quoted_so : (text : List ℕ) → length text ≡ 36 → quoted (codes "uuid = \"" ++ (text ++ codes "\";")) ≡ Some text
 quoted_so text long =
     let cut : length (text ++ codes "\";") - 2 ≡ 36 = omega (arith, length-append text (codes "\";")) in
@@ -107,7 +107,7 @@ in_line_of text uuid long stay is =
 
 -- ---- the metadata
 
--- what stands before the line of the identifier, and after it
+-- what is before the line of the identifier, and after it
 front : List ℕ
 front = preface_text ++ (lines (codes "trace {" ∷ codes "  major = 1;" ∷ []) ++ codes "  minor = 8;")
 

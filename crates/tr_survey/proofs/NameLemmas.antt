@@ -23,7 +23,7 @@ other b h = grind (arith, common_steps)
 underscore : (b : ℕ) → b ≡ 95 → is_other b ≡ false
 underscore b e = rw e refl
 
--- without an underscore nothing stands before it
+-- without an underscore nothing is before it
 no_front : (name : List ℕ) → suffix_len is_other name ≡ length name - 0 → before_last is_underscore name ≡ []
 no_front name e =
     let none : length name - suffix_len is_other name - 1 ≡ 0 = omega (arith, e) in
@@ -38,7 +38,7 @@ none_before name none =
 pub named_none : (name : List ℕ) → NoCharPasses (λ d. eqb d 95) name → None ≡ stream_named name
 named_none name none = ap (λ (front : List ℕ). stream_of front (after_last is_underscore name)) (sym (none_before name none))
 
--- the bytes after this place are others, and an underscore stands before it
+-- the bytes after this place are others, and an underscore is before it
 record CutAt (name : List ℕ) (j : ℕ) : Type 0 where
   before : suffix_len is_other name ≡ length name - j
 

@@ -1,4 +1,4 @@
--- What is wrong with a session's archives as they stand there, before their files are read.
+-- What is wrong with a session's archives as they are there, before their files are read.
 use Rattle.std.specs.Prelude.{ℕ, ◌+◌, ◌-◌, Bool, nat_eq, nat_lt, List, [], ◌∷◌, ◌++◌, codes, length, Option, Some, None, if◌then◌else◌}
 use Rattle.std.specs.Cmp.Lexicographic.{pointwise}
 use Rattle.std.specs.List.{flat_map, zip}

@@ -23,7 +23,7 @@ with_keys = fold (insert_key number_cmp)
 abbrev pub names_in_order : List (List ℕ) → List (List ℕ)
 names_in_order = fold (insert_key name_cmp) []
 
--- a folder stands there, whether it can be read or not
+-- a folder is there, whether it can be read or not
 abbrev pub is_folder : Tree → List ℕ → Bool
 is_folder t path = t.is_hidden path || is_some (t.names path)
 
@@ -31,13 +31,13 @@ is_folder t path = t.is_hidden path || is_some (t.names path)
 abbrev pub names_at : Tree → List ℕ → List (List ℕ)
 names_at t path = if t.is_hidden path then [] else unwrap_or (t.names path) []
 
--- what a listing says stands there
+-- what is there by this listing
 abbrev pub IsListing : Tree → List ℕ → Listing → Type 0
 IsListing t path Absent = (t.is_hidden path ≡ false) × (t.names path ≡ None)
 IsListing t path Unreadable = t.is_hidden path ≡ true
 IsListing t path (Names names) = (t.is_hidden path ≡ false) × (t.names path ≡ Some (by_text names.items))
 
--- the archive of this name in a folder; none: no folder stands there, or its name is no archive's
+-- the archive of this name in a folder; none: there is no folder of this name, or it is no archive's name
 abbrev pub archive_at : Tree → List ℕ → List ℕ → Option Numbered
 archive_at t folder name =
     option_and_then (λ n. if is_folder t (path_of folder name) then Some (of_parts name n) else None) (archive_number name)

@@ -16,7 +16,7 @@ abbrev pub without_indent : List ℕ → List ℕ
 without_indent [] = []
 without_indent (b ∷ line) = if b == 32 then without_indent line else b ∷ line
 
--- what stands between quotes in a line `uuid = "..";`
+-- what is between quotes in a line `uuid = "..";`
 abbrev pub quoted : List ℕ → Option (List ℕ)
 quoted text =
     if starts_with nat_eq text (codes "uuid = \"") then unquoted (drop 8 text) else None

@@ -21,7 +21,7 @@ number_of text =
     if nat_lt 0 (length text) && (list_all is_digit text && (not (has_spare_zero text) && nat_lt (digits_value 10 text) (2 ^ 64)))
     then Some (digits_value 10 text) else None
 
--- the form of an archive's name before its number: 0 stands for a digit, and + for a sign
+-- the form of an archive's name before its number: 0 is any digit, and + a sign
 abbrev pub form_of_stamps : List ℕ
 form_of_stamps = codes "00000000T000000+0000-00000000T000000+0000-"
 
@@ -41,7 +41,7 @@ is_underscore b = b == 95
 abbrev pub of_parts : List ℕ → ℕ → Numbered
 of_parts channel number = record { number = number; name = channel }
 
--- what stands before the last underscore and after it as a channel's name and a number; none: it isn't so
+-- what is before the last underscore, and after it, as a channel's name and a number; none: it isn't so
 abbrev pub stream_of : List ℕ → List ℕ → Option Numbered
 stream_of channel digits = if is_name channel then option_map (of_parts channel) (number_of digits) else None
 

@@ -1,4 +1,4 @@
--- The paths of what is read, and what stands there.
+-- The paths of what is read, and what is there.
 use Rattle.std.specs.Prelude.{ℕ, List, ◌++◌, codes, Option}
 use Rattle.tr_chunk.specs.Files.{file_name}
 use Rattle.tr_folders.specs.Tree.{File, Tree}

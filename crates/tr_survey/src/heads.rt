@@ -1,4 +1,4 @@
-//! What is wrong with a session's archives as they stand there, before their files are read.
+//! What is wrong with a session's archives as they are there, before their files are read.
 
 ghost use Rattle.std.specs.Prelude.{◌≡◌, ◌∷◌, ◌++◌, ◌-◌, [], IfOk, OnOk, length, map, take, drop, option_copied};
 ghost use Rattle.std.specs.String.{string_bytes};
@@ -191,7 +191,7 @@ fn push_streams(
     Ok(())
 }
 
-/// The lines of all that is wrong with a session of this identifier as it stands there.
+/// The lines of all that is wrong with a session of this identifier as it is there.
 pub(crate) fn wrong_lines(
     alloc: Global,
     uuid: Option<&Uuid>,

@@ -35,7 +35,7 @@
 //! - The names that the recorder gives to archives and files are read as what they say, and so is the identifier in the
 //!   metadata that it writes.
 //! - Of a stream whose files hold packets which its audit passes, with counts of discarded records that don't fall, no fault is
-//!   reported, but just where numbers are absent, what was lost, and its counts. A session that stands below the folder as the
+//!   reported, but just where numbers are absent, what was lost, and its counts. A session that is below the folder as the
 //!   recorder writes it, with nothing missing and nothing beside it (`StandsAlone`), is `whole`.
 //!
 //! # What is only tested
@@ -50,7 +50,7 @@
 //! - how many bytes of an archive's metadata are read (`MOST_METADATA`, which clauses name), beyond those that the recorder
 //!   writes.
 //!
-//! That what tr_export writes of a session stands so is proved in tr_recorded.
+//! tr_recorded proves that tr_export writes a session this way.
 #![tactic(auto)]
 
 mod faults;

@@ -17,7 +17,7 @@ use std::alloc::{AllocError, Global};
 use std::collections::BTreeSet;
 use tr_folders::{Folders, ReadFault};
 
-/// What stands at a path where a folder is looked for.
+/// What is at a path where a folder is looked for.
 #[derive(Drop)]
 pub(crate) enum Listing {
     /// No folder.
@@ -28,7 +28,7 @@ pub(crate) enum Listing {
     Names(Vec<String>),
 }
 
-/// What stands at a path where a folder is looked for.
+/// What is at a path where a folder is looked for.
 pub(crate) fn listing_at<F: Folders>(
     alloc: Global,
     folders: &mut F,
@@ -82,7 +82,7 @@ pub(crate) fn names_in_order(alloc: Global, names: &[String]) -> Result<Vec<Stri
     found.into_iter().collect(alloc)
 }
 
-/// The archive of this name in a folder. None if no folder stands there, or its name is no archive's.
+/// The archive of this name in a folder. None if there is no folder of this name, or it is no archive's name.
 fn archive_at<F: Folders>(
     alloc: Global,
     folders: &mut F,

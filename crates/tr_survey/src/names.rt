@@ -11,7 +11,7 @@ use tr_terms::Name;
 /// The bytes of an archive's name before its number.
 const STAMPS: usize = 42;
 
-/// The form of these bytes: 0 stands for a digit, and + for a sign.
+/// The form of these bytes: 0 is any digit, and + a sign.
 const FORM: &[u8; STAMPS] = b"00000000T000000+0000-00000000T000000+0000-";
 
 /// A number and a name: an archive's, by the number that ends its folder's name, or a stream's, whose name is its channel's. They
@@ -33,7 +33,7 @@ fn fits(form: u8, byte: u8) -> bool
     }
 }
 
-/// Whether these bytes are those of two moments, as they stand before an archive's number.
+/// Whether these bytes are those of two moments, as they are before an archive's number.
 fn are_stamps(bytes: &[u8]) -> bool
     requires { length bytes.now ≡ STAMPS }
     ensures { result ≡ list_all (λ p. fits p.0 p.1) (zip form_of_stamps bytes.now) }

@@ -41,7 +41,7 @@ fn without_indent(line: &[u8]) -> &[u8]
     rest
 }
 
-/// What stands between the quotes in a line `uuid = "..";`.
+/// What is between the quotes in a line `uuid = "..";`.
 fn quoted(text: &[u8]) -> Option<&[u8]>
     ensures { option_map (λ found. found.now) result ≡ quoted text.entry.now }
 {

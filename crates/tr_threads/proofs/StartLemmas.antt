@@ -44,7 +44,7 @@ comes_back {H} {S} {W} work worker seat D w hs given back first n total tasks jo
     let d3 : D w i (get_or given i s) b = subst (λ y. D w i y b) (t.2 ∙ ap (λ k. get_or given k s) place) d2 in
     subst (λ k. D w i (get_or given i s) (get_or back k u)) behind d3
 
--- one that stands before the last
+-- one before the last
 pub before_last : {X : Type 0} (xs ys : List X) (x d : X) (i : ℕ) → ys ≡ xs ++ x ∷ [] → i < length xs → get_or ys i d ≡ get_or xs i d
 before_last xs ys x d i e low = ap (λ zs. get_or zs i d) e ∙ get_or_append_left xs (x ∷ []) d i low
 

@@ -202,7 +202,7 @@ impl<'a, T: Intake> Work for Feeding<'a, T> {
 /// # Errors
 ///
 /// `NoMemory`: no thread was started, and the producers are as they were. `NoThread`: all threads have ended, and each
-/// producer is as it was, or has offered all its work; that stands, and its log is gone. All producers come back, in order.
+/// producer is as it was, or has offered all its work, which stays, and its log is gone. All producers come back, in order.
 pub fn feed<T: Intake + Sync, R: Threads + Wait + Sync>(
     rt: &R,
     alloc: Global,

@@ -62,7 +62,7 @@ pub struct SidesFault<S: Drop, U: Drop> {
     pub drainers: Vec<U>,
 }
 
-/// All the seats in one row, the feeders' in front; and the two that they stood in, now empty.
+/// All the seats in one row, the feeders' in front; and the two that they were in, now empty.
 fn lined_up<S: Drop, U: Drop>(
     mut seats: Vec<Side<S, U>>,
     mut producers: Vec<S>,

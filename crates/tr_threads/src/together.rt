@@ -50,7 +50,7 @@ pub struct Workers<'a, T: Target, G: Gate> {
 /// # Errors
 ///
 /// `NoMemory`: no thread was started, and the seats are as they were. `NoThread`: all threads have ended, and each seat is as
-/// it was, or its feeder has offered all its work, which stands, and its log is gone, or its worker has made all its turns. All
+/// it was, or its feeder has offered all its work, which stays, and its log is gone, or its worker has made all its turns. All
 /// seats come back, in order.
 pub fn feed_and_drain<I: Intake + Sync, T: Target + Sync, G: Gate + Sync, R: Threads + Wait + Sync>(
     rt: &R,

@@ -52,7 +52,7 @@ fn one_stream_from_the_start_to_a_packet(rt: HostRuntime) {
     drop(session);
 }
 
-/// Streams that stand apart. Two records of 88 bytes fill a sub-buffer.
+/// Each stream has its own ring, mode and counts. Two records of 88 bytes fill a sub-buffer.
 static THREE_STREAMS: [Step; 13] = [
     Channel("small", (256, 2, Mode::Overwrite), Ok(())),
     Channel("large", (512, 4, Mode::Discard), Ok(())),

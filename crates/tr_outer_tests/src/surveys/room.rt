@@ -97,7 +97,7 @@ impl<'a, R: Abort> Room<'a, R> {
         MemoryFolders::with_hidden(self.alloc, self.folders, self.files, self.hidden, piece)
     }
 
-    /// What stands at this path can't be read, or not to its end.
+    /// What is at this path can't be read, or not to its end.
     pub(crate) fn hide(&mut self, path: &[&str]) {
         let path = text(self.rt, self.alloc, path);
         self.hidden.push(path).expect(self.rt, "memory");

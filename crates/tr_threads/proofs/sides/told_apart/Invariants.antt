@@ -3,7 +3,7 @@ use Rattle.std.specs.Prelude.{flat_map, vec_capacity}
 use Rattle.tr_threads.specs.Sides.{as_producer, as_drainer}
 use Rattle.tr_threads.proofs.sides.told_apart.Given as goal
 
--- the seats that are left are the first ones; the others stand with those of their side, the last first
+-- the seats that are left are the first ones; the others are with those of their side, the last first
 abbrev pub invariant-seats : goal.invariant-seats
 invariant-seats g l =
     (length (flat_map as_producer l.fn.seats.items) ≤ vec_capacity l.producers)
