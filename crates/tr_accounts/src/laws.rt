@@ -22,9 +22,9 @@ ghost use Rattle.tr_stream.specs.Steps.{new_history};
 ghost use Rattle.tr_stream.specs.declared.answers.OfferFault.{OfferFault};
 ghost use Rattle.tr_stream.specs.declared.answers.Offered.{Offered};
 
-/// Every call of a stream, noted in its journal with its answer by a seat whose call it is, keeps that the journal is the
+/// If each call of a stream is noted in its journal, with its answer, by a seat whose call it is, the journal stays the
 /// stream's: the stream stands for the history of just these calls, each answered as in that history, and it holds what was
-/// offered and nothing else. A release, of which no journal has a line, keeps it too. Does nothing.
+/// offered and nothing else. A release keeps this too, though no journal has a line for it. Does nothing.
 pub fn every_call()
     ensures new { (s : StreamState) → StandsFor s new_history → IsJournalOf [] s }
     ensures offer { (lines : List (Line StreamStep)) (s : StreamState) (moment id : ℕ) (payload : List ℕ)
@@ -61,7 +61,7 @@ pub fn every_seat()
 {}
 
 /// A log of a stream's accepted offers agrees with the stream: it has as many items as the stream counts offers, and each
-/// record that the stream holds is of the item at its serial. And a log that gets each item whose offer is accepted is one.
+/// record that the stream holds is of the item at its serial. A log that gets each item whose offer is accepted is such a log.
 /// Does nothing.
 pub fn every_log<X>()
     ensures agrees { (item : ℕ → ℕ → List ℕ → X) (offers : List AcceptedOffer) (s : StreamState) → HoldsOffers offers s

@@ -1,5 +1,5 @@
 //! What `bench/run` measures of the daemon's own crates: parsing alone, offers to one stream, alone and under its lock,
-//! reading packets again, rotations, and what archives leave that are released.
+//! reading packets again, rotations, and what released archives leave.
 //!
 //! `tr_bench parse` reads and parses the lines of a script from standard input, and carries none of them out.
 //! `tr_bench offers CASE ROUNDS` makes 100,000 offers to a new stream, ROUNDS times.

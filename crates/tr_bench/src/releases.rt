@@ -17,7 +17,7 @@ pub struct Archived {
     pub packets: u128,
     pub records: u128,
     pub bytes: u128,
-    /// Of how many streams' parts the packets are gone.
+    /// How many streams' parts have given up their packets.
     pub released: u64,
 }
 

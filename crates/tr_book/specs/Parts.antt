@@ -73,7 +73,7 @@ rest_of packets = record {
   bytes = bytes_of packets;
 }
 
--- a part whose packets these were is released
+-- a part with these packets is released
 abbrev pub released_part : ℕ → List Contents → PartState
 released_part id packets = record { id = id; packets = []; released = Some (rest_of packets) }
 

@@ -89,14 +89,14 @@ pub record HasRead {A : Type 0} (uuid : List ℕ) (stream : ℕ) (done : List (L
   pub of_stream : r.stream ≡ stream
   pub says : Says done piece r r.fault
 
--- what a call answers after which a reader has met this fault or none
+-- what a call answers if a reader has met this fault, or none, after it
 abbrev pub answer_at : Option AuditFault → Result (Unit {0}) AuditFault
 answer_at None = Ok tt
 answer_at (Some fault) = Err fault
 
 -- ---- one step
 
--- the reader after a step: only what it knows of the front is another
+-- the reader after a step: only what it knows of the front has changed
 abbrev pub with_front : {A : Type 0} → Reading A → StreamAudit A → List ℕ → ℕ → Reading A
 with_front r audit held offset = record r { audit = audit; held = held; offset = offset }
 

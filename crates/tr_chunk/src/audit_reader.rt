@@ -117,7 +117,7 @@ impl<A: Allocator> AuditReader<A> {
         self.pieces
     }
 
-    /// Takes the packet at the front of these bytes, after which nothing is held, or holds them. How many bytes it took.
+    /// Takes the packet at the front of these bytes; or, if they are too few, holds them. How many bytes it took.
     fn take_free(&mut self, bytes: &[u8]) -> Result<usize, AuditCause>
         requires free { self.old.held ≡ [] }
         requires some { 0 < length bytes.now }
@@ -141,8 +141,8 @@ impl<A: Allocator> AuditReader<A> {
         }
     }
 
-    /// Takes from these bytes what the packet lacks of which some is held, or as much of that as is there. How many bytes it
-    /// took.
+    /// Takes from these bytes what the packet that is held in part still lacks, or as much of that as is there. How many bytes
+    /// it took.
     fn take_more(&mut self, bytes: &[u8]) -> Result<usize, AuditCause>
         requires some { 0 < length bytes.now }
         requires fed { self.old.offset + length self.old.held + length bytes.now ≤ self.old.bytes }

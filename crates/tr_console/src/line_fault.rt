@@ -8,9 +8,8 @@ use tr_schedule::ScheduleFault;
 use tr_session::StepFault;
 use tr_session_book::SessionFault;
 
-/// Why a line is refused: by the console, by a session, or by a stream. Nothing changed, except that a rotation whose
-/// allocation failed may be pending, that of a clear whose allocation failed the first streams may be cleared, and that of a
-/// release whose allocation failed some parts may be released.
+/// Why a line is refused: by the console, by a session, or by a stream. Nothing changed, unless an allocation failed: then a
+/// rotation may be pending, a clear may have cleared the first streams, and a release may have released some parts.
 #[derive(Clone, Copy, Debug, PartialEq, Eq, Error)]
 #[error("{} {}", self.code(), self.name())]
 pub(crate) enum LineFault {

@@ -9,7 +9,7 @@ pub enum ReadFault {
     /// It can't be read, or a file can't be read any further. That is what is there, and no failure.
     #[error("a folder or a file can't be read")]
     Unreadable,
-    /// As many bytes of files were given as are ever given.
+    /// No more bytes of files are given: their limit in all is reached.
     #[error("too much was read")]
     TooMuch,
     /// An allocation failed.

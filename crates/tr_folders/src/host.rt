@@ -99,7 +99,7 @@ fn file_at<R: Files>(files: &R, path: &str) -> Result<Option<R::File>, ReadFault
     }
 }
 
-/// Reads the next bytes of a file that is open. No file has none.
+/// Reads the next bytes of the open file; there are none if no file is open.
 fn read_from<F: Read>(open: &mut Option<F>, buffer: &mut [u8]) -> Result<usize, ReadFault>
     ensures { IfOk result (λ n. n ≤ length buffer.new) }
 {

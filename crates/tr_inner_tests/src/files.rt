@@ -27,7 +27,7 @@ fn uuid() -> Uuid {
     Uuid::from_bytes(TRACE)
 }
 
-/// The longest payload is what all others are the front of.
+/// The longest payload. All others are a front of it.
 static PAYLOAD: [u8; 64] = [0x61; 64];
 
 /// Records with these serials, moments and lengths.

@@ -36,7 +36,7 @@ fn assert_record(rt: &impl Abort, record: Option<RecView<'_>>, wanted: (u64, u64
     assert_same(rt, found, wanted);
 }
 
-/// The longest payload is what all others are the front of.
+/// The longest payload. All others are a front of it.
 static PAYLOAD: [u8; 152] = [0x61; 152];
 
 /// A payload of `len` bytes.

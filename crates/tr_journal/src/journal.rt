@@ -102,7 +102,7 @@ impl<E, A: Allocator> Journal<E, A> {
     }
 
     /// Joins another seat to this one, with all that was joined to it: no other line is noted in its number's name. It takes
-    /// no memory. A seat to which all are joined that were made has all of the journal.
+    /// no memory. A seat to which all others that were made are joined has all of the journal.
     pub fn join(&mut self, seat: &mut Seat<E>, other: Seat<E>)
         requires seat { seat.old.table ≡ self.old.table }
         requires other { other.table ≡ self.old.table }

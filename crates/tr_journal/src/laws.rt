@@ -6,9 +6,9 @@ ghost use Rattle.tr_journal.specs.Views.{all_done, done_by};
 ghost use Rattle.tr_journal.specs.Whole.{AreAllOf, IsOnlyBy};
 ghost use Rattle.tr_journal.specs.declared.rule.Line.{Line};
 
-/// A seat to which all are joined that were made has the whole journal: each line is in one of its parts, and in one alone.
-/// So it is with the lines of some of the seats, and their parts. What one part has of a kind of entries, if no other seat's
-/// holder did any of that kind, is all that the journal has of it. Does nothing.
+/// A seat to which all others that were made are joined has the whole journal: each line is in one of its parts, and in one
+/// alone. The same holds of the lines of some of the seats, and their parts. What one part has of a kind of entries, if no
+/// other seat's holder did any of that kind, is all that the journal has of it. Does nothing.
 pub fn every_journal<E, X>()
     ensures whole { (journal : JournalState E) (seat : SeatState E) → IsSeatOf journal seat → IsWhole journal seat
         → AreAllOf journal.lines (parts_of seat) }

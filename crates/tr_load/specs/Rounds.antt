@@ -1,7 +1,8 @@
 -- When a load's workers may end.
 use Rattle.std.specs.Prelude.{◌≡◌, ℕ, ◌+◌, ◌-◌, ◌/◌, ◌%◌, ◌<◌, Bool, false}
 
--- how many streams a worker has, if it has any: those that are above its own number by a multiple of the workers, and that
+-- how many streams a worker has, if it has any: that of its own number, and those above it by multiples of the number of
+-- workers
 abbrev pub round_of : (streams workers worker : ℕ) → ℕ
 round_of streams workers worker = (streams - worker - 1) / workers + 1
 

@@ -29,8 +29,8 @@
 //! never ends a worker, and a take that isn't made and answers that nothing waits.
 //!
 //! Examples show loads whose records all fit and are in chunks as a whole, with the whole text, with fewer and with more
-//! workers than streams, and with 256 streams; one without records; and the files of a load's archive. Tests show that of
-//! 100,000 records that one feeder offers more are in chunks than the last rotation and one round of the worker leave there,
+//! workers than streams, and with 256 streams; one without records; and the files of a load's archive. Tests show one
+//! feeder that offers 100,000 records: more of them are in chunks than the last rotation and one round of the worker put there,
 //! so the worker goes on taking while they are offered, and the load agrees; the texts of both mismatches; a load that is
 //! reported and archived, and an output that fails, after which nothing is made.
 #![tactic(auto)]

@@ -7,7 +7,7 @@ use std::sync::atomic::{AtomicBool, Ordering};
 use std::thread;
 use std::time::{Clock, Duration};
 
-/// How many microseconds a worker sleeps that found nothing, twice in a row or more often.
+/// How many microseconds a worker sleeps after it found nothing, twice in a row or more often.
 const REST: u64 = 10;
 
 /// What is known of one worker's rounds.

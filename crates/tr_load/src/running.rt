@@ -22,7 +22,7 @@ use tr_session_book::SessionFault;
 use tr_shared::{Drainer, Names, Plan, Shared};
 use tr_terms::Moment;
 
-/// This many drainers of a session.
+/// As many drainers of a session as there are `workers`.
 fn drainers<N: Names>(
     rt: &impl Wait,
     alloc: Global,
@@ -93,10 +93,9 @@ fn run<N: Names + Send + Sync, R: Threads + Wait + Clock + Sync, P: Progress + S
     )
 }
 
-/// A load: on a session of its own, started at moment 0, as many feeders as there are `threads` offer `records` records each,
-/// in threads of their own, and so many `workers` drain them meanwhile, until each has made one more round since the feeders
-/// ended. Then the session is stopped, rotated at the moment that is the number of records, settled, and compared with what
-/// the feeders logged.
+/// A load: on a session of its own, started at moment 0, `threads` feeders offer `records` records each, in threads of their
+/// own, and `workers` workers drain them meanwhile, until each worker has made one more round since the feeders ended. Then the
+/// session is stopped, rotated at the moment that is the number of records, settled, and compared with what the feeders logged.
 ///
 /// The feeder of number `t` offers the items of `load_work`, and each of them is accepted. The logs and the session agree.
 ///

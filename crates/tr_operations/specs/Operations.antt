@@ -38,8 +38,8 @@ abbrev pub LeadsTo : List DeskStep → SessionBookState → SessionBookState →
 LeadsTo [] b d = d ≡ b
 LeadsTo (step ∷ steps) b d = (c : SessionBookState) × IsStepOf step b c × LeadsTo steps c d
 
--- what an operator did is what the session's book has: steps lead from the book that was planned to this one, of which those of
--- one seat are just the operator's
+-- what an operator did is what the session's book has: steps lead from the book that was planned to this one, and those of one
+-- seat are just the operator's
 pub record IsOperatorOf (planned : SessionBookState) (steps : List DeskStep) (book : SessionBookState) : Type 0 where
   pub lines : List (Line DeskStep)
   pub leads : LeadsTo (all_done lines) planned book

@@ -8,9 +8,9 @@ ghost use Rattle.tr_operations.specs.Operations.{IsOperatorOf, IsStepOf, LeadsTo
 ghost use Rattle.tr_operations.specs.declared.step.DeskStep.{DeskStep};
 ghost use Rattle.tr_session_book.specs.Book.{SessionBookState};
 
-/// The lines of a desk's journal lead from the book that was planned to the book that is: none at first, and with each step
-/// that is noted, by whichever seat, to the book after it. What a seat of the journal has is then what its operator did. Does
-/// nothing.
+/// The lines of a desk's journal lead from the book that was planned to the current one: there are none at first, and each step
+/// that is noted, by whichever seat, leads to the book after it. What a seat of the journal has is then what its operator did.
+/// Does nothing.
 pub fn every_operation()
     ensures new { (book : SessionBookState) → LeadsTo [] book book }
     ensures step { (lines : List (Line DeskStep)) (planned before after : SessionBookState) (who : ℕ) (step : DeskStep)

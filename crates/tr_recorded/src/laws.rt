@@ -21,8 +21,8 @@ use std::alloc::Allocator;
 use tr_session::Session;
 use tr_stream::Stream;
 
-/// If none of a stream's parts in these archives was released, they hold, archive by archive, what a survey has no fault in. Does
-/// nothing.
+/// If none of a stream's parts in these archives was released, they hold, archive by archive, what a survey finds no fault in.
+/// Does nothing.
 pub fn every_stream_is_recorded<A: Allocator>(stream: &Stream<A>)
     ensures { (archives : List Numbered) → length archives ≤ length (all_parts stream.now.parts) → NoneReleased (length archives) stream.now
         → AreRecorded stream.now.config.uuid stream.now.config.number (recorded_of archives stream.now) }

@@ -9,9 +9,9 @@
 //!   session has an archive, no part of its archives was released, and its name is one. The survey says just its archives,
 //!   its streams, and what each of them lost, as a definition over the session says it (`session_recorded_text`). This holds
 //!   of all folders that list what was made in them, in any order, and nothing else (`Shows`).
-//! - The packets of a stream's parts, none of which was released, are what tr_survey has no fault in (`AreRecorded`), one archive
-//!   after another: packets of this trace and stream, whose numbers and serials rise, and whose counts of discarded records
-//!   don't fall.
+//! - The packets of a stream's parts, none of which was released, are what tr_survey finds no fault in (`AreRecorded`), one
+//!   archive after another: packets of this trace and stream, whose numbers and serials rise, and whose counts of discarded
+//!   records don't fall.
 //! - The folders and files of archives have the paths at which they are read.
 //!
 //! # What is only tested

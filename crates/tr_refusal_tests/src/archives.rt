@@ -1,4 +1,4 @@
-//! A session's archives, written to a disk in memory that is never refused any.
+//! A session's archives, written to a disk in memory whose own requests are never refused.
 
 use crate::turns::{MOST, assert_same};
 use std::alloc::Global;

@@ -160,7 +160,7 @@ impl<'a, A: Allocator + Copy> Call<A> for Run<'a> {
         }
     }
 
-    /// A line that has an answer wants memory for it, so a run ends after each number of answers but the last.
+    /// A line that has an answer needs memory for it, so a run ends after each number of answers but the last.
     fn refusal(&self, number: usize) -> Option<Told> {
         if number >= self.script.answers {
             return None;

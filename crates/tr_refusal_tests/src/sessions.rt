@@ -28,12 +28,12 @@ use uuid::Uuid;
 enum Step {
     /// A new channel, whose rings have four sub-buffers of 256 bytes.
     Channel(&'static str),
-    /// This many threads of a channel.
+    /// Threads of a channel, and how many.
     Threads(&'static str, u64),
     /// A start at moment 0.
     Start,
     Stop,
-    /// This many offers of 50 bytes to a stream, at the moments from 1 on. Two of them fill a sub-buffer.
+    /// Offers of 50 bytes to a stream, and how many, at the moments from 1 on. Two of them fill a sub-buffer.
     Offers(u64, u64),
     Take(u64),
     /// A schedule with this size.
@@ -90,7 +90,7 @@ enum Told {
     Cleared(Result<Cleared, SessionFault>),
     Released(Result<Released, SessionFault>),
     Next(Result<Next, StepFault>),
-    /// Also how many cuts the rotation has made that is held up.
+    /// Also how many cuts the rotation that is held up has made.
     Archived(Result<Chunk, SessionFault>, Option<u64>),
     /// None of an idle tick. Also the cuts, as above.
     Ticked(Result<Option<(Cause, Chunk)>, SessionFault>, Option<u64>),
@@ -279,7 +279,7 @@ fn go_on<A: Allocator + Copy>(rt: &impl Abort, session: &mut Session<A>) -> Chun
     numbers(session.rotate_finish().expect(rt, "an archive"))
 }
 
-/// How many cuts a rotation has made that is held up by this refusal. None if it hasn't begun.
+/// How many cuts a rotation that this refusal holds up has made. None if it hasn't begun.
 fn held_after(refusal: Told) -> Option<u64> {
     match refusal {
         Told::Archived(_, cuts) | Told::Ticked(_, cuts) => cuts,
@@ -344,7 +344,7 @@ impl Row {
         }
     }
 
-    /// What the call would have answered whose rotation went on after all, and made this archive.
+    /// What the call would have answered if its rotation had gone on after all, and made this archive.
     fn gone_on(&self, chunk: Chunk) -> Told {
         match self.asked {
             Asked::Tick => Told::Ticked(Ok(Some((Cause::Size, chunk))), None),
@@ -377,7 +377,7 @@ const THREE: [Step; 5] = [
     Step::Offers(2, 1),
 ];
 
-/// The same, in an archive. What the first one has of it are three packets of 228 bytes and one of 154.
+/// The same, in an archive. The first one has three packets of 228 bytes there, and one of 154.
 const ARCHIVED: [Step; 6] = [
     Step::Channel("c"),
     Step::Threads("c", 3),

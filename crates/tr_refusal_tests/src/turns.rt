@@ -37,7 +37,8 @@ pub(crate) trait Call<A: Allocator + Copy> {
     /// What it answers with memory.
     fn granted(&self, rt: &impl Abort) -> Self::Answer;
 
-    /// The refusal of this number, of those that it answers in turn if it gets more and more memory. None if there are no more.
+    /// The refusal of this number among those that it answers in turn as it gets more and more memory. None if there are no
+    /// more.
     fn refusal(&self, number: usize) -> Option<Self::Answer>;
 
     /// Whether the call can do without its request of this number, from 0 on, and without all after it: that is a move to
@@ -49,7 +50,7 @@ pub(crate) trait Call<A: Allocator + Copy> {
     /// Asserts that two of its objects can't be told apart by what they show.
     fn assert_alike(&self, rt: &impl Abort, one: &Self::Object, other: &Self::Object);
 
-    /// Does to an object what the call does that answers this refusal: nothing, if nothing else is said.
+    /// Does to an object what the call does if it answers this refusal: nothing, if nothing else is said.
     fn leave(&self, _rt: &impl Abort, _refusal: Self::Answer, _object: &mut Self::Object) {}
 
     /// Makes the call again after that: it is the same call, if nothing else is said.

@@ -85,7 +85,7 @@ after_push e r =
     else (if r.overwrite then follow_current e (drop_front r)
     else discard_newest r))
 
--- the answer gives the oldest one's number and count of records
+-- the answer gives the oldest one's number, and how many records it has
 abbrev pub over_first : ℕ → List ClosedBuffer → Pushed
 over_first seq [] = Stored seq
 over_first seq (b ∷ bs) = StoredOver seq b.seq (length b.records)

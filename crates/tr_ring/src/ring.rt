@@ -68,7 +68,7 @@ fn close<A: Allocator>(
     let _ = waiting.push_back(Sealed::new(buffer, seq, end, discarded));
 }
 
-/// This many empty pages of this size.
+/// `count` empty pages of this size.
 fn free_pages<A: Allocator + Copy>(
     alloc: A,
     size: usize,

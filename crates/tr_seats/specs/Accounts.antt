@@ -77,8 +77,8 @@ pub record AreTakeSeats (n : ℕ) (books : List Books) (seats : List (SeatState 
 abbrev pub taken_by : List (SeatState StreamStep) → List (List Taken)
 taken_by seats = map (λ (s : SeatState StreamStep). taken_in s.own) seats
 
--- what a drainer took is what its stream has: the stream stands for a history of calls, each answered as in that history, of
--- which one seat's takes answered just these packets, in order of their numbers; and each has as many records as was answered,
+-- what a drainer took is what its stream has: the stream stands for a history of calls, each answered as in that history, and
+-- one seat's takes in it answered just these packets, in order of their numbers; and each has as many records as was answered,
 -- and is kept in the chunk that was answered, or was cleared since
 pub record IsTakenFrom (taken : List Taken) (stream : StreamState) : Type 0 where
   pub lines : List (Line StreamStep)

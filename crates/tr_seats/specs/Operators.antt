@@ -46,13 +46,13 @@ pub record IsDeskSeat (plan : PlanState) (i : ℕ) (steps : List DeskStep) (book
   pub seat_is : IsSeatAt (books_at plan.books i).journal desk_seat seat
   pub did : DoTo i steps plan.session.book book seat.own
 
--- the desk's seats in the journals of the first n streams, with which nothing was noted
+-- the desk's seats in the journals of the first n streams, which have noted nothing
 pub record AreNewDeskSeats (n : ℕ) (books : List Books) (seats : List (SeatState StreamStep)) : Type 0 where
   pub many : length seats ≡ n
   pub each : (i : ℕ) (d : SeatState StreamStep) → i < n
       → IsSeatAt (books_at books i).journal desk_seat (slice_index_or seats i d) × ((slice_index_or seats i d).own ≡ [])
 
--- the journal of a plan's desk leads from the book that was planned to the book that is, and the desk's seats in the streams'
+-- the journal of a plan's desk leads from the book that was planned to the current one, and the desk's seats in the streams'
 -- journals have what its steps did to them
 pub record IsDeskJournal (plan : PlanState) (book : SessionBookState) (journal : JournalState DeskStep)
     (seats : List (SeatState StreamStep)) : Type 0 where

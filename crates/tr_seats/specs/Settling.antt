@@ -117,8 +117,8 @@ pub record WasOperated (i : ℕ) (steps : List DeskStep) (planned book : Session
   pub did : DoTo i steps planned book operations
   pub are : IsOperatedBy operations t
 
--- what an operator did is what a session has: steps lead from the book that was planned to its own, of which those of one seat
--- are just the operator's; and all that was done to its streams but offers and takes, they did, each cut at its rotation's end
+-- what an operator did is what a session has: steps lead from the book that was planned to its own, and those of one seat are
+-- just the operator's; and all that was done to its streams but offers and takes, they did, each cut at its rotation's end
 pub record HasOperated (planned : SessionBookState) (steps : List DeskStep) (book : SessionBookState)
     (streams : List StreamState) : Type 0 where
   pub lines : List (Line DeskStep)

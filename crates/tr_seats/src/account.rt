@@ -61,7 +61,7 @@ impl StreamSeat {
 }
 
 impl<A: Allocator> Account<A> {
-    /// The account of a stream of which nothing was called, its producer's seat, and the desk's. Only this call takes memory.
+    /// The account of a stream that no call was made of, its producer's seat, and the desk's. Only this call takes memory.
     pub(crate) fn open(
         alloc: A,
     ) -> Result<(Account<A>, Seat<StreamStep>, Seat<StreamStep>), AllocError>

@@ -18,8 +18,8 @@ ghost use Rattle.tr_stream.specs.Steps.{history_after_clear, history_after_cut, 
 
 use tr_terms::SessionMode;
 
-/// A cut at a desk is its session's rule: it answers as a session of the desk's book answers that has the slot's stream at
-/// its number, whatever its other streams are, and leaves what that session has then if it is local. Does nothing.
+/// A cut at a desk is its session's rule: it answers as a session answers that has the desk's book and, at its number, the
+/// slot's stream, whatever its other streams are; and leaves what that session has then if it is local. Does nothing.
 pub fn every_cut()
     ensures answer { (i : ℕ) (desk : DeskState) (slot : SlotState) (streams : List StreamState)
         → i ≡ slot.number → slice_get streams i ≡ Some slot.stream
@@ -32,8 +32,8 @@ pub fn every_cut()
         ≡ session_after_cut by_state i (session_of desk.book streams) }
 {}
 
-/// A clear at a desk is its session's rule: it answers as a session of the desk's book answers that has the slot's stream at
-/// its number, whatever its other streams are, and leaves what that session has then. Does nothing.
+/// A clear at a desk is its session's rule: it answers as a session answers that has the desk's book and, at its number, the
+/// slot's stream, whatever its other streams are; and leaves what that session has then. Does nothing.
 pub fn every_clear()
     ensures answer { (i : ℕ) (desk : DeskState) (slot : SlotState) (streams : List StreamState)
         → i ≡ slot.number → i < length desk.book.threads → slice_get streams i ≡ Some slot.stream

@@ -49,16 +49,15 @@
 //!   and the sums over all seats. What was offered is discarded, overwritten, cleared, in a ring or in a part, and what was
 //!   consumed is in a part or was cleared since.
 //!
-//! That a slot and a seat are of one plan is no refusal: both have the plan as a parameter of their type (`Names`), so a seat
+//! No call has to refuse a slot and a seat of two plans: both have the plan as a parameter of their type (`Names`), so a seat
 //! of another session isn't accepted.
 //!
 //! # What is only tested
 //!
-//! That a call at the desk notes nothing in another operator's name which leaves the book as the call's clause says. Tests add
-//! the answers and the producer's numbers of a ring that fills, in both modes; a take,
-//! and what is `Misplaced`; a session that isn't settled without a producer, without a drainer, and with its streams in each
-//! other's place, and is settled after that, with its totals; a rotation of two streams at the desk, what is refused on its
-//! way, and the settling of what it moved.
+//! That a call at the desk notes nothing in another operator's name, if that leaves the book as the call's clause says. Tests
+//! add the answers and the producer's numbers of a ring that fills, in both modes; a take, and what is `Misplaced`; a session
+//! that isn't settled without a producer, without a drainer, and with its streams in each other's place, and is settled after
+//! that, with its totals; a rotation of two streams at the desk, what is refused on its way, and the settling of what it moved.
 #![tactic(auto)]
 
 mod account;

@@ -24,12 +24,12 @@ packets_in s = all_of (packets_by_part s)
 abbrev pub files_of : StreamState → List (List ℕ)
 files_of s = map packets_text (packets_by_part s)
 
--- what the chunks below a number keep that were not released, in order
+-- what the chunks below a number that were not released keep, in order
 abbrev pub left_below : ℕ → History → List ClosedBuffer
 left_below zero h = []
 left_below (suc k) h = left_below k h ++ (if is_released k h then [] else chunk_of k h)
 
--- what all chunks keep that were not released
+-- what all chunks that were not released keep
 abbrev pub left_of : History → List ClosedBuffer
 left_of h = left_below (suc h.cuts) h
 

@@ -44,7 +44,7 @@ IsStartFault fault = (fault ≡ RotationPending) ⊎ (fault ≡ AlreadyActive) �
 abbrev pub IsStopFault : SessionFault → Type 0
 IsStopFault fault = (fault ≡ RotationPending) ⊎ (fault ≡ NotActive) ⊎ (fault ≡ Misplaced)
 
--- a take from a stream of a shared session: the drainer has just this packet more, if it got one, and a packet has a record
+-- a take from a stream of a shared session: the drainer has just this packet more, if it got one, and each packet has a record
 abbrev pub IsTaken : ℕ → DrainerState → Result Taken TakeFault → DrainerState → Type 0
 IsTaken i before answer after = (after ≡ drainer_after answer i before) × IfOk answer (λ (taken : Taken). 1 ≤ taken.count)
 

@@ -1,4 +1,4 @@
--- What a call does in an operator's name: the steps that the operator has more.
+-- What a call does in an operator's name: the steps that it adds to the operator's.
 use Rattle.std.specs.Prelude.{◌≡◌, ◌⊎◌, ◌<◌, ℕ, zero, suc, Bool, List, [], ◌∷◌, ◌++◌, length, map, sum, Option, Some, None, Result, Ok, Err, IsOk}
 use Rattle.std.specs.List.{AllByRecursion}
 use Rattle.tr_operations.specs.declared.step.DeskStep.{DeskStep}
@@ -51,7 +51,7 @@ abbrev pub IsCut : DeskStep → Type 0
 IsCut (Cut stream (Ok done)) = Unit {0}
 IsCut step = ⊥
 
--- a rotation goes on with cuts alone, of which the last may be refused
+-- a rotation goes on with cuts alone; the last one may be refused
 abbrev pub AreCutsOf : List DeskStep → Result Unit SessionFault → List DeskStep → Type 0
 AreCutsOf before (Ok done) after = (cuts : List DeskStep) × AllByRecursion IsCut cuts × (after ≡ before ++ cuts)
 AreCutsOf before (Err fault) after = (cuts : List DeskStep) × AllByRecursion IsCut cuts × IsNextOf (before ++ cuts) (Err fault) after

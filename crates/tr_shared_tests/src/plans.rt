@@ -34,7 +34,7 @@ pub(crate) fn last<T: Drop>(rt: &impl Abort, items: &mut Vec<T>) -> T {
     items.pop().expect(rt, "one more")
 }
 
-/// The longest payload is what all others are the front of.
+/// The longest payload. All others are a front of it.
 pub(crate) static PAYLOAD: [u8; 153] = [0x61; 153];
 
 /// A session of one channel `c` with so many threads, of two sub-buffers of so many bytes each.

@@ -33,8 +33,8 @@ history_answer c (Peek moment) h = answer.Peek (Ok (history_snap c moment h))
 history_answer c Start h = answer.Start
 history_answer c Stop h = answer.Stop
 
--- the answers before which an allocation may fail: of a take or a cut that isn't refused, of a clear or a release that finds
--- packets, and of a peek that shows some
+-- the answers of calls that may take memory: of a take or a cut that isn't refused, of a clear or a release that finds packets,
+-- and of a peek that shows some
 abbrev pub MayTakeMemory : {A : Type 0} → StreamAnswer A → Type 0
 MayTakeMemory (answer.Offer told) = ⊥
 MayTakeMemory (answer.Take told) = IsOk told

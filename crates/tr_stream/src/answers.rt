@@ -34,8 +34,8 @@ pub enum Offered {
     },
 }
 
-/// Why an offer was refused. The stream is as it was. An offer takes no memory; O4 once said that an
-/// allocation failed, and isn't used again.
+/// Why an offer was refused. The stream is as it was. An offer takes no memory; O4 once said that an allocation failed, and
+/// isn't used again.
 #[derive(Clone, Copy, Debug, PartialEq, Eq, Error)]
 #[error("{} {}", self.code(), self.name())]
 pub enum OfferFault {

@@ -1,4 +1,4 @@
--- Of several identifiers the one of a session, and those that packets have.
+-- The identifier of a session, among several, and those that packets have.
 use Rattle.std.specs.Prelude.{ℕ, Bool, false, nat_eq, nat_lt, List, map, take, Option, Some, None, if◌then◌else◌}
 use Rattle.std.specs.Cmp.Lexicographic.{pointwise}
 use Rattle.std.specs.List.{count_by, flat_map, fold}

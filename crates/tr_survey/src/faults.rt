@@ -6,7 +6,7 @@ use thiserror::Error;
 /// Why a survey ends before its text is whole.
 #[derive(Clone, Copy, Debug, PartialEq, Eq, Error)]
 pub enum SurveyFault {
-    /// As many bytes of files were given as are ever given.
+    /// No more bytes of files are given: their limit in all is reached.
     #[error("too much was read")]
     TooMuch,
     /// The text can't be written.

@@ -141,7 +141,7 @@ fn push_wrong(
     }
 }
 
-/// Adds the lines of archives with whose metadata something is wrong.
+/// Adds the lines of archives whose metadata have something wrong.
 fn push_metadata(
     alloc: Global,
     lines: &mut Vec<String>,

@@ -1,4 +1,4 @@
-//! Of several identifiers the one of a session, and those that packets have.
+//! The identifier of a session, among several, and those that packets have.
 
 ghost use Rattle.std.specs.Prelude.{◌≡◌, ◌++◌, ℕ, Some, IfOk, OnOk, map, option_copied};
 ghost use Rattle.std.specs.List.{flat_map};

@@ -38,7 +38,7 @@ pub fn metadata_name_their_trace()
         → naming_in (Some (file_of (metadata_of uuid) false)) ≡ Named uuid }
 {}
 
-/// A stream's files that hold packets which its audit passes, and whose counts of discarded records don't fall, have no fault:
+/// A stream's files have no fault if its audit passes their packets, and the counts of discarded records don't fall:
 /// what is reported of the stream is where numbers are absent, what was lost, and its counts. Does nothing.
 pub fn a_recorded_stream_has_no_fault()
     ensures told { (t : Tree) (folder uuid : List ℕ) (stream : Numbered) (files : List Recorded) (n : ℕ) → HasFiles t folder stream files

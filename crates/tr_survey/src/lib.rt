@@ -30,8 +30,7 @@
 //!   how many faults were reported, that there is no session, or that the folder can't be read; then nothing went out.
 //! - If it fails, a prefix of just that text went out. What can't be read below the folder is no failure: it is reported as a
 //!   fault, and the survey goes on.
-//! - It fails as at 2^62 bytes read if and only if the folders did, and as at an output that failed if and only if the output
-//!   did.
+//! - It answers `TooMuch` if and only if the folders failed, and `Write` if and only if the output did.
 //! - The names that the recorder gives to archives and files are read as what they say, and so is the identifier in the
 //!   metadata that it writes.
 //! - Of a stream whose files hold packets which its audit passes, with counts of discarded records that don't fall, no fault is

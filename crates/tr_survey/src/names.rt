@@ -14,8 +14,8 @@ const STAMPS: usize = 42;
 /// The form of these bytes: 0 is any digit, and + a sign.
 const FORM: &[u8; STAMPS] = b"00000000T000000+0000-00000000T000000+0000-";
 
-/// A number and a name: an archive's, by the number that ends its folder's name, or a stream's, whose name is its channel's. They
-/// are in order of their numbers, and of their names where numbers are the same.
+/// A number and a name: those of an archive's folder, whose name ends with the number, or a stream's number and its channel's
+/// name. They are in order of their numbers, and of their names where numbers are the same.
 #[derive(PartialEq, Eq, PartialOrd, Ord, Debug, Drop)]
 pub(crate) struct Numbered {
     pub(crate) number: u64,

@@ -59,7 +59,7 @@ sizes_text b =
     codes " channels " ++ (decimal (length b.channels) ++ (codes " streams "
     ++ (decimal (length b.threads) ++ (codes " archives " ++ decimal (length b.archives)))))
 
--- what is said of the session as a whole, of which this number of records was cleared
+-- what is said of the session as a whole, if this number of its records was cleared
 abbrev pub status_line : Text → SessionBookState → ℕ → Text
 status_line name b cleared = codes "session " ++ (name ++ (32 ∷ (mode_text b.mode
     ++ (32 ∷ (state_text b.state ++ (sizes_text b ++ (pending_text b.pending ++ status_cleared cleared)))))))

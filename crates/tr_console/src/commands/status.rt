@@ -102,7 +102,7 @@ fn push_cleared<A: Allocator>(text: &mut String<A>, records: u128) -> Result<(),
     }
 }
 
-/// What is said of the session as a whole, of which this number of records was cleared.
+/// What is said of the session as a whole, if this number of its records was cleared.
 fn session_line<A: Allocator + Copy>(
     alloc: A,
     name: &str,

@@ -77,7 +77,7 @@ fn reads_lines_in_any_pieces(rt: HostRuntime) {
     }
 }
 
-/// This many of one byte.
+/// `count` times one byte.
 fn bytes(rt: &impl Abort, alloc: Global, byte: u8, count: usize) -> Vec<u8> {
     vec![in alloc; byte; count].expect(rt, "memory")
 }

@@ -17,7 +17,7 @@ fn three<A: Allocator + Copy>(rt: &impl Abort, alloc: A) -> Session<A> {
     session
 }
 
-/// How many streams something was cleared of.
+/// How many streams have something cleared.
 fn streams_cleared<A: Allocator>(session: &Session<A>) -> usize {
     let mut cleared = 0usize;
     for i in 0..session.streams() {

@@ -34,7 +34,7 @@ struct Case<'a> {
     sums: &'a [Sums],
 }
 
-/// What a call of a shared session came to: its answer, and what the session was settled with after it.
+/// The outcome of a call of a shared session: its answer, and what the session was settled with after it.
 #[derive(Drop)]
 struct Worked<A: Allocator> {
     told: Told,
@@ -107,7 +107,7 @@ fn work_anew<'h>(
     work::<Brand>(rt, plain, heap, row, memory, plan)
 }
 
-/// The same answer, with the cuts that a rotation has made that is held up.
+/// The same answer, with the cuts that a rotation that is held up has made.
 fn with_cuts(told: Told, cuts: Option<u64>) -> Told {
     match told {
         Told::Archived(answer, _) => Told::Archived(answer, cuts),
@@ -116,7 +116,7 @@ fn with_cuts(told: Told, cuts: Option<u64>) -> Told {
     }
 }
 
-/// Does to a session of one owner what the call did that answered this.
+/// Does to a session of one owner what the call with this answer did.
 fn follow<A: Allocator + Copy>(rt: &impl Abort, row: &Row, told: Told, session: &mut Session<A>) {
     if told == row.granted {
         assert_same(rt, ask(rt, session, row.asked), row.granted);
@@ -125,7 +125,7 @@ fn follow<A: Allocator + Copy>(rt: &impl Abort, row: &Row, told: Told, session: 
     }
 }
 
-/// Does to a session of one owner what the call did that was refused: a snapshot has stored its moment.
+/// Does to a session of one owner what the refused call did: a snapshot has stored its moment.
 fn leave<A: Allocator + Copy>(rt: &impl Abort, row: &Row, refusal: Told, session: &mut Session<A>) {
     match refusal {
         Told::Shown(_) => {

@@ -1,4 +1,4 @@
-//! Calls of which a refusal changes nothing.
+//! Calls that change nothing if they are refused.
 
 use super::{Asked, NO_MEMORY, Row, Step, THREE, Told, refuse_rows};
 use tr_session::{Next, StepFault};

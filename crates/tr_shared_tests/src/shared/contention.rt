@@ -1,4 +1,4 @@
-//! Operators that meet at one session, what goes on while a stream is held, and the seats that settling wants.
+//! Operators that meet at one session, what goes on while a stream is held, and the seats that settling needs.
 
 mod holding;
 mod rotations;

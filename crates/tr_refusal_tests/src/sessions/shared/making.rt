@@ -15,7 +15,7 @@ use tr_session_book::SessionFault;
 use tr_shared::{Names, Plan, Shared, plan};
 use tr_terms::SessionMode;
 
-/// How many streams and how many producers a session has that was made.
+/// How many streams and how many producers a session that was made has.
 type Made = Result<(usize, usize), SessionFault>;
 
 /// Builds a session with `bytes` free bytes.
@@ -37,7 +37,7 @@ fn build<'h, N: Names>(
     }
 }
 
-/// What wants for memory: a plan, or what is built of it.
+/// What lacks memory: a plan, or what is built of it.
 #[derive(Clone, Copy)]
 enum Scarce {
     Plan,

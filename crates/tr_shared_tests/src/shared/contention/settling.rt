@@ -1,4 +1,4 @@
-//! The seats that settling wants.
+//! The seats that settling needs.
 
 ghost use Rattle.std.specs.Prelude.{◌≡◌};
 
