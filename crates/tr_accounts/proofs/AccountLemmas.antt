@@ -1,4 +1,4 @@
--- Each call of a stream, noted, keeps that the stream is what its steps lead to.
+-- If each call of a stream is noted, the stream is still what its steps lead to.
 use Rattle.std.specs.Global.{Global}
 use Rattle.std.proofs.Common.{◌≡◌, ℕ, Bool, true, false, List, [], ◌∷◌, ◌++◌, max, Option, Some, None, Ok, refl, sym, ap, ◌∙◌, subst}
 use Rattle.std.proofs.lemmas.List.{map-append}

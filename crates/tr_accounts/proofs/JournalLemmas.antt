@@ -1,4 +1,4 @@
--- Each call of a stream, noted in its journal, keeps that the journal is the stream's.
+-- If each call of a stream is noted in its journal, the journal is still the stream's.
 use Rattle.std.proofs.Common.{◌≡◌, ◌<◌, ℕ, Bool, true, false, List, [], ◌∷◌, ◌++◌, Result, sym, subst}
 use Rattle.std.proofs.lemmas.List.{map-append}
 use Rattle.tr_accounts.proofs.AccountLemmas.{accounts-clear, accounts-cut, accounts-look, accounts-new, accounts-offer, accounts-switch, accounts-take}

@@ -1,4 +1,4 @@
--- How the closed blocks of a history change: none goes, none is another, and what was settled stays settled.
+-- How the closed blocks of a history change: none goes, none becomes another, and what was settled stays settled.
 use Rattle.std.specs.Global.{Global}
 use Rattle.std.proofs.Common.{◌≡◌, ◌⊎◌, inl, inr, ⊎_elim, ℕ, zero, suc, ◌≤◌, Bool, true, false, eqb, List, [], ◌∷◌, ◌++◌, length, Option, Some, None, refl, sym, ap, ◌∙◌, subst, arith, if◌then◌else◌}
 use Rattle.std.specs.Prelude.{slice_get}

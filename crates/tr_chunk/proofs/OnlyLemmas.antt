@@ -36,7 +36,7 @@ all_back P (x ∷ xs) ys all = all_back P xs ys all.1
 some_text : (p : Contents) → IsPacket p → PACKET_HEADER ≤ length (packet_text p)
 some_text p packet = omega (arith, length-packet_text p packet.uuid)
 
--- packets that packets start with are the first of them
+-- packets whose texts begin the texts of others are the first of those
 pub first_packets : (ps qs : List Contents) (rest : List ℕ) → Packets ps → Packets qs
     → packets_text ps ++ rest ≡ packets_text qs → (more : List Contents) × (qs ≡ ps ++ more) × (rest ≡ packets_text more)
 first_packets [] qs rest first second e = (qs, refl, e)

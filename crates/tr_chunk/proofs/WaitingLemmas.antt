@@ -239,7 +239,7 @@ larger_waits room bytes header waits more =
     let lacks = waits_long bytes waits (omega (arith, header, more)) in
     record { fields = lacks.fields; more = omega (arith, more, lacks.some) }
 
--- bytes that would be more than this with those that they want
+-- bytes that are more than this with those that they lack
 pub larger_wanted : (room : ℕ) (held front : List ℕ) (n : ℕ) → fields_fault held ≡ None → length held + n ≡ packet_bits_in held / 8
     → length front ≤ n → room < length held + length front → IsLarger room (held ++ front)
 larger_wanted room held front n fields whole within more =
@@ -261,7 +261,7 @@ memory_stays room uuid stream number serial bytes more (inl is) = inl (record {
 })
 memory_stays room uuid stream number serial bytes more (inr is) = inr (larger_stays room bytes more is)
 
--- an audit with room for every packet stops for what one with less room may stop for
+-- an audit with less room may stop wherever one with room for every packet stops
 pub cause_anyhow : (room : ℕ) (uuid : List ℕ) (stream : ℕ) (number serial : Option ℕ) (cause : AuditCause) (bytes : List ℕ)
     → IsCause LARGEST_PACKET uuid stream number serial cause bytes → IsCause room uuid stream number serial cause bytes
 cause_anyhow room uuid stream number serial NoMemory bytes (inl is) = inl is

@@ -42,7 +42,7 @@ use Rattle.tr_terms.specs.Names.{is_name}
 use Rattle.tr_terms.specs.Offsets.{IsOffset}
 use Rattle.tr_terms.specs.declared.limits.TheConstants.{LAST_MOMENT, MOST_STREAMS}
 
--- what each archive has of a stream is what a survey has no fault in
+-- what each archive has of a stream is what a survey finds no fault in
 abbrev pub Keeps : StreamState → Type 0
 Keeps t = (archives : List Numbered) → length archives ≤ length (all_parts t.parts) → NoneReleased (length archives) t
     → AreRecorded t.config.uuid t.config.number (recorded_of archives t)

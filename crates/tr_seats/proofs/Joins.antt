@@ -39,7 +39,7 @@ written-back {X = X} xs ys n same long =
 pub read-same : {X : Type 0} → (xs ys : List X) (i : ℕ) (d e : X) → xs ≡ ys → i < length ys → get_or xs i d ≡ get_or ys i e
 read-same {X = X} xs ys i d e same lt = ap (λ (l : List X). get_or l i d) same ∙ get_or_default ys i d e lt
 
--- a row of seats of these tables is as long as they are many
+-- a row of seats of these tables has as many seats as there are tables
 pub tables-length : (tables : List TableId) (seats : List SeatState) → map (λ (s : SeatState). s.table) seats ≡ tables → length seats ≡ length tables
 tables-length tables seats row = sym (length-map seats (λ (s : SeatState). s.table)) ∙ ap length row
 

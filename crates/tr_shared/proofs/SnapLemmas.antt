@@ -7,7 +7,7 @@ use Rattle.tr_seats.specs.Books.{PlanState}
 use Rattle.tr_seats.specs.Slots.{ProducerState}
 use Rattle.tr_shared.specs.Shown.{AreShown, IsShown, IsShownWith, OwnIsShown}
 
--- what a list has, to which one more was pushed
+-- what a list has after one more was pushed
 pushed : (xs : List SnapState) (x y : SnapState) (i : ℕ) → slice_get (xs ++ x ∷ []) i ≡ Some y
     → (slice_get xs i ≡ Some y) ⊎ ((i ≡ length xs) × (x ≡ y))
 pushed [] x y zero got = inr (refl, cc)

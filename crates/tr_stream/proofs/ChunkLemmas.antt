@@ -33,7 +33,7 @@ waiting-settle_first status discarded [] settled = refl
 waiting-settle_first status discarded (c ∷ cs) settled =
     grind (arith, common_steps, waiting-settle_first status (discarded + length c.block.discarded) cs settled)
 
--- settling a block that waits leaves the sub-buffers of statuses that are neither
+-- settling a block that waits leaves the sub-buffers of other statuses than its old one and its new one
 pub other-settle_first : (wanted : Status → Bool) (status : Status) (discarded : ℕ) (cs : List Closed)
     → wanted status ≡ false → wanted Waiting ≡ false
     → buffers_where wanted discarded (settle_first status cs) ≡ buffers_where wanted discarded cs

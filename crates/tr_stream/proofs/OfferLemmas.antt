@@ -63,7 +63,7 @@ not_empty s len is small room empty =
     let light : weight_of s.ring.current ≡ PACKET_HEADER = ap weight_of empty in
     absurd (grind (arith, nat_tests, light, small, room, is.size_low, is.size))
 
--- the step of a history that this is for a stream
+-- for a stream that represents the history, this is the history's step
 abbrev IsStep : StreamState → History → ℕ → ℕ → List ℕ → Result Offered OfferFault → StreamState → Type 0
 IsStep s h moment id payload answer new =
     (answer ≡ history_offer_answer s.config payload h) × StandsFor new (history_after_offer s.config moment id payload h)

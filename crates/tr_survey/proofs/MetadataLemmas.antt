@@ -67,7 +67,7 @@ not_in_line bytes line more rest end some is-line is-more is-rest none =
     ∙ ap (λ o. option_or o (uuid_in (drop (end + 1) bytes))) (none ∙ ap uuid_in_line is-line)
     ∙ sym (next_line bytes end some)
 
--- what bytes name that are some
+-- what bytes name, if there are some
 pub named_some : (bytes : List ℕ) (uuid : Option (List ℕ)) → (length bytes ≡ 0 → ⊥) → uuid ≡ uuid_in bytes → named bytes uuid ≡ naming_by bytes
 named_some [] uuid some is = absurd (some refl)
 named_some (b ∷ bytes) uuid some is = ap (named (b ∷ bytes)) is

@@ -36,7 +36,7 @@ all_at P [] i d a low = absurd (omega (arith, low))
 all_at P (x ∷ xs) zero d a low = a.0
 all_at P (x ∷ xs) (suc i) d a low = all_at P xs i d a.1 (omega (arith, low))
 
--- an element of a list that another is made of
+-- if a list is the image of another, each element is the image of the one at its place
 pub made_of : {A B : Type 0} (f : B → A) (made : List B) (all : List A) (i : ℕ) (a : A) (b : B) → map f made ≡ all → i < length made → f (get_or made i b) ≡ get_or all i a
 made_of f [] all i a b is low = absurd (omega (arith, low))
 made_of f (x ∷ xs) all zero a b is low = ap (λ ys. get_or ys 0 a) is

@@ -25,7 +25,7 @@ joins_one {H} {S} {R} {Q} handles seats x first n m len low weaker before here j
     subst (λ y. Q (get_or handles j h) y) (sym at) (weaker (get_or handles j h) (get_or seats (first + (n - 1 - j)) s) (before j h s above below)))
     (cases_lt j (m + 1))
 
--- what a thread did that may not have begun
+-- what became of a seat, whether its thread began or not
 pub kept_or : {S : Type 0} (did : S → S → Type 0) (began : Bool) (before after : S) → DidIfBegun did began before after → IsKeptOr did before after
 kept_or did true before after d = inr (d.0 refl)
 kept_or did false before after d = inl (d.1 refl)
