@@ -40,7 +40,7 @@ with_overwritten count b =
 abbrev pub with_consumed : ℕ → CountersState → CountersState
 with_consumed count b = record b { consumed = b.consumed + count }
 
--- this number of records is cleared, of which some had been consumed
+-- this number of records is cleared, and some of them had been consumed
 abbrev pub with_cleared : ℕ → ℕ → CountersState → CountersState
 with_cleared count consumed b = record b { cleared = b.cleared + count; withdrawn = b.withdrawn + consumed }
 

@@ -138,7 +138,7 @@ impl Book {
         self.consumed += count;
     }
 
-    /// Notes that `count` records were cleared, of which `consumed` had been consumed.
+    /// Notes that `count` records were cleared, and that `consumed` of them had been consumed.
     pub fn note_cleared(&mut self, count: u64, consumed: u64)
         requires cleared { self.old.cleared + count < 2 ^ 64 }
         requires withdrawn { self.old.withdrawn + consumed < 2 ^ 64 }

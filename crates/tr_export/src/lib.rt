@@ -12,7 +12,7 @@
 //!
 //! For every disk that reports what it makes:
 //!
-//! - For each archive in order of which no part was released, its folder, its metadata and a file for each stream are made,
+//! - For each archive, in order, that has no released part, its folder, its metadata and a file for each stream are made,
 //!   with exactly the texts of that stream's packets.
 //! - If the disk fails or an allocation fails, a prefix of this is made, and then at most one broken file: the one that comes
 //!   next.

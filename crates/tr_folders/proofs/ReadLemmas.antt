@@ -42,7 +42,7 @@ reads_all a k xs ys bytes rest left within is reads =
     take-append-le a (take a xs) (ys ++ post_of a k xs) (omega (arith, l)) ∙ take_all a (take a xs) (omega (arith, l)) ∙ sym whole
     ∙ sym (take_all (length xs) bytes (let m = ap length whole in omega (arith, l, m)))
 
--- a file of which all was read has as many bytes as were read
+-- a file that was read to its end has as many bytes as were read
 pub all_read : (a : ℕ) (xs bytes : List ℕ) (rest : List ℕ) → a < length xs → bytes ≡ take a xs ++ rest → rest ≡ [] → length bytes < length xs
 all_read a xs bytes rest within is none =
     let whole : bytes ≡ take a xs = is ∙ ap (λ (l : List ℕ). take a xs ++ l) none ∙ append-nil (take a xs) in

@@ -21,7 +21,7 @@ is_among {Z = Z} paths path = list_any (λ (p : String Z). pointwise nat_eq (str
 abbrev pub file_of : List ℕ → Bool → File
 file_of bytes breaks = record { bytes = bytes; breaks = breaks }
 
--- folders, files, and the paths of those that can't be read, of which the files give the bytes that they have
+-- folders, files, and the paths of those that can't be read; such a file still gives the bytes that it has
 abbrev pub tree_kept : {Z : Type 0} → List (String Z × Vec (String Z) Z) → List (String Z × Vec ℕ Z) → List (String Z) → Tree
 tree_kept folders files hidden = record {
   names = names_kept folders;

@@ -78,9 +78,9 @@ enum Step {
     State(State),
     /// How many archives there are.
     Archives(usize),
-    /// The packets, records and bytes of an archive of which nothing is released.
+    /// The packets, records and bytes of an archive without a released part.
     Size(u64, (u128, u128, u128)),
-    /// The same of an archive, and of how many streams the part is released.
+    /// The same of an archive, and how many streams' parts are released.
     Left(u64, (u128, u128, u128), u64),
 }
 

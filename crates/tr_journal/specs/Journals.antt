@@ -18,7 +18,7 @@ pub record JournalState (E : Type 0) : Type 0 where
 abbrev pub journal_state : {E : Type 0} → TableId → Log E → JournalState E
 journal_state table log = record { table = table; lines = log.lines; made = log.made }
 
--- a journal without a line, of which one seat was made
+-- a journal without a line, with one seat made
 abbrev pub new_journal : {E : Type 0} → TableId → JournalState E
 new_journal table = journal_state table first_log
 

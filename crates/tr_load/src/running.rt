@@ -104,7 +104,7 @@ fn run<N: Names + Send + Sync, R: Threads + Wait + Clock + Sync, P: Progress + S
 ///
 /// # Errors
 ///
-/// `NoMemory`: memory or a thread was missing. `Misplaced`: a call was refused for another reason, be it one offer. All that
+/// `NoMemory`: memory or a thread was missing. `Misplaced`: a call was refused for another reason, even one offer. All that
 /// was made is gone then.
 pub fn load<R: Threads + Wait + Clock + Sync, P: Progress + Sync>(
     rt: &R,

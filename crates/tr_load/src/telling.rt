@@ -32,7 +32,7 @@ fn write_load<D: Disk>(
 }
 
 /// Puts what is said of a load of `threads` threads to an output, and then writes the archives of its session below a folder if
-/// one is named: `DIR/load/archives/NAME`. So it does whether the load's logs agree or not.
+/// one is named: `DIR/load/archives/NAME`. It does so whether the load's logs agree or not.
 ///
 /// # Errors
 ///

@@ -1,5 +1,5 @@
-//! Calls that are made with too little memory, and again with more: with a heap that is full but for some bytes, and with memory
-//! of which some requests are granted.
+//! Calls that are made with too little memory, and again with more: with a heap that is full but for some bytes, and with
+//! memory that grants some requests.
 
 use crate::scarce::fill_all_but;
 use linked_list_allocator::LocalHeap;
@@ -103,8 +103,8 @@ fn assert_left<A: Allocator + Copy, C: Call<A>>(
     call.assert_alike(rt, object, other);
 }
 
-/// Makes a call of which so many requests for memory are granted and the later ones refused, asserts that it is refused if and
-/// only if one of the refused requests is one that it can't do without, and what it leaves. Its first answer.
+/// Makes a call whose first `requests` requests for memory are granted and the later ones refused. Asserts that it is refused
+/// if and only if one of the refused requests is one that it can't do without, and what it leaves. Its first answer.
 fn make_rationed<'h, C: Call<&'h Rationed>>(
     rt: &impl Abort,
     memory: &'h Rationed,

@@ -88,7 +88,7 @@ abbrev pub chunks_below : ℕ → History → List ClosedBuffer
 chunks_below zero h = []
 chunks_below (suc k) h = chunks_below k h ++ chunk_of k h
 
--- chunks of which each is closed
+-- each of these chunks is closed
 abbrev pub AreClosed : ℕ → List ℕ → Type 0
 AreClosed cuts [] = Unit {0}
 AreClosed cuts (k ∷ ks) = (k < cuts) × AreClosed cuts ks

@@ -35,7 +35,7 @@ Recorded = Numbered × List Contents
 abbrev pub packets_of : List Recorded → List Contents
 packets_of files = all_of (map (λ (r : Recorded). r.1) files)
 
--- these are a stream's: packets that its audit passes, of which none has fewer discarded records than the one before
+-- these are a stream's: packets that its audit passes, and none has fewer discarded records than the one before
 pub record AreRecorded (uuid : List ℕ) (stream : ℕ) (files : List Recorded) : Type 0 where
   pub sound : AreOfStream uuid stream (packets_of files)
   pub losses : LossesStay 0 (packets_of files)

@@ -257,7 +257,7 @@ static CLEARS: [((u64, u64), (u64, u64)); 3] = [
     ((5, 5), (11, 7)),
 ];
 
-/// Notes that records were cleared, of which so many had been consumed.
+/// Notes that records were cleared, and how many of them had been consumed.
 fn note_cleared(rt: &impl Abort, counters: &mut Book, count: u64, consumed: u64) {
     assert!(rt; counters.cleared() < 1000 && counters.withdrawn() < 1000);
     assert!(rt; count < 1000 && consumed < 1000);

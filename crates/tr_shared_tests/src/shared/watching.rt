@@ -96,7 +96,7 @@ fn offer_all<N: Names>(
     producer
 }
 
-/// Reads a stream of which it read this much before: the answer is no less, and no more than what its producer offers.
+/// Reads a stream again, which was read as `last` before: the answer is no less, and no more than what its producer offers.
 fn read_on(rt: &impl Abort, watcher: &mut Watcher, i: usize, last: u64) -> u64
     ensures { watcher.new.table ≡ watcher.old.table }
 {
