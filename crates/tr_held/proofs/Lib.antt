@@ -1,6 +1,6 @@
 pub mod Names
 pub mod Apart
-pub mod Moved
 pub mod Handles
+pub mod Moved
 pub mod Sending
 pub mod Sent
