@@ -1,6 +1,8 @@
 -- Laws of the sub-buffers of blocks.
 use Rattle.std.proofs.Common.{◌≡◌, ℕ, ◌+◌, Bool, true, false, cond, List, [], ◌∷◌, ◌++◌, length, drop, take, refl, arith}
 use Rattle.std.specs.Prelude.{sum_by}
+use Rattle.tr_record.specs.Records.{Entry}
+use Rattle.tr_stream.proofs.BlockLemmas.{sum-same, blocks_of-settle_first, blocks_of-keep_waiting}
 use Rattle.std.proofs.lemmas.List.Sums.{sum_by-cons, sum_by-append, sum_by_push}
 use Rattle.std.proofs.lemmas.Grind.{common_steps}
 use Rattle.tr_stream.specs.State.{records_in}
@@ -83,90 +85,100 @@ records_in-cons p ps = sum_by-cons (λ (p : ClosedBuffer). length p.records) p p
 pub records_in-append : (ps qs : List ClosedBuffer) → records_in (ps ++ qs) ≡ records_in ps + records_in qs
 records_in-append ps qs = sum_by-append (λ (p : ClosedBuffer). length p.records) ps qs
 
--- blocks' records are those of their sub-buffers
-pub records-of_buffers : (wanted : Status → Bool) (discarded : ℕ) (cs : List Closed)
-    → records_where wanted cs ≡ records_in (buffers_where wanted discarded cs)
-records-of_buffers wanted discarded [] = refl
-records-of_buffers wanted discarded (c ∷ cs) =
+-- what the blocks of a status weigh, by their records
+abbrev pub weight : (List Entry → ℕ) → (Status → Bool) → List Closed → ℕ
+weight size wanted cs = sum_by (λ (c : Closed). cond (wanted c.status) (size c.block.records) 0) cs
+
+abbrev pub buffers_weight : (List Entry → ℕ) → List ClosedBuffer → ℕ
+buffers_weight size bs = sum_by (λ (b : ClosedBuffer). size b.records) bs
+
+-- they weigh what their sub-buffers do
+pub weight-of_buffers : (size : List Entry → ℕ) (wanted : Status → Bool) (discarded : ℕ) (cs : List Closed)
+    → weight size wanted cs ≡ buffers_weight size (buffers_where wanted discarded cs)
+weight-of_buffers size wanted discarded [] = refl
+weight-of_buffers size wanted discarded (c ∷ cs) =
+    let more = discarded + length c.block.discarded in
     grind (
       arith,
       common_steps,
-      records_where-cons wanted c cs,
-      records-of_buffers wanted (discarded + length c.block.discarded) cs,
-      records_in-cons (buffer_of discarded c) (buffers_where wanted (discarded + length c.block.discarded) cs),
+      weight-of_buffers size wanted more cs,
+      sum_by-cons (λ (c : Closed). cond (wanted c.status) (size c.block.records) 0) c cs,
+      sum_by-cons (λ (b : ClosedBuffer). size b.records) (buffer_of discarded c) (buffers_where wanted more cs),
     )
 
--- the records of a block that waited count under its new status
+pub records-of_buffers : (wanted : Status → Bool) (discarded : ℕ) (cs : List Closed)
+    → records_where wanted cs ≡ records_in (buffers_where wanted discarded cs)
+records-of_buffers wanted discarded cs = weight-of_buffers length wanted discarded cs
+
+-- each block weighs one
+abbrev pub one : List Entry → ℕ
+one records = 1
+
+weight-ones : (bs : List ClosedBuffer) → buffers_weight one bs ≡ length bs
+weight-ones [] = refl
+weight-ones (b ∷ bs) = grind (arith, common_steps, weight-ones bs, sum_by-cons (λ (b : ClosedBuffer). 1) b bs)
+
+-- a block that waited weighs under its new status
+weight-settle_first : (size : List Entry → ℕ) (wanted : Status → Bool) (status : Status) (discarded : ℕ) (cs : List Closed)
+    → wanted Waiting ≡ false
+    → weight size wanted (settle_first status cs)
+    ≡ weight size wanted cs + cond (wanted status) (buffers_weight size (take 1 (buffers_where is_waiting discarded cs))) 0
+weight-settle_first size wanted status discarded [] old = grind (arith, common_steps)
+weight-settle_first size wanted status discarded (c ∷ cs) old =
+    let f = λ (c : Closed). cond (wanted c.status) (size c.block.records) 0 in
+    grind (
+      arith,
+      common_steps,
+      weight-settle_first size wanted status (discarded + length c.block.discarded) cs old,
+      sum_by-cons f c cs,
+      sum_by-cons f c (settle_first status cs),
+      sum_by-cons f (record c { status = status }) cs,
+      sum_by-cons (λ (b : ClosedBuffer). size b.records) (buffer_of discarded c) [],
+    )
+
+-- all that waited weigh under their new status
+weight-keep_waiting : (size : List Entry → ℕ) (wanted : Status → Bool) (k discarded : ℕ) (cs : List Closed)
+    → wanted Waiting ≡ false
+    → weight size wanted (keep_waiting k cs)
+    ≡ weight size wanted cs + cond (wanted (Kept k)) (buffers_weight size (buffers_where is_waiting discarded cs)) 0
+weight-keep_waiting size wanted k discarded [] old = grind (arith, common_steps)
+weight-keep_waiting size wanted k discarded (c ∷ cs) old =
+    let f = λ (c : Closed). cond (wanted c.status) (size c.block.records) 0 in
+    let more = discarded + length c.block.discarded in
+    grind (
+      arith,
+      common_steps,
+      weight-keep_waiting size wanted k more cs old,
+      sum_by-cons f c cs,
+      sum_by-cons f c (keep_waiting k cs),
+      sum_by-cons f (record c { status = Kept k }) (keep_waiting k cs),
+      sum_by-cons (λ (b : ClosedBuffer). size b.records) (buffer_of discarded c) (buffers_where is_waiting more cs),
+    )
+
 pub records-settle_first : (wanted : Status → Bool) (status : Status) (discarded : ℕ) (cs : List Closed)
     → wanted status ≡ true → wanted Waiting ≡ false
     → records_where wanted (settle_first status cs)
     ≡ records_where wanted cs + records_in (take 1 (buffers_where is_waiting discarded cs))
-records-settle_first wanted status discarded [] new old = refl
-records-settle_first wanted status discarded (c ∷ cs) new old =
-    grind (
-      arith,
-      common_steps,
-      records-settle_first wanted status (discarded + length c.block.discarded) cs new old,
-      records_where-cons wanted c cs,
-      records_where-cons wanted c (settle_first status cs),
-      records_where-cons wanted (record c { status = status }) cs,
-      records_in-cons (buffer_of discarded c) [],
-    )
+records-settle_first wanted status discarded cs new old = grind (arith, new, weight-settle_first length wanted status discarded cs old)
 
 pub other_records-settle_first : (wanted : Status → Bool) (status : Status) (cs : List Closed) → wanted status ≡ false
     → wanted Waiting ≡ false → records_where wanted (settle_first status cs) ≡ records_where wanted cs
-other_records-settle_first wanted status [] new old = refl
-other_records-settle_first wanted status (c ∷ cs) new old =
-    grind (
-      arith,
-      common_steps,
-      other_records-settle_first wanted status cs new old,
-      records_where-cons wanted c cs,
-      records_where-cons wanted c (settle_first status cs),
-      records_where-cons wanted (record c { status = status }) cs,
-    )
+other_records-settle_first wanted status cs new old = grind (arith, new, weight-settle_first length wanted status 0 cs old)
 
 pub blocks-settle_first : (wanted : Status → Bool) (status : Status) (discarded : ℕ) (cs : List Closed)
     → wanted status ≡ true → wanted Waiting ≡ false
     → blocks_where wanted (settle_first status cs)
     ≡ blocks_where wanted cs + length (take 1 (buffers_where is_waiting discarded cs))
-blocks-settle_first wanted status discarded [] new old = refl
-blocks-settle_first wanted status discarded (c ∷ cs) new old =
-    grind (
-      arith,
-      common_steps,
-      blocks-settle_first wanted status (discarded + length c.block.discarded) cs new old,
-      blocks_where-cons wanted c cs,
-      blocks_where-cons wanted c (settle_first status cs),
-      blocks_where-cons wanted (record c { status = status }) cs,
-    )
+blocks-settle_first wanted status discarded cs new old =
+    grind (arith, new, weight-settle_first one wanted status discarded cs old, weight-ones (take 1 (buffers_where is_waiting discarded cs)))
 
 pub other_blocks-settle_first : (wanted : Status → Bool) (status : Status) (cs : List Closed) → wanted status ≡ false
     → wanted Waiting ≡ false → blocks_where wanted (settle_first status cs) ≡ blocks_where wanted cs
-other_blocks-settle_first wanted status [] new old = refl
-other_blocks-settle_first wanted status (c ∷ cs) new old =
-    grind (
-      arith,
-      common_steps,
-      other_blocks-settle_first wanted status cs new old,
-      blocks_where-cons wanted c cs,
-      blocks_where-cons wanted c (settle_first status cs),
-      blocks_where-cons wanted (record c { status = status }) cs,
-    )
+other_blocks-settle_first wanted status cs new old = grind (arith, new, weight-settle_first one wanted status 0 cs old)
 
--- what concerns only blocks stays the same
 pub sum-settle_first : (f : Block → ℕ) (status : Status) (cs : List Closed)
     → sum_by (λ (c : Closed). f c.block) (settle_first status cs) ≡ sum_by (λ (c : Closed). f c.block) cs
-sum-settle_first f status [] = refl
-sum-settle_first f status (c ∷ cs) =
-    grind (
-      arith,
-      common_steps,
-      sum-settle_first f status cs,
-      sum_by-cons (λ (c : Closed). f c.block) c cs,
-      sum_by-cons (λ (c : Closed). f c.block) c (settle_first status cs),
-      sum_by-cons (λ (c : Closed). f c.block) (record c { status = status }) cs,
-    )
+sum-settle_first f status cs = sum-same f (settle_first status cs) cs (blocks_of-settle_first status cs)
 
 -- if all that waits is kept, none waits
 pub waiting-keep_waiting : (k discarded : ℕ) (cs : List Closed) → buffers_where is_waiting discarded (keep_waiting k cs) ≡ []
@@ -204,53 +216,16 @@ new-keep_waiting wanted k discarded (c ∷ cs) new old order =
 pub records-keep_waiting : (wanted : Status → Bool) (k discarded : ℕ) (cs : List Closed) → wanted (Kept k) ≡ true
     → wanted Waiting ≡ false → records_where wanted (keep_waiting k cs)
     ≡ records_where wanted cs + records_in (buffers_where is_waiting discarded cs)
-records-keep_waiting wanted k discarded [] new old = refl
-records-keep_waiting wanted k discarded (c ∷ cs) new old =
-    grind (
-      arith,
-      common_steps,
-      records-keep_waiting wanted k (discarded + length c.block.discarded) cs new old,
-      records_where-cons wanted c cs,
-      records_where-cons wanted c (keep_waiting k cs),
-      records_where-cons wanted (record c { status = Kept k }) (keep_waiting k cs),
-      records_in-cons (buffer_of discarded c) (buffers_where is_waiting (discarded + length c.block.discarded) cs),
-    )
+records-keep_waiting wanted k discarded cs new old = grind (arith, new, weight-keep_waiting length wanted k discarded cs old)
 
 pub other_records-keep_waiting : (wanted : Status → Bool) (k : ℕ) (cs : List Closed) → wanted (Kept k) ≡ false
     → wanted Waiting ≡ false → records_where wanted (keep_waiting k cs) ≡ records_where wanted cs
-other_records-keep_waiting wanted k [] new old = refl
-other_records-keep_waiting wanted k (c ∷ cs) new old =
-    grind (
-      arith,
-      common_steps,
-      other_records-keep_waiting wanted k cs new old,
-      records_where-cons wanted c cs,
-      records_where-cons wanted c (keep_waiting k cs),
-      records_where-cons wanted (record c { status = Kept k }) (keep_waiting k cs),
-    )
+other_records-keep_waiting wanted k cs new old = grind (arith, new, weight-keep_waiting length wanted k 0 cs old)
 
 pub other_blocks-keep_waiting : (wanted : Status → Bool) (k : ℕ) (cs : List Closed) → wanted (Kept k) ≡ false
     → wanted Waiting ≡ false → blocks_where wanted (keep_waiting k cs) ≡ blocks_where wanted cs
-other_blocks-keep_waiting wanted k [] new old = refl
-other_blocks-keep_waiting wanted k (c ∷ cs) new old =
-    grind (
-      arith,
-      common_steps,
-      other_blocks-keep_waiting wanted k cs new old,
-      blocks_where-cons wanted c cs,
-      blocks_where-cons wanted c (keep_waiting k cs),
-      blocks_where-cons wanted (record c { status = Kept k }) (keep_waiting k cs),
-    )
+other_blocks-keep_waiting wanted k cs new old = grind (arith, new, weight-keep_waiting one wanted k 0 cs old)
 
 pub sum-keep_waiting : (f : Block → ℕ) (k : ℕ) (cs : List Closed)
     → sum_by (λ (c : Closed). f c.block) (keep_waiting k cs) ≡ sum_by (λ (c : Closed). f c.block) cs
-sum-keep_waiting f k [] = refl
-sum-keep_waiting f k (c ∷ cs) =
-    grind (
-      arith,
-      common_steps,
-      sum-keep_waiting f k cs,
-      sum_by-cons (λ (c : Closed). f c.block) c cs,
-      sum_by-cons (λ (c : Closed). f c.block) c (keep_waiting k cs),
-      sum_by-cons (λ (c : Closed). f c.block) (record c { status = Kept k }) (keep_waiting k cs),
-    )
+sum-keep_waiting f k cs = sum-same f (keep_waiting k cs) cs (blocks_of-keep_waiting k cs)

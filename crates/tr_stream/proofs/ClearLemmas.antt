@@ -3,60 +3,51 @@ use Rattle.std.proofs.Common.{◌≡◌, ℕ, ◌+◌, ◌<◌, Bool, true, fals
 use Rattle.std.proofs.lemmas.Bool.Decides.{nat_tests}
 use Rattle.std.proofs.lemmas.Grind.{common_steps, flat_map-append}
 use Rattle.std.proofs.lemmas.List.{append-nil, append_cancel_right, length-map}
-use Rattle.std.proofs.lemmas.List.Sums.{sum_by-cons}
-use Rattle.std.specs.Prelude.{sum_by}
 use Rattle.tr_book.specs.Counters.{with_cleared}
 use Rattle.tr_book.specs.Parts.{PartState, clear_part, part_records, part_packets}
 use Rattle.tr_book.specs.Runs.{packet_runs, runs_of}
+use Rattle.tr_record.specs.Records.{Entry}
 use Rattle.tr_ring.specs.ClosedBuffer.{ClosedBuffer}
-use Rattle.tr_stream.proofs.ChunkLemmas.{none_wait, records-of_buffers, records_where-cons, records_in-append}
+use Rattle.tr_stream.proofs.BlockLemmas.{blocks_of-cleared, sum-same, length-same, NumberedFrom-same, CoversFrom-same, AllUsed-same}
+use Rattle.tr_stream.proofs.ChunkLemmas.{none_wait, weight, buffers_weight, one, weight-of_buffers, records-of_buffers, records_where-cons, records_in-append}
 use Rattle.tr_stream.proofs.CutLemmas.{flushed, stands-flushed, records_in-ring, ring-same}
 use Rattle.tr_stream.proofs.FormLemmas.{serials_same}
 use Rattle.tr_stream.proofs.Refinement.{chunks_below-same, parts_below-same}
 use Rattle.tr_stream.proofs.SoundLemmas.{records_of-packets}
 use Rattle.tr_stream.specs.Chunks.{buffer_runs, buffers_where, chunk_of, cleared_of, kept_of, packet_of, ring_buffers, ring_of, waiting_of}
-use Rattle.tr_stream.specs.History.{Status, Waiting, Dropped, Kept, Cleared, Block, Closed, History, is_waiting, is_dropped, is_kept, is_kept_in, is_cleared, is_consumed, is_withdrawn, blocks_where, offered_of, offers_in, records_where, times, times_in}
+use Rattle.tr_stream.specs.History.{Status, Waiting, Dropped, Kept, Cleared, Block, Closed, History, is_waiting, is_dropped, is_kept, is_kept_in, is_cleared, is_consumed, is_withdrawn, offered_of, offers_in, records_where, times, times_in}
 use Rattle.tr_stream.specs.StandsFor.{StandsFor}
 use Rattle.tr_stream.specs.State.{StreamState, records_in}
 use Rattle.tr_stream.specs.StateSteps.{state_cleared, state_clear_answer, state_clear_ring, state_after_clear}
 use Rattle.tr_stream.specs.Steps.{clear_all, clear_blocks, cleared_status, cleared_with, close_filling, history_after_clear, history_clear_answer, history_clear_ring}
-use Rattle.tr_stream.specs.WellFormed.{NumberedFrom, WaitLast, IsWithin, AllWithinCuts, IsRecent, AllRecent, RecentLast, Covers, CoversFrom, AllUsed, LastHeld, chunks_below}
+use Rattle.tr_stream.specs.WellFormed.{WaitLast, IsWithin, AllWithinCuts, IsRecent, AllRecent, RecentLast, Covers, LastHeld, chunks_below}
 use Rattle.tr_stream.specs.declared.answers.ClearFault.TheVariants.{SnapshotMode}
 use Rattle.tr_terms.specs.SessionModes.{by_session_mode}
 use Rattle.tr_terms.specs.declared.session_mode.SessionMode.{SessionMode}
 use Rattle.tr_terms.specs.declared.session_mode.SessionMode.TheVariants.{Local, Snapshot}
 use Rattle.tr_stream.proofs.GoneLemmas.{packet_runs-are}
 
--- what a clear makes of statuses
-waits-cleared : (k : ℕ) (st : Status) → is_waiting (cleared_status k st) ≡ false
-waits-cleared k Waiting = refl
-waits-cleared k Dropped = refl
-waits-cleared k (Kept j) = either (eqb j k)
+-- what a clear makes of statuses: what holds of each kind of old and new one
+by_status : (P : Status → Status → Type 0) (k : ℕ) → P Waiting (Cleared false) → P Dropped Dropped
+    → ((j : ℕ) → eqb j k ≡ true → P (Kept j) (Cleared true)) → ((j : ℕ) → eqb j k ≡ false → P (Kept j) (Kept j))
+    → ((c : Bool) → P (Cleared c) (Cleared c)) → (st : Status) → P st (cleared_status k st)
+by_status P k waits dropped current other cleared Waiting = waits
+by_status P k waits dropped current other cleared Dropped = dropped
+by_status P k waits dropped current other cleared (Kept j) = either (eqb j k) refl
   where
-    either : (b : Bool) → is_waiting (cond b (Cleared true) (Kept j)) ≡ false
-    either true = refl
-    either false = refl
-waits-cleared k (Cleared c) = refl
+    either : (b : Bool) → eqb j k ≡ b → P (Kept j) (cond b (Cleared true) (Kept j))
+    either true e = current j e
+    either false e = other j e
+by_status P k waits dropped current other cleared (Cleared c) = cleared c
+
+waits-cleared : (k : ℕ) (st : Status) → is_waiting (cleared_status k st) ≡ false
+waits-cleared k = by_status (λ (st new : Status). is_waiting new ≡ false) k refl refl (λ j e. refl) (λ j e. refl) (λ c. refl)
 
 dropped-cleared : (k : ℕ) (st : Status) → is_dropped (cleared_status k st) ≡ is_dropped st
-dropped-cleared k Waiting = refl
-dropped-cleared k Dropped = refl
-dropped-cleared k (Kept j) = either (eqb j k)
-  where
-    either : (b : Bool) → is_dropped (cond b (Cleared true) (Kept j)) ≡ false
-    either true = refl
-    either false = refl
-dropped-cleared k (Cleared c) = refl
+dropped-cleared k = by_status (λ (st new : Status). is_dropped new ≡ is_dropped st) k refl refl (λ j e. refl) (λ j e. refl) (λ c. refl)
 
 consumed-cleared : (k : ℕ) (st : Status) → is_consumed (cleared_status k st) ≡ is_consumed st
-consumed-cleared k Waiting = refl
-consumed-cleared k Dropped = refl
-consumed-cleared k (Kept j) = either (eqb j k)
-  where
-    either : (b : Bool) → is_consumed (cond b (Cleared true) (Kept j)) ≡ true
-    either true = refl
-    either false = refl
-consumed-cleared k (Cleared c) = refl
+consumed-cleared k = by_status (λ (st new : Status). is_consumed new ≡ is_consumed st) k refl refl (λ j e. refl) (λ j e. refl) (λ c. refl)
 
 -- what is gone after a clear
 abbrev pub is_gone : ℕ → Status → Bool
@@ -66,14 +57,7 @@ is_gone k (Kept j) = eqb j k
 is_gone k (Cleared c) = true
 
 gone-cleared : (k : ℕ) (st : Status) → is_cleared (cleared_status k st) ≡ is_gone k st
-gone-cleared k Waiting = refl
-gone-cleared k Dropped = refl
-gone-cleared k (Kept j) = either (eqb j k)
-  where
-    either : (b : Bool) → is_cleared (cond b (Cleared true) (Kept j)) ≡ b
-    either true = refl
-    either false = refl
-gone-cleared k (Cleared c) = refl
+gone-cleared k = by_status (λ (st new : Status). is_cleared new ≡ is_gone k st) k refl refl (λ j e. sym e) (λ j e. sym e) (λ c. refl)
 
 -- what had been consumed and is gone after it
 abbrev was_consumed : ℕ → Status → Bool
@@ -83,14 +67,8 @@ was_consumed k (Kept j) = eqb j k
 was_consumed k (Cleared c) = c
 
 withdrawn-cleared : (k : ℕ) (st : Status) → is_withdrawn (cleared_status k st) ≡ was_consumed k st
-withdrawn-cleared k Waiting = refl
-withdrawn-cleared k Dropped = refl
-withdrawn-cleared k (Kept j) = either (eqb j k)
-  where
-    either : (b : Bool) → is_withdrawn (cond b (Cleared true) (Kept j)) ≡ b
-    either true = refl
-    either false = refl
-withdrawn-cleared k (Cleared c) = refl
+withdrawn-cleared k =
+    by_status (λ (st new : Status). is_withdrawn new ≡ was_consumed k st) k refl refl (λ j e. sym e) (λ j e. sym e) (λ c. refl)
 
 -- what is kept after it
 abbrev is_kept_but : ℕ → Status → Bool
@@ -100,38 +78,19 @@ is_kept_but k (Kept j) = cond (eqb j k) false true
 is_kept_but k (Cleared c) = false
 
 kept-cleared : (k : ℕ) (st : Status) → is_kept (cleared_status k st) ≡ is_kept_but k st
-kept-cleared k Waiting = refl
-kept-cleared k Dropped = refl
-kept-cleared k (Kept j) = either (eqb j k)
-  where
-    either : (b : Bool) → is_kept (cond b (Cleared true) (Kept j)) ≡ cond b false true
-    either true = refl
-    either false = refl
-kept-cleared k (Cleared c) = refl
+kept-cleared k = by_status (λ (st new : Status). is_kept new ≡ is_kept_but k st) k refl refl (λ j e. cc) (λ j e. cc) (λ c. refl)
 
 -- another chunk stays
 pub other-cleared : (i k : ℕ) → eqb i k ≡ false → (st : Status) → is_kept_in i (cleared_status k st) ≡ is_kept_in i st
-other-cleared i k ne Waiting = refl
-other-cleared i k ne Dropped = refl
-other-cleared i k ne (Kept j) = either (eqb j k) refl
-  where
-    either : (b : Bool) → eqb j k ≡ b → is_kept_in i (cond b (Cleared true) (Kept j)) ≡ eqb j i
-    either true e = grind (arith, nat_tests, e, ne)
-    either false e = refl
-other-cleared i k ne (Cleared c) = refl
+other-cleared i k ne =
+    by_status (λ (st new : Status). is_kept_in i new ≡ is_kept_in i st) k refl refl
+    (λ j e. grind (arith, nat_tests, e, ne)) (λ j e. refl) (λ c. refl)
 
 abbrev pub never : Status → Bool
 never st = false
 
 pub current-cleared : (k : ℕ) (st : Status) → is_kept_in k (cleared_status k st) ≡ never st
-current-cleared k Waiting = refl
-current-cleared k Dropped = refl
-current-cleared k (Kept j) = either (eqb j k) refl
-  where
-    either : (b : Bool) → eqb j k ≡ b → is_kept_in k (cond b (Cleared true) (Kept j)) ≡ false
-    either true e = refl
-    either false e = e
-current-cleared k (Cleared c) = refl
+current-cleared k = by_status (λ (st new : Status). is_kept_in k new ≡ false) k refl refl (λ j e. refl) (λ j e. e) (λ c. refl)
 
 -- the sub-buffers of a status after it are those of another before it
 pub buffers-cleared : (after before : Status → Bool) (k discarded : ℕ) (cs : List Closed)
@@ -143,58 +102,15 @@ buffers-cleared after before k discarded (c ∷ cs) same =
     let here = same c.status in
     cc
 
-records-cleared : (after before : Status → Bool) (k : ℕ) (cs : List Closed)
-    → ((st : Status) → after (cleared_status k st) ≡ before st)
-    → records_where after (clear_blocks k cs) ≡ records_where before cs
-records-cleared after before k [] same = refl
-records-cleared after before k (c ∷ cs) same =
-    grind (
-      arith,
-      common_steps,
-      records-cleared after before k cs same,
-      same c.status,
-      records_where-cons before c cs,
-      records_where-cons after (record c { status = cleared_status k c.status }) (clear_blocks k cs),
-    )
-
-blocks-cleared : (after before : Status → Bool) (k : ℕ) (cs : List Closed)
-    → ((st : Status) → after (cleared_status k st) ≡ before st)
-    → blocks_where after (clear_blocks k cs) ≡ blocks_where before cs
-blocks-cleared after before k [] same = refl
-blocks-cleared after before k (c ∷ cs) same =
-    grind (
-      arith,
-      common_steps,
-      blocks-cleared after before k cs same,
-      same c.status,
-      sum_by-cons (λ (c : Closed). cond (before c.status) 1 0) c cs,
-      sum_by-cons (λ (c : Closed). cond (after c.status) 1 0) (record c { status = cleared_status k c.status }) (clear_blocks k cs),
-    )
+weight-cleared : (size : List Entry → ℕ) (after before : Status → Bool) (k : ℕ) (cs : List Closed)
+    → ((st : Status) → after (cleared_status k st) ≡ before st) → weight size after (clear_blocks k cs) ≡ weight size before cs
+weight-cleared size after before k cs same =
+    weight-of_buffers size after 0 (clear_blocks k cs) ∙ ap (buffers_weight size) (buffers-cleared after before k 0 cs same)
+    ∙ sym (weight-of_buffers size before 0 cs)
 
 pub none_ever : (discarded : ℕ) (cs : List Closed) → buffers_where never discarded cs ≡ []
 none_ever discarded [] = refl
 none_ever discarded (c ∷ cs) = none_ever (discarded + length c.block.discarded) cs
-
--- what concerns only blocks stays the same
-sum-cleared : (f : Block → ℕ) (k : ℕ) (cs : List Closed)
-    → sum_by (λ (c : Closed). f c.block) (clear_blocks k cs) ≡ sum_by (λ (c : Closed). f c.block) cs
-sum-cleared f k [] = refl
-sum-cleared f k (c ∷ cs) =
-    grind (
-      arith,
-      common_steps,
-      sum-cleared f k cs,
-      sum_by-cons (λ (c : Closed). f c.block) c cs,
-      sum_by-cons (λ (c : Closed). f c.block) (record c { status = cleared_status k c.status }) (clear_blocks k cs),
-    )
-
-NumberedFrom-cleared : (n k : ℕ) (cs : List Closed) → NumberedFrom n cs → NumberedFrom n (clear_blocks k cs)
-NumberedFrom-cleared n k [] old = tt
-NumberedFrom-cleared n k (c ∷ cs) old = (old.0, NumberedFrom-cleared (n + 1) k cs old.1)
-
-length-cleared : (k : ℕ) (cs : List Closed) → length (clear_blocks k cs) ≡ length cs
-length-cleared k [] = refl
-length-cleared k (c ∷ cs) = grind (arith, common_steps, length-cleared k cs)
 
 not-true : (b : Bool) → b ≡ false → b ≡ true → ⊥
 not-true b e f = cc
@@ -204,14 +120,9 @@ WaitLast-cleared k [] = tt
 WaitLast-cleared k (c ∷ cs) = ((λ w. absurd (not-true _ (waits-cleared k c.status) w)), WaitLast-cleared k cs)
 
 within-cleared : (cuts k : ℕ) (st : Status) → IsWithin cuts st → IsWithin cuts (cleared_status k st)
-within-cleared cuts k Waiting old = tt
-within-cleared cuts k Dropped old = tt
-within-cleared cuts k (Kept j) old = either (eqb j k)
-  where
-    either : (b : Bool) → IsWithin cuts (cond b (Cleared true) (Kept j))
-    either true = tt
-    either false = old
-within-cleared cuts k (Cleared c) old = tt
+within-cleared cuts k =
+    by_status (λ (st new : Status). IsWithin cuts st → IsWithin cuts new) k (λ old. tt) (λ old. tt)
+    (λ j e old. tt) (λ j e old. old) (λ c old. tt)
 
 AllWithinCuts-cleared : (cuts k : ℕ) (cs : List Closed) → AllWithinCuts cuts cs → AllWithinCuts cuts (clear_blocks k cs)
 AllWithinCuts-cleared cuts k [] old = tt
@@ -221,18 +132,10 @@ RecentLast-cleared : (k : ℕ) (cs : List Closed) → RecentLast k (clear_blocks
 RecentLast-cleared k [] = tt
 RecentLast-cleared k (c ∷ cs) = ((λ e. absurd (not-true _ (current-cleared k c.status) e)), RecentLast-cleared k cs)
 
-AllUsed-cleared : (k : ℕ) (cs : List Closed) → AllUsed cs → AllUsed (clear_blocks k cs)
-AllUsed-cleared k [] old = tt
-AllUsed-cleared k (c ∷ cs) old = (old.0, AllUsed-cleared k cs old.1)
-
 LastHeld-cleared : (k : ℕ) (cs : List Closed) → LastHeld cs → LastHeld (clear_blocks k cs)
 LastHeld-cleared k [] old = tt
 LastHeld-cleared k (c ∷ []) old = dropped-cleared k c.status ∙ old
 LastHeld-cleared k (c ∷ d ∷ ds) old = LastHeld-cleared k (d ∷ ds) old
-
-CoversFrom-cleared : (low k : ℕ) (cs : List Closed) → CoversFrom low cs → CoversFrom low (clear_blocks k cs)
-CoversFrom-cleared low k [] old = tt
-CoversFrom-cleared low k (c ∷ cs) old = (old.0, CoversFrom-cleared (low + offers_in c.block) k cs old.1)
 
 -- after a block kept in the current chunk none is cleared, and none is kept in another
 recent-uncleared : (k : ℕ) (st : Status) → IsRecent k st → is_cleared st ≡ false
@@ -262,39 +165,14 @@ gone-split : (k discarded : ℕ) (cs : List Closed) → RecentLast k cs → Wait
     ++ (buffers_where (is_kept_in k) discarded cs ++ buffers_where is_waiting discarded cs)
 gone-split k discarded [] recent order = refl
 gone-split k discarded (c ∷ cs) recent order =
-    go (gone-split k (discarded + length c.block.discarded) cs recent.1 order.1) c.status refl
-  where
-    more : ℕ
-    more = discarded + length c.block.discarded
-
-    Rest : Type 0
-    Rest = buffers_where (is_gone k) more cs
-        ≡ buffers_where is_cleared more cs ++ (buffers_where (is_kept_in k) more cs ++ buffers_where is_waiting more cs)
-
-    kept : Rest → (j : ℕ) (b : Bool) → c.status ≡ Kept j → eqb j k ≡ b
-        → buffers_where (is_gone k) discarded (c ∷ cs)
-        ≡ buffers_where is_cleared discarded (c ∷ cs)
-        ++ (buffers_where (is_kept_in k) discarded (c ∷ cs) ++ buffers_where is_waiting discarded (c ∷ cs))
-    kept rest j true e f =
-        let in_it : is_kept_in k c.status ≡ true = ap (is_kept_in k) e ∙ f in
-        let none = none_recent is_cleared k more cs (recent-uncleared k) (recent.0 in_it) in
-        let there = rest in
-        cc
-    kept rest j false e f = let there = rest in cc
-
-    go : Rest → (st : Status) → c.status ≡ st
-        → buffers_where (is_gone k) discarded (c ∷ cs)
-        ≡ buffers_where is_cleared discarded (c ∷ cs)
-        ++ (buffers_where (is_kept_in k) discarded (c ∷ cs) ++ buffers_where is_waiting discarded (c ∷ cs))
-    go rest Waiting e =
-        let waits : is_waiting c.status ≡ true = ap is_waiting e in
-        let a = none_wait is_cleared more cs refl (order.0 waits) in
-        let b = none_wait (is_kept_in k) more cs refl (order.0 waits) in
-        let there = rest in
-        cc
-    go rest Dropped e = let there = rest in cc
-    go rest (Kept j) e = kept rest j (eqb j k) e refl
-    go rest (Cleared t) e = let there = rest in cc
+    let more = discarded + length c.block.discarded in
+    let rest = gone-split k more cs recent.1 order.1 in
+    let a : is_waiting c.status ≡ true → buffers_where is_cleared more cs ≡ [] = λ w. none_wait is_cleared more cs refl (order.0 w) in
+    let b : is_waiting c.status ≡ true → buffers_where (is_kept_in k) more cs ≡ [] =
+    λ w. none_wait (is_kept_in k) more cs refl (order.0 w) in
+    let d : is_kept_in k c.status ≡ true → buffers_where is_cleared more cs ≡ [] =
+    λ e. none_recent is_cleared k more cs (recent-uncleared k) (recent.0 e) in
+    grind (arith, common_steps, rest, a, b, d)
 
 -- the kept ones of other chunks come before those of the current one
 kept-split : (k discarded : ℕ) (cs : List Closed) → RecentLast k cs
@@ -302,31 +180,11 @@ kept-split : (k discarded : ℕ) (cs : List Closed) → RecentLast k cs
     ≡ buffers_where (is_kept_but k) discarded cs ++ buffers_where (is_kept_in k) discarded cs
 kept-split k discarded [] recent = refl
 kept-split k discarded (c ∷ cs) recent =
-    go (kept-split k (discarded + length c.block.discarded) cs recent.1) c.status refl
-  where
-    more : ℕ
-    more = discarded + length c.block.discarded
-
-    Rest : Type 0
-    Rest = buffers_where is_kept more cs ≡ buffers_where (is_kept_but k) more cs ++ buffers_where (is_kept_in k) more cs
-
-    kept : Rest → (j : ℕ) (b : Bool) → c.status ≡ Kept j → eqb j k ≡ b
-        → buffers_where is_kept discarded (c ∷ cs)
-        ≡ buffers_where (is_kept_but k) discarded (c ∷ cs) ++ buffers_where (is_kept_in k) discarded (c ∷ cs)
-    kept rest j true e f =
-        let in_it : is_kept_in k c.status ≡ true = ap (is_kept_in k) e ∙ f in
-        let none = none_recent (is_kept_but k) k more cs (recent-current k) (recent.0 in_it) in
-        let there = rest in
-        cc
-    kept rest j false e f = let there = rest in cc
-
-    go : Rest → (st : Status) → c.status ≡ st
-        → buffers_where is_kept discarded (c ∷ cs)
-        ≡ buffers_where (is_kept_but k) discarded (c ∷ cs) ++ buffers_where (is_kept_in k) discarded (c ∷ cs)
-    go rest Waiting e = let there = rest in cc
-    go rest Dropped e = let there = rest in cc
-    go rest (Kept j) e = kept rest j (eqb j k) e refl
-    go rest (Cleared t) e = let there = rest in cc
+    let more = discarded + length c.block.discarded in
+    let rest = kept-split k more cs recent.1 in
+    let a : is_kept_in k c.status ≡ true → buffers_where (is_kept_but k) more cs ≡ [] =
+    λ e. none_recent (is_kept_but k) k more cs (recent-current k) (recent.0 e) in
+    grind (arith, common_steps, rest, a)
 
 -- what was consumed and is gone was gone before, or was in the current chunk
 one-or-other : (k : ℕ) (st : Status) (n : ℕ)
@@ -370,6 +228,7 @@ current-records s h is = ap part_records is.current ∙ records_of-packets s.con
 stands-emptied : (s : StreamState) (h : History) → StandsFor s h → StandsFor (emptied s) (clear_all h)
 stands-emptied s h is =
     let g = clear_all h in
+    let blocks = blocks_of-cleared h.cuts h.closed in
     let others = λ (j : ℕ) (l : j < h.cuts).
     buffers-cleared (is_kept_in j) (is_kept_in j) h.cuts 0 h.closed (other-cleared j h.cuts (grind (arith, nat_tests, l))) in
     let same : chunks_below h.cuts g ≡ chunks_below h.cuts h = chunks_below-same h.cuts h g others in
@@ -401,20 +260,20 @@ stands-emptied s h is =
     omega (arith, a, b, c, d, e, f) in
     record {
       model = record {
-        numbers = NumberedFrom-cleared 0 h.cuts h.closed is.model.numbers;
-        filling = is.model.filling ∙ sym (length-cleared h.cuts h.closed);
+        numbers = NumberedFrom-same 0 g.closed h.closed blocks is.model.numbers;
+        filling = is.model.filling ∙ sym (length-same g.closed h.closed blocks);
         order = WaitLast-cleared h.cuts h.closed;
         kept = AllWithinCuts-cleared h.cuts h.cuts h.closed is.model.kept;
         recent = RecentLast-cleared h.cuts h.closed;
-        used = AllUsed-cleared h.cuts h.closed is.model.used;
+        used = AllUsed-same g.closed h.closed blocks is.model.used;
         room = λ e. LastHeld-cleared h.cuts h.closed (is.model.room e);
-        covers = CoversFrom-cleared 0 h.cuts h.closed is.model.covers;
-        covers_filling = subst (λ (n : ℕ). Covers n h.filling) (sym (sum-cleared offers_in h.cuts h.closed)) is.model.covers_filling;
+        covers = CoversFrom-same 0 g.closed h.closed blocks is.model.covers;
+        covers_filling = subst (λ (n : ℕ). Covers n h.filling) (sym (sum-same offers_in g.closed h.closed blocks)) is.model.covers_filling;
         chunks = let a = same in let b = now in let c = append-nil (chunks_below h.cuts g) in let d = left in cc;
         released = is.model.released;
         serials = λ n. serials_same n (offered_of h) (offered_of g) (times n h) (times n g)
-            (omega (arith, sum-cleared offers_in h.cuts h.closed)) (is.model.serials n)
-            (omega (arith, sum-cleared (times_in n) h.cuts h.closed));
+            (omega (arith, sum-same offers_in g.closed h.closed blocks)) (is.model.serials n)
+            (omega (arith, sum-same (times_in n) g.closed h.closed blocks));
       };
       closed = is.closed ∙ sym (parts_below-same s.config h.cuts h g others refl);
       current =
@@ -432,12 +291,12 @@ stands-emptied s h is =
       waiting = sym waits;
       filling = is.filling;
       number = is.number;
-      discarded = omega (arith, is.discarded, sum-cleared (λ (b : Block). length b.discarded) h.cuts h.closed);
-      offered = omega (arith, is.offered, sum-cleared offers_in h.cuts h.closed);
-      overwritten = is.overwritten ∙ sym (records-cleared is_dropped is_dropped h.cuts h.closed (dropped-cleared h.cuts));
+      discarded = omega (arith, is.discarded, sum-same (λ (b : Block). length b.discarded) g.closed h.closed blocks);
+      offered = omega (arith, is.offered, sum-same offers_in g.closed h.closed blocks);
+      overwritten = is.overwritten ∙ sym (weight-cleared length is_dropped is_dropped h.cuts h.closed (dropped-cleared h.cuts));
       overwritten_packets =
-          is.overwritten_packets ∙ sym (blocks-cleared is_dropped is_dropped h.cuts h.closed (dropped-cleared h.cuts));
-      consumed = is.consumed ∙ sym (records-cleared is_consumed is_consumed h.cuts h.closed (consumed-cleared h.cuts));
+          is.overwritten_packets ∙ sym (weight-cleared one is_dropped is_dropped h.cuts h.closed (dropped-cleared h.cuts));
+      consumed = is.consumed ∙ sym (weight-cleared length is_consumed is_consumed h.cuts h.closed (consumed-cleared h.cuts));
       cleared = omega (arith, is.cleared, all_gone, in_part, in_wait);
       withdrawn =
           omega (
@@ -445,7 +304,7 @@ stands-emptied s h is =
             is.withdrawn,
             in_part,
             records-withdrawn h.cuts h.closed,
-            records-cleared is_withdrawn (was_consumed h.cuts) h.cuts h.closed (withdrawn-cleared h.cuts),
+            weight-cleared length is_withdrawn (was_consumed h.cuts) h.cuts h.closed (withdrawn-cleared h.cuts),
           );
       last = is.last;
       active = is.active;

@@ -3,17 +3,9 @@ use Rattle.std.proofs.Common.{◌≡◌, ℕ, ◌+◌, ◌≤◌, ◌<◌, false
 use Rattle.std.proofs.lemmas.Bool.Decides.{nat_tests}
 use Rattle.std.proofs.lemmas.Grind.{common_steps}
 use Rattle.tr_stream.specs.Chunks.{buffers_where}
-use Rattle.tr_stream.specs.History.{Status, Waiting, Dropped, Kept, Cleared, Closed, is_dropped, is_kept_in, offers_in}
+use Rattle.tr_stream.specs.History.{Status, Waiting, Dropped, Kept, Cleared, Closed, is_dropped, is_kept_in}
 use Rattle.tr_stream.specs.Steps.{keep_waiting}
-use Rattle.tr_stream.specs.WellFormed.{NumberedFrom, WaitLast, IsWithin, AllWithinCuts, Covers, CoversFrom, AllUsed, LastHeld}
-
-pub NumberedFrom-keep_waiting : (n k : ℕ) (cs : List Closed) → NumberedFrom n cs → NumberedFrom n (keep_waiting k cs)
-NumberedFrom-keep_waiting n k [] old = tt
-NumberedFrom-keep_waiting n k (c ∷ cs) old = grind (arith, common_steps, NumberedFrom-keep_waiting (n + 1) k cs old.1)
-
-pub length-keep_waiting : (k : ℕ) (cs : List Closed) → length (keep_waiting k cs) ≡ length cs
-length-keep_waiting k [] = refl
-length-keep_waiting k (c ∷ cs) = grind (arith, common_steps, length-keep_waiting k cs)
+use Rattle.tr_stream.specs.WellFormed.{WaitLast, IsWithin, AllWithinCuts, Covers, LastHeld}
 
 pub WaitLast-keep_waiting : (k : ℕ) (cs : List Closed) → WaitLast (keep_waiting k cs)
 WaitLast-keep_waiting k [] = tt
@@ -50,14 +42,6 @@ none_above cuts k discarded (c ∷ cs) lt old =
       not_kept_above cuts k c.status lt old.0,
       none_above cuts k (discarded + length c.block.discarded) cs lt old.1,
     )
-
-pub CoversFrom-keep_waiting : (low k : ℕ) (cs : List Closed) → CoversFrom low cs → CoversFrom low (keep_waiting k cs)
-CoversFrom-keep_waiting low k [] old = tt
-CoversFrom-keep_waiting low k (c ∷ cs) old = grind (arith, common_steps, CoversFrom-keep_waiting (low + offers_in c.block) k cs old.1)
-
-pub AllUsed-keep_waiting : (k : ℕ) (cs : List Closed) → AllUsed cs → AllUsed (keep_waiting k cs)
-AllUsed-keep_waiting k [] old = tt
-AllUsed-keep_waiting k (c ∷ cs) old = grind (arith, common_steps, AllUsed-keep_waiting k cs old.1)
 
 pub LastHeld-keep_waiting : (k : ℕ) (cs : List Closed) → LastHeld cs → LastHeld (keep_waiting k cs)
 LastHeld-keep_waiting k [] old = tt

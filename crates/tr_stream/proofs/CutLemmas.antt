@@ -9,8 +9,9 @@ use Rattle.tr_packet.specs.Packets.{Contents}
 use Rattle.tr_record.specs.Records.{Entry}
 use Rattle.tr_ring.specs.ClosedBuffer.{ClosedBuffer}
 use Rattle.tr_ring.specs.Ring.{seq_after}
+use Rattle.tr_stream.proofs.BlockLemmas.{blocks_of-keep_waiting, length-same, NumberedFrom-same, CoversFrom-same, AllUsed-same}
 use Rattle.tr_stream.proofs.ChunkLemmas.{buffers_where-push, records_where-push, blocks_where-push, records_in-append, waiting-keep_waiting, other-keep_waiting, new-keep_waiting, records-keep_waiting, other_records-keep_waiting, other_blocks-keep_waiting, sum-keep_waiting}
-use Rattle.tr_stream.proofs.CutForms.{NumberedFrom-keep_waiting, length-keep_waiting, WaitLast-keep_waiting, AllWithinCuts-keep_waiting, AllWithinCuts-more, none_above, AllUsed-keep_waiting, LastHeld-push, LastHeld-keep_waiting, CoversFrom-keep_waiting, Covers-none}
+use Rattle.tr_stream.proofs.CutForms.{WaitLast-keep_waiting, AllWithinCuts-keep_waiting, AllWithinCuts-more, none_above, LastHeld-push, LastHeld-keep_waiting, Covers-none}
 use Rattle.tr_stream.proofs.FormLemmas.{NumberedFrom-push, WaitLast-push, AllWithinCuts-push, RecentLast-push, RecentLast-new, serials_same, AllUsed-push, CoversFrom-push}
 use Rattle.tr_stream.proofs.Refinement.{chunks_same, chunks_below-same, parts_below-same, kept_in, kept_in-same}
 use Rattle.tr_stream.specs.Chunks.{chunk_of, waiting_of, kept_of, cleared_of, buffer_runs, packet_of, part_of, parts_below, closed_if_any, ring_of, ring_buffers, closed_part}
@@ -52,6 +53,7 @@ part-grown c k part before waits all packets is packets_are all_is =
 stands-kept_all : (s : StreamState) (h : History) → StandsFor s h → StandsFor (kept_all s) (keep_all h)
 stands-kept_all s h is =
     let g = keep_all h in
+    let blocks = blocks_of-keep_waiting h.cuts h.closed in
     let others = λ (j : ℕ) (l : j < h.cuts). other-keep_waiting (is_kept_in j) h.cuts 0 h.closed (kept_in j h.cuts l) refl in
     let same : chunks_below h.cuts g ≡ chunks_below h.cuts h = chunks_below-same h.cuts h g others in
     let above : chunk_of (h.cuts + 1) g ≡ [] =
@@ -61,16 +63,16 @@ stands-kept_all s h is =
     new-keep_waiting (is_kept_in h.cuts) h.cuts 0 h.closed (kept_in-same h.cuts) refl is.model.order in
     record {
       model = record {
-        numbers = NumberedFrom-keep_waiting 0 h.cuts h.closed is.model.numbers;
-        filling = is.model.filling ∙ sym (length-keep_waiting h.cuts h.closed);
+        numbers = NumberedFrom-same 0 g.closed h.closed blocks is.model.numbers;
+        filling = is.model.filling ∙ sym (length-same g.closed h.closed blocks);
         order = WaitLast-keep_waiting h.cuts h.closed;
         kept = AllWithinCuts-more h.cuts (h.cuts + 1) (keep_waiting h.cuts h.closed) (omega arith)
             (AllWithinCuts-keep_waiting h.cuts h.cuts h.closed (omega arith) is.model.kept);
         recent = RecentLast-new h.cuts (h.cuts + 1) (keep_waiting h.cuts h.closed) (omega arith)
             (AllWithinCuts-keep_waiting h.cuts h.cuts h.closed (omega arith) is.model.kept);
-        used = AllUsed-keep_waiting h.cuts h.closed is.model.used;
+        used = AllUsed-same g.closed h.closed blocks is.model.used;
         room = λ e. LastHeld-keep_waiting h.cuts h.closed (is.model.room e);
-        covers = CoversFrom-keep_waiting 0 h.cuts h.closed is.model.covers;
+        covers = CoversFrom-same 0 g.closed h.closed blocks is.model.covers;
         covers_filling = subst (λ (n : ℕ). Covers n h.filling) (sym (sum-keep_waiting offers_in h.cuts h.closed)) is.model.covers_filling;
         chunks = let a = chunks_below-more h.cuts g in let c = append-nil (chunks_below (h.cuts + 1) g) in let d =
             new-keep_waiting is_kept h.cuts 0 h.closed refl refl is.model.order in let e =

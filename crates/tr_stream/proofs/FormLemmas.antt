@@ -12,14 +12,6 @@ pub NumberedFrom-push : (n : ℕ) (cs : List Closed) (c : Closed) → NumberedFr
 NumberedFrom-push n [] c old new = (grind arith, tt)
 NumberedFrom-push n (d ∷ cs) c old new = (old.0, NumberedFrom-push (n + 1) cs c old.1 (grind (arith, common_steps)))
 
-pub NumberedFrom-settle_first : (n : ℕ) (status : Status) (cs : List Closed) → NumberedFrom n cs → NumberedFrom n (settle_first status cs)
-NumberedFrom-settle_first n status [] old = tt
-NumberedFrom-settle_first n status (c ∷ cs) old = grind (arith, common_steps, NumberedFrom-settle_first (n + 1) status cs old.1)
-
-pub length-settle_first : (status : Status) (cs : List Closed) → length (settle_first status cs) ≡ length cs
-length-settle_first status [] = refl
-length-settle_first status (c ∷ cs) = grind (arith, common_steps, length-settle_first status cs)
-
 pub AllWait-push : (cs : List Closed) (c : Closed) → AllWait cs → is_waiting c.status ≡ true → AllWait (cs ++ c ∷ [])
 AllWait-push [] c old new = (new, tt)
 AllWait-push (d ∷ cs) c old new = (old.0, AllWait-push cs c old.1 new)
@@ -148,17 +140,9 @@ CoversFrom-push low (d ∷ cs) c old new = (
       (subst (λ (n : ℕ). Covers n c.block) (omega (arith, sum_by-cons (λ (c : Closed). offers_in c.block) d cs)) new),
 )
 
-pub CoversFrom-settle_first : (low : ℕ) (status : Status) (cs : List Closed) → CoversFrom low cs → CoversFrom low (settle_first status cs)
-CoversFrom-settle_first low status [] old = tt
-CoversFrom-settle_first low status (c ∷ cs) old = grind (arith, common_steps, CoversFrom-settle_first (low + offers_in c.block) status cs old.1)
-
 pub AllUsed-push : (cs : List Closed) (c : Closed) → AllUsed cs → c.block.records ≢ [] → AllUsed (cs ++ c ∷ [])
 AllUsed-push [] c old new = (new, tt)
 AllUsed-push (d ∷ cs) c old new = (old.0, AllUsed-push cs c old.1 new)
-
-pub AllUsed-settle_first : (status : Status) (cs : List Closed) → AllUsed cs → AllUsed (settle_first status cs)
-AllUsed-settle_first status [] old = tt
-AllUsed-settle_first status (c ∷ cs) old = grind (arith, common_steps, AllUsed-settle_first status cs old.1)
 
 pub LastHeld-settle_first : (k : ℕ) (cs : List Closed) → LastHeld cs → LastHeld (settle_first (Kept k) cs)
 LastHeld-settle_first k [] old = tt

@@ -1,5 +1,5 @@
 -- An offer to a stream is the history's offer.
-use Rattle.std.proofs.Common.{◌≡◌, ◌≢◌, ℕ, ◌+◌, ◌-◌, ◌^◌, ◌≤◌, ◌<◌, Bool, true, false, List, [], ◌∷◌, length, zero-add, Option, Some, None, Result, Ok, Err, refl, sym, ◌∙◌, ap, subst, arith}
+use Rattle.std.proofs.Common.{◌≡◌, ◌≢◌, ℕ, ◌+◌, ◌-◌, ◌^◌, ◌≤◌, ◌<◌, Bool, true, false, cond, List, [], ◌∷◌, length, zero-add, Option, Some, None, Result, Ok, Err, refl, sym, ◌∙◌, ap, subst, arith}
 use Rattle.std.proofs.lemmas.Bool.Decides.{nat_tests}
 use Rattle.std.proofs.lemmas.Grind.{common_steps}
 use Rattle.std.specs.Prelude.{nat_lt}
@@ -17,7 +17,7 @@ use Rattle.tr_stream.specs.Sound.{IsMade}
 use Rattle.tr_stream.specs.StandsFor.{StandsFor}
 use Rattle.tr_stream.specs.State.{StreamState}
 use Rattle.tr_stream.specs.StateSteps.{state_entry, refusal_of, state_answer_unless, state_unless, state_with_offer, offered_as, state_offer_answer, state_after_offer, overwrites}
-use Rattle.tr_stream.specs.Steps.{Course, Refuse, Join, Follow, DiscardNewest, Replace, course_of, course_when_full, course_answer, after_course, history_entry, follow_filling, history_offer_answer, history_after_offer}
+use Rattle.tr_stream.specs.Steps.{Course, Refuse, Join, Follow, DiscardNewest, Replace, course_of, course_when_full, course_answer, after_course, history_entry, history_offer_answer, history_after_offer}
 use Rattle.tr_stream.specs.declared.answers.OfferFault.{OfferFault}
 use Rattle.tr_stream.specs.declared.answers.Offered.{Offered}
 use Rattle.tr_subbuf.specs.SubBuffer.{has_room}
@@ -90,105 +90,89 @@ overwrites-overwrite : (m : Mode) → overwrites m ≡ true → course_when_full
 overwrites-overwrite Discard e = cc
 overwrites-overwrite Overwrite e = refl
 
+-- an accepted offer goes by the room in the sub-buffer and in the ring
+accepted-course : (s : StreamState) (h : History) (len : ℕ) (room free : Bool) → IsMade s.config s.ring → StandsFor s h
+    → IsAccepted s len → has_room (current_buffer s.ring) len ≡ room → nat_lt (length s.ring.waiting + 1) s.ring.count ≡ free
+    → course_of s.config h len ≡ cond room Join (cond free Follow (course_when_full s.config.mode))
+accepted-course s h len room free is stands ok room_is free_is =
+    grind (
+      arith,
+      nat_tests,
+      stands.active,
+      stands.offered,
+      stands.filling,
+      stands.waiting,
+      ok.active,
+      ok.small,
+      ok.left,
+      room_is,
+      free_is,
+      is.size,
+      is.count,
+    )
+
 -- an accepted offer, by the cases of the push
-stepped : (s : StreamState) (h : History) (moment id : ℕ) (payload : List ℕ) (room free over : Bool)
-    (waiting : List ClosedBuffer) → IsMade s.config s.ring → StandsFor s h → IsAccepted s (length payload)
-    → has_room (current_buffer s.ring) (length payload) ≡ room → nat_lt (length s.ring.waiting + 1) s.ring.count ≡ free
-    → s.ring.overwrite ≡ over → s.ring.waiting ≡ waiting
+stepped : (s : StreamState) (h : History) (moment id : ℕ) (payload : List ℕ) → IsMade s.config s.ring → StandsFor s h
+    → IsAccepted s (length payload)
     → (let e = state_entry moment id payload s
     in IsStep s h moment id payload (Ok (offered_as s.counters.offered (push_answer e s.ring))) (state_with_offer e s))
-stepped s h moment id payload true free over waiting is stands ok room_is free_is over_is waiting_is =
-    let e = state_entry moment id payload s in
-    let same = entered-is s h moment id payload stands in
-    by_course s h moment id payload (Ok (offered_as s.counters.offered (push_answer e s.ring))) (state_with_offer e s) Join
-    (grind (arith, nat_tests, stands.active, stands.offered, stands.filling, ok.active, ok.small, ok.left, room_is, is.size))
-    (let a = stands.offered in let b = stands.number in rw room_is (cc))
-    (subst (λ (t : StreamState). StandsFor t (after_course Join (history_entry h moment id payload) h)) (sym (joins e s room_is))
-    (subst (λ (e' : Entry). StandsFor (with_joined e s) (after_course Join e' h)) same (stands-joined s h e stands.offered stands)))
-stepped s h moment id payload false true over waiting is stands ok room_is free_is over_is waiting_is =
-    let e = state_entry moment id payload s in
-    let same = entered-is s h moment id payload stands in
-    by_course s h moment id payload (Ok (offered_as s.counters.offered (push_answer e s.ring))) (state_with_offer e s) Follow
-    (grind (
-      arith,
-      nat_tests,
-      stands.active,
-      stands.offered,
-      stands.filling,
-      stands.waiting,
-      ok.active,
-      ok.small,
-      ok.left,
-      room_is,
-      free_is,
-      is.size,
-      is.count,
-    ))
-    (let a = stands.offered in let b = stands.number in rw (room_is, free_is) (cc))
-    (subst (λ (t : StreamState). StandsFor t (after_course Follow (history_entry h moment id payload) h)) (sym (follows e s room_is free_is))
-    (subst (λ (e' : Entry). StandsFor (with_followed e s) (follow_filling e' h)) same
-    (stands-followed s h e (λ none. not_empty s (length payload) is ok.small room_is (stands.filling ∙ none))
-    stands.offered stands)))
-stepped s h moment id payload false false false waiting is stands ok room_is free_is over_is waiting_is =
-    let e = state_entry moment id payload s in
-    let same = entered-is s h moment id payload stands in
-    let mode : course_when_full s.config.mode ≡ DiscardNewest = overwrites-discard s.config.mode (sym is.mode ∙ over_is) in
-    by_course s h moment id payload (Ok (offered_as s.counters.offered (push_answer e s.ring))) (state_with_offer e s) DiscardNewest
-    (grind (
-      arith,
-      nat_tests,
-      stands.active,
-      stands.offered,
-      stands.filling,
-      stands.waiting,
-      ok.active,
-      ok.small,
-      ok.left,
-      room_is,
-      free_is,
-      is.size,
-      is.count,
-      mode,
-    ))
-    (let a = stands.offered in rw (room_is, free_is, over_is) (cc))
-    (subst (λ (t : StreamState). StandsFor t (after_course DiscardNewest (history_entry h moment id payload) h))
-    (sym (discards e s room_is free_is over_is))
-    (subst (λ (e' : Entry). StandsFor (with_discarded e.moment s) (after_course DiscardNewest e' h)) same
-    (stands-discarded s h e (not_empty s (length payload) is ok.small room_is) stands.offered stands)))
-stepped s h moment id payload false false true [] is stands ok room_is free_is over_is waiting_is =
-    let none : length s.ring.waiting ≡ 0 = ap length waiting_is in
-    absurd (grind (arith, nat_tests, none, free_is, is.count, is.count_low))
-stepped s h moment id payload false false true (b ∷ bs) is stands ok room_is free_is over_is waiting_is =
-    let e = state_entry moment id payload s in
-    let same = entered-is s h moment id payload stands in
-    let mode : course_when_full s.config.mode ≡ Replace = overwrites-overwrite s.config.mode (sym is.mode ∙ over_is) in
-    let used = not_empty s (length payload) is ok.small room_is in
-    let some : 0 < length s.ring.waiting = rw waiting_is (grind (arith, common_steps)) in
-    let g = settled Dropped h in
-    by_course s h moment id payload (Ok (offered_as s.counters.offered (push_answer e s.ring))) (state_with_offer e s) Replace
-    (grind (
-      arith,
-      nat_tests,
-      stands.active,
-      stands.offered,
-      stands.filling,
-      stands.waiting,
-      ok.active,
-      ok.small,
-      ok.left,
-      room_is,
-      free_is,
-      is.size,
-      is.count,
-      mode,
-    ))
-    (let a = stands.offered in let n = stands.number in let w : waiting_of h ≡ b ∷ bs =
-    sym stands.waiting ∙ waiting_is in rw (room_is, free_is, over_is, waiting_is, w) (cc))
-    (subst (λ (t : StreamState). StandsFor t (after_course Replace (history_entry h moment id payload) h))
-    (sym (replaces e s room_is free_is over_is b bs waiting_is))
-    (subst (λ (e' : Entry). StandsFor (with_followed e (without_oldest s)) (follow_filling e' g)) same
-    (stands-followed (without_oldest s) g e (λ none. used (stands.filling ∙ none))
-    (stands.offered ∙ sym (offered_of-dropped h)) (stands-without_oldest s h used stands some))))
+stepped s h moment id payload is stands ok = go fits spare s.ring.overwrite s.ring.waiting refl refl refl refl
+    (accepted-course s h (length payload) fits spare is stands ok refl refl)
+  where
+    e : Entry
+    e = state_entry moment id payload s
+
+    answer : Result Offered OfferFault
+    answer = Ok (offered_as s.counters.offered (push_answer e s.ring))
+
+    fits : Bool
+    fits = has_room (current_buffer s.ring) (length payload)
+
+    spare : Bool
+    spare = nat_lt (length s.ring.waiting + 1) s.ring.count
+
+    used : fits ≡ false → s.ring.current ≢ []
+    used full = not_empty s (length payload) is ok.small full
+
+    -- the offer takes this course, and makes this of the stream
+    takes : (k : Course) (new : StreamState) → course_of s.config h (length payload) ≡ k → answer ≡ course_answer k h
+        → state_with_offer e s ≡ new → StandsFor new (after_course k e h)
+        → IsStep s h moment id payload answer (state_with_offer e s)
+    takes k new course told made there =
+        by_course s h moment id payload answer (state_with_offer e s) k course told
+        (subst (λ (t : StreamState). StandsFor t (after_course k (history_entry h moment id payload) h)) (sym made)
+        (subst (λ (e' : Entry). StandsFor new (after_course k e' h)) (entered-is s h moment id payload stands) there))
+
+    go : (room free over : Bool) (waiting : List ClosedBuffer) → fits ≡ room → spare ≡ free → s.ring.overwrite ≡ over
+        → s.ring.waiting ≡ waiting
+        → course_of s.config h (length payload) ≡ cond room Join (cond free Follow (course_when_full s.config.mode))
+        → IsStep s h moment id payload answer (state_with_offer e s)
+    go true free over waiting room_is free_is over_is waiting_is course =
+        takes Join (with_joined e s) course
+        (let a = stands.offered in let b = stands.number in rw room_is (cc))
+        (joins e s room_is) (stands-joined s h e stands.offered stands)
+    go false true over waiting full free_is over_is waiting_is course =
+        takes Follow (with_followed e s) course
+        (let a = stands.offered in let b = stands.number in rw (full, free_is) (cc))
+        (follows e s full free_is)
+        (stands-followed s h e (λ none. used full (stands.filling ∙ none)) stands.offered stands)
+    go false false false waiting full free_is over_is waiting_is course =
+        takes DiscardNewest (with_discarded e.moment s)
+        (course ∙ overwrites-discard s.config.mode (sym is.mode ∙ over_is))
+        (let a = stands.offered in rw (full, free_is, over_is) (cc))
+        (discards e s full free_is over_is) (stands-discarded s h e (used full) stands.offered stands)
+    go false false true [] full free_is over_is waiting_is course =
+        let none : length s.ring.waiting ≡ 0 = ap length waiting_is in
+        absurd (grind (arith, nat_tests, none, free_is, is.count, is.count_low))
+    go false false true (b ∷ bs) full free_is over_is waiting_is course =
+        let some : 0 < length s.ring.waiting = rw waiting_is (grind (arith, common_steps)) in
+        takes Replace (with_followed e (without_oldest s))
+        (course ∙ overwrites-overwrite s.config.mode (sym is.mode ∙ over_is))
+        (let a = stands.offered in let n = stands.number in let w : waiting_of h ≡ b ∷ bs =
+        sym stands.waiting ∙ waiting_is in rw (full, free_is, over_is, waiting_is, w) (cc))
+        (replaces e s full free_is over_is b bs waiting_is)
+        (stands-followed (without_oldest s) (settled Dropped h) e (λ none. used full (stands.filling ∙ none))
+        (stands.offered ∙ sym (offered_of-dropped h)) (stands-without_oldest s h (used full) stands some))
 
 unless : (s : StreamState) (h : History) (moment id : ℕ) (payload : List ℕ) (refusal : Option OfferFault)
     → refusal_of (length payload) s ≡ refusal → IsMade s.config s.ring → StandsFor s h
@@ -196,9 +180,7 @@ unless : (s : StreamState) (h : History) (moment id : ℕ) (payload : List ℕ) 
 unless s h moment id payload (Some fault) told is stands =
     by_course s h moment id payload (Err fault) s (Refuse fault) (refuses s h (length payload) fault stands told) refl stands
 unless s h moment id payload None told is stands =
-    stepped s h moment id payload (has_room (current_buffer s.ring) (length payload))
-    (nat_lt (length s.ring.waiting + 1) s.ring.count) s.ring.overwrite s.ring.waiting is stands
-    (accepted s (length payload) told) refl refl refl refl
+    stepped s h moment id payload is stands (accepted s (length payload) told)
 
 -- an offer to a stream is the history's offer
 pub offers : (s : StreamState) (h : History) (moment id : ℕ) (payload : List ℕ) → IsMade s.config s.ring → StandsFor s h

@@ -9,8 +9,9 @@ use Rattle.tr_packet.specs.Packets.{Contents}
 use Rattle.tr_record.specs.Records.{Entry}
 use Rattle.tr_ring.specs.Ring.{join_current, follow_current, discard_newest, drop_front}
 use Rattle.tr_ring.specs.ClosedBuffer.{ClosedBuffer}
+use Rattle.tr_stream.proofs.BlockLemmas.{blocks_of-settle_first, length-same, NumberedFrom-same, CoversFrom-same, AllUsed-same}
 use Rattle.tr_stream.proofs.ChunkLemmas.{buffers_where-push, waiting-settle_first, other-settle_first, new-settle_first, records_where-push, blocks_where-push, records-settle_first, other_records-settle_first, blocks-settle_first, other_blocks-settle_first, sum-settle_first}
-use Rattle.tr_stream.proofs.FormLemmas.{NumberedFrom-push, NumberedFrom-settle_first, length-settle_first, WaitLast-push, WaitLast-settle_first, AllWithinCuts-push, AllWithinCuts-settle_first, RecentLast-push, RecentLast-settle_first, serials_more, serials_same, AllUsed-push, AllUsed-settle_first, LastHeld-settle_first, nil-push, Covers-join, Covers-discard, Covers-one, CoversFrom-push, CoversFrom-settle_first, offers_before-push}
+use Rattle.tr_stream.proofs.FormLemmas.{NumberedFrom-push, WaitLast-push, WaitLast-settle_first, AllWithinCuts-push, AllWithinCuts-settle_first, RecentLast-push, RecentLast-settle_first, serials_more, serials_same, AllUsed-push, LastHeld-settle_first, nil-push, Covers-join, Covers-discard, Covers-one, CoversFrom-push, offers_before-push}
 use Rattle.tr_stream.specs.Chunks.{chunk_of, waiting_of, kept_of, cleared_of, buffer_runs, packet_of, part_of, parts_below, closed_part, part_if}
 use Rattle.tr_stream.specs.History.{Status, Waiting, Dropped, Kept, Block, Closed, History, is_waiting, is_dropped, is_kept, is_kept_in, is_cleared, is_consumed, is_withdrawn, offers_in, offers_before, offered_of, times_in, times, is_released}
 use Rattle.tr_stream.specs.StandsFor.{StandsFor}
@@ -215,22 +216,25 @@ settled_well : (status : Status) (h : History) → (h.filling.records ≡ [] →
     → is_waiting status ≡ false → IsWithin h.cuts status → IsRecent h.cuts status
     → chunks_below h.cuts (settled status h) ++ chunk_of h.cuts (settled status h) ≡ kept_of (settled status h)
     → IsWellFormed h → IsWellFormed (settled status h)
-settled_well status h room stops within recent chunks is = record {
-  numbers = NumberedFrom-settle_first 0 status h.closed is.numbers;
-  filling = is.filling ∙ sym (length-settle_first status h.closed);
-  order = WaitLast-settle_first status h.closed stops is.order;
-  kept = AllWithinCuts-settle_first h.cuts status h.closed within is.kept;
-  recent = RecentLast-settle_first h.cuts status h.closed recent is.order is.recent;
-  used = AllUsed-settle_first status h.closed is.used;
-  room = room;
-  covers = CoversFrom-settle_first 0 status h.closed is.covers;
-  covers_filling = subst (λ (n : ℕ). Covers n h.filling) (sym (sum-settle_first offers_in status h.closed)) is.covers_filling;
-  chunks = chunks;
-  released = is.released;
-  serials = λ n. serials_same n (offered_of h) (offered_of (settled status h)) (times n h) (times n (settled status h))
-      (omega (arith, sum-settle_first offers_in status h.closed)) (is.serials n)
-      (omega (arith, sum-settle_first (times_in n) status h.closed));
-}
+settled_well status h room stops within recent chunks is =
+    let g = settled status h in
+    let blocks = blocks_of-settle_first status h.closed in
+    record {
+      numbers = NumberedFrom-same 0 g.closed h.closed blocks is.numbers;
+      filling = is.filling ∙ sym (length-same g.closed h.closed blocks);
+      order = WaitLast-settle_first status h.closed stops is.order;
+      kept = AllWithinCuts-settle_first h.cuts status h.closed within is.kept;
+      recent = RecentLast-settle_first h.cuts status h.closed recent is.order is.recent;
+      used = AllUsed-same g.closed h.closed blocks is.used;
+      room = room;
+      covers = CoversFrom-same 0 g.closed h.closed blocks is.covers;
+      covers_filling = subst (λ (n : ℕ). Covers n h.filling) (sym (sum-settle_first offers_in status h.closed)) is.covers_filling;
+      chunks = chunks;
+      released = is.released;
+      serials = λ n. serials_same n (offered_of h) (offered_of g) (times n h) (times n g)
+          (omega (arith, sum-settle_first offers_in status h.closed)) (is.serials n)
+          (omega (arith, sum-settle_first (times_in n) status h.closed));
+    }
 
 pub kept_in : (j k : ℕ) → j < k → is_kept_in j (Kept k) ≡ false
 kept_in j k below = grind (arith, nat_tests)
