@@ -1,51 +1,21 @@
-/* Each call of tracerd.h does what it says, and each refusal is met but those for want of memory (tests/memory.c) and SPENT:
- * no test meets that, since only 2^62 offers bring a stream there, and no call sets how many it has taken.
+/* Each call of tracerd.h does what it says, and each refusal is met but those of memory (tests/memory.c), those of files and
+ * audits (tests/files.c), and SPENT: no test meets that, since only 2^62 offers bring a stream there.
  *
  *     calls DIR     a folder that is there, in which files are written
  *
  * Expected values are worked out by hand: a packet has 80 bytes before its records, a record 24 before its payload. */
-#include "testing.h"
+#include "sessions.h"
 #include <errno.h>
 #include <pthread.h>
 #include <signal.h>
-#include <sys/stat.h>
 #include <time.h>
 #include <unistd.h>
 
-enum { ARCHIVES = 12 }; /* by their names the tenth comes before the second */
 static const uint64_t LAST_MOMENT = 9000000000000000000;
-static const char *dir;
-static char letters[70000];
 
 static volatile sig_atomic_t handled;
 
 static void handle(int signal) { handled = signal; }
-
-static const char *below(const char *name) {
-    static char path[4096];
-    snprintf(path, sizeof path, "%s/%s", dir, name);
-    return path;
-}
-
-static tracerd_session *fresh(tracerd_kind kind, tracerd_mode mode, tracerd_producer **producer) {
-    tracerd_session *s;
-    answers(OK, tracerd_new(&s, "s", ONE, 0, kind));
-    answers(OK, tracerd_channel(s, "c", 256, 2, mode));
-    answers(OK, tracerd_producer_new(s, "c", producer));
-    return s;
-}
-
-static void is_stored(tracerd_producer *p, uint64_t moment, size_t size, uint64_t serial, uint64_t packet) {
-    tracerd_offered o;
-    answers(OK, tracerd_offer(p, moment, 7, letters, size, &o));
-    is(o.outcome == TRACERD_STORED && o.serial == serial && o.packet == packet && !o.gone && !o.gone_count);
-}
-
-static void is_at(tracerd_producer *p, uint64_t serial, tracerd_place place, uint64_t chunk, uint64_t packet) {
-    tracerd_fate f;
-    answers(OK, tracerd_fate_of(p, serial, &f));
-    is(f.place == place && f.chunk == chunk && f.packet == packet);
-}
 
 static void has_counts(tracerd_counts c, uint64_t offered, uint64_t discarded, uint64_t overwritten, uint64_t cleared,
                        uint64_t in_ring, uint64_t in_chunks) {
@@ -235,47 +205,6 @@ static void clears(tracerd_session *s, tracerd_producer *p) {
     is_stored(p, 4, 50, 3, 2);
 }
 
-/* The stream's file of archive K of the session below a folder, with `count` bytes from `at` on read, or written if `bytes`. */
-static void touch(const char *folder, int archive, long at, void *to, const void *bytes, size_t count) {
-    char path[4200];
-    snprintf(path, sizeof path, "%s/s/archives/19700101T000000+0000-19700101T000000+0000-%d/c_0", folder, archive);
-    FILE *file = fopen(path, "r+b");
-    is(file && !fseek(file, at, SEEK_SET));
-    if (file) is((to ? fread(to, 1, count, file) : fwrite(bytes, 1, count, file)) == count && !fclose(file));
-}
-
-/* A ring of two sub-buffers of two records each overwrites the first with the fifth record. */
-static void shows_snapshots(void) {
-    tracerd_producer *p;
-    tracerd_offered o;
-    tracerd_audited a;
-    uint64_t n = 99;
-    tracerd_session *s = fresh(TRACERD_SNAPSHOT, TRACERD_OVERWRITE, &p);
-    answers(DISCARD_IN_SNAPSHOT, tracerd_channel(s, "d", 256, 2, TRACERD_DISCARD));
-    answers(NEVER_STARTED, tracerd_snapshot(s, 0, below("shown")));
-    answers(OK, tracerd_start(s, 0));
-    for (uint64_t k = 0; k < 4; k++) is_stored(p, k + 1, 50, k, k / 2);
-    answers(OK, tracerd_offer(p, 5, 7, letters, 50, &o));
-    is(o.outcome == TRACERD_STORED_OVER && o.serial == 4 && o.packet == 2 && o.gone == 0 && o.gone_count == 2);
-    is_at(p, 1, TRACERD_WAS_OVERWRITTEN, 0, 0);
-    answers(OK, tracerd_snapshot(s, 6, below("shown")));
-    answers(OK, tracerd_audit(below("shown"), "s", "c", 0, ONE, &a));
-    is(a.packets == 2 && a.records == 3 && a.absent == 1 && a.discarded == 0 && a.last_packet == 2 && a.last_serial == 4);
-    is(!access(below("shown/s/archives/19700101T000000+0000-19700101T000000+0000-0/metadata"), F_OK));
-    /* the end of the packet after one of 80 + 2 * 74 bytes: the current sub-buffer, as if it were closed at this moment */
-    touch(below("shown"), 0, 228 + 40, &n, NULL, 8);
-    is(n == 6);
-    answers(WRITE, tracerd_snapshot(s, 7, "/dev/null"));
-    answers(SNAPSHOT_MODE, tracerd_rotate(s, 0, &n));
-    answers(SNAPSHOT_MODE, tracerd_clear(s, &n));
-    answers(SNAPSHOT_MODE, tracerd_drain(s, &n));
-    answers(SNAPSHOT_MODE, tracerd_drainer_start(s, 1));
-    answers(SNAPSHOT_MODE, tracerd_schedule(s, 1, 1));
-    answers(OK, tracerd_producer_done(p));
-    is(n == 6);
-    tracerd_free(s);
-}
-
 static void drains_by_itself(tracerd_session *s, tracerd_producer *p) {
     tracerd_counts c;
     uint64_t n;
@@ -308,114 +237,6 @@ static void leaves_signals_alone(tracerd_session *s, tracerd_producer *p) {
     answers(OK, tracerd_drainer_stop(s));
 }
 
-static void audits(tracerd_session *s, tracerd_producer *p) {
-    tracerd_audited a;
-    uint64_t n, number = 1;
-    uint8_t first[131], two[16] = {2}; /* 80 + 24 + 27 */
-    answers(OK, tracerd_start(s, 0));
-    for (uint64_t k = 0; k < ARCHIVES; k++) {
-        is_stored(p, k, 27, k, k);
-        answers(OK, tracerd_rotate(s, k, &n));
-        answers(OK, tracerd_write(s, n, below("audit")));
-    }
-    is(!mkdir(below("audit/s/archives/19700101T000000+0000-19700101T000000+0000-"), 0777)); /* no archives by their names */
-    is(!mkdir(below("audit/s/archives/19700101T000000+0000-19700101T000000+0000-1x"), 0777));
-    is(!mkdir(below("audit/s/archives/1970101T000000+00000-19700101T000000+0000-1"), 0777));
-    answers(OK, tracerd_audit(below("audit"), "s", "c", 0, ONE, &a));
-    is(a.packets == ARCHIVES && a.records == ARCHIVES && a.last_packet == 11 && a.last_serial == 11 && !a.archive && !a.byte);
-    answers(READ, tracerd_audit(below("nowhere"), "s", "c", 0, ONE, &a));
-    answers(READ, tracerd_audit(below("audit"), "s", "c", 1, ONE, &a));
-    is(errno == ENOENT);
-    answers(FOREIGN, tracerd_audit(below("audit"), "s", "c", 0, two, &a));
-    is(a.archive == 0 && a.byte == 0 && a.packets == 0 && !a.packet_fault);
-    touch(below("audit"), 0, 0, first, NULL, sizeof first);
-    touch(below("audit"), 1, 0, NULL, first, sizeof first);
-    answers(NUMBER_REPEAT, tracerd_audit(below("audit"), "s", "c", 0, ONE, &a));
-    is(a.archive == 1 && a.byte == 0);
-    touch(below("audit"), 1, 64, NULL, &number, 8);
-    answers(SERIAL_REPEAT, tracerd_audit(below("audit"), "s", "c", 0, ONE, &a));
-    is(a.archive == 1);
-    touch(below("audit"), 2, 131, NULL, "x", 1);
-    touch(below("audit"), 1, 0, NULL, "\0", 1);
-    answers(PACKET, tracerd_audit(below("audit"), "s", "c", 0, ONE, &a));
-    is(a.archive == 1 && a.byte == 0 && a.packet_fault == 2);
-    answers(OK, tracerd_write(s, 1, below("audit")));
-    answers(PACKET, tracerd_audit(below("audit"), "s", "c", 0, ONE, &a));
-    is(a.archive == 2 && a.byte == 131 && a.packet_fault == 1);
-    answers(OK, tracerd_write(s, 2, below("audit")));
-    answers(OK, tracerd_audit(below("audit"), "s", "c", 0, ONE, &a));
-    is(a.packets == ARCHIVES && a.absent == 0);
-}
-
-/* A file that takes nothing, where the stream's is to be: metadata, which comes last, isn't written. Where metadata is to be:
- * none is left. */
-static void meets_a_full_disk(tracerd_session *s, tracerd_producer *p) {
-    uint64_t n;
-    char archive[4200];
-    answers(OK, tracerd_start(s, 0));
-    is_stored(p, 0, 27, 0, 0);
-    answers(OK, tracerd_rotate(s, 0, &n));
-    answers(OK, tracerd_write(s, 0, below("full")));
-    snprintf(archive, sizeof archive, "%s/s/archives/19700101T000000+0000-19700101T000000+0000-0", below("full"));
-    is(!chdir(archive) && !unlink("metadata") && !unlink("c_0") && !symlink("/dev/full", "c_0"));
-    answers(WRITE, tracerd_write(s, 0, below("full")));
-    is(errno == ENOSPC && access("metadata", F_OK));
-    is(!unlink("c_0") && !symlink("/dev/full", "metadata"));
-    answers(WRITE, tracerd_write(s, 0, below("full")));
-    is(errno == ENOSPC && !access("c_0", F_OK) && unlink("metadata"));
-    answers(OK, tracerd_write(s, 0, below("full")));
-    is(!access("metadata", F_OK) && !access("c_0", F_OK) && !chdir("/"));
-}
-
-static void *write_first(void *session) {
-    answers(OK, tracerd_write(session, 0, below("slow")));
-    return NULL;
-}
-
-static void *release_first(void *session) {
-    answers(OK, tracerd_release(session, 0));
-    return NULL;
-}
-
-/* A pipe is where the stream's file is to be: while it is written, a release waits, and the file gets all its bytes, though
- * signals interrupt both the writer's waits. */
-static void keeps_what_is_written(void) {
-    enum { RECORDS = 5, EACH = 65000 };
-    static char bytes[80 * RECORDS + RECORDS * (24 + EACH)];
-    tracerd_session *s;
-    tracerd_producer *p;
-    tracerd_offered o;
-    pthread_t writer, releaser;
-    char pipe[4200];
-    uint64_t n;
-    answers(OK, tracerd_new(&s, "s", ONE, 0, TRACERD_LOCAL));
-    answers(OK, tracerd_channel(s, "c", 65536, 8, TRACERD_DISCARD));
-    answers(OK, tracerd_producer_new(s, "c", &p));
-    answers(OK, tracerd_start(s, 0));
-    for (uint64_t k = 0; k < RECORDS; k++) answers(OK, tracerd_offer(p, k, 7, letters, EACH, &o));
-    answers(OK, tracerd_rotate(s, 0, &n));
-    answers(OK, tracerd_write(s, 0, below("slow")));
-    snprintf(pipe, sizeof pipe, "%s/s/archives/19700101T000000+0000-19700101T000000+0000-0/c_0", below("slow"));
-    is(!unlink(pipe) && !mkfifo(pipe, 0600));
-    is(!sigaction(SIGUSR1, &(struct sigaction){.sa_handler = handle}, NULL));
-    alarm(60); /* the pipe may not be opened again */
-    is(!pthread_create(&writer, NULL, write_first, s));
-    nanosleep(&(struct timespec){0, 50000000}, NULL);
-    is(!pthread_kill(writer, SIGUSR1));
-    FILE *file = fopen(pipe, "rb");
-    is(file && fread(bytes, 1, 1, file) == 1);
-    nanosleep(&(struct timespec){0, 50000000}, NULL);
-    is(!pthread_kill(writer, SIGUSR1));
-    is(!pthread_create(&releaser, NULL, release_first, s));
-    nanosleep(&(struct timespec){0, 50000000}, NULL);
-    is(file && fread(bytes, 1, sizeof bytes, file) == sizeof bytes - 1 && !fclose(file));
-    pthread_join(writer, NULL);
-    pthread_join(releaser, NULL);
-    alarm(0);
-    answers(RELEASED, tracerd_write(s, 0, below("slow")));
-    tracerd_free(s);
-}
-
 static void traces(tracerd_session *s, tracerd_producer *p) {
     tracerd_counts c;
     int evaluated = 0;
@@ -432,24 +253,13 @@ static void traces(tracerd_session *s, tracerd_producer *p) {
 }
 
 int main(int count, char **words) {
-    if (count != 2) return 2;
-    dir = words[1];
-    memset(letters, 'a', sizeof letters - 1);
-    void (*const alone[])(void) = {
-        refuses_what_is_planned_badly, drains_no_snapshots, works_without_streams, shows_snapshots, keeps_what_is_written};
+    void (*const alone[])(void) = {refuses_what_is_planned_badly, drains_no_snapshots, works_without_streams};
     void (*const with_session[])(tracerd_session *, tracerd_producer *) = {
         records_and_archives, refuses_at_the_wrong_time, rotates_when_due, clears, drains_by_itself,
-        leaves_signals_alone, audits, meets_a_full_disk, traces};
-    for (size_t i = 0; i < sizeof alone / sizeof *alone; i++) {
-        alone[i]();
-        counts_as_one();
-    }
-    for (size_t i = 0; i < sizeof with_session / sizeof *with_session; i++) {
-        tracerd_producer *producer;
-        tracerd_session *session = fresh(TRACERD_LOCAL, TRACERD_DISCARD, &producer);
-        with_session[i](session, producer);
-        tracerd_free(session);
-        counts_as_one();
-    }
+        leaves_signals_alone, traces};
+    if (count != 2) return 2;
+    begin(words[1]);
+    EACH_ALONE(alone);
+    EACH_WITH_SESSION(with_session);
     return closing();
 }
