@@ -13,8 +13,8 @@
  * - malloc, realloc and free are of one allocator, which aligns to 16 bytes. No call is made in a signal handler, or in a
  *   forked child of a process with threads.
  *
- * Each call answers TRC_DONE or why it was refused. After a refusal its results are as they were, and so are the handles, unless
- * the call says otherwise. Moments are nanoseconds since 1970. */
+ * Each call answers TRC_DONE or why it was refused. After a refusal its results are as they were, and so are the handles,
+ * unless the call says otherwise. Moments are nanoseconds since 1970. */
 #ifndef TRC_CELLS_H
 #define TRC_CELLS_H
 #include "tracerd.h" /* an offer's answer, a fate, sums of counts and what an audit finds are written as they are there */
@@ -139,9 +139,9 @@ uint32_t trc_book_stop(trc_book *);
  * S6 (off). */
 uint32_t trc_book_switch(trc_book *, trc_stream *, bool active);
 
-/* Begins a rotation, and answers with the number of the chunk that it archives. CLOSED, BAD_MOMENT, S1, S3, S4, S5, NO_MEMORY. */
+/* Begins a rotation, and answers with the number of the chunk that it archives. CLOSED, BAD_MOMENT, S1, S3 to S5, NO_MEMORY. */
 uint32_t trc_rotate_begin(trc_book *, uint64_t moment, uint64_t *id);
-/* Which stream the pending rotation cuts next: `number`, if `left` is true; else all are cut, and `number` is 0. CLOSED, S13. */
+/* Which stream the pending rotation cuts next: `number`, if `left` is true; else all are cut and `number` is 0. CLOSED, S13. */
 uint32_t trc_rotate_next(trc_book *, bool *left, uint64_t *number);
 /* Cuts that stream at the rotation's end, and notes it. CLOSED (book, then stream), MISPLACED, S8, S13 (also of a stream that
  * the rotation has cut), S14 (another stream is next), NO_MEMORY: the stream is uncut, the rotation pending. */
@@ -212,9 +212,10 @@ uint32_t trc_audit_new(trc_audit *, const uint8_t *uuid, size_t uuid_len, uint64
 /* Audits the next bytes of this file, in any pieces. A1 to A4, NO_MEMORY: the last three fields say where, `archive` as the
  * file of the packet, from 0 on, and the others are 0; each later call says the same. CLOSED, TOO_MUCH. */
 uint32_t trc_audit_feed(trc_audit *, const uint8_t *bytes, size_t len, tracerd_audited *);
-/* Ends this file, and begins the next one. CLOSED, A1 to A4, NO_MEMORY, TOO_MUCH. */
+/* Ends this file, and begins the next one. CLOSED, TOO_MUCH; A1 to A4, NO_MEMORY: as of trc_audit_feed. */
 uint32_t trc_audit_next(trc_audit *, tracerd_audited *);
-/* Ends the last file and closes the handle, also after a refusal, and says what all have. CLOSED, A1 to A4, NO_MEMORY. */
+/* Ends the last file, says what all have, and closes the handle, also after a refusal. CLOSED; A1 to A4, NO_MEMORY: as of
+ * trc_audit_feed. */
 uint32_t trc_audit_end(trc_audit *, tracerd_audited *);
 void trc_audit_free(trc_audit *);
 

@@ -216,8 +216,7 @@ tracerd_status tracerd_rotate_on(tracerd_session *t, uint64_t *archive) {
 }
 
 tracerd_status tracerd_rotate(tracerd_session *t, uint64_t moment, uint64_t *archive) {
-    uint64_t chunk;
-    return LOCKED(&t->desk, trc_rotate_begin(&t->book, moment, &chunk) ?: tracerd_rotate_on(t, archive));
+    return LOCKED(&t->desk, trc_rotate_begin(&t->book, moment, &(uint64_t){0}) ?: tracerd_rotate_on(t, archive));
 }
 
 tracerd_status tracerd_schedule(tracerd_session *t, uint64_t every, uint64_t bytes) {
@@ -245,8 +244,8 @@ tracerd_status tracerd_clear(tracerd_session *t, uint64_t *records) {
 tracerd_status tracerd_release(tracerd_session *t, uint64_t archive) {
     tracerd_status last = TRACERD_RELEASED; /* of no streams; else all are released if the last one is */
     return LOCKED(&t->files, LOCKED(&t->desk, trc_book_can_release(&t->book, archive) ?:
-        EACH_LOCKED(t, s, except(TRACERD_RELEASED, last = trc_book_release(&t->book, &s->stream, archive, &(trc_released){0}))) ?:
-        last));
+        EACH_LOCKED(t, s, except(TRACERD_RELEASED,
+            last = trc_book_release(&t->book, &s->stream, archive, &(trc_released){0}))) ?: last));
 }
 
 tracerd_status tracerd_counts_of(tracerd_producer *producer, tracerd_counts *counts) {
@@ -347,14 +346,15 @@ tracerd_status tracerd_snapshot(tracerd_session *t, uint64_t moment, const char 
     return LOCKED(&t->files, write_folder(t, 0, &moment, folder));
 }
 
-/* The number of an archive's folder; TRACERD_NEVER of another name. */
-static uint64_t number_of(const struct dirent *folder) {
-    uint64_t number = TRACERD_NEVER;
-    (void)trc_archive_number((const uint8_t *)folder->d_name, strlen(folder->d_name), &number);
-    return number;
+static int is_archive(const struct dirent *entry) {
+    return !trc_archive_number((const uint8_t *)entry->d_name, strlen(entry->d_name), &(uint64_t){0});
 }
 
-static int is_archive(const struct dirent *entry) { return number_of(entry) != TRACERD_NEVER; }
+static uint64_t number_of(const struct dirent *archive) {
+    uint64_t number = 0;
+    (void)trc_archive_number((const uint8_t *)archive->d_name, strlen(archive->d_name), &number);
+    return number;
+}
 
 static int by_number(const struct dirent **one, const struct dirent **other) {
     return (number_of(*one) > number_of(*other)) - (number_of(*one) < number_of(*other));

@@ -209,7 +209,7 @@ typedef struct tracerd_counts { uint64_t offered, discarded, overwritten, cleare
 
 /* Of one producer: as of one moment. */
 tracerd_status tracerd_counts_of(tracerd_producer *, tracerd_counts *);
-/* The sums over all producers, one after another. */
+/* The sums over all producers, one after another. What would be more than UINT64_MAX is that. */
 tracerd_status tracerd_counts_sum(tracerd_session *, tracerd_counts *);
 /* The sums, once nobody can offer any more. MISSING: *stream is the first one whose producer was not given back. DRAINING. */
 tracerd_status tracerd_settle(tracerd_session *, tracerd_counts *, uint64_t *stream);

@@ -60,6 +60,7 @@ static void audits(tracerd_session *s, tracerd_producer *p) {
     tracerd_audited a;
     uint64_t n, number = 1;
     uint8_t first[131], two[16] = {2}; /* 80 + 24 + 27 */
+    char first_one[4200];
     answers(OK, tracerd_start(s, 0));
     for (uint64_t k = 0; k < ARCHIVES; k++) {
         is_stored(p, k, 27, k, k);
@@ -68,6 +69,7 @@ static void audits(tracerd_session *s, tracerd_producer *p) {
     }
     is(!mkdir(below("audit/s/archives/19700101T000000+0000-19700101T000000+0000-"), 0777)); /* no archives by their names */
     is(!mkdir(below("audit/s/archives/19700101T000000+0000-19700101T000000+0000-1x"), 0777));
+    is(!mkdir(below("audit/s/archives/19700101T000000+0000-19700101T000000+0000-07"), 0777));
     is(!mkdir(below("audit/s/archives/1970101T000000+00000-19700101T000000+0000-1"), 0777));
     answers(OK, tracerd_audit(below("audit"), "s", "c", 0, ONE, &a));
     is(a.packets == ARCHIVES && a.records == ARCHIVES && a.last_packet == 11 && a.last_serial == 11 && !a.archive && !a.byte);
@@ -93,9 +95,17 @@ static void audits(tracerd_session *s, tracerd_producer *p) {
     answers(OK, tracerd_write(s, 1, below("audit")));
     answers(PACKET, tracerd_audit(below("audit"), "s", "c", 0, ONE, &a));
     is(a.archive == 2 && a.byte == 131 && a.packet_fault == 1);
+    snprintf(first_one, sizeof first_one, "%s/s/archives/19700101T000000+0000-19700101T000000+0000-0", below("audit"));
+    is(!rename(first_one, below("first"))); /* now no archive is in the place of its number */
+    answers(PACKET, tracerd_audit(below("audit"), "s", "c", 0, ONE, &a));
+    is(a.archive == 2 && a.byte == 131 && a.packet_fault == 1);
+    is(!rename(below("first"), first_one));
     answers(OK, tracerd_write(s, 2, below("audit")));
     answers(OK, tracerd_audit(below("audit"), "s", "c", 0, ONE, &a));
     is(a.packets == ARCHIVES && a.absent == 0);
+    is(!mkdir(below("none"), 0777) && !mkdir(below("none/s"), 0777) && !mkdir(below("none/s/archives"), 0777));
+    answers(OK, tracerd_audit(below("none"), "s", "c", 0, ONE, &a)); /* without an archive */
+    is(!a.packets && !a.records && !a.absent && !a.discarded && !a.last_packet && !a.last_serial && !a.archive && !a.byte);
 }
 
 /* A file that takes nothing, where the stream's is to be: metadata, which comes last, isn't written. Where metadata is to be:

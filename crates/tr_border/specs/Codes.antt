@@ -2,7 +2,6 @@
 use Rattle.std.specs.Prelude.{ℕ, ◌+◌, ◌-◌, ◌*◌, ◌==◌, List, [], ◌∷◌, codes, Result, Ok, Err, Option, Some, None, if◌then◌else◌}
 use Rattle.std.specs.List.{list_any}
 use Rattle.std.specs.Str.{bytes_eq}
-use Rattle.tr_border.specs.declared.codes.TheConstants.{NO_MEMORY}
 
 -- the hundred of a code's letter: S, O, T, C, X, Y, D, A, G
 abbrev pub hundred_of : ℕ → ℕ
@@ -25,16 +24,16 @@ number_of_code (letter ∷ digits) = hundred_of letter + written_after 0 digits
 abbrev pub memory_codes : List (List ℕ)
 memory_codes = codes "S16" ∷ codes "T3" ∷ codes "C2" ∷ codes "X2" ∷ codes "Y3" ∷ codes "A5" ∷ []
 
--- the number of a fault's code, and one for all failed allocations
+-- the number of a fault's code, and 1 for all failed allocations
 abbrev pub code_number : List ℕ → ℕ
-code_number code = if list_any (bytes_eq code) memory_codes then NO_MEMORY else number_of_code code
+code_number code = if list_any (bytes_eq code) memory_codes then 1 else number_of_code code
 
 -- what a call answers: 0 if it was done
 abbrev pub code_of : {A E : Type 0} → (E → List ℕ) → Result A E → ℕ
 code_of code (Ok x) = 0
 code_of code (Err fault) = code_number (code fault)
 
--- what stands in a call's result then, which stays as it was after a refusal
+-- what a call's result is then, which stays as it was after a refusal
 abbrev pub given : {A B E : Type 0} → (A → B) → Result A E → B → B
 given out (Ok x) before = out x
 given out (Err fault) before = before

@@ -1,6 +1,6 @@
 //! What an audit of one stream's files finds, and its steps.
 
-ghost use Rattle.std.specs.Prelude.{◌≡◌, ◌≢◌, ◌≤◌, ◌<◌, ◌+◌, ◌^◌, ◌∷◌, ◌++◌, [], ℕ, List, true, false, Some, None, MatchOption, IfOk, IfErr, length};
+ghost use Rattle.std.specs.Prelude.{◌≡◌, ◌≢◌, ◌≤◌, ◌<◌, ◌+◌, ◌^◌, ◌∷◌, ◌++◌, [], ℕ, List, true, false, Some, None, Err, MatchOption, IfOk, IfErr, IfSome, length};
 ghost use Rattle.tr_border.specs.Audits.{HasReadOn, HasReadPiece, IsFound, StopsAtEnd, absent_of, audited_out, fault_code, flaw_given, flaw_out, packet_out};
 ghost use Rattle.tr_border.specs.Codes.{code_number, code_of};
 ghost use Rattle.tr_border.specs.declared.codes.TheConstants.{BAD_UUID, CLOSED, DONE, IN_USE, NO_MEMORY, TOO_MUCH};
@@ -100,6 +100,7 @@ pub fn feed_on(reader: &mut AuditReader<Global>, bytes: &[u8]) -> Result<(), Aud
     requires { reader.old.bytes + length bytes.now < 2 ^ 62 }
     ensures read { HasReadOn bytes.now reader.old reader.new }
     ensures answer { result ≡ answer_at reader.new.fault }
+    ensures again { IfSome reader.old.fault (λ _. reader.new ≡ reader.old) }
 {
     reader.feed(bytes)
 }
@@ -109,6 +110,7 @@ pub fn end_piece(reader: &mut AuditReader<Global>) -> Result<(), AuditFault>
     requires { reader.old.pieces + 1 < 2 ^ 62 }
     ensures read { HasReadPiece reader.old reader.new }
     ensures answer { result ≡ answer_at reader.new.fault }
+    ensures again { IfSome reader.old.fault (λ _. reader.new ≡ reader.old) }
 {
     reader.next_piece()
 }
@@ -117,6 +119,7 @@ pub fn end_piece(reader: &mut AuditReader<Global>) -> Result<(), AuditFault>
 pub fn end_of(reader: AuditReader<Global>) -> Result<AuditedOut, AuditFault>
     ensures found { IfOk result (λ out. IsFound reader out) }
     ensures fault { IfErr result (λ f. StopsAtEnd reader f) }
+    ensures again { IfSome reader.fault (λ f. result ≡ Err f) }
 {
     match reader.finish() {
         Ok(audit) => Ok(audited_out(&audit)),

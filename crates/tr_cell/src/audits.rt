@@ -1,6 +1,6 @@
 //! The audit of one stream's files: one caller at a time.
 
-ghost use Rattle.std.specs.Prelude.{◌≡◌, ◌≢◌, ◌≤◌, ◌<◌, ◌+◌, ◌^◌, ◌∷◌, ◌++◌, [], ℕ, List, true, false, Some, None, MatchOption, IfOk, IfErr, length};
+ghost use Rattle.std.specs.Prelude.{◌≡◌, ◌≢◌, ◌≤◌, ◌<◌, ◌+◌, ◌^◌, ◌∷◌, ◌++◌, [], ℕ, List, true, false, Some, None, MatchOption, IfOk, IfErr, IfSome, length};
 ghost use Rattle.tr_border.specs.Audits.{HasReadOn, HasReadPiece, IsFound, StopsAtEnd, absent_of, audited_out, fault_code, flaw_given, flaw_out, packet_out};
 ghost use Rattle.tr_border.specs.Codes.{code_number, code_of};
 ghost use Rattle.tr_border.specs.declared.codes.TheConstants.{BAD_NAME, BAD_UUID, CLOSED, DONE, IN_USE, NO_MEMORY, TOO_MUCH};
@@ -10,9 +10,7 @@ ghost use Rattle.tr_survey.specs.Names.{archive_number};
 
 use std::alloc::Global;
 use tr_border::audits::{AuditedOut, MOST, end_of, end_piece, feed_on, flaw_out, has_room};
-use tr_border::codes::{
-    BAD_NAME, BAD_UUID, CLOSED, DONE, IN_USE, NO_MEMORY, TOO_MUCH, audit_code,
-};
+use tr_border::codes::{BAD_NAME, BAD_UUID, CLOSED, DONE, IN_USE, NO_MEMORY, TOO_MUCH, audit_code};
 use tr_border::inputs::uuid_of;
 use tr_chunk::AuditReader;
 use tr_held::AuditCell;
@@ -80,6 +78,7 @@ pub extern "C" fn trc_audit_feed(
         (λ r. MatchOption handle.new.value ⊥ (λ after. HasReadOn bytes.now r after)) }
     ensures answer { result ≢ TOO_MUCH → MatchOption handle.new.value (result ≡ CLOSED)
         (λ after. (result ≡ code_of fault_code (answer_at after.fault)) × (found.new ≡ flaw_given after.fault found.old)) }
+    ensures again { IfSome handle.old.value (λ r. IfSome r.fault (λ _. handle.new.value ≡ handle.old.value)) }
     ensures too_much { result ≡ TOO_MUCH → (handle.new.value ≡ handle.old.value) × (found.new ≡ found.old)
         × MatchOption handle.old.value ⊥ (λ r. 2 ^ 62 ≤ r.bytes + length bytes.now) }
 {
@@ -103,12 +102,17 @@ pub extern "C" fn trc_audit_feed(
 
 /// Ends this file, and begins the next one.
 #[unsafe(no_mangle)]
-pub extern "C" fn trc_audit_next(alloc: Global, handle: &mut AuditCell, found: &mut AuditedOut) -> u32
+pub extern "C" fn trc_audit_next(
+    alloc: Global,
+    handle: &mut AuditCell,
+    found: &mut AuditedOut,
+) -> u32
     ensures closed { handle.old.value ≡ None → (result ≡ CLOSED) × (handle.new.value ≡ None) × (found.new ≡ found.old) }
     ensures read { result ≢ TOO_MUCH → MatchOption handle.old.value (result ≡ CLOSED)
         (λ r. MatchOption handle.new.value ⊥ (λ after. HasReadPiece r after)) }
     ensures answer { result ≢ TOO_MUCH → MatchOption handle.new.value (result ≡ CLOSED)
         (λ after. (result ≡ code_of fault_code (answer_at after.fault)) × (found.new ≡ flaw_given after.fault found.old)) }
+    ensures again { IfSome handle.old.value (λ r. IfSome r.fault (λ _. handle.new.value ≡ handle.old.value)) }
     ensures too_much { result ≡ TOO_MUCH → (handle.new.value ≡ handle.old.value) × (found.new ≡ found.old)
         × MatchOption handle.old.value ⊥ (λ r. 2 ^ 62 ≤ r.pieces + 1) }
 {
@@ -142,6 +146,8 @@ pub extern "C" fn trc_audit_end(
     ensures found { result ≡ DONE → MatchOption handle.old.value ⊥ (λ r. IsFound r found.new) }
     ensures why { result ≢ DONE → handle.old.value ≢ None → MatchOption handle.old.value ⊥
         (λ r. (f : AuditFault) × StopsAtEnd r f × (result ≡ code_number (fault_code f)) × (found.new ≡ flaw_out f)) }
+    ensures again { IfSome handle.old.value (λ r. IfSome r.fault
+        (λ f. (result ≡ code_number (fault_code f)) × (found.new ≡ flaw_out f))) }
 {
     let Some(reader) = handle.take(alloc) else {
         return CLOSED;

@@ -84,7 +84,8 @@ pub extern "C" fn trc_book_archive_name(
     ensures value { result ≢ NO_MEMORY → MatchOption handle.old.value ((result ≡ CLOSED) × (room.new ≡ room.old) × (count.new ≡ count.old))
         (λ b. MatchOption (slice_get b.archives id) ((result ≡ 118) × (room.new ≡ room.old) × (count.new ≡ count.old))
         (λ a. CopiesWhole (archive_name_text a.begin a.end b.offset a.id) result room.old room.new count.old count.new)) }
-    ensures no_memory { result ≡ NO_MEMORY → (room.new ≡ room.old) × (count.new ≡ count.old) }
+    ensures no_memory { result ≡ NO_MEMORY → MatchOption handle.old.value ⊥ (λ b. MatchOption (slice_get b.archives id) ⊥
+        (λ _. (room.new ≡ room.old) × (count.new ≡ count.old))) }
     ensures same { handle.new.value ≡ handle.old.value }
 {
     let Some(book) = handle.take(alloc) else {
@@ -117,7 +118,7 @@ pub extern "C" fn trc_book_snapshot_name(
     ensures value { stored ≤ LAST_MOMENT → result ≢ NO_MEMORY
         → MatchOption handle.old.value ((result ≡ CLOSED) × (room.new ≡ room.old) × (count.new ≡ count.old))
         (λ b. CopiesWhole (archive_name_text b.begin stored b.offset 0) result room.old room.new count.old count.new) }
-    ensures no_memory { result ≡ NO_MEMORY → (room.new ≡ room.old) × (count.new ≡ count.old) }
+    ensures no_memory { result ≡ NO_MEMORY → MatchOption handle.old.value ⊥ (λ _. (room.new ≡ room.old) × (count.new ≡ count.old)) }
     ensures same { handle.new.value ≡ handle.old.value }
 {
     let Some(book) = handle.take(alloc) else {
@@ -146,7 +147,8 @@ pub extern "C" fn trc_book_file_name(
     ensures value { result ≢ NO_MEMORY → MatchOption handle.old.value ((result ≡ CLOSED) × (room.new ≡ room.old) × (count.new ≡ count.old))
         (λ b. MatchOption (channel_of stream b) ((result ≡ 108) × (room.new ≡ room.old) × (count.new ≡ count.old))
         (λ name. CopiesWhole (file_name name stream) result room.old room.new count.old count.new)) }
-    ensures no_memory { result ≡ NO_MEMORY → (room.new ≡ room.old) × (count.new ≡ count.old) }
+    ensures no_memory { result ≡ NO_MEMORY → MatchOption handle.old.value ⊥ (λ b. MatchOption (channel_of stream b) ⊥
+        (λ _. (room.new ≡ room.old) × (count.new ≡ count.old))) }
     ensures same { handle.new.value ≡ handle.old.value }
 {
     let Some(book) = handle.take(alloc) else {
@@ -168,7 +170,7 @@ fn copy_file_name(
     ensures value { result ≢ NO_MEMORY → MatchOption (channel_of stream book.now)
         ((result ≡ 108) × (room.new ≡ room.old) × (count.new ≡ count.old))
         (λ name. CopiesWhole (file_name name stream) result room.old room.new count.old count.new) }
-    ensures no_memory { result ≡ NO_MEMORY → (room.new ≡ room.old) × (count.new ≡ count.old) }
+    ensures no_memory { result ≡ NO_MEMORY → MatchOption (channel_of stream book.now) ⊥ (λ _. (room.new ≡ room.old) × (count.new ≡ count.old)) }
 {
     let Some(channel) = book.channel_of(stream) else {
         return session_code(SessionFault::NoStream);
@@ -201,7 +203,7 @@ pub extern "C" fn trc_book_metadata(
 ) -> u32
     ensures value { result ≢ NO_MEMORY → MatchOption handle.old.value ((result ≡ CLOSED) × (room.new ≡ room.old) × (count.new ≡ count.old))
         (λ b. CopiesWhole (metadata_file b.uuid) result room.old room.new count.old count.new) }
-    ensures no_memory { result ≡ NO_MEMORY → (room.new ≡ room.old) × (count.new ≡ count.old) }
+    ensures no_memory { result ≡ NO_MEMORY → MatchOption handle.old.value ⊥ (λ _. (room.new ≡ room.old) × (count.new ≡ count.old)) }
     ensures same { handle.new.value ≡ handle.old.value }
 {
     let Some(book) = handle.take(alloc) else {

@@ -12,7 +12,8 @@
 //! # What is proved
 //!
 //! - Each call answers by the rule of the call that it makes, says its results, and leaves its handles as that call does. A
-//!   closed handle is answered `CLOSED`; a refusal leaves results and handles as they were.
+//!   closed handle is answered `CLOSED`. A refusal leaves handles and results as they were; only an audit says in its result
+//!   where it stopped, and says the same again.
 //! - No call requires anything of its arguments, waits, or touches a global.
 //! - The audit that bytes are fed to finds what the audit of whole files finds.
 //!
