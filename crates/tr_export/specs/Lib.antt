@@ -1,4 +1,5 @@
 pub mod Archives
+pub mod Content
 pub mod Failures
 pub mod Faults
 pub mod Kept

@@ -30,6 +30,7 @@
 //! `MemoryDisk::new`: how bytes are cut is no part of the meaning.
 #![tactic(auto)]
 
+mod content;
 mod counting;
 mod disk;
 mod faults;

@@ -1,63 +1,40 @@
 //! Writing a session's archives.
 
-ghost use Rattle.std.specs.Prelude.{◌≡◌, ◌∷◌, [], None, length, OnOk, OnErr};
-ghost use Rattle.tr_chunk.specs.Files.{packets_text};
+ghost use Rattle.std.specs.Prelude.{◌≡◌, ◌∷◌, [], length, OnOk, OnErr};
 ghost use Rattle.tr_export.specs.Archives.{stream_file, stream_files, chunk_made, archive_made, archives_made};
+ghost use Rattle.tr_export.specs.Content.{IsHeld, content_text};
 ghost use Rattle.tr_export.specs.Failures.{FailedByWrite};
 ghost use Rattle.tr_export.specs.Making.{and_then_made, MadePrefix};
 ghost use Rattle.tr_export.specs.declared.made.Made.TheVariants.{File};
-ghost use Rattle.tr_packet.specs.Metadata.{metadata_of};
 ghost use Rattle.tr_session.specs.Sizes.{archive_released};
 ghost use Rattle.tr_stream.specs.Rules.{by_state};
 
+use crate::content::Content;
 use crate::disk::Disk;
 use crate::faults::ExportFault;
 use crate::paths::{archive_folder, file_path};
 use std::alloc::Allocator;
-use tr_book::Part;
-use tr_chunk::{archive_name, stream_file_name, write_metadata, write_part};
+use tr_chunk::{archive_name, stream_file_name};
 use tr_session::Session;
 use tr_session_book::Archive;
 use tr_terms::Name;
-use uuid::Uuid;
 
-/// Writes the metadata text to a file of this path.
-fn write_metadata_file<B: Allocator, D: Disk>(
+/// Writes a file of this path with this content.
+fn write_file<A: Allocator, B: Allocator, D: Disk>(
     alloc: B,
     disk: &mut D,
     path: &str,
-    uuid: &Uuid,
+    content: &Content<'_, A>,
 ) -> Result<(), ExportFault>
+    requires { IsHeld content.now }
     ensures ok { OnOk result (D.made disk.new ≡ and_then_made (D.made disk.old)
-        (File path.now (metadata_of uuid.now) ∷ [])) }
+        (File path.now (content_text content.now) ∷ [])) }
     ensures err { OnErr result
-        (MadePrefix (D.made disk.old) (D.made disk.new) (File path.now (metadata_of uuid.now) ∷ [])) }
+        (MadePrefix (D.made disk.old) (D.made disk.new) (File path.now (content_text content.now) ∷ [])) }
     ensures failures { FailedByWrite (D.failures disk.old) (D.failures disk.new) result }
 {
     let mut file = disk.open_file(path)?;
-    if let Err(fault) = write_metadata(alloc, &mut file, uuid) {
-        disk.give_up(file);
-        return Err(ExportFault::from(fault));
-    }
-    disk.close_file(file)?;
-    Ok(())
-}
-
-/// Writes a part's packets to a file of this path.
-fn write_part_file<A: Allocator, D: Disk>(
-    disk: &mut D,
-    path: &str,
-    part: &Part<A>,
-) -> Result<(), ExportFault>
-    requires { part.now.released ≡ None }
-    ensures ok { OnOk result (D.made disk.new ≡ and_then_made (D.made disk.old)
-        (File path.now (packets_text part.now.packets) ∷ [])) }
-    ensures err { OnErr result
-        (MadePrefix (D.made disk.old) (D.made disk.new) (File path.now (packets_text part.now.packets) ∷ [])) }
-    ensures failures { FailedByWrite (D.failures disk.old) (D.failures disk.new) result }
-{
-    let mut file = disk.open_file(path)?;
-    if let Err(fault) = write_part(&mut file, part) {
+    if let Err(fault) = content.put(alloc, &mut file) {
         disk.give_up(file);
         return Err(ExportFault::from(fault));
     }
@@ -92,7 +69,7 @@ fn write_stream<A: Allocator, B: Allocator + Copy, D: Disk>(
     };
     let name = stream_file_name(alloc, &channel, i)?;
     let path = file_path(alloc, folder, name.as_str())?;
-    write_part_file(disk, path.as_str(), part)
+    write_file(alloc, disk, path.as_str(), &Content::Packets(part))
 }
 
 /// Writes what each stream got in chunk `id` to its file in the folder.
@@ -135,7 +112,9 @@ fn write_chunk<A: Allocator, B: Allocator + Copy, D: Disk>(
     let metadata = file_path(alloc, folder, "metadata")?;
     disk.make_folder(folder)?;
     write_streams(alloc, disk, folder, id, session)?;
-    write_metadata_file(alloc, disk, metadata.as_str(), &session.book().uuid())
+    let uuid = session.book().uuid();
+    let content = Content::<A>::Metadata(&uuid);
+    write_file(alloc, disk, metadata.as_str(), &content)
 }
 
 /// Writes an archive to the folder of its name, unless the part of any stream was released.

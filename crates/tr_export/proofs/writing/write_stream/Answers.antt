@@ -5,8 +5,8 @@ use Rattle.tr_export.proofs.MakingLemmas.{front_none, OnErr-always}
 use Rattle.tr_export.specs.Archives.{stream_file}
 use Rattle.tr_export.proofs.writing.write_stream.Goals as goal
 
-pub write_part_file-requires : goal.write_part_file-requires
-write_part_file-requires g c =
+pub write_file-requires : goal.write_file-requires
+write_file-requires g c =
     part-held c.args.id c.args.i c.args.session.now c.in-Some-stream.stream.now c.in-Some-part.part.now c.requires
     (sym c.in-Some-stream.ensures.value) (sym c.in-Some-part.ensures.value)
 
