@@ -1,5 +1,5 @@
 -- A stream's journal, as its slot keeps it.
-use Rattle.std.proofs.Common.{◌≡◌, ◌∙◌, ◌<◌, ℕ, Bool, List, [], ◌∷◌, ◌++◌, Result, ap, map, refl, subst, sym}
+use Rattle.std.proofs.Common.{◌≡◌, ◌∙◌, ◌+◌, ◌<◌, ℕ, Bool, List, [], ◌∷◌, ◌++◌, Result, ap, arith, map, subst, sym}
 use Rattle.std.specs.List.{AllByRecursion}
 use Rattle.std.specs.List.Sorted.{IsStrictlyIncreasing}
 use Rattle.atomic_table.specs.Seated.{TableId}
@@ -32,12 +32,13 @@ use Rattle.tr_stream.specs.declared.answers.TakeFault.{TakeFault}
 use Rattle.tr_stream.specs.declared.answers.Taken.{Taken}
 
 -- a new one
-pub kept-new : (table : TableId) (stream : StreamState) (account : JournalState StreamStep) → account.table ≡ table → IsNewAccount account
-    → IsUnused stream → IsKeptAccount table stream account
-kept-new table stream account at none unused = record {
+pub kept-new : (table : TableId) (stream : StreamState) (made : ℕ) (account : JournalState StreamStep) → account.table ≡ table
+    → IsNewAccount account → made ≡ 0 → IsUnused stream → IsKeptAccount table stream made account
+kept-new table stream made account at new none unused = record {
   table_is = at;
-  lines_are = subst (λ lines. IsJournalOf lines stream) (sym none)
+  lines_are = subst (λ lines. IsJournalOf lines stream) (sym new.0)
       (journal-new stream (subst (λ (t : StreamState). StandsFor t new_history) (sym unused) (starts stream.config)));
+  made_is = omega (arith, new.1, none);
 }
 
 pub seat-new : (table : TableId) (who : ℕ) (account : JournalState StreamStep) (seat : SeatState StreamStep) → account.table ≡ table
@@ -49,48 +50,49 @@ seat-new table who account seat at is = (
 )
 
 -- after a call was noted
-module _ (table : TableId) (s : StreamState) (before after : JournalState StreamStep) (was : IsKeptAccount table s before) where
+module _ (table : TableId) (s : StreamState) (made : ℕ) (before after : JournalState StreamStep) (was : IsKeptAccount table s made before) where
   noted : (who : ℕ) (step : StreamStep) (t u : StreamState) → after ≡ journal_after who step before → t ≡ u
-      → IsJournalOf (before.lines ++ line who step ∷ []) u → IsKeptAccount table t after
+      → IsJournalOf (before.lines ++ line who step ∷ []) u → IsKeptAccount table t made after
   noted who step t u is same lines = record {
     table_is = ap (λ (j : JournalState StreamStep). j.table) is ∙ was.table_is;
     lines_are = journal-moved before after who step t u is same lines;
+    made_is = ap (λ (j : JournalState StreamStep). j.made) is ∙ was.made_is;
   }
 
   pub kept-offer : (t : StreamState) (who moment id : ℕ) (payload : List ℕ) (told : Result Offered OfferFault) → who ≡ producer_seat → IsKept s
       → told ≡ state_offer_answer moment id payload s → t ≡ state_after_offer moment id payload s
-      → after ≡ journal_after who (offer_step moment id payload told) before → IsKeptAccount table t after
+      → after ≡ journal_after who (offer_step moment id payload told) before → IsKeptAccount table t made after
   kept-offer t who moment id payload told mine kept answer same is =
       noted who (offer_step moment id payload told) t (state_after_offer moment id payload s) is same
       (journal-offer before.lines s was.lines_are who moment id payload told mine kept answer)
 
   pub kept-take : (t : StreamState) (who : ℕ) (told : Result Taken TakeFault) → desk_seat < who → told ≡ state_take_answer s
-      → t ≡ state_after_take s → after ≡ journal_after who (take_step told) before → IsKeptAccount table t after
+      → t ≡ state_after_take s → after ≡ journal_after who (take_step told) before → IsKeptAccount table t made after
   kept-take t who told theirs answer same is =
       noted who (take_step told) t (state_after_take s) is same
       (journal-take before.lines s was.lines_are who told theirs answer)
 
   pub kept-cut : (t : StreamState) (who moment : ℕ) (told : Result CutDone CutFault) → who ≡ desk_seat → told ≡ state_cut_answer moment s
-      → t ≡ state_after_cut moment s → after ≡ journal_after who (cut_step moment told) before → IsKeptAccount table t after
+      → t ≡ state_after_cut moment s → after ≡ journal_after who (cut_step moment told) before → IsKeptAccount table t made after
   kept-cut t who moment told desk answer same is =
       noted who (cut_step moment told) t (state_after_cut moment s) is same
       (journal-cut before.lines s was.lines_are who moment told desk answer)
 
   pub kept-clear : (t : StreamState) (who : ℕ) (told : Result Cleared ClearFault) → who ≡ desk_seat → told ≡ state_clear_answer s
-      → t ≡ state_after_clear s → after ≡ journal_after who (clear_step told) before → IsKeptAccount table t after
+      → t ≡ state_after_clear s → after ≡ journal_after who (clear_step told) before → IsKeptAccount table t made after
   kept-clear t who told desk answer same is =
       noted who (clear_step told) t (state_after_clear s) is same
       (journal-clear before.lines s was.lines_are who told desk answer)
 
   pub kept-switch : (t : StreamState) (who : ℕ) (active : Bool) → who ≡ desk_seat → t ≡ state_after_switch active s
-      → after ≡ journal_after who (switch_step active) before → IsKeptAccount table t after
+      → after ≡ journal_after who (switch_step active) before → IsKeptAccount table t made after
   kept-switch t who active desk same is =
       noted who (switch_step active) t (state_after_switch active s) is same
       (journal-switch before.lines s was.lines_are who active desk)
 
 -- what a producer's seat has
-pub account-of : (table : TableId) (s : StreamState) (account : JournalState StreamStep) (seat : SeatState StreamStep)
-    → IsKeptAccount table s account → IsSeatAt table producer_seat seat → IsSeatOf account seat → IsAccountOf seat.own s
+pub account-of : {made : ℕ} → (table : TableId) (s : StreamState) (account : JournalState StreamStep) (seat : SeatState StreamStep)
+    → IsKeptAccount table s made account → IsSeatAt table producer_seat seat → IsSeatOf account seat → IsAccountOf seat.own s
 account-of table s account seat kept at own =
     let lines = account.lines in
     let mine : seat.own ≡ done_by producer_seat lines = own.each.0.1 ∙ ap (λ who. done_by who lines) at.1 in
@@ -102,8 +104,8 @@ account-of table s account seat kept at own =
     }
 
 -- what the desk's seat has
-pub operated-by : (table : TableId) (s : StreamState) (account : JournalState StreamStep) (seat : SeatState StreamStep)
-    → IsKeptAccount table s account → IsSeatAt table desk_seat seat → IsSeatOf account seat → IsOperatedBy seat.own s
+pub operated-by : {made : ℕ} → (table : TableId) (s : StreamState) (account : JournalState StreamStep) (seat : SeatState StreamStep)
+    → IsKeptAccount table s made account → IsSeatAt table desk_seat seat → IsSeatOf account seat → IsOperatedBy seat.own s
 operated-by table s account seat kept at own =
     let lines = account.lines in
     let mine : seat.own ≡ done_by desk_seat lines = own.each.0.1 ∙ ap (λ who. done_by who lines) at.1 in
@@ -114,8 +116,8 @@ operated-by table s account seat kept at own =
     }
 
 -- what a drainer's seat has
-pub taken-from : (table : TableId) (s : StreamState) (account : JournalState StreamStep) (seat : SeatState StreamStep)
-    → IsKeptAccount table s account → IsKept s → IsSeatOf account seat → IsTakenFrom (taken_in seat.own) s
+pub taken-from : {made : ℕ} → (table : TableId) (s : StreamState) (account : JournalState StreamStep) (seat : SeatState StreamStep)
+    → IsKeptAccount table s made account → IsKept s → IsSeatOf account seat → IsTakenFrom (taken_in seat.own) s
 taken-from table s account seat kept sound own =
     let lines = account.lines in
     let whole = kept.lines_are.accounted in

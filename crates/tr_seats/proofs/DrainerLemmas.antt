@@ -38,14 +38,6 @@ split-here books i slot seat is = go (i == slot.number) refl
     go true at = grind (arith, nat_tests, at)
     go false at = cc
 
-pub split-number : (i : ℕ) (slot : SlotState) → (slot_after_split i slot).number ≡ slot.number
-split-number i slot = go (i == slot.number) (nat_le MOST_DRAINERS slot.made)
-  where
-    go : (here full : Bool) → (if here then (if full then slot else record slot { made = slot.made + 1 }) else slot).number ≡ slot.number
-    go true true = refl
-    go true false = refl
-    go false full = refl
-
 -- one seat more of each kind
 pub first-more : (books : List Books) (seats : List SeatState) (takes : List (journal.SeatState StreamStep)) (seat : SeatState)
     (noted : journal.SeatState StreamStep) → AreFirst books seats takes

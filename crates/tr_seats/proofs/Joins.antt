@@ -35,6 +35,17 @@ pub written-back : {X : Type 0} → (xs ys : List X) (n : ℕ) → ys ≡ xs →
 written-back {X = X} xs ys n same long =
     ap (λ (l : List X). take n (l ++ drop (length l) xs)) same ∙ take_at xs (drop (length xs) xs) n (sym long)
 
+-- and over it again
+pub written-twice : {X : Type 0} → (xs ys zs : List X) (n : ℕ) → ys ≡ xs → n ≡ length xs → zs ≡ take n (ys ++ drop (length ys) xs)
+    → take n (zs ++ drop (length zs) (take n (ys ++ drop (length ys) xs))) ≡ xs
+written-twice xs ys zs n same long again =
+    let once = written-back xs ys n same long in
+    written-back (take n (ys ++ drop (length ys) xs)) zs n again (long ∙ sym (ap length once)) ∙ once
+
+-- another list of that length, written over one
+pub written-over : {X : Type 0} → (xs ys : List X) (n : ℕ) → length ys ≡ length xs → n ≡ length xs → take n (ys ++ drop (length ys) xs) ≡ ys
+written-over xs ys n same long = take_at ys (drop (length ys) xs) n (same ∙ sym long)
+
 -- what is read of a list is read of an equal one
 pub read-same : {X : Type 0} → (xs ys : List X) (i : ℕ) (d e : X) → xs ≡ ys → i < length ys → get_or xs i d ≡ get_or ys i e
 read-same {X = X} xs ys i d e same lt = ap (λ (l : List X). get_or l i d) same ∙ get_or_default ys i d e lt

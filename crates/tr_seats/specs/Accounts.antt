@@ -1,5 +1,5 @@
 -- What is noted of a stream's calls under its lock, and what that says of its producer.
-use Rattle.std.specs.Prelude.{◌≡◌, ◌<◌, ℕ, List, [], Result, Ok, Err, length, map, slice_index_or}
+use Rattle.std.specs.Prelude.{◌≡◌, ◌+◌, ◌<◌, ℕ, List, [], Result, Ok, Err, length, map, slice_index_or}
 use Rattle.std.specs.List.{AllByRecursion}
 use Rattle.std.specs.List.Sorted.{IsStrictlyIncreasing}
 use Rattle.atomic_table.specs.Seated.{TableId}
@@ -26,13 +26,15 @@ use Rattle.tr_stream.specs.declared.answers.Taken.{Taken}
 abbrev pub IsSeatAt : TableId → ℕ → SeatState StreamStep → Type 0
 IsSeatAt table who seat = (seat.table ≡ table) × (seat.who ≡ who) × (seat.joined ≡ [])
 
+-- nothing was noted, and just the producer's seat and the desk's were made
 abbrev pub IsNewAccount : JournalState StreamStep → Type 0
-IsNewAccount account = account.lines ≡ []
+IsNewAccount account = (account.lines ≡ []) × (account.made ≡ 2)
 
--- a slot keeps the journal of its stream, in this table
-pub record IsKeptAccount (table : TableId) (stream : StreamState) (account : JournalState StreamStep) : Type 0 where
+-- a slot keeps the journal of its stream, in this table, with a seat for each drainer beside the producer's and the desk's
+pub record IsKeptAccount (table : TableId) (stream : StreamState) (drainers : ℕ) (account : JournalState StreamStep) : Type 0 where
   pub table_is : account.table ≡ table
   pub lines_are : IsJournalOf account.lines stream
+  pub made_is : account.made ≡ drainers + 2
 
 -- ---- producers
 

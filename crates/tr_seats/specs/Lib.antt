@@ -5,6 +5,7 @@ pub mod Cuts
 pub mod Desks
 pub mod Drainers
 pub mod Faults
+pub mod Histories
 pub mod Operators
 pub mod Plans
 pub mod Seats

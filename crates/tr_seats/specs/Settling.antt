@@ -10,6 +10,7 @@ use Rattle.tr_seats.specs.Accounts.{IsAccountOf, IsOperatedBy, IsTakenFrom}
 use Rattle.tr_seats.specs.Books.{IsPlanned, PlanState}
 use Rattle.tr_seats.specs.Desks.{DeskState, IsOfPlan}
 use Rattle.tr_seats.specs.Drainers.{DrainerState, taken_at}
+use Rattle.tr_seats.specs.Histories.{IsHistoryOf, takes_of}
 use Rattle.tr_seats.specs.Operators.{DoTo}
 use Rattle.tr_seats.specs.Slots.{IsOwn, ProducerState, SlotState}
 use Rattle.tr_seats.specs.Sums.{totals_in}
@@ -110,6 +111,12 @@ AreAccountsOf producers streams = (k : ℕ) (p : ProducerState) (t : StreamState
 abbrev pub ArePacketsOf : List DrainerState → List StreamState → Type 0
 ArePacketsOf drainers streams = (k i : ℕ) (d : DrainerState) (t : StreamState) → k < length drainers → i < length streams
     → IsTakenFrom (taken_at (slice_index_or drainers k d) i) (slice_index_or streams i t)
+
+-- one history of each stream has all that its producer offered and that all drainers took from it, and no other offer or take
+abbrev pub HaveHistories : List ProducerState → List DrainerState → List StreamState → Type 0
+HaveHistories producers drainers streams = (k : ℕ) (p : ProducerState) (t : StreamState) → k < length producers
+    → IsHistoryOf (slice_index_or producers k p).steps (takes_of drainers (slice_index_or producers k p).number)
+    (slice_index_or streams (slice_index_or producers k p).number t)
 
 -- what the steps at a desk did to the stream of this number is what it has
 pub record WasOperated (i : ℕ) (steps : List DeskStep) (planned book : SessionBookState) (t : StreamState) : Type 0 where

@@ -3,7 +3,7 @@
 ghost use Rattle.std.specs.Prelude.{◌≡◌, ◌<◌, IfOk};
 ghost use Rattle.tr_accounts.specs.Seats.{desk_seat, producer_seat};
 ghost use Rattle.tr_accounts.specs.StreamSteps.{clear_step, cut_step, offer_step, switch_step, take_step};
-ghost use Rattle.tr_journal.specs.Journals.{IsSeatOf, journal_after, journal_with_seat, new_seat, seat_after};
+ghost use Rattle.tr_journal.specs.Journals.{IsSeatOf, journal_after, journal_with_seat, new_seat, seat_after, seat_with};
 ghost use Rattle.tr_seats.specs.Accounts.{IsNewAccount};
 
 use std::alloc::{AllocError, Allocator, Global};
@@ -57,6 +57,14 @@ impl StreamSeat {
         ensures { result ≡ noted }
     {
         StreamSeat { stream, noted }
+    }
+
+    /// The seat itself.
+    pub(crate) fn into_seat(self) -> Seat<StreamStep>
+        ensures { result ≡ self }
+    {
+        let StreamSeat { stream: _, noted } = self;
+        noted
     }
 }
 
@@ -158,5 +166,15 @@ impl<A: Allocator> Account<A> {
         ensures own { IsSeatOf self.old seat.old }
     {
         self.journal.audit(&mut seat.noted);
+    }
+    /// Joins another seat to the desk's, and shows that what is noted in all their names is what they have. It takes no memory.
+    pub(crate) fn join(&mut self, desk: &mut StreamSeat, other: Seat<StreamStep>)
+        requires desk { desk.old.table ≡ self.old.table }
+        requires other { other.table ≡ self.old.table }
+        ensures account { self.new ≡ self.old }
+        ensures seat { desk.new ≡ seat_with other desk.old }
+        ensures own { IsSeatOf self.old desk.new }
+    {
+        self.journal.join(&mut desk.noted, other);
     }
 }

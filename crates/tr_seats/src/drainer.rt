@@ -110,9 +110,9 @@ impl<N: Names, A: Allocator> DrainerBegun<N, A> {
         ensures slot { slot.new ≡ slot_after_split self slot.old }
     {
         let i = self.seats.len();
-        let seat = slot.split(i)?;
+        let (seat, takes) = slot.split_both(i)?;
         self.seats.push_reserved(seat);
-        self.takes.push_reserved(slot.split_takes());
+        self.takes.push_reserved(takes);
         Ok(self)
     }
 

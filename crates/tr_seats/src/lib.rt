@@ -44,10 +44,11 @@
 //!   of these that is missing. It takes no memory.
 //! - What is settled is a session again, the one that was planned. Each producer's numbers are those of its own stream, and its
 //!   offers what that stream has. The packets that a drainer took are takes of a history that the stream represents, and each is
-//!   kept in the chunk that was answered or was cleared since. What was consumed of a stream is what the desk's and the drainers'
-//!   seats of it have, and what was cleared of it what another seat of the desk has. The totals are the sums over its streams,
-//!   and the sums over all seats. What was offered is discarded, overwritten, cleared, in a ring or in a part, and what was
-//!   consumed is in a part or was cleared since.
+//!   kept in the chunk that was answered or was cleared since. One history of each stream has the offers of its producer and the
+//!   takes of all drainers, and no others: each take is one drainer's, and none is missing. What was consumed of a stream is what
+//!   the desk's and the drainers' seats of it have, and what was cleared of it what another seat of the desk has. The totals are
+//!   the sums over its streams, and the sums over all seats. What was offered is discarded, overwritten, cleared, in a ring or in
+//!   a part, and what was consumed is in a part or was cleared since.
 //!
 //! No call has to refuse a slot and a seat of two plans: both have the plan as a parameter of their type (`Names`), so a seat
 //! of another session isn't accepted.
@@ -65,6 +66,7 @@ mod both;
 mod clearing;
 mod desk;
 mod drainer;
+mod histories;
 mod laws;
 mod making;
 mod names;

@@ -10,6 +10,7 @@ ghost use Rattle.tr_seats.specs.Accounts.{IsOperatedBy, IsSeatAt};
 ghost use Rattle.tr_seats.specs.Books.{IsPlanned, books_at};
 ghost use Rattle.tr_seats.specs.Clears.{seat_after_clear};
 ghost use Rattle.tr_seats.specs.Cuts.{book_if_cut, seat_after_cut, seat_of_cuts_after};
+ghost use Rattle.tr_seats.specs.Histories.{AreDeskWith};
 ghost use Rattle.tr_seats.specs.Operators.{AreNewDeskSeats, with_step};
 ghost use Rattle.tr_seats.specs.Settling.{AreInPlace, HasOperated, streams_of};
 ghost use Rattle.tr_seats.specs.Slots.{SlotState};
@@ -82,17 +83,18 @@ impl<N: Names, A: Allocator> NotedBook<N, A> {
         &self.book
     }
 
-    /// The book itself.
-    pub(crate) fn into_book(self) -> SessionBook<A>
-        ensures { result ≡ self }
+    /// The book itself, and the desk's seats in the journals of the streams, in order of number.
+    pub(crate) fn into_parts(self) -> (SessionBook<A>, Vec<StreamSeat, A>)
+        ensures book { result.0 ≡ self }
+        ensures streams { AreDeskWith N.plan.books [] result.1.items }
     {
         let NotedBook {
             book,
             journal: _,
-            streams: _,
+            streams,
             of: _,
         } = self;
-        book
+        (book, streams)
     }
 
     /// A new operator, who did nothing yet. It takes no memory.

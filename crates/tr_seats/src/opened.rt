@@ -2,7 +2,7 @@
 
 ghost use Rattle.std.specs.Prelude.{◌≡◌, ◌+◌, ◌≤◌, IfErr, IfOk, length, sum_by, vec_capacity, vec_len};
 ghost use Rattle.tr_operations.specs.Operations.{IsOperatorOf};
-ghost use Rattle.tr_seats.specs.Settling.{AddUp, AreAccountsOf, AreInPlace, ArePacketsOf, AreTheirs, CanSettle, HasOperated, HaveCleared, HaveConsumed, WereConsumed, IsSessionOf, IsWhy, opened_state, streams_of, totals_of_seats};
+ghost use Rattle.tr_seats.specs.Settling.{AddUp, AreAccountsOf, AreInPlace, ArePacketsOf, AreTheirs, CanSettle, HasOperated, HaveCleared, HaveConsumed, HaveHistories, WereConsumed, IsSessionOf, IsWhy, opened_state, streams_of, totals_of_seats};
 ghost use Rattle.tr_seats.specs.Sums.{totals_of};
 ghost use Rattle.tr_session.specs.Session.{session_of};
 
@@ -129,6 +129,7 @@ impl<N: Names, A: Allocator + Copy> Opened<N, A> {
         ensures accounts { IfOk result (λ r. AreAccountsOf producers.items r.0.streams) }
         ensures taken { IfOk result (λ r. HaveConsumed self.desk.consumed drainers.items r.0.streams) }
         ensures packets { IfOk result (λ r. ArePacketsOf drainers.items r.0.streams) }
+        ensures histories { IfOk result (λ r. HaveHistories producers.items drainers.items r.0.streams) }
         ensures cleared { IfOk result (λ r. HaveCleared self.desk.cleared r.0.streams) }
         ensures places { IfOk result (λ r. AddUp r.1 (streams_of self.slots)) }
         ensures consumed { IfOk result (λ r. WereConsumed r.1 (streams_of self.slots)) }

@@ -1,19 +1,22 @@
 //! The settling of all seats, and why a session isn't settled.
 
-ghost use Rattle.std.specs.Prelude.{◌≡◌, ◌+◌, ◌<◌, ◌≤◌, ◌==◌, ◌↔◌, ℕ, IsTrue, MatchOption, count_by, length, map, slice_index_or, slice_set, sum, sum_by, vec_capacity, vec_len};
+ghost use Rattle.std.specs.Prelude.{◌≡◌, ◌+◌, ◌<◌, ◌≤◌, ◌==◌, ◌↔◌, ℕ, [], IsTrue, MatchOption, count_by, length, map, slice_index_or, slice_set, sum, sum_by, vec_capacity, vec_len};
 ghost use Rattle.tr_ledger.specs.Ledgers.{SeatState, seat_state};
 ghost use Rattle.tr_seats.specs.Accounts.{IsAccountOf, IsTakenFrom};
 ghost use Rattle.tr_seats.specs.Books.{IsPlanned, books_at, cleared_books, consumed_books, cut_books};
 ghost use Rattle.tr_seats.specs.Desks.{DeskState};
 ghost use Rattle.tr_seats.specs.Drainers.{DrainerState, taken_at};
 ghost use Rattle.tr_seats.specs.Faults.{settle_error_code, settle_error_name};
-ghost use Rattle.tr_seats.specs.Settling.{AddUp, AreAccountsOf, AreAllMade, AreInPlace, ArePacketsOf, AreTheirs, AreWhole, CanSettle, HaveCleared, HaveConsumed, IsOneEach, IsSessionOf, IsWhy, WereConsumed, opened_state, streams_of, taken_of, totals_of_seats};
+ghost use Rattle.tr_seats.specs.Histories.{AreDeskWith};
+ghost use Rattle.tr_seats.specs.Settling.{AddUp, AreAccountsOf, AreAllMade, AreInPlace, ArePacketsOf, AreTheirs, AreWhole, CanSettle, HaveCleared, HaveConsumed, HaveHistories, IsOneEach, IsSessionOf, IsWhy, WereConsumed, opened_state, streams_of, taken_of, totals_of_seats};
 ghost use Rattle.tr_seats.specs.Slots.{AreJoined, AreSeatsOf, IsOwn, ProducerState, SlotState, amounts_of};
 ghost use Rattle.tr_seats.specs.Sums.{totals_in, totals_of};
 ghost use Rattle.tr_session.specs.Session.{session_of};
 
+use crate::account::StreamSeat;
 use crate::desk::Desk;
 use crate::drainer::Drainer;
+use crate::histories::{join_producers, join_takes};
 use crate::names::Names;
 use crate::producer::Producer;
 use crate::settled::Settled;
@@ -286,14 +289,16 @@ fn join_row<N: Names, A: Allocator>(
     }
 }
 
-/// Joins the seats of all drainers into a row, and shows that the packets that they took are what the streams have.
+/// Joins the seats of all drainers into two rows, and shows that the packets that they took are what the streams have.
 fn join_drainers<N: Names, A: Allocator>(
     slots: &mut [Slot<N, A>],
     seats: &mut [Seat],
+    noted: &mut [StreamSeat],
     drainers: Vec<Drainer<N, A>, A>,
 )
     requires slots { (length slots.old ≡ length N.plan.books) × AreInPlace slots.old }
     requires seats { AreSeatsOf (consumed_books N.plan.books) seats.old }
+    requires noted { AreDeskWith N.plan.books [] noted.old }
     ensures slots { slots.new ≡ slots.old }
     ensures seats { AreJoined (length drainers.items + 1) (consumed_books N.plan.books) seats.new }
     ensures amounts { sum (amounts_of seats.new)
@@ -302,15 +307,17 @@ fn join_drainers<N: Names, A: Allocator>(
         → (slice_index_or seats.new k d).amount ≡ (slice_index_or seats.old k d).amount + taken_of drainers.items k }
     ensures packets { (k i : ℕ) (d : DrainerState) (s : SlotState) → k < length drainers.items → i < length slots.old
         → IsTakenFrom (taken_at (slice_index_or drainers.items k d) i) (slice_index_or slots.old i s).stream }
+    ensures noted { AreDeskWith N.plan.books drainers.items noted.new }
 {
     for mut drainer in drainers {
         audit_takes(slots, &mut drainer);
         let Drainer {
             seats: theirs,
-            takes: _,
+            takes,
             of: _,
         } = drainer;
         join_row(slots, seats, theirs);
+        join_takes(slots, noted, takes);
     }
 }
 
@@ -321,6 +328,7 @@ fn join_all<N: Names, A: Allocator>(
     mine: &mut [Seat],
     cuts: &mut [Seat],
     cleared: &mut [Seat],
+    noted: &mut [StreamSeat],
     drainers: Vec<Drainer<N, A>, A>,
 )
     requires slots { length slots.old ≡ length N.plan.books }
@@ -329,7 +337,9 @@ fn join_all<N: Names, A: Allocator>(
     requires mine { AreSeatsOf (consumed_books N.plan.books) mine.old }
     requires cuts { AreSeatsOf (cut_books N.plan.books) cuts.old }
     requires cleared { AreSeatsOf (cleared_books N.plan.books) cleared.old }
+    requires noted { AreDeskWith N.plan.books [] noted.old }
     ensures slots { slots.new ≡ slots.old }
+    ensures producers { producers.new ≡ producers.old }
     ensures add_up { (desk : DeskState) → desk.consumed ≡ amounts_of mine.old → desk.cuts ≡ amounts_of cuts.old
         → desk.cleared ≡ amounts_of cleared.old
         → totals_of (streams_of slots.old) ≡ totals_of_seats producers.old drainers.items desk }
@@ -352,9 +362,10 @@ fn join_all<N: Names, A: Allocator>(
         → IsTakenFrom (taken_at (slice_index_or drainers.items k d) i) (slice_index_or slots.old i s).stream }
     ensures planned { (k : ℕ) (s : SlotState) → k < length slots.old
         → IsPlanned N.plan k (slice_index_or slots.old k s).stream.config }
+    ensures noted { AreDeskWith N.plan.books drainers.items noted.new }
 {
     audit_producers(slots, producers);
-    join_drainers(slots, mine, drainers);
+    join_drainers(slots, mine, noted, drainers);
     audit_consumed(slots, mine);
     audit_cuts(slots, cuts);
     audit_cleared(slots, cleared);
@@ -394,6 +405,7 @@ pub(crate) fn settle_all<N: Names, A: Allocator + Copy>(
     ensures accounts { AreAccountsOf producers.items (streams_of slots.items) }
     ensures taken { HaveConsumed desk.consumed drainers.items (streams_of slots.items) }
     ensures packets { ArePacketsOf drainers.items (streams_of slots.items) }
+    ensures histories { HaveHistories producers.items drainers.items (streams_of slots.items) }
     ensures cleared { HaveCleared desk.cleared (streams_of slots.items) }
     ensures places { AddUp result.1 (streams_of slots.items) }
     ensures consumed { WereConsumed result.1 (streams_of slots.items) }
@@ -409,17 +421,20 @@ pub(crate) fn settle_all<N: Names, A: Allocator + Copy>(
         of: _,
     } = desk;
     let totals = sums(&slots);
+    let (book, mut noted) = book.into_parts();
     join_all(
         slots.as_mut_slice(),
         producers.as_mut_slice(),
         consumed.as_mut_slice(),
         cuts.as_mut_slice(),
         cleared.as_mut_slice(),
+        noted.as_mut_slice(),
         drainers,
     );
+    join_producers(slots.as_mut_slice(), noted.as_mut_slice(), producers);
     let streams = streams_out(slots, room);
     (
-        Settled::of(Session::from_parts(alloc, book.into_book(), streams)),
+        Settled::of(Session::from_parts(alloc, book, streams)),
         totals,
     )
 }

@@ -1,6 +1,6 @@
 //! A stream under a lock of its own.
 
-ghost use Rattle.std.specs.Prelude.{◌≡◌, ◌≢◌, ◌≤◌, ◌<◌, ◌+◌, ◌^◌, Ok, Err, IsOk, IfOk, OnErr, [], length};
+ghost use Rattle.std.specs.Prelude.{◌≡◌, ◌≢◌, ◌≤◌, ◌<◌, ◌+◌, ◌^◌, Ok, Err, IsOk, IfOk, IfErr, OnErr, [], length};
 ghost use Rattle.tr_accounts.specs.StreamSteps.{switch_step, taken_in};
 ghost use Rattle.tr_accounts.specs.Seats.{desk_seat};
 ghost use Rattle.tr_journal.specs.Journals.{seat_after};
@@ -67,7 +67,7 @@ impl<N: Names, A: Allocator> Model for Slot<N, A> {
         × AreBooksOf (books_at N.plan.books s.number) s.stream s.consumed.made s.offered s.discarded s.overwritten
         s.overwritten_packets s.consumed s.cuts s.cleared
         × IsPlanned N.plan s.number s.stream.config
-        × IsKeptAccount (books_at N.plan.books s.number).journal s.stream s.account };
+        × IsKeptAccount (books_at N.plan.books s.number).journal s.stream s.consumed.made s.account };
 }
 
 impl<N: Names, A: Allocator + Copy> Slot<N, A> {
@@ -232,22 +232,32 @@ impl<N: Names, A: Allocator> Slot<N, A> {
         ensures answer { result ≡ slot_split_answer N.plan.books i self.old }
         ensures after { self.new ≡ slot_after_split i self.old }
     {
+        match self.split_both(i) {
+            Ok((seat, _)) => Ok(seat),
+            Err(fault) => Err(fault),
+        }
+    }
+
+    /// The same with a new seat of the takes from this stream, of which nothing was noted: a stream has as many of each.
+    ///
+    /// # Errors
+    ///
+    /// Those of `split`.
+    pub(crate) fn split_both(&mut self, i: usize) -> Result<(Seat, StreamSeat), SessionFault>
+        ensures answer { IfOk result (λ b. Ok b.0 ≡ slot_split_answer N.plan.books i self.old) }
+        ensures refused { IfErr result (λ fault. Err fault ≡ slot_split_answer N.plan.books i self.old) }
+        ensures after { self.new ≡ slot_after_split i self.old }
+        ensures takes { IfOk result (λ b. IsTakeSeat (books_at N.plan.books self.old.number).journal b.1 × (b.1.own ≡ [])) }
+    {
         if i != self.number {
             return Err(SessionFault::Misplaced);
         }
         if self.consumed.made() >= MOST_DRAINERS {
             return Err(SessionFault::TooMany);
         }
-        Ok(self.consumed.split())
-    }
-
-    /// A new seat of the takes from this stream, of which nothing was noted. It takes no memory.
-    pub(crate) fn split_takes(&mut self) -> StreamSeat
-        ensures slot { self.new ≡ self.old }
-        ensures seat { IsTakeSeat (books_at N.plan.books self.old.number).journal result }
-        ensures new { result.own ≡ [] }
-    {
-        self.account.split(self.number)
+        let takes = self.account.split(self.number);
+        let seat = self.consumed.split();
+        Ok((seat, takes))
     }
 
     /// Changes nothing, and shows that what a drainer's seat noted of its takes is what the stream has.

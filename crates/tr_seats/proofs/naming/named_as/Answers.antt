@@ -3,6 +3,7 @@ use Rattle.std.proofs.lemmas.Option.{get_or_from_slice_get, slice_get_within}
 use Rattle.tr_accounts.specs.Seats.{desk_seat, producer_seat}
 use Rattle.tr_accounts.specs.declared.step.StreamStep.{StreamStep}
 use Rattle.tr_journal.specs.Journals.{SeatState}
+use Rattle.tr_ledger.specs.Ledgers.{LedgerState}
 use Rattle.tr_seats.proofs.AccountLemmas.{kept-new, seat-new}
 use Rattle.tr_seats.proofs.NameLemmas.{books-opened, planned-there, seats-opened}
 use Rattle.tr_seats.proofs.naming.named_as.Goals as goal
@@ -26,7 +27,8 @@ invariant_of-slot g c =
           in_it.overwritten_packets.1 in_it.consumed.1 in_it.cuts.1 in_it.cleared.1 in_it.account.0.table books is.0 is.1 is.2 is.3 is.4 is.5 is.6
           is.7,
       planned-there plan c.args.number in_it.stream got,
-      kept-new (books_at plan.books c.args.number).journal in_it.stream in_it.account.0 (ap (λ (b : Books). b.journal) books) is.8 is.0,
+      kept-new (books_at plan.books c.args.number).journal in_it.stream in_it.consumed.0.made in_it.account.0
+          (ap (λ (b : Books). b.journal) books) is.8 (ap (λ (l : LedgerState). l.made) is.5.0) is.0,
     )
 
 pub invariant_of-producer : goal.invariant_of-producer

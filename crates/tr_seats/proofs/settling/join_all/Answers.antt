@@ -106,3 +106,12 @@ returns-clause-packets g c =
     subst (λ (l : List SlotState). (k i : ℕ) (d : DrainerState) (s : SlotState) → k < length c.args.drainers.items → i < length l
     → IsTakenFrom (taken_at (get_or c.args.drainers.items k d) i) (get_or l i s).stream)
     c.audit_producers.ensures.same.0 c.join_drainers.ensures.packets
+
+pub returns-clause-producers : goal.returns-clause-producers
+returns-clause-producers g c = c.audit_producers.ensures.same.1
+
+pub returns-clause-noted : goal.returns-clause-noted
+returns-clause-noted g c = c.join_drainers.ensures.noted
+
+pub join_drainers-requires-clause-noted : goal.join_drainers-requires-clause-noted
+join_drainers-requires-clause-noted g c = c.requires.noted

@@ -5,12 +5,14 @@ use Rattle.std.proofs.lemmas.List.{get_or-map, get_or_default, length-drop, leng
 use Rattle.std.proofs.lemmas.List.Sums.{sum_by_push}
 use Rattle.std.proofs.lemmas.Option.{get_or_from_slice_get}
 use Rattle.tr_ledger.specs.Ledgers.{SeatState}
+use Rattle.tr_seats.proofs.HistoryLemmas.{desk-more}
 use Rattle.tr_seats.proofs.Joins.{tables-length}
 use Rattle.tr_seats.proofs.Rows.{drop-front}
 use Rattle.tr_seats.proofs.settling.join_drainers.Goals as goal
 use Rattle.tr_seats.specs.Books.{Books, consumed_books}
-use Rattle.tr_seats.specs.Accounts.{IsTakenFrom}
+use Rattle.tr_seats.specs.Accounts.{IsTakenFrom, taken_by}
 use Rattle.tr_seats.specs.Drainers.{DrainerState, taken_at}
+use Rattle.tr_seats.specs.Histories.{AreDeskWith}
 use Rattle.tr_seats.specs.Settling.{AreInPlace, taken_of}
 use Rattle.tr_seats.specs.Slots.{AreJoined, SlotState, amounts_of}
 
@@ -28,6 +30,7 @@ loop-drainer-init g c = (
     seats = c.requires.seats;
     amounts = omega arith;
     each = λ k d lt. omega arith;
+    noted = c.requires.noted;
     packets = λ k i d s lt wide. absurd (omega (arith, lt));
   },
 )
@@ -61,7 +64,7 @@ loop-drainer-preserved g c =
       tt,
       tt,
       record {
-        slots_same = r.slots ∙ audited.0 ∙ v.slots_same;
+        slots_same = c.join_takes.ensures.slots ∙ r.slots ∙ audited.0 ∙ v.slots_same;
         left = ap (λ n. drop n all) next ∙ front.1;
         within = subst (λ n. n ≤ length all) (sym next) front.2;
         seats = (
@@ -81,6 +84,13 @@ loop-drainer-preserved g c =
             let now : (get_or c.join_row.new.seats k d).amount ≡ was.amount + taken_of (take (i + 1) all) k =
             omega (arith, r.each k d d lt, v.each k d lt, has, more) in
             now ∙ ap (λ n. was.amount + taken_of (take n all) k) (sym next);
+        noted =
+            let took : x.taken ≡ taken_by c.drainer.inside.takes.items =
+            ap (λ (d : DrainerState). d.taken) (sym (c.drainer.view_is ∙ audited.1)) in
+            subst (λ (ds : List DrainerState). AreDeskWith books ds c.join_takes.new.desk)
+            (sym (take_more all i x within ∙ (λ k. take i all ++ there k ∷ [])) ∙ ap (λ n. take n all) (sym next))
+            (desk-more books (take i all) x c.loop-drainer.noted c.join_takes.new.desk c.drainer.inside.takes.items v.noted
+            c.drainer.invariant.1 took c.join_takes.ensures.many c.join_takes.ensures.joined);
         packets = λ k j d s lt wide.
             below_more (λ k. IsTakenFrom (taken_at (get_or all k d) j) (get_or c.args.slots.now j s).stream) i
             (λ k lt. v.packets k j d s lt wide)
@@ -103,6 +113,30 @@ pub join_row-requires-clause-slots : goal.join_row-requires-clause-slots
 join_row-requires-clause-slots g c =
     subst (AreThere (length g.N.Names.plan.books)) (sym (c.audit_takes.ensures.same.0 ∙ c.loop-drainer.invariant.2.slots_same))
     c.requires.slots
+
+pub join_takes-requires-clause-slots : goal.join_takes-requires-clause-slots
+join_takes-requires-clause-slots g c =
+    subst (AreThere (length g.N.Names.plan.books))
+    (sym (c.join_row.ensures.slots ∙ c.audit_takes.ensures.same.0 ∙ c.loop-drainer.invariant.2.slots_same)) c.requires.slots
+
+pub join_takes-requires-clause-many : goal.join_takes-requires-clause-many
+join_takes-requires-clause-many g c = c.loop-drainer.invariant.2.noted.many
+
+pub join_takes-requires-clause-desk : goal.join_takes-requires-clause-desk
+join_takes-requires-clause-desk g c = λ i d lt. (c.loop-drainer.invariant.2.noted.each i d lt).table_is
+
+pub join_takes-requires-clause-theirs : goal.join_takes-requires-clause-theirs
+join_takes-requires-clause-theirs g c = c.drainer.invariant.1
+
+pub returns-clause-noted : goal.returns-clause-noted
+returns-clause-noted g c =
+    let v = c.loop-drainer.invariant.2 in
+    let drainers = c.args.drainers.items in
+    let i = length c.loop-drainer.yielded in
+    let none : length c.loop-drainer.drainer-iterator.rest.items ≡ 0 =
+    sym c.loop-drainer.drainer-iterator.rest.ok.0 ∙ c.in-None.ensures.steps.0 in
+    let all : length drainers ≤ i = omega (arith, length-drop i drainers, ap length v.left, none, v.within) in
+    subst (λ (l : List DrainerState). AreDeskWith g.N.Names.plan.books l c.loop-drainer.noted) (take_all i drainers all) v.noted
 
 pub returns-clause-packets : goal.returns-clause-packets
 returns-clause-packets g c = λ k j d s lt wide.

@@ -6,6 +6,7 @@ use Rattle.tr_ledger.specs.Ledgers.{SeatState}
 use Rattle.tr_seats.specs.Books.{consumed_books}
 use Rattle.tr_seats.specs.Accounts.{IsTakenFrom}
 use Rattle.tr_seats.specs.Drainers.{DrainerState, taken_at}
+use Rattle.tr_seats.specs.Histories.{AreDeskWith}
 use Rattle.tr_seats.specs.Settling.{taken_of}
 use Rattle.tr_seats.specs.Slots.{AreJoined, SlotState, amounts_of}
 
@@ -22,6 +23,7 @@ invariant-loop-drainer g l =
       each : (k : ℕ) (d : SeatState) → k < length g.N.Names.plan.books
           → (get_or l.seats k d).amount
           ≡ (get_or l.initial.seats k d).amount + taken_of (take (length l.yielded) l.fn.drainers.items) k;
+      noted : AreDeskWith g.N.Names.plan.books (take (length l.yielded) l.fn.drainers.items) l.noted;
       packets : (k i : ℕ) (d : DrainerState) (s : SlotState) → k < length l.yielded → i < length l.initial.slots
           → IsTakenFrom (taken_at (get_or l.fn.drainers.items k d) i) (get_or l.initial.slots i s).stream;
     }

@@ -1,17 +1,21 @@
-use Rattle.std.proofs.Common.{◌≡◌, ℕ, ◌+◌, ◌<◌, List, ap, arith, get_or, length, subst, sym, ◌∙◌}
+use Rattle.std.proofs.Common.{◌≡◌, ℕ, ◌+◌, ◌<◌, List, [], ap, arith, get_or, length, refl, subst, sym, ◌∙◌}
 use Rattle.std.proofs.lemmas.Grind.{common_steps}
 use Rattle.std.proofs.lemmas.List.{length-map}
+use Rattle.tr_accounts.specs.declared.step.StreamStep.{StreamStep}
+use Rattle.tr_journal.specs.Journals as noted
 use Rattle.tr_ledger.specs.Ledgers.{SeatState}
 use Rattle.tr_seats.proofs.AllTotals.{AreWithin, have-cleared, have-consumed, their-accounts, their-packets, theirs}
-use Rattle.tr_seats.proofs.Joins.{tables-length, written-back}
+use Rattle.tr_seats.proofs.HistoryLemmas.{desk-whole, their-histories}
+use Rattle.tr_seats.proofs.Joins.{tables-length, written-back, written-over, written-twice}
 use Rattle.tr_seats.proofs.PlannedLemmas.{planned-mode}
 use Rattle.tr_seats.proofs.SettledLemmas.{settled-planned, settled-streams}
 use Rattle.tr_seats.proofs.settling.settle_all.Goals as goal
 use Rattle.tr_seats.specs.Accounts.{IsAccountOf, IsTakenFrom}
-use Rattle.tr_seats.specs.Books.{Books, IsPlanned, PlanState, cleared_books, consumed_books, cut_books}
+use Rattle.tr_seats.specs.Books.{Books, IsPlanned, PlanState, cleared_books, consumed_books, cut_books, no_table}
 use Rattle.tr_seats.specs.Desks.{DeskState}
 use Rattle.tr_seats.specs.Drainers.{DrainerState, taken_at}
-use Rattle.tr_seats.specs.Settling.{AddUp, HaveCleared, HaveConsumed, IsOneEach, IsSessionOf, WereConsumed, streams_of, taken_of, totals_of_seats}
+use Rattle.tr_seats.specs.Histories.{AreDeskWith, IsHistoryOf, takes_joined}
+use Rattle.tr_seats.specs.Settling.{AddUp, AreInPlace, HaveCleared, HaveConsumed, IsOneEach, IsSessionOf, WereConsumed, streams_of, taken_of, totals_of_seats}
 use Rattle.tr_seats.specs.Slots.{AreSeatsOf, IsOwn, ProducerState, SlotState, amounts_of}
 use Rattle.tr_seats.specs.Sums.{totals_in, totals_of}
 use Rattle.tr_session.specs.Session.{HasItsStreams, session_of}
@@ -47,7 +51,8 @@ join_all-requires-clause-cleared g c =
 pub streams_out-streams-requires : goal.streams_out-streams-requires
 streams_out-streams-requires g c =
     let same = c.join_all.ensures.slots ∙ c.as_mut_slice.ensures.value in
-    let back = written-back c.args.slots.items c.join_all.new.slots c.args.slots.len same c.args.slots.ok.0 in
+    let back = written-twice c.args.slots.items c.join_all.new.slots c.join_producers.new.slots c.args.slots.len same c.args.slots.ok.0
+    (c.join_producers.ensures.slots ∙ c.as_mut_slice-7.ensures.value) in
     (c.requires.room.0, omega (arith, ap length back, c.requires.slots, c.requires.room.1))
 
 pub from_parts-requires : goal.from_parts-requires
@@ -56,11 +61,12 @@ from_parts-requires g c =
     let all = c.args.slots.items in
     let slots : c.as_mut_slice.result.now ≡ all = c.as_mut_slice.ensures.value in
     let cuts : c.as_mut_slice-4.result.now ≡ c.desk.inside.cuts.items = c.as_mut_slice-4.ensures.value in
-    let back = written-back all c.join_all.new.slots c.args.slots.len (c.join_all.ensures.slots ∙ slots) c.args.slots.ok.0 in
+    let back = written-twice all c.join_all.new.slots c.join_producers.new.slots c.args.slots.len (c.join_all.ensures.slots ∙ slots)
+    c.args.slots.ok.0 (c.join_producers.ensures.slots ∙ c.as_mut_slice-7.ensures.value) in
     let items : c.streams_out-streams.result.items ≡ streams_of all = c.streams_out-streams.ensures ∙ ap streams_of back in
     let planned : ArePlanned plan all = subst (ArePlanned plan) slots c.join_all.ensures.planned in
     let cut : AreCutAs (c.desk.inside.cuts.items, all) = subst AreCutAs (λ j. (cuts j, slots j)) c.join_all.ensures.cut in
-    subst (λ (x : SessionBookState × List StreamState). HasItsStreams (session_of x.0 x.1)) (λ j. (sym c.into_book.ensures j, sym items j))
+    subst (λ (x : SessionBookState × List StreamState). HasItsStreams (session_of x.0 x.1)) (λ j. (sym c.into_parts-book.ensures.book j, sym items j))
     (settled-streams plan c.desk.inside.book c.desk.inside.consumed.items c.desk.inside.cuts.items c.desk.inside.cleared.items all c.desk.invariant c.requires.slots planned
     cut)
 
@@ -70,12 +76,13 @@ returns-clause-planned g c =
     let all = c.args.slots.items in
     let slots : c.as_mut_slice.result.now ≡ all = c.as_mut_slice.ensures.value in
     let cuts : c.as_mut_slice-4.result.now ≡ c.desk.inside.cuts.items = c.as_mut_slice-4.ensures.value in
-    let back = written-back all c.join_all.new.slots c.args.slots.len (c.join_all.ensures.slots ∙ slots) c.args.slots.ok.0 in
+    let back = written-twice all c.join_all.new.slots c.join_producers.new.slots c.args.slots.len (c.join_all.ensures.slots ∙ slots)
+    c.args.slots.ok.0 (c.join_producers.ensures.slots ∙ c.as_mut_slice-7.ensures.value) in
     let items : c.streams_out-streams.result.items ≡ streams_of all = c.streams_out-streams.ensures ∙ ap streams_of back in
     let planned : ArePlanned plan all = subst (ArePlanned plan) slots c.join_all.ensures.planned in
     let cut : AreCutAs (c.desk.inside.cuts.items, all) = subst AreCutAs (λ j. (cuts j, slots j)) c.join_all.ensures.cut in
     let made : c.of.result ≡ session_of c.desk.inside.book (streams_of all) =
-    c.of.ensures ∙ c.from_parts.ensures ∙ (λ j. session_of (c.into_book.ensures j) (items j)) in
+    c.of.ensures ∙ c.from_parts.ensures ∙ (λ j. session_of (c.into_parts-book.ensures.book j) (items j)) in
     subst (IsSessionOf plan) (sym made)
     (settled-planned plan c.desk.inside.book c.desk.inside.consumed.items c.desk.inside.cuts.items c.desk.inside.cleared.items all c.desk.invariant c.requires.slots planned
     cut)
@@ -83,9 +90,10 @@ returns-clause-planned g c =
 pub returns-clause-session : goal.returns-clause-session
 returns-clause-session g c =
     let same = c.join_all.ensures.slots ∙ c.as_mut_slice.ensures.value in
-    let back = written-back c.args.slots.items c.join_all.new.slots c.args.slots.len same c.args.slots.ok.0 in
+    let back = written-twice c.args.slots.items c.join_all.new.slots c.join_producers.new.slots c.args.slots.len same c.args.slots.ok.0
+    (c.join_producers.ensures.slots ∙ c.as_mut_slice-7.ensures.value) in
     let items : c.streams_out-streams.result.items ≡ streams_of c.args.slots.items = c.streams_out-streams.ensures ∙ ap streams_of back in
-    let book : c.into_book.result ≡ c.args.desk.book = c.into_book.ensures ∙ ap (λ (d : DeskState). d.book) c.desk.view_is in
+    let book : c.into_parts-book.result.0 ≡ c.args.desk.book = c.into_parts-book.ensures.book ∙ ap (λ (d : DeskState). d.book) c.desk.view_is in
     c.of.ensures ∙ c.from_parts.ensures ∙ (λ j. session_of (book j) (items j))
 
 pub returns-clause-totals : goal.returns-clause-totals
@@ -204,3 +212,86 @@ returns-clause-packets g c =
     let slots : c.as_mut_slice.result.now ≡ all = c.as_mut_slice.ensures.value in
     let packets : ArePacketsIn drainers all = subst (ArePacketsIn drainers) slots c.join_all.ensures.packets in
     their-packets drainers all packets
+
+pub join_all-requires-clause-noted : goal.join_all-requires-clause-noted
+join_all-requires-clause-noted g c =
+    subst (AreDeskWith g.N.Names.plan.books []) (sym c.as_mut_slice-6.ensures.value) c.into_parts-book.ensures.streams
+
+pub join_producers-requires-clause-slots : goal.join_producers-requires-clause-slots
+join_producers-requires-clause-slots g c =
+    let same = c.join_all.ensures.slots ∙ c.as_mut_slice.ensures.value in
+    let back = written-back c.args.slots.items c.join_all.new.slots c.args.slots.len same c.args.slots.ok.0 in
+    let now : c.as_mut_slice-7.result.now ≡ c.args.slots.items = c.as_mut_slice-7.ensures.value ∙ back in
+    (ap length now ∙ c.requires.slots, subst AreInPlace (sym now) c.requires.may.whole.in_place)
+
+-- the desk's seats after the drainers' were joined
+pub join_producers-requires-clause-many : goal.join_producers-requires-clause-many
+join_producers-requires-clause-many g c =
+    let seats = c.into_parts-book.result.1 in
+    let long = c.join_all.ensures.noted.many ∙ sym c.into_parts-book.ensures.streams.many in
+    let now : c.as_mut_slice-8.result.now ≡ c.join_all.new.noted =
+    c.as_mut_slice-8.ensures.value ∙ written-over seats.items c.join_all.new.noted seats.len long seats.ok.0 in
+    ap length now ∙ c.join_all.ensures.noted.many
+
+pub join_producers-requires-clause-desk : goal.join_producers-requires-clause-desk
+join_producers-requires-clause-desk g c =
+    let books = g.N.Names.plan.books in
+    let seats = c.into_parts-book.result.1 in
+    let long = c.join_all.ensures.noted.many ∙ sym c.into_parts-book.ensures.streams.many in
+    let now : c.as_mut_slice-8.result.now ≡ c.join_all.new.noted =
+    c.as_mut_slice-8.ensures.value ∙ written-over seats.items c.join_all.new.noted seats.len long seats.ok.0 in
+    (subst (AreDeskWith books c.args.drainers.items) (sym now) c.join_all.ensures.noted).each
+
+pub join_producers-requires-clause-all : goal.join_producers-requires-clause-all
+join_producers-requires-clause-all g c =
+    let books = g.N.Names.plan.books in
+    let seats = c.into_parts-book.result.1 in
+    let drainers = c.args.drainers.items in
+    let all = c.args.slots.items in
+    let long = c.join_all.ensures.noted.many ∙ sym c.into_parts-book.ensures.streams.many in
+    let now : c.as_mut_slice-8.result.now ≡ c.join_all.new.noted =
+    c.as_mut_slice-8.ensures.value ∙ written-over seats.items c.join_all.new.noted seats.len long seats.ok.0 in
+    let same = c.join_all.ensures.slots ∙ c.as_mut_slice.ensures.value in
+    let slots : c.as_mut_slice-7.result.now ≡ all =
+    c.as_mut_slice-7.ensures.value ∙ written-back all c.join_all.new.slots c.args.slots.len same c.args.slots.ok.0 in
+    subst (λ (x : List (noted.SeatState StreamStep) × List SlotState). (i : ℕ) (d : noted.SeatState StreamStep) (s : SlotState) → i < length books
+    → length (get_or x.0 i d).joined ≡ (get_or x.1 i s).made)
+    (λ j. (sym now j, sym slots j))
+    (desk-whole books drainers c.join_all.new.noted all c.join_all.ensures.noted c.requires.may.whole.made c.requires.slots)
+
+pub join_producers-requires-clause-once : goal.join_producers-requires-clause-once
+join_producers-requires-clause-once g c =
+    let all = c.args.slots.items in
+    let same = c.join_all.ensures.slots ∙ c.as_mut_slice.ensures.value in
+    let slots : c.as_mut_slice-7.result.now ≡ all =
+    c.as_mut_slice-7.ensures.value ∙ written-back all c.join_all.new.slots c.args.slots.len same c.args.slots.ok.0 in
+    let producers = written-back c.args.producers.items c.join_all.new.producers c.args.producers.len
+    (c.join_all.ensures.producers ∙ c.as_mut_slice-2.ensures.value) c.args.producers.ok.0 in
+    subst (λ (x : List SlotState × List ProducerState). IsOneEach (length x.0) x.1) (λ j. (sym slots j, sym producers j)) c.requires.may.one_each
+
+abbrev HaveHistoriesIn : List ProducerState × List (noted.SeatState StreamStep) × List SlotState → Type 0
+HaveHistoriesIn x =
+    (k : ℕ) (p : ProducerState) (d : noted.SeatState StreamStep) (s : SlotState) → k < length x.0
+    → IsHistoryOf (get_or x.0 k p).steps (takes_joined (get_or x.1 (get_or x.0 k p).number d))
+    (get_or x.2 (get_or x.0 k p).number s).stream
+
+pub returns-clause-histories : goal.returns-clause-histories
+returns-clause-histories g c =
+    let books = g.N.Names.plan.books in
+    let n = length books in
+    let seats = c.into_parts-book.result.1 in
+    let drainers = c.args.drainers.items in
+    let all = c.args.slots.items in
+    let long = c.join_all.ensures.noted.many ∙ sym c.into_parts-book.ensures.streams.many in
+    let now : c.as_mut_slice-8.result.now ≡ c.join_all.new.noted =
+    c.as_mut_slice-8.ensures.value ∙ written-over seats.items c.join_all.new.noted seats.len long seats.ok.0 in
+    let same = c.join_all.ensures.slots ∙ c.as_mut_slice.ensures.value in
+    let slots : c.as_mut_slice-7.result.now ≡ all =
+    c.as_mut_slice-7.ensures.value ∙ written-back all c.join_all.new.slots c.args.slots.len same c.args.slots.ok.0 in
+    let producers = written-back c.args.producers.items c.join_all.new.producers c.args.producers.len
+    (c.join_all.ensures.producers ∙ c.as_mut_slice-2.ensures.value) c.args.producers.ok.0 in
+    let there : AreWithin n c.args.producers.items = subst (AreWithin n) c.as_mut_slice-2.ensures.value c.join_all.ensures.there in
+    let own : HaveHistoriesIn (c.args.producers.items, c.join_all.new.noted, all) =
+    subst HaveHistoriesIn (λ j. (producers j, now j, slots j)) c.join_producers.ensures.histories in
+    their-histories n books c.args.producers.items drainers c.join_all.new.noted all c.requires.slots refl c.join_all.ensures.noted
+    (noted.new_seat no_table 0) there own

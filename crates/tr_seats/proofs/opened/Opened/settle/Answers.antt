@@ -1,7 +1,7 @@
 use Rattle.std.proofs.Common.{◌≡◌, ℕ, List, ap, length, subst, sym, ◌∙◌, arith}
 use Rattle.std.proofs.lemmas.Grind.{common_steps}
 use Rattle.tr_seats.proofs.opened.Opened.settle.Goals as goal
-use Rattle.tr_seats.specs.Settling.{AddUp, AreAccountsOf, ArePacketsOf, AreTheirs, HaveCleared, HaveConsumed, IsWhy, OpenedState, WereConsumed, opened_state, streams_of, totals_of_seats}
+use Rattle.tr_seats.specs.Settling.{AddUp, AreAccountsOf, ArePacketsOf, AreTheirs, HaveCleared, HaveConsumed, HaveHistories, IsWhy, OpenedState, WereConsumed, opened_state, streams_of, totals_of_seats}
 use Rattle.tr_seats.specs.Slots.{ProducerState}
 use Rattle.tr_seats.specs.Sums.{totals_of}
 use Rattle.tr_session.specs.Session.{SessionOf, session_of}
@@ -64,3 +64,8 @@ pub returns-in-None-clause-packets : goal.returns-in-None-clause-packets
 returns-in-None-clause-packets g c =
     subst (λ (s : SessionOf StreamState). ArePacketsOf c.args.drainers.items s.streams) (sym c.settle_all.ensures.session)
     c.settle_all.ensures.packets
+
+pub returns-in-None-clause-histories : goal.returns-in-None-clause-histories
+returns-in-None-clause-histories g c =
+    subst (λ (s : SessionOf StreamState). HaveHistories c.args.producers.items c.args.drainers.items s.streams) (sym c.settle_all.ensures.session)
+    c.settle_all.ensures.histories

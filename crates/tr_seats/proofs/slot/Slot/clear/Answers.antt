@@ -19,7 +19,7 @@ invariant_of-self g c =
     subst (λ (t : StreamState). (old.number < length g.N.Names.plan.books)
     × AreBooksOf (books_at g.N.Names.plan.books old.number) t old.consumed.made old.offered old.discarded old.overwritten
     old.overwritten_packets old.consumed old.cuts old.cleared × IsPlanned g.N.Names.plan old.number t.config
-    × IsKeptAccount (books_at g.N.Names.plan.books old.number).journal t old.account) (sym same) c.self.invariant
+    × IsKeptAccount (books_at g.N.Names.plan.books old.number).journal t old.consumed.made old.account) (sym same) c.self.invariant
 
 pub raise-requires-clause-room : goal.raise-requires-clause-room
 raise-requires-clause-room g c =
@@ -45,6 +45,6 @@ invariant_of-self-2 g c =
           old.discarded old.overwritten old.overwritten_packets old.consumed old.cuts old.cleared c.self.invariant.1
           c.raise.new.self done.records (ap totals_in after ∙ clear-totals old.stream done answer) c.raise.ensures.ledger,
       planned,
-      kept-clear (books_at g.N.Names.plan.books old.number).journal old.stream old.account c.note_clear.new.self c.self.invariant.3
+      kept-clear (books_at g.N.Names.plan.books old.number).journal old.stream old.consumed.made old.account c.note_clear.new.self c.self.invariant.3
           c.clear.new.self c.args.desk.now.who (Ok done) c.requires.desk.1 answer after c.note_clear.ensures.account,
     )

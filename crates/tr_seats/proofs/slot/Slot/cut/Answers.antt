@@ -20,7 +20,7 @@ invariant_of-self g c =
     subst (λ (t : StreamState). (old.number < length g.N.Names.plan.books)
     × AreBooksOf (books_at g.N.Names.plan.books old.number) t old.consumed.made old.offered old.discarded old.overwritten
     old.overwritten_packets old.consumed old.cuts old.cleared × IsPlanned g.N.Names.plan old.number t.config
-    × IsKeptAccount (books_at g.N.Names.plan.books old.number).journal t old.account) (sym same) c.self.invariant
+    × IsKeptAccount (books_at g.N.Names.plan.books old.number).journal t old.consumed.made old.account) (sym same) c.self.invariant
 
 pub raise-requires-clause-room : goal.raise-requires-clause-room
 raise-requires-clause-room g c =
@@ -48,8 +48,10 @@ invariant_of-self-2 g c =
           (ap totals_in after ∙ cut-totals c.args.moment old.stream done answer) c.raise.ensures.ledger
           c.raise_by_one.ensures.ledger,
       planned,
-      kept-cut (books_at g.N.Names.plan.books old.number).journal old.stream old.account c.note_cut.new.self c.self.invariant.3
-          c.cut.new.self c.args.desk.now.who c.args.moment (Ok done) c.requires.desk.1 answer after c.note_cut.ensures.account,
+      subst (λ m. IsKeptAccount (books_at g.N.Names.plan.books old.number).journal c.cut.new.self m c.note_cut.new.self)
+          (sym (ap (λ (l : LedgerState). l.made) c.raise.ensures.ledger))
+          (kept-cut (books_at g.N.Names.plan.books old.number).journal old.stream old.consumed.made old.account c.note_cut.new.self c.self.invariant.3
+          c.cut.new.self c.args.desk.now.who c.args.moment (Ok done) c.requires.desk.1 answer after c.note_cut.ensures.account),
     )
 
 pub returns-in_err-done-clause-consumed : goal.returns-in_err-done-clause-consumed

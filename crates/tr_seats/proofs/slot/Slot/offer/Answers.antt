@@ -26,7 +26,7 @@ invariant_of-self-in-Stored g c =
           old.discarded old.overwritten old.overwritten_packets old.consumed old.cuts old.cleared c.self.invariant.1
           c.raise_by_one.new.self c.in-Stored.serial c.in-Stored.seq more c.raise_by_one.ensures.ledger,
       planned,
-      kept-offer (books_at g.N.Names.plan.books old.number).journal old.stream old.account c.note_offer.new.self c.self.invariant.3
+      kept-offer (books_at g.N.Names.plan.books old.number).journal old.stream old.consumed.made old.account c.note_offer.new.self c.self.invariant.3
           c.offer-answer.new.self c.producer.inside.account.who c.args.moment c.args.id c.args.payload.now c.offer-answer.result
           c.producer.invariant.3.1 c.shows_kept.ensures.kept c.offer-answer.ensures.value.0 c.offer-answer.ensures.value.1
           c.note_offer.ensures.account,
@@ -47,7 +47,7 @@ invariant_of-self-in-StoredOver g c =
           c.raise_by_one.new.self c.raise.new.self c.raise_by_one-in-StoredOver.new.self arm.serial arm.seq arm.gone_seq
           arm.gone_count more c.raise_by_one.ensures.ledger c.raise.ensures.ledger c.raise_by_one-in-StoredOver.ensures.ledger,
       planned,
-      kept-offer (books_at g.N.Names.plan.books old.number).journal old.stream old.account c.note_offer.new.self c.self.invariant.3
+      kept-offer (books_at g.N.Names.plan.books old.number).journal old.stream old.consumed.made old.account c.note_offer.new.self c.self.invariant.3
           c.offer-answer.new.self c.producer.inside.account.who c.args.moment c.args.id c.args.payload.now c.offer-answer.result
           c.producer.invariant.3.1 c.shows_kept.ensures.kept c.offer-answer.ensures.value.0 c.offer-answer.ensures.value.1
           c.note_offer.ensures.account,
@@ -79,7 +79,7 @@ invariant_of-self-in-Discarded g c =
           c.raise_by_one.new.self c.raise_by_one-in-Discarded.new.self c.in-Discarded.serial more c.raise_by_one.ensures.ledger
           c.raise_by_one-in-Discarded.ensures.ledger,
       planned,
-      kept-offer (books_at g.N.Names.plan.books old.number).journal old.stream old.account c.note_offer.new.self c.self.invariant.3
+      kept-offer (books_at g.N.Names.plan.books old.number).journal old.stream old.consumed.made old.account c.note_offer.new.self c.self.invariant.3
           c.offer-answer.new.self c.producer.inside.account.who c.args.moment c.args.id c.args.payload.now c.offer-answer.result
           c.producer.invariant.3.1 c.shows_kept.ensures.kept c.offer-answer.ensures.value.0 c.offer-answer.ensures.value.1
           c.note_offer.ensures.account,
@@ -179,7 +179,7 @@ invariant_of-self g c =
       subst (λ (t : StreamState). AreBooksOf books t old.consumed.made old.offered old.discarded old.overwritten
           old.overwritten_packets old.consumed old.cuts old.cleared) (sym same) is.1,
       subst (λ (t : StreamState). IsPlanned g.N.Names.plan old.number t.config) (sym same) is.2,
-      kept-offer books.journal old.stream old.account c.note_offer.new.self is.3 c.offer-answer.new.self
+      kept-offer books.journal old.stream old.consumed.made old.account c.note_offer.new.self is.3 c.offer-answer.new.self
           c.producer.inside.account.who c.args.moment c.args.id c.args.payload.now c.offer-answer.result
           c.producer.invariant.3.1 c.shows_kept.ensures.kept c.offer-answer.ensures.value.0 c.offer-answer.ensures.value.1
           c.note_offer.ensures.account,

@@ -22,6 +22,6 @@ invariant_of-self g c =
             cleared_is = is.1.cleared_is;
           }),
       subst (λ (t : StreamState). IsPlanned g.N.Names.plan old.number t.config) (sym same) is.2,
-      kept-switch books.journal old.stream old.account c.note_switch.new.self is.3 c.set_active.new.self c.args.desk.now.who c.args.active
+      kept-switch books.journal old.stream old.consumed.made old.account c.note_switch.new.self is.3 c.set_active.new.self c.args.desk.now.who c.args.active
           c.requires.1 same c.note_switch.ensures.account,
     )

@@ -27,7 +27,7 @@ invariant_of-self g c =
     subst (λ (t : StreamState). (old.number < length g.N.Names.plan.books)
     × AreBooksOf (books_at g.N.Names.plan.books old.number) t old.consumed.made old.offered old.discarded old.overwritten
     old.overwritten_packets old.consumed old.cuts old.cleared × IsPlanned g.N.Names.plan old.number t.config
-    × IsKeptAccount (books_at g.N.Names.plan.books old.number).journal t old.account) (sym same) c.self.invariant
+    × IsKeptAccount (books_at g.N.Names.plan.books old.number).journal t old.consumed.made old.account) (sym same) c.self.invariant
 
 pub index_mut-requires : goal.index_mut-requires
 index_mut-requires g c =
@@ -94,8 +94,10 @@ invariant_of-self-2 g c =
           old.discarded old.overwritten old.overwritten_packets old.consumed old.cuts old.cleared c.self.invariant.1
           c.raise.new.self c.in_ok-taken.taken.count (ap totals_in after ∙ is.totals) c.raise.ensures.ledger,
       planned,
-      kept-take (books_at g.N.Names.plan.books old.number).journal old.stream old.account c.note_take.new.self c.self.invariant.3
-          c.take.new.self c.index_mut.result.now.who (Ok c.in_ok-taken.taken) theirs answer after c.note_take.ensures.account,
+      subst (λ m. IsKeptAccount (books_at g.N.Names.plan.books old.number).journal c.take.new.self m c.note_take.new.self)
+          (sym (ap (λ (l : LedgerState). l.made) c.raise.ensures.ledger))
+          (kept-take (books_at g.N.Names.plan.books old.number).journal old.stream old.consumed.made old.account c.note_take.new.self c.self.invariant.3
+          c.take.new.self c.index_mut.result.now.who (Ok c.in_ok-taken.taken) theirs answer after c.note_take.ensures.account),
     )
 
 pub invariant_of-drainer : goal.invariant_of-drainer

@@ -1,0 +1,208 @@
+-- One history of all that was done to a stream, from the seats that are joined in one.
+use Rattle.std.proofs.Common.{◌≡◌, ◌≢◌, ◌∙◌, ◌+◌, ◌<◌, ◌≤◌, ℕ, zero, suc, Bool, true, false, List, [], ◌∷◌, ◌++◌, ap, arith, cond, eq-eqb, eqb, get_or, length, map, nat_lt, refl, subst, sym}
+use Rattle.std.specs.Prelude.{All, count_by, ◌==◌}
+use Rattle.std.specs.List.{AllByRecursion, AllPairs, Contains}
+use Rattle.std.proofs.lemmas.Bool.Decides.{nat_tests}
+use Rattle.std.proofs.lemmas.List.{get_or-map, length-append, length-map, map-append}
+use Rattle.std.proofs.lemmas.List.Elements.{All-cons, All-nil}
+use Rattle.std.proofs.lemmas.List.Kept.{AllPairs-cons}
+use Rattle.std.proofs.lemmas.List.Sums.{sum_by-cons}
+use Rattle.atomic_table.specs.Seated.{TableId}
+use Rattle.tr_accounts.proofs.Lists.{all-back, all-both, all-front}
+use Rattle.tr_accounts.proofs.SeatLemmas.{offers-theirs, takes-all}
+use Rattle.tr_accounts.specs.Seats.{desk_seat, drainer_parts, producer_seat, take_lines}
+use Rattle.tr_accounts.specs.StreamSteps.{taken_in}
+use Rattle.tr_accounts.specs.declared.step.StreamStep.{StreamStep}
+use Rattle.tr_journal.specs.Journals.{IsSeatOf, JournalState, SeatState, parts_of, seat_with}
+use Rattle.tr_journal.specs.Views.{AreApart, ArePartsOf, IsPartOf, done_by}
+use Rattle.tr_journal.specs.Whole.{numbers_of}
+use Rattle.tr_journal.specs.declared.rule.Line.{Line}
+use Rattle.tr_journal.specs.declared.rule.Part.{Part}
+use Rattle.tr_seats.specs.Accounts.{AreTakeSeats, IsKeptAccount, IsSeatAt, taken_by}
+use Rattle.tr_seats.specs.Books.{Books, books_at}
+use Rattle.tr_seats.specs.Drainers.{DrainerState, taken_at}
+use Rattle.tr_seats.specs.Histories.{AreDeskWith, IsDeskWith, IsHistoryOf, takes_joined, takes_of}
+use Rattle.tr_seats.specs.Settling.{AreAllMade, HaveHistories, IsOneEach, streams_of}
+use Rattle.tr_seats.specs.Slots.{ProducerState, SlotState, slot_state}
+use Rattle.tr_stream.specs.State.{StreamState}
+use Rattle.tr_stream.specs.declared.answers.Taken.{Taken}
+
+-- ---- the parts that are joined
+
+-- the parts of all drainers, without the producer's after them
+drainers-alone : (ds : List (Part StreamStep)) (p : Part StreamStep) → AllByRecursion (λ (d : Part StreamStep). desk_seat < d.who) ds
+    → p.who ≡ producer_seat → drainer_parts (ds ++ p ∷ []) ≡ ds
+drainers-alone [] p theirs is =
+    let no : nat_lt desk_seat p.who ≡ false = grind (arith, nat_tests, is) in
+    ap (λ b. cond b (p ∷ []) []) no
+drainers-alone (d ∷ ds) p theirs is =
+    let yes : nat_lt desk_seat d.who ≡ true = grind (arith, nat_tests, theirs.0) in
+    ap (λ b. cond b (d ∷ drainer_parts (ds ++ p ∷ [])) (drainer_parts (ds ++ p ∷ []))) yes
+    ∙ ap (λ ps. d ∷ ps) (drainers-alone ds p theirs.1 is)
+
+numbers-front : (n : ℕ) (ds : List (Part StreamStep)) → AllByRecursion (λ (d : Part StreamStep). n ≢ d.who) ds → All (λ m. n ≢ m) (numbers_of ds)
+numbers-front n [] h = All-nil (λ m. n ≢ m)
+numbers-front n (d ∷ ds) h = All-cons (λ m. n ≢ m) d.who (numbers_of ds) h.0 (numbers-front n ds h.1)
+
+numbers-apart : (ds ps : List (Part StreamStep)) → AreApart (ds ++ ps) → AllPairs (λ a b. a ≢ b) (numbers_of ds)
+numbers-apart [] ps h = λ i j d lt within. absurd (omega (arith, within))
+numbers-apart (d ∷ ds) ps h =
+    AllPairs-cons (λ a b. a ≢ b) d.who (numbers_of ds) (numbers-front d.who ds (all-front (λ (q : Part StreamStep). d.who ≢ q.who) ds ps h.0))
+    (numbers-apart ds ps h.1)
+
+numbers-theirs : (ds : List (Part StreamStep)) → AllByRecursion (λ (d : Part StreamStep). desk_seat < d.who) ds
+    → AllByRecursion (λ who. desk_seat < who) (numbers_of ds)
+numbers-theirs [] h = tt
+numbers-theirs (d ∷ ds) h = (h.0, numbers-theirs ds h.1)
+
+numbers-taken : (made : ℕ) (lines : List (Line StreamStep)) (ds : List (Part StreamStep)) → AllByRecursion (IsPartOf made lines) ds
+    → map (λ (d : Part StreamStep). taken_in d.own) ds ≡ map (λ who. taken_in (done_by who lines)) (numbers_of ds)
+numbers-taken made lines [] h = refl
+numbers-taken made lines (d ∷ ds) h = λ k. taken_in (h.0.1 k) ∷ numbers-taken made lines ds h.1 k
+
+abbrev part_of : SeatState StreamStep → Part StreamStep
+part_of seat = record { who = seat.who; own = seat.own }
+
+-- the desk's seat, with all drainers' seats and the producer's
+module _ (table : TableId) (s : StreamState) (made : ℕ) (account : JournalState StreamStep) (desk producer now : SeatState StreamStep)
+    (kept : IsKeptAccount table s made account) (with : IsDeskWith table desk) (mine : producer.who ≡ producer_seat)
+    (alone : producer.joined ≡ []) (all : length desk.joined ≡ made) (is : now ≡ seat_with producer desk) (own : IsSeatOf account now) where
+  abbrev parts : List (Part StreamStep)
+  parts = part_of desk ∷ (desk.joined ++ part_of producer ∷ [])
+
+  are : ArePartsOf account.made account.lines parts
+  are =
+      subst (ArePartsOf account.made account.lines)
+      (ap parts_of is ∙ ap (λ (l : List (Part StreamStep)). part_of desk ∷ (desk.joined ++ part_of producer ∷ l)) alone) own
+
+  many : length parts ≡ account.made
+  many = omega (arith, length-append desk.joined (part_of producer ∷ []), all, kept.made_is)
+
+  drainers : drainer_parts parts ≡ desk.joined
+  drainers =
+      let no : nat_lt desk_seat desk.who ≡ false = grind (arith, nat_tests, with.desk) in
+      ap (λ b. cond b (part_of desk ∷ drainer_parts (desk.joined ++ part_of producer ∷ [])) (drainer_parts (desk.joined ++ part_of producer ∷ []))) no
+      ∙ drainers-alone desk.joined (part_of producer) with.drainers mine
+
+  pub history-of : IsHistoryOf producer.own (takes_joined desk) s
+  history-of =
+      let lines = account.lines in
+      let last = (all-back (IsPartOf account.made lines) desk.joined (part_of producer ∷ []) are.each.1).0 in
+      let did : producer.own ≡ done_by producer_seat lines = last.1 ∙ ap (λ who. done_by who lines) mine in
+      record {
+        lines = lines;
+        journal = kept.lines_are;
+        offers = offers-theirs lines kept.lines_are.theirs ∙ sym did;
+        numbers = numbers_of desk.joined;
+        theirs = numbers-theirs desk.joined with.drainers;
+        apart = numbers-apart desk.joined (part_of producer ∷ []) are.apart.1;
+        taken = numbers-taken account.made lines desk.joined
+            (all-front (IsPartOf account.made lines) desk.joined (part_of producer ∷ []) are.each.1);
+        none_missing = subst (λ (l : List (Part StreamStep)). AllByRecursion (λ (x : Line StreamStep). Contains (numbers_of l) x.who) (take_lines lines))
+            drainers (takes-all account.made lines parts kept.lines_are.theirs are many).each;
+      }
+
+-- ---- the desk's seats, and the drainers' that are joined to them
+
+pub desk-alone : (table : TableId) (seat : SeatState StreamStep) → IsSeatAt table desk_seat seat
+    → IsDeskWith table seat × (takes_joined seat ≡ [])
+desk-alone table seat is = (
+  record {
+    table_is = is.0;
+    desk = is.1;
+    drainers = subst (AllByRecursion (λ (p : Part StreamStep). desk_seat < p.who)) (sym is.2) tt;
+  },
+  ap (map (λ (p : Part StreamStep). taken_in p.own)) is.2,
+)
+
+-- one drainer's seats more
+pub desk-more : (books : List Books) (drainers : List DrainerState) (x : DrainerState) (old new theirs : List (SeatState StreamStep))
+    → AreDeskWith books drainers old → AreTakeSeats (length books) books theirs → x.taken ≡ taken_by theirs → length new ≡ length old
+    → ((i : ℕ) (d e : SeatState StreamStep) → i < length books → get_or new i d ≡ seat_with (get_or theirs i e) (get_or old i d))
+    → AreDeskWith books (drainers ++ x ∷ []) new
+desk-more books drainers x old new theirs was are took long joined = record {
+  many = long ∙ was.many;
+  each = λ i d lt.
+      let mine = get_or old i d in
+      let other = get_or theirs i d in
+      let before = was.each i d lt in
+      let seat = are.each i d lt in
+      subst (IsDeskWith (books_at books i).journal) (sym (joined i d d lt)) (record {
+        table_is = before.table_is;
+        desk = before.desk;
+        drainers = all-both (λ (p : Part StreamStep). desk_seat < p.who) mine.joined (parts_of other) before.drainers
+            (seat.1, subst (AllByRecursion (λ (p : Part StreamStep). desk_seat < p.who)) (sym seat.2) tt);
+      });
+  taken = λ i d lt.
+      let mine = get_or old i d in
+      let other = get_or theirs i d in
+      let seat = are.each i d lt in
+      let took_it : (p : Part StreamStep) → List Taken = λ p. taken_in p.own in
+      let one : map took_it (parts_of other) ≡ taken_in other.own ∷ [] = ap (λ (l : List (Part StreamStep)). taken_in other.own ∷ map took_it l) seat.2 in
+      let there : i < length theirs = omega (arith, lt, are.many) in
+      let last : taken_at x i ≡ taken_in other.own =
+      ap (λ (l : List (List Taken)). get_or l i []) took ∙ get_or-map (λ (s : SeatState StreamStep). taken_in s.own) theirs i d [] there in
+      ap takes_joined (joined i d d lt) ∙ map-append took_it mine.joined (parts_of other)
+      ∙ (λ k. was.taken i d lt k ++ one k) ∙ ap (λ (l : List Taken). takes_of drainers i ++ l ∷ []) (sym last)
+      ∙ sym (map-append (λ (q : DrainerState). taken_at q i) drainers (x ∷ []));
+}
+
+-- so many are joined as drainers were made
+pub desk-whole : (books : List Books) (drainers : List DrainerState) (seats : List (SeatState StreamStep)) (slots : List SlotState)
+    → AreDeskWith books drainers seats → AreAllMade (length drainers) slots → length slots ≡ length books
+    → (i : ℕ) (d : SeatState StreamStep) (s : SlotState) → i < length books → length (get_or seats i d).joined ≡ (get_or slots i s).made
+desk-whole books drainers seats slots are made long i d s lt =
+    let mine = get_or seats i d in
+    sym (length-map mine.joined (λ (p : Part StreamStep). taken_in p.own)) ∙ ap length (are.taken i d lt)
+    ∙ length-map drainers (λ (q : DrainerState). taken_at q i) ∙ sym (made i s (omega (arith, lt, long)))
+
+-- ---- one producer for each stream
+
+abbrev counted : ℕ → List ProducerState → ℕ
+counted i ps = count_by (λ (p : ProducerState). p.number == i) ps
+
+abbrev once : Bool → ℕ
+once b = cond b 1 0
+
+counted-cons : (i : ℕ) (p : ProducerState) (ps : List ProducerState) → counted i (p ∷ ps) ≡ once (eqb p.number i) + counted i ps
+counted-cons i p ps = sum_by-cons (λ (q : ProducerState). cond (q.number == i) 1 0) p ps
+
+counted-some : (i : ℕ) (ps : List ProducerState) (k : ℕ) (d : ProducerState) → k < length ps → (get_or ps k d).number ≡ i → 1 ≤ counted i ps
+counted-some i [] k d lt is = absurd (omega arith)
+counted-some i (p ∷ ps) zero d lt is =
+    let one : once (eqb p.number i) ≡ 1 = ap once (eq-eqb p.number i is) in
+    omega (arith, counted-cons i p ps, one)
+counted-some i (p ∷ ps) (suc k) d lt is = omega (arith, counted-cons i p ps, counted-some i ps k d (omega arith) is)
+
+counted-two : (i : ℕ) (ps : List ProducerState) (j k : ℕ) (c d : ProducerState) → j < k → k < length ps → (get_or ps j c).number ≡ i
+    → (get_or ps k d).number ≡ i → 2 ≤ counted i ps
+counted-two i [] j k c d lt within one two = absurd (omega arith)
+counted-two i (p ∷ ps) j zero c d lt within one two = absurd (omega arith)
+counted-two i (p ∷ ps) zero (suc k) c d lt within one two =
+    let here : once (eqb p.number i) ≡ 1 = ap once (eq-eqb p.number i one) in
+    omega (arith, counted-cons i p ps, here, counted-some i ps k d (omega arith) two)
+counted-two i (p ∷ ps) (suc j) (suc k) c d lt within one two =
+    omega (arith, counted-cons i p ps, counted-two i ps j k c d (omega arith) (omega arith) one two)
+
+-- no two producers are of one stream
+pub producers-apart : (n : ℕ) (ps : List ProducerState) → IsOneEach n ps → (j k : ℕ) (c d : ProducerState) → j < k → k < length ps
+    → (get_or ps k d).number < n → (get_or ps j c).number ≢ (get_or ps k d).number
+producers-apart n ps each j k c d lt within there same =
+    let i = (get_or ps k d).number in
+    omega (arith, each i there, counted-two i ps j k c d lt within same refl)
+
+-- each history, out of the slots
+pub their-histories : (n : ℕ) (books : List Books) (producers : List ProducerState) (drainers : List DrainerState) (seats : List (SeatState StreamStep)) (slots : List SlotState)
+    → length slots ≡ n → length books ≡ n → AreDeskWith books drainers seats → (d : SeatState StreamStep)
+    → ((k : ℕ) (p : ProducerState) → k < length producers → (get_or producers k p).number < n)
+    → ((k : ℕ) (p : ProducerState) (d : SeatState StreamStep) (s : SlotState) → k < length producers
+    → IsHistoryOf (get_or producers k p).steps (takes_joined (get_or seats (get_or producers k p).number d))
+    (get_or slots (get_or producers k p).number s).stream)
+    → HaveHistories producers drainers (streams_of slots)
+their-histories n books producers drainers seats slots long wide are d there own k p t lt =
+    let s = slot_state 0 t 0 in
+    let q = get_or producers k p in
+    let within = there k p lt in
+    let at = get_or-map (λ (x : SlotState). x.stream) slots q.number s t (omega (arith, within, long)) in
+    subst (λ (x : List (List Taken) × StreamState). IsHistoryOf q.steps x.0 x.1)
+    (λ j. (are.taken q.number d (omega (arith, within, wide)) j, sym at j)) (own k p d s lt)
