@@ -24,6 +24,8 @@
 //! - What a drainer took is what the streams have: a take adds just its packet's number, count and chunk to the drainer's list
 //!   of that stream. Once settled, these are takes of a history that the stream represents, and each packet is kept in that
 //!   chunk or was cleared since.
+//! - Once settled, one history of each stream has the offers of its producer and the takes of all drainers, and no others: each
+//!   take is one drainer's, and none is missing.
 //! - What an operator did is what the desk has: a call in its name adds just its steps to its list, each at the moment that was
 //!   given and with its answer. A start or a stop that succeeds has switched every stream, a rotation has begun at its moment,
 //!   cut streams and ended one with the archive that is answered, a clear has cleared every stream, and a snapshot shows the

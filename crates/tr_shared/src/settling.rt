@@ -2,7 +2,7 @@
 
 ghost use Rattle.std.specs.Prelude.{◌≡◌, ◌≤◌, ◌↔◌, IfErr, IfOk, length, vec_capacity, vec_len};
 ghost use Rattle.tr_operations.specs.Operations.{IsOperatorOf};
-ghost use Rattle.tr_seats.specs.Settling.{AddUp, AreAccountsOf, AreInPlace, ArePacketsOf, AreTheirs, HasOperated, IsOneEach, IsSessionOf, WereConsumed, streams_of};
+ghost use Rattle.tr_seats.specs.Settling.{AddUp, AreAccountsOf, AreInPlace, ArePacketsOf, AreTheirs, HasOperated, HaveHistories, IsOneEach, IsSessionOf, WereConsumed, streams_of};
 ghost use Rattle.tr_seats.specs.Sums.{totals_of};
 ghost use Rattle.tr_session.specs.Session.{session_of};
 ghost use Rattle.tr_shared.specs.Calls.{AreOffersOf, HaveTaken};
@@ -35,6 +35,7 @@ impl<N: Names, A: Allocator + Copy> Shared<N, A> {
         ensures accounts { IfOk result (λ r. AreAccountsOf producers.items r.0.streams) }
         ensures taken { IfOk result (λ r. HaveTaken drainers.items r.0.streams) }
         ensures packets { IfOk result (λ r. ArePacketsOf drainers.items r.0.streams) }
+        ensures histories { IfOk result (λ r. HaveHistories producers.items drainers.items r.0.streams) }
         ensures places { IfOk result (λ r. AddUp r.1 r.0.streams) }
         ensures consumed { IfOk result (λ r. WereConsumed r.1 r.0.streams) }
         ensures snapshot_session { N.plan.session.book.mode ≡ SessionMode.Snapshot
@@ -70,6 +71,7 @@ impl<N: Names, A: Allocator + Copy> Shared<N, A> {
         ensures accounts { IfOk result (λ r. AreAccountsOf producers.items r.0.streams) }
         ensures taken { IfOk result (λ r. HaveTaken drainers.items r.0.streams) }
         ensures packets { IfOk result (λ r. ArePacketsOf drainers.items r.0.streams) }
+        ensures histories { IfOk result (λ r. HaveHistories producers.items drainers.items r.0.streams) }
         ensures places { IfOk result (λ r. AddUp r.1 r.0.streams) }
         ensures consumed { IfOk result (λ r. WereConsumed r.1 r.0.streams) }
         ensures snapshot_session { N.plan.session.book.mode ≡ SessionMode.Snapshot
@@ -103,6 +105,7 @@ fn settle_opened<N: Names, A: Allocator + Copy>(
     ensures accounts { IfOk result (λ r. AreAccountsOf producers.items r.0.streams) }
     ensures taken { IfOk result (λ r. HaveTaken drainers.items r.0.streams) }
     ensures packets { IfOk result (λ r. ArePacketsOf drainers.items r.0.streams) }
+    ensures histories { IfOk result (λ r. HaveHistories producers.items drainers.items r.0.streams) }
     ensures places { IfOk result (λ r. AddUp r.1 r.0.streams) }
     ensures consumed { IfOk result (λ r. WereConsumed r.1 r.0.streams) }
     ensures snapshot_session { N.plan.session.book.mode ≡ SessionMode.Snapshot

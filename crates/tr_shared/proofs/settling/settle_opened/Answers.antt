@@ -35,3 +35,6 @@ returns-in-Ok-clause-consumed g c =
 
 pub returns-in-Ok-clause-taken : goal.returns-in-Ok-clause-taken
 returns-in-Ok-clause-taken g c = λ k t lt. omega (arith, c.in-Ok.ensures.taken k t lt)
+
+pub returns-in-Ok-clause-snapshot_session : goal.returns-in-Ok-clause-snapshot_session
+returns-in-Ok-clause-snapshot_session g c = c.in-Ok.ensures.snapshot_session
