@@ -1,8 +1,14 @@
 pub mod DispatchLemmas
+pub mod EnteredLemmas
 pub mod FlagLemmas
+pub mod FoundLemmas
 pub mod InvocationLemmas
 pub mod LimitLemmas
 pub mod LineLemmas
 pub mod NumberLemmas
+pub mod OrdinaryLemmas
 pub mod ParseLemmas
 pub mod ReadingLemmas
+pub mod RefusedLemmas
+pub mod StepLemmas
+pub mod UseLemmas

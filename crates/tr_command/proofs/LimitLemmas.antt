@@ -1,8 +1,9 @@
 -- The moment and the offset of what a line asks for are within their limits.
-use Rattle.std.proofs.Common.{◌≡◌, ◌≤◌, ℕ, ℤ, pos, ◌-ℤ◌, refl, sym, codes, List, Option, Some, None, IfSome, subst, arith, option_and_then, option_map}
+use Rattle.std.proofs.Common.{◌≡◌, ◌≤◌, ℕ, ℤ, pos, ◌-ℤ◌, refl, sym, codes, List, Option, Some, None, IfOk, IfSome, Result, Ok, Err, subst, arith, option_and_then, option_map}
 use Rattle.std.proofs.lemmas.Int.{ints}
 use Rattle.clap.specs.Words.{Row, Text, first_of}
 use Rattle.tr_terms.specs.declared.limits.TheConstants.{LAST_MOMENT, MOST_FILL, MOST_MINUTES}
+use Rattle.tr_command.specs.Language.{asked_from, asked_of, entered_by, script_app}
 use Rattle.tr_command.specs.Asked.{Asked, Command, asked_by, at_moment, command_named, moment_in, of_session, offset_in, read, read_command}
 use Rattle.tr_terms.specs.Offsets.{IsOffset}
 use Rattle.tr_command.specs.Reading.{and_last, and_then, most_u32, most_u64, mode_given, number_given, number_if_given, number_or_0, offset_given, session_given}
@@ -99,17 +100,34 @@ asked_as-limits name rows = go (command_named name)
     go None = tt
     go (Some c) = read-limits c.reader rows
 
-request-limits : (r : Option Request) (name : Text) (rows : List Row) → option_map asked_by r ≡ read_command name rows
-    → HasLimits (option_map asked_by r)
-request-limits r name rows e = subst HasLimits (sym e) (asked_as-limits name rows)
+asked_of-limits : (words : List Text) → HasLimits (asked_of words)
+unfolding asked_from
+asked_of-limits words = go (entered_by script_app words)
+  where
+    go : (o : Option (Text × List Row)) → HasLimits (option_and_then (λ (p : Text × List Row). read_command p.0 p.1) o)
+    go None = tt
+    go (Some p) = asked_as-limits p.0 p.1
+
+request-limits : (r : Option Request) (words : List Text) → option_map asked_by r ≡ asked_of words → HasLimits (option_map asked_by r)
+request-limits r words e = subst HasLimits (sym e) (asked_of-limits words)
 
 -- and so are those of a request
-pub request-moment : (r : Option Request) (name : Text) (rows : List Row) → option_map asked_by r ≡ read_command name rows
+pub asked-moment : (r : Option Request) (words : List Text) → option_map asked_by r ≡ asked_of words
     → IfSome r (λ request. moment_in (asked_by request) ≤ LAST_MOMENT)
-request-moment None name rows e = tt
-request-moment (Some request) name rows e = (request-limits (Some request) name rows e).0
+asked-moment None words e = tt
+asked-moment (Some request) words e = (request-limits (Some request) words e).0
 
-pub request-offset : (r : Option Request) (name : Text) (rows : List Row) → option_map asked_by r ≡ read_command name rows
+pub asked-offset : (r : Option Request) (words : List Text) → option_map asked_by r ≡ asked_of words
     → IfSome r (λ request. IsOffset (offset_in (asked_by request)))
-request-offset None name rows e = tt
-request-offset (Some request) name rows e = (request-limits (Some request) name rows e).1
+asked-offset None words e = tt
+asked-offset (Some request) words e = (request-limits (Some request) words e).1
+
+pub answered-moment : {E : Type 0} (r : Result (Option Request) E) (words : List Text) → IfOk r (λ o. option_map asked_by o ≡ asked_of words)
+    → IfOk r (λ o. IfSome o (λ request. moment_in (asked_by request) ≤ LAST_MOMENT))
+answered-moment (Ok o) words e = asked-moment o words e
+answered-moment (Err e) words _ = tt
+
+pub answered-offset : {E : Type 0} (r : Result (Option Request) E) (words : List Text) → IfOk r (λ o. option_map asked_by o ≡ asked_of words)
+    → IfOk r (λ o. IfSome o (λ request. IsOffset (offset_in (asked_by request))))
+answered-offset (Ok o) words e = asked-offset o words e
+answered-offset (Err e) words _ = tt

@@ -1,13 +1,13 @@
 -- Loops over the arguments of a command, and over the table of commands.
-use Rattle.std.proofs.Common.{◌≡◌, ◌∙◌, ◌+◌, ◌<◌, ◌∷◌, ℕ, Bool, true, List, [], Option, Some, IfOk, Result, Ok, Err, false, ap, ap₂, cond, drop, get_or, length, map, sym, take}
-use Rattle.std.specs.List.{find, fold}
+use Rattle.std.proofs.Common.{◌≡◌, ◌∙◌, ◌||◌, ◌+◌, ◌<◌, ◌∷◌, ℕ, Bool, true, List, [], Option, Some, IfOk, Result, Ok, Err, false, ap, ap₂, cond, drop, get_or, length, map, sym, take}
+use Rattle.std.specs.List.{find, fold, list_any}
 use Rattle.std.proofs.lemmas.List.{drop_more, map-append, take_more}
 use Rattle.std.proofs.lemmas.List.Sums.{fold-append}
 use Rattle.clap.specs.Words.{App, app_of, with_subcommand}
 use Rattle.clap.specs.declared.builder.command.Command.{Command}
 use Rattle.clap.specs.declared.builder.command.Command.TheViews.{out-Command as fields_of}
 use Rattle.tr_command.specs.Asked.{command_in}
-use Rattle.tr_command.specs.Dispatch.{command_app, with_command}
+use Rattle.tr_command.specs.Language.{command_app, with_command}
 use Rattle.tr_command.specs.declared.commands.CommandRow.{CommandRow}
 
 -- a fold over the first elements of a list, mapped, and one more
@@ -30,6 +30,12 @@ module _ {X Y : Type 0} (f : X → Y) (test : Y → Bool) (xs : List X) (i : ℕ
   pub found-later : i < length xs → found ≡ find test (map f (drop i xs)) → test (f (get_or xs i x)) ≡ false
       → found ≡ find test (map f (drop (i + 1) xs))
   found-later within is fails = here within is ∙ ap (λ b. cond b (Some (f (get_or xs i x))) (find test (map f (drop (i + 1) xs)))) fails
+
+-- an element passes the test, if the element here does
+pub any-here : {X Y : Type 0} (f : X → Y) (test : Y → Bool) (xs : List X) (i : ℕ) (x : X) → i < length xs → test (f (get_or xs i x)) ≡ true
+    → list_any test (map f (drop i xs)) ≡ true
+any-here f test xs i x within passes =
+    ap (λ ys. list_any test (map f ys)) (drop_more xs i x within) ∙ ap (λ b. b || list_any test (map f (drop (i + 1) xs))) passes
 
 -- a command line with the first commands of a table, and one more that was built
 pub command-added : {E : Type 0} (z : App) (program joined built : Result Command E) (rows : List CommandRow) (i : ℕ) (row : CommandRow)

@@ -1,5 +1,5 @@
 -- What a parse of a line says of its words, by any command line of this language.
-use Rattle.std.proofs.Common.{◌≡◌, ◌≢◌, false, refl, inl, inr, List, [], ◌∷◌, Option, Some, None, option_map}
+use Rattle.std.proofs.Common.{◌≡◌, ◌≢◌, ◌∙◌, ap, false, refl, option_and_then, inl, inr, List, [], ◌∷◌, Option, Some, None, option_map}
 use Rattle.std.specs.Prelude.{Box}
 use Rattle.std.specs.Box.{box_value}
 use Rattle.clap.specs.Words.{App, HasKind, IsAmong, Kinds, Row, Text, fault_of, kind_of, subcommand_name_of, subcommand_of, subcommand_rows, subcommand_rows_of}
@@ -9,7 +9,8 @@ use Rattle.clap.specs.declared.error.kind.ErrorKind.TheVariants.{OutOfMemory}
 use Rattle.clap.specs.declared.parser.matches.ArgMatches.{ArgMatches}
 use Rattle.clap.specs.declared.parser.matches.ArgMatches.TheViews.{out-ArgMatches, out-SubCommand}
 use Rattle.clap.specs.declared.parser.matches.SubCommand.{SubCommand}
-use Rattle.tr_command.specs.Language.{entered_by, is_free_of_faults}
+use Rattle.tr_command.specs.Asked.{read_command}
+use Rattle.tr_command.specs.Language.{asked_from, asked_of, entered_by, is_free_of_faults, script_app}
 
 is_free_of_faults-among : (k : ErrorKind) (kinds : Kinds) → IsAmong k kinds → is_free_of_faults kinds ≡ false
 is_free_of_faults-among k [] h = absurd h
@@ -44,3 +45,10 @@ subcommand_rows_of-entered m name rows e f = rows-entered (out-ArgMatches m).sub
 
 pub subcommand_rows_of-none : (m : ArgMatches) → None ≡ subcommand_name_of m → None ≡ subcommand_rows_of m
 subcommand_rows_of-none m e = rows-none (out-ArgMatches m).subcommand e
+
+-- what was entered by the command line of a script's line is what the words ask for
+pub asked_of-entered : (app : App) (words : List Text) (entered : Option (Text × List Row)) → app ≡ script_app
+    → entered ≡ entered_by app words → option_and_then (λ p. read_command p.0 p.1) entered ≡ asked_of words
+unfolding asked_from
+asked_of-entered app words entered shape is =
+    ap (option_and_then (λ (p : Text × List Row). read_command p.0 p.1)) (is ∙ ap (λ (a : App). entered_by a words) shape)

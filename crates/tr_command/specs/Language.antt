@@ -1,8 +1,20 @@
 -- The command language: what the words of a line ask for.
-use Rattle.std.specs.Prelude.{◌≡◌, List, [], ◌∷◌, Bool, true, false, Option, None, option_and_then, if◌then◌else◌}
-use Rattle.clap.specs.Words.{App, Kinds, Row, Text, fault_of, is_simple, is_simple_and_free, subcommand_of}
-use Rattle.tr_command.specs.Asked.{Asked, commands, read_command}
-use Rattle.tr_command.specs.Dispatch.{script_app}
+use Rattle.std.specs.Prelude.{◌≡◌, List, [], ◌∷◌, Bool, true, false, Option, None, codes, fold, option_and_then, if◌then◌else◌}
+use Rattle.clap.specs.Words.{App, Kinds, Row, Text, fault_of, is_simple, is_simple_and_free, new_app, subcommand_of, with_subcommand}
+use Rattle.tr_command.specs.Asked.{Asked, Command, commands, read_command}
+use Rattle.tr_command.specs.CommandLine.{line_app}
+
+-- the command line of a command
+abbrev pub command_app : Command → App
+command_app c = line_app c.name c.rules
+
+-- a command line with one more command
+abbrev pub with_command : App → Command → App
+with_command app c = with_subcommand app (command_app c).top
+
+-- the command line of a script's line, with all commands
+abbrev pub script_app : App
+script_app = fold with_command (new_app (codes "tracerd")) commands
 
 abbrev pub is_free_of_faults : Kinds → Bool
 is_free_of_faults [] = true

@@ -1,8 +1,9 @@
 pub mod Asked
 pub mod CommandLine
-pub mod Dispatch
 pub mod Invocation
 pub mod Language
 pub mod Notices
 pub mod Number
+pub mod Ordinary
+pub mod Progress
 pub mod Reading

@@ -1,25 +1,21 @@
 //! The commands of a script, each a row of one table: its name, its arguments, and how their values are read.
 
 ghost use Rattle.std.specs.Prelude.{◌≡◌, map, option_map};
-ghost use Rattle.clap.specs.Words.{found_of, rows_of};
+ghost use Rattle.tr_command.specs.Ordinary.{rows_in};
 ghost use Rattle.tr_command.specs.Asked.{asked_by, command_in, command_named, commands, read, read_command};
 
 use crate::Request;
 use crate::arguments::Argument::{self, Flag, Named, Placed};
 use crate::values::{
-    has_flag, mode_given, moment_given, number_given, number_if_given, number_u32_given,
+    Values, has_flag, mode_given, moment_given, number_given, number_if_given, number_u32_given,
     number_u32_or_zero, offset_given, text_given, text_or_empty,
 };
-use clap::ArgMatches;
 use tr_terms::limits::MOST_FILL;
 
-/// A command of a script.
+/// A command of a script: its name, its arguments, and what reads their values.
 pub struct CommandRow {
-    /// Its name.
     pub name: &'static str,
-    /// Its arguments.
     pub arguments: &'static [Argument],
-    /// What reads their values.
     pub reader: Reader,
 }
 
@@ -186,46 +182,46 @@ pub fn row_named(name: &str) -> Option<&'static CommandRow>
 }
 
 /// What the command of this name asks for with these values of its arguments.
-pub fn request_of<'a>(name: &str, matches: &ArgMatches<'a>) -> Option<Request<'a>>
-    ensures { option_map asked_by result ≡ read_command name.now (rows_of (found_of matches.now)) }
+pub fn request_of<'a>(name: &str, values: &Values<'_, 'a>) -> Option<Request<'a>>
+    ensures { option_map asked_by result ≡ read_command name.now (rows_in values.now) }
 {
-    read(row_named(name)?.reader, matches)
+    read(row_named(name)?.reader, values)
 }
 
 /// What these values ask for. `None` is a bad line.
-fn read<'a>(reader: Reader, matches: &ArgMatches<'a>) -> Option<Request<'a>>
-    ensures { option_map asked_by result ≡ read reader (rows_of (found_of matches.now)) }
+pub fn read<'a>(reader: Reader, values: &Values<'_, 'a>) -> Option<Request<'a>>
+    ensures { option_map asked_by result ≡ read reader (rows_in values.now) }
 {
     match reader {
-        Reader::Create => create_request(matches),
-        Reader::Channel => channel_request(matches),
-        Reader::Thread => thread_request(matches),
-        Reader::Start => start_request(matches),
-        Reader::Stop => stop_request(matches),
-        Reader::Offer => offer_request(matches),
-        Reader::Consume => consume_request(matches),
-        Reader::Clear => clear_request(matches),
-        Reader::RotateBegin => rotate_begin_request(matches),
-        Reader::RotateNext => rotate_next_request(matches),
-        Reader::RotateFinish => rotate_finish_request(matches),
-        Reader::Rotate => rotate_request(matches),
-        Reader::Snapshot => snapshot_request(matches),
-        Reader::Schedule => schedule_request(matches),
-        Reader::Tick => tick_request(matches),
-        Reader::Fate => fate_request(matches),
-        Reader::Status => status_request(matches),
-        Reader::Archives => archives_request(matches),
-        Reader::Release => release_request(matches),
+        Reader::Create => create_request(values),
+        Reader::Channel => channel_request(values),
+        Reader::Thread => thread_request(values),
+        Reader::Start => start_request(values),
+        Reader::Stop => stop_request(values),
+        Reader::Offer => offer_request(values),
+        Reader::Consume => consume_request(values),
+        Reader::Clear => clear_request(values),
+        Reader::RotateBegin => rotate_begin_request(values),
+        Reader::RotateNext => rotate_next_request(values),
+        Reader::RotateFinish => rotate_finish_request(values),
+        Reader::Rotate => rotate_request(values),
+        Reader::Snapshot => snapshot_request(values),
+        Reader::Schedule => schedule_request(values),
+        Reader::Tick => tick_request(values),
+        Reader::Fate => fate_request(values),
+        Reader::Status => status_request(values),
+        Reader::Archives => archives_request(values),
+        Reader::Release => release_request(values),
     }
 }
 
-fn create_request<'a>(matches: &ArgMatches<'a>) -> Option<Request<'a>>
-    ensures { option_map asked_by result ≡ read Reader.Create (rows_of (found_of matches.now)) }
+fn create_request<'a>(values: &Values<'_, 'a>) -> Option<Request<'a>>
+    ensures { option_map asked_by result ≡ read Reader.Create (rows_in values.now) }
 {
-    let session = text_given(matches, "session")?;
-    let uuid = text_given(matches, "uuid")?;
-    let offset = offset_given(matches)?;
-    let snapshot = has_flag(matches, "snapshot");
+    let session = text_given(values, "session")?;
+    let uuid = text_given(values, "uuid")?;
+    let offset = offset_given(values)?;
+    let snapshot = has_flag(values, "snapshot");
     Some(Request::Create {
         session,
         uuid,
@@ -234,14 +230,14 @@ fn create_request<'a>(matches: &ArgMatches<'a>) -> Option<Request<'a>>
     })
 }
 
-fn channel_request<'a>(matches: &ArgMatches<'a>) -> Option<Request<'a>>
-    ensures { option_map asked_by result ≡ read Reader.Channel (rows_of (found_of matches.now)) }
+fn channel_request<'a>(values: &Values<'_, 'a>) -> Option<Request<'a>>
+    ensures { option_map asked_by result ≡ read Reader.Channel (rows_in values.now) }
 {
-    let session = text_given(matches, "session")?;
-    let channel = text_given(matches, "channel")?;
-    let size = number_u32_given(matches, "size", u32::MAX)?;
-    let count = number_u32_given(matches, "count", u32::MAX)?;
-    let mode = mode_given(matches, "mode")?;
+    let session = text_given(values, "session")?;
+    let channel = text_given(values, "channel")?;
+    let size = number_u32_given(values, "size", u32::MAX)?;
+    let count = number_u32_given(values, "count", u32::MAX)?;
+    let mode = mode_given(values, "mode")?;
     Some(Request::Channel {
         session,
         channel,
@@ -251,38 +247,38 @@ fn channel_request<'a>(matches: &ArgMatches<'a>) -> Option<Request<'a>>
     })
 }
 
-fn thread_request<'a>(matches: &ArgMatches<'a>) -> Option<Request<'a>>
-    ensures { option_map asked_by result ≡ read Reader.Thread (rows_of (found_of matches.now)) }
+fn thread_request<'a>(values: &Values<'_, 'a>) -> Option<Request<'a>>
+    ensures { option_map asked_by result ≡ read Reader.Thread (rows_in values.now) }
 {
-    let session = text_given(matches, "session")?;
-    let channel = text_given(matches, "channel")?;
+    let session = text_given(values, "session")?;
+    let channel = text_given(values, "channel")?;
     Some(Request::Thread { session, channel })
 }
 
-fn start_request<'a>(matches: &ArgMatches<'a>) -> Option<Request<'a>>
-    ensures { option_map asked_by result ≡ read Reader.Start (rows_of (found_of matches.now)) }
+fn start_request<'a>(values: &Values<'_, 'a>) -> Option<Request<'a>>
+    ensures { option_map asked_by result ≡ read Reader.Start (rows_in values.now) }
 {
-    let session = text_given(matches, "session")?;
-    let moment = moment_given(matches, "moment")?;
+    let session = text_given(values, "session")?;
+    let moment = moment_given(values, "moment")?;
     Some(Request::Start { session, moment })
 }
 
-fn stop_request<'a>(matches: &ArgMatches<'a>) -> Option<Request<'a>>
-    ensures { option_map asked_by result ≡ read Reader.Stop (rows_of (found_of matches.now)) }
+fn stop_request<'a>(values: &Values<'_, 'a>) -> Option<Request<'a>>
+    ensures { option_map asked_by result ≡ read Reader.Stop (rows_in values.now) }
 {
-    let session = text_given(matches, "session")?;
+    let session = text_given(values, "session")?;
     Some(Request::Stop { session })
 }
 
-fn offer_request<'a>(matches: &ArgMatches<'a>) -> Option<Request<'a>>
-    ensures { option_map asked_by result ≡ read Reader.Offer (rows_of (found_of matches.now)) }
+fn offer_request<'a>(values: &Values<'_, 'a>) -> Option<Request<'a>>
+    ensures { option_map asked_by result ≡ read Reader.Offer (rows_in values.now) }
 {
-    let session = text_given(matches, "session")?;
-    let stream = number_given(matches, "stream", u64::MAX)?;
-    let moment = moment_given(matches, "moment")?;
-    let id = number_u32_given(matches, "id", u32::MAX)?;
-    let fill = number_u32_or_zero(matches, "fill", MOST_FILL)?;
-    let text = text_or_empty(matches, "text");
+    let session = text_given(values, "session")?;
+    let stream = number_given(values, "stream", u64::MAX)?;
+    let moment = moment_given(values, "moment")?;
+    let id = number_u32_given(values, "id", u32::MAX)?;
+    let fill = number_u32_or_zero(values, "fill", MOST_FILL)?;
+    let text = text_or_empty(values, "text");
     Some(Request::Offer {
         session,
         stream,
@@ -293,65 +289,65 @@ fn offer_request<'a>(matches: &ArgMatches<'a>) -> Option<Request<'a>>
     })
 }
 
-fn consume_request<'a>(matches: &ArgMatches<'a>) -> Option<Request<'a>>
-    ensures { option_map asked_by result ≡ read Reader.Consume (rows_of (found_of matches.now)) }
+fn consume_request<'a>(values: &Values<'_, 'a>) -> Option<Request<'a>>
+    ensures { option_map asked_by result ≡ read Reader.Consume (rows_in values.now) }
 {
-    let session = text_given(matches, "session")?;
-    let stream = number_given(matches, "stream", u64::MAX)?;
+    let session = text_given(values, "session")?;
+    let stream = number_given(values, "stream", u64::MAX)?;
     Some(Request::Consume { session, stream })
 }
 
-fn clear_request<'a>(matches: &ArgMatches<'a>) -> Option<Request<'a>>
-    ensures { option_map asked_by result ≡ read Reader.Clear (rows_of (found_of matches.now)) }
+fn clear_request<'a>(values: &Values<'_, 'a>) -> Option<Request<'a>>
+    ensures { option_map asked_by result ≡ read Reader.Clear (rows_in values.now) }
 {
-    let session = text_given(matches, "session")?;
+    let session = text_given(values, "session")?;
     Some(Request::Clear { session })
 }
 
-fn rotate_begin_request<'a>(matches: &ArgMatches<'a>) -> Option<Request<'a>>
-    ensures { option_map asked_by result ≡ read Reader.RotateBegin (rows_of (found_of matches.now)) }
+fn rotate_begin_request<'a>(values: &Values<'_, 'a>) -> Option<Request<'a>>
+    ensures { option_map asked_by result ≡ read Reader.RotateBegin (rows_in values.now) }
 {
-    let session = text_given(matches, "session")?;
-    let moment = moment_given(matches, "moment")?;
+    let session = text_given(values, "session")?;
+    let moment = moment_given(values, "moment")?;
     Some(Request::RotateBegin { session, moment })
 }
 
-fn rotate_next_request<'a>(matches: &ArgMatches<'a>) -> Option<Request<'a>>
-    ensures { option_map asked_by result ≡ read Reader.RotateNext (rows_of (found_of matches.now)) }
+fn rotate_next_request<'a>(values: &Values<'_, 'a>) -> Option<Request<'a>>
+    ensures { option_map asked_by result ≡ read Reader.RotateNext (rows_in values.now) }
 {
-    let session = text_given(matches, "session")?;
+    let session = text_given(values, "session")?;
     Some(Request::RotateNext { session })
 }
 
-fn rotate_finish_request<'a>(matches: &ArgMatches<'a>) -> Option<Request<'a>>
-    ensures { option_map asked_by result ≡ read Reader.RotateFinish (rows_of (found_of matches.now)) }
+fn rotate_finish_request<'a>(values: &Values<'_, 'a>) -> Option<Request<'a>>
+    ensures { option_map asked_by result ≡ read Reader.RotateFinish (rows_in values.now) }
 {
-    let session = text_given(matches, "session")?;
+    let session = text_given(values, "session")?;
     Some(Request::RotateFinish { session })
 }
 
-fn rotate_request<'a>(matches: &ArgMatches<'a>) -> Option<Request<'a>>
-    ensures { option_map asked_by result ≡ read Reader.Rotate (rows_of (found_of matches.now)) }
+fn rotate_request<'a>(values: &Values<'_, 'a>) -> Option<Request<'a>>
+    ensures { option_map asked_by result ≡ read Reader.Rotate (rows_in values.now) }
 {
-    let session = text_given(matches, "session")?;
-    let moment = moment_given(matches, "moment")?;
+    let session = text_given(values, "session")?;
+    let moment = moment_given(values, "moment")?;
     Some(Request::Rotate { session, moment })
 }
 
-fn snapshot_request<'a>(matches: &ArgMatches<'a>) -> Option<Request<'a>>
-    ensures { option_map asked_by result ≡ read Reader.Snapshot (rows_of (found_of matches.now)) }
+fn snapshot_request<'a>(values: &Values<'_, 'a>) -> Option<Request<'a>>
+    ensures { option_map asked_by result ≡ read Reader.Snapshot (rows_in values.now) }
 {
-    let session = text_given(matches, "session")?;
-    let moment = moment_given(matches, "moment")?;
+    let session = text_given(values, "session")?;
+    let moment = moment_given(values, "moment")?;
     Some(Request::Snapshot { session, moment })
 }
 
-fn fate_request<'a>(matches: &ArgMatches<'a>) -> Option<Request<'a>>
-    ensures { option_map asked_by result ≡ read Reader.Fate (rows_of (found_of matches.now)) }
+fn fate_request<'a>(values: &Values<'_, 'a>) -> Option<Request<'a>>
+    ensures { option_map asked_by result ≡ read Reader.Fate (rows_in values.now) }
 {
-    let session = text_given(matches, "session")?;
-    let stream = number_given(matches, "stream", u64::MAX)?;
-    let serial = number_given(matches, "serial", u64::MAX)?;
+    let session = text_given(values, "session")?;
+    let stream = number_given(values, "stream", u64::MAX)?;
+    let serial = number_given(values, "serial", u64::MAX)?;
     Some(Request::Fate {
         session,
         stream,
@@ -359,12 +355,12 @@ fn fate_request<'a>(matches: &ArgMatches<'a>) -> Option<Request<'a>>
     })
 }
 
-fn schedule_request<'a>(matches: &ArgMatches<'a>) -> Option<Request<'a>>
-    ensures { option_map asked_by result ≡ read Reader.Schedule (rows_of (found_of matches.now)) }
+fn schedule_request<'a>(values: &Values<'_, 'a>) -> Option<Request<'a>>
+    ensures { option_map asked_by result ≡ read Reader.Schedule (rows_in values.now) }
 {
-    let session = text_given(matches, "session")?;
-    let every = number_if_given(matches, "every", u64::MAX)?;
-    let size = number_if_given(matches, "size", u64::MAX)?;
+    let session = text_given(values, "session")?;
+    let every = number_if_given(values, "every", u64::MAX)?;
+    let size = number_if_given(values, "size", u64::MAX)?;
     Some(Request::Schedule {
         session,
         every,
@@ -372,32 +368,32 @@ fn schedule_request<'a>(matches: &ArgMatches<'a>) -> Option<Request<'a>>
     })
 }
 
-fn tick_request<'a>(matches: &ArgMatches<'a>) -> Option<Request<'a>>
-    ensures { option_map asked_by result ≡ read Reader.Tick (rows_of (found_of matches.now)) }
+fn tick_request<'a>(values: &Values<'_, 'a>) -> Option<Request<'a>>
+    ensures { option_map asked_by result ≡ read Reader.Tick (rows_in values.now) }
 {
-    let session = text_given(matches, "session")?;
-    let moment = moment_given(matches, "moment")?;
+    let session = text_given(values, "session")?;
+    let moment = moment_given(values, "moment")?;
     Some(Request::Tick { session, moment })
 }
 
-fn status_request<'a>(matches: &ArgMatches<'a>) -> Option<Request<'a>>
-    ensures { option_map asked_by result ≡ read Reader.Status (rows_of (found_of matches.now)) }
+fn status_request<'a>(values: &Values<'_, 'a>) -> Option<Request<'a>>
+    ensures { option_map asked_by result ≡ read Reader.Status (rows_in values.now) }
 {
-    let session = text_given(matches, "session")?;
+    let session = text_given(values, "session")?;
     Some(Request::Status { session })
 }
 
-fn archives_request<'a>(matches: &ArgMatches<'a>) -> Option<Request<'a>>
-    ensures { option_map asked_by result ≡ read Reader.Archives (rows_of (found_of matches.now)) }
+fn archives_request<'a>(values: &Values<'_, 'a>) -> Option<Request<'a>>
+    ensures { option_map asked_by result ≡ read Reader.Archives (rows_in values.now) }
 {
-    let session = text_given(matches, "session")?;
+    let session = text_given(values, "session")?;
     Some(Request::Archives { session })
 }
 
-fn release_request<'a>(matches: &ArgMatches<'a>) -> Option<Request<'a>>
-    ensures { option_map asked_by result ≡ read Reader.Release (rows_of (found_of matches.now)) }
+fn release_request<'a>(values: &Values<'_, 'a>) -> Option<Request<'a>>
+    ensures { option_map asked_by result ≡ read Reader.Release (rows_in values.now) }
 {
-    let session = text_given(matches, "session")?;
-    let archive = number_given(matches, "archive", u64::MAX)?;
+    let session = text_given(values, "session")?;
+    let archive = number_given(values, "archive", u64::MAX)?;
     Some(Request::Release { session, archive })
 }

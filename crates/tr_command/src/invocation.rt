@@ -2,14 +2,15 @@
 
 ghost use Rattle.std.specs.Prelude.{◌≡◌, ◌≤◌, ◌∷◌, IfOk, IfSome, codes, false, map, option_map, string_bytes};
 ghost use Rattle.std.specs.Vec.Iter.{into_iter_items};
-ghost use Rattle.clap.specs.Words.{app_of, first_of, found_of, rows_of};
+ghost use Rattle.clap.specs.Words.{app_of, first_of};
+ghost use Rattle.tr_command.specs.Ordinary.{rows_in};
 ghost use Rattle.tr_command.specs.Invocation.{IsWithinLimits, audit_given, count_given, folder_given, folder_named, job_named, job_of, load_given, program_app, script_given, task_of, words_of};
 
 use crate::arguments::Argument::{self, Flag, Named, Placed};
 use crate::command_lines::{command_of, joined};
 use crate::parsing::matches_of;
-use crate::values::{has_flag, number_given, text_given};
-use clap::{ArgMatches, Command};
+use crate::values::{Values, has_flag, number_given, text_given};
+use clap::Command;
 use std::alloc::{AllocError, Global};
 use std::env::Args;
 use tr_terms::limits::{MOST_FEEDERS, MOST_RECORDS, MOST_WORKERS};
@@ -124,43 +125,43 @@ pub fn job_of<'a>(alloc: Global, words: &'a [&'a str]) -> Result<Option<Job<'a>>
         return Ok(None);
     };
     match matches.subcommand() {
-        Some((name, inner)) => Ok(job_named(name, inner)),
+        Some((name, inner)) => Ok(job_named(name, &Values::Matches(inner))),
         None => Ok(None),
     }
 }
 
 /// What the command of this name asks for, if there is one.
-fn job_named<'a>(name: &str, matches: &ArgMatches<'a>) -> Option<Job<'a>>
-    ensures value { option_map task_of result ≡ job_named name.now (rows_of (found_of matches.now)) }
+fn job_named<'a>(name: &str, values: &Values<'_, 'a>) -> Option<Job<'a>>
+    ensures value { option_map task_of result ≡ job_named name.now (rows_in values.now) }
     ensures within { IfSome result IsWithinLimits }
 {
     match name {
-        "script" => script_given(matches),
-        "load" => load_given(matches),
-        "audit" => audit_given(matches),
+        "script" => script_given(values),
+        "load" => load_given(values),
+        "audit" => audit_given(values),
         _ => None,
     }
 }
 
 /// A run of a script, with its archives below a folder, if one is named.
-fn script_given<'a>(matches: &ArgMatches<'a>) -> Option<Job<'a>>
-    ensures value { option_map task_of result ≡ script_given (rows_of (found_of matches.now)) }
+fn script_given<'a>(values: &Values<'_, 'a>) -> Option<Job<'a>>
+    ensures value { option_map task_of result ≡ script_given (rows_in values.now) }
     ensures within { IfSome result IsWithinLimits }
 {
-    let out = folder_given(matches, "out")?;
+    let out = folder_given(values, "out")?;
     Some(Job::Script { out })
 }
 
 /// A load of these numbers, watched if that is asked for, with its archives below a folder, if one is named.
-fn load_given<'a>(matches: &ArgMatches<'a>) -> Option<Job<'a>>
-    ensures value { option_map task_of result ≡ load_given (rows_of (found_of matches.now)) }
+fn load_given<'a>(values: &Values<'_, 'a>) -> Option<Job<'a>>
+    ensures value { option_map task_of result ≡ load_given (rows_in values.now) }
     ensures within { IfSome result IsWithinLimits }
 {
-    let threads = count_given(matches, "threads", 1, MOST_FEEDERS as u64)?;
-    let records = count_given(matches, "records", 0, MOST_RECORDS)?;
-    let workers = count_given(matches, "workers", 1, MOST_WORKERS as u64)?;
-    let watch = has_flag(matches, "watch");
-    let out = folder_given(matches, "out")?;
+    let threads = count_given(values, "threads", 1, MOST_FEEDERS as u64)?;
+    let records = count_given(values, "records", 0, MOST_RECORDS)?;
+    let workers = count_given(values, "workers", 1, MOST_WORKERS as u64)?;
+    let watch = has_flag(values, "watch");
+    let out = folder_given(values, "out")?;
     Some(Job::Load {
         threads,
         records,
@@ -171,31 +172,31 @@ fn load_given<'a>(matches: &ArgMatches<'a>) -> Option<Job<'a>>
 }
 
 /// An audit of a folder, archive by archive if that is asked for. None if the folder's name is empty.
-fn audit_given<'a>(matches: &ArgMatches<'a>) -> Option<Job<'a>>
-    ensures value { option_map task_of result ≡ audit_given (rows_of (found_of matches.now)) }
+fn audit_given<'a>(values: &Values<'_, 'a>) -> Option<Job<'a>>
+    ensures value { option_map task_of result ≡ audit_given (rows_in values.now) }
     ensures within { IfSome result IsWithinLimits }
 {
-    let dir = folder_given(matches, "dir")??;
-    let archives = has_flag(matches, "archives");
+    let dir = folder_given(values, "dir")??;
+    let archives = has_flag(values, "archives");
     Some(Job::Audit { dir, archives })
 }
 
 /// The number of an option, if one is given and lies within these limits.
-fn count_given(matches: &ArgMatches<'_>, id: &str, least: u64, most: u64) -> Option<u64>
-    ensures value { result ≡ count_given id.now least most (rows_of (found_of matches.now)) }
+fn count_given(values: &Values<'_, '_>, id: &str, least: u64, most: u64) -> Option<u64>
+    ensures value { result ≡ count_given id.now least most (rows_in values.now) }
     ensures within { IfSome result (λ n. (least ≤ n) × (n ≤ most)) }
 {
-    match number_given(matches, id, most) {
+    match number_given(values, id, most) {
         Some(n) if n >= least => Some(n),
         _ => None,
     }
 }
 
 /// The folder that is named, if one is; none if its name is empty.
-fn folder_given<'a>(matches: &ArgMatches<'a>, id: &str) -> Option<Option<&'a str>>
-    ensures { option_map folder_named result ≡ folder_given (first_of id.now (rows_of (found_of matches.now))) }
+fn folder_given<'a>(values: &Values<'_, 'a>, id: &str) -> Option<Option<&'a str>>
+    ensures { option_map folder_named result ≡ folder_given (first_of id.now (rows_in values.now)) }
 {
-    match text_given(matches, id) {
+    match text_given(values, id) {
         Some("") => None,
         dir => Some(dir),
     }

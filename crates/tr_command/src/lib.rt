@@ -7,12 +7,13 @@
 //! # Example
 //!
 //! ```
-//! let request = parse(alloc, &["offer", "s", "0", "1", "7", "--fill", "50"])?;  // None for a bad line
+//! let request = parse(alloc, &["tracerd", "offer", "s", "0", "1", "7", "--fill", "50"])?;  // None for a bad line
 //! ```
 //!
 //! # What is proved
 //!
-//! - What the words of a line ask for is decided by clap's own definition.
+//! - What the words of a line ask for is decided by clap's own definition, also of an ordinary line, which is read without
+//!   clap.
 //! - So is what the program's words ask for, by clap's definition of `script [--out DIR]`, `load --threads T --records R
 //!   --workers W [--out DIR] [--watch]` and `audit [--archives] DIR`. The numbers of a load are within its limits.
 //! - What a terminal shows before a long load is its definition's text.
@@ -23,16 +24,17 @@
 mod arguments;
 mod command_lines;
 mod commands;
-mod dispatch;
 mod invocation;
 mod notice;
 mod numbers;
+mod ordinary;
 mod parsing;
 mod requests;
+mod uses;
 mod values;
 
 pub use invocation::{Job, collected, job_of, with_program, words_after};
 pub use notice::notice_given;
 pub use numbers::number;
-pub use parsing::parse;
+pub use parsing::{parse, parse_by_clap};
 pub use requests::Request;

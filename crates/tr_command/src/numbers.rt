@@ -1,14 +1,16 @@
 //! Numbers as a script writes them.
 
 ghost use Rattle.std.specs.Prelude.{◌≡◌, ◌≤◌, IfSome};
-ghost use Rattle.std.specs.List.{list_all};
-ghost use Rattle.tr_command.specs.Number.{is_digit, number_of};
+ghost use Rattle.tr_command.specs.Number.{begins_with_plus, number_of};
 
-/// Whether the text has only digits.
-fn has_only_digits(text: &str) -> bool
-    ensures { result ≡ list_all is_digit text.now }
+/// Whether the text begins with a plus.
+fn begins_with_plus(text: &str) -> bool
+    ensures { result ≡ begins_with_plus text.now }
 {
-    text.bytes().all(|b| b.is_ascii_digit())
+    match text.as_bytes() {
+        [first, ..] => *first == b'+',
+        [] => false,
+    }
 }
 
 /// The number that the text writes in one or more digits `0` to `9` alone, if it is at most `most`.
@@ -17,7 +19,8 @@ pub fn number(text: &str, most: u64) -> Option<u64>
     ensures value { result ≡ number_of most text.now }
     ensures within { IfSome result (λ n. n ≤ most) }
 {
-    if !has_only_digits(text) {
+    // std reads one plus before the digits, and no other sign
+    if begins_with_plus(text) {
         return None;
     }
     match text.parse::<u64>() {

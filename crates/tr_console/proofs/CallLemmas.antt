@@ -1,11 +1,10 @@
 -- What a command answers and leaves, by the session of its name.
 use Rattle.std.proofs.Common.{◌≡◌, ◌≢◌, ◌∙◌, ◌⊎◌, Bool, true, false, [], ◌∷◌, ◌++◌, Some, None, Result, Ok, Err, IfOk, OnOk, OnErr, inl, inr, is_err, refl, ap, subst}
 use Rattle.std.specs.Prelude.{IfErr}
-use Rattle.std.specs.String.{string_bytes}
 use Rattle.std.specs.declared.alloc.AllocError.{AllocError}
 use Rattle.tr_console.proofs.SessionLemmas.{same-session}
 use Rattle.tr_console.specs.LineFaults.{HasMemory, from_session, from_step, wants_memory}
-use Rattle.tr_console.specs.Replies.{Does}
+use Rattle.tr_console.specs.Replies.{Does, said, text_or_refusal}
 use Rattle.tr_console.specs.Steps.{Step, addition_step, call_step, line_of, question_step, refusal_step, refusal_text, session_step}
 use Rattle.tr_console.specs.Text.{Text}
 use Rattle.tr_console.specs.World.{World, session_named, with_session}
@@ -36,14 +35,14 @@ module _ {S A : Type 0} where
   -- a refusal is what the step says
   pub refuses : (r : Result (Reply A) AllocError) (w after : World S) (why : LineFault) (step : Step S)
       → (wants_memory why ≡ false → step ≡ refusal_step w why) → after ≡ w
-      → IfOk r (λ x. string_bytes x.text ≡ refusal_text why ++ 10 ∷ []) → IfOk r (λ x. x.is_refused ≡ true)
+      → IfOk r (λ x. said x ≡ refusal_text why ++ 10 ∷ []) → IfOk r (λ x. x.is_refused ≡ true)
       → OnOk r (wants_memory why ≡ false) → IfOk r (Does step after)
   refuses (Ok x) w after why step is same text flag kept = rw (is kept) (text, flag, same)
   refuses (Err e) w after why step is same text flag kept = tt
 
   -- there is no session of the name
   pub not_found : (r : Result (Reply A) AllocError) (w : World S) (name : Text) (f : SessionOf S → Step S)
-      → session_named name w ≡ None → IfOk r (λ x. string_bytes x.text ≡ refusal_text fault.NoSession ++ 10 ∷ [])
+      → session_named name w ≡ None → IfOk r (λ x. said x ≡ refusal_text fault.NoSession ++ 10 ∷ [])
       → IfOk r (λ x. x.is_refused ≡ true) → IfOk r (Does (session_step w name f) w)
   not_found (Ok x) w name f none text flag = rw none (text, flag, refl)
   not_found (Err e) w name f none text flag = tt
@@ -52,7 +51,7 @@ module _ {S A : Type 0} where
   pub called : {R : Type 0} (reply : Result (Reply A) AllocError) (w : World S) (name : Text) (words : R → Text)
       (answer : SessionOf S → Result R LineFault) (next : SessionOf S → SessionOf S) (s t : SessionOf S) (r : Result R LineFault)
       → session_named name w ≡ Some s → (HasMemory r → (r ≡ answer s) × (t ≡ next s))
-      → IfOk reply (λ x. string_bytes x.text ≡ line_of words r ++ 10 ∷ []) → IfOk reply (λ x. x.is_refused ≡ is_err r) → OnOk reply (HasMemory r)
+      → IfOk reply (λ x. said x ≡ line_of words r ++ 10 ∷ []) → IfOk reply (λ x. x.is_refused ≡ is_err r) → OnOk reply (HasMemory r)
       → IfOk reply (Does (session_step w name (λ u. call_step w name words (answer u) (next u))) (with_session name w t))
   called (Ok x) w name words answer next s t r found told text flag kept =
       let both = told kept in
@@ -67,7 +66,7 @@ module _ {S A : Type 0} where
   pub asked : {R : Type 0} (reply : Result (Reply A) AllocError) (w : World S) (name : Text) (words : R → Text)
       (answer : SessionOf S → Result R LineFault) (s : SessionOf S) (r : Result R LineFault)
       → session_named name w ≡ Some s → r ≡ answer s
-      → IfOk reply (λ x. string_bytes x.text ≡ line_of words r ++ 10 ∷ []) → IfOk reply (λ x. x.is_refused ≡ is_err r)
+      → IfOk reply (λ x. said x ≡ line_of words r ++ 10 ∷ []) → IfOk reply (λ x. x.is_refused ≡ is_err r)
       → IfOk reply (Does (session_step w name (λ u. question_step w words (answer u))) w)
   asked (Ok x) w name words answer s r found told text flag =
       rw found (
@@ -140,12 +139,19 @@ kept-in_step : {R : Type 0} (q : Result R StepFault) (why : StepFault) → step_
 kept-in_step (Ok x) why wants kept e = cc
 kept-in_step (Err f) why wants kept e = let g : f ≡ why = cc in step_kept f why wants kept g
 
+-- a constant text is words and a newline
+pub done_text : {A R : Type 0} → (reply : Result (Reply A) AllocError) (text words : Text) (r : Result R LineFault) → text ≡ words ++ 10 ∷ []
+    → IfOk reply (λ x. said x ≡ text_or_refusal text r) → IfOk reply (λ x. said x ≡ line_of (λ done. words) r ++ 10 ∷ [])
+done_text (Ok x) text words (Ok done) is says = says ∙ is
+done_text (Ok x) text words (Err fault) is says = says
+done_text (Err e) text words r is says = tt
+
 -- ---- a call that a session or a step answers, if no allocation failed
 
 module _ {S R : Type 0} (w : World S) (name : Text) (words : R → Text) (next : SessionOf S → SessionOf S) (s t : SessionOf S)
     (found : session_named name w ≡ Some s) where
   module _ {A : Type 0} (reply : Result (Reply A) AllocError) (r : Result R LineFault)
-      (text : IfOk reply (λ x. string_bytes x.text ≡ line_of words r ++ 10 ∷ [])) (flag : IfOk reply (λ x. x.is_refused ≡ is_err r))
+      (text : IfOk reply (λ x. said x ≡ line_of words r ++ 10 ∷ [])) (flag : IfOk reply (λ x. x.is_refused ≡ is_err r))
       (kept : OnOk reply (HasMemory r)) where
     pub called_session : (answer : SessionOf S → Result R SessionFault) (q : Result R SessionFault) → r ≡ from_session q
         → (q ≢ Err session.NoMemory → (q ≡ answer s) × (t ≡ next s))

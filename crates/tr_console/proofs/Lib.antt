@@ -5,6 +5,7 @@ pub mod ColumnLemmas
 pub mod CreateLemmas
 pub mod DropLemmas
 pub mod FaultLemmas
+pub mod GatheringLemmas
 pub mod LineSteps
 pub mod PacketLemmas
 pub mod RotateLemmas

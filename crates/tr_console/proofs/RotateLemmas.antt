@@ -1,11 +1,10 @@
 -- What rotations answer and leave, by the session of a name.
 use Rattle.std.proofs.Common.{◌≡◌, ◌≢◌, ◌∙◌, ◌∷◌, ◌++◌, ◌⊎◌, [], Some, Result, Ok, Err, IfOk, OnOk, inl, inr, is_err, ap₂, subst}
 use Rattle.std.specs.Prelude.{ℤ}
-use Rattle.std.specs.String.{string_bytes}
 use Rattle.std.specs.declared.alloc.AllocError.{AllocError}
 use Rattle.tr_console.proofs.CallLemmas.{called, left, memory_or_not, session_kept}
 use Rattle.tr_console.specs.LineFaults.{HasMemory}
-use Rattle.tr_console.specs.Replies.{Does}
+use Rattle.tr_console.specs.Replies.{Does, said}
 use Rattle.tr_console.specs.Steps.{call_step, line_of, session_step}
 use Rattle.tr_console.specs.Text.{Text}
 use Rattle.tr_console.specs.World.{World, session_named, with_session}
@@ -29,7 +28,7 @@ module _ {S : Type 0} (w : World S) (name : Text) (next : SessionOf S → Sessio
   -- a rotation of the session of the name was answered
   pub called_archive : {A : Type 0} (reply : Result (Reply A) AllocError) (r : Result NamedArchive LineFault) (offset : ℤ)
       → r ≡ archive_named offset q → offset ≡ s.book.offset
-      → IfOk reply (λ x. string_bytes x.text ≡ line_of archived_text r ++ 10 ∷ []) → IfOk reply (λ x. x.is_refused ≡ is_err r)
+      → IfOk reply (λ x. said x ≡ line_of archived_text r ++ 10 ∷ []) → IfOk reply (λ x. x.is_refused ≡ is_err r)
       → OnOk reply (HasMemory r)
       → IfOk reply (Does (session_step w name (λ u. call_step w name archived_text (archive_named u.book.offset (answer u)) (next u)))
       (with_session name w t))

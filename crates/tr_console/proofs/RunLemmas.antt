@@ -7,6 +7,7 @@ use Rattle.tr_console.proofs.LineSteps.{answers-append, answers-last, answers-pu
 use Rattle.tr_console.proofs.ScriptAgreement.{agree-after, line-agree}
 use Rattle.tr_console.proofs.WorldAgreement.{StepsAgree}
 use Rattle.tr_console.specs.Agreement.{WorldsAgree}
+use Rattle.tr_console.specs.Gathering.{Gathers, WentInPart}
 use Rattle.tr_console.specs.Runs.{AnsweredSome, BrokeOff, Ran, WentTooFar, WroteSome, text_answered, world_left}
 use Rattle.tr_console.specs.Script.{answers, line_step, refused_in, script_text, text_step, world_after}
 use Rattle.tr_console.specs.Steps.{Step}
@@ -24,31 +25,76 @@ use Rattle.tr_terms.specs.declared.limits.TheConstants.{LONGEST_PIECE, LONGEST_S
 
 -- ---- where a run is between two lines
 
-pub record Going (given now taken wrote_now : Option (List ℕ)) (reader : Reading) (world : World StreamState) (refused : ℕ) : Type 0 where
+-- `out` of the answer went out, and the rest is gathered
+pub record Going (given now taken wrote_now : Option (List ℕ)) (gathered : Text) (reader : Reading) (world : World StreamState)
+    (refused : ℕ) : Type 0 where
   pub seen : List (List ℕ)
   pub are_lines : AreLines seen
   pub read : now ≡ and_then_bytes given (joined seen ++ reader.held)
   pub total : reader.total ≡ length (joined seen ++ reader.held)
-  pub wrote : wrote_now ≡ and_then_bytes taken (text_answered seen)
+  pub most : reader.total ≤ LONGEST_SCRIPT
+  pub out : Text
+  pub went : wrote_now ≡ and_then_bytes taken out
+  pub answered : out ++ gathered ≡ text_answered seen
   pub left : world ≡ world_after by_state [] seen
   pub refusals : refused ≡ refused_in by_history [] seen
   pub fits : refused + budget reader ≤ LONGEST_SCRIPT
 
-pub Going-first : (given taken : Option (List ℕ)) (reader : Reading) (world : World StreamState) → reader.held ≡ [] → reader.total ≡ 0 → world ≡ []
-    → Going given given taken taken reader world 0
-Going-first given taken reader world empty total none = record {
+pub Going-first : (given taken : Option (List ℕ)) (gathered : Text) (reader : Reading) (world : World StreamState) → gathered ≡ []
+    → reader.held ≡ [] → reader.total ≡ 0 → world ≡ [] → Going given given taken taken gathered reader world 0
+Going-first given taken gathered reader world nothing empty total none = record {
   seen = [];
   are_lines = tt;
   read = sym (ap (and_then_bytes given) empty ∙ and_then_bytes-none given);
   total = total ∙ sym (ap length empty);
-  wrote = sym (and_then_bytes-none taken);
+  most = omega (arith, total);
+  out = [];
+  went = sym (and_then_bytes-none taken);
+  answered = nothing;
   left = none;
   refusals = refl;
   fits = omega (arith, total, ap length empty);
 }
 
-module _ (given now taken wrote_now : Option (List ℕ)) (reader : Reading) (world : World StreamState) (refused : ℕ)
-    (g : Going given now taken wrote_now reader world refused) where
+-- a prefix of what is left of an answer, after what went out of it
+in_part : (out left all more : Text) (k : ℕ) → out ++ left ≡ all → k ≤ length left → take (length out + k) (all ++ more) ≡ out ++ take k left
+in_part out left all more k is short =
+    ap (λ (t : Text). take (length out + k) (t ++ more)) (sym is)
+    ∙ take-append-le (length out + k) (out ++ left) more (omega (arith, short, length-append out left))
+    ∙ take-append-add out left k
+
+module _ (given now taken wrote_now : Option (List ℕ)) (gathered : Text) (reader : Reading) (world : World StreamState) (refused : ℕ)
+    (g : Going given now taken wrote_now gathered reader world refused) where
+  -- more was gathered, and some of it all went out
+  module _ (wrote' : Option (List ℕ)) (more gathered' : Text) (h : Gathers wrote_now wrote' gathered more gathered') where
+    went_on : wrote' ≡ and_then_bytes taken (g.out ++ h.out)
+    went_on = h.went ∙ ap (λ k. and_then_bytes k h.out) g.went ∙ and_then_bytes-append taken g.out h.out
+
+    still_all : (g.out ++ h.out) ++ gathered' ≡ g.out ++ (gathered ++ more)
+    still_all = append_assoc g.out h.out gathered' ∙ ap (λ t. g.out ++ t) (sym h.rest)
+
+  -- some of what is gathered went out
+  pub Going-gathers : (wrote' : Option (List ℕ)) (gathered' : Text) → Gathers wrote_now wrote' gathered [] gathered'
+      → Going given now taken wrote' gathered' reader world refused
+  Going-gathers wrote' gathered' h = record {
+    seen = g.seen;
+    are_lines = g.are_lines;
+    read = g.read;
+    total = g.total;
+    most = g.most;
+    out = g.out ++ h.out;
+    went = went_on wrote' [] gathered' h;
+    answered = still_all wrote' [] gathered' h ∙ ap (λ t. g.out ++ t) (append-nil gathered) ∙ g.answered;
+    left = g.left;
+    refusals = g.refusals;
+    fits = g.fits;
+  }
+
+  -- all that is gathered went out
+  all_out : (wrote' : Option (List ℕ)) → wrote' ≡ and_then_bytes wrote_now gathered → wrote' ≡ and_then_bytes taken (text_answered g.seen)
+  all_out wrote' is =
+      is ∙ ap (λ k. and_then_bytes k gathered) g.went ∙ and_then_bytes-append taken g.out gathered ∙ ap (and_then_bytes taken) g.answered
+
   -- what came so far, and then more
   more_read : (after : Option (List ℕ)) (more bytes : List ℕ) → after ≡ and_then_bytes now more
       → reader.held ++ more ≡ bytes → after ≡ and_then_bytes given (joined g.seen ++ bytes)
@@ -96,15 +142,23 @@ module _ (given now taken wrote_now : Option (List ℕ)) (reader : Reading) (wor
       → (text_step by_state world text).text ≡ (line_step by_history (world_after by_history [] g.seen) raw).text
   same_text raw text is = ap (λ (s : Step StreamState). s.text) (by_states raw text is) ∙ (agrees raw).text
 
-  module _ (after wrote' : Option (List ℕ)) (reader' : Reading) (world' : World StreamState) (refused' : ℕ)
+  -- what went out, what is gathered, and the next answer
+  with_next : (raw : List ℕ) (text : Option (List ℕ)) → text ≡ text_of_line raw
+      → g.out ++ (gathered ++ (text_step by_state world text).text) ≡ text_answered (g.seen ++ raw ∷ [])
+  with_next raw text is =
+      sym (append_assoc g.out gathered (text_step by_state world text).text) ∙ ap₂ (λ t u. t ++ u) g.answered (same_text raw text is)
+      ∙ sym (answers-push by_history [] g.seen raw)
+
+  module _ (after wrote' : Option (List ℕ)) (gathered' : Text) (reader' : Reading) (world' : World StreamState) (refused' : ℕ)
       (text : Option (List ℕ)) (says : text ≡ reader'.line)
-      (wrote : wrote' ≡ and_then_bytes wrote_now (text_step by_state world text).text) (left : world' ≡ (text_step by_state world text).world)
+      (h : Gathers wrote_now wrote' gathered (text_step by_state world text).text gathered')
+      (left : world' ≡ (text_step by_state world text).world)
       (refusals : refused' ≡ refused + one_if (text_step by_state world text).is_refused) where
-    wrote_more : (raw : List ℕ) → reader'.line ≡ text_of_line raw → wrote' ≡ and_then_bytes taken (text_answered (g.seen ++ raw ∷ []))
-    wrote_more raw is =
-        wrote ∙ ap₂ and_then_bytes g.wrote (same_text raw text (says ∙ is))
-        ∙ and_then_bytes-append taken (text_answered g.seen) (line_step by_history (world_after by_history [] g.seen) raw).text
-        ∙ ap (and_then_bytes taken) (sym (answers-push by_history [] g.seen raw))
+    went_more : wrote' ≡ and_then_bytes taken (g.out ++ h.out)
+    went_more = went_on wrote' (text_step by_state world text).text gathered' h
+
+    answered_more : (raw : List ℕ) → reader'.line ≡ text_of_line raw → (g.out ++ h.out) ++ gathered' ≡ text_answered (g.seen ++ raw ∷ [])
+    answered_more raw is = still_all wrote' (text_step by_state world text).text gathered' h ∙ with_next raw text (says ∙ is)
 
     refused_more : (raw : List ℕ) → reader'.line ≡ text_of_line raw → refused' ≡ refused_in by_history [] (g.seen ++ raw ∷ [])
     refused_more raw is =
@@ -126,8 +180,9 @@ module _ (given now taken wrote_now : Option (List ℕ)) (reader : Reading) (wor
         (subst (WorldsAgree (world_after by_state [] (g.seen ++ raw ∷ []))) seen (agree-after (g.seen ++ raw ∷ []) [] [] tt))
 
     -- a line was answered
-    pub Going-line : ReadsLine now after reader reader' → budget reader' < budget reader → Going given after taken wrote' reader' world' refused'
-    Going-line r less = record {
+    pub Going-line : ReadsLine now after reader reader' → budget reader' < budget reader → reader'.total ≤ LONGEST_SCRIPT
+        → Going given after taken wrote' gathered' reader' world' refused'
+    Going-line r less most = record {
       seen = g.seen ++ r.raw ∷ [];
       are_lines = AreLines-push g.seen r.raw g.are_lines r.no_feed;
       read = more_read after r.more _ r.came r.bytes ∙ ap (and_then_bytes given) (joined-line r.raw reader'.held);
@@ -141,23 +196,27 @@ module _ (given now taken wrote_now : Option (List ℕ)) (reader : Reading) (wor
         ap length (joined-line r.raw reader'.held),
         length-append (joined g.seen) (r.raw ++ 10 ∷ reader'.held),
       );
-      wrote = wrote_more r.raw r.text;
+      most = most;
+      out = g.out ++ h.out;
+      went = went_more;
+      answered = answered_more r.raw r.text;
       left = left_more r.raw r.text;
       refusals = refused_more r.raw r.text;
       fits = omega (arith, less, refusals, g.fits, one_if-le (text_step by_state world text).is_refused);
     }
 
-    -- the last line was answered
-    pub Going-last : ReadsOn now after reader reader' → reader'.held ≡ [] → reader'.total ≤ LONGEST_SCRIPT
-        → Ran given after taken wrote' world' refused'
-    Going-last r none most =
+    -- the last line was answered, and all went out
+    pub Going-last : (wrote'' : Option (List ℕ)) → wrote'' ≡ and_then_bytes wrote' gathered' → ReadsOn now after reader reader'
+        → reader'.held ≡ [] → reader'.total ≤ LONGEST_SCRIPT → Ran given after taken wrote'' world' refused'
+    Going-last wrote'' all_went r none most =
         let lines = lines_of-joined g.seen r.raw g.are_lines ∙ ap (λ ls. g.seen ++ ls) (lines_of-last r.raw r.no_feed) in
         let all : reader.held ++ r.more ≡ r.raw = r.bytes ∙ ap (λ bs. r.raw ++ bs) none ∙ append-nil r.raw in
         record {
           script = joined g.seen ++ r.raw;
           fits = within_limit reader' r.more r.raw all r.total most;
           read = more_read after r.more _ r.came all;
-          wrote = wrote_more r.raw r.text ∙ ap (and_then_bytes taken) (answers-append by_history [] g.seen (r.raw ∷ [])
+          wrote = all_went ∙ ap (λ k. and_then_bytes k gathered') went_more ∙ and_then_bytes-append taken (g.out ++ h.out) gathered'
+              ∙ ap (and_then_bytes taken) (answered_more r.raw r.text ∙ answers-append by_history [] g.seen (r.raw ∷ [])
               ∙ ap (λ t. text_answered g.seen ++ t) (answers-last by_history (world_after by_history [] g.seen) r.raw)
               ∙ sym (answers-append by_history [] g.seen (with_last r.raw)) ∙ ap text_answered (sym lines));
           refusals = refused_more r.raw r.text ∙ refused_in-append by_history [] g.seen (r.raw ∷ [])
@@ -173,20 +232,21 @@ module _ (given now taken wrote_now : Option (List ℕ)) (reader : Reading) (wor
   whole_so_far raw none = whole_seen raw ∙ ap (λ ls. g.seen ++ ls) (whole_lines_of-last raw none) ∙ append-nil g.seen
 
   -- the source failed: the line that broke off isn't answered
-  pub Going-breaks : (after : Option (List ℕ)) (reader' : Reading) → reader'.total ≤ LONGEST_SCRIPT
-      → ReadsAll now after reader reader' → BrokeOff given after taken wrote_now
-  Going-breaks after reader' most r =
+  pub Going-breaks : (after wrote' : Option (List ℕ)) (reader' : Reading) → wrote' ≡ and_then_bytes wrote_now gathered
+      → reader'.total ≤ LONGEST_SCRIPT → ReadsAll now after reader reader' → BrokeOff given after taken wrote'
+  Going-breaks after wrote' reader' all_went most r =
       let all : reader.held ++ r.on.more ≡ r.on.raw = r.on.bytes ∙ ap (λ bs. r.on.raw ++ bs) r.nothing_held ∙ append-nil r.on.raw in
       record {
         script = joined g.seen ++ r.on.raw;
         fits = within_limit reader' r.on.more r.on.raw all r.on.total most;
         read = more_read after r.on.more _ r.on.came all;
-        wrote = g.wrote ∙ ap (λ ls. and_then_bytes taken (text_answered ls)) (sym (whole_so_far r.on.raw r.on.no_feed));
+        wrote = all_out wrote' all_went ∙ ap (λ ls. and_then_bytes taken (text_answered ls)) (sym (whole_so_far r.on.raw r.on.no_feed));
       }
 
   -- the script is too long
-  pub Going-too_far : (after : Option (List ℕ)) (reader' : Reading) → GoesTooFar now after reader reader' → WentTooFar given after taken wrote_now
-  Going-too_far after reader' r =
+  pub Going-too_far : (after wrote' : Option (List ℕ)) (reader' : Reading) → wrote' ≡ and_then_bytes wrote_now gathered
+      → GoesTooFar now after reader reader' → WentTooFar given after taken wrote'
+  Going-too_far after wrote' reader' all_went r =
       let on = r.all.on in
       let came : r.within ≡ and_then_bytes given (joined g.seen ++ on.raw) =
       more_read r.within on.more _ on.came (on.bytes ∙ ap (λ bs. on.raw ++ bs) r.all.nothing_held ∙ append-nil on.raw)
@@ -207,7 +267,7 @@ module _ (given now taken wrote_now : Option (List ℕ)) (reader : Reading) (wor
           length-append (joined g.seen) on.raw,
         );
         read = r.came ∙ ap (λ k. and_then_bytes k (r.byte ∷ [])) came ∙ and_then_bytes-append given (joined g.seen ++ on.raw) (r.byte ∷ []);
-        wrote = g.wrote ∙ ap (λ ls. and_then_bytes taken (text_answered ls)) (sym (whole_so_far on.raw on.no_feed));
+        wrote = all_out wrote' all_went ∙ ap (λ ls. and_then_bytes taken (text_answered ls)) (sym (whole_so_far on.raw on.no_feed));
       }
 
   -- of what came before the last piece, at most one whole line isn't seen
@@ -226,21 +286,47 @@ module _ (given now taken wrote_now : Option (List ℕ)) (reader : Reading) (wor
   first_seen rest = take-append_seam g.seen rest
 
   -- an allocation failed while a line was read
-  pub Going-memory : (after : Option (List ℕ)) (reader' : Reading) → reader'.total ≤ LONGEST_SCRIPT
-      → length reader'.held ≤ LONGEST_PIECE → ReadsOn now after reader reader'
-      → AnsweredSome given after taken wrote_now
-  Going-memory after reader' most held r = record {
+  pub Going-memory : (after wrote' : Option (List ℕ)) (reader' : Reading) → wrote' ≡ and_then_bytes wrote_now gathered
+      → reader'.total ≤ LONGEST_SCRIPT → length reader'.held ≤ LONGEST_PIECE → ReadsOn now after reader reader'
+      → AnsweredSome given after taken wrote'
+  Going-memory after wrote' reader' all_went most held r = record {
     script = joined g.seen ++ (r.raw ++ reader'.held);
     count = length g.seen;
     fits = within_limit reader' r.more (r.raw ++ reader'.held) r.bytes r.total most;
     read = more_read after r.more _ r.came r.bytes;
-    wrote = g.wrote ∙ ap (λ ls. and_then_bytes taken (text_answered ls))
+    wrote = all_out wrote' all_went ∙ ap (λ ls. and_then_bytes taken (text_answered ls))
         (sym (ap (take (length g.seen)) (whole_seen (r.raw ++ reader'.held))
         ∙ first_seen (whole_lines_of (r.raw ++ reader'.held))));
     reached = reached_by (joined g.seen ++ r.raw) reader'.held (joined g.seen ++ (r.raw ++ reader'.held))
         (sym (append_assoc (joined g.seen) r.raw reader'.held)) held
         (omega (arith, ap length (whole_so_far r.raw r.no_feed)));
   }
+
+  -- the sink failed before more was read
+  pub Going-wrote : (content after wrote' : Option (List ℕ)) → after ≡ now → WentInPart wrote_now wrote' gathered
+      → WroteSome given after taken wrote' content
+  Going-wrote content after wrote' same w =
+      let script = joined g.seen ++ reader.held in
+      let lines = ap text_answered (lines_of-joined g.seen reader.held g.are_lines) ∙ answers-append by_history [] g.seen (lines_of reader.held) in
+      let whole = ap text_answered (whole_seen reader.held) ∙ answers-append by_history [] g.seen (whole_lines_of reader.held) in
+      record {
+        script = script;
+        count = length g.out + w.count;
+        fits = omega (arith, g.most, g.total);
+        read = same ∙ g.read;
+        wrote = w.went ∙ ap (λ k. and_then_bytes k (take w.count gathered)) g.went ∙ and_then_bytes-append taken g.out (take w.count gathered)
+            ∙ ap (and_then_bytes taken) (sym (ap (take (length g.out + w.count)) lines
+            ∙ in_part g.out gathered (text_answered g.seen) (answers by_history (world_after by_history [] g.seen) (lines_of reader.held))
+            w.count g.answered w.within));
+        within = inl (omega (
+          arith,
+          w.within,
+          ap length g.answered,
+          length-append g.out gathered,
+          ap length whole,
+          length-append (text_answered g.seen) (answers by_history (world_after by_history [] g.seen) (whole_lines_of reader.held)),
+        ));
+      }
 
   -- ---- a line that came
 
@@ -317,42 +403,48 @@ module _ (given now taken wrote_now : Option (List ℕ)) (reader : Reading) (wor
   Comes-found content Last after reader' most held whole last = Comes-last content after reader' most (last refl).0 (last refl).1
 
   -- the sink failed: a prefix of the answer went out
-  pub Comes-wrote : (content after wrote' : Option (List ℕ)) (reader' : Reading) (text : Option (List ℕ)) (k : ℕ)
-      → text ≡ reader'.line → k ≤ length (text_step by_state world text).text
-      → wrote' ≡ and_then_bytes wrote_now (take k (text_step by_state world text).text) → Comes content after reader'
+  Comes-in_part : (content after wrote' wrote'' : Option (List ℕ)) (reader' : Reading) (c : Comes content after reader') (out left : Text)
+      → wrote' ≡ and_then_bytes taken out → out ++ left ≡ text_answered (g.seen ++ c.raw ∷ []) → WentInPart wrote' wrote'' left
+      → WroteSome given after taken wrote'' content
+  Comes-in_part content after wrote' wrote'' reader' c out left went is w = record {
+    script = c.script;
+    count = length out + w.count;
+    fits = c.fits;
+    read = c.read;
+    wrote = w.went ∙ ap (λ k. and_then_bytes k (take w.count left)) went ∙ and_then_bytes-append taken out (take w.count left)
+        ∙ ap (and_then_bytes taken) (sym (ap (take (length out + w.count)) c.answer
+        ∙ in_part out left (text_answered (g.seen ++ c.raw ∷ [])) c.more w.count is w.within));
+    within = elim c.within [
+      | inl before ↦ inl (omega (arith, before, w.within, ap length is, length-append out left))
+      | inr end ↦ inr end
+    ];
+  }
+
+  -- .. while the answer to the line was gathered
+  pub Comes-wrote : (content after wrote' : Option (List ℕ)) (reader' : Reading) (text : Option (List ℕ)) → text ≡ reader'.line
+      → WentInPart wrote_now wrote' (gathered ++ (text_step by_state world text).text) → Comes content after reader'
       → WroteSome given after taken wrote' content
-  Comes-wrote content after wrote' reader' text k says fits wrote c =
-      let line = (line_step by_history (world_after by_history [] g.seen) c.raw).text in
-      let step = same_text c.raw text (says ∙ c.text) in
-      let short : k ≤ length line = omega (arith, fits, ap length step) in
-      let pushed = answers-push by_history [] g.seen c.raw in
-      let reach = ap length pushed ∙ length-append (text_answered g.seen) line in
-      let some : take (length (text_answered g.seen) + k) (script_text c.script) ≡ text_answered g.seen ++ take k line =
-      ap (take (length (text_answered g.seen) + k)) (c.answer ∙ ap (λ t. t ++ c.more) pushed)
-      ∙ take-append-le (length (text_answered g.seen) + k) (text_answered g.seen ++ line) c.more
-      (omega (arith, short, length-append (text_answered g.seen) line))
-      ∙ take-append-add (text_answered g.seen) line k in
-      record {
-        script = c.script;
-        count = length (text_answered g.seen) + k;
-        fits = c.fits;
-        read = c.read;
-        wrote = wrote ∙ ap₂ (λ o t. and_then_bytes o (take k t)) g.wrote step ∙ and_then_bytes-append taken (text_answered g.seen) (take k line)
-            ∙ ap (and_then_bytes taken) (sym some);
-        within = elim c.within [
-          | inl before ↦ inl (omega (arith, before, reach, short))
-          | inr end ↦ inr end
-        ];
-      }
+  Comes-wrote content after wrote' reader' text says w c =
+      Comes-in_part content after wrote_now wrote' reader' c g.out (gathered ++ (text_step by_state world text).text) g.went
+      (with_next c.raw text (says ∙ c.text)) w
+
+  -- .. after it was gathered
+  pub Comes-gathered : (content after wrote' wrote'' : Option (List ℕ)) (gathered' : Text) (reader' : Reading) (text : Option (List ℕ))
+      → text ≡ reader'.line → Gathers wrote_now wrote' gathered (text_step by_state world text).text gathered'
+      → WentInPart wrote' wrote'' gathered' → Comes content after reader' → WroteSome given after taken wrote'' content
+  Comes-gathered content after wrote' wrote'' gathered' reader' text says h w c =
+      Comes-in_part content after wrote' wrote'' reader' c (g.out ++ h.out) gathered'
+      (went_on wrote' (text_step by_state world text).text gathered' h)
+      (still_all wrote' (text_step by_state world text).text gathered' h ∙ with_next c.raw text (says ∙ c.text)) w
 
   -- an allocation failed while a line was answered
-  pub Comes-memory : (content after wrote' : Option (List ℕ)) (reader' : Reading) → wrote' ≡ wrote_now
+  pub Comes-memory : (content after wrote' : Option (List ℕ)) (reader' : Reading) → wrote' ≡ and_then_bytes wrote_now gathered
       → Comes content after reader' → AnsweredSome given after taken wrote'
-  Comes-memory content after wrote' reader' same c = record {
+  Comes-memory content after wrote' reader' all_went c = record {
     script = c.script;
     count = length g.seen;
     fits = c.fits;
     read = c.read;
-    wrote = same ∙ g.wrote ∙ ap (λ ls. and_then_bytes taken (text_answered ls)) (sym (ap (take (length g.seen)) c.whole ∙ first_seen c.lines));
+    wrote = all_out wrote' all_went ∙ ap (λ ls. and_then_bytes taken (text_answered ls)) (sym (ap (take (length g.seen)) c.whole ∙ first_seen c.lines));
     reached = c.reached;
   }

@@ -1,4 +1,5 @@
 pub mod Agreement
+pub mod Gathering
 pub mod Lends
 pub mod LineFaults
 pub mod Replies

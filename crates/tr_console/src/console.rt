@@ -16,7 +16,7 @@ use std::alloc::{AllocError, Allocator, Global};
 use std::hash::{BuildHasherDefault, FoldHasher};
 use std::marker::Model;
 use tr_command::parse;
-use tr_lines::{is_skipped_line, push_words};
+use tr_lines::{Words, is_skipped_line, push_words};
 use tr_session::Session;
 use tr_terms::Name;
 
@@ -63,14 +63,14 @@ impl<A: Allocator + Copy> Console<A> {
         ensures { IfOk result (Does (text_step by_state self.old (option_map (λ t. t.now) line.entry)) self.new) }
     {
         let Some(text) = line else {
-            return bad_line(self.alloc);
+            return Ok(bad_line());
         };
-        let mut words = Vec::new(self.alloc);
+        if is_skipped_line(text) {
+            return Ok(skipped());
+        }
+        let mut words = Words::new(clap);
         words.push("tracerd")?;
         push_words(&mut words, text)?;
-        if is_skipped_line(&words[1..]) {
-            return Ok(skipped(self.alloc));
-        }
         self.answer_words(clap, words.as_slice())
     }
 
@@ -85,7 +85,7 @@ impl<A: Allocator + Copy> Console<A> {
     {
         match parse(clap, words)? {
             Some(request) => self.answer_request(request),
-            None => bad_line(self.alloc),
+            None => Ok(bad_line()),
         }
     }
 

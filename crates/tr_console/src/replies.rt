@@ -1,18 +1,33 @@
 //! The answers to lines, as texts.
 
 ghost use Rattle.std.specs.Prelude.{◌≡◌, ◌∷◌, ◌++◌, [], true, false, Ok, Err, IfOk, OnOk, codes, is_err};
+ghost use Rattle.std.specs.Fmt.{decimal};
 ghost use Rattle.std.specs.String.{string_bytes};
 ghost use Rattle.tr_console.specs.LineFaults.{HasMemory, wants_memory};
-ghost use Rattle.tr_console.specs.Steps.{line_of, refusal_text};
+ghost use Rattle.tr_console.specs.Replies.{said, text_bytes, text_or_refusal, words_and_numbers};
+ghost use Rattle.tr_console.specs.Steps.{refusal_text};
 
 use crate::line_fault::LineFault;
+use itoa::Buffer;
 use std::alloc::{AllocError, Allocator, Global};
+
+/// How many bytes most answers with numbers have at most.
+const USUAL_LENGTH: usize = 64;
+
+/// The text of an answer, with its newlines.
+#[derive(Drop)]
+pub(crate) enum ReplyText<A: Allocator = Global> {
+    /// One that every such answer has. It takes no memory.
+    Constant(&'static str),
+    /// One that is written for this answer.
+    Written(String<A>),
+}
 
 /// The answer to a line: its text, with its newlines, and whether it says that the line was refused.
 #[derive(Drop)]
 pub(crate) struct Reply<A: Allocator = Global> {
     /// The text, with its newlines. It is empty for a line that gets no answer.
-    pub(crate) text: String<A>,
+    pub(crate) text: ReplyText<A>,
     /// Whether the line was refused, or was a bad one.
     pub(crate) is_refused: bool,
 }
@@ -20,9 +35,12 @@ pub(crate) struct Reply<A: Allocator = Global> {
 impl<A: Allocator> Reply<A> {
     /// The text, with its newlines. It is empty for a line that gets no answer.
     pub(crate) fn text(&self) -> &str
-        ensures { result.now ≡ string_bytes self.now.text }
+        ensures { result.now ≡ said self.now }
     {
-        self.text.as_str()
+        match &self.text {
+            ReplyText::Constant(text) => text,
+            ReplyText::Written(text) => text.as_str(),
+        }
     }
 
     /// Whether the line was refused, or was a bad one.
@@ -33,8 +51,8 @@ impl<A: Allocator> Reply<A> {
     }
 
     /// An answer that is no refusal.
-    pub(crate) fn done(text: String<A>) -> Reply<A>
-        ensures text { string_bytes result.text ≡ string_bytes text }
+    pub(crate) fn done(text: ReplyText<A>) -> Reply<A>
+        ensures text { said result ≡ text_bytes text }
         ensures done { result.is_refused ≡ false }
     {
         Reply {
@@ -42,6 +60,42 @@ impl<A: Allocator> Reply<A> {
             is_refused: false,
         }
     }
+
+    /// An answer that is a refusal.
+    pub(crate) fn refused(text: ReplyText<A>) -> Reply<A>
+        ensures text { said result ≡ text_bytes text }
+        ensures refused { result.is_refused ≡ true }
+    {
+        Reply {
+            text,
+            is_refused: true,
+        }
+    }
+}
+
+/// Adds a number in decimal.
+fn push_number<A: Allocator>(text: &mut String<A>, number: u64) -> Result<(), AllocError>
+    ensures { OnOk result (string_bytes text.new ≡ string_bytes text.old ++ decimal number) }
+{
+    let mut digits = Buffer::new();
+    text.push_str(digits.format(number))
+}
+
+/// A line of words, with a number after each of them. Few are longer than what is asked for at first.
+pub(crate) fn words_and_numbers<A: Allocator>(
+    alloc: A,
+    parts: &[(&str, u64)],
+) -> Result<String<A>, AllocError>
+    ensures { IfOk result (λ t. string_bytes t ≡ words_and_numbers parts.now ++ 10 ∷ []) }
+{
+    let mut text = String::with_capacity(alloc, USUAL_LENGTH)?;
+    'parts: for part in parts {
+        let (words, number) = *part;
+        text.push_str(words)?;
+        push_number(&mut text, number)?;
+    }
+    text.push('\n')?;
+    Ok(text)
 }
 
 /// The answer to a line that was refused. If an allocation failed there is none.
@@ -49,7 +103,7 @@ pub(crate) fn refusal<A: Allocator + Copy>(
     alloc: A,
     fault: LineFault,
 ) -> Result<Reply<A>, AllocError>
-    ensures text { IfOk result (λ r. string_bytes r.text ≡ refusal_text fault ++ 10 ∷ []) }
+    ensures text { IfOk result (λ r. said r ≡ refusal_text fault ++ 10 ∷ []) }
     ensures refused { IfOk result (λ r. r.is_refused ≡ true) }
     ensures memory { OnOk result (wants_memory fault ≡ false) }
 {
@@ -59,50 +113,38 @@ pub(crate) fn refusal<A: Allocator + Copy>(
     let code = fault.code();
     let name = fault.name();
     let text = format!(in alloc; "refused {code} {name}\n")?;
-    Ok(Reply {
-        text,
-        is_refused: true,
-    })
+    Ok(Reply::refused(ReplyText::Written(text)))
 }
 
 /// The answer to a line that is no command.
-pub(crate) fn bad_line<A: Allocator + Copy>(alloc: A) -> Result<Reply<A>, AllocError>
-    ensures text { IfOk result (λ r. string_bytes r.text ≡ codes "bad line" ++ 10 ∷ []) }
-    ensures refused { IfOk result (λ r. r.is_refused ≡ true) }
+pub(crate) fn bad_line<A: Allocator>() -> Reply<A>
+    ensures text { said result ≡ codes "bad line" ++ 10 ∷ [] }
+    ensures refused { result.is_refused ≡ true }
 {
-    let text = String::from_str(alloc, "bad line\n")?;
-    Ok(Reply {
-        text,
-        is_refused: true,
-    })
+    Reply::refused(ReplyText::Constant("bad line\n"))
 }
 
 /// The empty answer to a line that gets none.
-pub(crate) fn skipped<A: Allocator + Copy>(alloc: A) -> Reply<A>
-    ensures text { string_bytes result.text ≡ [] }
+pub(crate) fn skipped<A: Allocator>() -> Reply<A>
+    ensures text { said result ≡ [] }
     ensures done { result.is_refused ≡ false }
 {
-    Reply {
-        text: String::new(alloc),
-        is_refused: false,
-    }
+    Reply::done(ReplyText::Constant(""))
 }
 
-/// The answer, in these words, to a call that only says that it is done. If an allocation failed there is none.
+/// The answer, with this text and its newline, to a call that only says that it is done. If an allocation failed there is
+/// none.
 pub(crate) fn done_reply<A: Allocator + Copy>(
     alloc: A,
-    words: &str,
+    text: &'static str,
     answer: Result<(), LineFault>,
 ) -> Result<Reply<A>, AllocError>
-    ensures text { IfOk result (λ r. string_bytes r.text ≡ line_of (λ done. words.now) answer ++ 10 ∷ []) }
+    ensures text { IfOk result (λ r. said r ≡ text_or_refusal text.now answer) }
     ensures refused { IfOk result (λ r. r.is_refused ≡ is_err answer) }
     ensures memory { OnOk result (HasMemory answer) }
 {
     match answer {
-        Ok(()) => {
-            let text = format!(in alloc; "{words}\n")?;
-            Ok(Reply::done(text))
-        }
+        Ok(()) => Ok(Reply::done(ReplyText::Constant(text))),
         Err(fault) => refusal(alloc, fault),
     }
 }

@@ -1,5 +1,5 @@
 -- Lines, and how they make up a script.
-use Rattle.std.proofs.Common.{◌≡◌, ◌∙◌, ◌<◌, ◌≤◌, ◌+◌, ◌-◌, ◌&&◌, ℕ, Bool, zero, suc, cond, true, false, refl, sym, ap, ap₂, inl, inr, length-append, arith, List, [], ◌∷◌, ◌++◌, Some, None, length, take, get_or, nat_le, true≢false, lit<, lt-ltb, append_assoc, append-nil, add-one, drop-cons}
+use Rattle.std.proofs.Common.{◌≡◌, ◌∙◌, ◌<◌, ◌≤◌, ◌+◌, ◌-◌, ◌&&◌, ℕ, Bool, zero, suc, cond, true, false, refl, sym, ap, ap₂, inl, inr, length-append, arith, List, [], ◌∷◌, ◌++◌, Option, Some, None, length, take, get_or, nat_le, true≢false, lit<, lt-ltb, append_assoc, append-nil, add-one, drop-cons}
 use Rattle.std.specs.List.{flat_map, list_all, onto_first, position, position_or_len}
 use Rattle.std.specs.Str.{IsAscii}
 use Rattle.std.proofs.Math.ListN.{drop}
@@ -9,9 +9,10 @@ use Rattle.std.proofs.lemmas.List.Folds.{list_all-append}
 use Rattle.std.proofs.lemmas.List.Quantifiers.{position-Some}
 use Rattle.std.proofs.lemmas.List.Splits.{slice_split_at, slice_split_none}
 use Rattle.std.proofs.lemmas.Bool.{cases_lt, false_from_ne_true}
-use Rattle.std.proofs.lemmas.List.Sums.{fails_before_first}
+use Rattle.std.proofs.lemmas.List.Sums.{fails_before_first, position_or_len_is}
 use Rattle.std.proofs.lemmas.Bool.Decides.{Decides-eqb}
 use Rattle.std.proofs.lemmas.Grind.{common_steps}
+use Rattle.memchr.specs.Find.{IsFirstByte, is_byte}
 use Rattle.tr_lines.specs.Lines.{HasNoFeed, all_but_last, is_feed, is_printable, keep_more, lines_of, lines_of_parts, parts_of, text_of_line, whole_lines_of, with_last}
 use Rattle.tr_terms.proofs.BoolLemmas.{both}
 
@@ -44,6 +45,18 @@ keep_more-text line part = go (nat_le (length line) 4096 && list_all is_printabl
         rw (e, still) refl
 
 -- ---- newlines
+
+-- the first newline is the first byte 10
+pub first_feed : (bytes : List ℕ) (found : Option ℕ) → IsFirstByte (is_byte 10) bytes found → found ≡ position is_feed bytes
+first_feed bytes None none =
+    let end = position_or_len_is is_feed bytes (length bytes) 0 (omega arith)
+    (λ k lt. false_from_ne_true (is_feed (get_or bytes k 0)) (none k (omega arith) lt)) (λ lt. absurd (omega (arith, lt))) in
+    rw end (grind (arith, common_steps))
+first_feed bytes (Some at) first =
+    let end = position_or_len_is is_feed bytes at 0 (omega (arith, first.0.high))
+    (λ k lt. false_from_ne_true (is_feed (get_or bytes k 0)) (first.0.before k (omega arith) lt)) (λ _. first.1) in
+    let inside : at < length bytes = first.0.high in
+    rw end (grind (arith, common_steps))
 
 pub no_feed_before : (bytes : List ℕ) (i : ℕ) → position is_feed bytes ≡ Some i → HasNoFeed (take i bytes)
 no_feed_before bytes i e =

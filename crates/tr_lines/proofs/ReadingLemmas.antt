@@ -5,13 +5,12 @@ use Rattle.std.proofs.lemmas.List.{drop-take}
 use Rattle.std.proofs.lemmas.Grind.{common_steps}
 use Rattle.std.specs.List.{position}
 use Rattle.std.proofs.Math.ListN.{drop}
-use Rattle.std.proofs.lemmas.List.Elements.{All-append, All-nil}
+use Rattle.std.proofs.lemmas.List.Elements.{All-append}
 use Rattle.tr_record.specs.Bytes.{and_then_bytes}
 use Rattle.tr_record.proofs.ByteLemmas.{and_then_bytes-append, and_then_bytes-none}
 use Rattle.tr_lines.specs.Lines.{is_feed, keep_more}
-use Rattle.tr_lines.specs.Reading.{GoesTooFar, Reading, ReadsLine, ReadsOn, TakesPart, budget, reading}
+use Rattle.tr_lines.specs.Reading.{BeginsLine, Reading, ReadsLine, ReadsOn, TakesLine, TakesPart, reading}
 use Rattle.tr_lines.proofs.LineLemmas.{feed_splits, keep_more-text, no_feed_at_all, no_feed_before}
-use Rattle.tr_terms.specs.declared.limits.TheConstants.{LONGEST_SCRIPT}
 
 -- what is held once a line has gone from it
 pub held_after : (bytes : List ℕ) (start stop place : ℕ) → take (stop - (start + (place + 1))) (drop (start + (place + 1)) bytes)
@@ -52,16 +51,28 @@ TakesPart-all old new none empty text total = record {
   total = total;
 }
 
--- a line begins
-pub ReadsOn-begin : (before : Option (List ℕ)) (old : Reading) → ReadsOn before before old (reading old.held old.total (Some []))
-ReadsOn-begin before old = record {
-  raw = [];
+-- a line has begun, and the source gave nothing yet
+pub ReadsOn-begun : (before : Option (List ℕ)) (old new : Reading) → BeginsLine old new → ReadsOn before before old new
+ReadsOn-begun before old new b = record {
+  raw = old.held;
   more = [];
   came = sym (and_then_bytes-none before);
-  bytes = append-nil old.held;
-  no_feed = All-nil (λ b. is_feed b ≡ false);
-  text = refl;
-  total = omega arith;
+  bytes = ap (λ (r : Reading). old.held ++ r.held) (sym b.begun);
+  no_feed = b.no_feed;
+  text = ap (λ (r : Reading). r.line) b.begun;
+  total = omega (arith, ap (λ (r : Reading). r.total) b.begun);
+}
+
+-- a line is taken, and the source gave nothing
+pub ReadsLine-taken : (before : Option (List ℕ)) (old new : Reading) → TakesLine old new → ReadsLine before before old new
+ReadsLine-taken before old new t = record {
+  raw = t.raw;
+  more = [];
+  came = sym (and_then_bytes-none before);
+  bytes = append-nil old.held ∙ t.bytes;
+  no_feed = t.no_feed;
+  text = t.text;
+  total = omega (arith, t.total);
 }
 
 module _ (before now : Option (List ℕ)) (old mid new : Reading) (s : ReadsOn before now old mid) where
@@ -106,21 +117,3 @@ module _ (before now : Option (List ℕ)) (old mid new : Reading) (s : ReadsOn b
 pub ReadsOn-still : (before now after : Option (List ℕ)) (old mid new : Reading) → ReadsOn before now old mid → after ≡ now
     → new ≡ mid → ReadsOn before after old new
 ReadsOn-still before now after old mid new s given same = rw (given, same) s
-
--- one byte more came than is allowed
-pub ReadsAll-too_far : (before now after : Option (List ℕ)) (old mid new : Reading) (byte : ℕ) → ReadsOn before now old mid
-    → mid.held ≡ [] → new ≡ mid
-    → mid.total ≡ LONGEST_SCRIPT → after ≡ and_then_bytes now (byte ∷ []) → GoesTooFar before after old new
-ReadsAll-too_far before now after old mid new byte s empty same full came = record {
-  within = now;
-  byte = byte;
-  all = record { on = ReadsOn-still before now now old mid new s refl same; nothing_held = ap (λ (r : Reading). r.held) same ∙ empty };
-  full = ap (λ (r : Reading). r.total) same ∙ full;
-  came = came;
-}
-
--- a line takes at least its newline
-pub ReadsLine-shrinks : (before after : Option (List ℕ)) (old new : Reading) → ReadsLine before after old new
-    → new.total ≤ LONGEST_SCRIPT → budget new < budget old
-ReadsLine-shrinks before after old new r within =
-    omega (arith, r.total, within, ap length r.bytes, length-append old.held r.more, length-append r.raw (10 ∷ new.held))

@@ -1,59 +1,126 @@
--- The words of a line, one part after the other.
-use Rattle.std.proofs.Common.{Result, Ok, Err, OnErr, Bor, map, ◌≡◌, ◌∙◌, ◌<◌, ◌+◌, ℕ, Bool, cond, true, false, refl, sym, ap, List, [], ◌∷◌, ◌++◌, length, take, get_or, not, filter, add-one, append_assoc, append-nil}
-use Rattle.std.specs.Prelude.{◌==◌}
-use Rattle.std.proofs.Math.Seq.{take-append_seam, take-length, take-suc}
-use Rattle.std.proofs.Math.ListN.{drop}
-use Rattle.std.proofs.lemmas.List.{map-append, take-append-drop}
-use Rattle.std.proofs.lemmas.List.Elements.{filter-append}
+-- The words of a line, cut at one space after the other.
+use Rattle.std.proofs.Common.{Result, Ok, Err, OnErr, OnOk, ◌≡◌, ◌∙◌, ◌<◌, ◌≤◌, ◌+◌, ◌-◌, ℕ, Bool, true, false, refl, sym, ap, ap₂, subst, arith, List, [], ◌∷◌, ◌++◌, length, length-append, take, drop, get_or, filter, append_assoc, append-nil}
+use Rattle.std.specs.List.{All, slice_split}
+use Rattle.std.specs.Str.{IsCharBoundary, IsUtf8}
+use Rattle.std.proofs.Math.Seq.{take-append_seam}
+use Rattle.std.proofs.lemmas.List.{drop_all, drop_more}
+use Rattle.std.proofs.lemmas.List.Elements.{All-nil, All-push, filter-append}
+use Rattle.std.proofs.lemmas.List.Splits.{slice_split_at, slice_split_none}
+use Rattle.std.proofs.lemmas.Bool.Decides.{Decides-eqb}
+use Rattle.std.proofs.lemmas.Str.{IsCharBoundary-after_ascii, IsCharBoundary-before_ascii, IsCharBoundary-start, IsUtf8-between, IsUtf8-drop}
+use Rattle.tr_lines.specs.Words.{is_space, is_word, part_words, words_of}
 
-abbrev pub is_word : List ℕ → Bool
-is_word part = not (length part == 0)
+abbrev pub HasNoSpace : List ℕ → Type 0
+HasNoSpace part = All (λ b. is_space b ≡ false) part
 
--- the words among the first parts
-abbrev pub words_in : List (List ℕ) → ℕ → List (List ℕ)
-words_in parts count = filter is_word (take count parts)
+pub no_space : (b : ℕ) → (b ≡ 32 → ⊥) → is_space b ≡ false
+no_space b other = go (is_space b) refl
+  where
+    go : (t : Bool) → is_space b ≡ t → t ≡ false
+    go true is = absurd (other ((Decides-eqb b 32).0 is))
+    go false is = refl
 
-one-part : (part : List ℕ) (t : Bool) → is_word part ≡ t → filter is_word (part ∷ []) ≡ cond t (part ∷ []) []
-one-part part t e = rw e refl
+words_of-part : (part rest : List ℕ) → HasNoSpace part → words_of (part ++ 32 ∷ rest) ≡ part_words part ++ words_of rest
+words_of-part part rest none =
+    ap (filter is_word) (slice_split_at is_space part 32 rest none refl) ∙ filter-append is_word (part ∷ []) (slice_split is_space rest)
 
--- one more part
-pub words_in-more : (parts : List (List ℕ)) (count : ℕ) (part : List ℕ) (t : Bool) → count < length parts
-    → part ≡ get_or parts count part → is_word part ≡ t
-    → words_in parts (count + 1) ≡ words_in parts count ++ cond t (part ∷ []) []
-words_in-more parts count part t inside is word =
-    ap (λ n. filter is_word (take n parts)) (add-one count) ∙ ap (filter is_word) (take-suc parts count part inside)
-    ∙ filter-append is_word (take count parts) (get_or parts count part ∷ [])
-    ∙ ap (λ p. words_in parts count ++ filter is_word (p ∷ [])) (sym is) ∙ ap (λ ws. words_in parts count ++ ws) (one-part part t word)
+words_of-last : (part : List ℕ) → HasNoSpace part → words_of part ≡ part_words part
+words_of-last part none = ap (filter is_word) (slice_split_none is_space part none)
 
-module _ (old now new : List (Bor (List ℕ))) (parts : List (List ℕ)) (count more : ℕ) (part : Bor (List ℕ))
-    (kept : map (λ w. w.now) now ≡ map (λ w. w.now) old ++ words_in parts count)
-    (inside : count < length parts) (is : part.now ≡ get_or parts count part.now) (one : more ≡ count + 1) where
-  -- a word is added
-  pub words_in-push : is_word part.now ≡ true → new ≡ now ++ part ∷ [] → map (λ w. w.now) new ≡ map (λ w. w.now) old ++ words_in parts more
-  words_in-push word items =
-      ap (map (λ (w : Bor (List ℕ)). w.now)) items ∙ map-append (λ (w : Bor (List ℕ)). w.now) now (part ∷ []) ∙ ap (λ ws. ws ++ part.now ∷ []) kept
-      ∙ append_assoc (map (λ w. w.now) old) (words_in parts count) (part.now ∷ [])
-      ∙ ap (λ ws. map (λ w. w.now) old ++ ws) (sym (ap (words_in parts) one ∙ words_in-more parts count part.now true inside is word))
+-- a text is cut up to `at`: the words before `start` are added, and what comes since has no space
+pub record Cut (old now : List (List ℕ)) (text : List ℕ) (start at : ℕ) : Type 0 where
+  pub done : List (List ℕ)
+  pub added : now ≡ old ++ done
+  pub all : words_of text ≡ done ++ words_of (drop start text)
+  pub boundary : IsCharBoundary text start
+  pub part : List ℕ
+  pub none : HasNoSpace part
+  pub size : start + length part ≡ at
+  pub rest : drop start text ≡ part ++ drop at text
 
-  -- an empty part is no word
-  pub words_in-same : is_word part.now ≡ false → map (λ w. w.now) now ≡ map (λ w. w.now) old ++ words_in parts more
-  words_in-same word =
-      kept ∙ ap (λ ws. map (λ w. w.now) old ++ ws)
-      (sym (ap (words_in parts) one ∙ words_in-more parts count part.now false inside is word
-      ∙ append-nil (words_in parts count)))
+pub cut-first : (old : List (List ℕ)) (text : List ℕ) → IsUtf8 text → Cut old old text 0 0
+cut-first old text is = record {
+  done = [];
+  added = sym (append-nil old);
+  all = refl;
+  boundary = IsCharBoundary-start text is;
+  part = [];
+  none = All-nil (λ b. is_space b ≡ false);
+  size = refl;
+  rest = refl;
+}
 
--- all parts came
-pub words_in-all : (parts : List (List ℕ)) (count : ℕ) → count ≡ length parts → words_in parts count ≡ filter is_word parts
-words_in-all parts count all = ap (λ n. filter is_word (take n parts)) all ∙ ap (filter is_word) (take-length parts)
+module _ (old now : List (List ℕ)) (text : List ℕ) (start at : ℕ) (c : Cut old now text start at) where
+  part-is : take (at - start) (drop start text) ≡ c.part
+  part-is =
+      let size : at - start ≡ length c.part = omega (arith, c.size) in
+      ap₂ (λ (n : ℕ) (bs : List ℕ). take n bs) size c.rest ∙ take-append_seam c.part (drop at text)
 
--- those among the first parts are first ones of all
-pub words_in-first : (parts : List (List ℕ)) (count : ℕ) → words_in parts count ≡ take (length (words_in parts count)) (filter is_word parts)
-words_in-first parts count =
-    let all : filter is_word parts ≡ words_in parts count ++ filter is_word (drop count parts) =
-    ap (filter is_word) (sym (take-append-drop count parts)) ∙ filter-append is_word (take count parts) (drop count parts) in
-    sym (ap (take (length (words_in parts count))) all ∙ take-append_seam (words_in parts count) (filter is_word (drop count parts)))
+  pub cut-order : start ≤ at
+  cut-order = omega (arith, c.size)
+
+  -- a byte that is no space
+  pub cut-on : at < length text → is_space (get_or text at 0) ≡ false → Cut old now text start (at + 1)
+  cut-on within other = record {
+    done = c.done;
+    added = c.added;
+    all = c.all;
+    boundary = c.boundary;
+    part = c.part ++ get_or text at 0 ∷ [];
+    none = All-push (λ b. is_space b ≡ false) c.part (get_or text at 0) c.none other;
+    size = omega (arith, c.size, length-append c.part (get_or text at 0 ∷ []));
+    rest = c.rest ∙ ap (λ bs. c.part ++ bs) (drop_more text at 0 within) ∙ sym (append_assoc c.part (get_or text at 0 ∷ []) (drop (at + 1) text));
+  }
+
+  -- a space: what comes before it is added, if it is a word
+  pub cut-part : (new : List (List ℕ)) → IsUtf8 text → at < length text → is_space (get_or text at 0) ≡ true
+      → new ≡ now ++ part_words (take (at - start) (drop start text)) → Cut old new text (at + 1) (at + 1)
+  cut-part new utf8 within space is =
+      let byte : get_or text at 0 ≡ 32 = (Decides-eqb (get_or text at 0) 32).0 space in
+      let small : get_or text at 0 < 128 = omega (arith, byte) in
+      let words : words_of (drop start text) ≡ part_words c.part ++ words_of (drop (at + 1) text) =
+      ap words_of (c.rest ∙ ap (λ bs. c.part ++ bs) (drop_more text at 0 within ∙ ap (λ b. b ∷ drop (at + 1) text) byte))
+      ∙ words_of-part c.part (drop (at + 1) text) c.none in
+      record {
+        done = c.done ++ part_words c.part;
+        added = is ∙ ap₂ (λ (xs : List (List ℕ)) (bs : List ℕ). xs ++ part_words bs) c.added part-is ∙ append_assoc old c.done (part_words c.part);
+        all = c.all ∙ ap (λ ws. c.done ++ ws) words ∙ sym (append_assoc c.done (part_words c.part) (words_of (drop (at + 1) text)));
+        boundary = IsCharBoundary-after_ascii text at utf8 within small;
+        part = [];
+        none = All-nil (λ b. is_space b ≡ false);
+        size = omega arith;
+        rest = refl;
+      }
+
+  pub cut-part-utf8 : IsUtf8 text → at < length text → is_space (get_or text at 0) ≡ true → IsUtf8 (take (at - start) (drop start text))
+  cut-part-utf8 utf8 within space =
+      let byte : get_or text at 0 ≡ 32 = (Decides-eqb (get_or text at 0) 32).0 space in
+      let small : get_or text at 0 < 128 = omega (arith, byte) in
+      IsUtf8-between text start at utf8 cut-order c.boundary (IsCharBoundary-before_ascii text at within small)
+
+  -- the last part
+  pub cut-last : (new : List (List ℕ)) → length text ≤ at → new ≡ now ++ part_words (drop start text) → new ≡ old ++ words_of text
+  cut-last new end is =
+      let whole : drop start text ≡ c.part = c.rest ∙ ap (λ bs. c.part ++ bs) (drop_all at text end) ∙ append-nil c.part in
+      let last : part_words (drop start text) ≡ words_of (drop start text) = sym (words_of-last (drop start text) (subst HasNoSpace (sym whole) c.none)) in
+      is ∙ ap₂ (λ (xs ws : List (List ℕ)). xs ++ ws) c.added last ∙ append_assoc old c.done (words_of (drop start text)) ∙ ap (λ ws. old ++ ws) (sym c.all)
+
+  pub cut-last-utf8 : IsUtf8 text → IsUtf8 (drop start text)
+  cut-last-utf8 utf8 = IsUtf8-drop text start utf8 c.boundary
+
+  -- the words so far are the first of all
+  pub cut-failed : now ≡ old ++ take (length c.done) (words_of text)
+  cut-failed = c.added ∙ ap (λ ws. old ++ ws) (sym (ap (take (length c.done)) c.all ∙ take-append_seam c.done (words_of (drop start text))))
 
 -- what holds anyway holds at an error
 pub OnErr-always : {T E P : Type 0} (r : Result T E) → P → OnErr r P
 OnErr-always (Ok x) p = tt
 OnErr-always (Err x) p = p
+
+pub OnOk-map : {T E P Q : Type 0} (r : Result T E) → (P → Q) → OnOk r P → OnOk r Q
+OnOk-map (Ok x) f p = f p
+OnOk-map (Err x) f p = tt
+
+pub OnErr-map : {T E P Q : Type 0} (r : Result T E) → (P → Q) → OnErr r P → OnErr r Q
+OnErr-map (Ok x) f p = tt
+OnErr-map (Err x) f p = f p

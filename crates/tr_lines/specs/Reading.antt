@@ -20,6 +20,23 @@ reading held total line = record { held = held; total = total; line = line }
 abbrev pub budget : Reading → ℕ
 budget r = (LONGEST_SCRIPT - r.total) + length r.held
 
+-- a line is taken from what is held, with its newline
+pub record TakesLine (old new : Reading) : Type 0 where
+  pub raw : List ℕ
+  pub bytes : old.held ≡ raw ++ 10 ∷ new.held
+  pub no_feed : HasNoFeed raw
+  pub text : new.line ≡ text_of_line raw
+  pub total : new.total ≡ old.total
+
+-- all that is held is the beginning of a line
+pub record BeginsLine (old new : Reading) : Type 0 where
+  pub no_feed : HasNoFeed old.held
+  pub begun : new ≡ reading [] old.total (text_of_line old.held)
+
+-- this holds since the line that is read on has begun
+abbrev pub SinceBegun : Reading → (Reading → Type 0) → Type 0
+SinceBegun now Holds = (old : Reading) → BeginsLine old now → Holds old
+
 -- the source, which had given `before`, gave `more`, and the line `raw` came out with its newline
 pub record ReadsLine (before after : Option (List ℕ)) (old new : Reading) : Type 0 where
   pub raw : List ℕ

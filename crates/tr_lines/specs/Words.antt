@@ -2,9 +2,19 @@
 use Rattle.std.specs.Prelude.{ℕ, List, [], ◌∷◌, ◌==◌, Bool, true, false, filter, length, not}
 use Rattle.std.specs.List.{slice_split}
 
+abbrev pub is_space : ℕ → Bool
+is_space b = b == 32
+
+-- a part between spaces is a word unless it is empty
+abbrev pub is_word : List ℕ → Bool
+is_word part = not (length part == 0)
+
+abbrev pub part_words : List ℕ → List (List ℕ)
+part_words part = filter is_word (part ∷ [])
+
 -- the parts between spaces, without empty ones
 abbrev pub words_of : List ℕ → List (List ℕ)
-words_of text = filter (λ word. not (length word == 0)) (slice_split (λ b. b == 32) text)
+words_of text = filter is_word (slice_split is_space text)
 
 -- a word that begins with `#`
 abbrev pub is_comment : List ℕ → Bool

@@ -1,17 +1,19 @@
 //! The lines of a script and their words, however its source cuts them into pieces.
-//! A [`LineReader`] takes the same memory for every script.
+//! A [`LineReader`] takes the same memory for every script. Up to 16 words of a line take none ([`Words`]).
 //!
 //! # Example
 //!
 //! ```
 //! let mut reader = LineReader::new(alloc)?;
-//! let found = reader.read_line(&mut source)?;  // a line, a broken one, or the end
+//! let is_whole = reader.take_line()?;           // a line, if the whole of it came
+//! let found = reader.read_on(&mut source)?;     // if not: a line, a broken one, or the end
 //! ```
 //!
 //! # What is proved
 //!
 //! Lines are read whole, however the source cuts them. A script that is too long is refused, so reading ends over every
-//! source.
+//! source. `take_line` asks no source, so whoever reads can answer all that came before more is asked for. The words of a line
+//! are the parts between spaces that aren't empty.
 #![tactic(auto)]
 
 mod line;
@@ -19,4 +21,4 @@ mod reader;
 mod words;
 
 pub use reader::{Found, LineReader, ReadFault};
-pub use words::{is_skipped_line, push_words};
+pub use words::{Words, is_skipped_line, push_words};

@@ -8,10 +8,15 @@ use std::alloc::{AllocError, Allocator, Global};
 use std::marker::Model;
 use tr_terms::limits::LONGEST_LINE;
 
+/// Whether all bytes are printable. It goes on after one that isn't, so that many bytes are compared at once.
 fn has_only_printable(part: &[u8]) -> bool
     ensures { result ≡ list_all is_printable part.now }
 {
-    part.iter().all(|b| *b >= 0x20 && *b <= 0x7e)
+    let mut is_printable = true;
+    'bytes: for byte in part {
+        is_printable = is_printable & (*byte >= 0x20) & (*byte <= 0x7e);
+    }
+    is_printable
 }
 
 /// The text of a line, as far as it came. Nothing more is kept of a bad line. Contracts see the text, or none for a bad
@@ -76,9 +81,6 @@ impl<A: Allocator> Line<A> {
         if self.is_bad {
             return None;
         }
-        match std::str::from_utf8(self.text.as_slice()) {
-            Ok(text) => Some(text),
-            Err(_) => unreachable!(),
-        }
+        Some(unsafe { std::str::from_utf8_unchecked(self.text.as_slice()) })
     }
 }

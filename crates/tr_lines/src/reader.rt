@@ -3,11 +3,12 @@
 ghost use Rattle.std.specs.Prelude.{◌≡◌, ◌+◌, ◌<◌, ◌≤◌, ◌∷◌, [], ℕ, Some, true, false, Ok, Err, IfOk, OnOk, OnErr, length, take, option_map, position};
 ghost use Rattle.tr_record.specs.Bytes.{and_then_bytes, once_more};
 ghost use Rattle.tr_lines.specs.Lines.{is_feed};
-ghost use Rattle.tr_lines.specs.Reading.{GoesTooFar, ReadsAll, ReadsLine, ReadsOn, TakesPart, budget, reading};
+ghost use Rattle.tr_lines.specs.Reading.{BeginsLine, GoesTooFar, ReadsAll, ReadsLine, ReadsOn, SinceBegun, TakesLine, TakesPart, budget, reading};
 ghost use Rattle.tr_lines.specs.declared.reader.ReadFault.TheVariants.{Read, NoMemory};
 ghost use Rattle.tr_terms.specs.declared.limits.TheConstants.{LONGEST_PIECE, LONGEST_SCRIPT};
 
 use crate::line::Line;
+use memchr::memchr;
 use std::alloc::{AllocError, Allocator, Global};
 use std::marker::Model;
 use tr_record::{ByteSource, Failed};
@@ -53,7 +54,7 @@ pub enum Found {
 fn feed_at(bytes: &[u8]) -> Option<usize>
     ensures { result ≡ position is_feed bytes.now }
 {
-    bytes.iter().position(|b| *b == b'\n')
+    memchr(b'\n', bytes)
 }
 
 /// Gets bytes from the source to the front of the buffer, at most `room`.
@@ -164,38 +165,54 @@ impl<A: Allocator> LineReader<A> {
         Ok(count > 0)
     }
 
-    /// Reads the next line, or what follows the last newline.
+    /// Takes the next line if the whole of it is held, and answers whether it is. If not, all that is held is taken as the
+    /// beginning of a line, and `read_on` goes on with that.
+    ///
+    /// If an allocation fails, all is held as before.
+    pub fn take_line(&mut self) -> Result<bool, AllocError>
+        ensures whole { result ≡ Ok true → TakesLine self.old self.new }
+        ensures shrinks { result ≡ Ok true → budget self.new < budget self.old }
+        ensures begun { result ≡ Ok false → BeginsLine self.old self.new }
+        ensures held { length self.new.held ≤ LONGEST_PIECE }
+        ensures err { OnErr result (self.new ≡ reading self.old.held self.old.total (Some [])) }
+    {
+        self.begin();
+        self.take_part()
+    }
+
+    /// Goes on with a line that has begun, if nothing else is held: reads the rest of it, or what follows the last newline.
+    /// Only this call asks the source for bytes.
     ///
     /// # Errors
     ///
     /// `Read` if the source failed, `TooLong` if a byte came after the longest script, `NoMemory` if an allocation failed.
-    /// What had come of that line is lost, and nothing else: the next call goes on after it.
-    pub fn read_line<S: ByteSource>(&mut self, source: &mut S) -> Result<Found, ReadFault>
+    /// What had come of that line is lost, and nothing else: the next line is what comes after it.
+    pub fn read_on<S: ByteSource>(&mut self, source: &mut S) -> Result<Found, ReadFault>
+        requires { self.old.held ≡ [] }
         ensures whole { result ≡ Ok Found.Whole
-            → ReadsLine (S.given source.old) (S.given source.new) self.old self.new }
+            → SinceBegun self.old (λ begun. ReadsLine (S.given source.old) (S.given source.new) begun self.new) }
         ensures shrinks { result ≡ Ok Found.Whole → budget self.new < budget self.old }
         ensures last { result ≡ Ok Found.Last
-            → ReadsAll (S.given source.old) (S.given source.new) self.old self.new
+            → SinceBegun self.old (λ begun. ReadsAll (S.given source.old) (S.given source.new) begun self.new)
             × (S.given source.new ≡ S.content source.new) }
         ensures content { S.content source.new ≡ S.content source.old }
 
         ensures read { result ≡ Err ReadFault.Read
-            → ReadsAll (S.given source.old) (S.given source.new) self.old self.new
+            → SinceBegun self.old (λ begun. ReadsAll (S.given source.old) (S.given source.new) begun self.new)
             × (S.failures source.new ≡ once_more (S.failures source.old)) }
         ensures too_long { result ≡ Err ReadFault.TooLong
-            → GoesTooFar (S.given source.old) (S.given source.new) self.old self.new }
+            → SinceBegun self.old (λ begun. GoesTooFar (S.given source.old) (S.given source.new) begun self.new) }
         ensures memory { result ≡ Err ReadFault.NoMemory
-            → ReadsOn (S.given source.old) (S.given source.new) self.old self.new }
+            → SinceBegun self.old (λ begun. ReadsOn (S.given source.old) (S.given source.new) begun self.new) }
         ensures no_failure { (result ≡ Err ReadFault.Read → ⊥) → S.failures source.new ≡ S.failures source.old }
         ensures held { length self.new.held ≤ LONGEST_PIECE }
     {
-        self.begin();
         'pieces: loop {
-            if self.take_part()? {
-                return Ok(Found::Whole);
-            }
             if !self.refill(source)? {
                 return Ok(Found::Last);
+            }
+            if self.take_part()? {
+                return Ok(Found::Whole);
             }
         }
     }

@@ -1,39 +1,60 @@
 //! The words of a line.
 
 ghost use Rattle.std.specs.Prelude.{◌≡◌, ◌++◌, ℕ, OnErr, OnOk, map, take};
-ghost use Rattle.tr_lines.specs.Words.{is_skipped, words_of};
+ghost use Rattle.std.specs.Str.{IsUtf8};
+ghost use Rattle.tr_lines.specs.Words.{is_skipped, part_words, words_of};
 
-use std::alloc::{AllocError, Allocator};
+use smallvec::SmallVec;
+use std::alloc::AllocError;
+
+/// A list of words. Up to 16 take no memory of the allocator, and few lines have more.
+pub type Words<'a> = SmallVec<&'a str, 16>;
+
+/// Adds the text of these bytes to a list of words, if there are any bytes. They are a text already, so it isn't tested again.
+fn push_part<'a>(words: &mut Words<'a>, part: &'a [u8]) -> Result<(), AllocError>
+    requires { IsUtf8 part.now }
+    ensures ok { OnOk result (map (λ w. w.now) words.new.items
+        ≡ map (λ w. w.now) words.old.items ++ part_words part.entry.now) }
+    ensures err { OnErr result (words.new ≡ words.old) }
+{
+    if part.is_empty() {
+        return Ok(());
+    }
+    let word = unsafe { std::str::from_utf8_unchecked(part) };
+    Ok(words.push(word)?)
+}
 
 /// Adds the words of a text to a list. Spaces separate them.
 ///
 /// # Errors
 ///
 /// An allocation failed. A prefix of the words is added then.
-pub fn push_words<'a, A: Allocator>(
-    words: &mut Vec<&'a str, A>,
-    text: &'a str,
-) -> Result<(), AllocError>
+pub fn push_words<'a>(words: &mut Words<'a>, text: &'a str) -> Result<(), AllocError>
     ensures ok { OnOk result (map (λ w. w.now) words.new.items
         ≡ map (λ w. w.now) words.old.items ++ words_of text.entry.now) }
     ensures err { OnErr result
         ((count : ℕ) × (map (λ w. w.now) words.new.items ≡ map (λ w. w.now) words.old.items
         ++ take count (words_of text.entry.now))) }
 {
-    'parts: for part in text.split(' ') {
-        if !part.is_empty() {
-            words.push(part)?;
+    let bytes = text.as_bytes();
+    let mut start = 0;
+    'bytes: for at in 0..bytes.len() {
+        if bytes[at] == b' ' {
+            push_part(words, &bytes[start..at])?;
+            start = at + 1;
         }
     }
-    Ok(())
+    push_part(words, &bytes[start..])
 }
 
-/// Whether a line with these words is skipped: it has none, or is a comment.
-pub fn is_skipped_line(words: &[&str]) -> bool
-    ensures { result ≡ is_skipped (map (λ w. w.now) words.now) }
+/// Whether a line with this text is skipped: it has no word, or the first one begins a comment.
+pub fn is_skipped_line(text: &str) -> bool
+    ensures { result ≡ is_skipped (words_of text.now) }
 {
-    match words {
-        [] => true,
-        [first, ..] => matches!(first.as_bytes(), [b'#', ..]),
+    'bytes: for byte in text.as_bytes() {
+        if *byte != b' ' {
+            return *byte == b'#';
+        }
     }
+    true
 }

@@ -9,7 +9,7 @@ use tr_chunk::{
     AuditCause, AuditFault, AuditReader, StreamAudit, WriteFault, archive_name, audit_stream,
     stream_file_name, write_metadata,
 };
-use tr_packet::{Head, Packet, encode_packet, metadata_text};
+use tr_packet::{Head, Packet, PacketText, encode_packet, metadata_text};
 use tr_record::{MemorySink, Rec};
 use tr_stream::Stream;
 use tr_terms::{Mode, Name, OffsetMinutes};
@@ -144,8 +144,8 @@ fn encoded<A: Allocator>(rt: &impl Abort, alloc: A, plain: Global) -> Told {
         return Told::Named(None);
     };
     let stream = packed(rt, plain);
-    let wanted = stream.part(0).map(|part| part.text());
-    let same = wanted == Some(bytes.as_slice());
+    let part = stream.part(0).expect(rt, "a part");
+    let same = bytes_of(rt, plain, part.texts()).as_slice() == bytes.as_slice();
     drop(stream);
     Told::Named(Some(same))
 }
@@ -300,9 +300,17 @@ static CALLS: [Asked; 6] = [
     Asked::Read,
 ];
 
+/// All bytes of the texts of packets, one after another.
+fn bytes_of(rt: &impl Abort, alloc: Global, texts: &[PacketText]) -> Vec<u8> {
+    let mut bytes = Vec::new(alloc);
+    for text in texts {
+        bytes.extend_from_slice(text.text()).expect(rt, "memory");
+    }
+    bytes
+}
+
 /// The two halves of the stream's file.
-fn halves<'a>(rt: &impl Abort, stream: &'a Stream) -> [&'a [u8]; 2] {
-    let text = stream.part(0).expect(rt, "a part").text();
+fn halves<'a>(rt: &impl Abort, text: &'a [u8]) -> [&'a [u8]; 2] {
     assert_same(rt, text.len(), 6 * PACKET);
     let (first, second) = text.split_at_checked(3 * PACKET).expect(rt, "six packets");
     [first, second]
@@ -328,7 +336,9 @@ fn refuse_calls(rt: &impl Abort, plain: Global, pieces: [&[u8]; 2]) -> (usize, u
 #[test]
 fn an_audit_and_a_file_without_memory_say_so(rt: HostRuntime) {
     let stream = with_gaps(&rt, rt.alloc());
-    let (tried, refused) = refuse_calls(&rt, rt.alloc(), halves(&rt, &stream));
+    let part = stream.part(0).expect(&rt, "a part");
+    let text = bytes_of(&rt, rt.alloc(), part.texts());
+    let (tried, refused) = refuse_calls(&rt, rt.alloc(), halves(&rt, &text));
     drop(stream);
     assert!(rt; tried >= 4_000, "{tried}");
     assert!(rt; refused >= 8, "{refused}");

@@ -12,8 +12,8 @@
 //! - The calls are of new rings and streams; a stream's takes, cuts, clears, releases and looks, and a run of all its calls; a
 //!   session's channels, threads, takes, steps of a rotation, whole rotations, clears, releases, ticks, snapshots and looks, its
 //!   events one by one (`Session::step`) and a run of ten of them; the bytes of a packet, the names of a stream's file and of an
-//!   archive, the metadata, and audits of whole pieces and in feeds; two archives, written to a disk; and two scripts, of 25
-//!   lines and of 8, which between them have each command.
+//!   archive, the metadata, and audits of whole pieces and in feeds; two archives, written to a disk; and three scripts, of
+//!   25 lines, of 8 and of 10, which between them have each command.
 //! - What is left after a refusal is what the documentation says, by all that a stream or a session shows: a rotation and a
 //!   tick on four streams are held up before they begin and at each of the four cuts, refuse a stop, and go on from there. A
 //!   run makes nothing.

@@ -10,6 +10,7 @@ mod shared;
 mod single;
 
 use crate::scarce::{UNIT, new_heap};
+use crate::streams::size_of;
 use crate::turns::{Call, assert_same, refuse_each, refuse_each_request};
 use alike::assert_same_session;
 use std::alloc::{Allocator, Global};
@@ -193,7 +194,7 @@ fn snapshot_shown<A: Allocator>(snapshot: &Snapshot<A>) -> (u64, u64, u64) {
     let (mut packets, mut bytes) = (0u64, 0u64);
     for snap in snapshot.streams() {
         packets = packets.wrapping_add(snap.packets().len() as u64);
-        bytes = bytes.wrapping_add(snap.text().len() as u64);
+        bytes = bytes.wrapping_add(size_of(snap.texts()) as u64);
     }
     (snapshot.moment().get(), packets, bytes)
 }
@@ -219,7 +220,7 @@ fn look<A: Allocator + Copy>(
         Ok(snap) => Ok((
             at.get(),
             snap.packets().len() as u64,
-            snap.text().len() as u64,
+            size_of(snap.texts()) as u64,
         )),
         Err(fault) => Err(fault),
     }

@@ -10,6 +10,7 @@ use linked_list_allocator::LocalHeap;
 use std::alloc::{AllocError, Allocator, Global};
 use std::process::Abort;
 use tr_book::Part;
+use tr_packet::PacketText;
 use tr_record::RecView;
 use tr_stream::{
     ClearFault, Cleared, CutDone, CutFault, ReleaseFault, Released, Stream, TakeFault, Taken,
@@ -41,14 +42,34 @@ fn assert_same_records<A: Allocator>(rt: &impl Abort, one: &Stream<A>, other: &S
 }
 
 /// A part's number, whether it was released, its packets, its records, its bytes and their text.
-fn part_shown<A: Allocator>(part: &Part<A>) -> ((u64, bool), (u64, usize), u64, u128, &[u8]) {
+fn part_shown<A: Allocator>(part: &Part<A>) -> ((u64, bool), (u64, usize), u64, u128) {
     (
         (part.id(), part.is_released()),
         (part.packet_count(), part.packets().len()),
         part.records(),
         part.bytes(),
-        part.text(),
     )
+}
+
+/// Asserts that two lists of packets have the same texts.
+fn assert_same_texts<A: Allocator>(
+    rt: &impl Abort,
+    one: &[PacketText<A>],
+    other: &[PacketText<A>],
+) {
+    assert_same(rt, one.len(), other.len());
+    for (one, other) in one.iter().zip(other) {
+        assert_same(rt, one.text(), other.text());
+    }
+}
+
+/// How many bytes the texts of packets have.
+pub(crate) fn size_of<A: Allocator>(texts: &[PacketText<A>]) -> usize {
+    let mut size = 0usize;
+    for text in texts {
+        size = size.wrapping_add(text.text().len());
+    }
+    size
 }
 
 /// Asserts that two streams have the same parts.
@@ -59,6 +80,9 @@ fn assert_same_parts<A: Allocator>(rt: &impl Abort, one: &Stream<A>, other: &Str
             one.part(k).map(part_shown),
             other.part(k).map(part_shown),
         );
+        if let (Some(one), Some(other)) = (one.part(k), other.part(k)) {
+            assert_same_texts(rt, one.texts(), other.texts());
+        }
     }
 }
 
@@ -68,7 +92,7 @@ fn assert_same_look<A: Allocator + Copy>(rt: &impl Abort, one: &Stream<A>, other
     let expected = other.peek(Moment::zero()).expect(rt, "memory");
     assert_same(rt, found.offered(), expected.offered());
     assert_same(rt, found.lost(), expected.lost());
-    assert_same(rt, found.text(), expected.text());
+    assert_same_texts(rt, found.texts(), expected.texts());
 }
 
 /// Asserts that two streams can't be told apart by what they show.
@@ -225,7 +249,7 @@ impl<A: Allocator + Copy> Call<A> for Row {
             Clear(_) => Told::Cleared(object.clear()),
             Release(..) => Told::Released(object.release(0)),
             Peek(_) => Told::Peeked(match object.peek(Moment::within_limit(100)) {
-                Ok(snap) => Some(snap.text().len()),
+                Ok(snap) => Some(size_of(snap.texts())),
                 Err(_) => None,
             }),
         }

@@ -2,13 +2,13 @@
 
 ghost use Rattle.std.specs.Prelude.{◌≡◌, ◌∷◌, ◌++◌, [], IfOk, OnOk};
 ghost use Rattle.std.specs.String.{string_bytes};
-ghost use Rattle.tr_console.specs.Replies.{Does};
+ghost use Rattle.tr_console.specs.Replies.{Does, text_bytes};
 ghost use Rattle.tr_console.specs.commands.Archives.{archive_line, archives_step, archives_text, released_mark};
 ghost use Rattle.tr_stream.specs.Rules.{by_state};
 
 use crate::console::Console;
 use crate::line_fault::LineFault;
-use crate::replies::{Reply, refusal};
+use crate::replies::{Reply, ReplyText, refusal};
 use std::alloc::{AllocError, Allocator};
 use std::fmt::Write;
 use tr_chunk::archive_name;
@@ -50,18 +50,21 @@ fn push_archive<A: Allocator + Copy>(
 }
 
 /// A line for each archive of a session, with its newline, or one that says that there is none.
-fn archives_of<A: Allocator + Copy>(alloc: A, session: &Session<A>) -> Result<String<A>, AllocError>
-    ensures { IfOk result (λ s. string_bytes s ≡ archives_text by_state session.now) }
+fn archives_of<A: Allocator + Copy>(
+    alloc: A,
+    session: &Session<A>,
+) -> Result<ReplyText<A>, AllocError>
+    ensures { IfOk result (λ t. text_bytes t ≡ archives_text by_state session.now) }
 {
     let archives = session.book().archives();
     if archives.is_empty() {
-        return String::from_str(alloc, "none\n");
+        return Ok(ReplyText::Constant("none\n"));
     }
     let mut text = String::new(alloc);
     'archives: for archive in archives {
         push_archive(&mut text, alloc, session, archive)?;
     }
-    Ok(text)
+    Ok(ReplyText::Written(text))
 }
 
 impl<A: Allocator + Copy> Console<A> {

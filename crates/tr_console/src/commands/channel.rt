@@ -7,7 +7,7 @@ ghost use Rattle.tr_console.specs.commands.Channel.{channel_step};
 
 use crate::console::Console;
 use crate::line_fault::LineFault;
-use crate::replies::{Reply, refusal};
+use crate::replies::{Reply, ReplyText, refusal};
 use std::alloc::{AllocError, Allocator};
 use tr_terms::{Mode, Name};
 
@@ -58,6 +58,6 @@ impl<A: Allocator + Copy> Console<A> {
             return refusal(alloc, LineFault::Session(fault));
         }
         let text = format!(in alloc; "channel {channel}\n")?;
-        Ok(Reply::done(text))
+        Ok(Reply::done(ReplyText::Written(text)))
     }
 }

@@ -1,16 +1,15 @@
 //! `clear`
 
 ghost use Rattle.std.specs.Prelude.{◌≡◌, ◌∷◌, ◌++◌, [], IfOk, OnOk, OnErr, is_err};
-ghost use Rattle.std.specs.String.{string_bytes};
 ghost use Rattle.tr_console.specs.LineFaults.{HasMemory};
-ghost use Rattle.tr_console.specs.Replies.{Does};
+ghost use Rattle.tr_console.specs.Replies.{Does, said};
 ghost use Rattle.tr_console.specs.Steps.{line_of};
 ghost use Rattle.tr_console.specs.commands.Clear.{IsClearedSomeOrAfter, clear_step, cleared_text};
 ghost use Rattle.tr_stream.specs.Rules.{by_state};
 
 use crate::console::Console;
 use crate::line_fault::{LineFault, from_session};
-use crate::replies::{Reply, refusal};
+use crate::replies::{Reply, ReplyText, refusal};
 use std::alloc::{AllocError, Allocator};
 
 /// The answer to a clear. If an allocation failed there is none.
@@ -18,14 +17,14 @@ fn cleared_reply<A: Allocator + Copy>(
     alloc: A,
     answer: Result<u128, LineFault>,
 ) -> Result<Reply<A>, AllocError>
-    ensures text { IfOk result (λ r. string_bytes r.text ≡ line_of cleared_text answer ++ 10 ∷ []) }
+    ensures text { IfOk result (λ r. said r ≡ line_of cleared_text answer ++ 10 ∷ []) }
     ensures refused { IfOk result (λ r. r.is_refused ≡ is_err answer) }
     ensures memory { OnOk result (HasMemory answer) }
 {
     match answer {
         Ok(records) => {
             let text = format!(in alloc; "cleared {records}\n")?;
-            Ok(Reply::done(text))
+            Ok(Reply::done(ReplyText::Written(text)))
         }
         Err(fault) => refusal(alloc, fault),
     }

@@ -1,16 +1,15 @@
 //! `consume`
 
 ghost use Rattle.std.specs.Prelude.{◌≡◌, ◌∷◌, ◌++◌, [], IfOk, OnOk, OnErr, is_err};
-ghost use Rattle.std.specs.String.{string_bytes};
 ghost use Rattle.tr_console.specs.LineFaults.{HasMemory};
-ghost use Rattle.tr_console.specs.Replies.{Does};
+ghost use Rattle.tr_console.specs.Replies.{Does, said};
 ghost use Rattle.tr_console.specs.Steps.{IsBeforeOrAfter, line_of};
 ghost use Rattle.tr_console.specs.commands.Consume.{consume_step, taken_text};
 ghost use Rattle.tr_stream.specs.Rules.{by_state};
 
 use crate::console::Console;
 use crate::line_fault::{LineFault, from_step};
-use crate::replies::{Reply, refusal};
+use crate::replies::{Reply, ReplyText, refusal, words_and_numbers};
 use std::alloc::{AllocError, Allocator};
 use tr_stream::Taken;
 
@@ -19,14 +18,15 @@ fn taken_reply<A: Allocator + Copy>(
     alloc: A,
     answer: Result<Taken, LineFault>,
 ) -> Result<Reply<A>, AllocError>
-    ensures text { IfOk result (λ r. string_bytes r.text ≡ line_of taken_text answer ++ 10 ∷ []) }
+    ensures text { IfOk result (λ r. said r ≡ line_of taken_text answer ++ 10 ∷ []) }
     ensures refused { IfOk result (λ r. r.is_refused ≡ is_err answer) }
     ensures memory { OnOk result (HasMemory answer) }
 {
     match answer {
         Ok(Taken { seq, count, chunk }) => {
-            let text = format!(in alloc; "taken {seq} records {count} chunk {chunk}\n")?;
-            Ok(Reply::done(text))
+            let parts = [("taken ", seq), (" records ", count), (" chunk ", chunk)];
+            let text = words_and_numbers(alloc, &parts)?;
+            Ok(Reply::done(ReplyText::Written(text)))
         }
         Err(fault) => refusal(alloc, fault),
     }

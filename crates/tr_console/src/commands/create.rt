@@ -8,7 +8,7 @@ ghost use Rattle.tr_terms.specs.Offsets.{IsOffset};
 
 use crate::console::Console;
 use crate::line_fault::LineFault;
-use crate::replies::{Reply, refusal};
+use crate::replies::{Reply, ReplyText, refusal};
 use std::alloc::{AllocError, Allocator};
 use tr_session::Session;
 use tr_session_book::SessionFault;
@@ -59,6 +59,6 @@ impl<A: Allocator + Copy> Console<A> {
         }
         let text = format!(in alloc; "created {session}\n")?;
         self.add(&name, Session::new(alloc, uuid, offset, mode))?;
-        Ok(Reply::done(text))
+        Ok(Reply::done(ReplyText::Written(text)))
     }
 }

@@ -1,30 +1,31 @@
 //! `fate`
 
 ghost use Rattle.std.specs.Prelude.{◌≡◌, ◌∷◌, ◌++◌, [], Some, IfOk, is_err};
-ghost use Rattle.std.specs.String.{string_bytes};
-ghost use Rattle.tr_console.specs.Replies.{Does};
+ghost use Rattle.tr_console.specs.Replies.{Does, said, text_bytes};
 ghost use Rattle.tr_console.specs.Steps.{line_of};
 ghost use Rattle.tr_console.specs.commands.Fate.{fate_step, fate_text};
 ghost use Rattle.tr_stream.specs.Rules.{by_state};
 
 use crate::console::Console;
 use crate::line_fault::{LineFault, from_step};
-use crate::replies::{Reply, refusal};
+use crate::replies::{Reply, ReplyText, refusal, words_and_numbers};
 use std::alloc::{AllocError, Allocator};
 use tr_stream::Fate;
 
 /// The words for what became of an accepted offer.
-fn fate_words<A: Allocator + Copy>(alloc: A, fate: Fate) -> Result<String<A>, AllocError>
-    ensures { IfOk result (λ s. string_bytes s ≡ fate_text (Some fate) ++ 10 ∷ []) }
+fn fate_words<A: Allocator + Copy>(alloc: A, fate: Fate) -> Result<ReplyText<A>, AllocError>
+    ensures { IfOk result (λ t. text_bytes t ≡ fate_text (Some fate) ++ 10 ∷ []) }
 {
     let text = match fate {
-        Fate::Discarded => String::from_str(alloc, "discarded\n")?,
-        Fate::Overwritten => String::from_str(alloc, "overwritten\n")?,
-        Fate::InRing { seq } => format!(in alloc; "in ring {seq}\n")?,
-        Fate::Cleared { seq } => format!(in alloc; "cleared {seq}\n")?,
-        Fate::InChunk { chunk, seq } => format!(in alloc; "in chunk {chunk} {seq}\n")?,
+        Fate::Discarded => return Ok(ReplyText::Constant("discarded\n")),
+        Fate::Overwritten => return Ok(ReplyText::Constant("overwritten\n")),
+        Fate::InRing { seq } => words_and_numbers(alloc, &[("in ring ", seq)])?,
+        Fate::Cleared { seq } => words_and_numbers(alloc, &[("cleared ", seq)])?,
+        Fate::InChunk { chunk, seq } => {
+            words_and_numbers(alloc, &[("in chunk ", chunk), (" ", seq)])?
+        }
     };
-    Ok(text)
+    Ok(ReplyText::Written(text))
 }
 
 /// The answer to a question about a fate.
@@ -32,12 +33,12 @@ fn fate_reply<A: Allocator + Copy>(
     alloc: A,
     answer: Result<Option<Fate>, LineFault>,
 ) -> Result<Reply<A>, AllocError>
-    ensures text { IfOk result (λ r. string_bytes r.text ≡ line_of fate_text answer ++ 10 ∷ []) }
+    ensures text { IfOk result (λ r. said r ≡ line_of fate_text answer ++ 10 ∷ []) }
     ensures refused { IfOk result (λ r. r.is_refused ≡ is_err answer) }
 {
     let text = match answer {
         Ok(Some(fate)) => fate_words(alloc, fate)?,
-        Ok(None) => String::from_str(alloc, "not offered\n")?,
+        Ok(None) => ReplyText::Constant("not offered\n"),
         Err(fault) => return refusal(alloc, fault),
     };
     Ok(Reply::done(text))

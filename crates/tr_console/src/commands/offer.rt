@@ -3,14 +3,14 @@
 ghost use Rattle.std.specs.Prelude.{◌≡◌, ◌∷◌, ◌++◌, [], IfOk, OnOk, OnErr, is_err};
 ghost use Rattle.std.specs.String.{string_bytes};
 ghost use Rattle.tr_console.specs.LineFaults.{HasMemory};
-ghost use Rattle.tr_console.specs.Replies.{Does};
+ghost use Rattle.tr_console.specs.Replies.{Does, said};
 ghost use Rattle.tr_console.specs.Steps.{IsBeforeOrAfter, line_of};
 ghost use Rattle.tr_console.specs.commands.Offer.{offer_step, offered_text, payload_of};
 ghost use Rattle.tr_stream.specs.Rules.{by_state};
 
 use crate::console::Console;
 use crate::line_fault::{LineFault, from_step};
-use crate::replies::{Reply, refusal};
+use crate::replies::{Reply, ReplyText, refusal, words_and_numbers};
 use std::alloc::{AllocError, Allocator};
 use tr_record::put_bytes;
 use tr_stream::Offered;
@@ -39,29 +39,48 @@ fn payload<A: Allocator + Copy>(alloc: A, text: &str, fill: u32) -> Result<Vec<u
     Ok(bytes)
 }
 
+/// What an offer did, with a newline.
+fn offered_line<A: Allocator + Copy>(alloc: A, offered: Offered) -> Result<String<A>, AllocError>
+    ensures { IfOk result (λ t. string_bytes t ≡ offered_text offered ++ 10 ∷ []) }
+{
+    match offered {
+        Offered::Stored { serial, seq } => {
+            words_and_numbers(alloc, &[("stored ", serial), (" in ", seq)])
+        }
+        Offered::StoredOver {
+            serial,
+            seq,
+            gone_seq,
+            gone_count,
+        } => words_and_numbers(
+            alloc,
+            &[
+                ("stored ", serial),
+                (" in ", seq),
+                (" over ", gone_seq),
+                (" ", gone_count),
+            ],
+        ),
+        Offered::Discarded { serial } => words_and_numbers(alloc, &[("discarded ", serial)]),
+    }
+}
+
 /// The answer to an offer. If an allocation failed there is none.
 fn offered_reply<A: Allocator + Copy>(
     alloc: A,
     answer: Result<Offered, LineFault>,
 ) -> Result<Reply<A>, AllocError>
-    ensures text { IfOk result (λ r. string_bytes r.text ≡ line_of offered_text answer ++ 10 ∷ []) }
+    ensures text { IfOk result (λ r. said r ≡ line_of offered_text answer ++ 10 ∷ []) }
     ensures refused { IfOk result (λ r. r.is_refused ≡ is_err answer) }
     ensures memory { OnOk result (HasMemory answer) }
 {
-    let text = match answer {
-        Ok(Offered::Stored { serial, seq }) => format!(in alloc; "stored {serial} in {seq}\n")?,
-        Ok(
-            Offered::StoredOver {
-                serial,
-                seq,
-                gone_seq,
-                gone_count,
-            },
-        ) => format!(in alloc; "stored {serial} in {seq} over {gone_seq} {gone_count}\n")?,
-        Ok(Offered::Discarded { serial }) => format!(in alloc; "discarded {serial}\n")?,
-        Err(fault) => return refusal(alloc, fault),
-    };
-    Ok(Reply::done(text))
+    match answer {
+        Ok(offered) => {
+            let text = offered_line(alloc, offered)?;
+            Ok(Reply::done(ReplyText::Written(text)))
+        }
+        Err(fault) => refusal(alloc, fault),
+    }
 }
 
 impl<A: Allocator + Copy> Console<A> {

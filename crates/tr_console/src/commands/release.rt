@@ -1,16 +1,15 @@
 //! `release`
 
 ghost use Rattle.std.specs.Prelude.{◌≡◌, ◌∷◌, ◌++◌, [], IfOk, OnOk, OnErr, is_err};
-ghost use Rattle.std.specs.String.{string_bytes};
 ghost use Rattle.tr_console.specs.LineFaults.{HasMemory};
-ghost use Rattle.tr_console.specs.Replies.{Does};
+ghost use Rattle.tr_console.specs.Replies.{Does, said};
 ghost use Rattle.tr_console.specs.Steps.{line_of};
 ghost use Rattle.tr_console.specs.commands.Release.{IsReleasedSomeOrAfter, release_step, released_text};
 ghost use Rattle.tr_stream.specs.Rules.{by_state};
 
 use crate::console::Console;
 use crate::line_fault::{LineFault, from_session};
-use crate::replies::{Reply, refusal};
+use crate::replies::{Reply, ReplyText, refusal};
 use std::alloc::{AllocError, Allocator};
 
 /// The answer to a release of the archive of this number. If an allocation failed there is none.
@@ -20,14 +19,14 @@ fn released_reply<A: Allocator + Copy>(
     answer: Result<(), LineFault>,
 ) -> Result<Reply<A>, AllocError>
     ensures text { IfOk result
-        (λ r. string_bytes r.text ≡ line_of (released_text archive) answer ++ 10 ∷ []) }
+        (λ r. said r ≡ line_of (released_text archive) answer ++ 10 ∷ []) }
     ensures refused { IfOk result (λ r. r.is_refused ≡ is_err answer) }
     ensures memory { OnOk result (HasMemory answer) }
 {
     match answer {
         Ok(()) => {
             let text = format!(in alloc; "released {archive}\n")?;
-            Ok(Reply::done(text))
+            Ok(Reply::done(ReplyText::Written(text)))
         }
         Err(fault) => refusal(alloc, fault),
     }

@@ -1,16 +1,15 @@
 //! `rotate`, and its steps `rotate-begin`, `rotate-next` and `rotate-finish`
 
 ghost use Rattle.std.specs.Prelude.{◌≡◌, ◌∷◌, ◌++◌, [], IfOk, OnOk, OnErr, is_err};
-ghost use Rattle.std.specs.String.{string_bytes};
 ghost use Rattle.tr_console.specs.LineFaults.{HasMemory};
-ghost use Rattle.tr_console.specs.Replies.{Does};
+ghost use Rattle.tr_console.specs.Replies.{Does, said};
 ghost use Rattle.tr_console.specs.Steps.{IsBeforeOrAfter, line_of};
 ghost use Rattle.tr_console.specs.commands.Rotate.{IsHeldUpOrAfter, archive_named, archived_text, next_text, rotate_begin_step, rotate_finish_step, rotate_next_step, rotate_step, rotating_text};
 ghost use Rattle.tr_stream.specs.Rules.{by_state};
 
 use crate::console::Console;
 use crate::line_fault::{LineFault, from_session, from_step};
-use crate::replies::{Reply, refusal};
+use crate::replies::{Reply, ReplyText, refusal};
 use std::alloc::{AllocError, Allocator};
 use tr_chunk::archive_name;
 use tr_session::Next;
@@ -44,14 +43,14 @@ fn rotating_reply<A: Allocator + Copy>(
     alloc: A,
     answer: Result<u64, LineFault>,
 ) -> Result<Reply<A>, AllocError>
-    ensures text { IfOk result (λ r. string_bytes r.text ≡ line_of rotating_text answer ++ 10 ∷ []) }
+    ensures text { IfOk result (λ r. said r ≡ line_of rotating_text answer ++ 10 ∷ []) }
     ensures refused { IfOk result (λ r. r.is_refused ≡ is_err answer) }
     ensures memory { OnOk result (HasMemory answer) }
 {
     match answer {
         Ok(id) => {
             let text = format!(in alloc; "rotating {id}\n")?;
-            Ok(Reply::done(text))
+            Ok(Reply::done(ReplyText::Written(text)))
         }
         Err(fault) => refusal(alloc, fault),
     }
@@ -62,13 +61,15 @@ fn next_reply<A: Allocator + Copy>(
     alloc: A,
     answer: Result<Next, LineFault>,
 ) -> Result<Reply<A>, AllocError>
-    ensures text { IfOk result (λ r. string_bytes r.text ≡ line_of next_text answer ++ 10 ∷ []) }
+    ensures text { IfOk result (λ r. said r ≡ line_of next_text answer ++ 10 ∷ []) }
     ensures refused { IfOk result (λ r. r.is_refused ≡ is_err answer) }
     ensures memory { OnOk result (HasMemory answer) }
 {
     let text = match answer {
-        Ok(Next::Cut { stream, records }) => format!(in alloc; "cut {stream} records {records}\n")?,
-        Ok(Next::AllCut) => String::from_str(alloc, "all cut\n")?,
+        Ok(Next::Cut { stream, records }) => {
+            ReplyText::Written(format!(in alloc; "cut {stream} records {records}\n")?)
+        }
+        Ok(Next::AllCut) => ReplyText::Constant("all cut\n"),
         Err(fault) => return refusal(alloc, fault),
     };
     Ok(Reply::done(text))
@@ -79,7 +80,7 @@ fn archived_reply<A: Allocator + Copy>(
     alloc: A,
     answer: Result<NamedArchive, LineFault>,
 ) -> Result<Reply<A>, AllocError>
-    ensures text { IfOk result (λ r. string_bytes r.text ≡ line_of archived_text answer ++ 10 ∷ []) }
+    ensures text { IfOk result (λ r. said r ≡ line_of archived_text answer ++ 10 ∷ []) }
     ensures refused { IfOk result (λ r. r.is_refused ≡ is_err answer) }
     ensures memory { OnOk result (HasMemory answer) }
 {
@@ -88,7 +89,7 @@ fn archived_reply<A: Allocator + Copy>(
             let id = archive.id;
             let name = archive_name(alloc, archive.begin, archive.end, offset, id)?;
             let text = format!(in alloc; "archived {id} {name}\n")?;
-            Ok(Reply::done(text))
+            Ok(Reply::done(ReplyText::Written(text)))
         }
         Err(fault) => refusal(alloc, fault),
     }

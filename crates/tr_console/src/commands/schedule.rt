@@ -1,16 +1,15 @@
 //! `schedule`
 
 ghost use Rattle.std.specs.Prelude.{◌≡◌, ◌∷◌, ◌++◌, [], IfOk, OnOk, OnErr, is_err};
-ghost use Rattle.std.specs.String.{string_bytes};
 ghost use Rattle.tr_console.specs.LineFaults.{HasMemory};
-ghost use Rattle.tr_console.specs.Replies.{Does};
+ghost use Rattle.tr_console.specs.Replies.{Does, said};
 ghost use Rattle.tr_console.specs.Steps.{IsBeforeOrAfter, line_of};
 ghost use Rattle.tr_console.specs.commands.Schedule.{after_schedule_asked, schedule_asked, schedule_set, schedule_step, schedule_text};
 ghost use Rattle.tr_session_book.specs.BookSteps.{book_schedule_answer};
 
 use crate::console::Console;
 use crate::line_fault::LineFault;
-use crate::replies::{Reply, refusal};
+use crate::replies::{Reply, ReplyText, refusal};
 use std::alloc::{AllocError, Allocator};
 use tr_schedule::{Schedule, ScheduleFault};
 use tr_session::Session;
@@ -53,16 +52,16 @@ fn schedule_reply<A: Allocator + Copy>(
     alloc: A,
     answer: Result<Option<Schedule>, LineFault>,
 ) -> Result<Reply<A>, AllocError>
-    ensures text { IfOk result (λ r. string_bytes r.text ≡ line_of schedule_text answer ++ 10 ∷ []) }
+    ensures text { IfOk result (λ r. said r ≡ line_of schedule_text answer ++ 10 ∷ []) }
     ensures refused { IfOk result (λ r. r.is_refused ≡ is_err answer) }
     ensures memory { OnOk result (HasMemory answer) }
 {
     let text = match answer {
-        Ok(Some(_)) => String::from_str(alloc, "schedule set\n")?,
-        Ok(None) => String::from_str(alloc, "schedule off\n")?,
+        Ok(Some(_)) => "schedule set\n",
+        Ok(None) => "schedule off\n",
         Err(fault) => return refusal(alloc, fault),
     };
-    Ok(Reply::done(text))
+    Ok(Reply::done(ReplyText::Constant(text)))
 }
 
 impl<A: Allocator + Copy> Console<A> {

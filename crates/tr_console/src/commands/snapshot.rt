@@ -3,14 +3,14 @@
 ghost use Rattle.std.specs.Prelude.{◌≡◌, ◌∷◌, ◌++◌, [], IfOk, OnOk, OnErr, is_err};
 ghost use Rattle.std.specs.String.{string_bytes};
 ghost use Rattle.tr_console.specs.LineFaults.{HasMemory};
-ghost use Rattle.tr_console.specs.Replies.{Does};
+ghost use Rattle.tr_console.specs.Replies.{Does, said};
 ghost use Rattle.tr_console.specs.Steps.{IsBeforeOrAfter, line_of};
 ghost use Rattle.tr_console.specs.commands.Snapshot.{packet_line, packet_lines, snapshot_step, snapshot_text, stream_line};
 ghost use Rattle.tr_stream.specs.Rules.{by_state};
 
 use crate::console::Console;
 use crate::line_fault::{LineFault, from_session};
-use crate::replies::{Reply, refusal};
+use crate::replies::{Reply, ReplyText, refusal};
 use std::alloc::{AllocError, Allocator};
 use std::fmt::Write;
 use tr_book::StreamSnap;
@@ -98,7 +98,7 @@ fn snapshot_reply<A: Allocator + Copy>(
     alloc: A,
     answer: Result<Snapshot<A>, LineFault>,
 ) -> Result<Reply<A>, AllocError>
-    ensures text { IfOk result (λ r. string_bytes r.text ≡ line_of snapshot_text answer ++ 10 ∷ []) }
+    ensures text { IfOk result (λ r. said r ≡ line_of snapshot_text answer ++ 10 ∷ []) }
     ensures refused { IfOk result (λ r. r.is_refused ≡ is_err answer) }
     ensures memory { OnOk result (HasMemory answer) }
 {
@@ -106,7 +106,7 @@ fn snapshot_reply<A: Allocator + Copy>(
         Ok(snapshot) => {
             let mut text = snapshot_of(alloc, &snapshot)?;
             text.push_str("\n")?;
-            Ok(Reply::done(text))
+            Ok(Reply::done(ReplyText::Written(text)))
         }
         Err(fault) => refusal(alloc, fault),
     }

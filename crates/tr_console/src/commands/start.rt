@@ -23,7 +23,7 @@ impl<A: Allocator + Copy> Console<A> {
         let Some(found) = self.find_mut(session) else {
             return refusal(alloc, LineFault::NoSession);
         };
-        done_reply(alloc, "started", from_session(found.start(moment)))
+        done_reply(alloc, "started\n", from_session(found.start(moment)))
     }
 
     /// Stops the session of this name and its streams.
@@ -36,6 +36,6 @@ impl<A: Allocator + Copy> Console<A> {
         let Some(found) = self.find_mut(session) else {
             return refusal(alloc, LineFault::NoSession);
         };
-        done_reply(alloc, "stopped", from_session(found.stop()))
+        done_reply(alloc, "stopped\n", from_session(found.stop()))
     }
 }

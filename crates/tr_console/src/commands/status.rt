@@ -8,7 +8,7 @@ ghost use Rattle.tr_stream.specs.Rules.{by_state};
 
 use crate::console::Console;
 use crate::line_fault::LineFault;
-use crate::replies::{Reply, refusal};
+use crate::replies::{Reply, ReplyText, refusal};
 use std::alloc::{AllocError, Allocator};
 use std::fmt::Write;
 use tr_book::Counts;
@@ -186,6 +186,6 @@ impl<A: Allocator + Copy> Console<A> {
         };
         let mut text = status_of(alloc, session, found)?;
         text.push_str("\n")?;
-        Ok(Reply::done(text))
+        Ok(Reply::done(ReplyText::Written(text)))
     }
 }

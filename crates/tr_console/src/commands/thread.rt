@@ -8,7 +8,7 @@ ghost use Rattle.tr_stream.specs.Rules.{by_state};
 
 use crate::console::Console;
 use crate::line_fault::LineFault;
-use crate::replies::{Reply, refusal};
+use crate::replies::{Reply, ReplyText, refusal};
 use std::alloc::{AllocError, Allocator};
 
 impl<A: Allocator + Copy> Console<A> {
@@ -29,7 +29,7 @@ impl<A: Allocator + Copy> Console<A> {
         match found.add_thread(channel) {
             Ok(stream) => {
                 let text = format!(in alloc; "stream {stream}\n")?;
-                Ok(Reply::done(text))
+                Ok(Reply::done(ReplyText::Written(text)))
             }
             Err(fault) => refusal(alloc, LineFault::Session(fault)),
         }

@@ -1,9 +1,8 @@
 //! `tick`
 
 ghost use Rattle.std.specs.Prelude.{◌≡◌, ◌∷◌, ◌++◌, [], true, None, IfOk, IfErr, OnOk, OnErr, is_err, option_and_then};
-ghost use Rattle.std.specs.String.{string_bytes};
 ghost use Rattle.tr_console.specs.LineFaults.{HasMemory, wants_memory};
-ghost use Rattle.tr_console.specs.Replies.{Does};
+ghost use Rattle.tr_console.specs.Replies.{Does, said};
 ghost use Rattle.tr_console.specs.Steps.{line_of};
 ghost use Rattle.tr_console.specs.World.{session_named};
 ghost use Rattle.tr_console.specs.commands.Rotate.{IsHeldUpOrAfter};
@@ -14,7 +13,7 @@ ghost use Rattle.tr_stream.specs.Rules.{by_state};
 use crate::commands::rotate::NamedArchive;
 use crate::console::Console;
 use crate::line_fault::LineFault;
-use crate::replies::{Reply, refusal};
+use crate::replies::{Reply, ReplyText, refusal};
 use std::alloc::{AllocError, Allocator};
 use tr_chunk::archive_name;
 use tr_schedule::Cause;
@@ -63,22 +62,19 @@ fn tick_reply<A: Allocator + Copy>(
     alloc: A,
     answer: Result<TickTold, LineFault>,
 ) -> Result<Reply<A>, AllocError>
-    ensures text { IfOk result (λ r. string_bytes r.text ≡ line_of tick_text answer ++ 10 ∷ []) }
+    ensures text { IfOk result (λ r. said r ≡ line_of tick_text answer ++ 10 ∷ []) }
     ensures refused { IfOk result (λ r. r.is_refused ≡ is_err answer) }
     ensures memory { OnOk result (HasMemory answer) }
 {
     match answer {
-        Ok(TickTold::Idle) => {
-            let text = String::from_str(alloc, "idle\n")?;
-            Ok(Reply::done(text))
-        }
+        Ok(TickTold::Idle) => Ok(Reply::done(ReplyText::Constant("idle\n"))),
         Ok(TickTold::Rotated { cause, named }) => {
             let NamedArchive { archive, offset } = named;
             let id = archive.id;
             let name = archive_name(alloc, archive.begin, archive.end, offset, id)?;
             let cause = cause.word();
             let text = format!(in alloc; "rotated {cause} {id} {name}\n")?;
-            Ok(Reply::done(text))
+            Ok(Reply::done(ReplyText::Written(text)))
         }
         Err(fault) => refusal(alloc, fault),
     }

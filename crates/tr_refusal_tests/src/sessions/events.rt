@@ -3,6 +3,7 @@
 use super::alike::assert_same_session;
 use super::{ARCHIVED, NO_MEMORY, Step, THREE, Told, make_steps, new_session, numbers};
 use crate::sessions::single::BEGUN;
+use crate::streams::size_of;
 use crate::turns::{Call, assert_same, refuse_each_request};
 use std::alloc::{Allocator, Global};
 use std::process::Abort;
@@ -59,7 +60,7 @@ fn shown<A: Allocator>(answer: &Answer<A>) -> Told {
         Answer::Clear(answer) => Told::Cleared(*answer),
         Answer::Release(answer) => Told::Released(*answer),
         Answer::Snap(Ok(snap)) => {
-            let (packets, bytes) = (snap.packets().len() as u64, snap.text().len() as u64);
+            let (packets, bytes) = (snap.packets().len() as u64, size_of(snap.texts()) as u64);
             Told::Shown(Ok((100, packets, bytes)))
         }
         Answer::Snap(Err(fault)) => Told::Shown(Err(*fault)),

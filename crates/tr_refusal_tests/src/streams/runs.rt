@@ -1,6 +1,6 @@
 //! A stream over a list of calls.
 
-use super::assert_same_stream;
+use super::{assert_same_stream, size_of};
 use crate::turns::{Call, assert_same, only, refuse_each_request};
 use std::alloc::{AllocError, Allocator};
 use std::process::Abort;
@@ -34,7 +34,7 @@ fn shown<A: Allocator>(answer: &StreamAnswer<A>) -> Said {
         StreamAnswer::Cut(answer) => Said::Cut(*answer),
         StreamAnswer::Clear(answer) => Said::Clear(*answer),
         StreamAnswer::Release(answer) => Said::Release(*answer),
-        StreamAnswer::Peek(Ok(snap)) => Said::Peek(Some(snap.text().len())),
+        StreamAnswer::Peek(Ok(snap)) => Said::Peek(Some(size_of(snap.texts()))),
         StreamAnswer::Peek(Err(_)) => Said::Peek(None),
         StreamAnswer::Start => Said::Start,
         StreamAnswer::Stop => Said::Stop,

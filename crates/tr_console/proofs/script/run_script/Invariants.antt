@@ -6,7 +6,7 @@ use Rattle.tr_lines.specs.Reading.{budget}
 abbrev pub invariant-lines : goal.invariant-lines
 invariant-lines g l = record {
   going : Going (g.S.ByteSource.given l.fn.source) (g.S.ByteSource.given l.source) (g.K.ByteSink.taken l.fn.sink)
-      (g.K.ByteSink.taken l.sink) l.reader l.console l.refused;
+      (g.K.ByteSink.taken l.sink) l.outbox l.reader l.console l.refused;
   content : g.S.ByteSource.content l.source ≡ g.S.ByteSource.content l.fn.source;
   source_works : g.S.ByteSource.failures l.source ≡ g.S.ByteSource.failures l.fn.source;
   sink_works : g.K.ByteSink.failures l.sink ≡ g.K.ByteSink.failures l.fn.sink;

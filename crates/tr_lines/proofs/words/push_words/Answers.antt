@@ -1,46 +1,53 @@
-use Rattle.std.proofs.Common.{◌∙◌, ◌++◌, [], ◌∷◌, not, ℕ, List, Bor, sym, ap, lit<, length, map}
-use Rattle.std.specs.List.{slice_split}
-use Rattle.std.specs.Prelude.{◌==◌}
-use Rattle.std.proofs.lemmas.Iterator.Consumers.{YieldsList-at, YieldsList-end, YieldsList-turn}
-use Rattle.std.proofs.lemmas.Iterator.Splits.{YieldsList-from_str_split}
-use Rattle.std.proofs.lemmas.List.{length_push}
-use Rattle.tr_lines.proofs.WordLemmas.{OnErr-always, words_in, words_in-first, words_in-all, words_in-push, words_in-same}
+use Rattle.std.proofs.Common.{◌≡◌, ◌∙◌, ◌-◌, ◌++◌, ℕ, List, Bor, ap, arith, drop, length, length-drop, map, take}
+use Rattle.std.proofs.lemmas.List.{take_all}
+use Rattle.tr_lines.specs.Words.{is_space, part_words, words_of}
+use Rattle.tr_lines.proofs.WordLemmas.{OnErr-always, OnErr-map, OnOk-map, cut-failed, cut-first, cut-last, cut-last-utf8, cut-on, cut-part, cut-part-utf8, no_space}
 use Rattle.tr_lines.proofs.words.push_words.Goals as goal
+use Rattle.tr_lines.proofs.words.push_words.Goals.{then-bytes-at-eq32+in_ok-push_part, else-bytes-at-eq32}
 
-pub parts-preserved-in-Continue-1 : goal.parts-preserved-in-Continue-1
-parts-preserved-in-Continue-1 g c =
-    let t = YieldsList-turn (YieldsList-at c.into_iter-part-iterator.ensures.into_iter_gives
-    (YieldsList-from_str_split 32 c.args.text.now (lit< tt) c.split-part-items.ensures.text
-    c.split-part-items.ensures.has_more c.split-part-items.ensures.pattern)) c.parts.yielded _ c.parts.yielded_by _ _
-    c.in-Some.part c.in-Some.is c.next.ensures.steps in
-    words_in-push c.args.words.now.items c.parts.words.items c.push.new.self.items (slice_split (λ b. b == 32) c.args.text.now)
-    (length c.parts.yielded) (length (c.parts.yielded ++ c.in-Some.part ∷ [])) c.in-Some.part c.parts.invariant t.0 t.1
-    (length_push c.parts.yielded c.in-Some.part) (ap not (sym c.if-not-is_empty.ensures)) c.in_ok-push.ensures.items
+abbrev texts : List (Bor (List ℕ)) → List (List ℕ)
+texts words = map (λ w. w.now) words
 
-pub parts-preserved : goal.parts-preserved
-parts-preserved g c =
-    let t = YieldsList-turn (YieldsList-at c.into_iter-part-iterator.ensures.into_iter_gives
-    (YieldsList-from_str_split 32 c.args.text.now (lit< tt) c.split-part-items.ensures.text
-    c.split-part-items.ensures.has_more c.split-part-items.ensures.pattern)) c.parts.yielded _ c.parts.yielded_by _ _
-    c.in-Some.part c.in-Some.is c.next.ensures.steps in
-    words_in-same c.args.words.now.items c.parts.words.items c.parts.words.items (slice_split (λ b. b == 32) c.args.text.now)
-    (length c.parts.yielded) (length (c.parts.yielded ++ c.in-Some.part ∷ [])) c.in-Some.part c.parts.invariant t.0 t.1
-    (length_push c.parts.yielded c.in-Some.part) (ap not (sym c.if-not-is_empty.ensures))
+-- what a range leaves of a slice
+from : (bytes : List ℕ) (start : ℕ) → take (length bytes - start) (drop start bytes) ≡ drop start bytes
+from bytes start = take_all (length bytes - start) (drop start bytes) (omega (arith, length-drop start bytes))
+
+pub bytes-init : goal.bytes-init
+bytes-init c = cut-first _ _ c.as_bytes-bytes.ensures.utf8
+
+pub push_part-requires : goal.push_part-requires
+push_part-requires c = cut-part-utf8 _ _ _ _ _ c.bytes.invariant c.as_bytes-bytes.ensures.utf8 c.bytes-test.true (ap is_space c.if-bytes-at-eq32.true)
+
+pub returns-in_err-push_part-clause-err : goal.returns-in_err-push_part-clause-err
+returns-in_err-push_part-clause-err c = OnErr-always c.from_residual.result (
+  length c.bytes.invariant.done,
+  ap (λ ws. texts ws.items) c.in_err-push_part.ensures.err ∙ cut-failed _ _ _ _ _ c.bytes.invariant
+      ∙ ap (λ t. texts c.args.words.now.items ++ take (length c.bytes.invariant.done) (words_of t)) c.as_bytes-bytes.ensures.value,
+)
+
+pub bytes-preserved : goal.bytes-preserved
+bytes-preserved c = elim c.if-bytes-at-eq32.branch [
+  | then-bytes-at-eq32+in_ok-push_part w ↦ rw (w.words-is, w.start-is) (cut-part _ _ _ _ _ c.bytes.invariant _ c.as_bytes-bytes.ensures.utf8 c.bytes-test.true
+      (ap is_space w.if-bytes-at-eq32.true) w.in_ok-push_part.ensures.ok)
+  | else-bytes-at-eq32 w ↦ rw (w.words-is, w.start-is) (cut-on _ _ _ _ _ c.bytes.invariant c.bytes-test.true (no_space _ w.if-bytes-at-eq32.false))
+]
+
+pub push_part-requires-2 : goal.push_part-requires-2
+push_part-requires-2 c =
+    let bytes : List ℕ = c.as_bytes-bytes.result.now in
+    rw (from bytes c.bytes.start) (cut-last-utf8 _ _ _ _ _ c.bytes.invariant c.as_bytes-bytes.ensures.utf8)
 
 pub returns-clause-ok : goal.returns-clause-ok
-returns-clause-ok g c =
-    let t = YieldsList-end (YieldsList-at c.into_iter-part-iterator.ensures.into_iter_gives
-    (YieldsList-from_str_split 32 c.args.text.now (lit< tt) c.split-part-items.ensures.text
-    c.split-part-items.ensures.has_more c.split-part-items.ensures.pattern)) c.parts.yielded _ c.parts.yielded_by _ _
-    c.in-None.is c.next.ensures.steps in
-    c.parts.invariant ∙ ap (λ ws. map (λ (w : Bor (List ℕ)). w.now) c.args.words.now.items ++ ws)
-    (words_in-all (slice_split (λ b. b == 32) c.args.text.now) (length c.parts.yielded) t.1)
+returns-clause-ok c =
+    let bytes : List ℕ = c.as_bytes-bytes.result.now in
+    let old : List (List ℕ) = texts c.args.words.now.items in
+    OnOk-map c.push_part-2.result (λ added. cut-last _ _ _ _ _ c.bytes.invariant _ c.bytes-test.false
+    (added ∙ ap (λ part. texts c.bytes.words.items ++ part_words part) (from bytes c.bytes.start))
+    ∙ ap (λ t. old ++ words_of t) c.as_bytes-bytes.ensures.value) c.push_part-2.ensures.ok
 
-pub returns-in_err-push-clause-err : goal.returns-in_err-push-clause-err
-returns-in_err-push-clause-err g c =
-    let parts : List (List ℕ) = slice_split (λ b. b == 32) c.args.text.now in
-    OnErr-always c.from_residual.result (
-      length (words_in parts (length c.parts.yielded)),
-      ap (map (λ (w : Bor (List ℕ)). w.now)) c.in_err-push.ensures.items ∙ c.parts.invariant
-          ∙ ap (λ ws. map (λ (w : Bor (List ℕ)). w.now) c.args.words.now.items ++ ws) (words_in-first parts (length c.parts.yielded)),
-    )
+pub returns-clause-err : goal.returns-clause-err
+returns-clause-err c = OnErr-map c.push_part-2.result (λ same. (
+  length c.bytes.invariant.done,
+  ap (λ ws. texts ws.items) same ∙ cut-failed _ _ _ _ _ c.bytes.invariant
+      ∙ ap (λ t. texts c.args.words.now.items ++ take (length c.bytes.invariant.done) (words_of t)) c.as_bytes-bytes.ensures.value,
+)) c.push_part-2.ensures.err

@@ -1,9 +1,7 @@
-use Rattle.std.proofs.Common.{◌≡◌, ◌++◌, length, map}
-use Rattle.std.specs.List.{slice_split}
-use Rattle.std.specs.Prelude.{◌==◌}
-use Rattle.tr_lines.proofs.WordLemmas.{words_in}
+use Rattle.std.proofs.Common.{map}
+use Rattle.tr_lines.proofs.WordLemmas.{Cut}
 use Rattle.tr_lines.proofs.words.push_words.Given as goal
 
-abbrev pub invariant-parts : goal.invariant-parts
-invariant-parts g l =
-    map (λ w. w.now) l.words.items ≡ map (λ w. w.now) l.fn.words.items ++ words_in (slice_split (λ b. b == 32) l.fn.text) (length l.yielded)
+-- the words before the part that begins at `start` are added
+abbrev pub invariant-bytes : goal.invariant-bytes
+invariant-bytes l = Cut (map (λ w. w.now) l.fn.words.items) (map (λ w. w.now) l.words.items) l.bytes l.start l.at

@@ -2,12 +2,6 @@ use Rattle.std.proofs.Common.{arith}
 use Rattle.std.proofs.lemmas.Grind.{common_steps}
 use Rattle.tr_console.proofs.console.Console.answer.Goals as goal
 
-pub slice_bounds-is_skipped_line-count : goal.slice_bounds-is_skipped_line-count
-slice_bounds-is_skipped_line-count g c = grind (arith, common_steps)
-
-pub slice_bounds-is_skipped_line-start : goal.slice_bounds-is_skipped_line-start
-slice_bounds-is_skipped_line-start g c = grind (arith, common_steps)
-
 pub returns-then-is_skipped_line : goal.returns-then-is_skipped_line
 returns-then-is_skipped_line g c = grind (arith, common_steps)
 

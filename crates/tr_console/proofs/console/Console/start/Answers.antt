@@ -1,5 +1,5 @@
-use Rattle.std.proofs.Common.{Some, inr, sym, ◌≡◌}
-use Rattle.tr_console.proofs.CallLemmas.{called_session, left, on_err}
+use Rattle.std.proofs.Common.{Some, codes, inr, refl, sym, ◌≡◌}
+use Rattle.tr_console.proofs.CallLemmas.{called_session, done_text, left, on_err}
 use Rattle.tr_console.proofs.console.Console.start.Goals as goal
 use Rattle.tr_console.specs.LineFaults.{from_session}
 use Rattle.tr_console.specs.World.{session_named, with_session}
@@ -16,7 +16,8 @@ returns-clause-done g c =
     let found : session_named name w ≡ Some s = sym c.in-Some.ensures.found in
     let t = c.start.new.self in
     let said = c.done_reply.ensures in
-    called_session w name started_text (session_after_start by_state c.args.moment) s t found c.done_reply.result c.from_session.result said.text said.refused said.memory
+    let text = done_text c.done_reply.result _ (codes "started") c.from_session.result refl said.text in
+    called_session w name started_text (session_after_start by_state c.args.moment) s t found c.done_reply.result c.from_session.result text said.refused said.memory
     (λ u. book_start_answer u.book) c.start.result c.from_session.ensures (λ _. (c.start.ensures.answer, c.start.ensures.after))
 
 pub returns-clause-failed : goal.returns-clause-failed

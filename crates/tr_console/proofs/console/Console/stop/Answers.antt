@@ -1,5 +1,5 @@
-use Rattle.std.proofs.Common.{Some, inr, sym, ◌≡◌}
-use Rattle.tr_console.proofs.CallLemmas.{called_session, left, on_err}
+use Rattle.std.proofs.Common.{Some, codes, inr, refl, sym, ◌≡◌}
+use Rattle.tr_console.proofs.CallLemmas.{called_session, done_text, left, on_err}
 use Rattle.tr_console.proofs.console.Console.stop.Goals as goal
 use Rattle.tr_console.specs.LineFaults.{from_session}
 use Rattle.tr_console.specs.World.{session_named, with_session}
@@ -16,7 +16,8 @@ returns-clause-done g c =
     let found : session_named name w ≡ Some s = sym c.in-Some.ensures.found in
     let t = c.stop.new.self in
     let said = c.done_reply.ensures in
-    called_session w name stopped_text (session_after_stop by_state) s t found c.done_reply.result c.from_session.result said.text said.refused said.memory
+    let text = done_text c.done_reply.result _ (codes "stopped") c.from_session.result refl said.text in
+    called_session w name stopped_text (session_after_stop by_state) s t found c.done_reply.result c.from_session.result text said.refused said.memory
     (λ u. book_stop_answer u.book) c.stop.result c.from_session.ensures (λ _. (c.stop.ensures.answer, c.stop.ensures.after))
 
 pub returns-clause-failed : goal.returns-clause-failed
