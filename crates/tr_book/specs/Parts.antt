@@ -1,10 +1,11 @@
 -- The packets that were consumed, in parts.
-use Rattle.std.specs.Prelude.{◌≡◌, ℕ, zero, suc, ◌+◌, List, [], ◌∷◌, ◌++◌, length, sum_by, slice_get, Option, Some, None, find, ◌==◌, nat_le, if◌then◌else◌}
+use Rattle.std.specs.Prelude.{◌≡◌, ◌≤◌, ◌<◌, ◌*◌, ℕ, zero, suc, ◌+◌, List, [], ◌∷◌, ◌++◌, length, sum_by, slice_get, Option, Some, None, find, ◌==◌, nat_le, if◌then◌else◌}
 use Rattle.std.specs.Option.{option_map}
-use Rattle.tr_book.specs.Runs.{packet_runs, seq_in_runs}
+use Rattle.tr_book.specs.Runs.{GapsShow, PacketsRise, RunsRise, packet_runs, seq_in_runs}
 use Rattle.tr_book.specs.declared.runs.Run.{Run}
 use Rattle.tr_packet.specs.Packets.{Contents, packet_size}
 use Rattle.tr_record.specs.Records.{has_serial}
+use Rattle.tr_terms.specs.declared.limits.TheConstants.{LARGEST_PACKET}
 
 -- what is kept of packets that were released: their runs, and how many packets, records and bytes they were
 pub record Rest : Type 0 where
@@ -137,3 +138,26 @@ IsNumbered s = s.current.id ≡ length s.closed
 abbrev pub place_in : ℕ → List ℕ → ℕ
 place_in n [] = 0
 place_in n (s ∷ starts) = if nat_le s n then place_in n starts + 1 else 0
+
+-- parts, and how many more packets the current one has room for
+pub record ReadyState : Type 0 where
+  pub parts : PartsState
+  pub room : ℕ
+
+-- a current part of this number with these packets, which have so many records and bytes, after so many closed parts; and the lists
+-- of closed parts and of their beginnings have room for one more
+pub record IsReady (id records bytes : ℕ) (packets : List Contents) (closed closed_room starts starts_room : ℕ) : Type 0 where
+  pub numbered : id ≡ closed
+  pub counted : records ≡ records_of packets
+  pub sized : bytes ≡ bytes_of packets
+  pub small : bytes ≤ LARGEST_PACKET * records
+  pub one_closed : closed < closed_room
+  pub one_start : starts < starts_room
+
+-- what a search among a part's packets, or their runs, rests on: serials rise, and where some are missing in a packet, that shows
+abbrev pub CanBeSearched : List Contents → Option Rest → Type 0
+CanBeSearched packets None = PacketsRise 0 packets × GapsShow 0 packets
+CanBeSearched packets (Some rest) = RunsRise 0 rest.runs
+
+abbrev pub IsOrdered : PartState → Type 0
+IsOrdered p = CanBeSearched p.packets p.released

@@ -6,15 +6,18 @@
 //! # Example
 //!
 //! ```
-//! parts.cut(packets, accepted)?;  // closes the current part with these packets, and begins the next
-//! parts.release(0)?;              // part 0 gives up its packets, and keeps their runs
+//! let ready = parts.ready(packets.len())?;   // has room for them, or the parts come back
+//! let parts = ready.cut(packets, accepted);  // closes the current part with these packets, and begins the next
+//! parts.release(0)?;                         // part 0 gives up its packets, and keeps their runs
 //! ```
 //!
 //! # What is proved
 //!
 //! - Parts are lists of packets with their sums. A released part has no packets, and the sums that it had.
-//! - A packet's runs are as long as they can be and in order, and none goes over two packets.
-//! - A call for which an allocation fails leaves the parts as they were.
+//! - A packet's runs are as long as they can be and in order, and none goes over two packets. Of a packet that says no more was
+//!   lost than the one before it, they are known by its first record and its count.
+//! - A call for which an allocation fails leaves the parts as they were. Once parts are ready (`ReadyParts`), adding packets and
+//!   closing the current part take no memory.
 #![tactic(auto)]
 
 mod book;
@@ -27,7 +30,7 @@ mod snap;
 pub use book::Book;
 pub use counts::Counts;
 pub use part::{Part, records_in};
-pub use parts::Parts;
-pub use runs::{Run, Runs};
+pub use parts::{Parts, ReadyParts};
+pub use runs::{Run, Runs, has_known};
 pub use snap::StreamSnap;
 pub use tr_terms::{Geometry, GeometryFault, Mode};

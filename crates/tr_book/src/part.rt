@@ -1,39 +1,37 @@
 //! A part: what a stream's ring gave to one trace chunk.
 
-ghost use Rattle.std.specs.Prelude.{◌≡◌, ◌≢◌, ◌≤◌, ◌+◌, ◌*◌, ◌<◌, ◌^◌, ◌∷◌, [], ◌++◌, None, OnOk, OnErr, is_some, length};
-ghost use Rattle.tr_book.specs.Parts.{records_of, empty_part, part_bytes, part_packets, part_records, release, seq_among, seq_in_part};
-ghost use Rattle.tr_packet.specs.Packets.{IsPacket, contents};
-ghost use Rattle.tr_packet.specs.Texts.{packets_text};
+ghost use Rattle.std.specs.Prelude.{◌≡◌, ◌≢◌, ◌≤◌, ◌*◌, ◌<◌, ◌^◌, [], None, IfOk, OnOk, OnErr, is_some, length};
+ghost use Rattle.tr_book.specs.Parts.{IsOrdered, bytes_of, records_of, empty_part, part_bytes, part_packets, part_records, part_state, release, seq_among, seq_in_part};
+ghost use Rattle.tr_book.specs.Runs.{GapsShow, PacketsRise, first_in, lost_before, packet_runs};
 ghost use Rattle.tr_terms.specs.declared.limits.TheConstants.{LARGEST_PACKET};
 
-use crate::runs::Runs;
+use crate::runs::{Runs, has_known};
 use std::alloc::{AllocError, Allocator, Global};
 use std::marker::Model;
-use tr_packet::{Head, PacketTexts, Packets};
-use tr_record::Records;
+use std::mem;
+use tr_packet::{PacketText, Packets};
 
 /// What a part has of its packets.
 #[derive(Drop)]
 pub(crate) enum Body<A: Allocator> {
     /// The packets, as their texts.
-    Held(PacketTexts<A>),
+    Held(Vec<PacketText<A>, A>),
     /// What is kept of them after a release.
     Released {
         /// Which serials each had.
         runs: Runs<A>,
         /// How many there were.
         packets: usize,
-        /// How many bytes their texts had.
-        bytes: usize,
     },
 }
 
-/// The packets of one trace chunk, in order, as their texts, and how many records they have; or what is kept of them once
-/// they are released. Contracts see a `PartState`.
+/// The packets of one trace chunk, in order, as their texts, and how many records and bytes they have; or what is kept of them
+/// once they are released. Contracts see a `PartState`.
 #[derive(Drop)]
 pub struct Part<A: Allocator = Global> {
     id: u64,
     records: u64,
+    bytes: u128,
     body: Body<A>,
 }
 
@@ -44,13 +42,13 @@ impl<A: Allocator> Model for Part<A> {
 
     ghost use Rattle.tr_book.specs.Bodies.{IsBodyOf, part_of_body};
 
-    ghost view = { λ p. part_of_body p.id p.records p.body };
+    ghost view = { λ p. part_of_body p.id p.records p.bytes p.body };
 
-    ghost invariant = { λ p. IsBodyOf p.records p.body };
+    ghost invariant = { λ p. IsBodyOf p.records p.bytes p.body };
 }
 
 /// How many records packets have.
-pub fn records_in(packets: Packets<'_>) -> u64
+pub fn records_in<A: Allocator>(packets: Packets<'_, A>) -> u64
     requires { records_of packets < 2 ^ 64 }
     ensures { result ≡ records_of packets.entry }
 {
@@ -61,8 +59,68 @@ pub fn records_in(packets: Packets<'_>) -> u64
     count
 }
 
+/// How many bytes the texts of packets have.
+pub(crate) fn bytes_in<A: Allocator>(texts: &[PacketText<A>]) -> u128
+    requires { records_of texts.now < 2 ^ 64 }
+    ensures value { result ≡ bytes_of texts.now }
+    ensures small { result ≤ LARGEST_PACKET * records_of texts.now }
+{
+    let mut bytes = 0;
+    for text in texts {
+        bytes += text.text().len() as u128;
+    }
+    bytes
+}
+
+/// The serial of its first record.
+fn first_serial<A: Allocator>(text: &PacketText<A>) -> u64
+    ensures { result ≡ first_in text.now.records 0 }
+{
+    match text.view().records().next() {
+        Some(first) => first.serial(),
+        None => 0,
+    }
+}
+
+/// The number of the packet that has the record of this serial, among packets that rise. It looks at few of them, and at all
+/// records of at most one.
+fn search_among<A: Allocator>(texts: &[PacketText<A>], serial: u64) -> Option<u64>
+    requires rise { PacketsRise 0 texts.now }
+    requires gaps { GapsShow 0 texts.now }
+    ensures { result ≡ seq_among serial texts.now }
+{
+    let after = texts.partition_point(|text| first_serial(text) <= serial);
+    if after == 0 {
+        return None;
+    }
+    let lost = lost_before(texts, after - 1);
+    let text = &texts[after - 1];
+    let head = text.head();
+    if has_known(
+        serial,
+        text.count(),
+        text.view().records(),
+        head.lost == lost,
+    ) {
+        Some(head.seq)
+    } else {
+        None
+    }
+}
+
+/// How much was lost when the packet before this one was closed: nothing if it is the first.
+fn lost_before<A: Allocator>(texts: &[PacketText<A>], place: usize) -> u64
+    requires { place < length texts.now }
+    ensures { result ≡ lost_before 0 place texts.now }
+{
+    if place == 0 {
+        return 0;
+    }
+    texts[place - 1].head().lost
+}
+
 /// The number of the packet that has the record of this serial.
-fn seq_among(packets: Packets<'_>, serial: u64) -> Option<u64>
+fn seq_among<A: Allocator>(packets: Packets<'_, A>, serial: u64) -> Option<u64>
     ensures { result ≡ seq_among serial packets.entry }
 {
     for packet in packets {
@@ -81,7 +139,8 @@ impl<A: Allocator + Copy> Part<A> {
         Part {
             id,
             records: 0,
-            body: Body::Held(PacketTexts::new(alloc)),
+            bytes: 0,
+            body: Body::Held(Vec::new(alloc)),
         }
     }
 
@@ -93,18 +152,40 @@ impl<A: Allocator + Copy> Part<A> {
         ensures err { OnErr result (self.new ≡ self.old) }
         ensures memory { OnErr result (self.old.packets ≢ []) }
     {
+        let runs = Runs::of_packets(alloc, self.packets())?;
+        let _ = self.give_up(runs);
+        Ok(())
+    }
+
+    /// The same for packets of one stream in order: it looks at each record only where `lost` has grown, and the packets come
+    /// out.
+    pub(crate) fn release_out(&mut self, alloc: A) -> Result<Vec<PacketText<A>, A>, AllocError>
+        requires held { self.old.released ≡ None }
+        requires gaps { GapsShow 0 self.old.packets }
+        ensures packets { IfOk result (λ t. t.items ≡ self.old.packets) }
+        ensures ok { OnOk result (self.new ≡ release self.old) }
+        ensures err { OnErr result (self.new ≡ self.old) }
+        ensures memory { OnErr result (self.old.packets ≢ []) }
+    {
+        let runs = Runs::of_packets_by_lost(alloc, self.packets())?;
+        Ok(self.give_up(runs))
+    }
+
+    /// Moves its packets out, and keeps their runs, which are these.
+    fn give_up(&mut self, runs: Runs<A>) -> Vec<PacketText<A>, A>
+        requires held { self.old.released ≡ None }
+        requires runs { runs ≡ packet_runs self.old.packets }
+        ensures packets { result.items ≡ self.old.packets }
+        ensures after { self.new ≡ release self.old }
+    {
         let Body::Held(texts) = &self.body else {
             unreachable!()
         };
-        let runs = Runs::of_packets(alloc, texts.packets())?;
         let packets = texts.len();
-        let bytes = texts.bytes().len();
-        self.body = Body::Released {
-            runs,
-            packets,
-            bytes,
-        };
-        Ok(())
+        match mem::replace(&mut self.body, Body::Released { runs, packets }) {
+            Body::Held(texts) => texts,
+            Body::Released { .. } => unreachable!(),
+        }
     }
 }
 
@@ -116,24 +197,21 @@ impl<A: Allocator> Part<A> {
         self.id
     }
 
-    /// Its packets, in order. A released part has none.
-    pub fn packets(&self) -> Packets<'_>
-        ensures { result ≡ self.now.packets }
+    /// The texts of its packets, in order. A released part has none.
+    pub fn texts(&self) -> &[PacketText<A>]
+        ensures { result.now ≡ self.now.packets }
     {
         match &self.body {
-            Body::Held(texts) => texts.packets(),
-            Body::Released { .. } => Packets::none(),
+            Body::Held(texts) => texts.as_slice(),
+            Body::Released { .. } => &[],
         }
     }
 
-    /// The texts of its packets, one after another. That of a released part is empty.
-    pub fn text(&self) -> &[u8]
-        ensures { result.now ≡ packets_text self.now.packets }
+    /// Its packets, in order. A released part has none.
+    pub fn packets(&self) -> Packets<'_, A>
+        ensures { result ≡ self.now.packets }
     {
-        match &self.body {
-            Body::Held(texts) => texts.bytes(),
-            Body::Released { .. } => &[],
-        }
+        Packets::new(self.texts())
     }
 
     /// Whether its packets were released.
@@ -161,14 +239,7 @@ impl<A: Allocator> Part<A> {
         ensures value { result ≡ part_bytes self.now }
         ensures small { result ≤ LARGEST_PACKET * part_records self.now }
     {
-        match &self.body {
-            Body::Held(texts) => {
-                // Its packets are packets.
-                let _ = texts.packets();
-                texts.bytes().len() as u128
-            }
-            Body::Released { bytes, .. } => *bytes as u128,
-        }
+        self.bytes
     }
 
     /// How many records its packets have, or had before they were released.
@@ -183,46 +254,45 @@ impl<A: Allocator> Part<A> {
         ensures { result ≡ seq_in_part serial self.now }
     {
         match &self.body {
-            Body::Held(texts) => seq_among(texts.packets(), serial),
+            Body::Held(texts) => seq_among(Packets::new(texts), serial),
             Body::Released { runs, .. } => runs.seq_of(serial),
         }
     }
 
-    /// Writes the packet of this head and these `count` records at the end. If an allocation fails, the part is as it was.
-    pub(crate) fn push(
-        &mut self,
-        head: Head,
-        count: usize,
-        records: &Records<'_>,
-    ) -> Result<(), AllocError>
-        requires held { self.old.released ≡ None }
-        requires packet { IsPacket (contents head records.now) }
-        requires count { count ≡ length records.now }
-        requires few { records_of self.old.packets + count < 2 ^ 64 }
-        ensures ok { OnOk result (self.new ≡ record self.old { packets = self.old.packets ++ contents head records.now ∷ [] }) }
-        ensures err { OnErr result (self.new ≡ self.old) }
+    /// The same for a part whose serials rise. It looks at few of its packets, and at all records of at most one.
+    pub fn search(&self, serial: u64) -> Option<u64>
+        requires { IsOrdered self.now }
+        ensures { result ≡ seq_in_part serial self.now }
     {
-        let Body::Held(texts) = &mut self.body else {
-            unreachable!()
-        };
-        texts.push(head, count, records)?;
-        self.records += count as u64;
-        Ok(())
+        match &self.body {
+            Body::Held(texts) => search_among(texts, serial),
+            Body::Released { runs, .. } => runs.search(serial),
+        }
     }
 
-    /// Moves packets to the end, in order. If an allocation fails, the part is as it was.
-    pub(crate) fn append(&mut self, packets: PacketTexts<A>) -> Result<(), AllocError>
-        requires held { self.old.released ≡ None }
-        requires few { records_of self.old.packets + records_of packets < 2 ^ 64 }
-        ensures ok { OnOk result (self.new ≡ record self.old { packets = self.old.packets ++ packets }) }
-        ensures err { OnErr result (self.new ≡ self.old) }
+    /// The part with these packets, which have so many records and bytes.
+    pub(crate) fn held(id: u64, records: u64, bytes: u128, texts: Vec<PacketText<A>, A>) -> Part<A>
+        requires records { records ≡ records_of texts.items }
+        requires bytes { bytes ≡ bytes_of texts.items }
+        requires small { bytes ≤ LARGEST_PACKET * records }
+        ensures { result ≡ part_state id texts.items }
     {
-        let Body::Held(texts) = &mut self.body else {
-            unreachable!()
-        };
-        let count = records_in(packets.packets());
-        texts.append(packets)?;
-        self.records += count;
-        Ok(())
+        Part {
+            id,
+            records,
+            bytes,
+            body: Body::Held(texts),
+        }
+    }
+
+    /// The texts of its packets, moved out.
+    pub(crate) fn into_texts(self) -> Vec<PacketText<A>, A>
+        requires { self.released ≡ None }
+        ensures { result.items ≡ self.packets }
+    {
+        match self.body {
+            Body::Held(texts) => texts,
+            Body::Released { .. } => unreachable!(),
+        }
     }
 }

@@ -1,18 +1,16 @@
 //! The parts of a stream.
 
-ghost use Rattle.std.specs.Prelude.{◌≡◌, ◌≢◌, ◌+◌, ◌<◌, ◌^◌, [], Some, None, OnOk, OnErr, length, option_copied, slice_get};
-ghost use Rattle.tr_packet.specs.Packets.{IsPacket, contents};
+ghost use Rattle.std.specs.Prelude.{◌≡◌, ◌≢◌, ◌+◌, ◌≤◌, ◌<◌, ◌^◌, [], Some, None, IfOk, IfErr, OnOk, OnErr, length, option_copied, slice_get, vec_capacity, vec_len};
 ghost use Rattle.std.specs.List.Sorted.{IsNonDecreasing};
 ghost use Rattle.tr_book.specs.Parts.{IsNumbered, PartState, records_of, no_parts, with_packet, with_packets, change_at, close_part, clear_part, place_in, release, release_part, part_at};
-ghost use Rattle.tr_book.specs.Runs.{RunsRise, seq_in_runs};
+ghost use Rattle.tr_book.specs.Runs.{GapsShow, RunsRise, packet_runs, seq_in_runs};
 
-use crate::part::Part;
+use crate::part::{Part, bytes_in, records_in};
 use crate::runs::Runs;
 use std::alloc::{AllocError, Allocator, Global};
 use std::marker::Model;
 use std::mem;
-use tr_packet::{Head, PacketTexts};
-use tr_record::Records;
+use tr_packet::{PacketText, Packets};
 
 /// The closed parts of a stream in order, the current one, and which records were cleared. Contracts see a `PartsState`.
 #[derive(Drop)]
@@ -86,23 +84,6 @@ impl<A: Allocator> Parts<A> {
     {
         self.closed.len() as u64
     }
-
-    /// Writes the packet of this head and these `count` records at the end of the current part. If an allocation fails, all is
-    /// as it was.
-    pub fn push(
-        &mut self,
-        head: Head,
-        count: usize,
-        records: &Records<'_>,
-    ) -> Result<(), AllocError>
-        requires packet { IsPacket (contents head records.now) }
-        requires count { count ≡ length records.now }
-        requires few { records_of self.old.current.packets + count < 2 ^ 64 }
-        ensures ok { OnOk result (self.new ≡ with_packet (contents head records.now) self.old) }
-        ensures err { OnErr result (self.new ≡ self.old) }
-    {
-        self.current.push(head, count, records)
-    }
 }
 
 /// Releases the part at this place.
@@ -121,6 +102,44 @@ fn release_at<A: Allocator + Copy>(
     Ok(())
 }
 
+/// The same for packets of one stream in order, which come out.
+fn release_out_at<A: Allocator + Copy>(
+    parts: &mut Vec<Part<A>, A>,
+    alloc: A,
+    k: usize,
+) -> Result<Vec<PacketText<A>, A>, AllocError>
+    requires within { k < length parts.old.items }
+    requires held { (part : PartState) → slice_get parts.old.items k ≡ Some part → part.released ≡ None }
+    requires gaps { (part : PartState) → slice_get parts.old.items k ≡ Some part → GapsShow 0 part.packets }
+    ensures packets { IfOk result (λ t. (part : PartState) → slice_get parts.old.items k ≡ Some part → t.items ≡ part.packets) }
+    ensures ok { OnOk result (parts.new.items ≡ change_at k release parts.old.items) }
+    ensures err { OnErr result (parts.new.items ≡ parts.old.items) }
+    ensures memory { OnErr result ((part : PartState) → slice_get parts.old.items k ≡ Some part → part.packets ≢ []) }
+{
+    let texts = parts[k].release_out(alloc)?;
+    Ok(texts)
+}
+
+/// Takes care that there is room for one more closed part and its end, and for so many more packets.
+fn reserve_all<A: Allocator>(
+    closed: &mut Vec<Part<A>, A>,
+    starts: &mut Vec<u64, A>,
+    texts: &mut Vec<PacketText<A>, A>,
+    count: usize,
+) -> Result<(), AllocError>
+    ensures closed { closed.new.items ≡ closed.old.items }
+    ensures starts { starts.new.items ≡ starts.old.items }
+    ensures texts { texts.new.items ≡ texts.old.items }
+    ensures one_closed { OnOk result (vec_len closed.new < vec_capacity closed.new) }
+    ensures one_start { OnOk result (vec_len starts.new < vec_capacity starts.new) }
+    ensures room { OnOk result (vec_len texts.new + count ≤ vec_capacity texts.new) }
+{
+    closed.reserve(1)?;
+    starts.reserve(1)?;
+    texts.reserve(count)?;
+    Ok(())
+}
+
 impl<A: Allocator + Copy> Parts<A> {
     /// No closed part, and an empty current one with the number 0. It takes no memory.
     pub fn new(alloc: A) -> Parts<A>
@@ -135,21 +154,40 @@ impl<A: Allocator + Copy> Parts<A> {
         }
     }
 
-    /// Moves packets to the end of the current part, in order, closes it and begins the next one, at serial `next`. If an
-    /// allocation fails, nothing changes.
-    pub fn cut(&mut self, packets: PacketTexts<A>, next: u64) -> Result<(), AllocError>
-        requires { records_of self.old.current.packets + records_of packets < 2 ^ 64 }
-        ensures ok { OnOk result (self.new ≡ close_part next (with_packets packets self.old)) }
-        ensures err { OnErr result (self.new ≡ self.old) }
+    /// The same parts with room for so many more packets in the current one, and for one more closed part. If an allocation
+    /// fails, they come back.
+    pub fn ready(self, count: usize) -> Result<ReadyParts<A>, Parts<A>>
+        ensures ok { IfOk result (λ r. (r.parts ≡ self) × (count ≤ r.room)) }
+        ensures err { IfErr result (λ p. p ≡ self) }
     {
-        self.closed.reserve(1)?;
-        self.starts.reserve(1)?;
-        let begun = Part::new(self.alloc, self.current.id() + 1);
-        self.current.append(packets)?;
-        self.closed
-            .push_reserved(mem::replace(&mut self.current, begun));
-        self.starts.push_reserved(next);
-        Ok(())
+        let Parts {
+            alloc,
+            mut closed,
+            current,
+            cleared,
+            mut starts,
+        } = self;
+        let (id, records, bytes) = (current.id(), current.records(), current.bytes());
+        let mut texts = current.into_texts();
+        match reserve_all(&mut closed, &mut starts, &mut texts, count) {
+            Ok(()) => Ok(ReadyParts {
+                alloc,
+                closed,
+                id,
+                records,
+                bytes,
+                texts,
+                cleared,
+                starts,
+            }),
+            Err(_) => Err(Parts {
+                alloc,
+                closed,
+                current: Part::held(id, records, bytes, texts),
+                cleared,
+                starts,
+            }),
+        }
     }
 
     /// Gives up the packets of closed part `k`, and keeps what fates and sizes need. It takes memory only if the part has
@@ -165,6 +203,21 @@ impl<A: Allocator + Copy> Parts<A> {
         Ok(())
     }
 
+    /// The same for packets of one stream in order: it looks at each record only where `lost` has grown, and the packets come
+    /// out.
+    pub fn release_out(&mut self, k: u64) -> Result<Vec<PacketText<A>, A>, AllocError>
+        requires closed { k < length self.old.closed }
+        requires held { (part : PartState) → slice_get self.old.closed k ≡ Some part → part.released ≡ None }
+        requires gaps { (part : PartState) → slice_get self.old.closed k ≡ Some part → GapsShow 0 part.packets }
+        ensures packets { IfOk result (λ t. (part : PartState) → slice_get self.old.closed k ≡ Some part → t.items ≡ part.packets) }
+        ensures ok { OnOk result (self.new ≡ release_part k self.old) }
+        ensures err { OnErr result (self.new ≡ self.old) }
+        ensures memory { OnErr result ((part : PartState) → slice_get self.old.closed k ≡ Some part → part.packets ≢ []) }
+    {
+        let texts = release_out_at(&mut self.closed, self.alloc, k as usize)?;
+        Ok(texts)
+    }
+
     /// Removes the packets of the current part, and keeps their runs, and then these. If an allocation fails, nothing changes.
     pub fn clear(&mut self, more: Runs<A>) -> Result<(), AllocError>
         ensures ok { OnOk result (self.new ≡ clear_part more self.old) }
@@ -172,9 +225,149 @@ impl<A: Allocator + Copy> Parts<A> {
     {
         let mut gone = Runs::new(self.alloc);
         gone.push_packets(self.current.packets())?;
+        self.clear_current(gone, more)?;
+        Ok(())
+    }
+
+    /// The same for packets of one stream in order: it looks at each record only where `lost` has grown, and the packets come
+    /// out.
+    pub fn clear_out(&mut self, more: Runs<A>) -> Result<Vec<PacketText<A>, A>, AllocError>
+        requires { GapsShow 0 self.old.current.packets }
+        ensures packets { IfOk result (λ t. t.items ≡ self.old.current.packets) }
+        ensures ok { OnOk result (self.new ≡ clear_part more self.old) }
+        ensures err { OnErr result (self.new ≡ self.old) }
+    {
+        let mut gone = Runs::new(self.alloc);
+        gone.push_by_lost(self.current.packets())?;
+        self.clear_current(gone, more)
+    }
+
+    /// Moves the packets of the current part out, and keeps their runs, which are these, and then more.
+    fn clear_current(
+        &mut self,
+        mut gone: Runs<A>,
+        more: Runs<A>,
+    ) -> Result<Vec<PacketText<A>, A>, AllocError>
+        requires { gone ≡ packet_runs self.old.current.packets }
+        ensures packets { IfOk result (λ t. t.items ≡ self.old.current.packets) }
+        ensures ok { OnOk result (self.new ≡ clear_part more self.old) }
+        ensures err { OnErr result (self.new ≡ self.old) }
+    {
         gone.append(more)?;
         self.cleared.append(gone)?;
-        self.current = Part::new(self.alloc, self.current.id());
-        Ok(())
+        let next = Part::new(self.alloc, self.current.id());
+        Ok(mem::replace(&mut self.current, next).into_texts())
+    }
+}
+
+/// Parts with room for more packets in the current one, and for one more closed part: what is done with them can't fail.
+/// Contracts see a `ReadyState`.
+#[derive(Drop)]
+pub struct ReadyParts<A: Allocator = Global> {
+    alloc: A,
+    closed: Vec<Part<A>, A>,
+    id: u64,
+    records: u64,
+    bytes: u128,
+    texts: Vec<PacketText<A>, A>,
+    cleared: Runs<A>,
+    starts: Vec<u64, A>,
+}
+
+impl<A: Allocator> Model for ReadyParts<A> {
+    ghost use Rattle.std.specs.Prelude.{◌-◌, vec_capacity, vec_len};
+    ghost use Rattle.tr_book.specs.Parts.{ReadyState, IsReady, part_state, parts_state};
+
+    ghost Value = { ReadyState };
+
+    ghost view = { λ r. record {
+      parts = parts_state r.closed.items (part_state r.id r.texts.items) r.cleared r.starts.items;
+      room = vec_capacity r.texts - vec_len r.texts;
+    } };
+
+    ghost invariant = { λ r. IsReady r.id r.records r.bytes r.texts.items (vec_len r.closed) (vec_capacity r.closed)
+        (vec_len r.starts) (vec_capacity r.starts) };
+}
+
+impl<A: Allocator + Copy> ReadyParts<A> {
+    /// The parts, as they were.
+    pub fn into_parts(self) -> Parts<A>
+        ensures { result ≡ self.parts }
+    {
+        let ReadyParts {
+            alloc,
+            closed,
+            id,
+            records,
+            bytes,
+            texts,
+            cleared,
+            starts,
+        } = self;
+        Parts {
+            alloc,
+            closed,
+            current: Part::held(id, records, bytes, texts),
+            cleared,
+            starts,
+        }
+    }
+
+    /// Adds a packet at the end of the current part.
+    pub fn push(self, text: PacketText<A>) -> Parts<A>
+        requires room { 1 ≤ self.room }
+        requires few { records_of self.parts.current.packets + length text.records < 2 ^ 64 }
+        ensures { result ≡ with_packet text self.parts }
+    {
+        let ReadyParts {
+            alloc,
+            closed,
+            id,
+            records,
+            bytes,
+            mut texts,
+            cleared,
+            starts,
+        } = self;
+        let records = records + text.count() as u64;
+        let bytes = bytes + text.text().len() as u128;
+        texts.push_reserved(text);
+        Parts {
+            alloc,
+            closed,
+            current: Part::held(id, records, bytes, texts),
+            cleared,
+            starts,
+        }
+    }
+
+    /// Moves packets to the end of the current part, in order, closes it and begins the next one, at serial `next`.
+    pub fn cut(self, mut packets: Vec<PacketText<A>, A>, next: u64) -> Parts<A>
+        requires room { length packets.items ≤ self.room }
+        requires few { records_of self.parts.current.packets + records_of packets.items < 2 ^ 64 }
+        ensures { result ≡ close_part next (with_packets packets.items self.parts) }
+    {
+        let ReadyParts {
+            alloc,
+            mut closed,
+            id,
+            records,
+            bytes,
+            mut texts,
+            cleared,
+            mut starts,
+        } = self;
+        let records = records + records_in(Packets::new(&packets));
+        let bytes = bytes + bytes_in(&packets);
+        let _ = texts.append(&mut packets);
+        closed.push_reserved(Part::held(id, records, bytes, texts));
+        starts.push_reserved(next);
+        Parts {
+            alloc,
+            closed,
+            current: Part::new(alloc, id + 1),
+            cleared,
+            starts,
+        }
     }
 }

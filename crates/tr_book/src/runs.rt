@@ -1,7 +1,8 @@
 //! Runs: what is kept of packets whose records are gone.
 
-ghost use Rattle.std.specs.Prelude.{◌≡◌, ◌≢◌, [], ◌++◌, IfOk, OnOk, OnErr, length};
-ghost use Rattle.tr_book.specs.Runs.{RunsRise, is_in_run, runs_of, seq_in_runs, packet_runs};
+ghost use Rattle.std.specs.Prelude.{◌≡◌, ◌≢◌, [], ◌++◌, IfOk, OnOk, OnErr, length, true};
+ghost use Rattle.tr_record.specs.Records.{has_serial};
+ghost use Rattle.tr_book.specs.Runs.{AreInRow, GapsShow, RunsRise, is_in_run, runs_of, seq_in_runs, packet_runs};
 
 use std::alloc::{AllocError, Allocator, Global};
 use std::marker::Model;
@@ -25,6 +26,24 @@ impl Run {
         ensures { result ≡ is_in_run serial self.now }
     {
         self.first <= serial && serial - self.first < self.count
+    }
+}
+
+/// Whether one of `count` records has this serial, with a look at the first alone if their serials are known to follow each other.
+pub fn has_known(serial: u64, count: usize, mut records: Records<'_>, in_row: bool) -> bool
+    requires count { count ≡ length records }
+    requires row { in_row ≡ true → AreInRow records }
+    ensures { result ≡ has_serial serial records.entry }
+{
+    if !in_row {
+        return records.has(serial);
+    }
+    match records.next() {
+        Some(first) => {
+            let first = first.serial();
+            first <= serial && serial - first < count as u64
+        }
+        None => false,
     }
 }
 
@@ -57,7 +76,7 @@ impl<A: Allocator> Runs<A> {
 
     /// The runs of packets, with just the room for them if there is memory for a move. It takes memory only if there are
     /// packets.
-    pub fn of_packets(alloc: A, packets: Packets<'_>) -> Result<Runs<A>, AllocError>
+    pub fn of_packets(alloc: A, packets: Packets<'_, A>) -> Result<Runs<A>, AllocError>
     where
         A: Copy,
         ensures value { IfOk result (λ runs. runs ≡ packet_runs packets.entry) }
@@ -69,6 +88,22 @@ impl<A: Allocator> Runs<A> {
             runs.list.shrink_to_fit();
         }
         Ok(runs)
+    }
+
+    /// The same for packets of one stream in order. It looks at each record only where `lost` has grown.
+    pub fn of_packets_by_lost(alloc: A, packets: Packets<'_, A>) -> Result<Runs<A>, AllocError>
+    where
+        A: Copy,
+        requires { GapsShow 0 packets }
+        ensures value { IfOk result (λ runs. runs ≡ packet_runs packets.entry) }
+        ensures memory { OnErr result (packets.entry ≢ []) }
+    {
+        let mut kept = Runs::new(alloc);
+        if packets.len() > 0 {
+            kept.push_by_lost(packets)?;
+            kept.list.shrink_to_fit();
+        }
+        Ok(kept)
     }
 
     /// The runs, in order.
@@ -135,12 +170,53 @@ impl<A: Allocator> Runs<A> {
         Ok(())
     }
 
+    /// The same, with a look at the first record alone if their serials are known to follow each other.
+    pub fn push_known(
+        &mut self,
+        seq: u64,
+        count: usize,
+        mut records: Records<'_>,
+        in_row: bool,
+    ) -> Result<(), AllocError>
+        requires count { count ≡ length records }
+        requires row { in_row ≡ true → AreInRow records }
+        ensures { OnOk result (self.new ≡ self.old ++ runs_of seq records.entry) }
+    {
+        if !in_row {
+            return self.push_records(seq, count, records);
+        }
+        let Some(first) = records.next() else {
+            return Ok(());
+        };
+        self.list.push(Run {
+            seq,
+            first: first.serial(),
+            count: count as u64,
+        })?;
+        Ok(())
+    }
+
     /// Adds the runs of packets at the end, in order.
-    pub fn push_packets(&mut self, packets: Packets<'_>) -> Result<(), AllocError>
+    pub fn push_packets(&mut self, packets: Packets<'_, A>) -> Result<(), AllocError>
         ensures { OnOk result (self.new ≡ self.old ++ packet_runs packets.entry) }
     {
         for packet in packets {
             self.push_records(packet.head().seq, packet.count(), packet.records())?;
+        }
+        Ok(())
+    }
+
+    /// The same for packets of one stream in order. It looks at each record only where `lost` has grown.
+    pub fn push_by_lost(&mut self, packets: Packets<'_, A>) -> Result<(), AllocError>
+        requires { GapsShow 0 packets }
+        ensures { OnOk result (self.new ≡ self.old ++ packet_runs packets.entry) }
+    {
+        let mut lost = 0;
+        for packet in packets {
+            let head = packet.head();
+            let in_row = head.lost == lost;
+            self.push_known(head.seq, packet.count(), packet.records(), in_row)?;
+            lost = head.lost;
         }
         Ok(())
     }

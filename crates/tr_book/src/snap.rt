@@ -3,11 +3,10 @@
 ghost use Rattle.std.specs.Prelude.{◌≡◌, ◌<◌, ◌^◌};
 ghost use Rattle.tr_book.specs.Parts.{records_of};
 ghost use Rattle.tr_book.specs.Snaps.{snap_state};
-ghost use Rattle.tr_packet.specs.Texts.{packets_text};
 
 use std::alloc::{Allocator, Global};
 use std::marker::Model;
-use tr_packet::{PacketTexts, Packets};
+use tr_packet::{PacketText, Packets};
 
 /// One stream at one step: how many offers it had accepted, how many of their records it had discarded, and the
 /// packets that its ring held, the oldest first, as their texts. Contracts see a `SnapState`.
@@ -16,7 +15,7 @@ pub struct StreamSnap<A: Allocator = Global> {
     stream: u64,
     offered: u64,
     lost: u64,
-    texts: PacketTexts<A>,
+    texts: Vec<PacketText<A>, A>,
 }
 
 impl<A: Allocator> Model for StreamSnap<A> {
@@ -24,19 +23,19 @@ impl<A: Allocator> Model for StreamSnap<A> {
 
     ghost Value = { SnapState };
 
-    ghost view = { λ s. snap_state s.stream s.offered s.lost s.texts };
+    ghost view = { λ s. snap_state s.stream s.offered s.lost s.texts.items };
 
     ghost use Rattle.std.specs.Prelude.{◌<◌, ◌^◌};
     ghost use Rattle.tr_book.specs.Parts.{records_of};
 
-    ghost invariant = { λ s. records_of s.texts < 2 ^ 64 };
+    ghost invariant = { λ s. records_of s.texts.items < 2 ^ 64 };
 }
 
 impl<A: Allocator> StreamSnap<A> {
     /// What is shown of the stream with this number. It takes no memory.
-    pub fn new(stream: u64, offered: u64, lost: u64, texts: PacketTexts<A>) -> StreamSnap<A>
-        requires { records_of texts < 2 ^ 64 }
-        ensures { result ≡ snap_state stream offered lost texts }
+    pub fn new(stream: u64, offered: u64, lost: u64, texts: Vec<PacketText<A>, A>) -> StreamSnap<A>
+        requires { records_of texts.items < 2 ^ 64 }
+        ensures { result ≡ snap_state stream offered lost texts.items }
     {
         StreamSnap {
             stream,
@@ -68,17 +67,17 @@ impl<A: Allocator> StreamSnap<A> {
     }
 
     /// The packets of its ring, the oldest first.
-    pub fn packets(&self) -> Packets<'_>
+    pub fn packets(&self) -> Packets<'_, A>
         ensures value { result ≡ self.now.packets }
         ensures few { records_of self.now.packets < 2 ^ 64 }
     {
-        self.texts.packets()
+        Packets::new(&self.texts)
     }
 
-    /// The texts of these packets, one after another.
-    pub fn text(&self) -> &[u8]
-        ensures { result.now ≡ packets_text self.now.packets }
+    /// The texts of these packets.
+    pub fn texts(&self) -> &[PacketText<A>]
+        ensures { result.now ≡ self.now.packets }
     {
-        self.texts.bytes()
+        self.texts.as_slice()
     }
 }

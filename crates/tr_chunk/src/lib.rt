@@ -46,4 +46,4 @@ pub use feeds::audit_feeds;
 pub use names::stream_file_name;
 pub use stream_audit::{Gaps, StreamAudit};
 pub use tr_terms::OffsetMinutes;
-pub use writing::{write_metadata, write_part, write_standing};
+pub use writing::{write_metadata, write_part, write_texts};

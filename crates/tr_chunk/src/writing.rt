@@ -7,18 +7,20 @@ ghost use Rattle.tr_chunk.specs.Files.{WritesPackets, WritesStanding, WritesText
 use crate::faults::WriteFault;
 use std::alloc::Allocator;
 use tr_book::Part;
-use tr_packet::metadata_text;
+use tr_packet::{PacketText, metadata_text};
 use tr_record::{ByteSink, put_all};
 use uuid::Uuid;
 
-/// Writes the text of packets as it is in memory. After W1 a prefix of it went out.
-pub fn write_standing<K: ByteSink>(sink: &mut K, text: &[u8]) -> Result<(), WriteFault>
-    ensures { WritesStanding text.now (sunk_of K.ByteSink sink.old) (sunk_of K.ByteSink sink.new) result }
+/// Writes packets as their texts are in memory, one after another. It takes no memory. After W1 a prefix of them went out.
+pub fn write_texts<A: Allocator, K: ByteSink>(
+    sink: &mut K,
+    texts: &[PacketText<A>],
+) -> Result<(), WriteFault>
+    ensures { WritesPackets texts.now (sunk_of K.ByteSink sink.old) (sunk_of K.ByteSink sink.new) result }
 {
-    if text.is_empty() {
-        return Ok(());
+    for text in texts {
+        put_all(sink, text.text())?;
     }
-    put_all(sink, text)?;
     Ok(())
 }
 
@@ -28,7 +30,7 @@ pub fn write_part<A: Allocator, K: ByteSink>(sink: &mut K, part: &Part<A>) -> Re
     requires { part.now.released ≡ None }
     ensures { WritesPackets part.now.packets (sunk_of K.ByteSink sink.old) (sunk_of K.ByteSink sink.new) result }
 {
-    write_standing(sink, part.text())
+    write_texts(sink, part.texts())
 }
 
 /// Writes the metadata text of a trace. After a refusal a prefix of it went out; after W2, none of it.

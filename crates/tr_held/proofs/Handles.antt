@@ -8,11 +8,13 @@ use Rattle.std.specs.contracts.alloc.Global as heap
 use Rattle.std.specs.contracts.impls.GlobalAllocator.TheImpl.{ghosts}
 use Rattle.tr_held.proofs.Apart.{outline}
 use Rattle.tr_held.specs.Holding.{holds}
-use Rattle.tr_held.specs.Kept.{audit_row, book_row, snap_row, stream_row}
+use Rattle.tr_held.specs.Kept.{audit_row, book_row, removed_row, snap_row, spares_row, stream_row}
 use Rattle.tr_held.specs.contracts.audit_cell.AuditCell as AuditCell
 use Rattle.tr_held.specs.contracts.book_cell.BookCell as BookCell
 use Rattle.tr_held.specs.contracts.held.Held as Held
+use Rattle.tr_held.specs.contracts.removed_cell.RemovedCell as RemovedCell
 use Rattle.tr_held.specs.contracts.snap_cell.SnapCell as SnapCell
+use Rattle.tr_held.specs.contracts.spares_cell.SparesCell as SparesCell
 use Rattle.tr_held.specs.contracts.stream_cell.StreamCell as StreamCell
 
 abbrev pub Z : RattleType
@@ -48,6 +50,12 @@ book_cell = record { fields = λ x. record { at = x.at; live = x.live; alloc = x
 
 abbrev pub snap_cell : IsHandle snap_row SnapCell.the_type
 snap_cell = record { fields = λ x. record { at = x.at; live = x.live; alloc = x.alloc; value = x.value }; made = λ h. record { at = h.at; live = h.live; alloc = h.alloc; value = h.value }; kept = λ h. refl; owned = λ x vs. refl; silent = λ k x w. refl }
+
+abbrev pub spares_cell : IsHandle spares_row SparesCell.the_type
+spares_cell = record { fields = λ x. record { at = x.at; live = x.live; alloc = x.alloc; value = x.value }; made = λ h. record { at = h.at; live = h.live; alloc = h.alloc; value = h.value }; kept = λ h. refl; owned = λ x vs. refl; silent = λ k x w. refl }
+
+abbrev pub removed_cell : IsHandle removed_row RemovedCell.the_type
+removed_cell = record { fields = λ x. record { at = x.at; live = x.live; alloc = x.alloc; value = x.value }; made = λ h. record { at = h.at; live = h.live; alloc = h.alloc; value = h.value }; kept = λ h. refl; owned = λ x vs. refl; silent = λ k x w. refl }
 
 abbrev pub stream_cell : IsHandle stream_row StreamCell.the_type
 stream_cell = record { fields = λ x. record { at = x.at; live = x.live; alloc = x.alloc; value = x.value }; made = λ h. record { at = h.at; live = h.live; alloc = h.alloc; value = h.value }; kept = λ h. refl; owned = λ x vs. refl; silent = λ k x w. refl }

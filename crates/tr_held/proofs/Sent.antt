@@ -32,18 +32,22 @@ use Rattle.tr_book.specs.contracts.runs.Runs as Runs
 use Rattle.tr_chunk.specs.contracts.audit_fault.AuditFault as AuditFault
 use Rattle.tr_chunk.specs.contracts.stream_audit.Gaps as Gaps
 use Rattle.tr_chunk.specs.contracts.stream_audit.StreamAudit as StreamAudit
-use Rattle.tr_packet.specs.contracts.texts.PacketTexts as PacketTexts
+use Rattle.tr_packet.specs.contracts.text.PacketText as PacketText
 use Rattle.tr_ring.specs.contracts.ring.Ring as Ring
 use Rattle.tr_ring.specs.contracts.sealed.Sealed as Sealed
 use Rattle.tr_session_book.specs.contracts.archive.Archive as Archive
 use Rattle.tr_session_book.specs.contracts.archive.Pending as Pending
 use Rattle.tr_session_book.specs.contracts.channel.Channel as Channel
 use Rattle.tr_stream.specs.contracts.config.StreamConfig as StreamConfig
+use Rattle.tr_stream.specs.contracts.spares.Spares as Spares
 use Rattle.tr_subbuf.specs.contracts.sub_buffer.SubBuf as SubBuf
-use Rattle.tr_held.specs.Kept.{audit_row, book_row, snap_row, stream_row}
+use Rattle.tr_held.specs.Kept.{audit_row, book_row, removed_row, snap_row, spares_row, stream_row}
 
-texts : IsSend (PacketTexts.the_row heap.the_row ghosts)
-texts = search (sendable, crosses) depth 40
+text : IsSend (PacketText.the_row heap.the_row ghosts)
+text = search (sendable, crosses) depth 40
+
+texts : IsSend (Vec.the_row (PacketText.the_row heap.the_row ghosts) heap.the_row ghosts)
+texts = search (sendable, crosses, text) depth 40
 
 runs : IsSend (Runs.the_row heap.the_row ghosts)
 runs = search (sendable, crosses) depth 40
@@ -94,8 +98,14 @@ free = buffer (SubBuf.the_row heap.the_row ghosts) sub_buf
 ring : IsSend (Ring.the_row heap.the_row ghosts)
 ring = search (sendable, crosses, waiting, free, sub_buf) depth 40
 
+pub spares : IsSend spares_row
+spares = search (sendable, crosses, sub_buf) depth 40
+
+pub removed : IsSend removed_row
+removed = search (sendable, crosses, texts) depth 40
+
 pub stream : IsSend stream_row
-stream = search (sendable, crosses, ring, parts, counters, config) depth 40
+stream = search (sendable, crosses, ring, spares, parts, counters, config) depth 40
 
 pub snap : IsSend snap_row
 snap = search (sendable, crosses, texts) depth 40

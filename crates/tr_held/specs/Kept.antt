@@ -5,10 +5,18 @@ use Rattle.std.specs.contracts.impls.GlobalAllocator.TheImpl.{ghosts}
 use Rattle.tr_book.specs.contracts.snap.StreamSnap as snap
 use Rattle.tr_chunk.specs.contracts.audit_reader.AuditReader as audit
 use Rattle.tr_session_book.specs.contracts.book.SessionBook as book
+use Rattle.tr_stream.specs.contracts.removed.Removed as removed
+use Rattle.tr_stream.specs.contracts.spares.Spares as spares
 use Rattle.tr_stream.specs.contracts.stream.Stream as stream
 
 abbrev pub stream_row : RattleType
 stream_row = stream.the_row heap.the_row ghosts
+
+abbrev pub spares_row : RattleType
+spares_row = spares.the_row heap.the_row ghosts
+
+abbrev pub removed_row : RattleType
+removed_row = removed.the_row heap.the_row ghosts
 
 abbrev pub book_row : RattleType
 book_row = book.the_row heap.the_row ghosts

@@ -1,4 +1,5 @@
-//! What a C program holds across calls: a handle of a stream, a session's book, a look or an audit.
+//! What a C program holds across calls: a handle of a stream, of pages in reserve, of packets that were
+//! removed, of a session's book, a look or an audit.
 //!
 //! A handle is an address and a flag, and has a value on the heap or nothing. All zeros are a handle of nothing. Contracts see
 //! what it has.
@@ -28,11 +29,15 @@
 mod audit_cell;
 mod book_cell;
 mod held;
+mod removed_cell;
 mod snap_cell;
+mod spares_cell;
 mod stream_cell;
 
 pub use audit_cell::AuditCell;
 pub use book_cell::BookCell;
 pub use held::Held;
+pub use removed_cell::RemovedCell;
 pub use snap_cell::SnapCell;
+pub use spares_cell::SparesCell;
 pub use stream_cell::StreamCell;

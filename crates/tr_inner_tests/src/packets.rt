@@ -5,7 +5,7 @@ use crate::packing::put;
 use std::alloc::Global;
 use std::process::Abort;
 use tr_packet::{
-    Head, Packet, PacketFault, PacketTexts, PacketView, Packets, decode_packet, encode_packet,
+    Head, Packet, PacketFault, PacketText, PacketView, Packets, decode_packet, encode_packet,
 };
 use tr_record::Rec;
 use tr_terms::limits::LARGEST_PACKET;
@@ -80,8 +80,8 @@ fn assert_next(rt: &impl Abort, shown: &mut Packets<'_>, count: usize, seq: u64)
 }
 
 /// The texts of packets with these numbers, which are also the serials of their only records.
-fn texts_of(rt: &impl Abort, alloc: Global, numbers: &[u64]) -> PacketTexts {
-    let mut texts = PacketTexts::new(alloc);
+fn texts_of(rt: &impl Abort, alloc: Global, numbers: &[u64]) -> Vec<PacketText> {
+    let mut texts = Vec::new(alloc);
     for seq in numbers {
         let mut head = head();
         head.seq = *seq;
@@ -98,27 +98,22 @@ fn texts_of(rt: &impl Abort, alloc: Global, numbers: &[u64]) -> PacketTexts {
 #[test]
 fn packets_are_shown_one_after_another(rt: HostRuntime) {
     let texts = texts_of(&rt, rt.alloc(), &[3, 5]);
-    let mut shown = texts.packets();
+    let mut shown = Packets::new(&texts);
     assert_next(&rt, &mut shown, 2, 3);
     assert_next(&rt, &mut shown, 1, 5);
     assert!(rt; shown.next().is_none());
 }
 
-/// The numbers of the packets that are moved after others in turn.
-static MOVED: [&[u64]; 3] = [&[3], &[], &[5, 6]];
-
 #[test]
-fn packets_are_moved_behind_others(rt: HostRuntime) {
-    let mut texts = PacketTexts::new(rt.alloc());
-    for numbers in &MOVED {
-        let more = texts_of(&rt, rt.alloc(), numbers);
-        texts.append(more).expect(&rt, "memory");
-    }
-    let whole = texts_of(&rt, rt.alloc(), &[3, 5, 6]);
-    assert_same(&rt, (texts.len(), texts.bytes().len()), (3, 3 * 105));
-    assert_same(&rt, texts.bytes(), whole.bytes());
-    let last = texts.packets().last().expect(&rt, "a packet");
-    assert_same(&rt, (last.head().seq, last.last_serial()), (6, 6));
+fn a_packet_is_sealed_where_its_records_stand(rt: HostRuntime) {
+    let bytes = written(&rt, rt.alloc(), head(), &[(0, 1, 1)]);
+    let (view, _) = decode_packet(&bytes).expect(&rt, "a packet");
+    let mut page = vec![in rt.alloc(); 7; 80].expect(&rt, "memory");
+    page.extend_from_slice(view.records().text())
+        .expect(&rt, "memory");
+    let text = PacketText::seal(view.head(), view.count(), page);
+    assert_same(&rt, text.text(), ONE.as_slice());
+    assert_same(&rt, (text.head(), text.count()), (head(), 1));
 }
 
 /// Records, and whether they make a packet with that head.

@@ -2,8 +2,10 @@
 
 mod calls;
 mod clears;
+mod gaps;
 mod looks;
 mod memory;
+mod pages;
 mod releases;
 mod rings;
 mod runs;
@@ -168,7 +170,12 @@ fn assert_rest(rt: &impl Abort, stream: &Stream, place: Place, number: u64, had:
         bytes: part.bytes(),
     };
     assert_at(rt, place, found, had);
-    assert_at(rt, place, (part.packets().len(), part.text().len()), (0, 0));
+    assert_at(
+        rt,
+        place,
+        (part.packets().len(), part.texts().len()),
+        (0, 0),
+    );
 }
 
 /// Offers a payload of `len` bytes with the id 7.

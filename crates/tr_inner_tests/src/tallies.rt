@@ -51,6 +51,11 @@ fn a_watcher_reads_and_learns_what_was_published(rt: HostRuntime) {
     assert_read(&rt, &mut watcher, 0, 0);
     publish(&rt, &mut first, 2);
     assert_read(&rt, &mut watcher, 0, 2);
+    // an audit publishes nothing and reads nothing
+    publish(&rt, &mut first, 2);
+    watcher.audit(&mut first);
+    assert_same(&rt, first.count(), 2);
+    assert_read(&rt, &mut watcher, 0, 2);
     // a note that is older than what was published since
     let note = first.note();
     publish(&rt, &mut first, 2);

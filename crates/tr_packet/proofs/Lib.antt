@@ -1,9 +1,9 @@
 pub mod AnswerLemmas
 pub mod BodyLemmas
 pub mod DecodingLemmas
-pub mod LabelLemmas
 pub mod LawLemmas
 pub mod LayoutLemmas
 pub mod MetadataLemmas
 pub mod OrderLemmas
+pub mod SealLemmas
 pub mod TextLemmas

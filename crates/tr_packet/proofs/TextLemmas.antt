@@ -23,6 +23,19 @@ head_written h bits out a b c uuid numbers uuid-is numbers-are first second last
     ∙ ap (λ (t : List ℕ). t ++ h.uuid) first)
     ∙ in_one out magic h.uuid (to_le_bytes w32 0) (to_le_bytes w64 h.stream) (context_text h bits)
 
+in_two : (m u zero stream rest tail : List ℕ)
+    → m ++ (u ++ ((zero ++ (stream ++ rest)) ++ tail)) ≡ ((m ++ (u ++ (zero ++ stream))) ++ rest) ++ tail
+in_two m u zero stream rest tail = simp append_assoc
+
+-- the same over the bytes that stand there
+pub head_over : (h : Head) (bits : ℕ) (out tail uuid numbers : List ℕ) → uuid ≡ h.uuid → numbers ≡ numbers_text h bits
+    → out ≡ magic ++ (uuid ++ (numbers ++ tail)) → out ≡ (header_text h ++ context_text h bits) ++ tail
+head_over h bits out tail uuid numbers uuid-is numbers-are written =
+    written
+    ∙ ap (λ (t : List ℕ). magic ++ (t ++ (numbers ++ tail))) uuid-is
+    ∙ ap (λ (t : List ℕ). magic ++ (h.uuid ++ (t ++ tail))) numbers-are
+    ∙ in_two magic h.uuid (to_le_bytes w32 0) (to_le_bytes w64 h.stream) (context_text h bits) tail
+
 -- the size that a packet states is that of its text
 pub length-packet_text : (p : Contents) → length p.head.uuid ≡ 16 → length (packet_text p) ≡ packet_size p
 length-packet_text p sixteen =

@@ -1,6 +1,6 @@
 //! Writing a packet's text.
 
-ghost use Rattle.std.specs.Prelude.{◌≡◌, ◌+◌, ◌*◌, ◌≤◌, ◌++◌, IfOk, length, sum_by, vec_len, vec_capacity};
+ghost use Rattle.std.specs.Prelude.{◌≡◌, ◌+◌, ◌*◌, ◌≤◌, ◌++◌, IfOk, drop, length, sum_by, vec_len, vec_capacity};
 ghost use Rattle.std.specs.Int.{w32, w64, to_le_bytes};
 ghost use Rattle.tr_record.specs.Records.{records_text};
 ghost use Rattle.tr_record.specs.Weight.{record_weight};
@@ -46,6 +46,20 @@ pub(crate) fn put_head<A: Allocator>(out: &mut Vec<u8, A>, head: &Head, bits: u6
     put_bytes(out, &MAGIC);
     put_bytes(out, head.uuid.as_bytes());
     put_bytes(out, &numbers_of(head, bits));
+}
+
+/// Writes a packet's header and context over the bytes at the front.
+pub(crate) fn write_head(bytes: &mut [u8], head: &Head, bits: u64)
+    requires uuid { length head.now.uuid ≡ 16 }
+    requires room { PACKET_HEADER ≤ length bytes.old }
+    ensures { bytes.new ≡ (header_text head.now ++ context_text head.now bits) ++ drop PACKET_HEADER bytes.old }
+{
+    let (magic, rest) = bytes.split_at_mut(4);
+    magic.copy_from_slice(&MAGIC);
+    let (uuid, rest) = rest.split_at_mut(16);
+    uuid.copy_from_slice(head.uuid.as_bytes());
+    let (numbers, _) = rest.split_at_mut(60);
+    numbers.copy_from_slice(&numbers_of(head, bits));
 }
 
 fn put_records<A: Allocator, B: Allocator>(out: &mut Vec<u8, B>, records: RecViews<'_, A>)

@@ -13,6 +13,7 @@
 //!
 //! - A packet's bytes are exactly its text. A packet is read if and only if the input begins with such a text, whatever
 //!   follows. Otherwise the first fault of a fixed order is named.
+//! - A page of records, with room before them, becomes the text of their packet, and nothing is copied (`PacketText::seal`).
 //! - No packet's text begins another, so bytes begin with one packet at most.
 //! - The metadata text is byte for byte the documented one.
 //!
@@ -34,7 +35,7 @@ mod order;
 mod packet;
 mod packets;
 mod seen;
-mod texts;
+mod text;
 mod view;
 
 pub use decoding::decode_packet;
@@ -46,5 +47,5 @@ pub use metadata::metadata_text;
 pub use order::may_follow;
 pub use packet::Packet;
 pub use packets::Packets;
-pub use texts::PacketTexts;
+pub use text::PacketText;
 pub use view::PacketView;

@@ -1,2 +1,3 @@
+pub mod MoveLemmas
 pub mod PageLemmas
 pub mod RecordLemmas

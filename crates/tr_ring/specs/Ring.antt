@@ -68,6 +68,10 @@ drop_front r = record r { waiting = drop 1 r.waiting }
 abbrev pub close_current : ℕ → RingState → RingState
 close_current end r = record r { waiting = r.waiting ++ closed_current end r ∷ []; current = []; seq = r.seq + 1 }
 
+-- the current sub-buffer is handed out, and an empty one follows
+abbrev pub take_current : RingState → RingState
+take_current r = record r { current = []; seq = r.seq + 1 }
+
 -- the first number that no sub-buffer with a record has had
 abbrev pub seq_after : ℕ → List Entry → ℕ
 seq_after seq [] = seq

@@ -1,10 +1,12 @@
 //! A sub-buffer that takes no more records.
 
-ghost use Rattle.std.specs.Prelude.{◌≡◌, length, slice_get};
+ghost use Rattle.std.specs.Prelude.{◌≡◌, IfOk, length, slice_get};
+ghost use Rattle.tr_packet.specs.Packets.{IsPacket, contents};
 ghost use Rattle.tr_ring.specs.ClosedBuffer.{closed_buffer};
 
-use std::alloc::{Allocator, Global};
+use std::alloc::{AllocError, Allocator, Global};
 use std::marker::Model;
+use tr_packet::{Head, PacketText};
 use tr_record::{RecView, Records};
 use tr_subbuf::SubBuf;
 use tr_terms::Moment;
@@ -83,5 +85,18 @@ impl<'a, A: Allocator> ClosedSubBuf<'a, A> {
         ensures { result ≡ slice_get self.now.records i }
     {
         self.buffer.at(i)
+    }
+
+    /// Whether its packet has fewer bytes than a quarter of its page.
+    pub fn is_mostly_empty(&self) -> bool {
+        self.buffer.is_mostly_empty()
+    }
+
+    /// A copy of the packet of this head and its records, in memory of just its size. Fails if an allocation fails.
+    pub fn copied(&self, alloc: A, head: Head) -> Result<PacketText<A>, AllocError>
+        requires { IsPacket (contents head self.now.records) }
+        ensures { IfOk result (λ t. t ≡ contents head self.now.records) }
+    {
+        self.buffer.copied(alloc, head)
     }
 }

@@ -1,5 +1,5 @@
 //! A ring of sub-buffers: the current one takes records, the closed ones wait to be consumed, and the pages of those that
-//! were consumed are used again.
+//! are gone are used again.
 //! If none is free, either the newest record is discarded or the oldest closed sub-buffer is overwritten.
 //!
 //! # Example
@@ -13,8 +13,8 @@
 //!
 //! - A push is one of four cases and nothing else: the record joins the current sub-buffer; it begins a new one, which
 //!   follows the current one; the oldest sub-buffer is overwritten; or the record is discarded.
-//! - The ring takes all its pages when it is made, and uses each again once its records are consumed, overwritten or cleared.
-//!   So a push takes no memory, and has no answer for a failed allocation.
+//! - The ring takes all its pages when it is made. It uses each again once its records are overwritten or cleared, and hands
+//!   one out only for an empty one. So a push takes no memory, and has no answer for a failed allocation.
 #![tactic(auto)]
 
 mod closed;

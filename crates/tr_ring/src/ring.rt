@@ -1,11 +1,13 @@
 //! `Ring`, closed sub-buffers and the current one.
 
-ghost use Rattle.std.specs.Prelude.{◌≡◌, ◌+◌, ◌≤◌, ◌<◌, ◌^◌, [], ◌∷◌, ◌++◌, IfOk, length, slice_get};
+ghost use Rattle.std.specs.Prelude.{◌≡◌, ◌+◌, ◌≤◌, ◌<◌, ◌^◌, [], ◌∷◌, ◌++◌, IfOk, Some, length, slice_get};
+ghost use Rattle.std.specs.Option.{option_map};
 ghost use Rattle.circular_buffer.specs.Buffer.{buffer};
 ghost use Rattle.tr_record.specs.Records.{entry};
-ghost use Rattle.tr_ring.specs.ClosedBuffer.{closed_buffer};
+ghost use Rattle.tr_subbuf.specs.SubBuffer.{empty_buffer, sub_buffer};
+ghost use Rattle.tr_ring.specs.ClosedBuffer.{ClosedBuffer, closed_buffer};
 ghost use Rattle.tr_ring.specs.Pages.{ArePages, sealed_page, seq_in_pages};
-ghost use Rattle.tr_ring.specs.Ring.{IsRing, empty_ring, current_buffer, after_push, push_answer, follow_current, drop_front, close_current, clear_ring, seq_waiting, seq_of, ring_records};
+ghost use Rattle.tr_ring.specs.Ring.{IsRing, empty_ring, current_buffer, after_push, push_answer, follow_current, drop_front, close_current, take_current, clear_ring, seq_waiting, seq_of, ring_records};
 ghost use Rattle.tr_terms.specs.declared.limits.TheConstants.{FEWEST_SUB_BUFFERS, LARGEST_PACKET, SMALLEST_PACKET};
 
 use crate::closed::ClosedSubBuf;
@@ -190,9 +192,37 @@ impl<A: Allocator> Ring<A> {
         requires { 1 ≤ length self.old.waiting }
         ensures { self.new ≡ drop_front self.old }
     {
-        if let Some(oldest) = self.waiting.pop_front() {
-            let _ = self.free.push_back(oldest.into_free());
-        }
+        let Some(oldest) = self.waiting.pop_front() else {
+            unreachable!()
+        };
+        let _ = self.free.push_back(oldest.into_free());
+    }
+
+    /// Hands out the page of the oldest closed sub-buffer, and keeps the spare one in its place. It takes no memory.
+    pub fn take_front(&mut self, spare: SubBuf<A>) -> SubBuf<A>
+        requires some { 1 ≤ length self.old.waiting }
+        requires spare { spare ≡ empty_buffer self.old.size }
+        ensures page { Some result ≡ option_map (λ (b : ClosedBuffer). sub_buffer b.records self.old.size)
+            (slice_get self.old.waiting 0) }
+        ensures after { self.new ≡ drop_front self.old }
+    {
+        let Some(oldest) = self.waiting.pop_front() else {
+            unreachable!()
+        };
+        let _ = self.free.push_back(spare);
+        oldest.into_page()
+    }
+
+    /// Hands out the current sub-buffer, which has a record, and begins the next one in the spare page. It takes no memory.
+    pub fn take_current(&mut self, spare: SubBuf<A>) -> SubBuf<A>
+        requires some { 1 ≤ length self.old.current }
+        requires spare { spare ≡ empty_buffer self.old.size }
+        requires numbers { self.old.seq + 1 < 2 ^ 64 }
+        ensures page { result ≡ current_buffer self.old }
+        ensures after { self.new ≡ take_current self.old }
+    {
+        self.seq += 1;
+        mem::replace(&mut self.current, spare)
     }
 
     /// Removes all records. The next sub-buffer gets the lowest number that no sub-buffer with a record has used. It takes no memory.

@@ -2,7 +2,7 @@
 
 ghost use Rattle.std.specs.Prelude.{◌≡◌};
 ghost use Rattle.tr_record.specs.Records.{has_serial};
-ghost use Rattle.tr_subbuf.specs.SubBuffer.{empty_buffer};
+ghost use Rattle.tr_subbuf.specs.SubBuffer.{empty_buffer, sub_buffer};
 ghost use Rattle.tr_ring.specs.ClosedBuffer.{closed_buffer};
 ghost use Rattle.tr_ring.specs.Pages.{sealed_page};
 
@@ -59,6 +59,13 @@ impl<A: Allocator> Sealed<A> {
         ensures { result ≡ has_serial serial self.now.closed.records }
     {
         self.buffer.has(serial)
+    }
+
+    /// The page, with its records.
+    pub fn into_page(self) -> SubBuf<A>
+        ensures { result ≡ sub_buffer self.closed.records self.size }
+    {
+        self.buffer
     }
 
     /// The page, without records.

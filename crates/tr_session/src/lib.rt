@@ -20,6 +20,9 @@
 //!   If none fails, every stream is cut and the archive is added. If one fails in a cut, its stream stays uncut and the
 //!   rotation stays pending.
 //! - If an allocation fails in a snapshot, everything stays as it was.
+//! - A clear removes what each stream's ring and its part of the current chunk hold, and answers how many records that were.
+//!   It is refused in a snapshot session, before the first start and while a rotation is pending, and nothing changes then. If
+//!   an allocation fails, the streams before one with packets are cleared, and the call can be made again.
 //! - A release gives up each stream's part of an archive. It is refused if there is no such archive, or no stream has its
 //!   part any more. If an allocation fails, the parts before one with packets are released, and the call can be made again.
 //! - A tick at which nothing is due changes nothing.

@@ -78,7 +78,7 @@ rising-where wanted number serial low place discarded (c ∷ cs) next_number nex
     (λ n m a b. after n m (omega (arith, numbers.0)) (omega (arith, next_serial-lower low serial c.block.records le', covers.0.within)))
     (after number serial (omega arith) (omega arith))
 
-rising-append : (number serial : ℕ) (ps qs : List ClosedBuffer) (mid_number mid next_number next : ℕ)
+pub rising-append : (number serial : ℕ) (ps qs : List ClosedBuffer) (mid_number mid next_number next : ℕ)
     → Rising number serial ps mid_number mid → ((n m : ℕ) → n ≤ mid_number → m ≤ mid → Rising n m qs next_number next)
     → Rising number serial (ps ++ qs) next_number next
 rising-append number serial [] qs mid_number mid next_number next before after = after number serial before.0 before.1
@@ -89,7 +89,7 @@ rising-append number serial (p ∷ ps) qs mid_number mid next_number next before
       before.2 after,
 )
 
-rising-last : (number serial place end discarded low next : ℕ) (rs : List Entry) → number ≤ place → serial ≤ low
+pub rising-last : (number serial place end discarded low next : ℕ) (rs : List Entry) → number ≤ place → serial ≤ low
     → RecordsRise low rs → next_serial low rs ≤ next
     → Rising number serial (closed_if_any place end discarded rs) (seq_after place rs) next
 rising-last number serial place end discarded low next [] le le' rise few = (le, omega arith)
@@ -246,7 +246,7 @@ next_serial-high low (r ∷ rs) rise = let count : length (r ∷ rs) ≡ length 
     grind (arith, common_steps) in omega (arith, count, next_serial-high (r.serial + 1) rs rise.1, rise.0)
 
 -- serials that rise and leave no room follow each other
-serials_follow : (low : ℕ) (rs : List Entry) → RecordsRise low rs → next_serial low rs ≤ low + length rs → SerialsFollow low rs
+pub serials_follow : (low : ℕ) (rs : List Entry) → RecordsRise low rs → next_serial low rs ≤ low + length rs → SerialsFollow low rs
 serials_follow low [] rise few = tt
 serials_follow low (r ∷ rs) rise few =
     let count : length (r ∷ rs) ≡ length rs + 1 = grind (arith, common_steps) in
@@ -506,7 +506,7 @@ of-rise seq low [] rest rise later = later
 of-rise seq low (e ∷ es) rest rise later =
     runs-lower e.serial low (runs_on seq e.serial 1 es ++ rest) rise.0 (on-rise seq e.serial 1 es rest rise.1 later)
 
-buffers-rise : (seq serial : ℕ) (bs : List ClosedBuffer) (next_seq next : ℕ) → Rising seq serial bs next_seq next
+pub buffers-rise : (seq serial : ℕ) (bs : List ClosedBuffer) (next_seq next : ℕ) → Rising seq serial bs next_seq next
     → RunsRise serial (buffer_runs bs)
 buffers-rise seq serial [] next_seq next rise = tt
 buffers-rise seq serial (b ∷ bs) next_seq next rise =

@@ -8,12 +8,15 @@ pub mod CutForms
 pub mod CutLemmas
 pub mod FateLemmas
 pub mod FormLemmas
+pub mod GapLemmas
 pub mod GoneLemmas
 pub mod KeptLemmas
 pub mod LookLemmas
 pub mod ModelLemmas
 pub mod OfferLemmas
 pub mod OpenLemmas
+pub mod OrderLemmas
+pub mod PageLemmas
 pub mod PartLemmas
 pub mod PieceLemmas
 pub mod PlacedLemmas
@@ -22,6 +25,7 @@ pub mod ReleaseForms
 pub mod ReleaseLemmas
 pub mod RuleLemmas
 pub mod RunLemmas
+pub mod SearchLemmas
 pub mod SessionLemmas
 pub mod SoundLemmas
 pub mod TakeLemmas

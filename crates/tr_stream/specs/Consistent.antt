@@ -2,10 +2,10 @@
 use Rattle.std.specs.Prelude.{◌≡◌, ◌≢◌, ℕ, ◌+◌, ◌≤◌, ◌↔◌, Bool, List, [], ◌∷◌, ◌++◌, length, map, sum_by, Option, Some, None, if◌then◌else◌}
 use Rattle.std.specs.List.{AllByRecursion}
 use Rattle.tr_book.specs.Parts.{PartState, Rest}
+pub use Rattle.tr_book.specs.Runs.{SerialsFollow, first_in}
 use Rattle.tr_book.specs.declared.runs.Run.{Run}
 use Rattle.tr_terms.specs.declared.mode.Mode.TheVariants.{Discard, Overwrite}
 use Rattle.tr_packet.specs.Packets.{Contents}
-use Rattle.tr_record.specs.Records.{Entry}
 use Rattle.tr_ring.specs.ClosedBuffer.{ClosedBuffer, closed_buffer}
 use Rattle.tr_ring.specs.Ring.{seq_after}
 use Rattle.tr_stream.specs.Chunks.{ring_buffers, buffer_runs}
@@ -84,11 +84,6 @@ abbrev pub PartsFrom : ℕ → List PartState → Type 0
 PartsFrom k [] = Unit {0}
 PartsFrom k (p ∷ ps) = (p.id ≡ k) × PartsFrom (k + 1) ps
 
--- the first serial, or this one if there is none
-abbrev pub first_in : List Entry → ℕ → ℕ
-first_in [] next = next
-first_in (e ∷ es) next = e.serial
-
 abbrev pub first_serial : List ClosedBuffer → ℕ → ℕ
 first_serial [] next = next
 first_serial (b ∷ bs) next = first_in b.records next
@@ -98,11 +93,6 @@ abbrev pub DiscardsAgree : ℕ → List ClosedBuffer → ℕ → Type 0
 DiscardsAgree seen [] next = Unit {0}
 DiscardsAgree seen (b ∷ bs) next =
     (b.discarded + (seen + length b.records) ≡ first_serial bs next) × DiscardsAgree (seen + length b.records) bs next
-
--- serials follow each other
-abbrev pub SerialsFollow : ℕ → List Entry → Type 0
-SerialsFollow n [] = Unit {0}
-SerialsFollow n (e ∷ es) = (e.serial ≡ n) × SerialsFollow (n + 1) es
 
 -- nothing is lost within a sub-buffer, serials are absent before it exactly where numbers are, and neither after the last
 abbrev pub GapsAgree : ℕ → ℕ → List ClosedBuffer → ℕ → ℕ → Type 0

@@ -1,8 +1,10 @@
+pub mod Answers
 pub mod Calls
 pub mod Chunks
 pub mod Consistent
 pub mod Fates
 pub mod Faults
+pub mod Gaps
 pub mod History
 pub mod Kept
 pub mod Laws
@@ -10,6 +12,7 @@ pub mod Placed
 pub mod Rules
 pub mod Runs
 pub mod Sound
+pub mod Spares
 pub mod StandsFor
 pub mod State
 pub mod StateSteps

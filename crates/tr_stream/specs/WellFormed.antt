@@ -1,5 +1,6 @@
 -- What is true of every history that calls lead to.
 use Rattle.std.specs.Prelude.{◌≡◌, ◌≢◌, ℕ, ◌+◌, ◌≤◌, ◌<◌, zero, suc, nat_lt, true, false, List, [], ◌∷◌, ◌++◌, length, if◌then◌else◌}
+pub use Rattle.tr_book.specs.Runs.{RecordsRise, next_serial}
 use Rattle.tr_record.specs.Records.{Entry}
 use Rattle.tr_ring.specs.ClosedBuffer.{ClosedBuffer}
 use Rattle.tr_stream.specs.Chunks.{chunk_of, kept_of}
@@ -45,16 +46,6 @@ AllRecent k (c ∷ cs) = IsRecent k c.status × AllRecent k cs
 abbrev pub RecentLast : ℕ → List Closed → Type 0
 RecentLast k [] = Unit {0}
 RecentLast k (c ∷ cs) = (is_kept_in k c.status ≡ true → AllRecent k cs) × RecentLast k cs
-
--- serials from this one on, each above the one before
-abbrev pub RecordsRise : ℕ → List Entry → Type 0
-RecordsRise low [] = Unit {0}
-RecordsRise low (e ∷ es) = (low ≤ e.serial) × RecordsRise (e.serial + 1) es
-
--- one past the last serial
-abbrev pub next_serial : ℕ → List Entry → ℕ
-next_serial low [] = low
-next_serial low (e ∷ es) = next_serial (e.serial + 1) es
 
 -- the first record has this serial; without a record, none was discarded
 abbrev pub StartsAt : ℕ → List Entry → List ℕ → Type 0

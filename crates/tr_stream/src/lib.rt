@@ -12,6 +12,10 @@
 //! let fate = stream.fate_of(serial);                 // where that record is, or how it was lost
 //! ```
 //!
+//! A clear and a release look at all records of a packet only where serials are missing in it, which its `discarded` shows, and
+//! a fate at those of one packet. `clear_out` and `release_out` hand the packets out, to be dropped when nobody waits for the
+//! stream.
+//!
 //! # What is proved
 //!
 //! - A stream represents a history. Each offer, take, cut, clear, release, look, start and stop is the step of that history,
@@ -22,7 +26,8 @@
 //!   and no serial is used again, and what was discarded stays discarded.
 //! - A release gives up the packets of a closed chunk, once, and nothing else: what became of each record, and how many
 //!   packets, records and bytes the chunk had, is answered as before.
-//! - A call for which an allocation fails changes nothing.
+//! - A call for which an allocation fails changes nothing. A page that a take or a cut moves into a part is replaced by a spare
+//!   one (`Spares`), which may be handed in before; no contract says how many pages move and how many are copied.
 //! - An offer takes no memory. Whether it is accepted depends on nothing but whether the stream takes offers, the payload's
 //!   length, and how many offers were accepted before.
 //! - `run_stream` says the same of every list of calls.
@@ -50,7 +55,10 @@ mod fate;
 mod laws;
 mod packing;
 mod payload;
+mod removed;
 mod run;
+mod search;
+mod spares;
 mod stream;
 
 pub use answers::{
@@ -62,6 +70,8 @@ pub use events::{StreamAnswer, StreamEvent};
 pub use fate::Fate;
 pub use laws::every_run;
 pub use payload::Payload;
+pub use removed::Removed;
 pub use run::run_stream;
+pub use spares::Spares;
 pub use stream::Stream;
 pub use tr_terms::SessionMode;

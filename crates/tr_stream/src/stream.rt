@@ -1,6 +1,8 @@
 //! One stream: a ring of sub-buffers, and the parts that it is consumed into.
 
 ghost use Rattle.std.specs.Prelude.{◌≡◌, ◌≢◌, ◌+◌, ◌-◌, ◌≤◌, ◌<◌, [], Some, Ok, Err, IsOk, IfOk, OnOk, OnErr, length, option_copied, slice_get};
+ghost use Rattle.tr_stream.specs.Spares.{spares_state};
+ghost use Rattle.tr_stream.specs.Answers.{answer_of};
 ghost use Rattle.tr_stream.specs.Calls.{part_in, IsConsistent, history_fate, all_parts, fate_in_parts, state_fate, held_fate, History, IsKept, IsSound, StandsFor, in_ring, in_parts, new_state, overwrites, refusal_of, state_entry, state_with_offer, offered_as, state_offer_answer, state_after_offer, state_take_answer, state_after_take, cut_done, state_cut_answer, state_cut_ring, state_after_cut, ClearsSome, ReleasesSome, state_cleared, state_clear_answer, state_clear_ring, state_after_clear, state_release_answer, state_after_release, state_after_switch, state_snap, state_counts, new_history, history_offer_answer, history_after_offer, history_take_answer, history_after_take, history_cut_answer, history_after_cut, history_clear_answer, history_after_clear, history_release_answer, history_after_release, history_after_switch, history_snap, history_counts, part_at, push_answer, ring_records, history_ring};
 
 use crate::answers::{
@@ -9,7 +11,10 @@ use crate::answers::{
 };
 use crate::config::StreamConfig;
 use crate::fate::{Fate, loss};
-use crate::packing::{move_to_part, ring_packets, ring_runs, used};
+use crate::packing::{cut_into_part, move_to_part, ring_packets, ring_runs, used};
+use crate::removed::Removed;
+use crate::search::seq_in_ring;
+use crate::spares::Spares;
 use std::alloc::{AllocError, Allocator, Global};
 use std::marker::Model;
 use tr_book::{Book, Counts, Part, Parts, StreamSnap};
@@ -35,6 +40,8 @@ pub struct Stream<A: Allocator = Global> {
     alloc: A,
     config: StreamConfig,
     ring: Ring<A>,
+    // empty pages, for the ring to use in the place of those that it gives away
+    spares: Spares<A>,
     parts: Parts<A>,
     counters: Book,
     active: bool,
@@ -84,6 +91,7 @@ impl<A: Allocator + Copy> Stream<A> {
                 session,
             },
             ring,
+            spares: Spares::new(alloc, geometry.size()),
             parts: Parts::new(alloc),
             counters: Book::new(),
             active: false,
@@ -177,8 +185,13 @@ impl<A: Allocator + Copy> Stream<A> {
             count: oldest.count() as u64,
             chunk: self.parts.current().id(),
         };
-        move_to_part(&mut self.parts, &self.config, &oldest)?;
-        self.ring.drop_front();
+        move_to_part(
+            self.alloc,
+            &self.config,
+            &mut self.ring,
+            &mut self.spares,
+            &mut self.parts,
+        )?;
         self.counters.note_consumed(taken.count);
         Ok(taken)
     }
@@ -212,17 +225,64 @@ impl<A: Allocator + Copy> Stream<A> {
         ensures ok { OnOk result (self.new ≡ state_cut_ring end self.old) }
         ensures err { OnErr result (self.new ≡ self.old) }
     {
-        let packets = ring_packets(self.alloc, self.config, &self.ring, end)?;
         let done = CutDone {
             chunk: self.parts.current().id(),
-            packets: packets.len() as u64,
+            packets: used(&self.ring),
             records: self.in_ring(),
         };
-        self.parts.cut(packets, self.counters.offered())?;
-        self.ring.clear();
+        cut_into_part(
+            self.alloc,
+            &self.config,
+            &mut self.ring,
+            &mut self.spares,
+            &mut self.parts,
+            end,
+            self.counters.offered(),
+        )?;
         self.counters.note_consumed(done.records);
         self.counters.note_moment(end);
         Ok(done)
+    }
+
+    /// How many pages a take would have to make itself now: none or one.
+    pub fn lacking_for_take(&self) -> usize {
+        match self.ring.front() {
+            Some(oldest) if self.takes() && self.spares.len() == 0 && !oldest.is_mostly_empty() =>
+                1,
+            _ => 0,
+        }
+    }
+
+    /// How many pages a cut would have to make itself now, at most.
+    pub fn lacking_for_cut(&self) -> usize {
+        if !self.takes() {
+            return 0;
+        }
+        let current = usize::from(!self.ring.current().is_mostly_empty());
+        (self.ring.waiting() + current).saturating_sub(self.spares.len())
+    }
+
+    /// Whether it is ever taken from or cut.
+    fn takes(&self) -> bool {
+        match self.config.session {
+            SessionMode::Local => true,
+            SessionMode::Snapshot => false,
+        }
+    }
+
+    /// No pages yet, of the size of those in this stream's ring: to be made while nobody waits for the stream.
+    pub fn no_spares(&self) -> Spares<A>
+        ensures { result ≡ spares_state self.now.ring.size 0 }
+    {
+        Spares::new(self.alloc, self.ring.size())
+    }
+
+    /// Keeps pages for a take or a cut to put in the place of those that become packets, so that it takes no memory for them. What
+    /// is shown doesn't change.
+    pub fn keep_spares(&mut self, more: Spares<A>)
+        ensures { self.new ≡ self.old }
+    {
+        self.spares.append(more);
     }
 
     /// Removes all records that the ring and the current part hold, and keeps the numbers and serials of their packets. What
@@ -239,6 +299,21 @@ impl<A: Allocator + Copy> Stream<A> {
         ensures config { self.new.config ≡ self.old.config }
         ensures memory { result ≡ Err ClearFault.NoMemory → ClearsSome (state_clear_answer self.old) }
     {
+        let (cleared, _) = self.clear_out()?;
+        Ok(cleared)
+    }
+
+    /// The same, and the packets come out, so that their memory is freed only when the caller drops them.
+    pub fn clear_out(&mut self) -> Result<(Cleared, Removed<A>), ClearFault>
+        ensures value { answer_of result ≢ Err ClearFault.NoMemory
+            → (answer_of result ≡ state_clear_answer self.old) × (self.new ≡ state_after_clear self.old) }
+        ensures step { (h : History) → StandsFor self.old h → answer_of result ≢ Err ClearFault.NoMemory →
+            (answer_of result ≡ history_clear_answer self.old.config h)
+            × StandsFor self.new (history_after_clear self.old.config h) }
+        ensures no_memory { answer_of result ≡ Err ClearFault.NoMemory → self.new ≡ self.old }
+        ensures config { self.new.config ≡ self.old.config }
+        ensures memory { answer_of result ≡ Err ClearFault.NoMemory → ClearsSome (state_clear_answer self.old) }
+    {
         match self.config.session {
             SessionMode::Snapshot => return Err(ClearFault::SnapshotMode),
             SessionMode::Local => {}
@@ -248,9 +323,9 @@ impl<A: Allocator + Copy> Stream<A> {
 
     /// Removes all that the ring and the current part hold. All memory is taken before anything moves, and none if there is
     /// nothing to remove.
-    fn clear_ring(&mut self) -> Result<Cleared, AllocError>
+    fn clear_ring(&mut self) -> Result<(Cleared, Removed<A>), AllocError>
         requires local { self.old.config.session ≡ SessionMode.Local }
-        ensures answer { IfOk result (λ c. c ≡ state_cleared self.old) }
+        ensures answer { IfOk result (λ r. r.0 ≡ state_cleared self.old) }
         ensures ok { OnOk result (self.new ≡ state_clear_ring self.old) }
         ensures err { OnErr result (self.new ≡ self.old) }
         ensures memory { OnErr result ((state_cleared self.old).packets ≢ 0) }
@@ -261,13 +336,13 @@ impl<A: Allocator + Copy> Stream<A> {
             records: consumed + self.in_ring(),
         };
         if cleared.packets == 0 {
-            return Ok(cleared);
+            return Ok((cleared, Removed::new(Vec::new(self.alloc))));
         }
         let runs = ring_runs(self.alloc, &self.ring)?;
-        self.parts.clear(runs)?;
+        let removed = Removed::new(self.parts.clear_out(runs)?);
         self.ring.clear();
         self.counters.note_cleared(cleared.records, consumed);
-        Ok(cleared)
+        Ok((cleared, removed))
     }
 
     /// Gives up the packets of closed part `k`, and keeps which serials each had: fates, counts and sizes are as before. The
@@ -283,22 +358,35 @@ impl<A: Allocator + Copy> Stream<A> {
         ensures config { self.new.config ≡ self.old.config }
         ensures memory { result ≡ Err ReleaseFault.NoMemory → ReleasesSome (state_release_answer k self.old) }
     {
+        let (released, _) = self.release_out(k)?;
+        Ok(released)
+    }
+
+    /// The same, and the packets come out, so that their memory is freed only when the caller drops them.
+    pub fn release_out(&mut self, k: u64) -> Result<(Released, Removed<A>), ReleaseFault>
+        ensures value { answer_of result ≢ Err ReleaseFault.NoMemory
+            → (answer_of result ≡ state_release_answer k self.old) × (self.new ≡ state_after_release k self.old) }
+        ensures step { (h : History) → StandsFor self.old h → answer_of result ≢ Err ReleaseFault.NoMemory →
+            (answer_of result ≡ history_release_answer self.old.config k h)
+            × StandsFor self.new (history_after_release k h) }
+        ensures no_memory { answer_of result ≡ Err ReleaseFault.NoMemory → self.new ≡ self.old }
+        ensures config { self.new.config ≡ self.old.config }
+        ensures memory { answer_of result ≡ Err ReleaseFault.NoMemory → ReleasesSome (state_release_answer k self.old) }
+    {
         match self.releasable(k) {
-            Ok(released) => Ok(self.release_closed(k, released)?),
+            Ok(released) => Ok((released, self.release_closed(k, released)?)),
             Err(fault) => Err(fault),
         }
     }
 
     /// Gives up the packets of a closed part, which has these.
-    fn release_closed(&mut self, k: u64, released: Released) -> Result<Released, AllocError>
+    fn release_closed(&mut self, k: u64, released: Released) -> Result<Removed<A>, AllocError>
         requires { state_release_answer k self.old ≡ Ok released }
-        ensures answer { IfOk result (λ r. r ≡ released) }
         ensures ok { OnOk result (self.new ≡ state_after_release k self.old) }
         ensures err { OnErr result (self.new ≡ self.old) }
         ensures memory { OnErr result (released.packets ≢ 0) }
     {
-        self.parts.release(k)?;
-        Ok(released)
+        Ok(Removed::new(self.parts.release_out(k)?))
     }
 
     /// What the stream has now: how many offers it accepted, how many records it discarded, and copies of the packets that
@@ -440,7 +528,7 @@ impl<A: Allocator> Stream<A> {
         let Some(part) = self.parts.part(self.parts.place_of(serial)) else {
             unreachable!()
         };
-        match part.seq_of(serial) {
+        match part.search(serial) {
             Some(seq) => Some(Fate::InChunk {
                 chunk: part.id(),
                 seq,
@@ -459,7 +547,7 @@ impl<A: Allocator> Stream<A> {
         if let Some(seq) = self.parts.seq_cleared(serial) {
             return Some(Fate::Cleared { seq });
         }
-        match self.ring.seq_of(serial) {
+        match seq_in_ring(&self.ring, serial) {
             Some(seq) => Some(Fate::InRing { seq }),
             None => None,
         }

@@ -1,5 +1,6 @@
 //! A sub-buffer: the records that are to make one packet, within its size in bytes.
-//! It keeps their texts, end to end, in a page whose memory is taken once. Contracts see the records alone.
+//! It keeps their texts, end to end, in a page whose memory is taken once, behind room for the packet's header: so the page
+//! becomes the packet's text. Contracts see the records alone.
 //!
 //! # Example
 //!
@@ -14,6 +15,7 @@
 //!
 //! - A record is added at the end of a sub-buffer that has room for it. This takes no memory.
 //! - The records are within the sub-buffer's size, as a packet.
+//! - The packet that the page becomes has just these records, and so has a copy of it.
 #![tactic(auto)]
 
 mod sub_buffer;

@@ -6,18 +6,19 @@ ghost use Rattle.tr_book.specs.Parts.{records_of};
 use super::{assert_packets, assert_same, packet, record};
 use crate::packing::{put, put_in_part};
 use std::alloc::Global;
+use std::mem;
 use std::process::Abort;
 use tr_book::{Book, Part, Parts, Run, Runs, StreamSnap};
-use tr_packet::{Head, Packet, PacketTexts};
+use tr_packet::{Head, Packet, PacketText, Packets};
 use tr_terms::{Geometry, GeometryFault};
 use tr_testing::moment;
 use uuid::Uuid;
 
 /// A packet of two records with payloads of `len` bytes.
-fn only(rt: &impl Abort, alloc: Global, seq: u64, len: usize) -> PacketTexts
-    ensures { records_of result ≤ 2 }
+fn only(rt: &impl Abort, alloc: Global, seq: u64, len: usize) -> Vec<PacketText>
+    ensures { records_of result.items ≤ 2 }
 {
-    let mut texts = PacketTexts::new(alloc);
+    let mut texts = Vec::new(alloc);
     put(
         rt,
         alloc,
@@ -33,11 +34,15 @@ fn push(rt: &impl Abort, alloc: Global, parts: &mut Parts, seq: u64, len: usize)
 }
 
 /// Cuts after packets; the next part begins at this serial.
-fn cut(rt: &impl Abort, parts: &mut Parts, packets: PacketTexts, next: u64)
-    requires { records_of packets ≤ 2 }
+fn cut(rt: &impl Abort, parts: &mut Parts, packets: Vec<PacketText>, next: u64)
+    requires { records_of packets.items ≤ 2 }
 {
     assert!(rt; !parts.current().is_released() && parts.current().records() < 1000);
-    parts.cut(packets, next).expect(rt, "a cut");
+    let Ok(ready) = mem::replace(parts, Parts::new(*packets.allocator())).ready(packets.len())
+    else {
+        panic!(rt; "memory")
+    };
+    *parts = ready.cut(packets, next);
 }
 
 /// Asserts the number of a part, its records and its bytes.
@@ -83,7 +88,7 @@ fn a_cut_closes_the_part_behind_its_packets(rt: HostRuntime) {
     push(&rt, rt.alloc(), &mut parts, 2, 50);
     assert_only_closed(&rt, &parts);
     assert_part_at(&rt, &parts, 1, 2, 228);
-    cut(&rt, &mut parts, PacketTexts::new(rt.alloc()), 6);
+    cut(&rt, &mut parts, Vec::new(rt.alloc()), 6);
     assert_part_at(&rt, &parts, 2, 0, 0);
     assert_same(&rt, parts.part(3).is_none(), true);
 }
@@ -104,7 +109,7 @@ fn a_part_is_found_by_where_parts_began(rt: HostRuntime) {
     let mut parts = Parts::new(rt.alloc());
     assert_same(&rt, parts.place_of(0), 0);
     cut(&rt, &mut parts, only(&rt, rt.alloc(), 0, 50), 4);
-    cut(&rt, &mut parts, PacketTexts::new(rt.alloc()), 4);
+    cut(&rt, &mut parts, Vec::new(rt.alloc()), 4);
     cut(&rt, &mut parts, only(&rt, rt.alloc(), 2, 50), 6);
     for (serial, place) in &PLACES {
         assert_same(&rt, (*serial, parts.place_of(*serial)), (*serial, *place));
@@ -181,8 +186,8 @@ fn packet_of(rt: &impl Abort, alloc: Global, seq: u64, serials: &[u64]) -> Packe
 }
 
 /// The texts of these packets.
-fn texts_of(rt: &impl Abort, alloc: Global, rows: &[(u64, &[u64])]) -> PacketTexts {
-    let mut texts = PacketTexts::new(alloc);
+fn texts_of(rt: &impl Abort, alloc: Global, rows: &[(u64, &[u64])]) -> Vec<PacketText> {
+    let mut texts = Vec::new(alloc);
     for (seq, serials) in rows {
         put(rt, alloc, &mut texts, &packet_of(rt, alloc, *seq, serials));
     }
@@ -190,8 +195,8 @@ fn texts_of(rt: &impl Abort, alloc: Global, rows: &[(u64, &[u64])]) -> PacketTex
 }
 
 /// The runs of packets: those of the first one's records, and after them those of the others.
-fn runs_of(rt: &impl Abort, alloc: Global, texts: &PacketTexts) -> Runs {
-    let mut packets = texts.packets();
+fn runs_of(rt: &impl Abort, alloc: Global, texts: &[PacketText]) -> Runs {
+    let mut packets = Packets::new(texts);
     let first = packets.next().expect(rt, "a packet");
     let mut runs = Runs::new(alloc);
     let pushed = runs.push_records(first.head().seq, first.count(), first.records());
@@ -231,7 +236,7 @@ static CLEARED: [(u64, Option<u64>); 8] = [
 fn clear(rt: &impl Abort, alloc: Global, parts: &mut Parts, seq: u64) {
     let texts = only(rt, alloc, seq, 50);
     let mut more = Runs::new(alloc);
-    more.push_packets(texts.packets()).expect(rt, "memory");
+    more.push_packets(Packets::new(&texts)).expect(rt, "memory");
     parts.clear(more).expect(rt, "memory");
 }
 

@@ -3,7 +3,7 @@
 use super::assert_same;
 use std::alloc::Global;
 use std::process::Abort;
-use tr_lines::{Found, LineReader, ReadFault, is_skipped_line, push_words};
+use tr_lines::{Found, LineReader, ReadFault, Words, is_skipped_line, push_words};
 use tr_record::{ByteSource, Failed, MemorySource};
 
 /// What a call of a reader answers: what it found with its text, or why nothing.
@@ -38,6 +38,14 @@ static SCRIPTS: [(&[u8], &[Answer<'static>]); 4] = [
     ),
 ];
 
+/// Reads the next line, or what follows the last newline.
+fn read_line<S: ByteSource>(reader: &mut LineReader, source: &mut S) -> Result<Found, ReadFault> {
+    if reader.take_line()? {
+        return Ok(Found::Whole);
+    }
+    reader.read_on(source)
+}
+
 /// Asserts what the calls of a reader answer one after another, whose source gives pieces of this size.
 fn assert_reads<S: ByteSource>(
     rt: &impl Abort,
@@ -48,7 +56,7 @@ fn assert_reads<S: ByteSource>(
 ) {
     let mut reader = LineReader::new(alloc).expect(rt, "memory");
     for want in answers {
-        let answer = match reader.read_line(source) {
+        let answer = match read_line(&mut reader, source) {
             Ok(found) => Ok((found, reader.text())),
             Err(fault) => Err(fault),
         };
@@ -166,27 +174,46 @@ fn breaks_off_where_the_source_fails(rt: HostRuntime) {
     assert_same(&rt, source.failures, 2);
 }
 
-/// Appends the words of lines.
-fn push(rt: &impl Abort, words: &mut Vec<&'static str>, lines: &[&'static str]) {
-    for line in lines {
-        push_words(words, line).expect(rt, "memory");
+/// Lines, and whether they are skipped.
+static SKIPPED: [(&str, bool); 7] = [
+    ("", true),
+    ("   ", true),
+    ("# s", true),
+    ("  #create", true),
+    ("s#", false),
+    ("  create  s # ", false),
+    ("\t#", false),
+];
+
+#[test]
+fn skips_comments_and_lines_without_words(rt: HostRuntime) {
+    for &(line, want) in &SKIPPED {
+        assert_same(&rt, (line, is_skipped_line(line)), (line, want));
     }
 }
 
-/// Asserts whether a line of these words is skipped.
-fn assert_skipped(rt: &impl Abort, words: &[&str], want: bool) {
-    assert_same(rt, (words, is_skipped_line(words)), (words, want));
+/// Asserts that the words of these lines, one line after the other, are these.
+fn assert_words(rt: &impl Abort, alloc: Global, lines: &[&str], expected: &[&str]) {
+    let mut words = Words::new(alloc);
+    for line in lines {
+        push_words(&mut words, line).expect(rt, "memory");
+    }
+    assert_same(rt, words.as_slice(), expected);
 }
 
+// more than 16 words need memory
 #[test]
 fn splits_words(rt: HostRuntime) {
-    let mut words = Vec::new(rt.alloc());
-    push(&rt, &mut words, &["", "   "]);
-    assert_skipped(&rt, &words, true);
-    push(&rt, &mut words, &["  create  s # ", "x"]);
-    assert_skipped(&rt, &words, false);
-    assert_same(&rt, words.as_slice(), ["create", "s", "#", "x"].as_slice());
-    assert_skipped(&rt, &["#", "s"], true);
-    assert_skipped(&rt, &["#create"], true);
-    assert_skipped(&rt, &["s#"], false);
+    assert_words(&rt, rt.alloc(), &["", "   "], &[]);
+    let few = ["create", "s", "#", "x"];
+    assert_words(&rt, rt.alloc(), &["  create  s # ", "x"], &few);
+    let many = [
+        "a", "b", "c", "d", "e", "f", "g", "h", "i", "j", "k", "l", "m", "n", "o", "p", "q", "r",
+    ];
+    assert_words(
+        &rt,
+        rt.alloc(),
+        &["a b c d e f g h i", "j k l m n o p q r"],
+        &many,
+    );
 }

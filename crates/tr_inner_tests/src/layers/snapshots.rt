@@ -6,7 +6,7 @@ use std::alloc::Global;
 use std::process::Abort;
 use tr_book::StreamSnap;
 use tr_chunk::WriteFault;
-use tr_packet::{PacketTexts, decode_packet};
+use tr_packet::decode_packet;
 use tr_record::{MemorySink, Records, WriterSink};
 use tr_snapshot::{Snapshot, count, oldest_serial, write_snap};
 use tr_testing::{FailsAfter, moment};
@@ -15,7 +15,7 @@ use tr_testing::{FailsAfter, moment};
 fn snap(rt: &impl Abort, alloc: Global) -> StreamSnap {
     let older = packet(rt, alloc, 1, 3, 4, 64);
     let newer = packet(rt, alloc, 2, 5, 6, 64);
-    let mut packets = PacketTexts::new(alloc);
+    let mut packets = Vec::new(alloc);
     put(rt, alloc, &mut packets, &older);
     put(rt, alloc, &mut packets, &newer);
     StreamSnap::new(0, 6, 0, packets)
@@ -34,7 +34,7 @@ fn assert_shown(rt: &impl Abort, snap: &StreamSnap, wanted: (u64, u64, Option<u6
 
 /// What a session shows at moment 10 of that stream and of one without records.
 fn snapshot(rt: &impl Abort, alloc: Global) -> Snapshot {
-    let empty = StreamSnap::new(1, 0, 0, PacketTexts::new(alloc));
+    let empty = StreamSnap::new(1, 0, 0, Vec::new(alloc));
     let streams = vec![in alloc; snap(rt, alloc), empty].expect(rt, "memory");
     Snapshot::new(moment(10), streams)
 }

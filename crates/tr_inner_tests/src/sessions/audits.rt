@@ -30,11 +30,18 @@ fn make_offers(rt: &impl Abort, stream: &mut Stream, offers: &[Offers]) {
     }
 }
 
-/// A stream's mode, its offers before a take and after it, and the moment of the cut that ends its first part.
-type Life = (Mode, &'static [Offers], &'static [Offers], u64);
+/// A stream's mode, its offers before a take and after it, those after a clear if it is cleared, and the moment of the cut that
+/// ends its first part.
+type Life = (
+    Mode,
+    &'static [Offers],
+    &'static [Offers],
+    Option<&'static [Offers]>,
+    u64,
+);
 
 /// The file of the first part of a stream of two sub-buffers of 256 bytes.
-fn file(rt: &impl Abort, alloc: Global, (mode, before, after, cut): Life) -> Vec<u8> {
+fn file(rt: &impl Abort, alloc: Global, (mode, before, after, cleared, cut): Life) -> Vec<u8> {
     let geometry = Geometry::new(256, 2).expect(rt, "a geometry");
     let uuid = Uuid::from_u128(1);
     let mut stream = Stream::new(alloc, uuid, 0, geometry, mode, SessionMode::Local).expect(
@@ -44,6 +51,10 @@ fn file(rt: &impl Abort, alloc: Global, (mode, before, after, cut): Life) -> Vec
     make_offers(rt, &mut stream, before);
     let _ = stream.take();
     make_offers(rt, &mut stream, after);
+    if let Some(offers) = cleared {
+        let _ = stream.clear();
+        make_offers(rt, &mut stream, offers);
+    }
     let _ = stream.cut(moment(cut));
     part_file(rt, alloc, &stream, 0)
 }
@@ -58,10 +69,28 @@ fn part_file(rt: &impl Abort, alloc: Global, stream: &Stream, id: u64) -> Vec<u8
 }
 
 /// A stream that discards one of six records: 484 bytes, with packets at 0 and 228.
-const DISCARDING: Life = (Mode::Discard, &[(1, 6, 50), (6, 7, 4)], &[], 10);
+const DISCARDING: Life = (Mode::Discard, &[(1, 6, 50), (6, 7, 4)], &[], None, 10);
 
 /// A stream that overwrites two packets of two records each: 768 bytes.
-const OVERWRITING: Life = (Mode::Overwrite, &[(1, 7, 64)], &[(7, 11, 64)], 20);
+const OVERWRITING: Life = (Mode::Overwrite, &[(1, 7, 64)], &[(7, 11, 64)], None, 20);
+
+/// The stream that discards, cleared before one more offer: 108 bytes.
+const DISCARDING_CLEARED: Life = (
+    Mode::Discard,
+    &[(1, 6, 50), (6, 7, 4)],
+    &[],
+    Some(&[(7, 8, 4)]),
+    10,
+);
+
+/// The stream that overwrites, cleared before one more offer: 168 bytes.
+const OVERWRITING_CLEARED: Life = (
+    Mode::Overwrite,
+    &[(1, 7, 64)],
+    &[(7, 11, 64)],
+    Some(&[(11, 12, 64)]),
+    20,
+);
 
 /// What an audit says of a file.
 #[derive(Clone, Copy)]
@@ -94,6 +123,26 @@ const OVERWRITTEN: Told = Told {
     last_lost: 0,
 };
 
+/// What is found of the stream that discards, once it was cleared: what was discarded stays so.
+const DISCARDED_CLEARED: Told = Told {
+    packets: 1,
+    records: 1,
+    gaps: &[(0, 2)],
+    last_seq: 2,
+    last_serial: 6,
+    last_lost: 1,
+};
+
+/// What is found of the stream that overwrites, once it was cleared.
+const OVERWRITTEN_CLEARED: Told = Told {
+    packets: 1,
+    records: 1,
+    gaps: &[(0, 5)],
+    last_seq: 5,
+    last_serial: 10,
+    last_lost: 0,
+};
+
 /// Asserts what the audit says of a file of the trace with this identifier.
 fn assert_audited(rt: &impl Abort, alloc: Global, uuid: &Uuid, bytes: &[u8], told: &Told) {
     let audit = audit_stream(alloc, uuid, 0, &[bytes]).expect(rt, "an audit");
@@ -112,10 +161,12 @@ fn assert_audited(rt: &impl Abort, alloc: Global, uuid: &Uuid, bytes: &[u8], tol
 }
 
 #[test]
-fn the_audit_finds_what_was_discarded_and_overwritten(rt: HostRuntime) {
+fn the_audit_finds_what_was_discarded_overwritten_and_cleared(rt: HostRuntime) {
     for (life, size, told) in [
         (DISCARDING, 484, DISCARDED),
         (OVERWRITING, 768, OVERWRITTEN),
+        (DISCARDING_CLEARED, 108, DISCARDED_CLEARED),
+        (OVERWRITING_CLEARED, 168, OVERWRITTEN_CLEARED),
     ] {
         let bytes = file(&rt, rt.alloc(), life);
         assert_same(&rt, bytes.len(), size);

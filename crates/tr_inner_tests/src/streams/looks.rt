@@ -2,6 +2,7 @@
 
 use super::Step::{self, Counts as Counted, Cut, Offer, Offers, Peek, Start, Take};
 use super::{PacketRow, assert_lists, assert_same, make_offers, new_stream};
+use crate::packing::bytes_of;
 use std::alloc::Global;
 use std::process::Abort;
 use tr_book::Counts;
@@ -247,7 +248,8 @@ fn packets_of_a_look_are_read_as_they_are(rt: HostRuntime) {
     make_offers(&rt, &mut stream, 1, 7, 64);
     let snap = stream.peek(moment(10)).expect(&rt, "a look");
     assert_same(&rt, snap.packets().len(), 2);
-    let mut bytes = snap.text();
+    let text = bytes_of(&rt, rt.alloc(), snap.texts());
+    let mut bytes = text.as_slice();
     for packet in snap.packets() {
         bytes = assert_read_again(&rt, bytes, &packet);
     }

@@ -3,7 +3,7 @@ use Rattle.std.proofs.lemmas.Grind.{common_steps}
 use Rattle.tr_book.proofs.part.records_in.Goals as goal
 
 pub overflow_add-count : goal.overflow_add-count
-overflow_add-count c = grind (arith, common_steps)
+overflow_add-count g c = grind (arith, common_steps)
 
 pub loop-packet-preserved : goal.loop-packet-preserved
-loop-packet-preserved c = grind (arith, common_steps)
+loop-packet-preserved g c = grind (arith, common_steps)

@@ -1,4 +1,4 @@
-use Rattle.std.proofs.Common.{rules, ◌≡◌, ◌∙◌, List, ap, leb, subst}
+use Rattle.std.proofs.Common.{rules, ◌≡◌, ◌∙◌, ap, leb, subst}
 use Rattle.std.proofs.lemmas.List.Sorted.{IsPartitionPoint-from_clause, IsPartitionedBy-leb}
 use Rattle.std.specs.List.Sorted.{IsNonDecreasing}
 use Rattle.tr_book.proofs.PlaceLemmas.{place-is}

@@ -1,6 +1,35 @@
-use Rattle.std.proofs.Common.{arith}
-use Rattle.std.proofs.lemmas.Grind.{common_steps}
+use Rattle.std.proofs.Common.{◌≡◌, ◌+◌, ◌≤◌, ◌∙◌, List, Some, length, ap, slice_get, sym, arith}
+use Rattle.std.proofs.lemmas.List.{length-map}
+use Rattle.tr_subbuf.specs.SubBuffer.{empty_buffer}
+use Rattle.circular_buffer.specs.Buffer.{Buffer}
+use Rattle.tr_ring.specs.ClosedBuffer.{ClosedBuffer}
+use Rattle.tr_ring.specs.Pages.{SealedPage, closed_in}
+use Rattle.tr_ring.specs.Ring.{RingState, drop_front, ring_state}
+use Rattle.tr_ring.proofs.MoveLemmas.{front-gone, front-size, left-waits}
 use Rattle.tr_ring.proofs.ring.Ring.drop_front.Goals as goal
 
-pub invariant_of-self-in-Some-2 : goal.invariant_of-self-in-Some-2
-invariant_of-self-in-Some-2 g c = grind (arith, common_steps)
+pub invariant_of-self : goal.invariant_of-self
+invariant_of-self g c =
+    let own = c.self.inside in
+    let some : 1 ≤ length own.waiting.items =
+    omega (
+      arith,
+      c.requires,
+      ap (λ (r : RingState). length r.waiting) c.self.view_is,
+      length-map own.waiting.items (λ (p : SealedPage). p.closed),
+    ) in
+    let first : Some c.in-Some.oldest ≡ slice_get own.waiting.items 0 = sym c.in-Some.is ∙ c.pop_front.ensures.value in
+    let held = front-gone own.current.size own.waiting c.pop_front.new.self own.free c.push_back.new.self c.into_free.result own.current.records
+    own.seq own.discarded own.overwrite c.self.invariant.0 c.self.invariant.1 some
+    (c.into_free.ensures ∙ ap empty_buffer (front-size own.current.size own.waiting.items c.in-Some.oldest c.self.invariant.1.sizes first))
+    c.pop_front.ensures.items c.push_back.ensures.items in
+    (held.ring, held.pages)
+
+pub returns : goal.returns
+returns g c =
+    let own = c.self.inside in
+    ap (λ (w : Buffer SealedPage). ring_state (closed_in w.items) own.current.records own.seq own.discarded own.current.size (w.capacity + 1) own.overwrite)
+    c.pop_front.ensures.items
+    ∙ ap (λ (bs : List ClosedBuffer). ring_state bs own.current.records own.seq own.discarded own.current.size (own.waiting.capacity + 1) own.overwrite)
+    (left-waits own.waiting.items)
+    ∙ ap drop_front c.self.view_is

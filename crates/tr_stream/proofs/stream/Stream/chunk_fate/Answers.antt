@@ -1,5 +1,6 @@
 use Rattle.std.proofs.Common.{rules, ◌≡◌, ◌∙◌, None, Option, Some, ap}
 use Rattle.tr_book.specs.Parts.{PartState, part_at}
+use Rattle.tr_stream.proofs.OrderLemmas.{part-ordered}
 use Rattle.tr_stream.proofs.PlacedLemmas.{placed-fate, placed-there, starts-rise}
 use Rattle.tr_stream.proofs.stream.Stream.chunk_fate.Goals as goal
 use Rattle.tr_stream.specs.Fates.{all_parts, fate_in_parts}
@@ -19,8 +20,20 @@ unreachable-requires g c =
     let none : (let o : Option PartState = None in o) ≡ part_at c.place_of.result s.parts = search rules in
     placed-there c.args.serial c.place_of.result s placed place none
 
-pub returns-in-Some-seq_of : goal.returns-in-Some-seq_of
-returns-in-Some-seq_of g c =
+pub search-requires : goal.search-requires
+search-requires g c =
+    let s : StreamState = record {
+      config = c.self.inside.config;
+      ring = c.self.inside.ring;
+      parts = c.self.inside.parts;
+      counters = c.self.inside.counters;
+      active = c.self.inside.active;
+    } in
+    let at : Some c.in-Some.part.now ≡ part_at c.place_of.result s.parts = search rules in
+    part-ordered s c.place_of.result c.in-Some.part.now c.self.invariant at
+
+pub returns-in-Some-search : goal.returns-in-Some-search
+returns-in-Some-search g c =
     let s : StreamState = record {
       config = c.self.inside.config;
       ring = c.self.inside.ring;
@@ -31,7 +44,7 @@ returns-in-Some-seq_of g c =
     let placed = c.self.invariant.placed in
     let place = c.place_of.ensures (starts-rise 0 s.parts.starts s.counters.offered (all_parts s.parts) placed.parts) in
     let at : Some c.in-Some.part.now ≡ part_at c.place_of.result s.parts = search rules in
-    let same = placed-fate c.args.serial c.place_of.result s c.in-Some.part.now (Some c.in-Some-seq_of.seq) placed place at (search rules)
+    let same = placed-fate c.args.serial c.place_of.result s c.in-Some.part.now (Some c.in-Some-search.seq) placed place at (search rules)
     ∙ ap (λ (t : StreamState). fate_in_parts c.args.serial (all_parts t.parts)) c.self.view_is in
     rw c.id.ensures same
 

@@ -1,5 +1,6 @@
 use Rattle.std.proofs.Common.{rules, ◌≡◌, ◌+◌, ◌∙◌, ap, arith}
 use Rattle.tr_stream.proofs.CallLemmas.{clear-is, clear-packets, clear-told, kept-clear_now}
+use Rattle.tr_stream.proofs.GapLemmas.{current-gaps, ring-gaps}
 use Rattle.tr_stream.proofs.stream.Stream.clear_ring.Goals as goal
 use Rattle.tr_book.specs.Parts.{part_packets}
 use Rattle.tr_stream.specs.State.{StreamState}
@@ -27,7 +28,7 @@ invariant_of-self-2 g c =
       active = c.self.inside.active;
     } in
     kept-clear_now s c.in_ok-runs.runs (c.records-consumed.result + c.in_ring.result) c.records-consumed.result
-    c.clear-2.new.self c.clear.new.self c.note_cleared.new.self (search rules) c.self.invariant c.in_ok-runs.ensures
+    c.clear.new.self c.clear_out.new.self c.note_cleared.new.self (search rules) c.self.invariant c.in_ok-runs.ensures
     (search rules) (search rules) (search rules) (search rules) (search rules)
 
 pub returns-clause-answer : goal.returns-clause-answer
@@ -53,5 +54,27 @@ returns-clause-ok g c =
       active = c.self.inside.active;
     } in
     clear-is s c.in_ok-runs.runs (c.records-consumed.result + c.in_ring.result) c.records-consumed.result
-    c.clear-2.new.self c.clear.new.self c.note_cleared.new.self c.in_ok-runs.ensures (search rules) (search rules)
+    c.clear.new.self c.clear_out.new.self c.note_cleared.new.self c.in_ok-runs.ensures (search rules) (search rules)
     (search rules) (search rules) (search rules) ∙ ap state_clear_ring c.self.view_is
+
+pub ring_runs-requires : goal.ring_runs-requires
+ring_runs-requires g c =
+    let s : StreamState = record {
+      config = c.self.inside.config;
+      ring = c.self.inside.ring;
+      parts = c.self.inside.parts;
+      counters = c.self.inside.counters;
+      active = c.self.inside.active;
+    } in
+    ring-gaps s c.self.invariant
+
+pub clear_out-requires : goal.clear_out-requires
+clear_out-requires g c =
+    let s : StreamState = record {
+      config = c.self.inside.config;
+      ring = c.self.inside.ring;
+      parts = c.self.inside.parts;
+      counters = c.self.inside.counters;
+      active = c.self.inside.active;
+    } in
+    current-gaps s c.self.invariant

@@ -1,4 +1,4 @@
-use Rattle.std.proofs.Common.{rules, ◌∙◌, ap, sym, arith}
+use Rattle.std.proofs.Common.{rules, ◌≡◌, ◌∙◌, Some, ap, slice_get, sym, arith}
 use Rattle.std.proofs.lemmas.Grind.{common_steps}
 use Rattle.tr_stream.proofs.CallLemmas.{oldest-is_packet, oldest-fits, moved-local, kept-moved}
 use Rattle.tr_stream.proofs.stream.Stream.move_oldest.Goals as goal
@@ -6,7 +6,7 @@ use Rattle.tr_stream.specs.State.{StreamState}
 use Rattle.tr_stream.specs.StateSteps.{state_after_take}
 
 pub move_to_part-requires-clause-packet : goal.move_to_part-requires-clause-packet
-move_to_part-requires-clause-packet g c =
+move_to_part-requires-clause-packet g c = λ b first.
     let s : StreamState = record {
       config = c.self.inside.config;
       ring = c.self.inside.ring;
@@ -14,10 +14,10 @@ move_to_part-requires-clause-packet g c =
       counters = c.self.inside.counters;
       active = c.self.inside.active;
     } in
-    oldest-is_packet s c.in-Some.oldest c.self.invariant (sym (search rules))
+    oldest-is_packet s b c.self.invariant first
 
 pub move_to_part-requires-clause-few : goal.move_to_part-requires-clause-few
-move_to_part-requires-clause-few g c =
+move_to_part-requires-clause-few g c = λ b first.
     let s : StreamState = record {
       config = c.self.inside.config;
       ring = c.self.inside.ring;
@@ -25,7 +25,7 @@ move_to_part-requires-clause-few g c =
       counters = c.self.inside.counters;
       active = c.self.inside.active;
     } in
-    oldest-fits s c.in-Some.oldest c.self.invariant (sym (search rules))
+    oldest-fits s b c.self.invariant first
 
 pub invariant_of-self-2 : goal.invariant_of-self-2
 invariant_of-self-2 g c =
@@ -36,8 +36,9 @@ invariant_of-self-2 g c =
       counters = c.self.inside.counters;
       active = c.self.inside.active;
     } in
-    kept-moved s c.in-Some.oldest c.drop_front.new.self c.move_to_part.new.parts c.note_consumed.new.self (search rules)
-    c.self.invariant (search rules) (search rules) (search rules) (search rules)
+    let first : slice_get s.ring.waiting 0 ≡ Some c.in-Some.oldest = sym (search rules) in
+    kept-moved s c.in-Some.oldest c.move_to_part.new.ring c.move_to_part.new.parts c.note_consumed.new.self (search rules)
+    c.self.invariant first c.in_ok-move_to_part.ensures.ring (c.in_ok-move_to_part.ensures.parts c.in-Some.oldest first) (search rules)
 
 pub returns-clause-ok : goal.returns-clause-ok
 returns-clause-ok g c =
@@ -48,8 +49,10 @@ returns-clause-ok g c =
       counters = c.self.inside.counters;
       active = c.self.inside.active;
     } in
-    moved-local s c.in-Some.oldest c.drop_front.new.self c.move_to_part.new.parts c.note_consumed.new.self (search rules)
-    (search rules) (search rules) (search rules) (search rules) ∙ ap state_after_take c.self.view_is
+    let first : slice_get s.ring.waiting 0 ≡ Some c.in-Some.oldest = sym (search rules) in
+    moved-local s c.in-Some.oldest c.move_to_part.new.ring c.move_to_part.new.parts c.note_consumed.new.self (search rules)
+    first c.in_ok-move_to_part.ensures.ring (c.in_ok-move_to_part.ensures.parts c.in-Some.oldest first) (search rules)
+    ∙ ap state_after_take c.self.view_is
 
 pub invariant_of-self : goal.invariant_of-self
 invariant_of-self g c = grind (arith, common_steps)

@@ -21,12 +21,12 @@ invariant_of-result g c =
     record {
       config = config;
       ring = c.in_ok-ring.ring;
-      parts = c.new-2.result;
-      counters = c.new-3.result;
+      parts = c.new-3.result;
+      counters = c.new-4.result;
       active = false;
     } in t) ≡ new_state config =
-    new-is config c.in_ok-ring.ring c.new-2.result c.new-3.result c.size.result c.count.result c.gives_way.result
-    (search rules) c.new-2.ensures c.new-3.ensures c.size.ensures.value c.count.ensures.value c.gives_way.ensures in
+    new-is config c.in_ok-ring.ring c.new-3.result c.new-4.result c.size.result c.count.result c.gives_way.result
+    (search rules) c.new-3.ensures c.new-4.ensures c.size.ensures.value c.count.ensures.value c.gives_way.ensures in
     let sixteen : length c.args.uuid ≡ 16 = search rules in
     subst (λ (t : StreamState). IsKept t) (sym same)
     (kept-new config (record {

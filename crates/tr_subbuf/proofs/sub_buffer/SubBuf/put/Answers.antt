@@ -1,6 +1,7 @@
 use Rattle.std.proofs.Common.{◌≡◌, ◌+◌, ℕ, List, Bool, length, arith, sym, ap, subst, ◌∙◌, ◌++◌, ◌∷◌, []}
 use Rattle.std.specs.Prelude.{IsTrue, vec_capacity}
 use Rattle.std.proofs.lemmas.Bool.{leb-true}
+use Rattle.tr_packet.specs.Texts.{body_of}
 use Rattle.tr_record.specs.Records.{Entry}
 use Rattle.tr_record.specs.Weight.{weight_of}
 use Rattle.tr_record.specs.Whole.{entries_of}
@@ -20,7 +21,7 @@ invariant_of-self g c =
     let e = c.args.entry.now in
     let bytes = c.self.inside.bytes.items in
     let more = vec_capacity c.put_rec.new.out in
-    let fit = leb-true (weight_of (entries_of bytes) + (24 + length e.payload)) c.self.inside.size
+    let fit = leb-true (weight_of (entries_of (body_of bytes)) + (24 + length e.payload)) c.self.inside.size
     (subst (λ (b : SubBuffer). IsTrue (has_room b (length e.payload))) (sym c.self.view_is) c.requires) in
     let put = page_put bytes c.self.inside.count c.self.inside.size (vec_capacity c.self.inside.bytes) more e
     c.self.invariant c.put_rec.ensures.fits fit c.put_rec.ensures.capacity in
@@ -31,9 +32,9 @@ returns g c =
     let e = c.args.entry.now in
     let bytes = c.self.inside.bytes.items in
     let more = vec_capacity c.put_rec.new.out in
-    let fit = leb-true (weight_of (entries_of bytes) + (24 + length e.payload)) c.self.inside.size
+    let fit = leb-true (weight_of (entries_of (body_of bytes)) + (24 + length e.payload)) c.self.inside.size
     (subst (λ (b : SubBuffer). IsTrue (has_room b (length e.payload))) (sym c.self.view_is) c.requires) in
     let put = page_put bytes c.self.inside.count c.self.inside.size (vec_capacity c.self.inside.bytes) more e
     c.self.invariant c.put_rec.ensures.fits fit c.put_rec.ensures.capacity in
-    let is : entries_of c.put_rec.new.out.items ≡ entries_of bytes ++ e ∷ [] = ap entries_of c.put_rec.ensures.items ∙ put.1 in
+    let is : entries_of (body_of c.put_rec.new.out.items) ≡ entries_of (body_of bytes) ++ e ∷ [] = ap (λ (b : List ℕ). entries_of (body_of b)) c.put_rec.ensures.items ∙ put.1 in
     ap (λ (es : List Entry). sub_buffer es c.self.inside.size) is ∙ ap (λ (b : SubBuffer). with_record e b) c.self.view_is
