@@ -26,8 +26,10 @@
 //! # What is only tested
 //!
 //! The three lines that reach the real file system (`HostFiles`): another path, a missing folder or a missing flush there
-//! would pass. Runs of the program show each (`examples/exports`, `.ci/under-fire`). So would another piece size of
-//! `MemoryDisk::new`: how bytes are cut is no part of the meaning.
+//! would pass. Runs of the program show paths and folders (`examples/exports`, `.ci/under-fire`). None can show a flush: std's
+//! files keep nothing back, and to flush one does nothing.
+//!
+//! Another piece size of `MemoryDisk::new` would pass too: how bytes are cut is no part of the meaning.
 #![tactic(auto)]
 
 mod content;

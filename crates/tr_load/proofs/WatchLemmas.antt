@@ -66,15 +66,19 @@ pub all_published : {B W : Type 0} (producer : B → ProducerState) (logged : B 
     → ((i : ℕ) (p : ProducerState) (w : W) (b : B) → i < threads
     → IsFed IsOffered (get_or producers i p) (work (get_or works i w)) (producer (get_or fed i b)) (logged (get_or fed i b)))
     → AllHave records (map (λ (b : B). log_in (producer b).number (logged b)) fed)
-    → sum_by (λ (p : ProducerState). p.published) (map producer fed) ≡ threads * records
+    → (sum_by (λ (p : ProducerState). p.published) (map producer fed) ≡ threads * records)
+    × (sum_by (λ (p : ProducerState). p.offered) (map producer fed) ≡ threads * records)
 all_published {B} {W} producer logged work fed works producers threads records len many are did have =
-    sum_same (λ (p : ProducerState). p.published) (map producer fed) records each
-    ∙ ap (λ n. n * records) (length-map fed producer ∙ len)
+    let all = ap (λ n. n * records) (length-map fed producer ∙ len) in (
+      sum_same (λ (p : ProducerState). p.published) (map producer fed) records (λ i q low got. (each i q low got).0) ∙ all,
+      sum_same (λ (p : ProducerState). p.offered) (map producer fed) records (λ i q low got. (each i q low got).1) ∙ all,
+    )
   where
     log : B → Log
     log b = log_in (producer b).number (logged b)
 
-    each : (i : ℕ) (q : ProducerState) → i < length (map producer fed) → slice_get (map producer fed) i ≡ Some q → q.published ≡ records
+    each : (i : ℕ) (q : ProducerState) → i < length (map producer fed) → slice_get (map producer fed) i ≡ Some q
+        → (q.published ≡ records) × (q.offered ≡ records)
     each i q low got =
         let found = mapped producer (slice_get fed i) q (sym (slice_get-map producer fed i) ∙ got) in
         let b = found.0 in
@@ -89,14 +93,16 @@ all_published {B} {W} producer logged work fed works producers threads records l
         ∙ have i (log b) (omega (arith, lt, len, length-map fed log)) in
         let none = ap (λ (p : ProducerState). p.offered) new in
         let all = offered.published (ap (λ (p : ProducerState). p.published) new ∙ sym none) in
-        let same = ap (λ (p : ProducerState). p.published) (ap producer at ∙ found.2) in
-        omega (arith, same, all, offered.offered, none, count)
+        let same = ap producer at ∙ found.2 in (
+          omega (arith, ap (λ (p : ProducerState). p.published) same, all, offered.offered, none, count),
+          omega (arith, ap (λ (p : ProducerState). p.offered) same, offered.offered, none, count),
+        )
 
--- what was learned is no less than that
-pub learned-too : (watched : Option ℕ) (published all : ℕ) → IfSome watched (λ (n : ℕ). published ≤ n) → published ≡ all
-    → IfSome watched (λ (n : ℕ). all ≤ n)
-learned-too None published all learned is = tt
-learned-too (Some n) published all learned is = omega (arith, learned, is)
+-- what was learned is just that
+pub learned-too : (watched : Option ℕ) (published offered all : ℕ) → IfSome watched (λ (n : ℕ). published ≤ n)
+    → IfSome watched (λ (n : ℕ). n ≤ offered) → (published ≡ all) × (offered ≡ all) → IfSome watched (λ (n : ℕ). n ≡ all)
+learned-too None published offered all learned most is = tt
+learned-too (Some n) published offered all learned most is = omega (arith, learned, most, is.0, is.1)
 
 pub if-both : {X F : Type 0} (P Q : X → Type 0) (r : Result X F) → IfOk r P → IfOk r Q → IfOk r (λ x. P x × Q x)
 if-both P Q (Ok x) p q = (p, q)

@@ -1,7 +1,7 @@
 //! A watcher of how many records a load has offered.
 
 ghost use Rattle.std.specs.Prelude.{◌≡◌, ◌≤◌, ◌↔◌, IfSome, is_some};
-ghost use Rattle.std.specs.List.{sum_by};
+ghost use Rattle.std.specs.List.{sum, sum_by};
 ghost use Rattle.tr_load.specs.Watching.{IsOfTally};
 ghost use Rattle.tr_seats.specs.Slots.{ProducerState};
 
@@ -19,7 +19,8 @@ const LOOKS: u64 = 20;
 
 /// The sum of what a watcher reads of all streams now.
 fn read_all(watcher: &mut Watcher) -> u128
-    ensures { watcher.new.table ≡ watcher.old.table }
+    ensures table { watcher.new.table ≡ watcher.old.table }
+    ensures sum { result ≡ sum watcher.new.answers }
 {
     let mut offered = 0;
     'streams: for i in 0..watcher.streams() {
@@ -49,16 +50,29 @@ pub(crate) fn show_while<R: Clock, P: Progress>(
     watcher
 }
 
-/// What a watcher learns of the producers' notes, together.
+/// What a watcher learns of a producer's note.
+fn learn_of<N: Names>(watcher: &mut Watcher, producer: &mut Producer<N>) -> u64
+    requires { watcher.old.table ≡ N.plan.tally.table }
+    ensures watcher { watcher.new.table ≡ watcher.old.table }
+    ensures producer { producer.new ≡ producer.old }
+    ensures learned { producer.old.published ≤ result }
+    ensures most { result ≤ producer.old.offered }
+{
+    let learned = watcher.learn(producer.note());
+    producer.audit(watcher);
+    learned
+}
+
+/// What a watcher learns of the producers' notes, together: what they have published at least, and no more than they offered.
 fn learn_all<N: Names>(watcher: &mut Watcher, producers: &mut [Producer<N>]) -> u128
     requires { watcher.old.table ≡ N.plan.tally.table }
     ensures producers { producers.new ≡ producers.old }
     ensures learned { sum_by (λ (p : ProducerState). p.published) producers.old ≤ result }
+    ensures most { result ≤ sum_by (λ (p : ProducerState). p.offered) producers.old }
 {
     let mut offered = 0;
     'producers: for k in 0..producers.len() {
-        let note = producers[k].note();
-        offered += u128::from(watcher.learn(note));
+        offered += u128::from(learn_of(watcher, &mut producers[k]));
     }
     offered
 }
@@ -72,6 +86,7 @@ pub(crate) fn learned<N: Names>(
     ensures some { is_some result ≡ is_some watcher }
     ensures producers { producers.new ≡ producers.old }
     ensures learned { IfSome result (λ n. sum_by (λ (p : ProducerState). p.published) producers.old ≤ n) }
+    ensures most { IfSome result (λ n. n ≤ sum_by (λ (p : ProducerState). p.offered) producers.old) }
 {
     let mut watcher = watcher?;
     Some(learn_all(&mut watcher, producers))

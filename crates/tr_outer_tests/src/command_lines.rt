@@ -1,6 +1,7 @@
 //! Lines with what clap's rules say that they ask for, and what a range lets through.
 
 mod asking;
+mod generated;
 mod layout;
 mod numbers;
 mod others;

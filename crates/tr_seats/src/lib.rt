@@ -75,6 +75,7 @@ mod noted_book;
 mod opened;
 mod operating;
 mod operator;
+mod pages;
 mod planned;
 mod producer;
 mod settled;

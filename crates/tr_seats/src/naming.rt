@@ -192,6 +192,7 @@ fn named_as<N: Names, A: Allocator>(
         cuts,
         cleared,
         account,
+        removed: None,
         of: PhantomData,
     };
     let seats = DeskSeats {

@@ -1,6 +1,6 @@
 //! The seats of a stream's offers.
 
-ghost use Rattle.std.specs.Prelude.{◌≡◌, ◌<◌, length};
+ghost use Rattle.std.specs.Prelude.{◌≡◌, ◌<◌, ◌≤◌, length, slice_index};
 ghost use Rattle.tr_seats.specs.Slots.{with_all_published};
 ghost use Rattle.tr_tally.specs.Tallies.{note_state};
 
@@ -9,7 +9,7 @@ use std::alloc::{Allocator, Global};
 use std::marker::{Model, PhantomData};
 use tr_accounts::StreamStep;
 use tr_ledger::Seat;
-use tr_tally::{Note, Teller};
+use tr_tally::{Note, Teller, Watcher};
 
 /// The producer of one stream: it alone moves the totals of that stream's offers, and publishes how many were accepted.
 /// Contracts see a `ProducerState`, with all its offers.
@@ -99,5 +99,14 @@ impl<N: Names, A: Allocator> Producer<N, A> {
         ensures note { result ≡ note_state N.plan.tally.table self.old.number self.old.published }
     {
         self.teller.note()
+    }
+
+    /// Changes nothing, and shows that a watcher's last answer for this stream is no more than how many offers were accepted.
+    pub fn audit(&mut self, watcher: &mut Watcher<A>)
+        requires { watcher.old.table ≡ N.plan.tally.table }
+        ensures same { (self.new ≡ self.old) × (watcher.new ≡ watcher.old) }
+        ensures within { slice_index watcher.old.answers self.old.number ≤ self.old.offered }
+    {
+        watcher.audit(&mut self.teller);
     }
 }

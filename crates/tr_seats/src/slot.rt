@@ -30,7 +30,8 @@ use tr_book::{Counts, StreamSnap};
 use tr_ledger::{Ledger, Seat};
 use tr_session_book::SessionFault;
 use tr_stream::{
-    ClearFault, Cleared, CutDone, CutFault, OfferFault, Offered, Stream, TakeFault, Taken,
+    ClearFault, Cleared, CutDone, CutFault, OfferFault, Offered, Removed, Spares, Stream,
+    TakeFault, Taken,
 };
 use tr_terms::limits::MOST_DRAINERS;
 use tr_terms::{Moment, SessionMode};
@@ -48,6 +49,8 @@ pub struct Slot<N: Names, A: Allocator = Global> {
     pub(crate) cuts: Ledger<A>,
     pub(crate) cleared: Ledger<A>,
     pub(crate) account: Account<A>,
+    // the packets that the last clear removed, until they are taken out
+    pub(crate) removed: Option<Removed<A>>,
     pub(crate) of: PhantomData<N>,
 }
 
@@ -386,7 +389,8 @@ impl<N: Names, A: Allocator> Slot<N, A> {
         ensures planned { IsPlanned N.plan self.old.number self.old.stream.config }
     {
         self.stream.shows_kept();
-        let done = self.stream.clear()?;
+        let (done, removed) = self.stream.clear_out()?;
+        self.removed = Some(removed);
         self.account.note_clear(desk, Ok(done));
         self.stream.shows_kept();
         self.cleared.raise(cleared, done.records);
@@ -417,6 +421,7 @@ impl<N: Names, A: Allocator> Slot<N, A> {
             cuts: _,
             cleared: _,
             account: _,
+            removed: _,
             of: _,
         } = self;
         stream

@@ -12,7 +12,7 @@ use Rattle.tr_session.specs.declared.ticks.Ticked.{Ticked}
 use Rattle.tr_session.specs.declared.ticks.Ticked.TheVariants as ticked
 use Rattle.tr_session_book.specs.declared.archive.Archive.{Archive}
 use Rattle.tr_session_book.specs.declared.faults.SessionFault.{SessionFault}
-use Rattle.tr_session_book.specs.declared.faults.SessionFault.TheVariants.{Misplaced}
+use Rattle.tr_session_book.specs.declared.faults.SessionFault.TheVariants.{Misplaced, NoMemory}
 use Rattle.tr_shared.specs.Operating.{as_next}
 use Rattle.tr_snapshot.specs.Snapshots.{SnapshotState}
 use Rattle.tr_stream.specs.declared.answers.Cleared.{Cleared}
@@ -81,14 +81,16 @@ IsRotationOf moment before answer after = ((id : ℕ) × IsEndOf (with_step (Rot
 abbrev pub IsTickOf : ℕ → List DeskStep → Result Ticked SessionFault → List DeskStep → Type 0
 IsTickOf now before (Ok ticked.Idle) after = after ≡ before
 IsTickOf now before (Ok (ticked.Rotated cause archive)) after = IsRotationOf now before (Ok archive) after
-IsTickOf now before (Err fault) after = (after ≡ before) ⊎ IsRotationOf now before (Err fault) after
+IsTickOf now before (Err fault) after = (((fault ≡ NoMemory) ⊎ (fault ≡ Misplaced)) × (after ≡ before))
+    ⊎ IsRotationOf now before (Err fault) after
 
 -- ---- snapshots
 
 -- a snapshot: its beginning, with the moment that it shows; if that is done, a stream may still not be shown
 abbrev pub IsSnapshotOf : ℕ → List DeskStep → Result SnapshotState SessionFault → List DeskStep → Type 0
 IsSnapshotOf moment before (Ok s) after = after ≡ with_step (SnapshotBegin moment (Ok s.moment)) before
-IsSnapshotOf moment before (Err fault) after = (answer : Result ℕ SessionFault) × ((answer ≡ Err fault) ⊎ IsOk answer)
+IsSnapshotOf moment before (Err fault) after = (answer : Result ℕ SessionFault)
+    × ((answer ≡ Err fault) ⊎ (IsOk answer × ((fault ≡ NoMemory) ⊎ (fault ≡ Misplaced))))
     × (after ≡ with_step (SnapshotBegin moment answer) before)
 
 -- ---- clears
@@ -107,4 +109,5 @@ IsClearedTo n before fault after = (dones : List Cleared) × (length dones < n)
 abbrev pub IsClearOf : ℕ → List DeskStep → Result ℕ SessionFault → List DeskStep → Type 0
 IsClearOf n before (Ok records) after = (dones : List Cleared) × (length dones ≡ n)
     × (records ≡ sum (map (λ (done : Cleared). done.records) dones)) × (after ≡ before ++ clears_from 0 dones)
-IsClearOf n before (Err fault) after = (after ≡ before) ⊎ IsClearedTo n before fault after
+IsClearOf n before (Err fault) after = (after ≡ before)
+    ⊎ (((fault ≡ NoMemory) ⊎ (fault ≡ Misplaced)) × IsClearedTo n before fault after)

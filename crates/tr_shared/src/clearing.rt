@@ -43,8 +43,13 @@ impl<N: Names, A: Allocator + Copy> Shared<N, A> {
         desk.clear_allowed()?;
         let mut records = 0;
         for i in 0..self.slots.len() {
-            let cleared = desk.clear_by(operator, &mut self.slots[i].lock(rt), i)?;
+            let mut slot = self.slots[i].lock(rt);
+            let cleared = desk.clear_by(operator, &mut slot, i)?;
             records += u128::from(cleared.records);
+            // their memory is freed once the stream's lock is given back
+            let removed = slot.take_removed();
+            drop(slot);
+            drop(removed);
         }
         Ok(records)
     }

@@ -142,6 +142,7 @@ mod seats;
 mod settling;
 mod shared;
 mod snapshots;
+mod stocking;
 mod switching;
 
 pub use faults::SettleFault;

@@ -9,6 +9,7 @@ ghost use Rattle.tr_shared.specs.Operators.{AreCutsOf, IsDueOf, IsEndOf, IsNextO
 
 use crate::rotating::{begin_if_due, cut_next, next_of};
 use crate::shared::Shared;
+use crate::stocking::stock_for_cut;
 use std::alloc::Allocator;
 use std::sync::Wait;
 use tr_schedule::{Cause, Schedule};
@@ -155,7 +156,9 @@ impl<N: Names, A: Allocator + Copy> Shared<N, A> {
         let Some(i) = next_of(&desk)? else {
             return Ok(Next::AllCut);
         };
-        let mut slot = self.slots[i].lock(rt);
+        let lock = &self.slots[i];
+        stock_for_cut(rt, lock);
+        let mut slot = lock.lock(rt);
         cut_next(&mut desk, operator, &mut slot, i)
     }
 

@@ -3,6 +3,7 @@
 ghost use Rattle.std.specs.Prelude.{◌<◌, length};
 
 use crate::shared::Shared;
+use crate::stocking::stock_for_take;
 use std::alloc::Allocator;
 use std::sync::Wait;
 use tr_seats::{Drainer, Names, Producer};
@@ -93,7 +94,9 @@ impl<N: Names, A: Allocator + Copy> Takes<N, A> for Drainer<N, A> {
         shared: &Shared<N, A>,
         i: usize,
     ) -> Result<Taken, TakeFault> {
-        let mut slot = shared.slots[i].lock(rt);
+        let lock = &shared.slots[i];
+        stock_for_take(rt, lock);
+        let mut slot = lock.lock(rt);
         slot.shows_planned();
         slot.take(self, i)
     }

@@ -206,6 +206,8 @@ fn settles<N: Names>(rt: &(impl Abort + Wait), alloc: Global, plan: Plan)
         mut drainers,
         ..
     } = unsettled(rt, shared, producers, drainers, without);
+    // it came back as it was, so it hasn't stopped
+    assert_stopped(rt, &shared, Ok(()));
     push(rt, &mut drainers, drainer);
     let (settled, totals) = settled(rt, shared, producers, drainers);
     assert_same(rt, totals.offered, 3);

@@ -9,8 +9,8 @@ use mathlib.Core.Option.{some, some-injective, some-ne-none}
 use lib.ListN.{get_elem?}
 use Rattle.tr_tally.specs.declared.rule.Asked.{Asked}
 use Rattle.tr_tally.specs.declared.rule.View.{View}
-use Rattle.tr_tally.specs.declared.rule.View.TheVariants.{Opener, Teller, Watcher, Note, Spent}
-use Rattle.tr_tally.specs.Views.{Fits, IsAmong, IsTold, Rise, answers_in, last_of, new_watcher, next_teller, note_of, note_view, opener_view, teller_view, watcher_view, with_answer, with_count, with_note, with_teller, stream_at, word_of, words_for}
+use Rattle.tr_tally.specs.declared.rule.View.TheVariants.{Opener, Teller, Watcher, Note, Compared, Spent}
+use Rattle.tr_tally.specs.Views.{Fits, IsAmong, IsPublished, IsTold, Rise, answer_of, answers_in, compared_view, last_of, new_watcher, next_teller, note_of, note_view, opener_view, teller_view, watcher_view, with_answer, with_answer_beside, with_count, with_note, with_teller, without_answer, stream_at, word_of, words_for}
 use Rattle.tr_tally.proofs.CountLemmas.{among-last, among-push, at-each, changed, changed-else, changed-here, last-among, last_of-push, rise-push, zero-among}
 use Rattle.tr_tally.proofs.WordLemmas.{stream_at-word_of}
 
@@ -125,6 +125,9 @@ module _ (asked : Asked) (words : List ℕ) (views : List View) (h : IsTold aske
           (changed-else h.teller made stream next ne ∙ fits.0, fits.1)
       other next here a (Watcher answers) apart fits = fits
       other next here a (Note stream count) apart fits = fits
+      other next here a (Compared stream counts answer) apart fits =
+          let ne : stream ≢ made = λ e. apart (sym fits.0 ∙ ap h.teller e ∙ here) in
+          (changed-else h.teller made stream next ne ∙ fits.0, fits.1, fits.2)
       other next here a Spent apart fits = tt
 
   -- a watcher comes
@@ -190,6 +193,9 @@ module _ (asked : Asked) (words : List ℕ) (views : List View) (h : IsTold aske
           (fits.0, changed-else h.counts stream of (published ++ n ∷ []) ne ∙ fits.1)
       other here is a (Watcher answers) apart fits = λ j. still is (slice_index answers j) j (fits j)
       other here is a (Note of count) apart fits = still is count of fits
+      other here is a (Compared of counts answer) apart fits =
+          let ne : of ≢ stream = λ e. apart (sym fits.0 ∙ ap h.teller e ∙ here) in
+          (fits.0, changed-else h.counts stream of (published ++ n ∷ []) ne ∙ fits.1, still is answer of fits.2)
       other here is a Spent apart fits = tt
 
   -- an answer that was published fits a watcher
@@ -244,6 +250,42 @@ module _ (asked : Asked) (words : List ℕ) (views : List View) (h : IsTold aske
           (λ (t : (leb x y ≡ true) × (x ≤ y)). let le = t.1 in let e : y ≡ max x y = omega (arith, le) in subst (λ m. IsAmong m counts) e b)
           (λ (t : (leb x y ≡ false) × (y < x)). let lt' = t.1 in let e : x ≡ max x y = omega (arith, lt') in subst (λ m. IsAmong m counts) e a)
           (leb_tells x y)
+
+  -- a note of a watcher's last answer for a stream comes
+  parts : (answers : List ℕ) (stream : ℕ) → get_elem? views id ≡ some (watcher_view answers)
+      → IsTold asked words (set views id (watcher_view answers) ++ note_view stream (slice_index answers stream) ∷ [])
+  parts answers stream at =
+      let mine = h.each id (watcher_view answers) at in
+      comes (watcher_view answers) (note_view stream (slice_index answers stream)) at (λ _. mine stream)
+
+  -- an answer comes to its stream's teller, and its own token is spent
+  compares : (stream answer other : ℕ) (published : List ℕ) → get_elem? views id ≡ some (teller_view stream published)
+      → other ≢ id
+      → get_elem? (set views id (compared_view stream published answer)) other ≡ some (note_view stream answer)
+      → IsTold asked words (set (set views id (compared_view stream published answer)) other Spent)
+  compares stream answer other published at apart there =
+      let both = compared_view stream published answer in
+      let mid = set views id both in
+      let was = ⊎_elim
+      (λ (t : (other ≡ id) × (both ≡ note_view stream answer)). absurd (apart t.0))
+      (λ (t : (other ≢ id) × (get_elem? views other ≡ some (note_view stream answer))). t.1)
+      (at_set views id other both (note_view stream answer) there) in
+      let mine = h.each id (teller_view stream published) at in
+      stays (set mid other Spent)
+      (set-fits h.counts h.teller mid other Spent
+      (λ a u _ e. set-fits h.counts h.teller views id both (λ b v _ e'. h.each b v e')
+      (mine.0, mine.1, h.each other (note_view stream answer) was) a u e)
+      tt)
+
+  -- a teller that has an answer beside its counts has it no more, and it is no more than their last
+  compared : (stream answer : ℕ) (published : List ℕ) → get_elem? views id ≡ some (compared_view stream published answer)
+      → IsTold asked words (set views id (teller_view stream published)) × (answer ≤ last_of published)
+  compared stream answer published at =
+      let mine = h.each id (compared_view stream published answer) at in (
+        stays (set views id (teller_view stream published))
+            (set-fits h.counts h.teller views id (teller_view stream published) (λ a u _ e. h.each a u e) (mine.0, mine.1)),
+        subst (λ counts. answer ≤ last_of counts) mine.1 (among-last answer (h.counts stream) (h.rising stream) mine.2),
+      )
 
 -- ---- the same, of a token whose view is known by an equation
 
@@ -311,3 +353,28 @@ module _ (asked : Asked) (words : List ℕ) (views : List View) (h : IsTold aske
       subst (λ u. IsTold asked words (set (set views id u) other Spent)) (sym both)
       (joins asked words views h id answers stream count other lt (at ∙ ap (λ (u : View). some u) is) apart
       (subst (λ u. get_elem? (set views id u) other ≡ some (note_view stream count)) both (there ∙ ap (λ (u : View). some u) is_note)))
+
+  pub parts-as : (answers : List ℕ) (stream : ℕ) → v ≡ watcher_view answers
+      → IsTold asked words (set views id v ++ answer_of stream v ∷ [])
+  parts-as answers stream is =
+      subst (λ u. IsTold asked words (set views id u ++ answer_of stream u ∷ [])) (sym is)
+      (parts asked words views h id answers stream (at ∙ ap (λ (u : View). some u) is))
+
+  pub compares-as : (stream answer other : ℕ) (published : List ℕ) (w : View) → v ≡ teller_view stream published
+      → w ≡ note_view stream answer → other ≢ id → get_elem? (set views id (with_answer_beside v w)) other ≡ some w
+      → IsTold asked words (set (set views id (with_answer_beside v w)) other Spent)
+  compares-as stream answer other published w is is_note apart there =
+      let both : with_answer_beside v w ≡ compared_view stream published answer = λ k. with_answer_beside (is k) (is_note k) in
+      subst (λ u. IsTold asked words (set (set views id u) other Spent)) (sym both)
+      (compares asked words views h id stream answer other published (at ∙ ap (λ (u : View). some u) is) apart
+      (subst (λ u. get_elem? (set views id u) other ≡ some (note_view stream answer)) both (there ∙ ap (λ (u : View). some u) is_note)))
+
+  -- where the words are as a load leaves them
+  pub compared-as : (stream answer : ℕ) (published : List ℕ) → v ≡ compared_view stream published answer
+      → IsTold asked (set words 0 (slice_index words 0)) (set views id (without_answer v)) × IsPublished v
+  compared-as stream answer published is =
+      let known = compared asked words views h id stream answer published (at ∙ ap (λ (u : View). some u) is) in (
+        subst (λ ws. IsTold asked ws (set views id (without_answer v))) (sym (set-get_or words 0 0))
+            (subst (λ u. IsTold asked words (set views id (without_answer u))) (sym is) known.0),
+        subst IsPublished (sym is) known.1,
+      )

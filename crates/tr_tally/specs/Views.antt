@@ -7,7 +7,7 @@ use lib.ListN.{get_elem?}
 use Rattle.tr_tally.specs.declared.rule.Asked.{Asked}
 use Rattle.tr_tally.specs.declared.rule.TheConstants.{WORDS_APART}
 use Rattle.tr_tally.specs.declared.rule.View.{View}
-use Rattle.tr_tally.specs.declared.rule.View.TheVariants.{Opener, Teller, Watcher, Note, Spent}
+use Rattle.tr_tally.specs.declared.rule.View.TheVariants.{Opener, Teller, Watcher, Note, Compared, Spent}
 
 -- ---- the words
 
@@ -59,6 +59,8 @@ Fits counts teller at (Opener made streams) = (i : ℕ) → made ≤ i → i < s
 Fits counts teller at (Teller stream published) = (teller stream ≡ at) × (counts stream ≡ published)
 Fits counts teller at (Watcher answers) = (i : ℕ) → IsAmong (slice_index answers i) (counts i)
 Fits counts teller at (Note stream count) = IsAmong count (counts stream)
+Fits counts teller at (Compared stream published answer) =
+    (teller stream ≡ at) × (counts stream ≡ published) × IsAmong answer (counts stream)
 Fits counts teller at Spent = Unit {0}
 
 -- on each stream counts were published, which never fall, by one token, whose view has them; if there are watchers, the word of
@@ -129,3 +131,29 @@ with_answer stream count v = v
 abbrev pub with_note : View → View → View
 with_note v (Note stream count) = with_answer stream (max (slice_index (answers_in v) stream) count) v
 with_note v w = v
+
+-- a watcher's last answer for a stream, as a note of it
+abbrev pub answer_of : ℕ → View → View
+answer_of stream (Watcher answers) = Note stream (slice_index answers stream)
+answer_of stream v = Spent
+
+abbrev pub count_in : View → ℕ
+count_in (Note stream count) = count
+count_in v = 0
+
+-- a teller has an answer beside the counts that it published, and has it no more
+abbrev pub with_answer_beside : View → View → View
+with_answer_beside (Teller stream counts) (Note of count) = Compared stream counts count
+with_answer_beside v w = v
+
+abbrev pub without_answer : View → View
+without_answer (Compared stream counts answer) = Teller stream counts
+without_answer v = v
+
+abbrev pub compared_view : ℕ → List ℕ → ℕ → View
+compared_view stream counts answer = Compared stream counts answer
+
+-- an answer is no more than the last of the counts beside it
+abbrev pub IsPublished : View → Type 0
+IsPublished (Compared stream counts answer) = answer ≤ last_of counts
+IsPublished v = Unit {0}

@@ -13,6 +13,7 @@
 //! - What a watcher answers for a stream is a count that was published there, or 0, and never less than what it answered
 //!   before.
 //! - A note has what its teller had published last, and a watcher that learns of it answers no less.
+//! - If a stream's teller is at hand, a watcher's last answer for it is no more than its count (`Watcher::audit`).
 //! - Only `new` takes memory, and no call waits: none has a handle by which it could.
 //!
 //! # What is only tested

@@ -40,7 +40,13 @@ pub enum View {
         stream: u64,
         count: u64,
     },
-    /// Nothing: a note that was joined to a watcher.
+    /// A stream, the counts that were published on it, and an answer that is to be compared with them.
+    Compared {
+        stream: u64,
+        counts: LinkedList<u64>,
+        answer: u64,
+    },
+    /// Nothing: a note that was joined to a watcher, or an answer that was compared.
     Spent,
 }
 
@@ -129,4 +135,36 @@ impl Join<View> for Notes {
     ghost both = { with_note };
 
     ghost spent = { Spent };
+}
+
+/// Of a watcher its last answer for the stream of this number parts.
+pub struct Answers<K: Count> {
+    pub of: PhantomData<K>,
+}
+
+impl<K: Count> Split<View> for Answers<K> {
+    ghost use Rattle.tr_tally.specs.Views.{answer_of};
+
+    ghost left = { λ v. v };
+
+    ghost right = { answer_of K.count };
+}
+
+/// An answer comes to its stream's teller, to be compared with what that published.
+pub struct Compares;
+
+impl Join<View> for Compares {
+    ghost use Rattle.tr_tally.specs.Views.{with_answer_beside};
+    ghost use Rattle.tr_tally.specs.declared.rule.View.TheVariants.{Spent};
+
+    ghost both = { with_answer_beside };
+
+    ghost spent = { Spent };
+}
+
+impl Play<(), View> for Compares {
+    ghost use Rattle.std.specs.Prelude.{◌≡◌};
+    ghost use Rattle.tr_tally.specs.Views.{IsPublished, without_answer};
+
+    ghost then = { λ _ me _ after. (after ≡ (without_answer me.0, me.1)) × IsPublished me.0 };
 }

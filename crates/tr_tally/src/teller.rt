@@ -1,10 +1,11 @@
 //! Tellers.
 
-ghost use Rattle.std.specs.Prelude.{◌≡◌, ◌≤◌};
+ghost use Rattle.std.specs.Prelude.{◌≡◌, ◌≤◌, []};
 ghost use Rattle.tr_tally.specs.Tallies.{note_state, teller_state};
+ghost use Rattle.tr_tally.specs.Views.{count_in, note_view};
 
 use crate::note::Note;
-use crate::rule::{Count, Notes, Publishes, WORDS_APART};
+use crate::rule::{Compares, Count, Notes, Publishes, WORDS_APART};
 use crate::words::{Token, Words};
 use std::alloc::{Allocator, Global};
 use std::marker::{Brand, Model};
@@ -106,5 +107,18 @@ impl<A: Allocator> Teller<A> {
             stream: self.stream,
             count: self.count,
         }
+    }
+
+    /// Changes nothing, and shows that an answer for its stream is no more than its count.
+    pub(crate) fn compare(&mut self, answer: Token)
+        requires table { answer.table_id ≡ self.old.table }
+        requires stream { answer.me ≡ (note_view self.old.stream (count_in answer.me.0), []) }
+        ensures same { self.new ≡ self.old }
+        ensures within { count_in answer.me.0 ≤ self.old.count }
+    {
+        let words: &Words<A> = &self.words;
+        let shared = &words.table.shared;
+        shared.join_seat::<Compares>(&mut self.token, answer);
+        shared.load::<Compares>(&mut self.token, 0);
     }
 }

@@ -1,13 +1,15 @@
 //! Watchers.
 
-ghost use Rattle.std.specs.Prelude.{◌≡◌, ◌<◌, ◌≤◌, length, max, slice_index, slice_set};
+ghost use Rattle.std.specs.Prelude.{◌≡◌, ◌<◌, ◌≤◌, [], length, max, slice_index, slice_set};
 ghost use Rattle.tr_tally.specs.Tallies.{watcher_state};
+ghost use Rattle.tr_tally.specs.Views.{note_view};
 
 use crate::note::Note;
-use crate::rule::{Notes, Reads, WORDS_APART};
+use crate::rule::{Answers, Count, Notes, Reads, WORDS_APART};
+use crate::teller::Teller;
 use crate::words::{Token, Words};
 use std::alloc::{Allocator, Global};
-use std::marker::Model;
+use std::marker::{Brand, Model};
 use std::sync::Arc;
 
 /// Reads the counts of all streams, while they are published and when their tellers are gone. Contracts see a `WatcherState`.
@@ -65,6 +67,27 @@ impl<A: Allocator> Watcher<A> {
         let stream = note.stream;
         self.join(note);
         self.read(stream)
+    }
+
+    /// Changes nothing, and shows that the last answer for a teller's stream is no more than the teller's count.
+    pub fn audit(&mut self, teller: &mut Teller<A>)
+        requires { teller.old.table ≡ self.old.table }
+        ensures same { (self.new ≡ self.old) × (teller.new ≡ teller.old) }
+        ensures within { slice_index self.old.answers teller.old.stream ≤ teller.old.count }
+    {
+        let answer = self.answer_known::<Brand>(teller.stream);
+        teller.compare(answer);
+    }
+
+    /// A token that knows the last answer for a stream, whose number contracts know by a type too.
+    fn answer_known<K: Count>(&mut self, _stream: usize) -> Token
+        requires { _stream ≡ K.count }
+        ensures watcher { self.new ≡ self.old }
+        ensures token { (result.table_id ≡ self.old.table)
+            × (result.me ≡ (note_view K.count (slice_index self.old.answers K.count), [])) }
+    {
+        let words: &Words<A> = &self.words;
+        words.table.shared.split_seat::<Answers<K>>(&mut self.token)
     }
 
     /// Joins a note: its count is the last answer for its stream, if that was less.

@@ -1,7 +1,8 @@
 //! Threads at work: workers that take packets from streams, and feeders that offer records to them and log what is accepted.
 //!
-//! Threads begin together: each waits to read the word, which is given once all are started. So a thread that can't be
-//! started never leaves work half done.
+//! Threads begin together: each waits to read the word, which is given once all are started. If one can't be started, it
+//! isn't given, and the others give their seats back unused. A contract promises less: each seat comes back as it was, or with
+//! all of its own work done.
 //!
 //! # Example
 //!

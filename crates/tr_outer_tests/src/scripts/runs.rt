@@ -33,10 +33,21 @@ fn answers_whole_lines_before_the_source_fails(rt: HostRuntime) {
     assert_broken(&rt, rt.alloc(), 46, b"created s\n");
 }
 
-/// Gives a line at each call, and sees whether all that it gave before are answered by then.
+/// How many newlines there are.
+fn newlines_in(bytes: &[u8]) -> usize {
+    let mut count = 0usize;
+    for byte in bytes {
+        if *byte == b'\n' {
+            count = count.wrapping_add(1);
+        }
+    }
+    count
+}
+
+/// Gives a piece at each call, and sees whether all whole lines that it gave before are answered by then.
 #[derive(Drop)]
 struct InTurn<'a> {
-    lines: &'a [&'a str],
+    pieces: &'a [&'a str],
     given: usize,
     answered: &'a Cell<usize>,
     is_late: bool,
@@ -53,59 +64,141 @@ impl ByteSource for InTurn<'_> {
 
     fn get(&mut self, b: &mut [u8]) -> Result<usize, Failed> {
         self.is_late |= self.answered.get() < self.given;
-        let [line, rest @ ..] = self.lines else {
+        let [piece, rest @ ..] = self.pieces else {
             return Ok(0);
         };
-        let count = line.len().min(b.len());
-        b[..count].copy_from_slice(&line.as_bytes()[..count]);
-        self.lines = rest;
-        self.given = self.given.wrapping_add(1);
+        let count = piece.len().min(b.len());
+        b[..count].copy_from_slice(&piece.as_bytes()[..count]);
+        self.pieces = rest;
+        self.given = self.given.wrapping_add(newlines_in(&b[..count]));
         Ok(count)
     }
 }
 
-/// Counts the newlines that it takes.
+/// Takes `room` puts, each whole, and then fails. It counts the newlines that it takes.
 #[derive(Drop)]
-struct Counting<'a>(&'a Cell<usize>);
+struct Counting<'a> {
+    answered: &'a Cell<usize>,
+    puts: usize,
+    room: usize,
+    failures: u64,
+}
 
 impl ByteSink for Counting<'_> {
     ghost use Rattle.std.specs.Prelude.{None};
 
     ghost taken = { λ _. None };
 
-    ghost failures = { λ _. 0 };
+    ghost failures = { λ s. s.failures };
 
     fn put(&mut self, b: &[u8]) -> Result<usize, Failed> {
-        if b[0] == b'\n' {
-            self.0.set(self.0.get().wrapping_add(1));
+        if self.puts >= self.room {
+            self.failures = self.failures.wrapping_add(1);
+            return Err(Failed);
         }
-        Ok(1)
+        self.puts += 1;
+        self.answered
+            .set(self.answered.get().wrapping_add(newlines_in(b)));
+        Ok(b.len())
     }
 }
 
-#[test]
-fn answers_a_line_before_it_asks_for_the_next(rt: HostRuntime) {
-    let alloc = rt.alloc();
+/// Four lines, in pieces of one line.
+const LINES: [&str; 4] = [
+    "create s 00000000-0000-0000-0000-000000000001\n",
+    "stop s\n",
+    "nonsense\n",
+    "channel s c 256 2 discard\n",
+];
+
+/// The same lines, in other pieces.
+const PIECES: [&str; 3] = [
+    "create s 00000000-0000-0000-0000-000000000001\n",
+    "stop s\nnonsense\nchan",
+    "nel s c 256 2 discard\n",
+];
+
+/// What a run came to, how many whole lines were given by then, how many answers and in how many puts these went out, how
+/// often the sink failed, and whether the source was asked for more before all of them were out.
+type Conversation = (Result<u64, ScriptFault>, usize, usize, usize, u64, bool);
+
+/// Runs the lines of these pieces, with a sink that takes so many puts.
+fn converse(alloc: Global, pieces: &[&str], room: usize) -> Conversation {
     let answered = Cell::new(0);
     let mut source = InTurn {
-        lines: &[
-            "create s 00000000-0000-0000-0000-000000000001\n",
-            "stop s\n",
-            "nonsense\n",
-            "channel s c 256 2 discard\n",
-        ],
+        pieces,
         given: 0,
         answered: &answered,
         is_late: false,
     };
-    let found = run(alloc, alloc, &mut source, &mut Counting(&answered));
-    assert_same(&rt, found, Ok(2));
-    assert_same(&rt, (source.given, source.is_late), (4, false));
+    let mut sink = Counting {
+        answered: &answered,
+        puts: 0,
+        room,
+        failures: 0,
+    };
+    let found = run(alloc, alloc, &mut source, &mut sink);
+    (
+        found,
+        source.given,
+        answered.get(),
+        sink.puts,
+        sink.failures,
+        source.is_late,
+    )
 }
 
-/// Asserts that a script breaks off where the sink has taken `room` bytes of its answer.
-fn assert_filled(rt: &impl Abort, alloc: Global, script: &[u8], answer: &[u8], room: usize) {
-    let mut source = MemorySource::new(script, 1);
+#[test]
+fn answers_all_lines_before_it_asks_for_more(rt: HostRuntime) {
+    let alloc = rt.alloc();
+    assert_same(&rt, converse(alloc, &LINES, 9), (Ok(2), 4, 4, 4, 0, false));
+    assert_same(&rt, converse(alloc, &PIECES, 9), (Ok(2), 4, 4, 3, 0, false));
+}
+
+#[test]
+fn asks_for_nothing_after_a_write_that_fails(rt: HostRuntime) {
+    let failed = Err(ScriptFault::Write);
+    for room in 0..4 {
+        let found = converse(rt.alloc(), &LINES, room);
+        assert_same(&rt, found, (failed, room + 1, room, room, 1, false));
+    }
+}
+
+/// Asserts in how many puts the answers to so many bad lines go out, which are read together.
+fn assert_put(rt: &impl Abort, alloc: Global, lines: usize, puts: usize) {
+    let mut script = Vec::new(alloc);
+    for _ in 0..lines {
+        script.extend_from_slice(b"\x80\n").expect(rt, "memory");
+    }
+    let answered = Cell::new(0);
+    let mut source = MemorySource::new(&script, 65_536);
+    let mut sink = Counting {
+        answered: &answered,
+        puts: 0,
+        room: 9,
+        failures: 0,
+    };
+    let found = run(alloc, alloc, &mut source, &mut sink);
+    assert_same(rt, found, Ok(lines as u64));
+    assert_same(rt, (answered.get(), sink.puts), (lines, puts));
+}
+
+// 65,536 bytes have room for 7,281 answers of nine
+#[test]
+fn puts_at_most_65536_bytes_of_answers_together(rt: HostRuntime) {
+    assert_put(&rt, rt.alloc(), 7_281, 1);
+    assert_put(&rt, rt.alloc(), 7_282, 2);
+}
+
+/// Asserts that a script, read in pieces of this size, breaks off where the sink has taken `room` bytes of its answer.
+fn assert_filled(
+    rt: &impl Abort,
+    alloc: Global,
+    piece: usize,
+    (script, answer): (&[u8], &[u8]),
+    room: usize,
+) {
+    let mut source = MemorySource::new(script, piece);
     let mut sink = Filling {
         taken: Vec::new(alloc),
         room,
@@ -125,7 +218,17 @@ fn writes_a_front_part_before_the_sink_fails(rt: HostRuntime) {
     let script = joined(&rt, rt.alloc(), &[OPENING, SIX_OFFERS]);
     let text = joined(&rt, rt.alloc(), &[OPENED, SIX_ANSWERS]);
     for room in 0..text.len() {
-        assert_filled(&rt, rt.alloc(), &script, &text, room);
+        assert_filled(&rt, rt.alloc(), 1, (&script, &text), room);
+    }
+}
+
+// the lines come together, or the second one in two pieces
+#[test]
+fn writes_a_front_part_of_gathered_answers(rt: HostRuntime) {
+    let answers = (OPENING.as_bytes(), OPENED.as_bytes());
+    for room in 0..OPENED.len() {
+        assert_filled(&rt, rt.alloc(), 65_536, answers, room);
+        assert_filled(&rt, rt.alloc(), 60, answers, room);
     }
 }
 

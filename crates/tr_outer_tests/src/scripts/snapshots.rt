@@ -29,8 +29,8 @@ stored 3 in 3
 
 #[test]
 fn answers_the_lines_before_a_snapshot_without_memory(rt: HostRuntime) {
-    // enough for the ring and for one payload, and too little for copies of four
-    let heap = LocalHeap::new(rt.alloc(), 180_224).expect(&rt, "memory");
+    // enough for what is read and gathered, for the ring and for one payload, and too little for copies of four
+    let heap = LocalHeap::new(rt.alloc(), 245_760).expect(&rt, "memory");
     let mut source = MemorySource::new(LARGE.as_bytes(), 4096);
     let mut sink = MemorySink::new(rt.alloc(), 4096);
     let found = run(&heap, rt.alloc(), &mut source, &mut sink);

@@ -12,10 +12,14 @@ use std::marker::Brand;
 use std::process::Abort;
 use std::sync::Wait;
 use std::test::*;
+use tr_chunk::{audit_stream, write_part};
+use tr_record::MemorySink;
+use tr_session::ArchiveSize;
 use tr_session_book::SessionFault;
 use tr_shared::{Drainer, Names, Plan, Producer, Settled, Shared, Totals};
 use tr_stream::{Fate, Offered};
 use tr_terms::{Mode, SessionMode};
+use uuid::Uuid;
 
 /// Asserts what a clear answers.
 fn assert_cleared<N: Names>(
@@ -111,6 +115,38 @@ fn assert_fates(rt: &impl Abort, settled: &Settled, wanted: &[(u64, Fate)]) {
     }
 }
 
+/// The size of an archive of one record.
+fn sized(bytes: u128) -> ArchiveSize {
+    ArchiveSize {
+        packets: 1,
+        records: 1,
+        bytes,
+        released: 0,
+    }
+}
+
+/// Asserts how many packets, records and bytes the first archive has, once the session is settled, and what an audit finds of
+/// its file: absent numbers, the last number and serial, and how many records were discarded.
+fn assert_archived(
+    rt: &impl Abort,
+    alloc: Global,
+    settled: &Settled,
+    size: ArchiveSize,
+    (gap, seq, serial, lost): ((u64, u64), u64, u64, u64),
+) {
+    assert_same(rt, settled.session().archive_size(0), size);
+    let stream = settled.session().stream(0).expect(rt, "a stream");
+    let part = stream.part(0).expect(rt, "a part");
+    assert!(rt; !part.is_released());
+    let mut sink = MemorySink::new(alloc, 65_536);
+    write_part(&mut sink, part).expect(rt, "a file");
+    let file = sink.into_bytes();
+    let audit = audit_stream(alloc, &Uuid::nil(), 0, &[file.as_slice()]).expect(rt, "an audit");
+    assert_same(rt, audit.gaps.as_slice(), [gap].as_slice());
+    let last = (audit.last_seq, audit.last_serial, audit.last_lost);
+    assert_same(rt, last, (Some(seq), Some(serial), lost));
+}
+
 /// Settles a session of one producer and one drainer.
 fn end<N: Names>(
     rt: &impl Abort,
@@ -158,6 +194,7 @@ fn clears_discarding<N: Names>(rt: &(impl Abort + Wait), alloc: Global, plan: Pl
     };
     assert_same(rt, totals, wanted);
     assert_fates(rt, &session, &AFTER_DISCARDING);
+    assert_archived(rt, alloc, &session, sized(108), ((0, 2), 2, 6, 1));
     drop(session);
 }
 
@@ -193,6 +230,7 @@ fn clears_overwriting<N: Names>(rt: &(impl Abort + Wait), alloc: Global, plan: P
     };
     assert_same(rt, totals, wanted);
     assert_fates(rt, &session, &AFTER_OVERWRITING);
+    assert_archived(rt, alloc, &session, sized(168), ((0, 5), 5, 10, 0));
     drop(session);
 }
 

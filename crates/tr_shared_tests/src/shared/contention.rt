@@ -1,5 +1,6 @@
 //! Operators that meet at one session, what goes on while a stream is held, and the seats that settling needs.
 
+mod clearing;
 mod holding;
 mod rotations;
 mod settling;

@@ -6,7 +6,7 @@ use super::{
     assert_offered, assert_started, assert_stopped, assert_taken, built, drainer_of, settled,
     stored,
 };
-use crate::plans::{assert_same, last, plan_of, push};
+use crate::plans::{assert_same, granted, last, plan_of, push};
 use std::alloc::Global;
 use std::marker::Brand;
 use std::process::Abort;
@@ -14,7 +14,7 @@ use std::sync::Wait;
 use std::test::*;
 use tr_schedule::{Cause, Schedule};
 use tr_session::{Next, Ticked};
-use tr_session_book::{Archive, SessionFault};
+use tr_session_book::{Archive, SessionFault, State};
 use tr_shared::{Drainer, Names, Plan, Producer, Settled, Shared, Totals};
 use tr_stream::{Fate, OfferFault, TakeFault, Taken};
 use tr_terms::Mode;
@@ -264,8 +264,45 @@ fn a_tick_rotates_by_period_and_by_size(rt: HostRuntime) {
     ticks::<Brand>(&rt, plan_of(&rt, rt.alloc(), Mode::Discard, 1));
 }
 
-/// What an operator does in a name of its own is answered as without one.
-fn operates<N: Names>(rt: &(impl Abort + Wait), plan: Plan)
+/// A rotation is due by the size of the second of two streams alone, and isn't once a clear lowered that.
+fn ticks_by_the_second<N: Names>(rt: &(impl Abort + Wait), plan: Plan)
+    requires { plan ≡ N.plan }
+{
+    let (shared, mut producers) = built::<N>(rt, plan);
+    let mut second = last(rt, &mut producers);
+    let mut drainer = drainer_of(rt, &shared);
+    let schedule = Schedule::new(None, Some(200)).expect(rt, "a schedule");
+    assert_same(rt, shared.set_schedule(rt, Some(schedule)), Ok(()));
+    assert_started(rt, &shared, 0, Ok(()));
+    assert_offered(rt, &shared, &mut second, 1, 50, stored(0, 0));
+    assert_offered(rt, &shared, &mut second, 2, 50, stored(1, 0));
+    assert_offered(rt, &shared, &mut second, 3, 50, stored(2, 1));
+    assert_taken(rt, &shared, &mut drainer, 1, taken(0, 2, 0));
+    assert_same(rt, shared.clear(rt), Ok(3));
+    assert_ticked(rt, &shared, 10, Ticked::Idle);
+    assert_offered(rt, &shared, &mut second, 11, 50, stored(3, 2));
+    assert_offered(rt, &shared, &mut second, 12, 50, stored(4, 2));
+    assert_offered(rt, &shared, &mut second, 13, 50, stored(5, 3));
+    assert_ticked(rt, &shared, 14, Ticked::Idle);
+    assert_taken(rt, &shared, &mut drainer, 1, taken(2, 2, 0));
+    let size = Ticked::Rotated {
+        cause: Cause::Size,
+        archive: archive(0, 0, 20),
+    };
+    assert_ticked(rt, &shared, 20, size);
+    drop(drainer);
+    drop(second);
+    drop(producers);
+    drop(shared);
+}
+
+#[test]
+fn a_tick_asks_for_the_size_of_each_stream(rt: HostRuntime) {
+    ticks_by_the_second::<Brand>(&rt, plan_of(&rt, rt.alloc(), Mode::Discard, 2));
+}
+
+/// What an operator does in a name of its own is answered as without one, and settled with it.
+fn operates<N: Names>(rt: &(impl Abort + Wait), alloc: Global, plan: Plan)
     requires { plan ≡ N.plan }
 {
     let (shared, mut producers) = built::<N>(rt, plan);
@@ -289,12 +326,29 @@ fn operates<N: Names>(rt: &(impl Abort + Wait), plan: Plan)
     let ticked = shared.tick_by(rt, &mut second, moment(9));
     assert_same(rt, ticked, Ok(Ticked::Idle));
     assert_same(rt, shared.stop_by(rt, &mut first), Ok(()));
-    drop(producer);
-    drop(producers);
-    drop(shared);
+    assert_same(rt, shared.start_by(rt, &mut first, moment(10)), Ok(()));
+    push(rt, &mut producers, producer);
+    let answer = shared.settle_with(&mut first, producers, Vec::new(alloc));
+    let (settled, totals) = granted(rt, answer, "settled session");
+    assert_operated(rt, &settled, totals);
+    drop(settled);
+    drop(second);
+    drop(first);
+}
+
+/// Asserts that the session is active with its two archives, and what became of its two records.
+fn assert_operated(rt: &impl Abort, settled: &Settled, totals: Totals) {
+    let book = settled.session().book();
+    assert_same(rt, book.state(), State::Active);
+    let mut archives = book.archives().iter();
+    assert_same(rt, archives.next().copied(), Some(archive(0, 1, 3)));
+    assert_same(rt, archives.next().copied(), Some(archive(1, 3, 5)));
+    assert_same(rt, archives.next().is_none(), true);
+    let sums = (totals.offered, totals.consumed, totals.cleared, totals.cuts);
+    assert_same(rt, sums, (2, 1, 1, 2));
 }
 
 #[test]
 fn an_operator_is_answered_as_without_one(rt: HostRuntime) {
-    operates::<Brand>(&rt, plan_of(&rt, rt.alloc(), Mode::Discard, 1));
+    operates::<Brand>(&rt, rt.alloc(), plan_of(&rt, rt.alloc(), Mode::Discard, 1));
 }

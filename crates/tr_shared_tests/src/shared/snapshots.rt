@@ -5,7 +5,7 @@ ghost use Rattle.std.specs.Prelude.{◌≡◌};
 mod example;
 
 use super::rotating::{assert_begun, assert_rotated, assert_ticked};
-use super::{assert_offered, assert_started, built, stored};
+use super::{assert_offered, assert_started, assert_stopped, built, stored};
 use crate::plans::{assert_same, last, plan_of, plan_with};
 use std::alloc::Global;
 use std::marker::Brand;
@@ -345,6 +345,8 @@ fn shows<N: Names>(rt: &(impl Abort + Wait), plan: Plan)
     assert_stage(rt, &shared, &mut producers, &AFTER_OFFERS);
     assert_offers(rt, &shared, &mut producers, &LATER_OFFERS);
     assert_stage(rt, &shared, &mut producers, &AFTER_LATER_OFFERS);
+    // no snapshot has stopped it
+    assert_stopped(rt, &shared, Ok(()));
     let first = producers.first().expect(rt, "a producer");
     assert_same(rt, (first.offered(), first.overwritten()), (7, 4));
     drop(producers);

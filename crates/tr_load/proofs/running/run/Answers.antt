@@ -59,13 +59,15 @@ returns-clause-loaded g c =
     let parted = c.in_ok-producers.ensures.producers in
     let handed : c.as_mut_slice.result.now ≡ map (λ (b : Fed). b.producer) fed = c.as_mut_slice.ensures.value ∙ parted in
     let learned : AllHave c.args.records c.as_slice-2.result.now
-    → IfSome c.learned-watched.result (λ n. c.args.threads * c.args.records ≤ n) =
-    λ have. learned-too c.learned-watched.result (sum_by (λ (p : ProducerState). p.published) c.as_mut_slice.result.now)
-    (c.args.threads * c.args.records) c.learned-watched.ensures.learned
-    (ap (sum_by (λ (p : ProducerState). p.published)) handed
-    ∙ all_published (λ (b : Fed). b.producer) (λ (b : Fed). b.log.items) (λ (w : Vec Item Global). w.items) fed works producers
+    → IfSome c.learned-watched.result (λ n. n ≡ c.args.threads * c.args.records) =
+    λ have.
+    let sums = all_published (λ (b : Fed). b.producer) (λ (b : Fed). b.log.items) (λ (w : Vec Item Global). w.items) fed works producers
     c.args.threads c.args.records (back ∙ same ∙ asked) many new (λ i p w b low. did i p w b (omega (arith, low, asked, all)))
-    (subst (λ ls. AllHave c.args.records ls) logs have)) in
+    (subst (λ ls. AllHave c.args.records ls) logs have) in
+    learned-too c.learned-watched.result (sum_by (λ (p : ProducerState). p.published) c.as_mut_slice.result.now)
+    (sum_by (λ (p : ProducerState). p.offered) c.as_mut_slice.result.now)
+    (c.args.threads * c.args.records) c.learned-watched.ensures.learned c.learned-watched.ensures.most
+    (ap (sum_by (λ (p : ProducerState). p.published)) handed ∙ sums.0, ap (sum_by (λ (p : ProducerState). p.offered)) handed ∙ sums.1) in
     let P : Loaded → Type 0 = λ l. IsJudged c.as_slice-2.result.now l.settled.streams l.outcome × IsSessionOf plan l.settled
     × IsEnded c.args.records l.settled.book × AllHave c.args.records c.as_slice-2.result.now in
     let fed_logs : AreLogsOf (map (λ (b : Fed). b.producer) fed) (map (λ (b : Fed). log_in b.producer.number b.log.items) fed) =
@@ -93,7 +95,7 @@ returns-clause-loaded g c =
       judged = is.0.0.0;
       agree = is.1;
       offered = all_offered c.args.threads c.args.records c.as_slice-2.result.now l.settled.streams l.outcome is.0.0.3 (enough l.settled is.0.0.1) is.0.0.0;
-      learned = subst (λ w. IfSome w (λ n. c.args.threads * c.args.records ≤ n)) (sym is.0.1) (learned is.0.0.3);
+      learned = subst (λ w. IfSome w (λ n. n ≡ c.args.threads * c.args.records)) (sym is.0.1) (learned is.0.0.3);
     }) (if-both (λ l. P l × W l) (λ l. IsOk l.outcome) c.settled.result
     (if-both P W c.settled.result c.settled.ensures.judged c.settled.ensures.watched) agree)
 

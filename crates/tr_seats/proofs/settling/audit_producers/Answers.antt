@@ -1,4 +1,4 @@
-use Rattle.std.proofs.Common.{◌≡◌, ◌<◌, ap, arith, below_more, get_or, length, subst, sym, ◌∙◌}
+use Rattle.std.proofs.Common.{◌≡◌, ◌<◌, ap, arith, below_more, get_or, length, refl, subst, sym, ◌∙◌}
 use Rattle.std.proofs.lemmas.List.{get_or_default}
 use Rattle.tr_seats.proofs.Joins.{put-back, read-same}
 use Rattle.tr_seats.proofs.settling.audit_producers.Goals as goal
@@ -17,6 +17,15 @@ audit-requires g c =
     ap (λ (p : ProducerState). p.number)
     (get_or_default c.loop-k.producers k c.index-producers-k-in-loop-k.result c.index-producers-k.result long)
     ∙ sym c.stream-i.ensures.number ∙ sym (subst AreInPlace (sym v.slots_same) c.requires.1 i c.index-slots-i.result there)
+
+pub loop-k-init : goal.loop-k-init
+loop-k-init g c = record {
+  slots_same = refl;
+  producers_same = refl;
+  there = λ j p lt. absurd (omega (arith, lt));
+  own = λ j p s lt. absurd (omega (arith, lt));
+  accounts = λ j p s lt. absurd (omega (arith, lt));
+}
 
 pub loop-k-preserved : goal.loop-k-preserved
 loop-k-preserved g c =

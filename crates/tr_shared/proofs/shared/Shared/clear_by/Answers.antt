@@ -1,4 +1,5 @@
 use Rattle.std.proofs.Common.{◌≡◌, ◌∙◌, ◌+◌, ◌++◌, List, Ok, arith, length, map, subst, sym}
+use Rattle.std.proofs.lemmas.Grind.{common_steps}
 use Rattle.std.specs.Prelude.{sum}
 use Rattle.tr_operations.specs.declared.step.DeskStep.TheVariants.{Clear}
 use Rattle.tr_seats.specs.Clears.{desk_clear_answer}
@@ -22,6 +23,7 @@ loop-i-preserved g c =
     let step : c.clear_by.new.operator ≡ with_step (Clear i (Ok done)) c.loop-i.operator =
     c.in_ok-cleared.ensures.steps ∙ clear-here i desk slot c.loop-i.operator done answer in
     record {
+      allowed = grind (arith, common_steps);
       few = omega (arith, v.few, c.from-records.ensures);
       done = subst (λ n. (more : List Cleared) × (length more ≡ i + 1)
           × (c.loop-i.records + n ≡ sum (map (λ (d : Cleared). d.records) more))
