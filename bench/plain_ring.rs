@@ -91,7 +91,7 @@ pub enum Offered {
     },
 }
 
-#[derive(Debug)]
+#[derive(Clone, Copy, Debug)]
 pub enum OfferFault {
     Inactive,
     TooBig,
@@ -144,7 +144,7 @@ pub struct Ring {
     pub active: bool,
     overwrite: bool,
     size: usize,
-    seq: u64,
+    pub seq: u64,
     pub last: u64,
     pub counts: Counts,
     pub current: Page,

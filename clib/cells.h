@@ -1,17 +1,17 @@
-/* What the static library libtr_cell.a exports: proved calls on one stream, on one session's book, on what a look shows and on
- * an audit. No call locks, waits, starts a thread, prints, or touches a global.
+/* What the static library libtr_cell.a exports: proved calls on one stream, on pages in reserve, on one session's book, on what
+ * a look shows and on an audit. No call locks, waits, starts a thread, prints, or touches a global.
  *
  * `rt lib --jobs 1` in crates/tr_cell makes crates/tr_cell/out/libtr_cell.a; link it with the toolchain's c/liblibc_c.a, which
  * has malloc, realloc and free alone.
  *
  * What the caller owes, since nothing checks it:
  * - One call at a time is given a handle; calls of several threads on it are ordered by a lock.
- * - A handle is never copied, and written only once, as all zeros: then it is closed. Only `_new`, `trc_book_thread` and
- *   `trc_book_look` open one, and `_free` closes it again; closed ones may be freed.
+ * - A handle is never copied, and written only once, as all zeros: then it is closed. Only `_new`, `_make`, `trc_book_thread`,
+ *   `trc_book_look`, `trc_book_clear` and `trc_book_release` open one, and `_free` closes it again; closed ones may be freed.
  * - Each pointer to a result may be written, each slice may be read (a room: written) for its length, and points somewhere even
  *   at length 0. A `bool` is 0 or 1. Results, rooms, slices and handles of one call don't overlap.
- * - malloc, realloc and free are of one allocator, which aligns to 16 bytes. No call is made in a signal handler, or in a
- *   forked child of a process with threads.
+ * - malloc, realloc and free are of one allocator, which aligns to 16 bytes. No call is made in a signal handler. In a forked
+ *   child of a process with threads the parent's handles are zeros.
  *
  * Each call answers TRC_DONE or why it was refused. After a refusal its results are as they were, and so are the handles,
  * unless the call says otherwise. Moments are nanoseconds since 1970. */
@@ -77,6 +77,7 @@ typedef struct {
     uint64_t offered, discarded, overwritten, overwritten_packets, in_ring, consumed, in_chunks, cleared, withdrawn, cuts,
         current_bytes;
 } trc_counts; /* offered = discarded + overwritten + cleared + in_ring + in_chunks; consumed = in_chunks + withdrawn */
+typedef struct { uint64_t packet, at; } trc_place; /* of bytes: so many packets, and then bytes, are before it. Zeros: the start */
 typedef struct { uint64_t packets, records, bytes; bool released; } trc_part; /* what it has, or had before it was released */
 
 /* A stream by itself, which takes no offers yet. IN_USE, BAD_UUID, G1, G2, BAD_MODE, NO_MEMORY. */
@@ -104,16 +105,36 @@ uint32_t trc_stream_add_counts(trc_stream *, tracerd_counts *sums);
 uint32_t trc_stream_fate(trc_stream *, uint64_t serial, tracerd_fate *);
 /* How much the stream added to a trace chunk. CLOSED, NO_PART. */
 uint32_t trc_stream_part(trc_stream *, uint64_t chunk, trc_part *);
-/* Copies bytes of the packets that the stream added to a trace chunk, from byte `at` on, as many as there are and as fit: 0 at
- * the end, and for a released part. The rest of the room is as it was. CLOSED, NO_PART. */
-uint32_t trc_stream_text(trc_stream *, uint64_t chunk, uint64_t at, uint8_t *room, size_t room_len, uint64_t *copied);
+/* Copies bytes of the packets that the stream added to a trace chunk, from a place on, as many as there are and as fit: 0 at the
+ * end, and for a released part. The place is then behind them. The rest of the room is as it was. The call takes as long as the
+ * bytes that it copies. CLOSED, NO_PART. */
+uint32_t trc_stream_text(trc_stream *, uint64_t chunk, trc_place *, uint8_t *room, size_t room_len, uint64_t *copied);
 /* Lets the stream go. */
 void trc_stream_free(trc_stream *);
+
+/* ---- Pages in reserve -------------------------------------------------------------------------------------------------- */
+
+/* A take and a cut put an empty page into the ring in the place of each that they move, unless that is less than a quarter used.
+ * They make those that the stream hasn't in reserve. So that it needn't wait for memory while its lock is held, a caller asks
+ * what it lacks, makes it while the lock isn't held, and has it kept. */
+typedef struct { void *at; bool live; } trc_spares;
+
+/* How many pages a take would have to make itself now, 0 or 1, and of how many bytes. CLOSED. */
+uint32_t trc_stream_lacking_for_take(trc_stream *, uint64_t *size, uint64_t *count);
+/* How many pages a cut would have to make itself now, at most. CLOSED. */
+uint32_t trc_stream_lacking_for_cut(trc_stream *, uint64_t *size, uint64_t *count);
+/* Makes pages, and writes to all their memory: as many as there is memory for. IN_USE; NO_MEMORY: none are made. */
+uint32_t trc_spares_make(trc_spares *, uint64_t size, uint64_t count);
+/* Gives pages to the stream, and closes their handle. Those of another size are dropped, and all without memory for their list.
+ * The stream shows what it showed. CLOSED (stream, then pages). */
+uint32_t trc_stream_keep_spares(trc_stream *, trc_spares *);
+void trc_spares_free(trc_spares *);
 
 /* ---- A session's book: what it keeps beside its streams ---------------------------------------------------------------- */
 
 typedef struct { void *at; bool live; } trc_book;
 typedef struct { void *at; bool live; } trc_snap;
+typedef struct { void *at; bool live; } trc_removed;
 
 typedef struct { uint64_t id, begin, end; } trc_archive;
 typedef struct {
@@ -153,10 +174,13 @@ uint32_t trc_rotate_finish(trc_book *, trc_archive *);
 uint32_t trc_book_can_clear(trc_book *);
 /* Whether there is an archive of this number, whose parts can be released. CLOSED, S18. */
 uint32_t trc_book_can_release(trc_book *, uint64_t archive);
-/* Clears a stream as its session allows. CLOSED, MISPLACED, S8, S1, S3, S4, NO_MEMORY. */
-uint32_t trc_book_clear(trc_book *, trc_stream *, trc_cleared *);
-/* Gives up a stream's part of an archive. CLOSED, MISPLACED, S8, S18, S19, NO_MEMORY. */
-uint32_t trc_book_release(trc_book *, trc_stream *, uint64_t archive, trc_released *);
+/* Clears a stream as its session allows. The packets come out, so that nobody need wait while their memory is freed: what the
+ * handle had is freed, and it opens if there is memory for it, else they are freed at once. CLOSED, MISPLACED, S8, S1, S3, S4,
+ * NO_MEMORY. */
+uint32_t trc_book_clear(trc_book *, trc_stream *, trc_removed *, trc_cleared *);
+/* Gives up a stream's part of an archive. The packets come out as of a clear. CLOSED, MISPLACED, S8, S18, S19, NO_MEMORY. */
+uint32_t trc_book_release(trc_book *, trc_stream *, uint64_t archive, trc_removed *, trc_released *);
+void trc_removed_free(trc_removed *);
 
 /* Sets when rotations are due: each `every` nanoseconds if `timer`, at `size` bytes if `by_size`, or never if neither. CLOSED,
  * S1, D1, D2. */
@@ -179,7 +203,7 @@ typedef struct {
 /* CLOSED. */
 uint32_t trc_snap_about(trc_snap *, trc_shown *);
 /* Copies bytes of the shown packets, as trc_stream_text. CLOSED. */
-uint32_t trc_snap_text(trc_snap *, uint64_t at, uint8_t *room, size_t room_len, uint64_t *copied);
+uint32_t trc_snap_text(trc_snap *, trc_place *, uint8_t *room, size_t room_len, uint64_t *copied);
 void trc_snap_free(trc_snap *);
 
 /* What the book says of the session. CLOSED. */

@@ -3,20 +3,34 @@
  * A session has channels; each recording thread has a producer of a channel, with a ring of sub-buffers of its own. A rotation
  * closes what was recorded into an archive, which any reader of CTF 1.8 traces opens once it is written.
  *
- * Units. Moments are nanoseconds since 1970-01-01T00:00Z, at most 9,000,000,000,000,000,000; tracerd_now() is the clock's. A
- * moment earlier than the stream's last one counts as that one. Sizes are bytes. Names are 1 to 64 letters, digits and
- * underscores, a letter first, and end in NUL.
+ * Units. Moments are nanoseconds since 1970-01-01T00:00Z, at most 9,000,000,000,000,000,000; tracerd_now_of() is the session's
+ * clock. A moment earlier than the stream's last one counts as that one, also where that was the moment of a rotation: one far
+ * ahead of the clock holds back all that come after it until the clock is there. Sizes are bytes. Names are 1 to 64 letters,
+ * digits and underscores, a letter first, and end in NUL.
  *
  * Answers. A call answers TRACERD_OK, or why it was refused. After a refusal nothing has changed and no result is written,
  * unless the call says otherwise. BAD_MOMENT goes for each moment. No pointer may be NULL but where that is said.
  *
  * Threads. Any thread may make any call at any time, except that a producer offers in one thread at a time, and that
- * tracerd_free comes last, when no other call runs; the session's producers are gone then. An offer waits only while another
- * call holds its own stream: for a copy of its ring, of what was drained of it since the last rotation, or of 64 KiB of an
- * archive, or while a part is let go. Calls that write files, and releases, wait for each other. No call may be made in a
- * signal handler, or in the child of a fork of a process with threads, and no thread may be cancelled in one. A call takes up
- * to 32 KiB of the stack. The library has no global state, prints nothing and ends no process. It starts a thread only where
- * tracerd_drainer_start asks for one. */
+ * tracerd_free comes last, when no other call runs; the session's producers are gone then. Calls that write files, and releases,
+ * wait for each other. No call may be made in a signal handler, and no thread may be cancelled in one. A call takes up to 32 KiB
+ * of the stack. The library has no global state, prints nothing and ends no process. It starts a thread only where
+ * tracerd_drainer_start asks for one.
+ *
+ * Waits. An offer waits only while another call holds its own stream, at a time for:
+ * - a drain, also the drainer's: one step, whatever the sub-buffer's size; but a copy of it if less than a quarter of it is used;
+ * - a rotation, also a tick's: one step for each sub-buffer with records; and such a copy of the one that is being filled;
+ * - a write: a copy of 16 KiB;
+ * - a snapshot: a copy of all that the ring holds;
+ * - a clear or a release: one step for each packet that is removed, and for each record of those with a loss before their end;
+ * - a fate: a search of packets, and one step for each record of at most one of them;
+ * - any other call: one step.
+ * A drain and a rotation make the sub-buffers that they need before they hold the stream, and a clear and a release free what
+ * they removed after. What they ask for while they hold it are such copies, and lists that double as packets come.
+ *
+ * Forks. In a child all that its parent made is closed, whatever the parent's threads did meanwhile: tracepoints are off, calls
+ * answer CLOSED and don't wait (tracerd_drainer_stop: NOT_DRAINING), and tracerd_free gives back little: the rings' memory goes
+ * with the child. It may make sessions of its own. It's so from Linux 4.14 on; before, a child may make no call. */
 #ifndef TRACERD_H
 #define TRACERD_H
 #include <stddef.h>
@@ -37,7 +51,7 @@ typedef struct tracerd_producer { uint32_t active; } tracerd_producer;
 typedef enum tracerd_status {
     TRACERD_OK = 0,
     TRACERD_NO_MEMORY = 1,           /* an allocation failed, or a thread could not be made */
-    TRACERD_CLOSED = 2,              /* the producer was given back */
+    TRACERD_CLOSED = 2,              /* the producer was given back; in a child of fork: the parent made it */
     TRACERD_BAD_MOMENT = 4,          /* a moment above 9,000,000,000,000,000,000 */
     TRACERD_BAD_MODE = 6,            /* a mode that is none */
     TRACERD_BAD_NAME = 7,            /* a name that is none */
@@ -77,7 +91,7 @@ typedef enum tracerd_status {
 /* The name of a status, as "TooBig"; of another number "Unknown". Never NULL. */
 const char *tracerd_status_name(tracerd_status);
 
-/* The clock's moment (CLOCK_REALTIME). */
+/* The wall clock's moment (CLOCK_REALTIME), which may be set back or ahead. */
 uint64_t tracerd_now(void);
 
 /* ---- A session is made ---- */
@@ -89,6 +103,10 @@ typedef enum tracerd_mode { TRACERD_DISCARD = 0, TRACERD_OVERWRITE = 1 } tracerd
  * rings hold. `east` is how many minutes the clock of archives' names is ahead of UTC. BAD_NAME, BAD_OFFSET, BAD_MODE,
  * NO_MEMORY: *session is NULL. */
 tracerd_status tracerd_new(tracerd_session **session, const char *name, const uint8_t uuid[16], int32_t east, tracerd_kind);
+/* The moment by the session's clock, for offers and calls on it: the wall clock's when the session was made, and since then as
+ * much later as CLOCK_MONOTONIC is. So it never goes back, whatever the wall clock is set to; it stands while the machine
+ * sleeps. */
+uint64_t tracerd_now_of(const tracerd_session *);
 /* Lets all go, also its producers and what was not written. NULL is ignored. */
 void tracerd_free(tracerd_session *);
 
@@ -128,7 +146,7 @@ typedef struct tracerd_offered {
 tracerd_status tracerd_offer(tracerd_producer *, uint64_t moment, uint32_t id, const void *payload, size_t size,
                              tracerd_offered *);
 
-/* The same at tracerd_now(), of which only a refusal is answered. */
+/* The same at the session's clock, of which only a refusal is answered. */
 tracerd_status tracerd_trace(tracerd_producer *, uint32_t id, const void *payload, size_t size);
 
 /* A tracepoint: while the session is off it costs a load and a branch, and its payload is not evaluated. Refusals are lost:

@@ -87,6 +87,7 @@ public:
         must(tracerd_producer_new(get(), text(channel, TRACERD_BAD_NAME), &handle));
         return {handle_, handle};
     }
+    uint64_t now() const noexcept { return tracerd_now_of(get()); }
     void start(uint64_t moment) { must(tracerd_start(get(), moment)); }
     void stop() { must(tracerd_stop(get())); }
     uint64_t drain() { return result(tracerd_drain); }

@@ -8,9 +8,9 @@ UUID = bytes(range(16))
 THREADS, RECORDS = 2, 1000
 
 
-def record(producer):
+def record(session, producer):
     for k in range(RECORDS):
-        offered = producer.offer(tracerd.now(), 7, b"%d" % k)
+        offered = producer.offer(session.now(), 7, b"%d" % k)
         assert (offered.outcome, offered.serial) == (tracerd.STORED, k), offered
     producer.done()
 
@@ -19,14 +19,14 @@ def main(folder):
     session = tracerd.Session("snake", UUID)
     session.channel("main", 65536, 16, tracerd.DISCARD)
     producers = [session.producer("main") for _ in range(THREADS)]
-    session.start(tracerd.now())
-    threads = [threading.Thread(target=record, args=(it,)) for it in producers]
+    session.start(session.now())
+    threads = [threading.Thread(target=record, args=(session, it)) for it in producers]
     for it in threads:
         it.start()
     for it in threads:
         it.join()
     session.stop()
-    archive = session.rotate(tracerd.now())
+    archive = session.rotate(session.now())
     totals = session.settle()
     assert totals.offered == totals.in_chunks == THREADS * RECORDS, totals
     session.write(archive, folder)

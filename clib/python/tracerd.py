@@ -4,9 +4,9 @@
     session = tracerd.Session("app", uuid.uuid4().bytes)
     session.channel("main", 65536, 16, tracerd.DISCARD)
     producer = session.producer("main")
-    session.start(tracerd.now())
-    producer.offer(tracerd.now(), 7, b"bytes")
-    session.write(session.rotate(tracerd.now()), "DIR")
+    session.start(session.now())
+    producer.offer(session.now(), 7, b"bytes")
+    session.write(session.rotate(session.now()), "DIR")
 
 tracerd.h has the meaning of each call, its units and refusals. The library is that of the variable TRACERD_SO, or
 libtracerd.so.0 where the system finds libraries."""
@@ -113,6 +113,7 @@ _counts_sum = _call("counts_sum", c_void_p, POINTER(Counts))
 _settle = _call("settle", c_void_p, POINTER(Counts), _number)
 _fate_of = _call("fate_of", c_void_p, _u64, POINTER(Fate))
 now = _call("now", result=c_uint64)
+_now_of = _call("now_of", c_void_p, result=c_uint64)
 
 
 class Refused(Exception):
@@ -219,6 +220,10 @@ class Session:
 
     def producer(self, channel):
         return Producer(self, channel)
+
+    def now(self):
+        """The moment by the session's clock, which never goes back."""
+        return _now_of(self._handle)
 
     def start(self, moment):
         _must(_start(self._handle, moment))

@@ -177,8 +177,50 @@ static void keeps_what_is_written(void) {
     tracerd_free(s);
 }
 
+/* A part of more bytes than are copied at a time, whose packets end anywhere in a piece: its file has each record, one after
+ * another. */
+static void writes_in_pieces(void) {
+    enum { RECORDS = 300, LEAST = 700 };
+    static uint8_t bytes[400000];
+    tracerd_session *s;
+    tracerd_producer *p;
+    tracerd_offered o;
+    tracerd_audited a;
+    uint64_t n, packets = 1, size = 80;
+    answers(OK, tracerd_new(&s, "s", ONE, 0, TRACERD_LOCAL));
+    answers(OK, tracerd_channel(s, "c", 4096, 64, TRACERD_DISCARD));
+    answers(OK, tracerd_producer_new(s, "c", &p));
+    answers(OK, tracerd_start(s, 0));
+    for (uint64_t k = 0; k < RECORDS; k++) {
+        answers(OK, tracerd_offer(p, k, 7, letters, LEAST + k, &o));
+        if (k % 64 == 63) answers(OK, tracerd_drain(s, &n));
+        packets = o.packet + 1;
+        size += 24 + LEAST + k;
+    }
+    size += 80 * (packets - 1);
+    answers(OK, tracerd_rotate(s, 0, &n));
+    answers(OK, tracerd_write(s, 0, below("pieces")));
+    touch(below("pieces"), 0, 0, bytes, NULL, size);
+    uint64_t at = 0, count = 0;
+    while (at < size && !wrong) {
+        uint64_t bits;
+        memcpy(&bits, bytes + at + 48, sizeof bits);
+        uint64_t next = at + bits / 8;
+        is(next > at + 80 && next <= size);
+        for (at += 80; at < next && count < RECORDS; count++) {
+            is(!memcmp(bytes + at + 24, letters, LEAST + count));
+            at += 24 + LEAST + count;
+        }
+        is(at == next);
+    }
+    is(count == RECORDS);
+    answers(OK, tracerd_audit(below("pieces"), "s", "c", 0, ONE, &a));
+    is(a.packets == packets && a.records == RECORDS && a.absent == 0 && a.last_serial == RECORDS - 1);
+    tracerd_free(s);
+}
+
 int main(int count, char **words) {
-    void (*const alone[])(void) = {shows_snapshots, keeps_what_is_written};
+    void (*const alone[])(void) = {shows_snapshots, keeps_what_is_written, writes_in_pieces};
     void (*const with_session[])(tracerd_session *, tracerd_producer *) = {audits, meets_a_full_disk};
     if (count != 2) return 2;
     begin(words[1]);

@@ -1,6 +1,8 @@
-/* Each allocation fails in turn: the call is answered NO_MEMORY, nothing is lost by it, the same call then goes through, and in
- * the end all is given back. (A block that isn't made smaller is no want of memory.) A file that can't be closed wasn't
- * written. Link with --wrap of malloc, calloc, realloc, aligned_alloc, free, scandir, close and pthread_create.
+/* Each allocation fails in turn, alone, or with all after it until a call is refused: the call is answered NO_MEMORY, nothing is
+ * lost by it, the same call then goes through, and in the end all is given back. (A block that isn't made smaller is no want of
+ * memory. Nor is one page alone that a drain or a rotation would have made ahead, nor a handle of what a clear or a release has
+ * removed, which is then freed at once.) A file that can't be closed wasn't written.
+ * Link with --wrap of malloc, calloc, realloc, aligned_alloc, mmap, munmap, free, scandir, close and pthread_create.
  *
  *     memory DIR     a folder that is there, in which files are written */
 #include "testing.h"
@@ -11,10 +13,12 @@
 #include <sched.h>
 #include <stdatomic.h>
 #include <stdbool.h>
+#include <sys/mman.h>
 #include <time.h>
 
 static long fails_at = -1;
-static atomic_long asked, held, refused, shrunk;
+static bool is_lasting; /* all allocations after that one fail too */
+static atomic_long asked, held, refused, shrunk, done_without;
 
 void *__real_malloc(size_t size);
 void *__real_calloc(size_t count, size_t size);
@@ -25,7 +29,8 @@ void __real_free(void *at);
 static atomic_bool is_slow, is_in_it;
 
 static bool is_refused(void) {
-    bool is_it = asked++ == fails_at;
+    long number = asked++;
+    bool is_it = number == fails_at || (is_lasting && fails_at >= 0 && number > fails_at);
     if (is_slow && !atomic_exchange(&is_in_it, true)) nanosleep(&(struct timespec){0, 100000000}, NULL);
     refused += is_it;
     return is_it;
@@ -51,6 +56,17 @@ void *__wrap_realloc(void *at, size_t size) {
 void __wrap_free(void *at) {
     held -= at != NULL;
     __real_free(at);
+}
+
+void *__real_mmap(void *at, size_t size, int how, int flags, int file, off_t from);
+int __real_munmap(void *at, size_t size);
+
+void *__wrap_mmap(void *at, size_t size, int how, int flags, int file, off_t from) {
+    return is_refused() ? MAP_FAILED : counted(__real_mmap(at, size, how, flags, file, from));
+}
+int __wrap_munmap(void *at, size_t size) {
+    held--;
+    return __real_munmap(at, size);
 }
 
 typedef int chosen(const struct dirent *);
@@ -84,24 +100,36 @@ int __wrap_pthread_create(pthread_t *thread, const pthread_attr_t *how, void *(*
     return fails_to_create ? EAGAIN : __real_pthread_create(thread, how, run, with);
 }
 
+/* What a call may do without: nothing, one page that it would have made ahead, or all memory. */
+enum spared { NOTHING, PAGE, ALL };
+
+/* Whether a call had no memory, and was answered so; then there is memory again. */
+static bool had_no_memory(tracerd_status status, long before, enum spared spared, const char *call, int line) {
+    if (refused == before) return false;
+    if (status == TRACERD_OK && (spared == ALL || (spared == PAGE && !is_lasting))) {
+        done_without++;
+        return false;
+    }
+    is_status(status, TRACERD_NO_MEMORY, call, __FILE__, line);
+    is_lasting = false;
+    return true;
+}
+
 /* The call goes through, at the second try if an allocation fails at the first. */
-#define goes(call) do { \
+#define goes_without(spared, call) do { \
         long before = refused; \
         tracerd_status status = (call); \
-        if (refused > before) { \
-            is_status(status, TRACERD_NO_MEMORY, #call, __FILE__, __LINE__); \
-            status = (call); \
-        } \
+        if (had_no_memory(status, before, spared, #call, __LINE__)) status = (call); \
         is_status(status, TRACERD_OK, #call, __FILE__, __LINE__); \
     } while (0)
+#define goes(call) goes_without(NOTHING, call)
 
 /* A rotation for which there is no memory is pending, or not begun. */
 static void rotates(tracerd_session *s, uint64_t moment) {
     uint64_t archive, records;
     long before = refused;
     tracerd_status status = tracerd_rotate(s, moment, &archive);
-    if (refused > before) {
-        is_status(status, TRACERD_NO_MEMORY, "rotate", __FILE__, __LINE__);
+    if (had_no_memory(status, before, PAGE, "rotate", __LINE__)) {
         status = tracerd_rotate_on(s, &archive);
         if (status == TRACERD_NOT_PENDING) status = tracerd_rotate(s, moment, &archive);
         else answers(NOT_PENDING, tracerd_rotate_on(s, &archive));
@@ -118,7 +146,8 @@ static void meets_the_pending(tracerd_session *s, tracerd_producer *p) {
     uint64_t n;
     long before = refused;
     tracerd_status status = tracerd_rotate(s, 20, &n);
-    if (refused > before && tracerd_rotate(s, 21, &n) == TRACERD_ROTATION_PENDING) {
+    bool is_refused = had_no_memory(status, before, PAGE, "rotate", __LINE__);
+    if (is_refused && tracerd_rotate(s, 21, &n) == TRACERD_ROTATION_PENDING) {
         was_pending = true;
         answers(ROTATION_PENDING, tracerd_start(s, 21));
         answers(ROTATION_PENDING, tracerd_stop(s));
@@ -128,7 +157,7 @@ static void meets_the_pending(tracerd_session *s, tracerd_producer *p) {
         is(n == 1);
         return;
     }
-    is(status == TRACERD_OK || refused > before);
+    is(status == TRACERD_OK || is_refused);
 }
 
 static void records(const char *dir) {
@@ -149,18 +178,20 @@ static void records(const char *dir) {
     long before = asked;
     for (uint64_t k = 0; k < 8; k++) answers(OK, tracerd_offer(k & 1 ? p : q, k, 1, forty, 40, &o));
     is(asked == before); /* no offer takes memory */
-    goes(tracerd_drain(s, &n));
+    goes_without(PAGE, tracerd_drain(s, &n));
     rotates(s, 9);
     goes(tracerd_write(s, 0, dir));
     goes(tracerd_audit(dir, "a", "c", 0, ONE, &a));
     is(a.records == 3 || a.records == 4);
     for (uint64_t k = 0; k < 8; k++) answers(OK, tracerd_offer(k & 1 ? p : q, k, 1, "abc", 3, &o));
     meets_the_pending(s, q);
-    goes(tracerd_release(s, 0));
+    goes_without(ALL, tracerd_release(s, 0));
     for (uint64_t k = 0; k < 8; k++) answers(OK, tracerd_offer(q, k, 1, "abc", 3, &o));
-    goes(tracerd_clear(s, &n));
+    goes_without(ALL, tracerd_clear(s, &n));
     answers(OK, tracerd_schedule(s, 1, TRACERD_NEVER));
-    if (tracerd_tick(s, 99, &cause, &n) == TRACERD_NO_MEMORY && tracerd_rotate_on(s, &n) == TRACERD_NOT_PENDING)
+    before = refused; /* the rings are empty, so that a page is made for nothing */
+    if (had_no_memory(tracerd_tick(s, 99, &cause, &n), before, ALL, "tick", __LINE__) &&
+        tracerd_rotate_on(s, &n) == TRACERD_NOT_PENDING)
         answers(OK, tracerd_tick(s, 99, &cause, &n));
     answers(OK, tracerd_counts_sum(s, &c));
     is(c.offered == c.discarded + c.overwritten + c.cleared + c.in_ring + c.in_chunks && !c.in_ring);
@@ -183,6 +214,7 @@ static void shows(const char *dir) {
     fails_to_close = true;
     tracerd_status status = tracerd_snapshot(s, 30, dir);
     is((status == TRACERD_WRITE && errno == EIO) || (status == TRACERD_NO_MEMORY && refused));
+    is_lasting = false;
     fails_to_close = false;
     tracerd_free(s);
 }
@@ -219,17 +251,21 @@ int main(int count, char **words) {
     if (count != 2) return 2;
     drains_to_the_last();
     counts_as_one();
-    for (void (*const *run)(const char *) = (void (*const[])(const char *)){records, shows, NULL}; *run; run++) {
-        do {
-            asked = refused = shrunk = 0;
-            fails_at++;
-            (*run)(words[1]);
-            is(held == 0);
-            counts_as_one();
-        } while (refused || shrunk);
-        fails_at = -1;
+    for (int lasting = 0; lasting < 2; lasting++) {
+        for (void (*const *run)(const char *) = (void (*const[])(const char *)){records, shows, NULL}; *run; run++) {
+            do {
+                asked = refused = shrunk = 0;
+                fails_at++;
+                is_lasting = lasting;
+                (*run)(words[1]);
+                is(held == 0);
+                counts_as_one();
+            } while (refused || shrunk);
+            fails_at = -1;
+        }
     }
-    is(was_pending);
+    is_lasting = false;
+    is(was_pending && done_without);
     counts_as_one();
     return closing();
 }

@@ -76,7 +76,7 @@ static void keep(tracerd_session *session, const char *folder) {
     uint64_t archive, stream;
     must(tracerd_stop(session), "stop");
     must(tracerd_drainer_stop(session), "drainer_stop");
-    must(tracerd_rotate(session, tracerd_now(), &archive), "rotate");
+    must(tracerd_rotate(session, tracerd_now_of(session), &archive), "rotate");
     must(tracerd_settle(session, &counts, &stream), "settle");
     must(tracerd_write(session, archive, folder), "write");
     printf("offered %llu discarded %llu archived %llu\n", (unsigned long long)counts.offered,
@@ -93,7 +93,7 @@ int main(int count, char **words) {
     must(tracerd_producer_new(session, "main", &queueing), "producer_new");
     for (int i = 0; i < WORKERS; i++) must(tracerd_producer_new(session, "main", &working[i]), "producer_new");
     if (count > 1) {
-        must(tracerd_start(session, tracerd_now()), "start");
+        must(tracerd_start(session, tracerd_now_of(session)), "start");
         must(tracerd_drainer_start(session, 10000000), "drainer_start");
     }
     for (int i = 0; i < WORKERS; i++)

@@ -1,6 +1,6 @@
 //! Records from four threads, rotates, writes the archive below the folder that is named, and reads it back.
 use std::path::Path;
-use tracerd::{audit, now, Fate, Kind, Mode, Offered, Refused, Session};
+use tracerd::{audit, Fate, Kind, Mode, Offered, Refused, Session};
 
 const UUID: [u8; 16] = [3; 16];
 const THREADS: u64 = 4;
@@ -11,21 +11,22 @@ fn main() -> Result<(), Refused> {
     let session = Session::new("rusty", UUID, 0, Kind::Local)?;
     session.channel("main", 65_536, 16, Mode::Discard)?;
     let producers = (0..THREADS).map(|_| session.producer("main")).collect::<Result<Vec<_>, _>>()?;
-    session.start(now())?;
+    session.start(session.now())?;
+    let session = &session;
     std::thread::scope(|scope| {
         for mut producer in producers {
             scope.spawn(move || {
                 for k in 0..RECORDS {
-                    let offered = producer.offer(now(), 7, &k.to_le_bytes());
+                    let offered = producer.offer(session.now(), 7, &k.to_le_bytes());
                     assert!(matches!(offered, Ok(Offered::Stored { serial, .. }) if serial == k), "{offered:?}");
                 }
                 assert!(matches!(producer.fate(0), Ok(Fate::InRing { packet: 0 })));
-                assert_eq!(producer.offer(now(), 7, &[0; 65_536]), Err(Refused::TooBig));
+                assert_eq!(producer.offer(session.now(), 7, &[0; 65_536]), Err(Refused::TooBig));
             });
         }
     });
     session.stop()?;
-    let archive = session.rotate(now())?;
+    let archive = session.rotate(session.now())?;
     let totals = session.settle()?;
     assert_eq!((totals.offered, totals.in_chunks), (THREADS * RECORDS, THREADS * RECORDS));
     session.write(archive, Path::new(&folder))?;

@@ -58,6 +58,7 @@ pub struct Audited {
 
 extern "C" {
     pub fn tracerd_now() -> u64;
+    pub fn tracerd_now_of(s: *const RawSession) -> u64;
     pub fn tracerd_new(s: *mut *mut RawSession, name: *const c_char, uuid: *const u8, east: i32, kind: u32) -> u32;
     pub fn tracerd_free(s: *mut RawSession);
     pub fn tracerd_channel(s: *mut RawSession, name: *const c_char, size: u64, count: u64, mode: u32) -> u32;

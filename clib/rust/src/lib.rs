@@ -2,15 +2,15 @@
 //! of each call, its units and refusals.
 //!
 //! ```no_run
-//! use tracerd::{now, Kind, Mode, Session};
+//! use tracerd::{Kind, Mode, Session};
 //!
 //! fn main() -> Result<(), tracerd::Refused> {
 //!     let session = Session::new("app", [1; 16], 0, Kind::Local)?;
 //!     session.channel("main", 65_536, 16, Mode::Discard)?;
 //!     let mut producer = session.producer("main")?;
-//!     session.start(now())?;
-//!     producer.offer(now(), 7, b"bytes")?;
-//!     let archive = session.rotate(now())?;
+//!     session.start(session.now())?;
+//!     producer.offer(session.now(), 7, b"bytes")?;
+//!     let archive = session.rotate(session.now())?;
 //!     session.write(archive, "DIR".as_ref())
 //! }
 //! ```
@@ -87,7 +87,7 @@ fn path(folder: &Path, otherwise: Refused) -> Result<CString, Refused> {
     CString::new(folder.as_os_str().as_bytes()).map_err(|_| otherwise)
 }
 
-/// The clock's moment, in nanoseconds since 1970.
+/// The wall clock's moment, in nanoseconds since 1970. It may be set back or ahead: [`Session::now`] never goes back.
 pub fn now() -> u64 {
     unsafe { ffi::tracerd_now() }
 }
@@ -181,6 +181,11 @@ impl Session {
         let channel = name(channel)?;
         done(unsafe { ffi::tracerd_producer_new(self.raw(), channel.as_ptr(), &mut raw) })?;
         Ok(Producer { raw: NonNull::new(raw).ok_or(Refused::NoMemory)?, _session: self.0.clone() })
+    }
+
+    /// The moment by the session's clock, for offers and calls on it.
+    pub fn now(&self) -> u64 {
+        unsafe { ffi::tracerd_now_of(self.raw()) }
     }
 
     pub fn start(&self, moment: u64) -> Result<(), Refused> {

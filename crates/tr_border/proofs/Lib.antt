@@ -1,3 +1,4 @@
 mod AbsentLemmas
+mod CopyLemmas
 mod NameLemmas
 pub mod TextLemmas

@@ -147,7 +147,7 @@ shown_out s = record {
   offered = s.offered;
   lost = s.lost;
   records = records_of s.packets;
-  bytes = length (packets_text s.packets);
+  bytes = bounded (length (packets_text s.packets));
   any = is_some (oldest_in s);
   oldest = or_zero (oldest_in s);
 }

@@ -12,7 +12,8 @@
 //!
 //! - A refusal's number is that of its code: the hundred of its letter, and its digits; or 1, if an allocation failed.
 //! - Each struct of a result has the numbers of the answer, one by one.
-//! - A text is copied whole or not at all; of a part's bytes as many as there are and as fit, from a place on.
+//! - A text is copied whole or not at all; of a part's bytes as many as there are and as fit, from a place on, and the
+//!   place is then behind these.
 //! - A step of a book and a stream is answered by the session's rules. A stream of another trace is `Misplaced`.
 //! - A thread is added to the book together with its stream, or not at all.
 //!

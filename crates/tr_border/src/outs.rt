@@ -3,6 +3,7 @@
 ghost use Rattle.std.specs.Prelude.{◌≡◌, ◌-◌, ◌^◌, min};
 ghost use Rattle.tr_border.specs.Outs.{about_out, archive_out, cause_out, cleared_out, counts_out, cut_out, fate_out, offered_out, part_out, released_out, session_mode_out, shown_out, state_out, sum_out, taken_out};
 
+use crate::texts::packets_len;
 use std::alloc::Global;
 use tr_book::{Counts, Part, StreamSnap};
 use tr_schedule::Cause;
@@ -410,7 +411,7 @@ pub fn shown_out(snap: &StreamSnap<Global>) -> ShownOut
         offered: snap.offered(),
         lost: snap.lost(),
         records: count(snap),
-        bytes: snap.text().len() as u64,
+        bytes: packets_len(snap.texts()),
         any: oldest.is_some(),
         oldest: oldest.unwrap_or(0),
     }

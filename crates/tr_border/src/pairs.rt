@@ -7,6 +7,7 @@ ghost use Rattle.tr_session.specs.declared.faults.StepFault.TheVariants as StepF
 ghost use Rattle.tr_session_book.specs.BookSteps.{book_add_thread, channel_named};
 ghost use Rattle.tr_session_book.specs.declared.channel.Channel.{Channel};
 ghost use Rattle.tr_session_book.specs.declared.faults.SessionFault.TheVariants as SessionFault;
+ghost use Rattle.tr_stream.specs.Answers.{answer_of};
 ghost use Rattle.tr_stream.specs.StateSteps.{new_state};
 ghost use Rattle.tr_stream.specs.declared.answers.CutFault.TheVariants as CutFault;
 
@@ -14,7 +15,7 @@ use std::alloc::{AllocError, Global};
 use tr_book::StreamSnap;
 use tr_session::{StepFault, clear_fault, release_fault};
 use tr_session_book::{SessionBook, SessionFault};
-use tr_stream::{Cleared, CutDone, Released, Stream, StreamConfig};
+use tr_stream::{Cleared, CutDone, Released, Removed, Stream, StreamConfig};
 use tr_terms::Moment;
 
 /// A stream on the heap that is made with this.
@@ -97,15 +98,15 @@ pub fn cut_stream(
     }
 }
 
-/// Clears a stream as its session allows.
+/// Clears a stream as its session allows. The packets come out, so that their memory is freed only when the caller drops them.
 pub fn clear_stream(
     book: &SessionBook<Global>,
     stream: &mut Stream<Global>,
-) -> Result<Cleared, SessionFault>
-    ensures value { result ≢ Err SessionFault.NoMemory → (result ≡ clear_answer book.now stream.old)
+) -> Result<(Cleared, Removed<Global>), SessionFault>
+    ensures value { answer_of result ≢ Err SessionFault.NoMemory → (answer_of result ≡ clear_answer book.now stream.old)
         × (stream.new ≡ after_clear book.now stream.old) }
-    ensures no_memory { result ≡ Err SessionFault.NoMemory → stream.new ≡ stream.old }
-    ensures memory { result ≡ Err SessionFault.NoMemory → ClearsPackets (clear_answer book.now stream.old) }
+    ensures no_memory { answer_of result ≡ Err SessionFault.NoMemory → stream.new ≡ stream.old }
+    ensures memory { answer_of result ≡ Err SessionFault.NoMemory → ClearsPackets (clear_answer book.now stream.old) }
 {
     let number = match number_in(book, stream) {
         Ok(number) => number,
@@ -117,22 +118,22 @@ pub fn clear_stream(
     if let Err(fault) = book.clear_allowed() {
         return Err(fault);
     }
-    match stream.clear() {
+    match stream.clear_out() {
         Ok(cleared) => Ok(cleared),
         Err(fault) => Err(clear_fault(fault)),
     }
 }
 
-/// Gives up a stream's part of an archive.
+/// Gives up a stream's part of an archive. The packets come out as of a clear.
 pub fn release_stream(
     book: &SessionBook<Global>,
     stream: &mut Stream<Global>,
     archive: u64,
-) -> Result<Released, SessionFault>
-    ensures value { result ≢ Err SessionFault.NoMemory → (result ≡ release_answer archive book.now stream.old)
+) -> Result<(Released, Removed<Global>), SessionFault>
+    ensures value { answer_of result ≢ Err SessionFault.NoMemory → (answer_of result ≡ release_answer archive book.now stream.old)
         × (stream.new ≡ after_release archive book.now stream.old) }
-    ensures no_memory { result ≡ Err SessionFault.NoMemory → stream.new ≡ stream.old }
-    ensures memory { result ≡ Err SessionFault.NoMemory → ReleasesPackets (release_answer archive book.now stream.old) }
+    ensures no_memory { answer_of result ≡ Err SessionFault.NoMemory → stream.new ≡ stream.old }
+    ensures memory { answer_of result ≡ Err SessionFault.NoMemory → ReleasesPackets (release_answer archive book.now stream.old) }
 {
     let number = match number_in(book, stream) {
         Ok(number) => number,
@@ -144,7 +145,7 @@ pub fn release_stream(
     if let Err(fault) = book.release_allowed(archive) {
         return Err(fault);
     }
-    match stream.release(archive) {
+    match stream.release_out(archive) {
         Ok(released) => Ok(released),
         Err(fault) => Err(release_fault(fault)),
     }

@@ -21,7 +21,8 @@
 //!
 //! Nothing checks it: one call at a time is given a handle, ordered by a lock; a handle is never copied, nor written but as
 //! zeros; results and rooms can be written, and slices point somewhere; what a call is given doesn't overlap; memory is of one
-//! allocator, aligned to 16; no call is made in a signal handler, or in a forked child of a process with threads.
+//! allocator, aligned to 16; no call is made in a signal handler; in a forked child of a process with threads the parent's
+//! handles are zeros.
 //!
 //! # What isn't proved
 //!
@@ -35,5 +36,6 @@ mod book_steps;
 mod books;
 mod sessions;
 mod snaps;
+mod spares;
 mod stream_reads;
 mod streams;

@@ -19,7 +19,8 @@ use tr_border::codes::{BAD_NAME, CLOSED, DONE, IN_USE, code_of, session_code, st
 use tr_border::inputs::name_of;
 use tr_border::outs::{ClearedOut, CutOut, ReleasedOut, cleared_out, cut_out, released_out};
 use tr_border::pairs::{add_thread, clear_stream, cut_stream, release_stream, switch_stream};
-use tr_held::{BookCell, StreamCell};
+use tr_held::{BookCell, RemovedCell, StreamCell};
+use tr_stream::Removed;
 
 /// Adds a thread to a channel, and opens its stream; both or neither.
 #[unsafe(no_mangle)]
@@ -131,12 +132,14 @@ pub extern "C" fn trc_rotate_cut(
     }
 }
 
-/// Clears a stream as its session allows.
+/// Clears a stream as its session allows. The packets come out, so that no one waits while their memory is freed. What the handle
+/// of removed packets had is freed.
 #[unsafe(no_mangle)]
 pub extern "C" fn trc_book_clear(
     alloc: Global,
     handle: &mut BookCell,
     stream: &mut StreamCell,
+    removed: &mut RemovedCell,
     out: &mut ClearedOut,
 ) -> u32
     ensures value { result ≢ NO_MEMORY → MatchOption handle.old.value (result ≡ CLOSED) (λ b. MatchOption stream.old.value (result ≡ CLOSED)
@@ -144,7 +147,8 @@ pub extern "C" fn trc_book_clear(
         × (out.new ≡ given cleared_out (clear_answer b s) out.old)
         × (stream.new.value ≡ Some (after_clear b s)))) }
     ensures no_memory { result ≡ NO_MEMORY → MatchOption handle.old.value ⊥ (λ b. MatchOption stream.old.value ⊥ (λ s. ClearsPackets (clear_answer b s))) }
-    ensures refused { result ≢ DONE → (stream.new.value ≡ stream.old.value) × (out.new ≡ out.old) }
+    ensures refused { result ≢ DONE → (stream.new.value ≡ stream.old.value) × (removed.new.value ≡ removed.old.value)
+        × (out.new ≡ out.old) }
     ensures book { handle.new.value ≡ handle.old.value }
 {
     let Some(book) = handle.take(alloc) else {
@@ -158,7 +162,8 @@ pub extern "C" fn trc_book_clear(
     stream.put(lent);
     handle.put(book);
     match answer {
-        Ok(cleared) => {
+        Ok((cleared, packets)) => {
+            hand_out(alloc, packets, removed);
             *out = cleared_out(cleared);
             DONE
         }
@@ -166,13 +171,14 @@ pub extern "C" fn trc_book_clear(
     }
 }
 
-/// Gives up a stream's part of an archive.
+/// Gives up a stream's part of an archive. The packets come out as of a clear.
 #[unsafe(no_mangle)]
 pub extern "C" fn trc_book_release(
     alloc: Global,
     handle: &mut BookCell,
     stream: &mut StreamCell,
     archive: u64,
+    removed: &mut RemovedCell,
     out: &mut ReleasedOut,
 ) -> u32
     ensures value { result ≢ NO_MEMORY → MatchOption handle.old.value (result ≡ CLOSED) (λ b. MatchOption stream.old.value (result ≡ CLOSED)
@@ -180,7 +186,8 @@ pub extern "C" fn trc_book_release(
         × (out.new ≡ given released_out (release_answer archive b s) out.old)
         × (stream.new.value ≡ Some (after_release archive b s)))) }
     ensures no_memory { result ≡ NO_MEMORY → MatchOption handle.old.value ⊥ (λ b. MatchOption stream.old.value ⊥ (λ s. ReleasesPackets (release_answer archive b s))) }
-    ensures refused { result ≢ DONE → (stream.new.value ≡ stream.old.value) × (out.new ≡ out.old) }
+    ensures refused { result ≢ DONE → (stream.new.value ≡ stream.old.value) × (removed.new.value ≡ removed.old.value)
+        × (out.new ≡ out.old) }
     ensures book { handle.new.value ≡ handle.old.value }
 {
     let Some(book) = handle.take(alloc) else {
@@ -194,10 +201,26 @@ pub extern "C" fn trc_book_release(
     stream.put(lent);
     handle.put(book);
     match answer {
-        Ok(released) => {
+        Ok((released, packets)) => {
+            hand_out(alloc, packets, removed);
             *out = released_out(released);
             DONE
         }
         Err(fault) => session_code(fault),
     }
+}
+
+/// Gives the handle removed packets. Without memory for it they are freed at once.
+fn hand_out(alloc: Global, packets: Removed<Global>, removed: &mut RemovedCell) {
+    if let Ok(kept) = Box::new(alloc, packets) {
+        removed.put(kept);
+    }
+}
+
+/// Frees removed packets.
+#[unsafe(no_mangle)]
+pub extern "C" fn trc_removed_free(alloc: Global, handle: &mut RemovedCell)
+    ensures { handle.new.value ≡ None }
+{
+    *handle = RemovedCell::closed(alloc);
 }

@@ -4,9 +4,8 @@ ghost use Rattle.std.specs.Prelude.{◌≡◌, ◌≢◌, ◌≤◌, ◌<◌, So
 ghost use Rattle.tr_border.specs.Codes.{code_number};
 ghost use Rattle.tr_border.specs.Outs.{shown_out};
 ghost use Rattle.tr_border.specs.Pairs.{look_answer};
-ghost use Rattle.tr_border.specs.Texts.{copied, room_after};
+ghost use Rattle.tr_border.specs.Texts.{CopiesOn};
 ghost use Rattle.tr_border.specs.declared.codes.TheConstants.{BAD_MOMENT, CLOSED, DONE, IN_USE, NO_MEMORY};
-ghost use Rattle.tr_packet.specs.Texts.{packets_text};
 ghost use Rattle.tr_session_book.specs.Faults.{session_fault_code};
 ghost use Rattle.tr_terms.specs.declared.limits.TheConstants.{LAST_MOMENT};
 
@@ -14,7 +13,7 @@ use std::alloc::Global;
 use tr_border::codes::{BAD_MOMENT, CLOSED, DONE, IN_USE, session_code};
 use tr_border::outs::{ShownOut, shown_out};
 use tr_border::pairs::look_at;
-use tr_border::texts::copy_from;
+use tr_border::texts::{Place, copy_on};
 use tr_held::{BookCell, SnapCell, StreamCell};
 use tr_session_book::{SessionBook, SessionFault};
 use tr_stream::Stream;
@@ -109,24 +108,24 @@ pub extern "C" fn trc_snap_about(alloc: Global, handle: &mut SnapCell, out: &mut
     DONE
 }
 
-/// Copies bytes of the shown packets, from the place `at` on.
+/// Copies bytes of the shown packets from a place on, and moves the place behind them.
 #[unsafe(no_mangle)]
 pub extern "C" fn trc_snap_text(
     alloc: Global,
     handle: &mut SnapCell,
-    at: u64,
+    place: &mut Place,
     room: &mut [u8],
     count: &mut u64,
 ) -> u32
-    ensures value { MatchOption handle.old.value ((result ≡ CLOSED) × (count.new ≡ count.old) × (room.new ≡ room.old))
-        (λ s. (result ≡ DONE) × (count.new ≡ copied at (packets_text s.packets) room.old)
-        × (room.new ≡ room_after at (packets_text s.packets) room.old)) }
+    ensures value { MatchOption handle.old.value
+        ((result ≡ CLOSED) × (place.new ≡ place.old) × (count.new ≡ count.old) × (room.new ≡ room.old))
+        (λ s. (result ≡ DONE) × CopiesOn s.packets place.old place.new count.new room.old room.new) }
     ensures same { handle.new.value ≡ handle.old.value }
 {
     let Some(snap) = handle.take(alloc) else {
         return CLOSED;
     };
-    *count = copy_from(snap.text(), at, room);
+    *count = copy_on(snap.texts(), place, room);
     handle.put(snap);
     DONE
 }

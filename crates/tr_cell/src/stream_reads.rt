@@ -4,8 +4,7 @@ ghost use Rattle.std.specs.Prelude.{◌≡◌, ◌≢◌, ◌≤◌, ◌+◌, �
 ghost use Rattle.tr_book.specs.Parts.{part_at};
 ghost use Rattle.tr_border.specs.Outs.{counts_out, fate_out, part_out, sum_out};
 ghost use Rattle.tr_border.specs.Inputs.{config_of};
-ghost use Rattle.tr_border.specs.Texts.{copied, room_after};
-ghost use Rattle.tr_packet.specs.Texts.{packets_text};
+ghost use Rattle.tr_border.specs.Texts.{CopiesOn};
 ghost use Rattle.tr_border.specs.declared.codes.TheConstants.{CLOSED, DONE, IN_USE, NO_MEMORY, NO_PART};
 ghost use Rattle.tr_stream.specs.Fates.{state_fate};
 ghost use Rattle.tr_stream.specs.StateSteps.{new_state, state_counts};
@@ -17,7 +16,7 @@ use tr_border::outs::{
     CountsOut, FateOut, PartOut, SumOut, counts_out, fate_out, part_out, sum_out,
 };
 use tr_border::pairs::made;
-use tr_border::texts::copy_from;
+use tr_border::texts::{Place, copy_on};
 use tr_held::StreamCell;
 
 /// How many records were offered, and where they are.
@@ -105,20 +104,20 @@ pub extern "C" fn trc_stream_part(
     code
 }
 
-/// Copies bytes of the packets that the stream added to a trace chunk, from the place `at` on.
+/// Copies bytes of the packets that the stream added to a trace chunk, from a place on, and moves the place behind them.
 #[unsafe(no_mangle)]
 pub extern "C" fn trc_stream_text(
     alloc: Global,
     handle: &mut StreamCell,
     chunk: u64,
-    at: u64,
+    place: &mut Place,
     room: &mut [u8],
     count: &mut u64,
 ) -> u32
-    ensures value { MatchOption handle.old.value ((result ≡ CLOSED) × (count.new ≡ count.old) × (room.new ≡ room.old))
-        (λ s. MatchOption (part_at chunk s.parts) ((result ≡ NO_PART) × (count.new ≡ count.old) × (room.new ≡ room.old))
-        (λ p. (result ≡ DONE) × (count.new ≡ copied at (packets_text p.packets) room.old)
-        × (room.new ≡ room_after at (packets_text p.packets) room.old))) }
+    ensures value { MatchOption handle.old.value (result ≡ CLOSED)
+        (λ s. MatchOption (part_at chunk s.parts) (result ≡ NO_PART)
+        (λ p. (result ≡ DONE) × CopiesOn p.packets place.old place.new count.new room.old room.new)) }
+    ensures refused { result ≢ DONE → (place.new ≡ place.old) × (count.new ≡ count.old) × (room.new ≡ room.old) }
     ensures same { handle.new.value ≡ handle.old.value }
 {
     let Some(stream) = handle.take(alloc) else {
@@ -126,7 +125,7 @@ pub extern "C" fn trc_stream_text(
     };
     let code = match stream.part(chunk) {
         Some(part) => {
-            *count = copy_from(part.text(), at, room);
+            *count = copy_on(part.texts(), place, room);
             DONE
         }
         None => NO_PART,
