@@ -3,7 +3,7 @@
 use crate::sums::mix;
 use std::alloc::{AllocError, Global};
 use tr_command::{Request, parse};
-use tr_lines::{Found, LineReader, ReadFault, is_skipped_line, push_words};
+use tr_lines::{Found, LineReader, ReadFault, Words, is_skipped_line, push_words};
 use tr_record::ByteSource;
 
 /// How many lines were commands, how many were bad, and a sum over what the commands ask for.
@@ -39,12 +39,12 @@ fn parse_line(alloc: Global, line: Option<&str>, parsed: &mut Parsed) -> Result<
         parsed.bad = parsed.bad.wrapping_add(1);
         return Ok(());
     };
-    let mut words = Vec::new(alloc);
-    words.push("tr_bench")?;
-    push_words(&mut words, text)?;
-    if is_skipped_line(&words[1..]) {
+    if is_skipped_line(text) {
         return Ok(());
     }
+    let mut words = Words::new(alloc);
+    words.push("tr_bench")?;
+    push_words(&mut words, text)?;
     match parse(alloc, words.as_slice())? {
         Some(request) => {
             parsed.commands = parsed.commands.wrapping_add(1);
@@ -64,7 +64,11 @@ pub fn parse_all<S: ByteSource>(alloc: Global, source: &mut S) -> Result<Parsed,
         sum: 0,
     };
     for _ in 0..u64::MAX {
-        let found = reader.read_line(source)?;
+        let found = if reader.take_line()? {
+            Found::Whole
+        } else {
+            reader.read_on(source)?
+        };
         parse_line(alloc, reader.text(), &mut parsed)?;
         if found == Found::Last {
             break;
