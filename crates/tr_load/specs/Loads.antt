@@ -50,8 +50,12 @@ pub record IsOfLoad (threads : ℕ) (session : SessionOf StreamState) : Type 0 w
   pub planned : IsSessionOf plan session
   pub many : length session.streams ≡ threads
 
+-- nothing was cleared
+abbrev pub IsUncleared : Result Report Mismatch → Type 0
+IsUncleared outcome = IfOk outcome (λ (report : Report). report.cleared ≡ 0)
+
 -- a load's session was ended at the moment that is the number of records, its streams are judged by what its feeders logged and
--- agree with it, and a watcher, if there was one, learned of as many records as were offered
+-- agree with it, nothing of it was cleared, and a watcher, if there was one, learned of as many records as were offered
 pub record IsLoaded (threads records : ℕ) (session : SessionOf StreamState) (outcome : Result Report Mismatch) (watched : Option ℕ) : Type 0 where
   pub own : IsOfLoad threads session
   pub ended : IsEnded records session.book
@@ -60,4 +64,5 @@ pub record IsLoaded (threads records : ℕ) (session : SessionOf StreamState) (o
   pub judged : IsJudged logs session.streams outcome
   pub agree : IsOk outcome
   pub offered : IfOk outcome (λ (report : Report). report.offered ≡ threads * records)
+  pub uncleared : IsUncleared outcome
   pub learned : IfSome watched (λ (n : ℕ). n ≡ threads * records)

@@ -1,7 +1,7 @@
 //! What is done with a load when its threads have ended.
 
 ghost use Rattle.std.specs.Prelude.{◌≡◌, IfOk, IsOk, IsTrue, map};
-ghost use Rattle.tr_load.specs.Loads.{AllHave, IsEnded, IsJudged, log_in};
+ghost use Rattle.tr_load.specs.Loads.{AllHave, IsEnded, IsJudged, IsUncleared, log_in};
 ghost use Rattle.tr_pool.specs.Fed.{AreLogsOf};
 ghost use Rattle.tr_seats.specs.Settling.{IsSessionOf};
 
@@ -63,11 +63,21 @@ fn judged(settled: &Settled, logs: &[Log]) -> Result<Report, Mismatch>
     reconcile(settled, logs)
 }
 
+/// Whether nothing was cleared.
+fn is_uncleared(outcome: &Result<Report, Mismatch>) -> bool
+    ensures { IsTrue result → IsUncleared outcome.now }
+{
+    match outcome {
+        Ok(report) => report.cleared == 0,
+        Err(_) => true,
+    }
+}
+
 /// Settles the session, and compares it with the logs.
 ///
 /// # Errors
 ///
-/// `Misplaced` if it isn't settled, wasn't stopped and rotated, or an offer was refused.
+/// `Misplaced` if it isn't settled, wasn't stopped and rotated, an offer was refused, or a record cleared.
 pub(crate) fn settled<N: Names>(
     shared: Shared<N>,
     producers: Vec<Producer<N>>,
@@ -77,7 +87,7 @@ pub(crate) fn settled<N: Names>(
     watched: Option<u128>,
 ) -> Result<Loaded, LoadFault>
     ensures judged { IfOk result (λ l. IsJudged logs.now l.settled.streams l.outcome × IsSessionOf N.plan l.settled
-        × IsEnded records l.settled.book × AllHave records logs.now) }
+        × IsEnded records l.settled.book × AllHave records logs.now × IsUncleared l.outcome) }
     ensures agree { AreLogsOf producers.items logs.now → IfOk result (λ l. IsOk l.outcome) }
     ensures watched { IfOk result (λ l. l.watched ≡ watched) }
 {
@@ -88,6 +98,9 @@ pub(crate) fn settled<N: Names>(
         return Err(LoadFault::Misplaced);
     }
     let outcome = judged(&settled, logs);
+    if !is_uncleared(&outcome) {
+        return Err(LoadFault::Misplaced);
+    }
     Ok(Loaded {
         settled,
         outcome,

@@ -1,13 +1,14 @@
 //! What the parts of every stream hold, and where they are written.
 
 ghost use Rattle.std.specs.Prelude.{◌≡◌, ◌≢◌, ◌<◌, ◌≤◌, ℕ, Bool, IsTrue, List, [], length};
-ghost use Rattle.std.specs.List.{All};
+ghost use Rattle.std.specs.List.{All, AllByRecursion};
 ghost use Rattle.tr_export.specs.Archives.{archives_made};
 ghost use Rattle.tr_export.specs.Making.{Makings};
 ghost use Rattle.tr_export.specs.Paths as export;
 ghost use Rattle.tr_folders.specs.Tree.{Tree};
 ghost use Rattle.tr_recorded.specs.Made.{Shows, tree_made};
 ghost use Rattle.tr_recorded.specs.Recorded.{HasItsArchives, NoneReleased, recorded_of, session_recorded_text};
+ghost use Rattle.tr_session.specs.Sizes.{HoldsItsParts};
 ghost use Rattle.tr_stream.specs.Fates.{all_parts};
 ghost use Rattle.tr_survey.specs.Order.{Numbered};
 ghost use Rattle.tr_survey.specs.Paths.{archives_folder, file_path, path_of};
@@ -49,14 +50,15 @@ fn bytes_fit(bytes: &[u8])
 {}
 
 /// What is written of a session to a folder that was empty is whole to a survey, if it has an archive and no part of one was
-/// released: the survey says just its archives, its streams, and what each of them lost. Without an archive nothing is written, and
-/// there is no session. It does nothing but look at each stream.
+/// released, as after sharing: the survey says just its archives, its streams, and what each of them lost. Without an archive
+/// nothing is written, and there is no session. It does nothing but look at each stream.
 pub fn what_is_written_is_whole<A: Allocator>(session: &Session<A>)
     ensures whole { (asked : Bool) (t : Tree) (dir name : List ℕ) → IsTrue (is_name name) → session.now.book.archives ≢ []
         → HasItsArchives session.now → Shows t dir (archives_made dir name session.now)
         → survey_of asked t dir ≡ told (session_recorded_text asked name session.now) (Faults 0) }
     ensures none { (asked : Bool) (t : Tree) (dir name : List ℕ) → session.now.book.archives ≡ []
         → Shows t dir (archives_made dir name session.now) → survey_of asked t dir ≡ told [] NoSession }
+    ensures held { AllByRecursion HoldsItsParts session.now.streams → HasItsArchives session.now }
 {
     session.book().every_book_obeys();
     let uuid = session.book().uuid();

@@ -14,8 +14,10 @@ use Rattle.tr_accounts.specs.Takes.{WasTaken}
 use Rattle.tr_accounts.specs.declared.step.StreamStep.{StreamStep}
 use Rattle.tr_journal.specs.Journals.{IsSeatOf, JournalState, SeatState, journal_after, new_seat}
 use Rattle.tr_journal.specs.Views.{all_done, done_by, line}
+use Rattle.tr_seats.proofs.HeldLemmas.{held-clear, held-cut, held-new, held-offer, held-take}
 use Rattle.tr_seats.specs.Accounts.{IsAccountOf, IsKeptAccount, IsNewAccount, IsOperatedBy, IsSeatAt, IsTakenFrom}
 use Rattle.tr_seats.specs.Plans.{IsUnused}
+use Rattle.tr_session.specs.Sizes.{HoldsItsParts}
 use Rattle.tr_stream.proofs.TakeLemmas.{starts}
 use Rattle.tr_stream.specs.Kept.{IsKept}
 use Rattle.tr_stream.specs.StandsFor.{StandsFor}
@@ -39,6 +41,7 @@ kept-new table stream made account at new none unused = record {
   lines_are = subst (λ lines. IsJournalOf lines stream) (sym new.0)
       (journal-new stream (subst (λ (t : StreamState). StandsFor t new_history) (sym unused) (starts stream.config)));
   made_is = omega (arith, new.1, none);
+  held = held-new stream unused;
 }
 
 pub seat-new : (table : TableId) (who : ℕ) (account : JournalState StreamStep) (seat : SeatState StreamStep) → account.table ≡ table
@@ -52,11 +55,12 @@ seat-new table who account seat at is = (
 -- after a call was noted
 module _ (table : TableId) (s : StreamState) (made : ℕ) (before after : JournalState StreamStep) (was : IsKeptAccount table s made before) where
   noted : (who : ℕ) (step : StreamStep) (t u : StreamState) → after ≡ journal_after who step before → t ≡ u
-      → IsJournalOf (before.lines ++ line who step ∷ []) u → IsKeptAccount table t made after
-  noted who step t u is same lines = record {
+      → IsJournalOf (before.lines ++ line who step ∷ []) u → HoldsItsParts u → IsKeptAccount table t made after
+  noted who step t u is same lines held = record {
     table_is = ap (λ (j : JournalState StreamStep). j.table) is ∙ was.table_is;
     lines_are = journal-moved before after who step t u is same lines;
     made_is = ap (λ (j : JournalState StreamStep). j.made) is ∙ was.made_is;
+    held = subst HoldsItsParts (sym same) held;
   }
 
   pub kept-offer : (t : StreamState) (who moment id : ℕ) (payload : List ℕ) (told : Result Offered OfferFault) → who ≡ producer_seat → IsKept s
@@ -64,31 +68,31 @@ module _ (table : TableId) (s : StreamState) (made : ℕ) (before after : Journa
       → after ≡ journal_after who (offer_step moment id payload told) before → IsKeptAccount table t made after
   kept-offer t who moment id payload told mine kept answer same is =
       noted who (offer_step moment id payload told) t (state_after_offer moment id payload s) is same
-      (journal-offer before.lines s was.lines_are who moment id payload told mine kept answer)
+      (journal-offer before.lines s was.lines_are who moment id payload told mine kept answer) (held-offer s was.held moment id payload)
 
   pub kept-take : (t : StreamState) (who : ℕ) (told : Result Taken TakeFault) → desk_seat < who → told ≡ state_take_answer s
       → t ≡ state_after_take s → after ≡ journal_after who (take_step told) before → IsKeptAccount table t made after
   kept-take t who told theirs answer same is =
       noted who (take_step told) t (state_after_take s) is same
-      (journal-take before.lines s was.lines_are who told theirs answer)
+      (journal-take before.lines s was.lines_are who told theirs answer) (held-take s was.held)
 
   pub kept-cut : (t : StreamState) (who moment : ℕ) (told : Result CutDone CutFault) → who ≡ desk_seat → told ≡ state_cut_answer moment s
       → t ≡ state_after_cut moment s → after ≡ journal_after who (cut_step moment told) before → IsKeptAccount table t made after
   kept-cut t who moment told desk answer same is =
       noted who (cut_step moment told) t (state_after_cut moment s) is same
-      (journal-cut before.lines s was.lines_are who moment told desk answer)
+      (journal-cut before.lines s was.lines_are who moment told desk answer) (held-cut s was.held moment)
 
   pub kept-clear : (t : StreamState) (who : ℕ) (told : Result Cleared ClearFault) → who ≡ desk_seat → told ≡ state_clear_answer s
       → t ≡ state_after_clear s → after ≡ journal_after who (clear_step told) before → IsKeptAccount table t made after
   kept-clear t who told desk answer same is =
       noted who (clear_step told) t (state_after_clear s) is same
-      (journal-clear before.lines s was.lines_are who told desk answer)
+      (journal-clear before.lines s was.lines_are who told desk answer) (held-clear s was.held)
 
   pub kept-switch : (t : StreamState) (who : ℕ) (active : Bool) → who ≡ desk_seat → t ≡ state_after_switch active s
       → after ≡ journal_after who (switch_step active) before → IsKeptAccount table t made after
   kept-switch t who active desk same is =
       noted who (switch_step active) t (state_after_switch active s) is same
-      (journal-switch before.lines s was.lines_are who active desk)
+      (journal-switch before.lines s was.lines_are who active desk) was.held
 
 -- what a producer's seat has
 pub account-of : {made : ℕ} → (table : TableId) (s : StreamState) (account : JournalState StreamStep) (seat : SeatState StreamStep)

@@ -5,6 +5,7 @@ pub mod CountLemmas
 pub mod CutLemmas
 pub mod DeskLemmas
 pub mod DrainerLemmas
+pub mod HeldLemmas
 pub mod HistoryLemmas
 pub mod Joins
 pub mod NameLemmas

@@ -1,5 +1,6 @@
 -- A session whose seats were settled has its streams.
 use Rattle.std.proofs.Common.{◌≡◌, ℕ, ◌<◌, length, get_or, List, Some, ap, ◌∙◌, subst, sym, arith}
+use Rattle.std.specs.List.{AllByRecursion}
 use Rattle.std.specs.Prelude.{slice_get}
 use Rattle.std.proofs.lemmas.List.{length-map}
 use Rattle.std.proofs.lemmas.Option.{get_or_from_slice_get, slice_get-map, slice_get_within}
@@ -12,6 +13,7 @@ use Rattle.tr_seats.specs.Settling.{IsSessionOf, streams_of}
 use Rattle.tr_seats.specs.Slots.{SlotState}
 use Rattle.tr_seats.specs.Sums.{totals_in}
 use Rattle.tr_session.specs.Session.{HasItsStreams, IsStreamOf, session_of}
+use Rattle.tr_session.specs.Sizes.{HoldsItsParts}
 use Rattle.tr_session_book.specs.Book.{SessionBookState}
 use Rattle.tr_session_book.specs.BookSteps.{chunks_closed}
 use Rattle.tr_stream.specs.State.{StreamState}
@@ -57,8 +59,8 @@ module _ (plan : PlanState) (book : SessionBookState) (consumed cuts cleared : L
           ∙ sym (amount-at cuts i none wide) ∙ desk.operator i below
 
   -- what was planned is as it was
-  pub settled-planned : IsSessionOf plan (session_of book (streams_of slots))
-  settled-planned = record {
+  pub settled-planned : AllByRecursion HoldsItsParts (streams_of slots) → IsSessionOf plan (session_of book (streams_of slots))
+  settled-planned held = record {
     book = desk.book_is;
     many = length-map slots stream_in ∙ len;
     streams = λ i t at.
@@ -67,6 +69,7 @@ module _ (plan : PlanState) (book : SessionBookState) (consumed cuts cleared : L
         let own = planned i was.0 (slice_get_within slots i was.0 was.1) in
         subst (λ (x : StreamState). IsPlanned plan i x.config) was.2
         (subst (λ (x : SlotState). IsPlanned plan i x.stream.config) there own);
+    held = held;
   }
 
   -- each stream is that of its thread, and the book says how many parts it closed

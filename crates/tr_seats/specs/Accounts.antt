@@ -13,6 +13,7 @@ use Rattle.tr_journal.specs.Journals.{JournalState, SeatState, seat_after}
 use Rattle.tr_journal.specs.Views.{all_done, done_by}
 use Rattle.tr_journal.specs.declared.rule.Line.{Line}
 use Rattle.tr_seats.specs.Books.{Books, books_at}
+use Rattle.tr_session.specs.Sizes.{HoldsItsParts}
 use Rattle.tr_stream.specs.State.{StreamState}
 use Rattle.tr_stream.specs.declared.answers.ClearFault.{ClearFault}
 use Rattle.tr_stream.specs.declared.answers.Cleared.{Cleared}
@@ -35,6 +36,8 @@ pub record IsKeptAccount (table : TableId) (stream : StreamState) (drainers : �
   pub table_is : account.table ≡ table
   pub lines_are : IsJournalOf account.lines stream
   pub made_is : account.made ≡ drainers + 2
+  -- no call of a slot releases a part
+  pub held : HoldsItsParts stream
 
 -- ---- producers
 

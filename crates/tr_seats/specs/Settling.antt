@@ -1,6 +1,6 @@
 -- What settling answers.
 use Rattle.std.specs.Prelude.{◌≡◌, ◌≢◌, ℕ, ◌+◌, ◌<◌, ◌≤◌, ◌==◌, List, Some, length, map, sum, count_by, slice_get, slice_index, slice_index_or, All}
-use Rattle.std.specs.List.{sum_by}
+use Rattle.std.specs.List.{AllByRecursion, sum_by}
 use Rattle.tr_accounts.specs.declared.step.StreamStep.{StreamStep}
 use Rattle.tr_journal.specs.Views.{all_done, done_by}
 use Rattle.tr_journal.specs.declared.rule.Line.{Line}
@@ -18,6 +18,7 @@ use Rattle.tr_seats.specs.declared.settling.SettleError.{SettleError}
 use Rattle.tr_seats.specs.declared.settling.SettleError.TheVariants.{ProducerMissing, DrainerMissing, Misplaced}
 use Rattle.tr_seats.specs.declared.totals.Totals.{Totals}
 use Rattle.tr_session.specs.Session.{SessionOf}
+use Rattle.tr_session.specs.Sizes.{HoldsItsParts}
 use Rattle.tr_session_book.specs.Book.{SessionBookState}
 use Rattle.tr_stream.specs.State.{StreamState, in_parts, in_ring}
 
@@ -33,11 +34,12 @@ abbrev pub streams_of : List SlotState → List StreamState
 streams_of slots = map (λ (s : SlotState). s.stream) slots
 
 -- a session is that of a plan: what was planned of its book is as it was, and its streams are the planned ones, in order of
--- number
+-- number; and none of their parts was released
 pub record IsSessionOf (plan : PlanState) (s : SessionOf StreamState) : Type 0 where
   pub book : IsOfPlan plan.session.book s.book
   pub many : length s.streams ≡ length plan.books
   pub streams : (i : ℕ) (t : StreamState) → slice_get s.streams i ≡ Some t → IsPlanned plan i t.config
+  pub held : AllByRecursion HoldsItsParts s.streams
 
 -- the sums of what all seats have: the producers', the drainers' and the desk's
 abbrev pub totals_of_seats : List ProducerState → List DrainerState → DeskState → Totals

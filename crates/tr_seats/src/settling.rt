@@ -1,5 +1,6 @@
 //! The settling of all seats, and why a session isn't settled.
 
+ghost use Rattle.std.specs.List.{AllByRecursion};
 ghost use Rattle.std.specs.Prelude.{◌≡◌, ◌+◌, ◌<◌, ◌≤◌, ◌==◌, ◌↔◌, ℕ, [], IsTrue, MatchOption, count_by, length, map, slice_index_or, slice_set, sum, sum_by, vec_capacity, vec_len};
 ghost use Rattle.tr_ledger.specs.Ledgers.{SeatState, seat_state};
 ghost use Rattle.tr_seats.specs.Accounts.{IsAccountOf, IsTakenFrom};
@@ -12,6 +13,7 @@ ghost use Rattle.tr_seats.specs.Settling.{AddUp, AreAccountsOf, AreAllMade, AreI
 ghost use Rattle.tr_seats.specs.Slots.{AreJoined, AreSeatsOf, IsOwn, ProducerState, SlotState, amounts_of};
 ghost use Rattle.tr_seats.specs.Sums.{totals_in, totals_of};
 ghost use Rattle.tr_session.specs.Session.{session_of};
+ghost use Rattle.tr_session.specs.Sizes.{HoldsItsParts};
 
 use crate::account::StreamSeat;
 use crate::desk::Desk;
@@ -377,7 +379,8 @@ fn streams_out<N: Names, A: Allocator>(
     mut room: Vec<Stream<A>, A>,
 ) -> Vec<Stream<A>, A>
     requires { (vec_len room ≡ 0) × (length slots.items ≤ vec_capacity room) }
-    ensures { result.items ≡ streams_of slots.items }
+    ensures streams { result.items ≡ streams_of slots.items }
+    ensures held { AllByRecursion HoldsItsParts result.items }
 {
     for slot in slots {
         room.push_reserved(slot.into_stream());

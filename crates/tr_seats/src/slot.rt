@@ -12,6 +12,7 @@ ghost use Rattle.tr_seats.specs.Slots.{IsOwn, producer_after, slot_after_offer, 
 ghost use Rattle.tr_ledger.specs.Ledgers.{seat_state};
 ghost use Rattle.tr_seats.specs.Books.{IsPlanned, IsTooBig, books_at};
 ghost use Rattle.tr_seats.specs.Sums.{totals_in};
+ghost use Rattle.tr_session.specs.Sizes.{HoldsItsParts};
 ghost use Rattle.tr_session_book.specs.BookSteps.{is_active};
 ghost use Rattle.tr_terms.specs.declared.limits.TheConstants.{MOST_OFFERS};
 ghost use Rattle.tr_stream.specs.Consistent.{IsConsistent};
@@ -175,10 +176,11 @@ impl<N: Names, A: Allocator> Slot<N, A> {
         self.stream.shows_kept();
     }
 
-    /// The stream itself, to read: the one that the plan made for this number.
+    /// The stream itself, to read: the one that the plan made for this number. None of its parts was released.
     pub fn stream(&self) -> &Stream<A>
         ensures value { result.now ≡ self.now.stream }
         ensures planned { IsPlanned N.plan self.now.number self.now.stream.config }
+        ensures held { HoldsItsParts self.now.stream }
     {
         &self.stream
     }
@@ -408,7 +410,8 @@ impl<N: Names, A: Allocator> Slot<N, A> {
 
     /// The stream, out of its slot.
     pub(crate) fn into_stream(self) -> Stream<A>
-        ensures { result ≡ self.stream }
+        ensures value { result ≡ self.stream }
+        ensures held { HoldsItsParts self.stream }
     {
         let Slot {
             number: _,

@@ -1,14 +1,20 @@
 -- How much a session's archives hold, and how much was cleared.
-use Rattle.std.specs.Prelude.{ℕ, is_some, if◌then◌else◌}
-use Rattle.std.specs.List.{sum_by}
+use Rattle.std.specs.Prelude.{◌≡◌, ℕ, None, is_some, if◌then◌else◌}
+use Rattle.std.specs.List.{AllByRecursion, sum_by}
 use Rattle.std.specs.Option.{option_map_or}
 use Rattle.tr_book.specs.Parts.{PartState, part_bytes, part_packets, part_records}
 use Rattle.tr_session.specs.Session.{SessionOf}
+use Rattle.tr_stream.specs.Fates.{all_parts}
 use Rattle.tr_stream.specs.Rules.{StreamRules}
+use Rattle.tr_stream.specs.State.{StreamState}
 
 -- one if the part was released
 abbrev pub part_released : PartState → ℕ
 part_released p = if is_some p.released then 1 else 0
+
+-- none of a stream's parts was released
+abbrev pub HoldsItsParts : StreamState → Type 0
+HoldsItsParts s = AllByRecursion (λ (p : PartState). p.released ≡ None) (all_parts s.parts)
 
 -- how many packets, records and bytes the parts of a chunk have over all streams; a stream without that part adds none
 abbrev pub archive_packets : {S : Type 0} → StreamRules S → ℕ → SessionOf S → ℕ

@@ -46,8 +46,8 @@
 //!   snapshots; neither is so refused in the other kind of session. In a snapshot session, too, a tick is idle, no rotation
 //!   goes on or ends, and nothing is taken.
 //! - Only its sole owner can settle it, and no lock is taken. It is refused for a missing producer if and only if there isn't
-//!   one for each stream. Each stream has just what its producer offered, and at least what the drainers took of it; the
-//!   totals are the sums over its streams.
+//!   one for each stream. Each stream has just what its producer offered, and at least what the drainers took of it, and holds
+//!   all packets of its chunks: none was released. The totals are the sums over its streams.
 //! - If it isn't settled, producers and drainers come back as they were, and the session is shared again.
 //!
 //! Within the crate the same is proved of what is lent to operators: which stream the pending rotation cuts next, its cut, a

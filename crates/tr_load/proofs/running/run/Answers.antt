@@ -3,7 +3,7 @@ use Rattle.std.proofs.lemmas.List.{length-replicate}
 use Rattle.std.specs.List.{sum_by}
 use Rattle.std.specs.Prelude.{IfOk, IfSome, IsOk, is_some, nat_lt}
 use Rattle.tr_load.specs.Crews.{HasFed}
-use Rattle.tr_load.specs.Loads.{AllHave, AreLogs, IsEnded, IsJudged, IsLoaded, log_in}
+use Rattle.tr_load.specs.Loads.{AllHave, AreLogs, IsEnded, IsJudged, IsLoaded, IsUncleared, log_in}
 use Rattle.tr_load.proofs.LoadLemmas.{if_ok_too, logs_fed, logs_of, written_back}
 use Rattle.tr_load.proofs.WatchLemmas.{all_published, if-both, learned-too, of-same, popped-of, some-if, some-same}
 use Rattle.tr_load.proofs.WorkLemmas.{all_offered}
@@ -69,7 +69,7 @@ returns-clause-loaded g c =
     (c.args.threads * c.args.records) c.learned-watched.ensures.learned c.learned-watched.ensures.most
     (ap (sum_by (λ (p : ProducerState). p.published)) handed ∙ sums.0, ap (sum_by (λ (p : ProducerState). p.offered)) handed ∙ sums.1) in
     let P : Loaded → Type 0 = λ l. IsJudged c.as_slice-2.result.now l.settled.streams l.outcome × IsSessionOf plan l.settled
-    × IsEnded c.args.records l.settled.book × AllHave c.args.records c.as_slice-2.result.now in
+    × IsEnded c.args.records l.settled.book × AllHave c.args.records c.as_slice-2.result.now × IsUncleared l.outcome in
     let fed_logs : AreLogsOf (map (λ (b : Fed). b.producer) fed) (map (λ (b : Fed). log_in b.producer.number b.log.items) fed) =
     logs_fed (λ (b : Fed). b.producer) (λ (b : Fed). b.log.items) (λ (w : Vec Item Global). w.items) fed works producers
     c.args.threads (back ∙ same ∙ asked) many new (λ i p w b low. did i p w b (omega (arith, low, asked, all))) in
@@ -95,6 +95,7 @@ returns-clause-loaded g c =
       judged = is.0.0.0;
       agree = is.1;
       offered = all_offered c.args.threads c.args.records c.as_slice-2.result.now l.settled.streams l.outcome is.0.0.3 (enough l.settled is.0.0.1) is.0.0.0;
+      uncleared = is.0.0.4;
       learned = subst (λ w. IfSome w (λ n. n ≡ c.args.threads * c.args.records)) (sym is.0.1) (learned is.0.0.3);
     }) (if-both (λ l. P l × W l) (λ l. IsOk l.outcome) c.settled.result
     (if-both P W c.settled.result c.settled.ensures.judged c.settled.ensures.watched) agree)

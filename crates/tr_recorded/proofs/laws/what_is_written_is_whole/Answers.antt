@@ -2,6 +2,7 @@ use Rattle.std.proofs.Common.{◌≡◌, ◌∙◌, ◌<◌, ◌≤◌, ◌^◌,
 use Rattle.std.proofs.lemmas.Option.{slice_get_within}
 use Rattle.std.specs.List.{All}
 use Rattle.std.specs.Prelude.{slice_get}
+use Rattle.tr_recorded.proofs.HeldLemmas.{held-archives}
 use Rattle.tr_recorded.proofs.SessionLemmas.{Keeps, no-session, whole-session}
 use Rattle.tr_recorded.proofs.laws.what_is_written_is_whole.Goals as goal
 use Rattle.tr_session_book.specs.Book.{SessionBookState}
@@ -34,3 +35,6 @@ returns-clause-whole g c =
 
 pub returns-clause-none : goal.returns-clause-none
 returns-clause-none g c = no-session c.args.session.now
+
+pub returns-clause-held : goal.returns-clause-held
+returns-clause-held g c = held-archives c.args.session.now

@@ -1,4 +1,5 @@
 use Rattle.std.proofs.Common.{◌≡◌, ℕ, ◌+◌, ◌<◌, List, [], ap, arith, get_or, length, refl, subst, sym, ◌∙◌}
+use Rattle.std.specs.List.{AllByRecursion}
 use Rattle.std.proofs.lemmas.Grind.{common_steps}
 use Rattle.std.proofs.lemmas.List.{length-map}
 use Rattle.tr_accounts.specs.declared.step.StreamStep.{StreamStep}
@@ -19,6 +20,7 @@ use Rattle.tr_seats.specs.Settling.{AddUp, AreInPlace, HaveCleared, HaveConsumed
 use Rattle.tr_seats.specs.Slots.{AreSeatsOf, IsOwn, ProducerState, SlotState, amounts_of}
 use Rattle.tr_seats.specs.Sums.{totals_in, totals_of}
 use Rattle.tr_session.specs.Session.{HasItsStreams, session_of}
+use Rattle.tr_session.specs.Sizes.{HoldsItsParts}
 use Rattle.tr_session_book.specs.Book.{SessionBookState}
 use Rattle.tr_stream.specs.State.{StreamState}
 use Rattle.tr_terms.specs.declared.session_mode.SessionMode.TheVariants.{Snapshot}
@@ -63,7 +65,7 @@ from_parts-requires g c =
     let cuts : c.as_mut_slice-4.result.now ≡ c.desk.inside.cuts.items = c.as_mut_slice-4.ensures.value in
     let back = written-twice all c.join_all.new.slots c.join_producers.new.slots c.args.slots.len (c.join_all.ensures.slots ∙ slots)
     c.args.slots.ok.0 (c.join_producers.ensures.slots ∙ c.as_mut_slice-7.ensures.value) in
-    let items : c.streams_out-streams.result.items ≡ streams_of all = c.streams_out-streams.ensures ∙ ap streams_of back in
+    let items : c.streams_out-streams.result.items ≡ streams_of all = c.streams_out-streams.ensures.streams ∙ ap streams_of back in
     let planned : ArePlanned plan all = subst (ArePlanned plan) slots c.join_all.ensures.planned in
     let cut : AreCutAs (c.desk.inside.cuts.items, all) = subst AreCutAs (λ j. (cuts j, slots j)) c.join_all.ensures.cut in
     subst (λ (x : SessionBookState × List StreamState). HasItsStreams (session_of x.0 x.1)) (λ j. (sym c.into_parts-book.ensures.book j, sym items j))
@@ -78,21 +80,21 @@ returns-clause-planned g c =
     let cuts : c.as_mut_slice-4.result.now ≡ c.desk.inside.cuts.items = c.as_mut_slice-4.ensures.value in
     let back = written-twice all c.join_all.new.slots c.join_producers.new.slots c.args.slots.len (c.join_all.ensures.slots ∙ slots)
     c.args.slots.ok.0 (c.join_producers.ensures.slots ∙ c.as_mut_slice-7.ensures.value) in
-    let items : c.streams_out-streams.result.items ≡ streams_of all = c.streams_out-streams.ensures ∙ ap streams_of back in
+    let items : c.streams_out-streams.result.items ≡ streams_of all = c.streams_out-streams.ensures.streams ∙ ap streams_of back in
     let planned : ArePlanned plan all = subst (ArePlanned plan) slots c.join_all.ensures.planned in
     let cut : AreCutAs (c.desk.inside.cuts.items, all) = subst AreCutAs (λ j. (cuts j, slots j)) c.join_all.ensures.cut in
     let made : c.of.result ≡ session_of c.desk.inside.book (streams_of all) =
     c.of.ensures ∙ c.from_parts.ensures ∙ (λ j. session_of (c.into_parts-book.ensures.book j) (items j)) in
     subst (IsSessionOf plan) (sym made)
     (settled-planned plan c.desk.inside.book c.desk.inside.consumed.items c.desk.inside.cuts.items c.desk.inside.cleared.items all c.desk.invariant c.requires.slots planned
-    cut)
+    cut (subst (AllByRecursion HoldsItsParts) items c.streams_out-streams.ensures.held))
 
 pub returns-clause-session : goal.returns-clause-session
 returns-clause-session g c =
     let same = c.join_all.ensures.slots ∙ c.as_mut_slice.ensures.value in
     let back = written-twice c.args.slots.items c.join_all.new.slots c.join_producers.new.slots c.args.slots.len same c.args.slots.ok.0
     (c.join_producers.ensures.slots ∙ c.as_mut_slice-7.ensures.value) in
-    let items : c.streams_out-streams.result.items ≡ streams_of c.args.slots.items = c.streams_out-streams.ensures ∙ ap streams_of back in
+    let items : c.streams_out-streams.result.items ≡ streams_of c.args.slots.items = c.streams_out-streams.ensures.streams ∙ ap streams_of back in
     let book : c.into_parts-book.result.0 ≡ c.args.desk.book = c.into_parts-book.ensures.book ∙ ap (λ (d : DeskState). d.book) c.desk.view_is in
     c.of.ensures ∙ c.from_parts.ensures ∙ (λ j. session_of (book j) (items j))
 
