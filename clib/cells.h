@@ -130,6 +130,20 @@ uint32_t trc_spares_make(trc_spares *, uint64_t size, uint64_t count);
 uint32_t trc_stream_keep_spares(trc_stream *, trc_spares *);
 void trc_spares_free(trc_spares *);
 
+/* A look copies what the ring holds. So that it needn't copy all of it while the stream's lock is held, a caller begins copies
+ * ahead, copies a piece at a time, and looks when little is left. Until then the stream keeps them; the look hands them out. */
+
+/* How many pages `begin_copies` has a use for, and of how many bytes. CLOSED. */
+uint32_t trc_stream_lacking_copies(trc_stream *, uint64_t *size, uint64_t *count);
+/* Begins copies in these pages, as far as they go and if they have the ring's size; those that are left stay in their handle.
+ * The stream shows what it showed. CLOSED (stream, then pages). */
+uint32_t trc_stream_begin_copies(trc_stream *, trc_spares *);
+/* Copies the next bytes, at most so many; `copied`: how many it was. The stream shows what it showed. CLOSED. */
+uint32_t trc_stream_copy_more(trc_stream *, uint64_t most, uint64_t *copied);
+/* Reads the first bytes of the sub-buffers from number `from` to before number `to`, and of their copies, so that a cut, a clear
+ * or a look soon after doesn't wait for memory at each of them. `sum` is one of some of these bytes. CLOSED. */
+uint32_t trc_stream_warm(trc_stream *, uint64_t from, uint64_t to, uint32_t *sum);
+
 /* ---- A session's book: what it keeps beside its streams ---------------------------------------------------------------- */
 
 typedef struct { void *at; bool live; } trc_book;

@@ -10,7 +10,7 @@
 #include <sys/stat.h>
 #include <unistd.h>
 
-enum { FILE_NAME = 96, PATH = 4096, PIECE = 16384 };
+enum { FILE_NAME = 96, PATH = 4096 };
 
 /* Puts together a path. `otherwise` if it is too long. */
 #define PUT(path, otherwise, ...) \
@@ -54,6 +54,7 @@ static tracerd_status write_file(tracerd_session *t, const char *below, slot *s,
     uint64_t size = strlen(name);
     trc_place place = {0};
     trc_snap snap = {0};
+    if (s && moment) copy_ahead(s);
     tracerd_status status = !s ? TRACERD_OK : LOCKED(&t->desk,
         trc_book_file_name(&t->book, s->number, (uint8_t *)name, FILE_NAME, &size) ?:
         !moment ? TRACERD_OK : LOCKED(&s->lock, trc_book_look(&t->book, &s->stream, *moment, &snap)));

@@ -12,6 +12,7 @@
 
 enum { STREAMS = 1024, NAME = 64 };
 enum { APART = 128, ROOM = 65536 };
+enum { PIECE = 16384 }; /* the most bytes that are copied while a stream is held once */
 enum { OFF, ON, BUSY }; /* the drainer */
 
 /* A producer and its stream, in memory that no other slot's thread touches, and that a child of fork finds as zeros: closed,
@@ -41,6 +42,10 @@ struct tracerd_session {
     sem_t bell; /* rung, it ends the drainer */
     pthread_t thread;
 };
+
+/* Copies what a slot's ring holds, ahead of a look and a piece at a time: so under the lock of the look little is left to copy.
+ * The slot isn't locked. */
+void copy_ahead(slot *s);
 
 /* ---- Calls are chained by `?:`, up to the first that is refused ---- */
 

@@ -6,7 +6,8 @@
 #include <sys/mman.h>
 #include <time.h>
 
-enum { SUB_BUFFERS = 64, SECOND = 1000000000, MOST_ROUNDS = 4 };
+enum { SUB_BUFFERS = 64, WARM = 8, SECOND = 1000000000 };
+enum { MOST_ROUNDS = 4, MOST_PIECES = 65536 }; /* of what is done ahead, since offers may never end */
 
 /* ---- A session is made ---- */
 
@@ -107,7 +108,15 @@ tracerd_status tracerd_trace(tracerd_producer *producer, uint32_t id, const void
     return tracerd_offer(producer, moment, id, payload, size, &(tracerd_offered){0});
 }
 
-enum next { TAKE, CUT };
+enum next { TAKE, CUT, LOOK };
+
+static void ask_lacking(slot *s, enum next next, uint64_t *size, uint64_t *count) {
+    switch (next) {
+        case TAKE: (void)trc_stream_lacking_for_take(&s->stream, size, count); break;
+        case CUT: (void)trc_stream_lacking_for_cut(&s->stream, size, count); break;
+        case LOOK: (void)trc_stream_lacking_copies(&s->stream, size, count); break;
+    }
+}
 
 /* Makes the pages that a slot's stream lacks for what comes next, and writes to all their memory, while its lock isn't held: so
  * no offer waits for memory. Whether it lacked some. Without memory it may lack them still, and then makes them itself. */
@@ -115,16 +124,40 @@ static bool stock(slot *s, enum next next) {
     uint64_t size, count = 0;
     trc_spares spares = {0};
     pthread_mutex_lock(&s->lock);
-    if (next == TAKE) (void)trc_stream_lacking_for_take(&s->stream, &size, &count);
-    else (void)trc_stream_lacking_for_cut(&s->stream, &size, &count);
+    ask_lacking(s, next, &size, &count);
     pthread_mutex_unlock(&s->lock);
     if (!count) return false;
     (void)trc_spares_make(&spares, size, count);
     pthread_mutex_lock(&s->lock);
-    (void)trc_stream_keep_spares(&s->stream, &spares);
+    if (next == LOOK) (void)trc_stream_begin_copies(&s->stream, &spares);
+    else (void)trc_stream_keep_spares(&s->stream, &spares);
     pthread_mutex_unlock(&s->lock);
-    trc_spares_free(&spares); /* still open if the stream's handle was closed */
+    trc_spares_free(&spares); /* still open if the stream had no use for all, or if its handle was closed */
     return true;
+}
+
+/* Has the first bytes of a slot's sub-buffers be in the processor's cache, a few at a time, for a call that goes over all of them
+ * while the slot is locked. */
+static void warm(slot *s) {
+    uint32_t sum;
+    for (uint64_t i = 0; i < SUB_BUFFERS; i += WARM) {
+        pthread_mutex_lock(&s->lock);
+        (void)trc_stream_warm(&s->stream, i, i + WARM, &sum);
+        pthread_mutex_unlock(&s->lock);
+    }
+}
+
+void copy_ahead(slot *s) {
+    uint64_t copied = PIECE;
+    for (int i = 0; i < MOST_ROUNDS && stock(s, LOOK); i++) {}
+    for (int i = 0; i < MOST_PIECES && copied == PIECE; i++) {
+        pthread_mutex_lock(&s->lock);
+        copied = 0;
+        (void)trc_stream_copy_more(&s->stream, PIECE, &copied);
+        pthread_mutex_unlock(&s->lock);
+        if (copied == PIECE) nanosleep(&(struct timespec){0, 1}, NULL); /* for a thread that waits to get the lock */
+    }
+    warm(s);
 }
 
 /* Moves the oldest closed sub-buffer into the current trace chunk. */
@@ -192,8 +225,8 @@ tracerd_status tracerd_drainer_stop(tracerd_session *t) {
 /* Cuts a slot's stream, which is the next of the pending rotation. */
 static tracerd_status cut(tracerd_session *t, slot *s) {
     trc_cut done;
-    int rounds = 0; /* offers may fill other pages meanwhile */
-    while (rounds < MOST_ROUNDS && stock(s, CUT)) rounds++;
+    for (int i = 0; i < MOST_ROUNDS && stock(s, CUT); i++) {}
+    warm(s);
     pthread_mutex_lock(&s->lock);
     tracerd_status status = trc_rotate_cut(&t->book, &s->stream, &done);
     pthread_mutex_unlock(&s->lock);
@@ -243,6 +276,7 @@ tracerd_status tracerd_tick(tracerd_session *t, uint64_t moment, tracerd_cause *
 static tracerd_status clear(tracerd_session *t, slot *s, uint64_t *records) {
     trc_cleared cleared = {0};
     trc_removed removed = {0};
+    warm(s);
     pthread_mutex_lock(&s->lock);
     tracerd_status status = trc_book_clear(&t->book, &s->stream, &removed, &cleared);
     pthread_mutex_unlock(&s->lock);

@@ -21,7 +21,8 @@
  * - a drain, also the drainer's: one step, whatever the sub-buffer's size; but a copy of it if less than a quarter of it is used;
  * - a rotation, also a tick's: one step for each sub-buffer with records; and such a copy of the one that is being filled;
  * - a write: a copy of 16 KiB;
- * - a snapshot: a copy of all that the ring holds;
+ * - a snapshot: a copy of 16 KiB, again and again; then one step for each sub-buffer, and a copy of what was offered since. Only
+ *   where offers fill the ring faster than it is copied that may be as much as the ring holds;
  * - a clear or a release: one step for each packet that is removed, and for each record of those with a loss before their end;
  * - a fate: a search of packets, and one step for each record of at most one of them;
  * - any other call: one step.

@@ -151,21 +151,22 @@ pub fn release_stream(
     }
 }
 
-/// What a stream shows at a moment, as its session allows.
+/// What a stream shows at a moment, as its session allows. Copies that were made ahead are handed out.
 pub fn look_at(
     book: &SessionBook<Global>,
-    stream: &Stream<Global>,
+    stream: &mut Stream<Global>,
     moment: Moment,
 ) -> Result<StreamSnap<Global>, SessionFault>
-    ensures value { result ≢ Err SessionFault.NoMemory → result ≡ look_answer moment book.now stream.now }
-    ensures memory { result ≡ Err SessionFault.NoMemory → IsOk (look_answer moment book.now stream.now) }
+    ensures value { result ≢ Err SessionFault.NoMemory → result ≡ look_answer moment book.now stream.old }
+    ensures same { stream.new ≡ stream.old }
+    ensures memory { result ≡ Err SessionFault.NoMemory → IsOk (look_answer moment book.now stream.old) }
 {
     let number = match number_in(book, stream) {
         Ok(number) => number,
         Err(fault) => return Err(fault),
     };
     match book.can_snap(number) {
-        Ok(()) => Ok(stream.peek(moment)?),
+        Ok(()) => Ok(stream.peek_out(moment)?),
         Err(fault) => Err(fault),
     }
 }

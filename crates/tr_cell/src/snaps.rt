@@ -46,11 +46,11 @@ pub extern "C" fn trc_book_look(
     let Some(book) = handle.take(alloc) else {
         return CLOSED;
     };
-    let Some(lent) = stream.take(alloc) else {
+    let Some(mut lent) = stream.take(alloc) else {
         handle.put(book);
         return CLOSED;
     };
-    let code = look_into(alloc, &book, &lent, moment, snap);
+    let code = look_into(alloc, &book, &mut lent, moment, snap);
     stream.put(lent);
     handle.put(book);
     code
@@ -60,18 +60,19 @@ pub extern "C" fn trc_book_look(
 fn look_into(
     alloc: Global,
     book: &SessionBook<Global>,
-    stream: &Stream<Global>,
+    stream: &mut Stream<Global>,
     moment: u64,
     snap: &mut SnapCell,
 ) -> u32
     ensures in_use { snap.old.value ≢ None → result ≡ IN_USE }
     ensures moment { snap.old.value ≡ None → LAST_MOMENT < moment → result ≡ BAD_MOMENT }
-    ensures value { snap.old.value ≡ None → moment ≤ LAST_MOMENT → result ≢ NO_MEMORY → MatchResult (look_answer moment book.now stream.now)
+    ensures value { snap.old.value ≡ None → moment ≤ LAST_MOMENT → result ≢ NO_MEMORY → MatchResult (look_answer moment book.now stream.old)
         (λ shown. (result ≡ DONE) × (snap.new.value ≡ Some shown))
         (λ fault. result ≡ code_number (session_fault_code fault)) }
-    ensures no_memory { result ≡ NO_MEMORY → IsOk (look_answer moment book.now stream.now) }
+    ensures no_memory { result ≡ NO_MEMORY → IsOk (look_answer moment book.now stream.old) }
     ensures refused { result ≢ DONE → snap.new.value ≡ snap.old.value }
     ensures open { result ≢ CLOSED }
+    ensures same { stream.new ≡ stream.old }
 {
     if let Some(open) = snap.take(alloc) {
         snap.put(open);

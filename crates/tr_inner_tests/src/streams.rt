@@ -2,6 +2,7 @@
 
 mod calls;
 mod clears;
+mod copies;
 mod gaps;
 mod looks;
 mod memory;

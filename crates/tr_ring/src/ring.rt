@@ -3,6 +3,7 @@
 ghost use Rattle.std.specs.Prelude.{◌≡◌, ◌+◌, ◌≤◌, ◌<◌, ◌^◌, [], ◌∷◌, ◌++◌, IfOk, Some, length, slice_get};
 ghost use Rattle.std.specs.Option.{option_map};
 ghost use Rattle.circular_buffer.specs.Buffer.{buffer};
+ghost use Rattle.tr_packet.specs.Packets.{IsPacket, contents};
 ghost use Rattle.tr_record.specs.Records.{entry};
 ghost use Rattle.tr_subbuf.specs.SubBuffer.{empty_buffer, sub_buffer};
 ghost use Rattle.tr_ring.specs.ClosedBuffer.{ClosedBuffer, closed_buffer};
@@ -18,6 +19,7 @@ use circular_buffer::HeapCircularBuffer;
 use std::alloc::{AllocError, Allocator, Global};
 use std::marker::Model;
 use std::mem;
+use tr_packet::{Head, PacketText};
 use tr_record::RecView;
 use tr_subbuf::SubBuf;
 use tr_terms::Moment;
@@ -235,6 +237,99 @@ impl<A: Allocator> Ring<A> {
         }
         self.seq += u64::from(!self.current.is_empty());
         self.current.reset();
+    }
+
+    /// Reads the first bytes of the sub-buffer number `i` of those that wait, the oldest first, or of the current one after them:
+    /// `SubBuf::warm`.
+    pub fn warm(&self, i: usize) -> u32 {
+        match self.waiting.get(i) {
+            Some(page) => page.warm(),
+            None => self.current.warm(),
+        }
+    }
+
+    /// How many of the sub-buffers no copy was begun of, the current one among them.
+    pub fn lacking_copies(&self) -> usize {
+        let mut lacking = usize::from(self.current.lacks_copy());
+        for page in self.waiting.iter() {
+            lacking = lacking.saturating_add(usize::from(page.lacks_copy()));
+        }
+        lacking
+    }
+
+    /// Whether no copy was begun of the sub-buffer number `i` of those that wait, the oldest first, or of the current one after
+    /// them.
+    pub fn lacks_copy(&self, i: usize) -> bool {
+        match self.waiting.get(i) {
+            Some(page) => page.lacks_copy(),
+            None => self.current.lacks_copy(),
+        }
+    }
+
+    /// Begins a copy of that one in a page of the same size, if none was begun. Nothing is copied yet.
+    pub fn begin_copy(&mut self, i: usize, page: SubBuf<A>)
+        requires { page ≡ empty_buffer self.old.size }
+        ensures { self.new ≡ self.old }
+    {
+        match self.waiting.get_mut(i) {
+            Some(sealed) => sealed.begin_copy(page),
+            None => self.current.begin_copy(page),
+        }
+    }
+
+    /// How many of its bytes are still to be copied, if a copy was begun.
+    pub fn uncopied(&self, i: usize) -> usize {
+        match self.waiting.get(i) {
+            Some(page) => page.uncopied(),
+            None => self.current.uncopied(),
+        }
+    }
+
+    /// Copies the next of its bytes, at most so many, if a copy was begun. It takes no memory.
+    pub fn copy_more(&mut self, i: usize, most: usize)
+        ensures { self.new ≡ self.old }
+    {
+        match self.waiting.get_mut(i) {
+            Some(sealed) => sealed.copy_more(most),
+            None => self.current.copy_more(most),
+        }
+    }
+
+    /// A copy of the packet of this head and the records of closed sub-buffer `i`, the oldest being 0. If one was begun, the rest
+    /// of it is copied, and no memory is taken.
+    pub fn copied_out(
+        &mut self,
+        alloc: A,
+        i: usize,
+        head: Head,
+    ) -> Result<PacketText<A>, AllocError>
+        requires there { i < length self.old.waiting }
+        requires packet { (b : ClosedBuffer) → slice_get self.old.waiting i ≡ Some b → IsPacket (contents head b.records) }
+        ensures packet { IfOk result (λ t. (b : ClosedBuffer) → slice_get self.old.waiting i ≡ Some b
+            → t ≡ contents head b.records) }
+        ensures same { self.new ≡ self.old }
+    {
+        let Some(sealed) = self.waiting.get_mut(i) else {
+            unreachable!()
+        };
+        sealed.copied_out(alloc, head)
+    }
+
+    /// The same of the current sub-buffer.
+    pub fn current_copied_out(&mut self, alloc: A, head: Head) -> Result<PacketText<A>, AllocError>
+        requires { IsPacket (contents head self.old.current) }
+        ensures packet { IfOk result (λ t. t ≡ contents head self.old.current) }
+        ensures same { self.new ≡ self.old }
+    {
+        self.current.copied_out(alloc, head)
+    }
+
+    /// The closed sub-buffer number `i` of those that wait, the oldest being 0.
+    pub fn item(&self, i: usize) -> Option<ClosedSubBuf<'_, A>>
+        ensures { result ≡ slice_get self.now.waiting i }
+    {
+        let page = self.waiting.get(i)?;
+        Some(page.lent())
     }
 
     /// The oldest closed sub-buffer, if any.

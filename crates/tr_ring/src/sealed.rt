@@ -1,14 +1,16 @@
 //! A page that waits.
 
-ghost use Rattle.std.specs.Prelude.{◌≡◌};
+ghost use Rattle.std.specs.Prelude.{◌≡◌, IfOk};
+ghost use Rattle.tr_packet.specs.Packets.{IsPacket, contents};
 ghost use Rattle.tr_record.specs.Records.{has_serial};
 ghost use Rattle.tr_subbuf.specs.SubBuffer.{empty_buffer, sub_buffer};
 ghost use Rattle.tr_ring.specs.ClosedBuffer.{closed_buffer};
 ghost use Rattle.tr_ring.specs.Pages.{sealed_page};
 
 use crate::closed::ClosedSubBuf;
-use std::alloc::Allocator;
+use std::alloc::{AllocError, Allocator};
 use std::marker::Model;
+use tr_packet::{Head, PacketText};
 use tr_subbuf::SubBuf;
 use tr_terms::Moment;
 
@@ -59,6 +61,40 @@ impl<A: Allocator> Sealed<A> {
         ensures { result ≡ has_serial serial self.now.closed.records }
     {
         self.buffer.has(serial)
+    }
+
+    pub fn warm(&self) -> u32 {
+        self.buffer.warm()
+    }
+
+    /// Whether no copy of it was begun.
+    pub fn lacks_copy(&self) -> bool {
+        self.buffer.lacks_copy()
+    }
+
+    pub fn begin_copy(&mut self, page: SubBuf<A>)
+        requires { page ≡ empty_buffer self.old.size }
+        ensures { self.new ≡ self.old }
+    {
+        self.buffer.begin_copy(page);
+    }
+
+    pub fn uncopied(&self) -> usize {
+        self.buffer.uncopied()
+    }
+
+    pub fn copy_more(&mut self, most: usize)
+        ensures { self.new ≡ self.old }
+    {
+        self.buffer.copy_more(most);
+    }
+
+    pub fn copied_out(&mut self, alloc: A, head: Head) -> Result<PacketText<A>, AllocError>
+        requires { IsPacket (contents head self.old.closed.records) }
+        ensures packet { IfOk result (λ t. t ≡ contents head self.old.closed.records) }
+        ensures same { self.new ≡ self.old }
+    {
+        self.buffer.copied_out(alloc, head)
     }
 
     /// The page, with its records.

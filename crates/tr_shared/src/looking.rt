@@ -42,26 +42,27 @@ pub(crate) fn begin_snapshot<N: Names, A: Allocator>(
 ///
 /// `Misplaced` if another stream is in the slot, `NoMemory`.
 pub(crate) fn look<N: Names, A: Allocator + Copy>(
-    slot: &Slot<N, A>,
+    slot: &mut Slot<N, A>,
     i: usize,
     moment: Moment,
 ) -> Result<StreamSnap<A>, SessionFault>
     requires plan { IsPlan N.plan }
     requires mode { N.plan.session.book.mode ≡ SessionMode.Snapshot }
-    ensures here { OnOk result (i ≡ slot.now.number) }
-    ensures value { IfOk result (λ snap. snap ≡ state_snap moment slot.now.stream) }
+    ensures same { slot.new ≡ slot.old }
+    ensures here { OnOk result (i ≡ slot.old.number) }
+    ensures value { IfOk result (λ snap. snap ≡ state_snap moment slot.old.stream) }
     ensures number { IfOk result (λ snap. snap.stream ≡ i) }
-    ensures from { IfOk result (IsShownFrom slot.now.stream.counters.overwritten) }
-    ensures records { IfOk result (λ snap. entries_shown snap ≡ ring_records slot.now.stream.ring) }
-    ensures look { IfOk result (IsLookAt N.plan i moment slot.now.stream) }
-    ensures misplaced { i ≢ slot.now.number → result ≡ Err SessionFault.Misplaced }
+    ensures from { IfOk result (IsShownFrom slot.old.stream.counters.overwritten) }
+    ensures records { IfOk result (λ snap. entries_shown snap ≡ ring_records slot.old.stream.ring) }
+    ensures look { IfOk result (IsLookAt N.plan i moment slot.old.stream) }
+    ensures misplaced { i ≢ slot.old.number → result ≡ Err SessionFault.Misplaced }
     ensures refused { IfErr result IsLookFault }
 {
     if slot.number() != i {
         return Err(SessionFault::Misplaced);
     }
     slot.shows_planned();
-    Ok(slot.peek(moment)?)
+    Ok(slot.peek_out(moment)?)
 }
 
 /// The same of the stream of a producer, which shows just what the producer offered and wasn't overwritten, as it was offered.

@@ -8,6 +8,7 @@ ghost use Rattle.tr_shared.specs.Shown.{IsShown, IsShownWith, ShowsAll, ShowsOwn
 
 use crate::looking::{begin_snapshot, look, look_with};
 use crate::shared::Shared;
+use crate::stocking::copy_ahead;
 use std::alloc::Allocator;
 use std::sync::Wait;
 use tr_book::StreamSnap;
@@ -107,8 +108,9 @@ impl<N: Names, A: Allocator + Copy> Shared<N, A> {
         ensures shown { IfOk result (IsShown N.plan moment i) }
         ensures refused { IfErr result IsLookFault }
     {
-        let slot = self.slots[i].lock(rt);
-        look(&slot, i, moment)
+        copy_ahead(rt, &self.slots[i]);
+        let mut slot = self.slots[i].lock(rt);
+        look(&mut slot, i, moment)
     }
 
     /// The same, with the producer at hand if it is that stream's.
@@ -127,11 +129,12 @@ impl<N: Names, A: Allocator + Copy> Shared<N, A> {
         ensures own { IfOk result (λ snap. producer.old.number ≡ i → IsShownWith N.plan moment producer.old snap) }
         ensures refused { IfErr result IsLookFault }
     {
+        copy_ahead(rt, &self.slots[i]);
         let mut slot = self.slots[i].lock(rt);
         if i == producer.stream() {
             look_with(&mut slot, producer, moment)
         } else {
-            look(&slot, i, moment)
+            look(&mut slot, i, moment)
         }
     }
 }

@@ -118,3 +118,9 @@ ring-gaps s is =
           (row-of (offers_before h.closed) h.filling stands.model.covers_filling (omega (arith, same, few, stands.discarded)))),
       tt,
     )
+
+-- if no more was discarded than before, the serials of the current sub-buffer follow each other
+pub current-in_row : (seq lost discarded : ℕ) (current : List Entry) → DiscardsShow discarded (closed_if_any seq 0 lost current)
+    → lost ≡ discarded → AreInRow current
+current-in_row seq lost discarded [] shows same = tt
+current-in_row seq lost discarded (e ∷ es) shows same = shows.0 same

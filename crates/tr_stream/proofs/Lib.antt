@@ -4,6 +4,7 @@ pub mod ChunkLemmas
 pub mod ChunkRuns
 pub mod ClearLemmas
 pub mod Consistency
+pub mod CopyLemmas
 pub mod CutForms
 pub mod CutLemmas
 pub mod FateLemmas

@@ -14,7 +14,8 @@
 //!
 //! A clear and a release look at all records of a packet only where serials are missing in it, which its `discarded` shows, and
 //! a fate at those of one packet. `clear_out` and `release_out` hand the packets out, to be dropped when nobody waits for the
-//! stream.
+//! stream. `peek_out` hands out copies that were made a piece at a time before (`begin_copies`, `copy_more`), so that a snapshot
+//! of a large ring makes no offer wait long.
 //!
 //! # What is proved
 //!
@@ -50,6 +51,7 @@
 
 mod answers;
 mod config;
+mod copying;
 mod events;
 mod fate;
 mod laws;

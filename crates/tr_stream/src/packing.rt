@@ -31,7 +31,7 @@ fn begin(mut records: Records<'_>) -> Moment
 }
 
 /// What the packet of a closed sub-buffer says beside its records.
-fn head_of<A: Allocator>(config: &StreamConfig, buffer: &ClosedSubBuf<'_, A>) -> Head
+pub fn head_of<A: Allocator>(config: &StreamConfig, buffer: &ClosedSubBuf<'_, A>) -> Head
     ensures { result ≡ (packet_of config.now buffer.now).head }
 {
     Head {
@@ -45,7 +45,7 @@ fn head_of<A: Allocator>(config: &StreamConfig, buffer: &ClosedSubBuf<'_, A>) ->
 }
 
 /// What the packet of the current sub-buffer says beside its records, if it is closed at this moment.
-fn head_of_current<A: Allocator>(config: &StreamConfig, ring: &Ring<A>, end: Moment) -> Head
+pub fn head_of_current<A: Allocator>(config: &StreamConfig, ring: &Ring<A>, end: Moment) -> Head
     ensures { result ≡ (packet_of config.now (closed_current end ring.now)).head }
 {
     Head {

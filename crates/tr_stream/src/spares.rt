@@ -1,6 +1,6 @@
 //! Pages in reserve.
 
-ghost use Rattle.std.specs.Prelude.{◌≡◌, ◌≤◌, ◌<◌, ◌+◌, OnErr, OnOk};
+ghost use Rattle.std.specs.Prelude.{◌≡◌, ◌==◌, ◌≤◌, ◌<◌, ◌+◌, OnErr, OnOk};
 ghost use Rattle.tr_stream.specs.Spares.{spares_state};
 ghost use Rattle.tr_subbuf.specs.SubBuffer.{empty_buffer};
 
@@ -46,6 +46,13 @@ impl<A: Allocator + Copy> Spares<A> {
         ensures { result ≡ self.now.count }
     {
         self.pages.len()
+    }
+
+    /// Whether they have this size.
+    pub fn have_size(&self, size: usize) -> bool
+        ensures { result ≡ (self.now.size == size) }
+    {
+        self.size == size
     }
 
     /// Makes pages until there are so many of this size. Those of another size are dropped. If an allocation fails, some may have

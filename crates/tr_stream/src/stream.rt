@@ -37,13 +37,13 @@ fn gives_way(mode: Mode) -> bool
 /// One stream of records. Contracts see a `StreamState`.
 #[derive(Drop)]
 pub struct Stream<A: Allocator = Global> {
-    alloc: A,
-    config: StreamConfig,
-    ring: Ring<A>,
+    pub(crate) alloc: A,
+    pub(crate) config: StreamConfig,
+    pub(crate) ring: Ring<A>,
     // empty pages, for the ring to use in the place of those that it gives away
     spares: Spares<A>,
     parts: Parts<A>,
-    counters: Book,
+    pub(crate) counters: Book,
     active: bool,
 }
 
@@ -258,7 +258,8 @@ impl<A: Allocator + Copy> Stream<A> {
         if !self.takes() {
             return 0;
         }
-        let current = usize::from(!self.ring.current().is_mostly_empty());
+        let current = self.ring.current();
+        let current = usize::from(!current.is_empty() && !current.is_mostly_empty());
         (self.ring.waiting() + current).saturating_sub(self.spares.len())
     }
 

@@ -1,7 +1,8 @@
--- A page without records, and after one more.
-use Rattle.std.proofs.Common.{◌≡◌, ℕ, ◌+◌, ◌≤◌, List, [], ◌∷◌, ◌++◌, length, ap, subst, sym, ◌∙◌, arith, length-append}
+-- A page without records, and after one more; a copy of its first bytes.
+use Rattle.std.proofs.Common.{◌≡◌, ℕ, ◌+◌, ◌≤◌, List, [], ◌∷◌, ◌++◌, Option, Some, None, length, ap, subst, sym, ◌∙◌, arith, length-append}
 use Rattle.std.specs.List.{sum_by}
-use Rattle.std.proofs.lemmas.List.{drop_all, drop-append-le}
+use Rattle.std.specs.Prelude.{IfSome}
+use Rattle.std.proofs.lemmas.List.{drop_all, drop-append-le, length-take, take-append-le}
 use Rattle.std.proofs.lemmas.List.Sums.{sum_by-cons}
 use Rattle.tr_packet.specs.Texts.{body_of}
 use Rattle.tr_record.specs.Records.{Entry, Fits, record_text}
@@ -9,7 +10,7 @@ use Rattle.tr_record.specs.Weight.{weight_of, record_weight}
 use Rattle.tr_record.specs.Whole.{AreWhole, entries_of}
 use Rattle.tr_record.proofs.RecordLemmas.{length-record_text, weight_of-push}
 use Rattle.tr_record.proofs.WholeLemmas.{whole_none, whole_push}
-use Rattle.tr_subbuf.specs.Page.{IsPage}
+use Rattle.tr_subbuf.specs.Page.{IsBegun, IsPage}
 use Rattle.tr_terms.specs.declared.limits.TheConstants.{PACKET_HEADER}
 
 -- bytes as many as a packet's header and context has are a page without records
@@ -63,3 +64,18 @@ at_least_one (e ∷ es) = omega (arith, at_least_one es, sum_by-cons record_weig
 -- so the count is no larger than the size
 pub counted_within : (bytes : List ℕ) (count size capacity : ℕ) → IsPage bytes count size capacity → count ≤ length bytes
 counted_within bytes count size capacity is = omega (arith, is.counted, is.used, at_least_one (entries_of (body_of bytes)))
+
+-- a copy that was begun is one of the page's first bytes when more come
+pub begun-more : (copy bytes more : List ℕ) (size capacity : ℕ) → IsBegun copy bytes size capacity
+    → IsBegun copy (bytes ++ more) size capacity
+begun-more copy bytes more size capacity is =
+    let few : length copy ≤ length bytes = omega (arith, length-take (length copy) bytes, ap (λ (xs : List ℕ). length xs) is.first) in
+    record {
+      first = take-append-le (length copy) bytes more few ∙ is.first;
+      whole = is.whole;
+      header = is.header;
+    }
+
+pub if-some : {X : Type 0} (P Q : X → Type 0) (o : Option X) → ((x : X) → P x → Q x) → IfSome o P → IfSome o Q
+if-some P Q None h is = tt
+if-some P Q (Some x) h is = h x is

@@ -1,5 +1,5 @@
 -- A page: the bytes of a sub-buffer.
-use Rattle.std.specs.Prelude.{◌≡◌, ◌≤◌, ℕ, List, length}
+use Rattle.std.specs.Prelude.{◌≡◌, ◌≤◌, ℕ, List, length, take}
 use Rattle.tr_packet.specs.Texts.{body_of}
 use Rattle.tr_record.specs.Weight.{weight_of}
 use Rattle.tr_record.specs.Whole.{AreWhole, entries_of}
@@ -19,3 +19,9 @@ pub record IsPage (bytes : List ℕ) (count size capacity : ℕ) : Type 0 where
   pub used : length bytes ≡ weight_of (entries_of (body_of bytes))
   pub within : IsWithin (buffer_in bytes size)
   pub room : size ≤ capacity
+
+-- the first bytes of a page were copied, into memory that has room for all that it may ever have
+pub record IsBegun (copy bytes : List ℕ) (size capacity : ℕ) : Type 0 where
+  pub first : take (length copy) bytes ≡ copy
+  pub whole : size ≤ capacity
+  pub header : PACKET_HEADER ≤ capacity

@@ -1,9 +1,10 @@
 //! `SubBuf`, a page of records within a size.
 
-ghost use Rattle.std.specs.Prelude.{◌≡◌, ◌==◌, ◌/◌, IsTrue, IfOk, length, nat_lt, slice_get};
+ghost use Rattle.std.specs.Prelude.{◌≡◌, ◌==◌, ◌≤◌, ◌/◌, ℕ, List, IsTrue, IfOk, IfSome, length, nat_lt, slice_get, take, vec_capacity};
 ghost use Rattle.tr_packet.specs.Packets.{IsPacket, contents};
 ghost use Rattle.tr_record.specs.Records.{has_serial};
 ghost use Rattle.tr_record.specs.Weight.{weight_of};
+ghost use Rattle.tr_subbuf.specs.Page.{IsBegun};
 ghost use Rattle.tr_subbuf.specs.SubBuffer.{IsWithin, empty_buffer, has_room, with_record};
 
 use std::alloc::{AllocError, Allocator, Global};
@@ -20,18 +21,54 @@ pub struct SubBuf<A: Allocator = Global> {
     bytes: Vec<u8, A>,
     count: usize,
     size: usize,
+    // a copy of the first of these bytes, in a page of its own, if one was begun
+    begun: Option<Vec<u8, A>>,
 }
 
 impl<A: Allocator> Model for SubBuf<A> {
-    ghost use Rattle.std.specs.Prelude.{vec_capacity};
+    ghost use Rattle.std.specs.Prelude.{IfSome, vec_capacity};
     ghost use Rattle.tr_subbuf.specs.SubBuffer.{SubBuffer};
-    ghost use Rattle.tr_subbuf.specs.Page.{IsPage, buffer_in};
+    ghost use Rattle.tr_subbuf.specs.Page.{IsBegun, IsPage, buffer_in};
 
     ghost Value = { SubBuffer };
 
     ghost view = { λ b. buffer_in b.bytes.items b.size };
 
-    ghost invariant = { λ b. IsPage b.bytes.items b.count b.size (vec_capacity b.bytes) };
+    ghost invariant = { λ b. IsPage b.bytes.items b.count b.size (vec_capacity b.bytes)
+        × IfSome b.begun (λ copy. IsBegun copy.items b.bytes.items b.size (vec_capacity copy)) };
+}
+
+/// A sum of two bytes, one where a packet's header stands and one where its first record does.
+fn first_bytes(bytes: &[u8]) -> u16 {
+    match (bytes.first(), bytes.get(PACKET_HEADER)) {
+        (Some(&header), Some(&record)) => u16::from(header) + u16::from(record),
+        _ => 0,
+    }
+}
+
+/// Empties a copy that was begun, and keeps its memory: it may be one of any page.
+fn begin_anew<A: Allocator>(begun: &mut Option<Vec<u8, A>>)
+    ensures { (before after : List ℕ) (size : ℕ)
+        → IfSome begun.old (λ copy. IsBegun copy.items before size (vec_capacity copy))
+        → IfSome begun.new (λ copy. IsBegun copy.items after size (vec_capacity copy)) }
+{
+    if let Some(mut copy) = begun.take() {
+        copy.clear();
+        *begun = Some(copy);
+    }
+}
+
+/// Copies the bytes after those that were copied already, at most so many.
+fn copy_on<A: Allocator>(copy: &mut Vec<u8, A>, bytes: &[u8], most: usize)
+    requires first { take (length copy.old.items) bytes.now ≡ copy.old.items }
+    requires room { length bytes.now ≤ vec_capacity copy.old }
+    ensures first { take (length copy.new.items) bytes.now ≡ copy.new.items }
+    ensures all { length bytes.now ≤ most → copy.new.items ≡ bytes.now }
+    ensures capacity { vec_capacity copy.old ≤ vec_capacity copy.new }
+{
+    let (_, left) = bytes.split_at(copy.len());
+    let (next, _) = left.split_at(most.min(left.len()));
+    put_bytes(copy, next);
 }
 
 impl<A: Allocator> SubBuf<A> {
@@ -45,6 +82,7 @@ impl<A: Allocator> SubBuf<A> {
             bytes,
             count: 0,
             size,
+            begun: None,
         })
     }
 
@@ -60,6 +98,7 @@ impl<A: Allocator> SubBuf<A> {
             bytes,
             count: 0,
             size,
+            begun: None,
         })
     }
 
@@ -143,8 +182,54 @@ impl<A: Allocator> SubBuf<A> {
     pub fn reset(&mut self)
         ensures { self.new ≡ empty_buffer self.old.size }
     {
+        begin_anew(&mut self.begun);
         self.bytes.truncate(PACKET_HEADER);
         self.count = 0;
+    }
+
+    /// Reads the first bytes of its page, and of a copy that was begun, so that they are in the processor's cache for the call
+    /// that makes a packet of them. Answers with a sum of some of them.
+    pub fn warm(&self) -> u32 {
+        let of_copy = match &self.begun {
+            Some(copy) => first_bytes(copy),
+            None => 0,
+        };
+        u32::from(first_bytes(&self.bytes)) + u32::from(of_copy)
+    }
+
+    /// Whether no copy of it was begun.
+    pub fn lacks_copy(&self) -> bool {
+        self.begun.is_none()
+    }
+
+    /// Begins a copy of its packet in a page of the same size, unless there is one. Nothing is copied yet.
+    pub fn begin_copy(&mut self, page: SubBuf<A>)
+        requires { page ≡ empty_buffer self.old.size }
+        ensures { self.new ≡ self.old }
+    {
+        if self.begun.is_none() {
+            let mut copy = page.bytes;
+            copy.clear();
+            self.begun = Some(copy);
+        }
+    }
+
+    /// How many bytes are still to be copied, if a copy was begun.
+    pub fn uncopied(&self) -> usize {
+        match &self.begun {
+            Some(copy) => self.bytes.len() - copy.len(),
+            None => 0,
+        }
+    }
+
+    /// Copies the next of its bytes, at most so many, if a copy was begun. It takes no memory.
+    pub fn copy_more(&mut self, most: usize)
+        ensures { self.new ≡ self.old }
+    {
+        if let Some(mut copy) = self.begun.take() {
+            copy_on(&mut copy, &self.bytes, most);
+            self.begun = Some(copy);
+        }
     }
 
     /// The packet of this head and its records. The page itself becomes the packet's text: nothing is copied.
@@ -153,6 +238,19 @@ impl<A: Allocator> SubBuf<A> {
         ensures { result ≡ contents head self.records }
     {
         PacketText::seal(head, self.count, self.bytes)
+    }
+
+    /// A copy of that packet. If one was begun, the rest of it is copied, and no memory is taken; else it is `copied`.
+    pub fn copied_out(&mut self, alloc: A, head: Head) -> Result<PacketText<A>, AllocError>
+        requires { IsPacket (contents head self.old.records) }
+        ensures packet { IfOk result (λ t. t ≡ contents head self.old.records) }
+        ensures same { self.new ≡ self.old }
+    {
+        let Some(mut copy) = self.begun.take() else {
+            return self.copied(alloc, head);
+        };
+        copy_on(&mut copy, &self.bytes, self.bytes.len());
+        Ok(PacketText::seal(head, self.count, copy))
     }
 
     /// A copy of that packet, in memory of just its size. Fails if an allocation fails.

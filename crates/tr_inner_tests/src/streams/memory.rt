@@ -19,7 +19,8 @@ struct Shown {
     ring: (u64, u64),
 }
 
-/// What a full ring does, and what a stream shows after the first 100,000 offers, and after as many more after a clear.
+/// What a full ring does, and what a stream shows after the first 100,000 offers, and after as many more after a take, a cut, two
+/// offers and a clear.
 static MODES: [(Mode, &[Shown]); 2] = [
     (
         Mode::Discard,
@@ -30,9 +31,9 @@ static MODES: [(Mode, &[Shown]); 2] = [
                 ring: (0, 3),
             },
             Shown {
-                last: Offered::Discarded { serial: 199_999 },
-                counts: (200_000, 199_992, 0, 0),
-                ring: (100_000, 100_003),
+                last: Offered::Discarded { serial: 200_001 },
+                counts: (200_002, 199_992, 0, 0),
+                ring: (100_002, 100_005),
             },
         ],
     ),
@@ -49,20 +50,20 @@ static MODES: [(Mode, &[Shown]); 2] = [
             },
             Shown {
                 last: Offered::Stored {
-                    serial: 199_999,
-                    seq: 99_999,
+                    serial: 200_001,
+                    seq: 100_000,
                 },
-                counts: (200_000, 0, 199_992, 99_996),
-                ring: (199_996, 199_999),
+                counts: (200_002, 0, 199_992, 99_996),
+                ring: (199_998, 200_001),
             },
         ],
     ),
 ];
 
-/// Makes 100,000 offers of 50 bytes, none of which is refused, and gives the last answer.
-fn offer_all(rt: &impl Abort, stream: &mut Stream<&LocalHeap>) -> Offered {
+/// Makes so many offers of 50 bytes, none of which is refused, and gives the last answer.
+fn offer_all(rt: &impl Abort, stream: &mut Stream<&LocalHeap>, count: u64) -> Offered {
     let mut last = Offered::Discarded { serial: u64::MAX };
-    for k in 0..100_000 {
+    for k in 0..count {
         last = stream
             .offer(moment(k), 7, &[0x61; 50])
             .expect(rt, "no refusal");
@@ -100,7 +101,7 @@ fn assert_offers(
 ) {
     let blocks = fill(plain, heap).expect(rt, "memory");
     let used = heap.used();
-    assert_same(rt, offer_all(rt, stream), wanted.last);
+    assert_same(rt, offer_all(rt, stream, 100_000), wanted.last);
     assert_same(rt, heap.used(), used);
     let counts = stream.counts();
     assert_same(rt, stream.take(), Err(TakeFault::NoMemory));
@@ -110,12 +111,15 @@ fn assert_offers(
     drop(blocks);
 }
 
-/// With memory, takes a packet of two records, and clears it and the two that are left.
-fn take_and_clear(rt: &impl Abort, stream: &mut Stream<&LocalHeap>) {
+/// With memory, takes a packet of two records, cuts the two that are left, and clears two that are offered then.
+fn empty(rt: &impl Abort, stream: &mut Stream<&LocalHeap>) {
     assert_same(rt, stream.take().is_ok(), true);
+    let done = stream.cut(moment(0)).expect(rt, "memory");
+    assert_same(rt, (done.packets, done.records), (1, 2));
+    let _ = offer_all(rt, stream, 2);
     let cleared = Cleared {
-        packets: 2,
-        records: 4,
+        packets: 1,
+        records: 2,
     };
     assert_same(rt, stream.clear(), Ok(cleared));
 }
@@ -124,12 +128,12 @@ fn take_and_clear(rt: &impl Abort, stream: &mut Stream<&LocalHeap>) {
 #[test]
 fn offers_take_no_memory(rt: HostRuntime) {
     for (mode, shown) in &MODES {
-        let heap = LocalHeap::new(rt.alloc(), 4096).expect(&rt, "memory");
+        let heap = LocalHeap::new(rt.alloc(), 8_192).expect(&rt, "memory");
         let mut stream = new_stream(&rt, &heap, *mode, SessionMode::Local);
         stream.set_active(true);
         for wanted in *shown {
             assert_offers(&rt, rt.alloc(), &heap, &mut stream, wanted);
-            take_and_clear(&rt, &mut stream);
+            empty(&rt, &mut stream);
         }
         drop(stream);
     }

@@ -2,7 +2,8 @@
 
 use super::assert_same;
 use crate::packing::bytes_of;
-use std::alloc::Global;
+use linked_list_allocator::LocalHeap;
+use std::alloc::{Allocator, Global};
 use std::process::Abort;
 use tr_packet::{PacketView, decode_packet};
 use tr_stream::Stream;
@@ -13,7 +14,7 @@ use uuid::Uuid;
 static PAYLOAD: [u8; 4_000] = [7; 4_000];
 
 /// A stream whose pages have 4,096 bytes.
-fn wide_stream(rt: &impl Abort, alloc: Global) -> Stream {
+fn wide_stream<A: Allocator + Copy>(rt: &impl Abort, alloc: A) -> Stream<A> {
     let geometry = Geometry::new(4_096, 4).expect(rt, "a geometry");
     let made = Stream::new(
         alloc,
@@ -28,7 +29,7 @@ fn wide_stream(rt: &impl Abort, alloc: Global) -> Stream {
     stream
 }
 
-fn offer(rt: &impl Abort, stream: &mut Stream, at: u64, len: usize) {
+fn offer<A: Allocator + Copy>(rt: &impl Abort, stream: &mut Stream<A>, at: u64, len: usize) {
     let payload = PAYLOAD.get(..len).expect(rt, "a short payload");
     let _ = stream.offer(moment(at), 7, payload).expect(rt, "stored");
 }
@@ -120,4 +121,35 @@ fn pages_that_are_kept_for_a_cut_change_nothing(rt: HostRuntime) {
         (stream.lacking_for_take(), stream.lacking_for_cut()),
         (0, 1),
     );
+}
+
+/// Four times the bytes that the parts before number `k` hold, and 512 more for each packet and for their list.
+fn most_memory(rt: &impl Abort, stream: &Stream<&LocalHeap>, k: u64) -> u128 {
+    let mut most = 512u128;
+    for i in 0..k {
+        let part = stream.part(i).expect(rt, "a part");
+        let packets = part.texts().len() as u128;
+        most = most
+            .saturating_add(part.bytes().saturating_mul(4))
+            .saturating_add(packets.saturating_mul(512));
+    }
+    most
+}
+
+// a page is kept whole only if a quarter of it is used; a packet's place in its list has some hundred bytes, and lists double
+#[test]
+fn packets_take_at_most_four_times_their_bytes(rt: HostRuntime) {
+    for len in [10, 900, 919, 920, 1_500, 3_990] {
+        let heap = LocalHeap::new(rt.alloc(), 1_048_576).expect(&rt, "memory");
+        let mut stream = wide_stream(&rt, &heap);
+        let empty = heap.used();
+        for k in 0..40 {
+            offer(&rt, &mut stream, 3 * k, len);
+            offer(&rt, &mut stream, 3 * k + 1, len);
+            assert_same(&rt, stream.cut(moment(3 * k + 2)).is_ok(), true);
+            let more = heap.used().saturating_sub(empty) as u128;
+            assert_same(&rt, more <= most_memory(&rt, &stream, k + 1), true);
+        }
+        drop(stream);
+    }
 }

@@ -14,7 +14,7 @@ returns-clause-number g c =
     let made : IsOver slot.number slot.stream.config =
     planned-over g.N.Names.plan slot.number slot.stream.config c.requires.plan c.requires.mode c.shows_planned.ensures.planned in
     let here : c.args.i ≡ slot.number = search rules in
-    ap (λ (s : SnapState). s.stream) c.in_ok-peek.ensures.value ∙ made.number ∙ sym here
+    ap (λ (s : SnapState). s.stream) c.in_ok-peek_out.ensures.value ∙ made.number ∙ sym here
 
 pub returns-clause-from : goal.returns-clause-from
 returns-clause-from g c =
@@ -23,7 +23,7 @@ returns-clause-from g c =
     planned-over g.N.Names.plan slot.number slot.stream.config c.requires.plan c.requires.mode c.shows_planned.ensures.planned in
     let kept : IsKept slot.stream = c.shows_planned.ensures.kept in
     let is : IsConsistent slot.stream = c.shows_planned.ensures.consistent in
-    subst (IsShownFrom slot.stream.counters.overwritten) (sym c.in_ok-peek.ensures.value)
+    subst (IsShownFrom slot.stream.counters.overwritten) (sym c.in_ok-peek_out.ensures.value)
     (shows-last c.args.moment slot.stream kept.sound is made.mode made.session)
 
 pub returns-clause-look : goal.returns-clause-look
@@ -33,10 +33,10 @@ returns-clause-look g c =
     record {
       kept = c.shows_planned.ensures.kept;
       planned = subst (λ (i : ℕ). IsPlanned g.N.Names.plan i slot.stream.config) (sym here) c.shows_planned.ensures.planned;
-      value = c.in_ok-peek.ensures.value;
+      value = c.in_ok-peek_out.ensures.value;
     }
 
 pub returns-clause-records : goal.returns-clause-records
 returns-clause-records g c =
     let slot = c.args.slot.now in
-    ap entries_shown c.in_ok-peek.ensures.value ∙ shown-records c.args.moment slot.stream
+    ap entries_shown c.in_ok-peek_out.ensures.value ∙ shown-records c.args.moment slot.stream

@@ -11,7 +11,7 @@ invariant_of-result g c =
     let long : length c.put_bytes.new.out.items ≡ PACKET_HEADER = search rules in
     let room : c.args.size ≤ vec_capacity c.put_bytes.new.out =
     omega (arith, c.in_ok-bytes.ensures.exact, c.max.ensures, c.put_bytes.ensures.capacity) in
-    (page_none c.put_bytes.new.out.items c.args.size (vec_capacity c.put_bytes.new.out) long room).0
+    ((page_none c.put_bytes.new.out.items c.args.size (vec_capacity c.put_bytes.new.out) long room).0, tt)
 
 pub returns : goal.returns
 returns g c =

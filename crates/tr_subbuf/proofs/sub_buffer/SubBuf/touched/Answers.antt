@@ -12,7 +12,7 @@ invariant_of-result g c =
     let long : length c.truncate.new.self.items ≡ PACKET_HEADER = grind (arith, common_steps) in
     let room : c.args.size ≤ vec_capacity c.truncate.new.self =
     omega (arith, c.in_ok-bytes.ensures.exact, c.max-room.ensures, c.resize.ensures.capacity, c.truncate.ensures.capacity) in
-    (page_none c.truncate.new.self.items c.args.size (vec_capacity c.truncate.new.self) long room).0
+    ((page_none c.truncate.new.self.items c.args.size (vec_capacity c.truncate.new.self) long room).0, tt)
 
 pub returns : goal.returns
 returns g c =
