@@ -9,6 +9,7 @@
 #include "waits.h"
 #include <stdatomic.h>
 #include <tracerd.h>
+#include <unistd.h>
 
 enum { MOST_ROUNDS = 1000, NEAR = 4096 };
 static const char *folder;
@@ -87,9 +88,18 @@ static void rotate(void) { must(tracerd_rotate(session, 0, &archive)); }
 static void clear(void) { must(tracerd_clear(session, &(uint64_t){0})); }
 static void tick(void) { must(tracerd_tick(session, 0, &(tracerd_cause){0}, &archive)); }
 static void count(void) { must(tracerd_counts_of(producer, &(tracerd_counts){0})); }
-static void write_archive(void) { must(tracerd_write(session, archive, folder)); }
 static void release(void) { must(tracerd_release(session, archive)); }
-static void snapshot(void) { must(tracerd_snapshot(session, 0, folder)); }
+
+/* A folder of its own for each archive and snapshot: none is written over another. */
+static const char *own_folder(void) {
+    static char path[4096];
+    static int number;
+    snprintf(path, sizeof path, "%s/%d-%d", folder, (int)getpid(), number++);
+    return path;
+}
+
+static void write_archive(void) { must(tracerd_write(session, archive, own_folder())); }
+static void snapshot(void) { must(tracerd_snapshot(session, 0, own_folder())); }
 
 /* The fate of a record in the middle of the archive. */
 static void fate(void) {

@@ -62,6 +62,7 @@ typedef enum tracerd_status {
     TRACERD_MISSING = 22,            /* a producer was not given back */
     TRACERD_DRAINING = 23,           /* the library's drainer runs */
     TRACERD_NOT_DRAINING = 24,       /* it does not run */
+    TRACERD_EXISTS = 25,             /* something else has the archive's name */
     TRACERD_SNAPSHOT_MODE = 101,     /* not in a snapshot session */
     TRACERD_NOT_SNAPSHOT_MODE = 102, /* only in a snapshot session */
     TRACERD_NEVER_STARTED = 103,     /* the session was never started */
@@ -194,16 +195,28 @@ tracerd_status tracerd_clear(tracerd_session *, uint64_t *records);
 
 /* ---- Files ---- */
 
-/* Writes an archive to FOLDER/SESSION/archives/ARCHIVE: a file for each stream, and `metadata` last. Missing folders are made,
- * files replaced. It may run while others record. NO_ARCHIVE, RELEASED: no folder is made. WRITE, NO_MEMORY: what was written
- * stays, the next file may be broken, and `metadata` is missing or that of before. */
+/* Writes an archive to FOLDER/SESSION/archives/ARCHIVE: a file for each stream, and `metadata`. It may run while others record.
+ *
+ * After OK the archive is on disk, also if the power is cut then. Until then ARCHIVE is whole or not there: its files are
+ * written and synced in a folder `.ARCHIVE.part` beside it, which is renamed. What a stopped attempt has left there the next
+ * one removes. Such a folder is no archive for tracerd_audit and `tracerd audit`, which pass over it without a word; readers
+ * that search folders for `metadata` may find one.
+ *
+ * What has the name ARCHIVE already is never touched. If it is a folder with just these files and bytes, the answer is OK, and
+ * it is on disk too. Missing folders are made. FOLDER may be a symbolic link; below it none is followed. FOLDER is to be one
+ * run's: archives of another have the same numbers.
+ *
+ * NO_ARCHIVE, RELEASED: no folder is made. EXISTS: something else has the name. READ: what has it can't be read. WRITE,
+ * NO_MEMORY: `.ARCHIVE.part` may be left, and folders that were made; errno is ENOENT for an empty FOLDER, EAGAIN while another
+ * program writes the same archive, and ENOTEMPTY if a file that isn't the archive's is in `.ARCHIVE.part`. The records stay in
+ * memory. */
 tracerd_status tracerd_write(tracerd_session *, uint64_t archive, const char *folder);
 /* Gives up an archive's bytes; its records' fates and counts stay. NO_ARCHIVE, RELEASED. NO_MEMORY: some streams are
  * released. */
 tracerd_status tracerd_release(tracerd_session *, uint64_t archive);
-/* Writes what the rings of a snapshot session hold, in the form of archive 0, below a folder that is to be this snapshot's
- * alone. Each stream is shown as it is at one step, while offers go on. NOT_SNAPSHOT_MODE, NEVER_STARTED. WRITE, NO_MEMORY: as
- * of tracerd_write, and the moment is stored. */
+/* Writes what the rings of a snapshot session hold, in the form of archive 0 and as tracerd_write does, below a folder that is
+ * to be this snapshot's alone: its name has the moment's second. Each stream is shown as it is at one step, while offers go on.
+ * NOT_SNAPSHOT_MODE, NEVER_STARTED. EXISTS, READ, WRITE, NO_MEMORY: as of tracerd_write, and the moment is stored. */
 tracerd_status tracerd_snapshot(tracerd_session *, uint64_t moment, const char *folder);
 
 typedef struct tracerd_audited {
@@ -216,8 +229,8 @@ typedef struct tracerd_audited {
 } tracerd_audited;
 
 /* Reads FOLDER/SESSION/archives/ARCHIVE/CHANNEL_STREAM of all archives, in order of their numbers, and judges each packet. It
- * wants no session. READ, NO_MEMORY. PACKET, NUMBER_REPEAT, SERIAL_REPEAT, FOREIGN: the last three fields say where, the others
- * are 0. Without an archive all are 0. */
+ * wants no session. READ: also of an empty FOLDER (ENOENT). NO_MEMORY. PACKET, NUMBER_REPEAT, SERIAL_REPEAT, FOREIGN: the last
+ * three fields say where, the others are 0. Without an archive all are 0. */
 tracerd_status tracerd_audit(const char *folder, const char *session, const char *channel, uint64_t stream,
                              const uint8_t uuid[16], tracerd_audited *);
 

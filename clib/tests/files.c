@@ -1,19 +1,14 @@
-/* The calls of tracerd.h that write and read files: what the files have, and each refusal.
+/* The calls of tracerd.h that write and read files: what the files have, and what audits find in them.
  *
  *     files DIR     a folder that is there, in which files are written
  *
  * Expected values are worked out by hand: a packet has 80 bytes before its records, a record 24 before its payload. */
 #include "sessions.h"
 #include <errno.h>
-#include <pthread.h>
-#include <signal.h>
 #include <sys/stat.h>
-#include <time.h>
 #include <unistd.h>
 
 enum { ARCHIVES = 12 }; /* by their names the tenth comes before the second */
-
-static void handle(int signal) { (void)signal; }
 
 /* The stream's file of archive K of the session below a folder, with `count` bytes from `at` on read, or written if `bytes`. */
 static void touch(const char *folder, int archive, long at, void *to, const void *bytes, size_t count) {
@@ -22,6 +17,16 @@ static void touch(const char *folder, int archive, long at, void *to, const void
     FILE *file = fopen(path, "r+b");
     is(file && !fseek(file, at, SEEK_SET));
     if (file) is((to ? fread(to, 1, count, file) : fwrite(bytes, 1, count, file)) == count && !fclose(file));
+}
+
+/* The archive K of the session below a folder is gone. */
+static void remove_archive(const char *folder, int archive) {
+    char path[4300];
+    const char *const files[] = {"c_0", "metadata", ""};
+    for (int i = 0; i < 3; i++) {
+        snprintf(path, sizeof path, "%s/s/archives/19700101T000000+0000-19700101T000000+0000-%d/%s", folder, archive, files[i]);
+        is(!remove(path));
+    }
 }
 
 /* A ring of two sub-buffers of two records each overwrites the first with the fifth record. */
@@ -71,9 +76,12 @@ static void audits(tracerd_session *s, tracerd_producer *p) {
     is(!mkdir(below("audit/s/archives/19700101T000000+0000-19700101T000000+0000-1x"), 0777));
     is(!mkdir(below("audit/s/archives/19700101T000000+0000-19700101T000000+0000-07"), 0777));
     is(!mkdir(below("audit/s/archives/1970101T000000+00000-19700101T000000+0000-1"), 0777));
+    is(!mkdir(below("audit/s/archives/.19700101T000000+0000-19700101T000000+0000-12.part"), 0777));
     answers(OK, tracerd_audit(below("audit"), "s", "c", 0, ONE, &a));
     is(a.packets == ARCHIVES && a.records == ARCHIVES && a.last_packet == 11 && a.last_serial == 11 && !a.archive && !a.byte);
     answers(READ, tracerd_audit(below("nowhere"), "s", "c", 0, ONE, &a));
+    is(errno == ENOENT);
+    answers(READ, tracerd_audit("", "s", "c", 0, ONE, &a));
     is(errno == ENOENT);
     answers(READ, tracerd_audit(letters, "s", "c", 0, ONE, &a)); /* too long for a path */
     is(errno == ENAMETOOLONG);
@@ -92,6 +100,10 @@ static void audits(tracerd_session *s, tracerd_producer *p) {
     touch(below("audit"), 1, 0, NULL, "\0", 1);
     answers(PACKET, tracerd_audit(below("audit"), "s", "c", 0, ONE, &a));
     is(a.archive == 1 && a.byte == 0 && a.packet_fault == 2);
+    answers(EXISTS, tracerd_write(s, 1, below("audit"))); /* what is damaged stays as it is */
+    answers(PACKET, tracerd_audit(below("audit"), "s", "c", 0, ONE, &a));
+    is(a.archive == 1);
+    remove_archive(below("audit"), 1);
     answers(OK, tracerd_write(s, 1, below("audit")));
     answers(PACKET, tracerd_audit(below("audit"), "s", "c", 0, ONE, &a));
     is(a.archive == 2 && a.byte == 131 && a.packet_fault == 1);
@@ -100,81 +112,13 @@ static void audits(tracerd_session *s, tracerd_producer *p) {
     answers(PACKET, tracerd_audit(below("audit"), "s", "c", 0, ONE, &a));
     is(a.archive == 2 && a.byte == 131 && a.packet_fault == 1);
     is(!rename(below("first"), first_one));
+    remove_archive(below("audit"), 2);
     answers(OK, tracerd_write(s, 2, below("audit")));
     answers(OK, tracerd_audit(below("audit"), "s", "c", 0, ONE, &a));
     is(a.packets == ARCHIVES && a.absent == 0);
     is(!mkdir(below("none"), 0777) && !mkdir(below("none/s"), 0777) && !mkdir(below("none/s/archives"), 0777));
     answers(OK, tracerd_audit(below("none"), "s", "c", 0, ONE, &a)); /* without an archive */
     is(!a.packets && !a.records && !a.absent && !a.discarded && !a.last_packet && !a.last_serial && !a.archive && !a.byte);
-}
-
-/* A file that takes nothing, where the stream's is to be: metadata, which comes last, isn't written. Where metadata is to be:
- * none is left. */
-static void meets_a_full_disk(tracerd_session *s, tracerd_producer *p) {
-    uint64_t n;
-    char archive[4200];
-    answers(OK, tracerd_start(s, 0));
-    is_stored(p, 0, 27, 0, 0);
-    answers(OK, tracerd_rotate(s, 0, &n));
-    answers(OK, tracerd_write(s, 0, below("full")));
-    snprintf(archive, sizeof archive, "%s/s/archives/19700101T000000+0000-19700101T000000+0000-0", below("full"));
-    is(!chdir(archive) && !unlink("metadata") && !unlink("c_0") && !symlink("/dev/full", "c_0"));
-    answers(WRITE, tracerd_write(s, 0, below("full")));
-    is(errno == ENOSPC && access("metadata", F_OK));
-    is(!unlink("c_0") && !symlink("/dev/full", "metadata"));
-    answers(WRITE, tracerd_write(s, 0, below("full")));
-    is(errno == ENOSPC && !access("c_0", F_OK) && unlink("metadata"));
-    answers(OK, tracerd_write(s, 0, below("full")));
-    is(!access("metadata", F_OK) && !access("c_0", F_OK) && !chdir("/"));
-}
-
-static void *write_first(void *session) {
-    answers(OK, tracerd_write(session, 0, below("slow")));
-    return NULL;
-}
-
-static void *release_first(void *session) {
-    answers(OK, tracerd_release(session, 0));
-    return NULL;
-}
-
-/* A pipe is where the stream's file is to be: while it is written, a release waits, and the file gets all its bytes, though
- * signals interrupt both the writer's waits. */
-static void keeps_what_is_written(void) {
-    enum { RECORDS = 5, EACH = 65000 };
-    static char bytes[80 * RECORDS + RECORDS * (24 + EACH)];
-    tracerd_session *s;
-    tracerd_producer *p;
-    tracerd_offered o;
-    pthread_t writer, releaser;
-    char pipe[4200];
-    uint64_t n;
-    answers(OK, tracerd_new(&s, "s", ONE, 0, TRACERD_LOCAL));
-    answers(OK, tracerd_channel(s, "c", 65536, 8, TRACERD_DISCARD));
-    answers(OK, tracerd_producer_new(s, "c", &p));
-    answers(OK, tracerd_start(s, 0));
-    for (uint64_t k = 0; k < RECORDS; k++) answers(OK, tracerd_offer(p, k, 7, letters, EACH, &o));
-    answers(OK, tracerd_rotate(s, 0, &n));
-    answers(OK, tracerd_write(s, 0, below("slow")));
-    snprintf(pipe, sizeof pipe, "%s/s/archives/19700101T000000+0000-19700101T000000+0000-0/c_0", below("slow"));
-    is(!unlink(pipe) && !mkfifo(pipe, 0600));
-    is(!sigaction(SIGUSR1, &(struct sigaction){.sa_handler = handle}, NULL));
-    alarm(60); /* the pipe may not be opened again */
-    is(!pthread_create(&writer, NULL, write_first, s));
-    nanosleep(&(struct timespec){0, 50000000}, NULL);
-    is(!pthread_kill(writer, SIGUSR1));
-    FILE *file = fopen(pipe, "rb");
-    is(file && fread(bytes, 1, 1, file) == 1);
-    nanosleep(&(struct timespec){0, 50000000}, NULL);
-    is(!pthread_kill(writer, SIGUSR1));
-    is(!pthread_create(&releaser, NULL, release_first, s));
-    nanosleep(&(struct timespec){0, 50000000}, NULL);
-    is(file && fread(bytes, 1, sizeof bytes, file) == sizeof bytes - 1 && !fclose(file));
-    pthread_join(writer, NULL);
-    pthread_join(releaser, NULL);
-    alarm(0);
-    answers(RELEASED, tracerd_write(s, 0, below("slow")));
-    tracerd_free(s);
 }
 
 /* A part of more bytes than are copied at a time, whose packets end anywhere in a piece: its file has each record, one after
@@ -220,8 +164,8 @@ static void writes_in_pieces(void) {
 }
 
 int main(int count, char **words) {
-    void (*const alone[])(void) = {shows_snapshots, keeps_what_is_written, writes_in_pieces};
-    void (*const with_session[])(tracerd_session *, tracerd_producer *) = {audits, meets_a_full_disk};
+    void (*const alone[])(void) = {shows_snapshots, writes_in_pieces};
+    void (*const with_session[])(tracerd_session *, tracerd_producer *) = {audits};
     if (count != 2) return 2;
     begin(words[1]);
     EACH_ALONE(alone);

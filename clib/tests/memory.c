@@ -1,8 +1,9 @@
 /* Each allocation fails in turn, alone, or with all after it until a call is refused: the call is answered NO_MEMORY, nothing is
  * lost by it, the same call then goes through, and in the end all is given back. (A block that isn't made smaller is no want of
- * memory. Nor is one page alone that a drain, a rotation or a snapshot would have made ahead, nor a handle of what a clear or a release has
- * removed, which is then freed at once.) A file that can't be closed wasn't written.
- * Link with --wrap of malloc, calloc, realloc, aligned_alloc, mmap, munmap, free, scandir, close and pthread_create.
+ * memory. Nor is one page alone that a drain, a rotation or a snapshot would have made ahead, nor a handle of what a clear or a
+ * release has removed, which is then freed at once.) A file that can't be closed wasn't written.
+ * Link with --wrap of malloc, calloc, realloc, aligned_alloc, mmap, munmap, free, scandir, close, fsync, fdatasync and
+ * pthread_create.
  *
  *     memory DIR     a folder that is there, in which files are written */
 #include "testing.h"
@@ -93,6 +94,10 @@ int __wrap_close(int file) {
     return fails_to_close ? -1 : status;
 }
 
+/* The test needn't wait for a disk. */
+int __wrap_fsync(int file) { return (void)file, 0; }
+int __wrap_fdatasync(int file) { return (void)file, 0; }
+
 static bool fails_to_create;
 int __real_pthread_create(pthread_t *thread, const pthread_attr_t *how, void *(*run)(void *), void *with);
 
@@ -181,6 +186,7 @@ static void records(const char *dir) {
     goes_without(PAGE, tracerd_drain(s, &n));
     rotates(s, 9);
     goes(tracerd_write(s, 0, dir));
+    goes(tracerd_write(s, 0, dir)); /* and once more, to be compared */
     goes(tracerd_audit(dir, "a", "c", 0, ONE, &a));
     is(a.records == 3 || a.records == 4);
     for (uint64_t k = 0; k < 8; k++) answers(OK, tracerd_offer(k & 1 ? p : q, k, 1, "abc", 3, &o));
@@ -209,10 +215,11 @@ static void shows(const char *dir) {
     answers(OK, tracerd_start(s, 0));
     for (uint64_t k = 0; k < 20; k++) answers(OK, tracerd_offer(p, k, 1, "abc", 3, &o));
     goes_without(PAGE, tracerd_snapshot(s, 30, dir));
+    goes_without(PAGE, tracerd_snapshot(s, 30, dir));
     goes(tracerd_audit(dir, "z", "c", 0, ONE, &a));
     is(a.last_serial == 19);
     fails_to_close = true;
-    tracerd_status status = tracerd_snapshot(s, 30, dir);
+    tracerd_status status = tracerd_snapshot(s, 1000000030, dir); /* which has another name */
     is((status == TRACERD_WRITE && errno == EIO) || (status == TRACERD_NO_MEMORY && refused));
     is_lasting = false;
     fails_to_close = false;
@@ -247,6 +254,13 @@ static void drains_to_the_last(void) {
     tracerd_free(s);
 }
 
+/* Each run has a folder of its own, so that it writes what it writes anew. */
+static const char *own_folder(const char *folder, int lasting) {
+    static char path[4200];
+    snprintf(path, sizeof path, "%s/%d-%ld", folder, lasting, fails_at);
+    return path;
+}
+
 int main(int count, char **words) {
     if (count != 2) return 2;
     drains_to_the_last();
@@ -257,7 +271,7 @@ int main(int count, char **words) {
                 asked = refused = shrunk = 0;
                 fails_at++;
                 is_lasting = lasting;
-                (*run)(words[1]);
+                (*run)(own_folder(words[1], lasting));
                 is(held == 0);
                 counts_as_one();
             } while (refused || shrunk);
