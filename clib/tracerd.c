@@ -329,8 +329,21 @@ tracerd_status tracerd_settle(tracerd_session *t, tracerd_counts *counts, uint64
         tracerd_counts_sum(t, counts));
 }
 
+/* The cells write the first fields of these, and know no others. */
+_Static_assert(offsetof(tracerd_counts, reserved) == 48 && sizeof(tracerd_counts) == 128, "tracerd_counts");
+_Static_assert(offsetof(tracerd_fate, reserved) == 24 && sizeof(tracerd_fate) == 64, "tracerd_fate");
+_Static_assert(offsetof(tracerd_audited, reserved) == 72 && sizeof(tracerd_audited) == 128, "tracerd_audited");
+
 tracerd_status tracerd_fate_of(tracerd_producer *producer, uint64_t serial, tracerd_fate *fate) {
-    return OWN(producer, s, trc_stream_fate(&s->stream, serial, fate));
+    tracerd_fate found = {0};
+    slot *s = (slot *)producer;
+    pthread_mutex_lock(&s->lock);
+    tracerd_status status = trc_stream_fate(&s->stream, serial, &found);
+    pthread_mutex_unlock(&s->lock);
+    if (!status) *fate = found;
+    return status;
 }
+
+const char *tracerd_version(void) { return TRACERD_VERSION; }
 
 #include "status_names.h" /* tracerd_status_name, which clib/build makes of tracerd.h */

@@ -8,6 +8,9 @@
  * ahead of the clock holds back all that come after it until the clock is there. Sizes are bytes. Names are 1 to 64 letters,
  * digits and underscores, a letter first, and end in NUL.
  *
+ * Results. What is `reserved` in one is written as zeros, and is for later versions: so a result's size never changes. What an
+ * offer answers never grows.
+ *
  * Answers. A call answers TRACERD_OK, or why it was refused. After a refusal nothing has changed and no result is written,
  * unless the call says otherwise. BAD_MOMENT goes for each moment. No pointer may be NULL but where that is said.
  *
@@ -37,7 +40,24 @@
 #include <stddef.h>
 #include <stdint.h>
 
+/* The version of this header: of 1.2.3 the number is 10203. A program that was built with one version runs with a later one if
+ * the first number is the same, and while that is 0 the second one too: so is the shared object's name, as libtracerd.so.0.9. */
 #define TRACERD_VERSION "0.9.0"
+#define TRACERD_VERSION_NUMBER 900
+
+/* What gcc and clang are told of a call: it is the library's; an answer that nobody looks at hides a loss, or a result that
+ * wasn't written; this pointer, or each one, isn't NULL. */
+#if defined(__GNUC__)
+#define TRACERD_API __attribute__((visibility("default")))
+#define TRACERD_CHECKED __attribute__((warn_unused_result))
+#define TRACERD_POINTER(place) __attribute__((nonnull(place)))
+#define TRACERD_POINTERS __attribute__((nonnull))
+#else
+#define TRACERD_API
+#define TRACERD_CHECKED
+#define TRACERD_POINTER(place)
+#define TRACERD_POINTERS
+#endif
 
 #ifdef __cplusplus
 extern "C" {
@@ -90,11 +110,14 @@ typedef enum tracerd_status {
     TRACERD_FOREIGN = 804            /* a packet of another trace or another stream */
 } tracerd_status;
 
+/* The version of the library that is called, as "0.9.0": that of a shared object may be later than the header's. */
+TRACERD_API const char *tracerd_version(void);
+
 /* The name of a status, as "TooBig"; of another number "Unknown". Never NULL. */
-const char *tracerd_status_name(tracerd_status);
+TRACERD_API const char *tracerd_status_name(tracerd_status);
 
 /* The wall clock's moment (CLOCK_REALTIME), which may be set back or ahead. */
-uint64_t tracerd_now(void);
+TRACERD_API uint64_t tracerd_now(void);
 
 /* ---- A session is made ---- */
 
@@ -104,30 +127,38 @@ typedef enum tracerd_mode { TRACERD_DISCARD = 0, TRACERD_OVERWRITE = 1 } tracerd
 /* A session of this name, with the trace's identifier. A local one is rotated into archives, a snapshot one shows what its
  * rings hold. `east` is how many minutes the clock of archives' names is ahead of UTC. BAD_NAME, BAD_OFFSET, BAD_MODE,
  * NO_MEMORY: *session is NULL. */
+TRACERD_API TRACERD_CHECKED TRACERD_POINTERS
 tracerd_status tracerd_new(tracerd_session **session, const char *name, const uint8_t uuid[16], int32_t east, tracerd_kind);
 /* The moment by the session's clock, for offers and calls on it: the wall clock's when the session was made, and since then as
  * much later as CLOCK_MONOTONIC is. So it never goes back, whatever the wall clock is set to; it stands while the machine
  * sleeps. */
+TRACERD_API TRACERD_POINTERS
 uint64_t tracerd_now_of(const tracerd_session *);
 /* Lets all go, also its producers and what was not written. NULL is ignored. */
-void tracerd_free(tracerd_session *);
+TRACERD_API void tracerd_free(tracerd_session *);
 
 /* A channel: its producers have rings of `count` sub-buffers of `size` bytes, powers of two of 2 to 64 and of 256 to 1,048,576.
  * A full ring discards the newest record, or overwrites its oldest sub-buffer. BAD_NAME, BAD_MODE, ALREADY_STARTED, NAME_TAKEN,
  * TOO_MANY, BAD_GEOMETRY, DISCARD_IN_SNAPSHOT, NO_MEMORY. */
+TRACERD_API TRACERD_CHECKED TRACERD_POINTERS
 tracerd_status tracerd_channel(tracerd_session *, const char *name, uint64_t size, uint64_t count, tracerd_mode);
 
 /* A producer of a channel. Its ring takes its memory here: size * count bytes. BAD_NAME, ALREADY_STARTED, NO_CHANNEL, TOO_MANY,
  * NO_MEMORY: no producer is added. */
+TRACERD_API TRACERD_CHECKED TRACERD_POINTERS
 tracerd_status tracerd_producer_new(tracerd_session *, const char *channel, tracerd_producer **);
 /* The number of its stream: producers are numbered from 0 on. */
+TRACERD_API TRACERD_POINTERS
 uint64_t tracerd_producer_number(const tracerd_producer *);
 /* Gives it back: nothing is offered by it any more, and its records stay. CLOSED. */
+TRACERD_API TRACERD_POINTERS
 tracerd_status tracerd_producer_done(tracerd_producer *);
 
 /* From this moment on offers are taken; the first start begins the first trace chunk. ROTATION_PENDING, ALREADY_ACTIVE. */
+TRACERD_API TRACERD_CHECKED TRACERD_POINTERS
 tracerd_status tracerd_start(tracerd_session *, uint64_t moment);
 /* From now on offers are refused. ROTATION_PENDING, NOT_ACTIVE. */
+TRACERD_API TRACERD_POINTERS
 tracerd_status tracerd_stop(tracerd_session *);
 
 /* ---- Recording ---- */
@@ -145,10 +176,12 @@ typedef struct tracerd_offered {
 
 /* Offers a record: `id` and `size` bytes, which are copied. `payload` may be NULL if there are none. It takes no memory.
  * CLOSED, INACTIVE, TOO_BIG, SPENT. */
+TRACERD_API TRACERD_CHECKED TRACERD_POINTER(1) TRACERD_POINTER(6)
 tracerd_status tracerd_offer(tracerd_producer *, uint64_t moment, uint32_t id, const void *payload, size_t size,
                              tracerd_offered *);
 
 /* The same at the session's clock, of which only a refusal is answered. */
+TRACERD_API TRACERD_CHECKED TRACERD_POINTER(1)
 tracerd_status tracerd_trace(tracerd_producer *, uint32_t id, const void *payload, size_t size);
 
 /* A tracepoint: while the session is off it costs a load and a branch, and its payload is not evaluated. Refusals are lost:
@@ -157,17 +190,20 @@ tracerd_status tracerd_trace(tracerd_producer *, uint32_t id, const void *payloa
     do {                                                                                         \
         tracerd_producer *tracerd_by = (producer);                                               \
         if (__builtin_expect(__atomic_load_n(&tracerd_by->active, __ATOMIC_RELAXED) != 0, 0))    \
-            (void)tracerd_trace(tracerd_by, (id), (payload), (size));                            \
+            if (tracerd_trace(tracerd_by, (id), (payload), (size)) != TRACERD_OK) {}             \
     } while (0)
 
 /* ---- Draining: closed sub-buffers become packets of the current trace chunk ---- */
 
 /* Takes all sub-buffers that were closed before the call, maybe some that are closed meanwhile, and counts them. Several
  * threads may do so at once. SNAPSHOT_MODE. NO_MEMORY: what was taken stays taken. */
+TRACERD_API TRACERD_POINTERS
 tracerd_status tracerd_drain(tracerd_session *, uint64_t *packets);
 /* Starts a thread of the library's own that drains each `period` nanoseconds. SNAPSHOT_MODE, DRAINING, NO_MEMORY. */
+TRACERD_API TRACERD_CHECKED TRACERD_POINTERS
 tracerd_status tracerd_drainer_start(tracerd_session *, uint64_t period);
 /* Ends it, after a last round, and answers what its last round was refused for, if it was: NO_MEMORY. NOT_DRAINING. */
+TRACERD_API TRACERD_POINTERS
 tracerd_status tracerd_drainer_stop(tracerd_session *);
 
 /* ---- Rotations: the current trace chunk becomes an archive ---- */
@@ -175,22 +211,27 @@ tracerd_status tracerd_drainer_stop(tracerd_session *);
 /* Ends the current chunk: what it has and all that the rings hold becomes archive *archive; they are numbered from 0 on. Offers
  * go on meanwhile. SNAPSHOT_MODE, NEVER_STARTED, ROTATION_PENDING, ALREADY_ROTATED. NO_MEMORY: nothing changed, or the rotation
  * is pending, and tracerd_rotate_on goes on with it. */
+TRACERD_API TRACERD_CHECKED TRACERD_POINTERS
 tracerd_status tracerd_rotate(tracerd_session *, uint64_t moment, uint64_t *archive);
 /* Goes on with a rotation for which there was no memory. NOT_PENDING; NO_MEMORY: it is still pending. */
+TRACERD_API TRACERD_CHECKED TRACERD_POINTERS
 tracerd_status tracerd_rotate_on(tracerd_session *, uint64_t *archive);
 
 /* Rotations are due each `every` nanoseconds, and once `bytes` bytes were drained into the current chunk; TRACERD_NEVER of each
  * leaves it out. Only tracerd_tick rotates. SNAPSHOT_MODE, ZERO_PERIOD, ZERO_SIZE. */
 #define TRACERD_NEVER UINT64_MAX
+TRACERD_API TRACERD_POINTERS
 tracerd_status tracerd_schedule(tracerd_session *, uint64_t every, uint64_t bytes);
 
 typedef enum tracerd_cause { TRACERD_IDLE = 0, TRACERD_TIMER = 1, TRACERD_SIZE = 2 } tracerd_cause;
 
 /* Rotates if that is due at this moment, and says why; *archive is written if so. NO_MEMORY: as of tracerd_rotate. */
+TRACERD_API TRACERD_CHECKED TRACERD_POINTERS
 tracerd_status tracerd_tick(tracerd_session *, uint64_t moment, tracerd_cause *, uint64_t *archive);
 
 /* Removes what the rings and the current chunk hold, and counts these records. SNAPSHOT_MODE, NEVER_STARTED, ROTATION_PENDING.
  * NO_MEMORY: some streams are cleared. */
+TRACERD_API TRACERD_POINTERS
 tracerd_status tracerd_clear(tracerd_session *, uint64_t *records);
 
 /* ---- Files ---- */
@@ -210,13 +251,16 @@ tracerd_status tracerd_clear(tracerd_session *, uint64_t *records);
  * NO_MEMORY: `.ARCHIVE.part` may be left, and folders that were made; errno is ENOENT for an empty FOLDER, EAGAIN while another
  * program writes the same archive, and ENOTEMPTY if a file that isn't the archive's is in `.ARCHIVE.part`. The records stay in
  * memory. */
+TRACERD_API TRACERD_CHECKED TRACERD_POINTERS
 tracerd_status tracerd_write(tracerd_session *, uint64_t archive, const char *folder);
 /* Gives up an archive's bytes; its records' fates and counts stay. NO_ARCHIVE, RELEASED. NO_MEMORY: some streams are
  * released. */
+TRACERD_API TRACERD_POINTERS
 tracerd_status tracerd_release(tracerd_session *, uint64_t archive);
 /* Writes what the rings of a snapshot session hold, in the form of archive 0 and as tracerd_write does, below a folder that is
  * to be this snapshot's alone: its name has the moment's second. Each stream is shown as it is at one step, while offers go on.
  * NOT_SNAPSHOT_MODE, NEVER_STARTED. EXISTS, READ, WRITE, NO_MEMORY: as of tracerd_write, and the moment is stored. */
+TRACERD_API TRACERD_CHECKED TRACERD_POINTERS
 tracerd_status tracerd_snapshot(tracerd_session *, uint64_t moment, const char *folder);
 
 typedef struct tracerd_audited {
@@ -226,24 +270,33 @@ typedef struct tracerd_audited {
     uint64_t last_packet, last_serial; /* 0 without packets */
     uint64_t archive, byte;    /* of a fault: the number of the archive, and where in its file the packet begins */
     uint32_t packet_fault;     /* of PACKET: 1 to 7 for P1 to P7; else 0 */
+    uint32_t reserved_too;
+    uint64_t reserved[7];
 } tracerd_audited;
 
 /* Reads FOLDER/SESSION/archives/ARCHIVE/CHANNEL_STREAM of all archives, in order of their numbers, and judges each packet. It
  * wants no session. READ: also of an empty FOLDER (ENOENT). NO_MEMORY. PACKET, NUMBER_REPEAT, SERIAL_REPEAT, FOREIGN: the last
  * three fields say where, the others are 0. Without an archive all are 0. */
+TRACERD_API TRACERD_CHECKED TRACERD_POINTERS
 tracerd_status tracerd_audit(const char *folder, const char *session, const char *channel, uint64_t stream,
                              const uint8_t uuid[16], tracerd_audited *);
 
 /* ---- Accounts ---- */
 
 /* offered = discarded + overwritten + cleared + in_ring + in_chunks, where in_chunks counts released archives' records too. */
-typedef struct tracerd_counts { uint64_t offered, discarded, overwritten, cleared, in_ring, in_chunks; } tracerd_counts;
+typedef struct tracerd_counts {
+    uint64_t offered, discarded, overwritten, cleared, in_ring, in_chunks;
+    uint64_t reserved[10];
+} tracerd_counts;
 
 /* Of one producer: as of one moment. */
+TRACERD_API TRACERD_CHECKED TRACERD_POINTERS
 tracerd_status tracerd_counts_of(tracerd_producer *, tracerd_counts *);
 /* The sums over all producers, one after another. What would be more than UINT64_MAX is that. */
+TRACERD_API TRACERD_CHECKED TRACERD_POINTERS
 tracerd_status tracerd_counts_sum(tracerd_session *, tracerd_counts *);
 /* The sums, once nobody can offer any more. MISSING: *stream is the first one whose producer was not given back. DRAINING. */
+TRACERD_API TRACERD_CHECKED TRACERD_POINTERS
 tracerd_status tracerd_settle(tracerd_session *, tracerd_counts *, uint64_t *stream);
 
 typedef enum tracerd_place {
@@ -256,7 +309,9 @@ typedef struct tracerd_fate {
     uint32_t place;  /* a tracerd_place */
     uint64_t chunk;  /* in a chunk: its number, which is its archive's; else 0 */
     uint64_t packet; /* its packet, unless it was not offered, discarded or overwritten; else 0 */
+    uint64_t reserved[5];
 } tracerd_fate;
+TRACERD_API TRACERD_CHECKED TRACERD_POINTERS
 tracerd_status tracerd_fate_of(tracerd_producer *, uint64_t serial, tracerd_fate *);
 
 #ifdef __cplusplus

@@ -10,6 +10,9 @@
 
 namespace tracerd {
 
+// The version of the library that is called.
+inline std::string version() { return tracerd_version(); }
+
 // Why a call was refused.
 class refused : public std::runtime_error {
 public:

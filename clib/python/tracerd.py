@@ -9,7 +9,7 @@
     session.write(session.rotate(session.now()), "DIR")
 
 tracerd.h has the meaning of each call, its units and refusals. The library is that of the variable TRACERD_SO, or
-libtracerd.so.0 where the system finds libraries."""
+libtracerd.so.0.9 where the system finds libraries."""
 import ctypes
 import os
 from ctypes import POINTER, byref, c_char_p, c_int32, c_size_t, c_uint32, c_uint64, c_void_p
@@ -28,7 +28,8 @@ class _Struct(ctypes.Structure):
     """A structure that shows its fields."""
 
     def __repr__(self):
-        return f"{type(self).__name__}({', '.join(f'{name}={getattr(self, name)}' for name, _ in self._fields_)})"
+        shown = (f"{name}={getattr(self, name)}" for name, _ in self._fields_ if name[0] != "_")
+        return f"{type(self).__name__}({', '.join(shown)})"
 
 
 def _numbers(*names):
@@ -44,13 +45,16 @@ class Offered(_Struct):
 class Fate(_Struct):
     """Where a record is, or how it was lost: `place` is NOT_OFFERED .. WAS_CLEARED."""
 
-    _fields_ = [("place", c_uint32), *_numbers("chunk", "packet")]
+    _fields_ = [("place", c_uint32), *_numbers("chunk", "packet"), ("_reserved", c_uint64 * 5)]
 
 
 class Counts(_Struct):
     """`offered` is the sum of the others."""
 
-    _fields_ = _numbers("offered", "discarded", "overwritten", "cleared", "in_ring", "in_chunks")
+    _fields_ = [
+        *_numbers("offered", "discarded", "overwritten", "cleared", "in_ring", "in_chunks"),
+        ("_reserved", c_uint64 * 10),
+    ]
 
 
 class Audited(_Struct):
@@ -59,6 +63,8 @@ class Audited(_Struct):
     _fields_ = [
         *_numbers("packets", "records", "absent", "discarded", "last_packet", "last_serial", "archive", "byte"),
         ("packet_fault", c_uint32),
+        ("_reserved_too", c_uint32),
+        ("_reserved", c_uint64 * 7),
     ]
 
 
@@ -76,7 +82,7 @@ class _Number:
 
 
 _i32, _u32, _u64 = _Number(c_int32), _Number(c_uint32), _Number(c_uint64)
-_library = ctypes.CDLL(os.environ.get("TRACERD_SO", "libtracerd.so.0"))
+_library = ctypes.CDLL(os.environ.get("TRACERD_SO", "libtracerd.so.0.9"))
 
 
 def _call(name, *types, result=c_uint32):
@@ -85,6 +91,10 @@ def _call(name, *types, result=c_uint32):
     return found
 
 
+_version = _call("version", result=c_char_p)
+version = _version().decode()
+if version.split(".")[:2] != __version__.split(".")[:2]:
+    raise ImportError(f"tracerd.py {__version__} needs another libtracerd than {version}")
 _number = POINTER(c_uint64)
 _status_name = _call("status_name", _u32, result=c_char_p)
 _new = _call("new", POINTER(c_void_p), c_char_p, c_char_p, _i32, _u32)

@@ -252,11 +252,41 @@ static void traces(tracerd_session *s, tracerd_producer *p) {
     is(!strcmp(tracerd_status_name(TRACERD_TOO_BIG), "TooBig") && !strcmp(tracerd_status_name((tracerd_status)3), "Unknown"));
 }
 
+/* What is reserved in a result is zeros, whatever was there before; after a refusal it is as it was. */
+static void reserves(tracerd_session *s, tracerd_producer *p) {
+    static const uint64_t zeros[10];
+    tracerd_counts c[3];
+    tracerd_fate f;
+    tracerd_audited a;
+    uint64_t n;
+    int one = 0, two = 0, three = 0;
+    memset(c, 255, sizeof c);
+    memset(&f, 255, sizeof f);
+    memset(&a, 255, sizeof a);
+    answers(MISSING, tracerd_settle(s, &c[2], &n));
+    is(c[2].offered == UINT64_MAX && c[2].reserved[9] == UINT64_MAX);
+    answers(OK, tracerd_start(s, 0));
+    is_stored(p, 0, 27, 0, 0);
+    answers(OK, tracerd_rotate(s, 0, &n));
+    answers(OK, tracerd_write(s, 0, below("reserved")));
+    answers(OK, tracerd_counts_of(p, &c[0]));
+    answers(OK, tracerd_counts_sum(s, &c[1]));
+    answers(OK, tracerd_producer_done(p));
+    answers(OK, tracerd_settle(s, &c[2], &n));
+    for (int i = 0; i < 3; i++) is(c[i].offered == 1 && !memcmp(c[i].reserved, zeros, sizeof c[i].reserved));
+    answers(OK, tracerd_fate_of(p, 0, &f));
+    is(f.place == TRACERD_IN_CHUNK && !memcmp(f.reserved, zeros, sizeof f.reserved));
+    answers(OK, tracerd_audit(below("reserved"), "s", "c", 0, ONE, &a));
+    is(a.records == 1 && !a.reserved_too && !memcmp(a.reserved, zeros, sizeof a.reserved));
+    is(!strcmp(tracerd_version(), TRACERD_VERSION) && sscanf(TRACERD_VERSION, "%d.%d.%d", &one, &two, &three) == 3);
+    is(TRACERD_VERSION_NUMBER == 10000 * one + 100 * two + three);
+}
+
 int main(int count, char **words) {
     void (*const alone[])(void) = {refuses_what_is_planned_badly, drains_no_snapshots, works_without_streams};
     void (*const with_session[])(tracerd_session *, tracerd_producer *) = {
         records_and_archives, refuses_at_the_wrong_time, rotates_when_due, clears, drains_by_itself,
-        leaves_signals_alone, traces};
+        leaves_signals_alone, traces, reserves};
     if (count != 2) return 2;
     begin(words[1]);
     EACH_ALONE(alone);

@@ -63,6 +63,7 @@ static void moves() {
 static void refuses_zero_bytes(const std::string &folder) {
     const std::string zero("a\0b", 3);
     tracerd::session session("app", {{1}});
+    is(tracerd::version() == TRACERD_VERSION);
     answers(BAD_NAME, refusal([&] { tracerd::session(zero, {{1}}); }));
     answers(BAD_NAME, refusal([&] { session.channel(zero, 256, 2, TRACERD_OVERWRITE); }));
     answers(BAD_NAME, refusal([&] { session.producer(zero); }));

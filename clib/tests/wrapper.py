@@ -67,6 +67,18 @@ def refuses_zero_bytes(folder="nowhere/a\0b"):
         assert isinstance(raised(call, *given), tracerd.Refused), (call, given)
 
 
+def knows_its_library():
+    assert tracerd.version == tracerd.__version__, tracerd.version
+    session = planned()
+    producer = session.producer("main")
+    session.start(0)
+    producer.offer(0, 1)
+    shown = repr(producer.counts())
+    assert shown == "Counts(offered=1, discarded=0, overwritten=0, cleared=0, in_ring=1, in_chunks=0)", shown
+    assert not any(producer.counts()._reserved) and not any(session.counts()._reserved)
+    assert not any(producer.fate(0)._reserved)
+
+
 def tells_what_was_found():
     session = planned()
     first, second = session.producer("main"), session.producer("main")
@@ -101,6 +113,7 @@ if __name__ == "__main__":
         ends_in_any_order,
         cuts_no_number_off,
         refuses_zero_bytes,
+        knows_its_library,
         tells_what_was_found,
         lets_no_entry_go_but_its_own,
         wants_a_whole_identifier,

@@ -7,6 +7,7 @@ const THREADS: u64 = 4;
 const RECORDS: u64 = 1_000;
 
 fn main() -> Result<(), Refused> {
+    assert_eq!(tracerd::version(), env!("CARGO_PKG_VERSION"));
     let folder = std::env::args().nth(1).expect("usage: threads DIR");
     let session = Session::new("rusty", UUID, 0, Kind::Local)?;
     session.channel("main", 65_536, 16, Mode::Discard)?;

@@ -27,6 +27,7 @@ pub struct RawFate {
     pub place: u32,
     pub chunk: u64,
     pub packet: u64,
+    reserved: [u64; 5],
 }
 
 /// `offered` is the sum of the others.
@@ -39,6 +40,7 @@ pub struct Counts {
     pub cleared: u64,
     pub in_ring: u64,
     pub in_chunks: u64,
+    reserved: [u64; 10],
 }
 
 /// What an audit found.
@@ -54,9 +56,12 @@ pub struct Audited {
     pub archive: u64,
     pub byte: u64,
     pub packet_fault: u32,
+    reserved_too: u32,
+    reserved: [u64; 7],
 }
 
 extern "C" {
+    pub fn tracerd_version() -> *const c_char;
     pub fn tracerd_now() -> u64;
     pub fn tracerd_now_of(s: *const RawSession) -> u64;
     pub fn tracerd_new(s: *mut *mut RawSession, name: *const c_char, uuid: *const u8, east: i32, kind: u32) -> u32;

@@ -16,7 +16,7 @@
 //! ```
 mod ffi;
 
-use std::ffi::CString;
+use std::ffi::{CStr, CString};
 use std::fmt;
 use std::os::unix::ffi::OsStrExt;
 use std::path::Path;
@@ -85,6 +85,11 @@ fn name(text: &str) -> Result<CString, Refused> {
 
 fn path(folder: &Path, otherwise: Refused) -> Result<CString, Refused> {
     CString::new(folder.as_os_str().as_bytes()).map_err(|_| otherwise)
+}
+
+/// The version of the library that is linked.
+pub fn version() -> &'static str {
+    unsafe { CStr::from_ptr(ffi::tracerd_version()) }.to_str().unwrap_or_default()
 }
 
 /// The wall clock's moment, in nanoseconds since 1970. It may be set back or ahead: [`Session::now`] never goes back.
