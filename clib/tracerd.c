@@ -200,6 +200,7 @@ tracerd_status tracerd_drainer_start(tracerd_session *t, uint64_t period) {
     sigset_t all, before;
     if (!t->is_here) return TRACERD_CLOSED;
     if (t->kind == TRACERD_SNAPSHOT) return TRACERD_SNAPSHOT_MODE;
+    if (!period) return TRACERD_ZERO_PERIOD; /* it would never sleep */
     if (!atomic_compare_exchange_strong(&t->drainer, &(int){OFF}, BUSY)) return TRACERD_DRAINING;
     t->period = period < INT64_MAX ? period : INT64_MAX; /* for ever */
     sem_init(&t->bell, 0, 0);

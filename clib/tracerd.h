@@ -184,13 +184,14 @@ tracerd_status tracerd_offer(tracerd_producer *, uint64_t moment, uint32_t id, c
 TRACERD_API TRACERD_CHECKED TRACERD_POINTER(1)
 tracerd_status tracerd_trace(tracerd_producer *, uint32_t id, const void *payload, size_t size);
 
-/* A tracepoint: while the session is off it costs a load and a branch, and its payload is not evaluated. Refusals are lost:
- * where they matter, call tracerd_trace. Each thread has the producer that it names. */
-#define TRACERD_TRACE(producer, id, payload, size)                                               \
-    do {                                                                                         \
-        tracerd_producer *tracerd_by = (producer);                                               \
-        if (__builtin_expect(__atomic_load_n(&tracerd_by->active, __ATOMIC_RELAXED) != 0, 0))    \
-            if (tracerd_trace(tracerd_by, (id), (payload), (size)) != TRACERD_OK) {}             \
+/* A tracepoint, TRACERD_TRACE(producer, id, payload, size): while the session is off it costs a load and a branch, and nothing
+ * but the producer is evaluated. The payload may be a compound literal. Refusals are lost: where they matter, call
+ * tracerd_trace. Each thread has the producer that it names. Names that begin with tracerd_ are the library's. */
+#define TRACERD_TRACE(producer, ...)                                                                        \
+    do {                                                                                                    \
+        tracerd_producer *tracerd_of_tracepoint_ = (producer);                                              \
+        if (__builtin_expect(__atomic_load_n(&tracerd_of_tracepoint_->active, __ATOMIC_RELAXED) != 0, 0) && \
+            tracerd_trace(tracerd_of_tracepoint_, __VA_ARGS__) != TRACERD_OK) {}                            \
     } while (0)
 
 /* ---- Draining: closed sub-buffers become packets of the current trace chunk ---- */
@@ -199,7 +200,7 @@ tracerd_status tracerd_trace(tracerd_producer *, uint32_t id, const void *payloa
  * threads may do so at once. SNAPSHOT_MODE. NO_MEMORY: what was taken stays taken. */
 TRACERD_API TRACERD_POINTERS
 tracerd_status tracerd_drain(tracerd_session *, uint64_t *packets);
-/* Starts a thread of the library's own that drains each `period` nanoseconds. SNAPSHOT_MODE, DRAINING, NO_MEMORY. */
+/* Starts a thread of the library's own that drains each `period` nanoseconds. SNAPSHOT_MODE, ZERO_PERIOD, DRAINING, NO_MEMORY. */
 TRACERD_API TRACERD_CHECKED TRACERD_POINTERS
 tracerd_status tracerd_drainer_start(tracerd_session *, uint64_t period);
 /* Ends it, after a last round, and answers what its last round was refused for, if it was: NO_MEMORY. NOT_DRAINING. */
@@ -244,8 +245,8 @@ tracerd_status tracerd_clear(tracerd_session *, uint64_t *records);
  * that search folders for `metadata` may find one.
  *
  * What has the name ARCHIVE already is never touched. If it is a folder with just these files and bytes, the answer is OK, and
- * it is on disk too. Missing folders are made. FOLDER may be a symbolic link; below it none is followed. FOLDER is to be one
- * run's: archives of another have the same numbers.
+ * it is on disk too. Missing folders are made. FOLDER may be a symbolic link; below it none is followed. FOLDER or the
+ * session's name is to be one run's: archives of another have the same numbers.
  *
  * NO_ARCHIVE, RELEASED: no folder is made. EXISTS: something else has the name. READ: what has it can't be read. WRITE,
  * NO_MEMORY: `.ARCHIVE.part` may be left, and folders that were made; errno is ENOENT for an empty FOLDER, EAGAIN while another

@@ -209,6 +209,8 @@ static void drains_by_itself(tracerd_session *s, tracerd_producer *p) {
     tracerd_counts c;
     uint64_t n;
     answers(NOT_DRAINING, tracerd_drainer_stop(s));
+    answers(ZERO_PERIOD, tracerd_drainer_start(s, 0));
+    answers(NOT_DRAINING, tracerd_drainer_stop(s));
     answers(OK, tracerd_start(s, 0));
     answers(OK, tracerd_producer_done(p));
     for (int round = 0; round < 2; round++) {
@@ -237,6 +239,8 @@ static void leaves_signals_alone(tracerd_session *s, tracerd_producer *p) {
     answers(OK, tracerd_drainer_stop(s));
 }
 
+typedef struct { int one, other; } pair;
+
 static void traces(tracerd_session *s, tracerd_producer *p) {
     tracerd_counts c;
     int evaluated = 0;
@@ -246,8 +250,11 @@ static void traces(tracerd_session *s, tracerd_producer *p) {
     answers(OK, tracerd_start(s, before));
     TRACERD_TRACE(p, 1, (evaluated++, "x"), 1);
     is(evaluated == 1);
+    tracerd_producer *tracerd_by = p; /* a name that the program may have too */
+    if (evaluated) TRACERD_TRACE(tracerd_by, 1, &(pair){1, 2}, sizeof(pair));
+    else evaluated = 2;
     answers(OK, tracerd_counts_of(p, &c));
-    is(c.offered == 1 && c.in_ring == 1);
+    is(c.offered == 2 && c.in_ring == 2);
     is(before > 1700000000000000000 && before < LAST_MOMENT && tracerd_now() >= before);
     is(!strcmp(tracerd_status_name(TRACERD_TOO_BIG), "TooBig") && !strcmp(tracerd_status_name((tracerd_status)3), "Unknown"));
 }

@@ -7,6 +7,7 @@
 #include <stdint.h>
 #include <stdio.h>
 #include <stdlib.h>
+#include <sys/random.h>
 
 enum { WORKERS = 4, JOBS = 1000, ROOM = 64 };
 enum { QUEUED = 1, BEGUN = 2, ENDED = 3 }; /* the ids of records; the payload of each is a job */
@@ -83,12 +84,24 @@ static void keep(tracerd_session *session, const char *folder) {
            (unsigned long long)counts.discarded, (unsigned long long)counts.in_chunks);
 }
 
-int main(int count, char **words) {
-    static const uint8_t uuid[16] = {0x77, 0x6f, 0x72, 0x6b, 0, 0, 0x40, 0, 0x80, 0, 0, 0, 0, 0, 0, 1};
+/* A session of this run's own, so that several runs may have one folder: it is named by when it began, and has an identifier that
+ * no other has. */
+static tracerd_session *open_session(void) {
+    uint8_t uuid[16];
+    char name[32];
     tracerd_session *session;
+    if (getrandom(uuid, sizeof uuid, 0) != sizeof uuid) abort();
+    uuid[6] = (uuid[6] & 0x0f) | 0x40; /* a random one, by RFC 4122 */
+    uuid[8] = (uuid[8] & 0x3f) | 0x80;
+    snprintf(name, sizeof name, "queue_%llu", (unsigned long long)tracerd_now());
+    must(tracerd_new(&session, name, uuid, 0, TRACERD_LOCAL), "new");
+    return session;
+}
+
+int main(int count, char **words) {
+    tracerd_session *session = open_session();
     tracerd_producer *queueing, *working[WORKERS];
     pthread_t workers[WORKERS];
-    must(tracerd_new(&session, "queue", uuid, 0, TRACERD_LOCAL), "new");
     must(tracerd_channel(session, "main", 16384, 8, TRACERD_DISCARD), "channel");
     must(tracerd_producer_new(session, "main", &queueing), "producer_new");
     for (int i = 0; i < WORKERS; i++) must(tracerd_producer_new(session, "main", &working[i]), "producer_new");
