@@ -282,6 +282,36 @@ TRACERD_API TRACERD_CHECKED TRACERD_POINTERS
 tracerd_status tracerd_audit(const char *folder, const char *session, const char *channel, uint64_t stream,
                              const uint8_t uuid[16], tracerd_audited *);
 
+/* ---- What there is ---- */
+
+typedef enum tracerd_state { TRACERD_NEW = 0, TRACERD_ACTIVE = 1, TRACERD_STOPPED = 2 } tracerd_state;
+
+typedef struct tracerd_about {
+    uint32_t kind, state;         /* a tracerd_kind, and a tracerd_state */
+    uint32_t is_pending;          /* 1 if a rotation is pending: its archive will have the number `archives` */
+    uint32_t is_draining;         /* 1 if the library's drainer runs */
+    uint64_t channels, producers; /* how many were made */
+    uint64_t archives;            /* they have the numbers below this one, also those that were released */
+    uint64_t begun, last;         /* when the current chunk began, and the last stored moment; 0 before the first start */
+    uint64_t reserved[9];
+} tracerd_about;
+
+/* What a session is now. */
+TRACERD_API TRACERD_CHECKED TRACERD_POINTERS
+tracerd_status tracerd_about_of(tracerd_session *, tracerd_about *);
+
+typedef struct tracerd_archive {
+    uint64_t begun, ended;            /* the moments in its name */
+    uint64_t packets, records, bytes; /* what its files have, without metadata; or had, before it was released */
+    uint32_t is_released;             /* 1 if bytes of it were released: it can't be written any more */
+    uint32_t reserved_too;
+    uint64_t reserved[10];
+} tracerd_archive;
+
+/* What an archive has. NO_ARCHIVE. */
+TRACERD_API TRACERD_CHECKED TRACERD_POINTERS
+tracerd_status tracerd_archive_of(tracerd_session *, uint64_t archive, tracerd_archive *);
+
 /* ---- Accounts ---- */
 
 /* offered = discarded + overwritten + cleared + in_ring + in_chunks, where in_chunks counts released archives' records too. */

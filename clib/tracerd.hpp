@@ -116,6 +116,16 @@ public:
     void snapshot(uint64_t moment, const std::string &folder) {
         must(tracerd_snapshot(get(), moment, text(folder, TRACERD_WRITE)));
     }
+    tracerd_about about() const {
+        tracerd_about about;
+        must(tracerd_about_of(get(), &about));
+        return about;
+    }
+    tracerd_archive archive(uint64_t number) const {
+        tracerd_archive archive;
+        must(tracerd_archive_of(get(), number, &archive));
+        return archive;
+    }
     tracerd_counts counts() const {
         tracerd_counts counts;
         must(tracerd_counts_sum(get(), &counts));

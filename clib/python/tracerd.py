@@ -19,6 +19,7 @@ LOCAL, SNAPSHOT = 0, 1
 DISCARD, OVERWRITE = 0, 1
 STORED, STORED_OVER, DISCARDED = 0, 1, 2
 IDLE, TIMER, SIZE = 0, 1, 2
+NEW, ACTIVE, STOPPED = 0, 1, 2
 NOT_OFFERED, IN_RING, IN_CHUNK, WAS_DISCARDED, WAS_OVERWRITTEN, WAS_CLEARED = range(6)
 NEVER = 2**64 - 1
 _BAD_NAME, _WRITE, _READ = 7, 20, 21
@@ -53,6 +54,27 @@ class Counts(_Struct):
 
     _fields_ = [
         *_numbers("offered", "discarded", "overwritten", "cleared", "in_ring", "in_chunks"),
+        ("_reserved", c_uint64 * 10),
+    ]
+
+
+class About(_Struct):
+    """What a session is: `kind` is LOCAL or SNAPSHOT, `state` NEW, ACTIVE or STOPPED."""
+
+    _fields_ = [
+        *[(name, c_uint32) for name in ("kind", "state", "is_pending", "is_draining")],
+        *_numbers("channels", "producers", "archives", "begun", "last"),
+        ("_reserved", c_uint64 * 9),
+    ]
+
+
+class Archive(_Struct):
+    """What an archive has, or had before it was released."""
+
+    _fields_ = [
+        *_numbers("begun", "ended", "packets", "records", "bytes"),
+        ("is_released", c_uint32),
+        ("_reserved_too", c_uint32),
         ("_reserved", c_uint64 * 10),
     ]
 
@@ -118,6 +140,8 @@ _write = _call("write", c_void_p, _u64, c_char_p)
 _release = _call("release", c_void_p, _u64)
 _snapshot = _call("snapshot", c_void_p, _u64, c_char_p)
 _audit = _call("audit", c_char_p, c_char_p, c_char_p, _u64, c_char_p, POINTER(Audited))
+_about_of = _call("about_of", c_void_p, POINTER(About))
+_archive_of = _call("archive_of", c_void_p, _u64, POINTER(Archive))
 _counts_of = _call("counts_of", c_void_p, POINTER(Counts))
 _counts_sum = _call("counts_sum", c_void_p, POINTER(Counts))
 _settle = _call("settle", c_void_p, POINTER(Counts), _number)
@@ -276,6 +300,12 @@ class Session:
 
     def snapshot(self, moment, folder):
         _must(_snapshot(self._handle, moment, _path(folder, _WRITE)))
+
+    def about(self):
+        return _written(About, _about_of, self._handle)
+
+    def archive(self, number):
+        return _written(Archive, _archive_of, self._handle, number)
 
     def counts(self):
         return _written(Counts, _counts_sum, self._handle)

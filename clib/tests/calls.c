@@ -289,11 +289,52 @@ static void reserves(tracerd_session *s, tracerd_producer *p) {
     is(TRACERD_VERSION_NUMBER == 10000 * one + 100 * two + three);
 }
 
+static void has_state(tracerd_session *s, tracerd_state state, uint64_t archives, uint64_t begun, uint64_t last) {
+    static const uint64_t zeros[9];
+    tracerd_about a;
+    memset(&a, 255, sizeof a);
+    answers(OK, tracerd_about_of(s, &a));
+    is(a.kind == TRACERD_LOCAL && a.state == state && a.archives == archives && a.begun == begun && a.last == last);
+    is(a.channels == 1 && a.producers == 1 && !a.is_pending && !a.is_draining);
+    is(!memcmp(a.reserved, zeros, sizeof a.reserved));
+}
+
+/* Two records of 80 + 2 * 74 bytes are a packet, a third one another of 80 + 74. */
+static void says_what_there_is(tracerd_session *s, tracerd_producer *p) {
+    static const uint64_t zeros[10];
+    tracerd_about a;
+    tracerd_archive it;
+    uint64_t n;
+    memset(&it, 255, sizeof it);
+    has_state(s, TRACERD_NEW, 0, 0, 0);
+    answers(NO_ARCHIVE, tracerd_archive_of(s, 0, &it));
+    is(it.begun == UINT64_MAX);
+    answers(OK, tracerd_start(s, 5));
+    has_state(s, TRACERD_ACTIVE, 0, 5, 5);
+    for (uint64_t k = 0; k < 3; k++) is_stored(p, 6, 50, k, k / 2);
+    answers(OK, tracerd_rotate(s, 9, &n));
+    answers(OK, tracerd_stop(s));
+    has_state(s, TRACERD_STOPPED, 1, 9, 9);
+    answers(OK, tracerd_archive_of(s, 0, &it));
+    is(it.begun == 5 && it.ended == 9 && it.packets == 2 && it.records == 3 && it.bytes == 80 + 2 * 74 + 80 + 74);
+    is(!it.is_released && !it.reserved_too && !memcmp(it.reserved, zeros, sizeof it.reserved));
+    answers(OK, tracerd_release(s, 0));
+    answers(OK, tracerd_archive_of(s, 0, &it));
+    is(it.is_released == 1 && it.packets == 2 && it.records == 3 && it.bytes == 80 + 2 * 74 + 80 + 74);
+    answers(NO_ARCHIVE, tracerd_archive_of(s, 1, &it));
+    answers(OK, tracerd_drainer_start(s, 1000000));
+    answers(OK, tracerd_about_of(s, &a));
+    is(a.is_draining == 1 && a.archives == 1);
+    answers(OK, tracerd_drainer_stop(s));
+    answers(OK, tracerd_about_of(s, &a));
+    is(!a.is_draining);
+}
+
 int main(int count, char **words) {
     void (*const alone[])(void) = {refuses_what_is_planned_badly, drains_no_snapshots, works_without_streams};
     void (*const with_session[])(tracerd_session *, tracerd_producer *) = {
         records_and_archives, refuses_at_the_wrong_time, rotates_when_due, clears, drains_by_itself,
-        leaves_signals_alone, traces, reserves};
+        leaves_signals_alone, traces, reserves, says_what_there_is};
     if (count != 2) return 2;
     begin(words[1]);
     EACH_ALONE(alone);

@@ -153,7 +153,10 @@ static void meets_the_pending(tracerd_session *s, tracerd_producer *p) {
     tracerd_status status = tracerd_rotate(s, 20, &n);
     bool is_refused = had_no_memory(status, before, PAGE, "rotate", __LINE__);
     if (is_refused && tracerd_rotate(s, 21, &n) == TRACERD_ROTATION_PENDING) {
+        tracerd_about about;
         was_pending = true;
+        answers(OK, tracerd_about_of(s, &about));
+        is(about.is_pending == 1 && about.archives == 1);
         answers(ROTATION_PENDING, tracerd_start(s, 21));
         answers(ROTATION_PENDING, tracerd_stop(s));
         answers(ROTATION_PENDING, tracerd_clear(s, &n));

@@ -66,6 +66,8 @@ static void *read_counts(void *given) {
     tracerd_counts c;
     tracerd_fate f;
     tracerd_cause cause;
+    tracerd_about about;
+    tracerd_archive it;
     uint64_t archive, stream;
     (void)given;
     for (uint64_t k = 0; !is_over; k++) {
@@ -74,6 +76,8 @@ static void *read_counts(void *given) {
         must(tracerd_fate_of(jobs[k % (uint64_t)threads].producer, k % 1000, &f), "fate");
         TRACERD_TRACE(jobs[threads].producer, 9, &k, sizeof k);
         if (k % 16) continue;
+        must(tracerd_about_of(session, &about), "about_of");
+        if (about.archives) must(tracerd_archive_of(session, about.archives - 1, &it), "archive_of");
         must(tracerd_tick(session, 0, &cause, &archive), "tick");
         must(tracerd_settle(session, &c, &stream) == TRACERD_DRAINING ? TRACERD_OK : TRACERD_MISSING, "settle");
     }

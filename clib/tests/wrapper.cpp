@@ -30,7 +30,9 @@ static void records(const std::string &folder) {
     uint64_t archive = session.rotate(1000);
     is(session.settle().in_chunks == 404);
     session.write(archive, folder);
+    is(session.about().archives == 1 && session.archive(archive).records == 404 && !session.archive(archive).is_released);
     session.release(archive);
+    is(session.archive(archive).is_released);
     is(session.counts().offered == 404);
 }
 

@@ -77,6 +77,10 @@ def knows_its_library():
     assert shown == "Counts(offered=1, discarded=0, overwritten=0, cleared=0, in_ring=1, in_chunks=0)", shown
     assert not any(producer.counts()._reserved) and not any(session.counts()._reserved)
     assert not any(producer.fate(0)._reserved)
+    assert (session.about().state, session.about().archives) == (tracerd.ACTIVE, 0), session.about()
+    archive = session.archive(session.rotate(9))
+    assert (archive.ended, archive.records, archive.is_released) == (9, 1, 0), archive
+    assert not any(session.about()._reserved) and not any(archive._reserved)
 
 
 def tells_what_was_found():

@@ -31,6 +31,7 @@ fn main() -> Result<(), Refused> {
     let totals = session.settle()?;
     assert_eq!((totals.offered, totals.in_chunks), (THREADS * RECORDS, THREADS * RECORDS));
     session.write(archive, Path::new(&folder))?;
+    assert_eq!((session.about()?.archives, session.archive(archive)?.records), (1, THREADS * RECORDS));
     for stream in 0..THREADS {
         let audited = audit(Path::new(&folder), "rusty", "main", stream, UUID)?;
         assert_eq!((audited.records, audited.absent, audited.last_serial), (RECORDS, 0, RECORDS - 1));

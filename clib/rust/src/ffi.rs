@@ -43,6 +43,38 @@ pub struct Counts {
     reserved: [u64; 10],
 }
 
+/// What a session is.
+#[repr(C)]
+#[derive(Clone, Copy, Debug, Default, PartialEq, Eq)]
+pub struct About {
+    /// As `Kind` has it: 0 or 1.
+    pub kind: u32,
+    /// 0 new, 1 active, 2 stopped.
+    pub state: u32,
+    pub is_pending: u32,
+    pub is_draining: u32,
+    pub channels: u64,
+    pub producers: u64,
+    pub archives: u64,
+    pub begun: u64,
+    pub last: u64,
+    reserved: [u64; 9],
+}
+
+/// What an archive has, or had before it was released.
+#[repr(C)]
+#[derive(Clone, Copy, Debug, Default, PartialEq, Eq)]
+pub struct Archive {
+    pub begun: u64,
+    pub ended: u64,
+    pub packets: u64,
+    pub records: u64,
+    pub bytes: u64,
+    pub is_released: u32,
+    reserved_too: u32,
+    reserved: [u64; 10],
+}
+
 /// What an audit found.
 #[repr(C)]
 #[derive(Clone, Copy, Debug, Default, PartialEq, Eq)]
@@ -99,6 +131,8 @@ extern "C" {
         uuid: *const u8,
         a: *mut Audited,
     ) -> u32;
+    pub fn tracerd_about_of(s: *mut RawSession, about: *mut About) -> u32;
+    pub fn tracerd_archive_of(s: *mut RawSession, number: u64, archive: *mut Archive) -> u32;
     pub fn tracerd_counts_of(p: *mut RawProducer, counts: *mut Counts) -> u32;
     pub fn tracerd_counts_sum(s: *mut RawSession, counts: *mut Counts) -> u32;
     pub fn tracerd_settle(s: *mut RawSession, counts: *mut Counts, stream: *mut u64) -> u32;

@@ -23,7 +23,7 @@ use std::path::Path;
 use std::ptr::{null_mut, NonNull};
 use std::sync::Arc;
 
-pub use ffi::{Audited, Counts};
+pub use ffi::{About, Archive, Audited, Counts};
 
 macro_rules! refusals {
     ($($name:ident = $code:literal,)*) => {
@@ -254,6 +254,16 @@ impl Session {
     pub fn snapshot(&self, moment: u64, folder: &Path) -> Result<(), Refused> {
         let folder = path(folder, Refused::Write)?;
         done(unsafe { ffi::tracerd_snapshot(self.raw(), moment, folder.as_ptr()) })
+    }
+
+    /// What the session is now.
+    pub fn about(&self) -> Result<About, Refused> {
+        written(|about| unsafe { ffi::tracerd_about_of(self.raw(), about) })
+    }
+
+    /// What an archive has.
+    pub fn archive(&self, number: u64) -> Result<Archive, Refused> {
+        written(|archive| unsafe { ffi::tracerd_archive_of(self.raw(), number, archive) })
     }
 
     pub fn counts(&self) -> Result<Counts, Refused> {
