@@ -186,7 +186,8 @@ static tracerd_status remove_held(const archive *a, int archives, int part) {
 static tracerd_status remove_part(const archive *a, int archives) {
     int part = open_there(archives, a->part);
     if (part < 0) return errno == ENOENT ? TRACERD_OK : TRACERD_WRITE;
-    tracerd_status status = hold(part) ? TRACERD_WRITE : remove_held(a, archives, part);
+    tracerd_status status = TRACERD_WRITE;
+    if (!hold(archives, a->part, part)) status = remove_held(a, archives, part);
     let_go(part);
     return status;
 }

@@ -66,17 +66,22 @@ int open_within(int above, const char *name) {
     return open_there(above, name);
 }
 
-int hold(int folder) {
-    if (!flock(folder, LOCK_EX | LOCK_NB)) return 0;
-    return errno == EWOULDBLOCK ? -1 : 0; /* else it is a file system that holds no folders */
+int hold(int above, const char *name, int folder) {
+    struct stat its, that;
+    if (flock(folder, LOCK_EX | LOCK_NB) && errno == EWOULDBLOCK) return -1; /* (not every file system can hold folders) */
+    if (fstat(folder, &its)) return -1;
+    int status = fstatat(above, name, &that, AT_SYMLINK_NOFOLLOW);
+    if (!status && its.st_dev == that.st_dev && its.st_ino == that.st_ino) return 0;
+    if (!status || errno == ENOENT) errno = EAGAIN; /* it was renamed or removed since it was opened */
+    return -1;
 }
 
 int make_held(int above, const char *name) {
     if (mkdirat(above, name, 0777)) return -1;
     int folder = open_there(above, name);
     if (folder < 0) return -1;
-    if (!hold(folder)) return folder;
-    close_quietly(folder);
+    if (!hold(above, name, folder)) return folder;
+    let_go(folder);
     return -1;
 }
 

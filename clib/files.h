@@ -17,8 +17,8 @@ int open_within(int above, const char *name);
 int open_there(int above, const char *name);
 /* Makes a folder that isn't there, for one writer alone: it is held. */
 int make_held(int above, const char *name);
-/* Has nobody else hold a folder. EAGAIN if somebody does. */
-int hold(int folder);
+/* Has nobody else hold a folder that is open. EAGAIN if somebody does, or has given it another name. */
+int hold(int above, const char *name, int folder);
 /* Closes a held folder, for others to hold. errno stays. */
 void let_go(int folder);
 /* Has what was made or renamed in a folder on disk. */

@@ -245,8 +245,8 @@ tracerd_status tracerd_clear(tracerd_session *, uint64_t *records);
  * that search folders for `metadata` may find one.
  *
  * What has the name ARCHIVE already is never touched. If it is a folder with just these files and bytes, the answer is OK, and
- * it is on disk too. Missing folders are made. FOLDER may be a symbolic link; below it none is followed. FOLDER or the
- * session's name is to be one run's: archives of another have the same numbers.
+ * it is on disk too. Missing folders are made. FOLDER may be a symbolic link; below it none is followed. It has to be readable,
+ * so that it can be synced. FOLDER or the session's name is to be one run's: archives of another have the same numbers.
  *
  * NO_ARCHIVE, RELEASED: no folder is made. EXISTS: something else has the name. READ: what has it can't be read. WRITE,
  * NO_MEMORY: `.ARCHIVE.part` may be left, and folders that were made; errno is ENOENT for an empty FOLDER, EAGAIN while another

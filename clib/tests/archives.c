@@ -1,5 +1,5 @@
 /* An archive is written once, beside its place: what is there already, and what links point to, is never touched; and what is
- * written isn't released meanwhile. Link with --wrap of openat, write and fdatasync.
+ * written isn't released meanwhile. Link with --wrap of openat, write, fdatasync and flock.
  *
  *     archives DIR     a folder that is there, in which files are written */
 #include "sessions.h"
@@ -62,6 +62,20 @@ ssize_t __wrap_write(int file, const void *from, size_t size) {
 }
 
 int __wrap_fdatasync(int file) { return is_interrupted() ? -1 : __real_fdatasync(file); }
+
+/* ---- Another program ---- */
+
+static const char *finishes_from, *finishes_to;
+int __real_flock(int file, int how);
+
+/* It renames what it wrote, just before somebody else comes to hold it. */
+int __wrap_flock(int file, int how) {
+    if (finishes_from && how & LOCK_EX) {
+        is(!rename(finishes_from, finishes_to));
+        finishes_from = NULL;
+    }
+    return __real_flock(file, how);
+}
 
 /* ---- What is below a folder ---- */
 
@@ -203,6 +217,19 @@ static void clears_left_overs(tracerd_session *s, tracerd_producer *p) {
     is(is_missing(part) && size_of(at("left", "s/archives/" NAME "/c_0")) == STREAM_BYTES);
 }
 
+/* A folder that another program finishes is none of what is left. */
+static void leaves_what_is_finished(tracerd_session *s, tracerd_producer *p) {
+    const char *part = at("raced", "s/archives/." NAME ".part"), *whole = at("raced", "s/archives/" NAME);
+    archives_one(s, p);
+    answers(OK, tracerd_write(s, 0, below("raced")));
+    is(!rename(whole, part));
+    finishes_from = part;
+    finishes_to = whole;
+    answers(WRITE, tracerd_write(s, 0, below("raced")));
+    is(errno == EAGAIN && !finishes_from && size_of(at("raced", "s/archives/" NAME "/c_0")) == STREAM_BYTES);
+    answers(OK, tracerd_write(s, 0, below("raced")));
+}
+
 /* The disk takes 100 bytes a file: the archive that is there stays whole, and of another one nothing is left. */
 static void meets_a_full_disk(tracerd_session *s, tracerd_producer *p) {
     struct rlimit before, small = {100, RLIM_INFINITY};
@@ -280,7 +307,8 @@ static void shows_each_once(void) {
 int main(int count, char **words) {
     void (*const alone[])(void) = {keeps_what_is_written, shows_each_once};
     void (*const with_session[])(tracerd_session *, tracerd_producer *) = {
-        writes_once, writes_no_half, follows_no_links, clears_left_overs, meets_a_full_disk};
+        writes_once, writes_no_half, follows_no_links, clears_left_overs, leaves_what_is_finished,
+        meets_a_full_disk};
     static char folder[4096]; /* links need all of its path */
     if (count != 2 || !realpath(words[1], folder)) return 2;
     begin(folder);

@@ -108,6 +108,7 @@ int __real_unlinkat(int at, const char *name, int flags);
 int __real_close(int file);
 int __real_flock(int file, int how);
 int __real_fstat(int file, struct stat *about);
+int __real_fstatat(int at, const char *name, struct stat *about, int flags);
 ssize_t __real_getdents64(int folder, void *to, size_t size);
 
 int __wrap_mkdir(const char *path, mode_t mode) {
@@ -161,7 +162,7 @@ int __wrap_renameat(int at, const char *from, int above, const char *to) {
 int __wrap_unlinkat(int at, const char *name, int flags) {
     struct stat about;
     if (has_stopped(EIO)) return -1;
-    if (!fstatat(at, name, &about, AT_SYMLINK_NOFOLLOW)) keeps(about.st_ino);
+    if (!__real_fstatat(at, name, &about, AT_SYMLINK_NOFOLLOW)) keeps(about.st_ino);
     return __real_unlinkat(at, name, flags);
 }
 
@@ -172,6 +173,10 @@ int __wrap_close(int file) {
 
 int __wrap_flock(int file, int how) { return has_stopped(EIO) ? -1 : __real_flock(file, how); }
 int __wrap_fstat(int file, struct stat *about) { return has_stopped(EIO) ? -1 : __real_fstat(file, about); }
+
+int __wrap_fstatat(int at, const char *name, struct stat *about, int flags) {
+    return has_stopped(EIO) ? -1 : __real_fstatat(at, name, about, flags);
+}
 
 ssize_t __wrap_getdents64(int folder, void *to, size_t size) {
     return has_stopped(EIO) ? -1 : __real_getdents64(folder, to, size);
