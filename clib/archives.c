@@ -218,7 +218,7 @@ static tracerd_status write_new(const archive *a, int archives) {
 
 /* ---- Both ---- */
 
-/* OK if no part of the archive was released: its bytes stay while `files` is held. */
+/* OK if no part of the archive was released. */
 static tracerd_status has_bytes(const archive *a) {
     tracerd_session *t = a->session;
     trc_part part;
@@ -243,14 +243,27 @@ static tracerd_status name_folder(archive *a) {
     return status ? status : trc_book_snapshot_name(book, a->moment, room, NAME - 1, &size);
 }
 
+/* From here on to the end the archive isn't released. */
 static tracerd_status begin(archive *a) {
     tracerd_session *t = a->session;
     pthread_mutex_lock(&t->desk);
     tracerd_status status = name_folder(a);
     if (!status && !a->is_snapshot) status = has_bytes(a);
+    if (!status && !a->is_snapshot) {
+        t->is_writing = true;
+        t->writing = a->number;
+    }
     pthread_mutex_unlock(&t->desk);
     snprintf(a->part, sizeof a->part, ".%s.part", a->name);
     return status;
+}
+
+static void end(archive *a) {
+    tracerd_session *t = a->session;
+    pthread_mutex_lock(&t->desk);
+    t->is_writing = false;
+    pthread_cond_broadcast(&t->wrote);
+    pthread_mutex_unlock(&t->desk);
 }
 
 /* Opens FOLDER/SESSION/archives, and makes what is missing of it. */
@@ -265,10 +278,9 @@ static int open_archives(const tracerd_session *t, const char *folder) {
     return archives;
 }
 
-/* Has an archive below a folder. `files` is held. */
-static tracerd_status keep(archive *a, const char *folder) {
-    tracerd_status status = begin(a);
-    if (status) return status;
+/* Has an archive below a folder. */
+static tracerd_status keep_below(archive *a, const char *folder) {
+    tracerd_status status;
     int archives = open_archives(a->session, folder);
     if (archives < 0) return TRACERD_WRITE;
     int there = open_there(archives, a->name);
@@ -281,6 +293,15 @@ static tracerd_status keep(archive *a, const char *folder) {
         status = is_other(errno) ? TRACERD_EXISTS : TRACERD_READ;
     }
     close_quietly(archives);
+    return status;
+}
+
+/* `files` is held. */
+static tracerd_status keep(archive *a, const char *folder) {
+    tracerd_status status = begin(a);
+    if (status) return status;
+    status = keep_below(a, folder);
+    end(a);
     return status;
 }
 

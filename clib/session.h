@@ -35,8 +35,11 @@ struct tracerd_session {
     pthread_mutex_t desk; /* guards the book, and additions of slots; recursive */
     trc_book book;
     slot *_Atomic slots[STREAMS + 1]; /* NULL after the last: EACH reads them without the desk */
-    pthread_mutex_t files; /* guards `room`, and keeps an archive from being released while it is written */
+    pthread_mutex_t files; /* guards `room`: one archive is written at a time */
     uint8_t room[ROOM];
+    bool is_writing; /* an archive is being written, of this number: so it isn't released. The desk guards both */
+    uint64_t writing;
+    pthread_cond_t wrote; /* it is no more */
     _Atomic int drainer; /* OFF, ON, or BUSY: what follows is the thread's that starts or stops it */
     uint64_t period;
     sem_t bell; /* rung, it ends the drainer */

@@ -41,6 +41,7 @@ tracerd_status tracerd_new(tracerd_session **session, const char *name, const ui
     t->ahead = now_by(CLOCK_REALTIME) - now_by(CLOCK_MONOTONIC);
     t->desk = (pthread_mutex_t)PTHREAD_RECURSIVE_MUTEX_INITIALIZER_NP;
     t->files = (pthread_mutex_t)PTHREAD_MUTEX_INITIALIZER;
+    t->wrote = (pthread_cond_t)PTHREAD_COND_INITIALIZER;
     t->kind = kind;
     strcpy(t->name, name);
     tracerd_status status = trc_book_new(&t->book, uuid, 16, east, kind) ?: DONE(*session = t);
@@ -302,10 +303,23 @@ static tracerd_status release(tracerd_session *t, slot *s, uint64_t archive) {
     return status;
 }
 
-tracerd_status tracerd_release(tracerd_session *t, uint64_t archive) {
+/* Gives up all parts. The desk is held. */
+static tracerd_status release_all(tracerd_session *t, uint64_t archive) {
     tracerd_status last = TRACERD_RELEASED; /* of no streams; else all are released if the last one is */
-    return LOCKED(&t->files, LOCKED(&t->desk, trc_book_can_release(&t->book, archive) ?:
-        EACH(t, s, except(TRACERD_RELEASED, last = release(t, s, archive))) ?: last));
+    for (slot *_Atomic *at = t->slots; *at; at++) {
+        last = release(t, *at, archive);
+        if (last && last != TRACERD_RELEASED) return last;
+    }
+    return last;
+}
+
+tracerd_status tracerd_release(tracerd_session *t, uint64_t archive) {
+    pthread_mutex_lock(&t->desk);
+    tracerd_status status = trc_book_can_release(&t->book, archive);
+    while (!status && t->is_writing && t->writing == archive) pthread_cond_wait(&t->wrote, &t->desk);
+    if (!status) status = release_all(t, archive);
+    pthread_mutex_unlock(&t->desk);
+    return status;
 }
 
 tracerd_status tracerd_counts_of(tracerd_producer *producer, tracerd_counts *counts) {

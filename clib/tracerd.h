@@ -15,10 +15,10 @@
  * unless the call says otherwise. BAD_MOMENT goes for each moment. No pointer may be NULL but where that is said.
  *
  * Threads. Any thread may make any call at any time, except that a producer offers in one thread at a time, and that
- * tracerd_free comes last, when no other call runs; the session's producers are gone then. Calls that write files, and releases,
- * wait for each other. No call may be made in a signal handler, and no thread may be cancelled in one. A call takes up to 32 KiB
- * of the stack. The library has no global state, prints nothing and ends no process. It starts a thread only where
- * tracerd_drainer_start asks for one.
+ * tracerd_free comes last, when no other call runs; the session's producers are gone then. Calls that write files wait for
+ * each other, and a release waits while its archive is written. No call may be made in a signal handler, and no thread may be
+ * cancelled in one. A call takes up to 32 KiB of the stack. The library has no global state, prints nothing and ends no
+ * process. It starts a thread only where tracerd_drainer_start asks for one.
  *
  * Waits. An offer waits only while another call holds its own stream, at a time for:
  * - a drain, also the drainer's: one step, whatever the sub-buffer's size; but a copy of it if less than a quarter of it is used;

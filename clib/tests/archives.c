@@ -246,8 +246,11 @@ static void meets_a_full_disk(tracerd_session *s, tracerd_producer *p) {
     answers(OK, tracerd_write(s, 0, below("fuller")));
 }
 
+static atomic_bool is_written;
+
 static void *write_first(void *session) {
     answers(OK, tracerd_write(session, 0, below("slow")));
+    is_written = true;
     return NULL;
 }
 
@@ -257,7 +260,8 @@ static void *release_first(void *session) {
     return NULL;
 }
 
-/* While an archive is written a release waits; and the file gets all its bytes, though calls are interrupted. */
+/* While an archive is written a release of it waits, and no other; and the file gets all its bytes, though calls are
+ * interrupted. */
 static void keeps_what_is_written(void) {
     enum { RECORDS = 5, EACH = 65000 };
     tracerd_session *s;
@@ -272,9 +276,12 @@ static void keeps_what_is_written(void) {
     answers(OK, tracerd_start(s, 0));
     for (uint64_t k = 0; k < RECORDS; k++) answers(OK, tracerd_offer(p, k, 7, letters, EACH, &o));
     answers(OK, tracerd_rotate(s, 0, &n));
+    answers(OK, tracerd_rotate(s, 0, &n));
     is(!sem_init(&writing, 0, 0));
     is_slow = true;
     is(!pthread_create(&writer, NULL, write_first, s) && !sem_wait(&writing));
+    answers(OK, tracerd_release(s, 1));
+    is(!is_written);
     is(!pthread_create(&releaser, NULL, release_first, s));
     pthread_join(writer, NULL);
     pthread_join(releaser, NULL);
