@@ -61,10 +61,21 @@ tracerd_status tracerd_channel(tracerd_session *t, const char *name, uint64_t si
     return LOCKED(&t->desk, trc_book_channel(&t->book, (const uint8_t *)name, strlen(name), size, count, mode));
 }
 
+/* Makes a lock whose holder runs with the priority of who waits for it: else a thread that must not wait may do so while others
+ * run in the holder's place. */
+static void make_lock(pthread_mutex_t *lock) {
+    pthread_mutexattr_t how;
+    pthread_mutexattr_init(&how);
+    pthread_mutexattr_setprotocol(&how, PTHREAD_PRIO_INHERIT);
+    if (pthread_mutex_init(lock, &how)) pthread_mutex_init(lock, NULL); /* a kernel that knows no such locks */
+    pthread_mutexattr_destroy(&how);
+}
+
 tracerd_status tracerd_producer_new(tracerd_session *t, const char *channel, tracerd_producer **producer) {
     slot *s = new_pages(sizeof *s);
     if (!s) return TRACERD_NO_MEMORY;
-    *s = (slot){.lock = PTHREAD_MUTEX_INITIALIZER, .is_out = true, .ahead = t->ahead};
+    *s = (slot){.is_out = true, .ahead = t->ahead};
+    make_lock(&s->lock);
     tracerd_status status = LOCKED(&t->desk, /* a book has STREAMS at most */
         trc_book_thread(&t->book, &s->stream, (const uint8_t *)channel, strlen(channel), &s->number) ?:
         DONE((atomic_store(&t->slots[s->number], s), *producer = &s->front)));

@@ -29,6 +29,7 @@
  * - a clear or a release: one step for each packet that is removed, and for each record of those with a loss before their end;
  * - a fate: a search of packets, and one step for each record of at most one of them;
  * - any other call: one step.
+ * While it waits, the thread that holds the stream has its priority, if that is higher.
  * A drain and a rotation make the sub-buffers that they need before they hold the stream, and a clear and a release free what
  * they removed after. What they ask for while they hold it are such copies, and lists that double as packets come.
  *
