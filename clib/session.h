@@ -21,6 +21,7 @@ typedef struct {
     _Alignas(APART) tracerd_producer front;
     pthread_mutex_t lock; /* guards what follows, and writes of `front` */
     trc_stream stream;
+    struct { uint64_t inactive, too_big, bad_moment, spent; } refused; /* offers, by why */
     bool is_out; /* not given back */
     uint64_t number;
     uint64_t ahead; /* the session's; it never changes */

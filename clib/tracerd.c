@@ -109,10 +109,27 @@ uint64_t tracerd_now(void) { return now_by(CLOCK_REALTIME); }
 
 uint64_t tracerd_now_of(const tracerd_session *t) { return now_by(CLOCK_MONOTONIC) + t->ahead; }
 
+/* Counts an offer that is refused. The slot is locked. */
+static void count_refusal(slot *s, tracerd_status why) {
+    switch (why) {
+        case TRACERD_INACTIVE: s->refused.inactive++; break;
+        case TRACERD_TOO_BIG: s->refused.too_big++; break;
+        case TRACERD_BAD_MOMENT: s->refused.bad_moment++; break;
+        case TRACERD_SPENT: s->refused.spent++; break;
+        default: break; /* it was given back */
+    }
+}
+
 tracerd_status tracerd_offer(tracerd_producer *producer, uint64_t moment, uint32_t id, const void *payload, size_t size,
                              tracerd_offered *offered) {
-    return OWN(producer, s, !s->is_out ? TRACERD_CLOSED : /* a slice of no bytes still points somewhere */
-        trc_stream_offer(&s->stream, moment, id, size ? payload : "", size, offered));
+    slot *s = (slot *)producer;
+    tracerd_status status = TRACERD_CLOSED;
+    if (!size) payload = ""; /* a slice of no bytes still points somewhere */
+    pthread_mutex_lock(&s->lock);
+    if (s->is_out) status = trc_stream_offer(&s->stream, moment, id, payload, size, offered);
+    if (__builtin_expect(status != TRACERD_OK, 0)) count_refusal(s, status);
+    pthread_mutex_unlock(&s->lock);
+    return status;
 }
 
 tracerd_status tracerd_trace(tracerd_producer *producer, uint32_t id, const void *payload, size_t size) {
@@ -333,9 +350,20 @@ tracerd_status tracerd_release(tracerd_session *t, uint64_t archive) {
     return status;
 }
 
+/* Adds what a slot's stream counts, and what was refused. The slot is locked. */
+static tracerd_status add_counts(slot *s, tracerd_counts *sum) {
+    tracerd_status status = trc_stream_add_counts(&s->stream, sum);
+    if (status) return status;
+    sum->refused_inactive += s->refused.inactive;
+    sum->refused_too_big += s->refused.too_big;
+    sum->refused_bad_moment += s->refused.bad_moment;
+    sum->refused_spent += s->refused.spent;
+    return TRACERD_OK;
+}
+
 tracerd_status tracerd_counts_of(tracerd_producer *producer, tracerd_counts *counts) {
     tracerd_counts sum = {0};
-    tracerd_status status = OWN(producer, s, trc_stream_add_counts(&s->stream, &sum));
+    tracerd_status status = OWN(producer, s, add_counts(s, &sum));
     if (!status) *counts = sum;
     return status;
 }
@@ -343,7 +371,7 @@ tracerd_status tracerd_counts_of(tracerd_producer *producer, tracerd_counts *cou
 tracerd_status tracerd_counts_sum(tracerd_session *t, tracerd_counts *counts) {
     tracerd_counts sum = {0};
     if (!t->is_here) return TRACERD_CLOSED;
-    tracerd_status status = EACH_LOCKED(t, s, trc_stream_add_counts(&s->stream, &sum));
+    tracerd_status status = EACH_LOCKED(t, s, add_counts(s, &sum));
     if (!status) *counts = sum;
     return status;
 }
@@ -356,7 +384,7 @@ tracerd_status tracerd_settle(tracerd_session *t, tracerd_counts *counts, uint64
 }
 
 /* The cells write the first fields of these, and know no others. */
-_Static_assert(offsetof(tracerd_counts, reserved) == 48 && sizeof(tracerd_counts) == 128, "tracerd_counts");
+_Static_assert(offsetof(tracerd_counts, refused_inactive) == 48 && sizeof(tracerd_counts) == 128, "tracerd_counts");
 _Static_assert(offsetof(tracerd_fate, reserved) == 24 && sizeof(tracerd_fate) == 64, "tracerd_fate");
 _Static_assert(offsetof(tracerd_audited, reserved) == 72 && sizeof(tracerd_audited) == 128, "tracerd_audited");
 

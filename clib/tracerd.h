@@ -187,7 +187,7 @@ tracerd_status tracerd_trace(tracerd_producer *, uint32_t id, const void *payloa
 
 /* A tracepoint, TRACERD_TRACE(producer, id, payload, size): while the session is off it costs a load and a branch, and nothing
  * but the producer is evaluated. The payload may be a compound literal. Refusals are lost: where they matter, call
- * tracerd_trace. Each thread has the producer that it names. Names that begin with tracerd_ are the library's. */
+ * tracerd_trace; tracerd_counts has them. Each thread has the producer that it names. Names that begin with tracerd_ are the library's. */
 #define TRACERD_TRACE(producer, ...)                                                                        \
     do {                                                                                                    \
         tracerd_producer *tracerd_of_tracepoint_ = (producer);                                              \
@@ -315,10 +315,13 @@ tracerd_status tracerd_archive_of(tracerd_session *, uint64_t archive, tracerd_a
 
 /* ---- Accounts ---- */
 
-/* offered = discarded + overwritten + cleared + in_ring + in_chunks, where in_chunks counts released archives' records too. */
+/* offered = discarded + overwritten + cleared + in_ring + in_chunks, where in_chunks counts released archives' records too. What
+ * was refused is none of these, and is counted by why. What TRACERD_TRACE passes over while the session is off isn't counted, nor
+ * what is offered by a producer that was given back. */
 typedef struct tracerd_counts {
     uint64_t offered, discarded, overwritten, cleared, in_ring, in_chunks;
-    uint64_t reserved[10];
+    uint64_t refused_inactive, refused_too_big, refused_bad_moment, refused_spent;
+    uint64_t reserved[6];
 } tracerd_counts;
 
 /* Of one producer: as of one moment. */

@@ -50,11 +50,12 @@ class Fate(_Struct):
 
 
 class Counts(_Struct):
-    """`offered` is the sum of the others."""
+    """`offered` is the sum of those that come next; what was refused is none of them."""
 
     _fields_ = [
         *_numbers("offered", "discarded", "overwritten", "cleared", "in_ring", "in_chunks"),
-        ("_reserved", c_uint64 * 10),
+        *_numbers("refused_inactive", "refused_too_big", "refused_bad_moment", "refused_spent"),
+        ("_reserved", c_uint64 * 6),
     ]
 
 

@@ -96,9 +96,21 @@ static void refuses_what_is_planned_badly(void) {
     tracerd_free(s);
 }
 
+/* A producer's counts of offers that were refused, and the session's. */
+static void has_refused(tracerd_session *s, tracerd_producer *p, uint64_t inactive, uint64_t too_big, uint64_t bad_moment) {
+    tracerd_counts counts[2];
+    answers(OK, tracerd_counts_of(p, &counts[0]));
+    answers(OK, tracerd_counts_sum(s, &counts[1]));
+    for (int i = 0; i < 2; i++) {
+        is(counts[i].refused_inactive == inactive && counts[i].refused_too_big == too_big);
+        is(counts[i].refused_bad_moment == bad_moment && counts[i].refused_spent == 0);
+    }
+}
+
 static void refuses_at_the_wrong_time(tracerd_session *s, tracerd_producer *p) {
     tracerd_offered o;
     uint64_t n = 99;
+    has_refused(s, p, 0, 0, 0);
     answers(NEVER_STARTED, tracerd_rotate(s, 0, &n));
     answers(NEVER_STARTED, tracerd_clear(s, &n));
     answers(NOT_ACTIVE, tracerd_stop(s));
@@ -115,6 +127,8 @@ static void refuses_at_the_wrong_time(tracerd_session *s, tracerd_producer *p) {
     answers(OK, tracerd_stop(s));
     is(!p->active);
     answers(INACTIVE, tracerd_offer(p, 0, 7, "x", 1, &o));
+    TRACERD_TRACE(p, 7, "x", 1);
+    has_refused(s, p, 1, 2, 1);
     answers(NO_ARCHIVE, tracerd_write(s, 0, below("none")));
     answers(NO_ARCHIVE, tracerd_release(s, 0));
     is(n == 99 && access(below("none"), F_OK));
@@ -271,7 +285,7 @@ static void reserves(tracerd_session *s, tracerd_producer *p) {
     memset(&f, 255, sizeof f);
     memset(&a, 255, sizeof a);
     answers(MISSING, tracerd_settle(s, &c[2], &n));
-    is(c[2].offered == UINT64_MAX && c[2].reserved[9] == UINT64_MAX);
+    is(c[2].offered == UINT64_MAX && c[2].reserved[5] == UINT64_MAX);
     answers(OK, tracerd_start(s, 0));
     is_stored(p, 0, 27, 0, 0);
     answers(OK, tracerd_rotate(s, 0, &n));

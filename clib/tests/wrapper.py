@@ -74,7 +74,10 @@ def knows_its_library():
     session.start(0)
     producer.offer(0, 1)
     shown = repr(producer.counts())
-    assert shown == "Counts(offered=1, discarded=0, overwritten=0, cleared=0, in_ring=1, in_chunks=0)", shown
+    assert shown == (
+        "Counts(offered=1, discarded=0, overwritten=0, cleared=0, in_ring=1, in_chunks=0, "
+        "refused_inactive=0, refused_too_big=0, refused_bad_moment=0, refused_spent=0)"
+    ), shown
     assert not any(producer.counts()._reserved) and not any(session.counts()._reserved)
     assert not any(producer.fate(0)._reserved)
     assert (session.about().state, session.about().archives) == (tracerd.ACTIVE, 0), session.about()

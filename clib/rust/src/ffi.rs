@@ -30,7 +30,7 @@ pub struct RawFate {
     reserved: [u64; 5],
 }
 
-/// `offered` is the sum of the others.
+/// `offered` is the sum of those that come next; what was refused is none of them.
 #[repr(C)]
 #[derive(Clone, Copy, Debug, Default, PartialEq, Eq)]
 pub struct Counts {
@@ -40,7 +40,11 @@ pub struct Counts {
     pub cleared: u64,
     pub in_ring: u64,
     pub in_chunks: u64,
-    reserved: [u64; 10],
+    pub refused_inactive: u64,
+    pub refused_too_big: u64,
+    pub refused_bad_moment: u64,
+    pub refused_spent: u64,
+    reserved: [u64; 6],
 }
 
 /// What a session is.
