@@ -52,6 +52,14 @@ no_parts = parts_state [] (empty_part 0) [] []
 abbrev pub with_packet : Contents → PartsState → PartsState
 with_packet p s = record s { current = record s.current { packets = s.current.packets ++ p ∷ [] } }
 
+-- the packet is added at the end of a part
+abbrev pub part_with : Contents → PartState → PartState
+part_with p part = record part { packets = part.packets ++ p ∷ [] }
+
+-- this is the current part, in the place of the one that was
+abbrev pub with_part : PartState → PartsState → PartsState
+with_part part s = record s { current = part }
+
 -- the packets are added at the end of the current part, in order
 abbrev pub with_packets : List Contents → PartsState → PartsState
 with_packets ps s = record s { current = record s.current { packets = s.current.packets ++ ps } }
@@ -153,6 +161,17 @@ pub record IsReady (id records bytes : ℕ) (packets : List Contents) (closed cl
   pub small : bytes ≤ LARGEST_PACKET * records
   pub one_closed : closed < closed_room
   pub one_start : starts < starts_room
+
+-- a part, and how many more packets it has room for
+pub record OpenState : Type 0 where
+  pub part : PartState
+  pub room : ℕ
+
+-- so many records and bytes are those of these packets, and no packet was too large
+pub record AreCounted (records bytes : ℕ) (packets : List Contents) : Type 0 where
+  pub counted : records ≡ records_of packets
+  pub sized : bytes ≡ bytes_of packets
+  pub small : bytes ≤ LARGEST_PACKET * records
 
 -- what a search among a part's packets, or their runs, rests on: serials rise, and where some are missing in a packet, that shows
 abbrev pub CanBeSearched : List Contents → Option Rest → Type 0

@@ -17,11 +17,12 @@
 //! - A packet's runs are as long as they can be and in order, and none goes over two packets. Of a packet that says no more was
 //!   lost than the one before it, they are known by its first record and its count.
 //! - A call for which an allocation fails leaves the parts as they were. Once parts are ready (`ReadyParts`), adding packets and
-//!   closing the current part take no memory.
+//!   closing the current part take no memory; nor does adding one to a part that was taken out for it (`OpenPart`).
 #![tactic(auto)]
 
 mod book;
 mod counts;
+mod open;
 mod part;
 mod parts;
 mod runs;
@@ -29,6 +30,7 @@ mod snap;
 
 pub use book::Book;
 pub use counts::Counts;
+pub use open::OpenPart;
 pub use part::{Part, records_in};
 pub use parts::{Parts, ReadyParts};
 pub use runs::{Run, Runs, has_known};

@@ -2,9 +2,10 @@
 
 ghost use Rattle.std.specs.Prelude.{◌≡◌, ◌≢◌, ◌+◌, ◌≤◌, ◌<◌, ◌^◌, [], Some, None, IfOk, IfErr, OnOk, OnErr, length, option_copied, slice_get, vec_capacity, vec_len};
 ghost use Rattle.std.specs.List.Sorted.{IsNonDecreasing};
-ghost use Rattle.tr_book.specs.Parts.{IsNumbered, PartState, records_of, no_parts, with_packet, with_packets, change_at, close_part, clear_part, place_in, release, release_part, part_at};
+ghost use Rattle.tr_book.specs.Parts.{IsNumbered, PartState, empty_part, records_of, no_parts, with_packet, with_packets, with_part, change_at, close_part, clear_part, place_in, release, release_part, part_at};
 ghost use Rattle.tr_book.specs.Runs.{GapsShow, RunsRise, packet_runs, seq_in_runs};
 
+use crate::open::OpenPart;
 use crate::part::{Part, bytes_in, records_in};
 use crate::runs::Runs;
 use std::alloc::{AllocError, Allocator, Global};
@@ -188,6 +189,32 @@ impl<A: Allocator + Copy> Parts<A> {
                 starts,
             }),
         }
+    }
+
+    /// Takes the current part out, with room for so many more packets. Until `put_back` an empty one with its number is in its
+    /// place. If an allocation fails, nothing changes.
+    pub fn take_current(&mut self, count: usize) -> Result<OpenPart<A>, AllocError>
+        ensures part { IfOk result (λ o. (o.part ≡ self.old.current) × (count ≤ o.room)) }
+        ensures ok { OnOk result (self.new ≡ with_part (empty_part self.old.current.id) self.old) }
+        ensures err { OnErr result (self.new ≡ self.old) }
+    {
+        let next = Part::new(self.alloc, self.current.id());
+        let mut open = OpenPart::of(mem::replace(&mut self.current, next));
+        match open.reserve(count) {
+            Ok(()) => Ok(open),
+            Err(fault) => {
+                self.put_back(open);
+                Err(fault)
+            }
+        }
+    }
+
+    /// Puts a part that was taken out in the place of the current one. It takes no memory.
+    pub fn put_back(&mut self, part: OpenPart<A>)
+        requires { part.part.id ≡ self.old.current.id }
+        ensures { self.new ≡ with_part part.part self.old }
+    {
+        self.current = part.into_part();
     }
 
     /// Gives up the packets of closed part `k`, and keeps what fates and sizes need. It takes memory only if the part has

@@ -16,12 +16,14 @@ offer_fault_code offer.Inactive = codes "O1"
 offer_fault_code offer.TooBig = codes "O2"
 offer_fault_code offer.Spent = codes "O3"
 offer_fault_code offer.Misplaced = codes "O5"
+offer_fault_code offer.OtherLayout = codes "O6"
 
 abbrev pub offer_fault_name : OfferFault → List ℕ
 offer_fault_name offer.Inactive = codes "Inactive"
 offer_fault_name offer.TooBig = codes "TooBig"
 offer_fault_name offer.Spent = codes "Spent"
 offer_fault_name offer.Misplaced = codes "Misplaced"
+offer_fault_name offer.OtherLayout = codes "OtherLayout"
 
 abbrev pub take_fault_code : TakeFault → List ℕ
 take_fault_code take.Nothing = codes "T1"

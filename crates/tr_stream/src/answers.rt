@@ -47,6 +47,9 @@ pub enum OfferFault {
     Spent,
     /// Another stream is in this one's place. No call of this crate answers it: it is for those who keep streams by number.
     Misplaced,
+    /// The record's id is declared with another layout. A stream has no declarations, and doesn't answer it: it is for those who
+    /// keep streams with what is declared.
+    OtherLayout,
 }
 
 impl OfferFault {
@@ -59,6 +62,7 @@ impl OfferFault {
             OfferFault::TooBig => "O2",
             OfferFault::Spent => "O3",
             OfferFault::Misplaced => "O5",
+            OfferFault::OtherLayout => "O6",
         }
     }
 
@@ -71,6 +75,7 @@ impl OfferFault {
             OfferFault::TooBig => "TooBig",
             OfferFault::Spent => "Spent",
             OfferFault::Misplaced => "Misplaced",
+            OfferFault::OtherLayout => "OtherLayout",
         }
     }
 }

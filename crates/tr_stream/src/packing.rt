@@ -95,9 +95,8 @@ fn take_oldest<A: Allocator + Copy>(
         ring.drop_front();
         return Ok(packet);
     }
-    spares.make(ring.size(), 1)?;
-    let page = ring.take_front(spares.pop());
-    Ok(page.into_packet(head))
+    let spare = spares.page(ring.size())?;
+    Ok(ring.take_front(spare).into_packet(head))
 }
 
 /// Moves the oldest sub-buffer, as a packet, to the end of the current part. If an allocation fails, ring and parts are as they
@@ -118,20 +117,15 @@ pub fn move_to_part<A: Allocator + Copy>(
     ensures ring { OnOk result (ring.new ≡ drop_front ring.old) }
     ensures err { OnErr result ((ring.new ≡ ring.old) × (parts.new ≡ parts.old)) }
 {
-    let ready = match mem::replace(parts, Parts::new(alloc)).ready(1) {
-        Ok(ready) => ready,
-        Err(same) => {
-            *parts = same;
-            return Err(AllocError);
-        }
-    };
+    let mut open = parts.take_current(1)?;
     match take_oldest(alloc, config, ring, spares) {
         Ok(packet) => {
-            *parts = ready.push(packet);
+            open.push(packet);
+            parts.put_back(open);
             Ok(())
         }
         Err(fault) => {
-            *parts = ready.into_parts();
+            parts.put_back(open);
             Err(fault)
         }
     }

@@ -1,6 +1,6 @@
 //! Pages in reserve.
 
-ghost use Rattle.std.specs.Prelude.{◌≡◌, ◌==◌, ◌≤◌, ◌<◌, ◌+◌, OnErr, OnOk};
+ghost use Rattle.std.specs.Prelude.{◌≡◌, ◌==◌, ◌≤◌, ◌<◌, ◌+◌, IfOk, OnErr, OnOk};
 ghost use Rattle.tr_stream.specs.Spares.{spares_state};
 ghost use Rattle.tr_subbuf.specs.SubBuffer.{empty_buffer};
 
@@ -107,6 +107,16 @@ impl<A: Allocator + Copy> Spares<A> {
         ensures size { self.new.size ≡ self.old.size }
     {
         self.pages.take_last()
+    }
+
+    /// Takes one away if there is one of this size, and else makes one.
+    pub(crate) fn page(&mut self, size: usize) -> Result<SubBuf<A>, AllocError>
+        ensures { IfOk result (λ page. page ≡ empty_buffer size) }
+    {
+        if self.len() == 0 || self.size != size {
+            return SubBuf::new(self.alloc, size);
+        }
+        Ok(self.pop())
     }
 
     /// Adds those, if they have the same size. Without memory for the list they are dropped.

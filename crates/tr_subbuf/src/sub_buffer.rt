@@ -38,6 +38,10 @@ impl<A: Allocator> Model for SubBuf<A> {
         × IfSome b.begun (λ copy. IsBegun copy.items b.bytes.items b.size (vec_capacity copy)) };
 }
 
+/// The longest payload that any page could have room for: no page has more than `isize::MAX` bytes. With it no sum of lengths
+/// overflows, and where a payload's length is known to the compiler, the test for it is gone.
+const LONGEST_PAYLOAD: usize = usize::MAX / 2 - RECORD_HEADER;
+
 /// A sum of two bytes, one where a packet's header stands and one where its first record does.
 fn first_bytes(bytes: &[u8]) -> u16 {
     match (bytes.first(), bytes.get(PACKET_HEADER)) {
@@ -142,9 +146,7 @@ impl<A: Allocator> SubBuf<A> {
     pub fn fits(&self, len: usize) -> bool
         ensures { result ≡ has_room self.now len }
     {
-        let with_header = self.bytes.len() + RECORD_HEADER;
-        // a sum that saturates is still more than any size
-        with_header.saturating_add(len) <= self.size
+        len <= LONGEST_PAYLOAD && self.bytes.len() + RECORD_HEADER + len <= self.size
     }
 
     /// Its records, in order.

@@ -71,6 +71,3 @@ pub const MOST_RECORDS: u64 = 1_000_000;
 
 /// The most workers of a load.
 pub const MOST_WORKERS: usize = 64;
-
-/// The most bytes of metadata that an audit looks at, and of any file that it reads at a time.
-pub const MOST_METADATA: usize = 65_536;
