@@ -1,0 +1,9 @@
+pub mod Declarations
+pub mod Events
+pub mod Faults
+pub mod Ids
+pub mod Lines
+pub mod Numbers
+pub mod Packing
+pub mod Types
+pub mod Words

@@ -1,0 +1,6 @@
+mod ClassLemmas
+mod EventLemmas
+mod FieldLemmas
+mod PacketLemmas
+mod RangeLemmas
+pub mod RecoveryLemmas

@@ -1,0 +1,35 @@
+//! Laws of typed metadata.
+
+ghost use Rattle.std.specs.Prelude.{◌≡◌, ◌++◌, ℕ, List, [], Some, map};
+ghost use Rattle.std.specs.List.{AllByRecursion, flat_map};
+ghost use Rattle.tr_packet.specs.Metadata.{metadata_of};
+ghost use Rattle.tr_packet.specs.Packets.{Contents, IsPacket, packet_text};
+ghost use Rattle.tr_events.specs.Declarations.{AreDeclared};
+ghost use Rattle.tr_events.specs.Events.{Event, AreEvents, FitsAsDeclared};
+ghost use Rattle.tr_metadata.specs.Metadata.{metadata_with};
+ghost use Rattle.tr_metadata.specs.Recovery.{declared_in};
+ghost use Rattle.tr_metadata.specs.Reader.{IsReadable, file_read, packet_read, read_of, reads_of};
+
+/// By the metadata of its session's events, a packet is read as exactly its records, in order, each with its values.
+/// Does nothing.
+pub fn packets_are_read()
+    ensures { (events : List Event) (p : Contents) (rest : List ℕ) → AreEvents events → IsPacket p
+        → AllByRecursion (FitsAsDeclared events) p.records
+        → packet_read events (packet_text p ++ rest) ≡ Some (map (read_of events) p.records) }
+{}
+
+/// And so is a stream's file, which has packets end to end. Does nothing.
+pub fn files_are_read()
+    ensures { (events : List Event) (ps : List Contents) → AreEvents events → AllByRecursion (IsReadable events) ps
+        → file_read events (flat_map packet_text ps) ≡ Some (flat_map (reads_of events) ps) }
+{}
+
+/// Without declared events the metadata is the one of records alone. Does nothing.
+pub fn nothing_declared()
+    ensures { (uuid : List ℕ) → metadata_with [] uuid ≡ metadata_of uuid }
+{}
+
+/// The events that a text was made of are those that it declares. Does nothing.
+pub fn declarations_stand()
+    ensures { (events : List Event) (uuid : List ℕ) → AreDeclared events → declared_in (metadata_with events uuid) ≡ Some events }
+{}

@@ -1,0 +1,28 @@
+//! The metadata of a session with declared events, and what a reader of CTF reads by it.
+//!
+//! # Example
+//!
+//! ```
+//! let text = metadata_text(alloc, events.list(), &uuid)?;
+//! ```
+//!
+//! # What is proved
+//!
+//! - By typed metadata a short model of a reader of CTF reads every packet as exactly its records, in order, each with its
+//!   values; records of undeclared ids with all their bytes.
+//! - The metadata text is byte for byte the defined one, and without declared events the one of records alone.
+//!
+//! # What is only tested
+//!
+//! That readers of CTF read as the model does.
+#![tactic(auto)]
+
+mod classes;
+pub mod laws;
+mod metadata;
+mod ranges;
+mod recovery;
+
+pub use metadata::{LONGEST_METADATA, metadata_text};
+pub use ranges::Range;
+pub use recovery::{declared_in, is_text_of};
