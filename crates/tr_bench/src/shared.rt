@@ -8,6 +8,7 @@ use std::alloc::{AllocFailed, Global};
 use std::marker::Brand;
 use std::sync::Wait;
 use std::thread::{Threads, map_vec};
+use tr_events::Events;
 use tr_session::{ChannelConfig, Config};
 use tr_session_book::SessionFault;
 use tr_shared::{Names, Offers, Plan, Producer, SettleError, Settled, Shared, plan_watched};
@@ -69,6 +70,7 @@ fn plan_of(alloc: Global, case: &Case, threads: u64, watchers: usize) -> Result<
         uuid: Uuid::nil(),
         offset,
         mode: SessionMode::Local,
+        events: Events::none(alloc),
         channels: vec![in alloc; channel]?,
     };
     Ok(plan_watched(alloc, &config, watchers)?)

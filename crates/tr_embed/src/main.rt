@@ -12,8 +12,8 @@ use std::thread::{self, Threads};
 use std::{env, io};
 use tr_export::{HostFiles, SystemDisk, write_archives};
 use tr_shared::{
-    ChannelConfig, Config, Mode, Moment, Name, Names, Offers, OffsetMinutes, Plan, Producer,
-    SessionFault, SessionMode, Settled, Shared, Totals, plan,
+    ChannelConfig, Config, Events, Mode, Moment, Name, Names, Offers, OffsetMinutes, Plan,
+    Producer, SessionFault, SessionMode, Settled, Shared, Totals, plan,
 };
 use uuid::Uuid;
 
@@ -45,6 +45,7 @@ fn session_plan(alloc: Global) -> Result<Plan, SessionFault> {
         uuid: Uuid::from_bytes([1; 16]),
         offset,
         mode: SessionMode::Local,
+        events: Events::none(alloc),
         channels,
     };
     plan(alloc, &config)

@@ -7,7 +7,7 @@ use Rattle.tr_export.specs.Archives.{stream_file, stream_files, metadata_file, c
 use Rattle.tr_export.specs.Making.{Makings, and_then_made, MadePrefix}
 use Rattle.tr_export.specs.Paths.{folder_of, path_of}
 use Rattle.tr_export.specs.declared.made.Made.TheVariants.{Folder, File}
-use Rattle.tr_packet.specs.Metadata.{metadata_of}
+use Rattle.tr_metadata.specs.Metadata.{metadata_with}
 use Rattle.tr_session.specs.Session.{SessionOf}
 use Rattle.tr_session.specs.Sizes.{archive_released}
 use Rattle.tr_session_book.specs.declared.archive.Archive.{Archive}
@@ -41,11 +41,11 @@ module _ (folder : List ℕ) (id : ℕ) (s : SessionOf StreamState) where
   abbrev files : Makings
   files = stream_files folder id s (length s.streams)
 
-  metadata_is : (path uuid : List ℕ) → path ≡ path_of folder (codes "metadata") → uuid ≡ s.book.uuid
-      → File path (metadata_of uuid) ∷ [] ≡ metadata_file folder s
-  metadata_is path uuid at of =
-      ap (λ (p : List ℕ). File p (metadata_of uuid) ∷ []) at
-      ∙ ap (λ (u : List ℕ). File (path_of folder (codes "metadata")) (metadata_of u) ∷ []) of
+  metadata_is : (path text : List ℕ) → path ≡ path_of folder (codes "metadata") → text ≡ metadata_with s.book.events s.book.uuid
+      → File path text ∷ [] ≡ metadata_file folder s
+  metadata_is path text at of =
+      ap (λ (p : List ℕ). File p text ∷ []) at
+      ∙ ap (λ (t : List ℕ). File (path_of folder (codes "metadata")) t ∷ []) of
 
   -- the folder and all streams
   pub filled : (start one two : Option Makings) → one ≡ and_then_made start (Folder folder ∷ []) → two ≡ and_then_made one files
@@ -53,20 +53,20 @@ module _ (folder : List ℕ) (id : ℕ) (s : SessionOf StreamState) where
   filled start one two first second = made_after start one two (Folder folder ∷ []) files first second
 
   -- and the metadata
-  pub chunk_whole : (start one two after : Option Makings) (path uuid : List ℕ) → path ≡ path_of folder (codes "metadata")
-      → uuid ≡ s.book.uuid → one ≡ and_then_made start (Folder folder ∷ []) → two ≡ and_then_made one files
-      → after ≡ and_then_made two (File path (metadata_of uuid) ∷ []) → after ≡ and_then_made start (chunk_made folder id s)
-  chunk_whole start one two after path uuid at of first second third =
+  pub chunk_whole : (start one two after : Option Makings) (path text : List ℕ) → path ≡ path_of folder (codes "metadata")
+      → text ≡ metadata_with s.book.events s.book.uuid → one ≡ and_then_made start (Folder folder ∷ []) → two ≡ and_then_made one files
+      → after ≡ and_then_made two (File path text ∷ []) → after ≡ and_then_made start (chunk_made folder id s)
+  chunk_whole start one two after path text at of first second third =
       made_after start two after (Folder folder ∷ files) (metadata_file folder s) (filled start one two first second)
-      (third ∙ ap (and_then_made two) (metadata_is path uuid at of))
+      (third ∙ ap (and_then_made two) (metadata_is path text at of))
 
   -- and a prefix of the metadata
-  pub chunk_cut : (start one two after : Option Makings) (path uuid : List ℕ) → path ≡ path_of folder (codes "metadata")
-      → uuid ≡ s.book.uuid → one ≡ and_then_made start (Folder folder ∷ []) → two ≡ and_then_made one files
-      → MadePrefix two after (File path (metadata_of uuid) ∷ []) → MadePrefix start after (chunk_made folder id s)
-  chunk_cut start one two after path uuid at of first second made =
+  pub chunk_cut : (start one two after : Option Makings) (path text : List ℕ) → path ≡ path_of folder (codes "metadata")
+      → text ≡ metadata_with s.book.events s.book.uuid → one ≡ and_then_made start (Folder folder ∷ []) → two ≡ and_then_made one files
+      → MadePrefix two after (File path text ∷ []) → MadePrefix start after (chunk_made folder id s)
+  chunk_cut start one two after path text at of first second made =
       front_after start two after (Folder folder ∷ files) (metadata_file folder s) (chunk_made folder id s) refl
-      (filled start one two first second) (subst (λ (ms : Makings). MadePrefix two after ms) (metadata_is path uuid at of) made)
+      (filled start one two first second) (subst (λ (ms : Makings). MadePrefix two after ms) (metadata_is path text at of) made)
 
   -- the folder, and a prefix of the streams' files
   pub files_cut : (start one after : Option Makings) → one ≡ and_then_made start (Folder folder ∷ []) → MadePrefix one after files

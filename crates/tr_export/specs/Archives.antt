@@ -7,7 +7,7 @@ use Rattle.tr_chunk.specs.Files.{file_name, packets_text}
 use Rattle.tr_export.specs.Making.{Makings}
 use Rattle.tr_export.specs.Paths.{folder_of, path_of}
 use Rattle.tr_export.specs.declared.made.Made.TheVariants.{Folder, File}
-use Rattle.tr_packet.specs.Metadata.{metadata_of}
+use Rattle.tr_metadata.specs.Metadata.{metadata_with}
 use Rattle.tr_session_book.specs.BookSteps.{channel_of}
 use Rattle.tr_session.specs.Session.{SessionOf}
 use Rattle.tr_session.specs.Sizes.{archive_released}
@@ -39,9 +39,9 @@ abbrev pub stream_files : List ℕ → ℕ → SessionOf StreamState → ℕ →
 stream_files folder id s zero = []
 stream_files folder id s (suc i) = stream_files folder id s i ++ stream_file folder id s i
 
--- the metadata file after them
+-- the metadata file after them, with the events that are declared
 abbrev pub metadata_file : List ℕ → SessionOf StreamState → Makings
-metadata_file folder s = File (path_of folder (codes "metadata")) (metadata_of s.book.uuid) ∷ []
+metadata_file folder s = File (path_of folder (codes "metadata")) (metadata_with s.book.events s.book.uuid) ∷ []
 
 -- the trace chunk of this number in a folder: the folder, a file for each stream, and last the metadata
 abbrev pub chunk_made : List ℕ → ℕ → SessionOf StreamState → Makings

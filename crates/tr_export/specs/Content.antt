@@ -3,14 +3,14 @@ use Rattle.std.specs.Prelude.{◌≡◌, ℕ, List, None}
 use Rattle.tr_chunk.specs.Files.{packets_text}
 use Rattle.tr_export.specs.declared.content.Content.{Content}
 use Rattle.tr_export.specs.declared.content.Content.TheVariants.{Metadata, Packets}
-use Rattle.tr_packet.specs.Metadata.{metadata_of}
+use Rattle.tr_metadata.specs.Metadata.{metadata_with}
 
 -- the text that goes into the file
 abbrev pub content_text : {A : Type 0} → Content A → List ℕ
-content_text (Metadata uuid) = metadata_of uuid.now
+content_text (Metadata uuid events) = metadata_with events.now uuid.now
 content_text (Packets part) = packets_text part.now.packets
 
 -- it is there to be written: a part is, if it wasn't released
 abbrev pub IsHeld : {A : Type 0} → Content A → Type 0
-IsHeld (Metadata uuid) = Unit {0}
+IsHeld (Metadata uuid events) = Unit {0}
 IsHeld (Packets part) = part.now.released ≡ None

@@ -1,24 +1,41 @@
 //! What goes into a file of an archive.
 
 ghost use Rattle.tr_chunk.specs.Files.{WritesText, sunk_of};
+ghost use Rattle.tr_metadata.specs.Metadata.{metadata_with};
 ghost use Rattle.tr_export.specs.Content.{IsHeld, content_text};
 
 use std::alloc::Allocator;
 use tr_book::Part;
-use tr_chunk::{WriteFault, write_metadata, write_part};
-use tr_record::ByteSink;
+use tr_chunk::{WriteFault, write_part};
+use tr_events::Event;
+use tr_metadata::metadata_text;
+use tr_record::{ByteSink, put_all};
 use uuid::Uuid;
 
-/// What goes into a file of an archive: the metadata text of a trace, or a part's packets.
+/// What goes into a file of an archive: the metadata text of a trace with its events, or a part's packets.
 #[derive(Drop)]
 pub(crate) enum Content<'a, A: Allocator> {
-    Metadata(&'a Uuid),
+    Metadata(&'a Uuid, &'a [Event<A>]),
     Packets(&'a Part<A>),
+}
+
+/// Writes the metadata text of a trace with these events. After a refusal a prefix of it went out.
+fn write_metadata<A: Allocator, B: Allocator + Copy, K: ByteSink>(
+    alloc: B,
+    sink: &mut K,
+    events: &[Event<A>],
+    uuid: &Uuid,
+) -> Result<(), WriteFault>
+    ensures { WritesText (metadata_with events.now uuid.now) (sunk_of K.ByteSink sink.old) (sunk_of K.ByteSink sink.new) result }
+{
+    let text = metadata_text(alloc, events, uuid)?;
+    put_all(sink, text.as_bytes())?;
+    Ok(())
 }
 
 impl<A: Allocator> Content<'_, A> {
     /// Writes it, unless it is a part that was released.
-    pub(crate) fn put<B: Allocator, K: ByteSink>(
+    pub(crate) fn put<B: Allocator + Copy, K: ByteSink>(
         &self,
         alloc: B,
         sink: &mut K,
@@ -27,7 +44,7 @@ impl<A: Allocator> Content<'_, A> {
         ensures { WritesText (content_text self.now) (sunk_of K.ByteSink sink.old) (sunk_of K.ByteSink sink.new) result }
     {
         match self {
-            Content::Metadata(uuid) => write_metadata(alloc, sink, uuid),
+            Content::Metadata(uuid, events) => write_metadata(alloc, sink, events, uuid),
             Content::Packets(part) => write_part(sink, part),
         }
     }

@@ -20,7 +20,7 @@ use tr_session_book::Archive;
 use tr_terms::Name;
 
 /// Writes a file of this path with this content.
-fn write_file<A: Allocator, B: Allocator, D: Disk>(
+fn write_file<A: Allocator, B: Allocator + Copy, D: Disk>(
     alloc: B,
     disk: &mut D,
     path: &str,
@@ -112,8 +112,9 @@ fn write_chunk<A: Allocator, B: Allocator + Copy, D: Disk>(
     let metadata = file_path(alloc, folder, "metadata")?;
     disk.make_folder(folder)?;
     write_streams(alloc, disk, folder, id, session)?;
-    let uuid = session.book().uuid();
-    let content = Content::<A>::Metadata(&uuid);
+    let book = session.book();
+    let uuid = book.uuid();
+    let content = Content::Metadata(&uuid, book.events().list());
     write_file(alloc, disk, metadata.as_str(), &content)
 }
 

@@ -5,6 +5,7 @@ ghost use Rattle.tr_load.specs.Plans.{load_session};
 
 use crate::loaded::LoadFault;
 use std::alloc::Global;
+use tr_events::Events;
 use tr_session::{ChannelConfig, Config};
 use tr_shared::{Plan, plan_watched};
 use tr_terms::{Mode, Name, OffsetMinutes, SessionMode};
@@ -49,6 +50,7 @@ pub fn load_plan(alloc: Global, threads: u64, watchers: usize) -> Result<Plan, L
         uuid: Uuid::from_bytes(IDENTIFIER),
         offset,
         mode: SessionMode::Local,
+        events: Events::none(alloc),
         channels,
     };
     Ok(plan_watched(alloc, &config, watchers)?)

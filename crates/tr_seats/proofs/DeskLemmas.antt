@@ -87,6 +87,7 @@ module _ (plan : PlanState) (b : SessionBookState) (consumed cuts cleared : List
       mode = is.book_is.mode;
       channels = is.book_is.channels;
       threads = is.book_is.threads;
+      events = is.book_is.events;
     };
     consumed_are = row-raised (consumed_books plan.books) consumed i one is.consumed_are wide-consumed one_is one' moved first;
     cuts_are = row-raised (cut_books plan.books) cuts i two is.cuts_are wide-cuts two_is two' 1 second;
@@ -126,6 +127,7 @@ desk-shown plan b consumed cuts cleared moment is = go (snapshot_allowed b)
         mode = is.book_is.mode;
         channels = is.book_is.channels;
         threads = is.book_is.threads;
+        events = is.book_is.events;
       };
       consumed_are = is.consumed_are;
       cuts_are = is.cuts_are;

@@ -140,7 +140,7 @@ module _ (plan : PlanState) (slots : List SlotState) (producers : List ProducerS
     pub desk-planned : AreUnused plan.session.streams → IsDesk plan plan.session.book consumed cuts cleared
     desk-planned unused = record {
       planned = planned;
-      book_is = record { uuid = refl; offset = refl; mode = refl; channels = refl; threads = refl };
+      book_is = record { uuid = refl; offset = refl; mode = refl; channels = refl; threads = refl; events = refl };
       consumed_are = subst (λ (tables : List TableId). AreSeatsOf tables consumed)
           (take-all (consumed_books plan.books) (length slots) (all ∙ sym (length-map plan.books (λ (x : Books). x.consumed))))
           is.consumed_are;

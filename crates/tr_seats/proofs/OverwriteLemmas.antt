@@ -4,7 +4,7 @@ use Rattle.std.specs.Map.{lookup}
 use Rattle.std.specs.Prelude.{cond, if◌then◌else◌, is_some, length, nat_le, slice_get}
 use Rattle.tr_seats.specs.Books.{AreOverwriting}
 use Rattle.tr_session.specs.Runs.{add_threads, and_then, configure_channel, configure_channels, session_of_config}
-use Rattle.tr_session.specs.Session.{SessionOf, new_session}
+use Rattle.tr_session.specs.Session.{SessionOf, declaring, new_session}
 use Rattle.tr_session.specs.Steps.{next_config, session_add_channel, session_add_stream, session_add_thread, with_book}
 use Rattle.tr_session.specs.declared.config.ChannelConfig.{ChannelConfig}
 use Rattle.tr_session.specs.declared.config.Config.{Config}
@@ -137,12 +137,12 @@ pub configured-overwrites : {A : Type 0} (config : Config A) (s : SessionOf Stre
     → session_of_config by_state config ≡ Ok s → AreOverwriting s.book.mode s.streams
 configured-overwrites config s is =
     let all : IsOver s =
-    subst IsOverIn is (over-channels config.channels.items (new_session config.uuid config.offset config.mode) none) in
+    subst IsOverIn is (over-channels config.channels.items (declaring config.events (new_session config.uuid config.offset config.mode)) none) in
     all.streams
   where
     no_stream : (i : ℕ) (t : StreamState) → slice_get {X = StreamState} [] i ≡ Some t → t.config.mode ≡ Overwrite
     no_stream zero t got = cc
     no_stream (suc i) t got = cc
 
-    none : IsOver (new_session config.uuid config.offset config.mode)
+    none : IsOver (declaring config.events (new_session config.uuid config.offset config.mode))
     none = record { channels = λ e. tt; streams = λ e i t got. no_stream i t got }

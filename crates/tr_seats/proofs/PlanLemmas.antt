@@ -3,7 +3,7 @@ use Rattle.std.proofs.Common.{◌≡◌, ℕ, zero, suc, List, [], ◌∷◌, �
 use Rattle.std.specs.Prelude.{slice_get}
 use Rattle.tr_seats.specs.Plans.{AreUnused, IsUnused}
 use Rattle.tr_session.specs.Runs.{add_threads, and_then, configure_channel, configure_channels, session_of_config}
-use Rattle.tr_session.specs.Session.{SessionOf, new_session}
+use Rattle.tr_session.specs.Session.{SessionOf, declaring, new_session}
 use Rattle.tr_session.specs.Steps.{next_config, session_add_channel, session_add_stream, session_add_thread, with_book}
 use Rattle.tr_session.specs.declared.config.ChannelConfig.{ChannelConfig}
 use Rattle.tr_session.specs.declared.config.Config.{Config}
@@ -64,7 +64,7 @@ unused-channels (c ∷ cs) s is =
 pub configured-unused : {A : Type 0} (config : Config A) (s : SessionOf StreamState) → session_of_config by_state config ≡ Ok s
     → AreUnused s.streams
 configured-unused config s is =
-    subst StreamsUnused is (unused-channels config.channels.items (new_session config.uuid config.offset config.mode)
+    subst StreamsUnused is (unused-channels config.channels.items (declaring config.events (new_session config.uuid config.offset config.mode))
     (λ i t got. absurd (none i t got)))
   where
     none : (i : ℕ) (t : StreamState) → slice_get {X = StreamState} [] i ≡ Some t → ⊥

@@ -28,6 +28,7 @@ pub record IsOfPlan (planned book : SessionBookState) : Type 0 where
   pub mode : book.mode ≡ planned.mode
   pub channels : book.channels ≡ planned.channels
   pub threads : book.threads ≡ planned.threads
+  pub events : book.events ≡ planned.events
 
 -- the desk of a plan: it has a seat of each stream's consumed records, the whole seat of its cuts, which says how many
 -- chunks of the stream are closed, and the whole seat of its cleared records

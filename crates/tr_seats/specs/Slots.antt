@@ -79,11 +79,12 @@ totals_moved (Discarded serial) p = record p { offered = p.offered + 1; discarde
 abbrev pub with_offer : ℕ → ℕ → List ℕ → Result Offered OfferFault → ProducerState → ProducerState
 with_offer moment id payload answer p = record p { steps = p.steps ++ offer_step moment id payload answer ∷ [] }
 
--- what an offer does to the producer: it is noted with its answer, unless another stream was in the slot, and the totals move
--- if it was accepted
+-- what an offer does to the producer: it is noted with its answer, unless the slot has another stream or the stream wasn't
+-- asked, and the totals move if it was accepted
 abbrev pub producer_after : ℕ → ℕ → List ℕ → Result Offered OfferFault → ProducerState → ProducerState
 producer_after moment id payload (Ok offered) p = totals_moved offered (with_offer moment id payload (Ok offered) p)
 producer_after moment id payload (Err offer_fault.Misplaced) p = p
+producer_after moment id payload (Err offer_fault.OtherLayout) p = p
 producer_after moment id payload (Err fault) p = with_offer moment id payload (Err fault) p
 
 -- its teller publishes how many records were offered

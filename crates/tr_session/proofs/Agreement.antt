@@ -16,17 +16,20 @@ use Rattle.tr_book.specs.declared.counts.Counts.{Counts}
 use Rattle.tr_terms.specs.declared.mode.Mode.{Mode}
 use Rattle.tr_schedule.specs.Schedules.{ScheduleState}
 use Rattle.tr_schedule.specs.declared.cause.Cause.{Cause}
+use Rattle.tr_events.specs.Events.{fits_declared}
 use Rattle.tr_session.specs.Agreement.{AllAgree, CanBeMade, AllCanBeMade, SessionsAgree}
 use Rattle.tr_session_book.specs.Book.{SessionBookState}
 use Rattle.tr_session_book.specs.BookSteps.{unless_refused, is_new, is_allowed, channel_named, channel_of_geometry, book_add_channel, thread_place, with_thread, book_start_answer, with_start, book_after_start, book_stop_answer, with_stop, book_after_stop, book_switch_answer, book_rotate_begin_answer, with_pending, book_after_rotate_begin, cut_moment, with_cut, book_rotate_finish_answer, with_archive, book_after_rotate_finish, snapshot_allowed, book_snapshot_begin_answer, book_after_snapshot_begin, snap_allowed, book_schedule_answer, book_after_schedule, due_now}
 use Rattle.tr_session.specs.Session.{SessionOf}
 use Rattle.tr_session.specs.Sizes.{archive_released, part_released, archive_packets, archive_bytes}
-use Rattle.tr_session.specs.Steps.{with_book, session_add_channel, next_config, session_add_stream, session_add_thread, change_at, offer_as_step, take_as_step, cut_as_step, session_offer_answer, session_after_offer, session_take_answer, session_after_take, cut_answer_if_due, after_cut_if_due, session_cut_answer, session_after_cut, snap_answer_if_allowed, session_snap_answer, session_after_switch, session_after_start, session_after_stop, session_after_rotate_begin, session_after_rotate_finish, as_next, next_in, session_next_answer, session_after_next, cut_first, cut_all_streams, rotation_answer, session_rotate_answer, session_after_rotate, snapshot_if_allowed, session_snapshot_answer, session_after_snapshot, current_sizes, tick_cause, as_ticked, session_tick_answer, session_after_tick, session_fate_answer}
+use Rattle.tr_session.specs.Steps.{with_book, stream_offer_answer, stream_after_offer, session_add_channel, next_config, session_add_stream, session_add_thread, change_at, offer_as_step, take_as_step, cut_as_step, session_offer_answer, session_after_offer, session_take_answer, session_after_take, cut_answer_if_due, after_cut_if_due, session_cut_answer, session_after_cut, snap_answer_if_allowed, session_snap_answer, session_after_switch, session_after_start, session_after_stop, session_after_rotate_begin, session_after_rotate_finish, as_next, next_in, session_next_answer, session_after_next, cut_first, cut_all_streams, rotation_answer, session_rotate_answer, session_after_rotate, snapshot_if_allowed, session_snapshot_answer, session_after_snapshot, current_sizes, tick_cause, as_ticked, session_tick_answer, session_after_tick, session_fate_answer}
 use Rattle.tr_session_book.specs.declared.archive.Archive.{Archive}
 use Rattle.tr_session_book.specs.declared.archive.Pending.{Pending}
 use Rattle.tr_session_book.specs.declared.channel.Channel.{Channel}
 use Rattle.tr_session_book.specs.declared.faults.SessionFault.{SessionFault}
 use Rattle.tr_session.specs.declared.faults.StepFault.{StepFault}
+use Rattle.tr_session.specs.declared.faults.StepFault.TheVariants.{Offer}
+use Rattle.tr_stream.specs.declared.answers.OfferFault.TheVariants.{OtherLayout}
 use Rattle.tr_session.specs.declared.rotation.Next.TheVariants as next
 use Rattle.tr_stream.proofs.RuleLemmas.{agree-made, agree-offered, agree-taken, agree-cut, agree-turned, same-counted, same-cut, same-fated, same-offered, same-parted, same-snapped, same-taken}
 use Rattle.tr_snapshot.specs.Snapshots.{SnapshotState}
@@ -109,20 +112,32 @@ kept-archived : (r : Result Archive SessionFault) (old : SessionBookState) → (
 kept-archived (Ok archive) old = refl
 kept-archived (Err f) old = refl
 
+agree-if : (t u : Bool) → t ≡ u → (a c : SessionOf StreamState) (b d : SessionOf Traced) → SessionsAgree a b → SessionsAgree c d
+    → SessionsAgree (if t then a else c) (if u then b else d)
+agree-if true true same a c b d first second = first
+agree-if true false same a c b d first second = absurd cc
+agree-if false true same a c b d first second = absurd cc
+agree-if false false same a c b d first second = second
+
 module _ (a : SessionOf StreamState) (b : SessionOf Traced) (is : SessionsAgree a b) where
   -- ---- steps of one stream
 
-  pub same-offer : (i moment id : ℕ) (payload : List ℕ)
-      → session_offer_answer by_state i moment id payload a ≡ session_offer_answer by_history i moment id payload b
-  same-offer i moment id payload =
+  same-asked : (i moment id : ℕ) (payload : List ℕ)
+      → stream_offer_answer by_state i moment id payload a ≡ stream_offer_answer by_history i moment id payload b
+  same-asked i moment id payload =
       same-at i (λ s. offer_as_step (by_state.offer_answer moment id payload s))
       (λ t. offer_as_step (by_history.offer_answer moment id payload t)) _ a.streams b.streams
       (λ s t agree. ap offer_as_step (same-offered s t moment id payload agree)) is.streams
 
-  pub agree-offer : (i moment id : ℕ) (payload : List ℕ)
-      → SessionsAgree (session_after_offer by_state i moment id payload a)
-      (session_after_offer by_history i moment id payload b)
-  agree-offer i moment id payload =
+  pub same-offer : (i moment id : ℕ) (payload : List ℕ)
+      → session_offer_answer by_state i moment id payload a ≡ session_offer_answer by_history i moment id payload b
+  same-offer i moment id payload =
+      λ j. if fits_declared (is.book j).events id payload then same-asked i moment id payload j else Err (Offer OtherLayout)
+
+  agree-asked : (i moment id : ℕ) (payload : List ℕ)
+      → SessionsAgree (stream_after_offer by_state i moment id payload a)
+      (stream_after_offer by_history i moment id payload b)
+  agree-asked i moment id payload =
       record {
         book = is.book;
         made = is.made;
@@ -130,6 +145,15 @@ module _ (a : SessionOf StreamState) (b : SessionOf Traced) (is : SessionsAgree 
             all-changed i (by_state.after_offer moment id payload) (by_history.after_offer moment id payload) a.streams b.streams
             (λ s t agree. agree-offered s t moment id payload agree) is.streams;
       }
+
+  pub agree-offer : (i moment id : ℕ) (payload : List ℕ)
+      → SessionsAgree (session_after_offer by_state i moment id payload a)
+      (session_after_offer by_history i moment id payload b)
+  agree-offer i moment id payload =
+      agree-if (fits_declared a.book.events id payload) (fits_declared b.book.events id payload)
+      (ap (λ (book : SessionBookState). fits_declared book.events id payload) is.book)
+      (stream_after_offer by_state i moment id payload a) a (stream_after_offer by_history i moment id payload b) b
+      (agree-asked i moment id payload) is
 
   pub same-take : (i : ℕ) → session_take_answer by_state i a ≡ session_take_answer by_history i b
   same-take i = same-at i (λ s. take_as_step (by_state.take_answer s)) (λ t. take_as_step (by_history.take_answer t)) _

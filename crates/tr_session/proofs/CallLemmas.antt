@@ -5,12 +5,13 @@ use Rattle.std.specs.Map.{lookup}
 use Rattle.std.specs.Prelude.{OnErr, OnOk, if◌then◌else◌, is_some, nat_le, nat_lt, position, slice_get}
 use Rattle.std.specs.Str.{bytes_eq}
 use Rattle.tr_session.proofs.StreamLemmas.{IsSameFor, after-one, begun-same, found-pushed, kept-pushed, last-pushed, offer-keeps, other-book, take-keeps, unchanged}
+use Rattle.tr_events.specs.Events.{Event}
 use Rattle.tr_session.specs.Session.{HasItsStreams, session_of}
 use Rattle.tr_session.specs.Steps.{change_at}
 use Rattle.tr_session.specs.declared.faults.StepFault.TheVariants as step
 use Rattle.tr_session.specs.declared.faults.StepFault.{StepFault}
 use Rattle.tr_session_book.specs.Book.{SessionBookState}
-use Rattle.tr_session_book.specs.BookSteps.{book_after_rotate_begin, channel_of_geometry, book_add_channel, channel_named, is_allowed, is_new, with_thread_at, place_free, book_add_thread, thread_place, with_channel, with_thread}
+use Rattle.tr_session_book.specs.BookSteps.{book_after_rotate_begin, channel_of_geometry, book_add_channel, book_declare, channel_named, is_allowed, is_new, with_thread_at, place_free, book_add_thread, thread_place, with_channel, with_thread}
 use Rattle.tr_session_book.specs.declared.channel.Channel.{Channel}
 use Rattle.tr_session_book.specs.declared.faults.SessionFault.TheVariants.{AlreadyStarted, DiscardInSnapshot, NameTaken, TooMany}
 use Rattle.tr_session_book.specs.declared.faults.SessionFault.{SessionFault}
@@ -69,6 +70,23 @@ channel-same name size count mode b c is = fresh (is_new b.state) is
         else channel_of_geometry name mode (geometry_of size count) b)) else Err AlreadyStarted) ≡ Ok c → IsSameFor b c
     fresh true e = free (is_some (channel_named name b)) e
     fresh false e = absurd cc
+
+-- events that were declared
+declared-same : (events : List Event) (b c : SessionBookState) → book_declare events b ≡ Ok c → IsSameFor b c
+declared-same events b c is = fresh (is_new b.state) is
+  where
+    now : SessionBookState
+    now = record b { events = events }
+
+    fresh : (t : Bool) → (if t then Ok now else Err AlreadyStarted) ≡ Ok c → IsSameFor b c
+    fresh true e = let same : now ≡ c = cc in subst (λ (d : SessionBookState). IsSameFor b d) same
+        (record { uuid = refl; mode = refl; threads = refl; channels = λ place other at. at; closed = λ i within. refl })
+    fresh false e = absurd cc
+
+pub declare-step : {R : Type 0} (r : Result R SessionFault) (events : List Event) (b c : SessionBookState)
+    → OnOk r (book_declare events b ≡ Ok c) → OnErr r (c ≡ b) → IsSameFor b c
+declare-step (Ok done) events b c ok err = declared-same events b c ok
+declare-step (Err fault) events b c ok err = subst (λ (d : SessionBookState). IsSameFor b d) (sym err) (unchanged b)
 
 -- the first entry whose key passes is at the first place where a key passes
 located-next : {K X : Type 0} (e : K × X) (es : List (K × X)) (x : X) (rest : ℕ) (found : Option X) (t : Bool)

@@ -3,6 +3,7 @@ use Rattle.std.proofs.Common.{◌≡◌, ◌∙◌, ℕ, zero, suc, Bool, true, 
 use Rattle.std.proofs.lemmas.Bool.Decides.{nat_tests}
 use Rattle.std.proofs.lemmas.Grind.{common_steps}
 use Rattle.std.specs.Prelude.{◌==◌, if◌then◌else◌, option_map, slice_get}
+use Rattle.tr_events.specs.Events.{fits_declared}
 use Rattle.tr_session_book.specs.Book.{SessionBookState}
 use Rattle.tr_session_book.specs.BookSteps.{unless_refused, cut_moment, book_switch_answer, with_cut, snap_allowed, clear_allowed_at}
 use Rattle.tr_session.specs.Events.{session_after_event, session_after_events, book_after_event, cut_let_through, is_of, let_through, own_steps}
@@ -35,6 +36,11 @@ book-unless : (r : Result Unit SessionFault) (s : SessionOf Traced) (ts : List T
     → (unless_refused r (let u : SessionOf Traced = record s { streams = ts } in u) s).book ≡ s.book
 book-unless (Ok x) s ts = refl
 book-unless (Err fault) s ts = refl
+
+book-if : (t : Bool) (s : SessionOf Traced) (ts : List Traced)
+    → (if t then (let u : SessionOf Traced = record s { streams = ts } in u) else s).book ≡ s.book
+book-if true s ts = refl
+book-if false s ts = refl
 
 module _ (A : Type 0) where
   -- a stream some steps later
@@ -90,6 +96,14 @@ module _ (A : Type 0) where
   at-unless i j f (Ok x) steps s same = at-own i j f steps s.streams same
   at-unless i j f (Err fault) steps s same = if-none (i == j) (slice_get s.streams i)
 
+  -- an offer that may not fit as declared
+  at-if : (i j : ℕ) (f : Traced → Traced) (t : Bool) (steps : List (StreamEvent A)) (s : SessionOf Traced)
+      → ((t : Traced) → f t ≡ moved steps t)
+      → slice_get (if t then (let u : SessionOf Traced = record s { streams = change_at j f s.streams } in u) else s).streams i
+      ≡ option_map (moved (if i == j then (if t then steps else []) else [])) (slice_get s.streams i)
+  at-if i j f true steps s same = at-own i j f steps s.streams same
+  at-if i j f false steps s same = if-none (i == j) (slice_get s.streams i)
+
   -- a peek changes no stream
   seen : (moment : ℕ) (o : Option Traced) → o ≡ option_map (moved (stream.Peek moment ∷ [])) o
   seen moment None = refl
@@ -110,7 +124,8 @@ module _ (A : Type 0) where
       → slice_get (session_after_event by_history e s).streams i
       ≡ option_map (moved (if is_of i e then let_through e s.book else [])) (slice_get s.streams i)
   own-event i (Offer j moment id payload) s =
-      at-own i j (by_history.after_offer moment id payload) (stream.Offer moment id payload ∷ []) s.streams (λ t. refl)
+      at-if i j (by_history.after_offer moment id payload) (fits_declared s.book.events id payload)
+      (stream.Offer moment id payload ∷ []) s (λ t. refl)
   own-event i (Take j) s = at-own i j by_history.after_take (stream.Take ∷ []) s.streams (λ t. refl)
   own-event i (Cut j) s = at-cut i j (cut_moment j s.book) s
   own-event i (Release j k) s =
@@ -126,7 +141,8 @@ module _ (A : Type 0) where
 
   -- the book doesn't depend on the streams
   book-event : (e : Event A) (s : SessionOf Traced) → (session_after_event by_history e s).book ≡ book_after_event e s.book
-  book-event (Offer j moment id payload) s = refl
+  book-event (Offer j moment id payload) s =
+      book-if (fits_declared s.book.events id payload) s (change_at j (by_history.after_offer moment id payload) s.streams)
   book-event (Take j) s = refl
   book-event (Cut j) s = book-cut (cut_moment j s.book) j s
   book-event (Release j k) s = book-unless (release_allowed_at j k s.book) s (change_at j (by_history.after_release k) s.streams)

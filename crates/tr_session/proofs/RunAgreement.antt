@@ -10,7 +10,7 @@ use Rattle.tr_session_book.specs.Book.{SessionBookState}
 use Rattle.tr_session_book.specs.BookSteps.{book_start_answer, book_stop_answer, book_switch_answer, book_rotate_begin_answer, book_rotate_finish_answer}
 use Rattle.tr_session.specs.Events.{session_after_event, session_after_events, session_answer, session_answers, own_steps}
 use Rattle.tr_session.specs.Runs.{and_then, configure_channel, configure_channels, session_of_config, add_threads, HasRun}
-use Rattle.tr_session.specs.Session.{SessionOf, new_session}
+use Rattle.tr_session.specs.Session.{SessionOf, declaring, new_session}
 use Rattle.tr_session.specs.Steps.{session_add_channel, session_add_stream, session_add_thread, with_book}
 use Rattle.tr_session_book.specs.declared.channel.Channel.{Channel}
 use Rattle.tr_session.specs.declared.config.ChannelConfig.{ChannelConfig}
@@ -102,8 +102,9 @@ agree-channels (c ∷ cs) a b is =
     (λ d e agree. agree-channels cs d e agree)
 
 agree-configured : {A : Type 0} (config : Config A) → ResultsAgree (session_of_config by_state config) (session_of_config by_history config)
-agree-configured config = agree-channels config.channels.items (new_session config.uuid config.offset config.mode)
-    (new_session config.uuid config.offset config.mode) (record { book = refl; streams = tt; made = tt })
+agree-configured config = agree-channels config.channels.items
+    (declaring config.events (new_session config.uuid config.offset config.mode))
+    (declaring config.events (new_session config.uuid config.offset config.mode)) (record { book = refl; streams = tt; made = tt })
 
 -- a configuration is refused alike
 pub refused-alike : {A : Type 0} (config : Config A) (fault : SessionFault) → session_of_config by_state config ≡ Err fault
@@ -197,7 +198,7 @@ module _ {A : Type 0} where
       go (session_of_config by_history config) refl
       (subst (λ (r : Result (SessionOf StreamState) SessionFault). ResultsAgree r (session_of_config by_history config))
       is (agree-configured config))
-      (begin-channels config.channels.items (new_session config.uuid config.offset config.mode) tt)
+      (begin-channels config.channels.items (declaring config.events (new_session config.uuid config.offset config.mode)) tt)
     where
       go : (q : Result (SessionOf Traced) SessionFault) → session_of_config by_history config ≡ q
           → ResultsAgree (Ok begin) q → BeginsSo (session_of_config by_history config) → HasRun config events now answers

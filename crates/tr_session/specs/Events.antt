@@ -3,6 +3,7 @@ use Rattle.std.specs.Prelude.{◌≡◌, ℕ, Bool, true, false, IsOk, List, [],
 use Rattle.tr_session_book.specs.Book.{SessionBookState}
 use Rattle.tr_session_book.specs.BookSteps.{unless_refused, book_start_answer, book_after_start, book_stop_answer, book_after_stop, book_switch_answer, book_rotate_begin_answer, book_after_rotate_begin, cut_moment, book_after_note_cut, book_rotate_finish_answer, book_after_rotate_finish, snap_allowed, clear_allowed_at}
 use Rattle.tr_session.specs.Session.{SessionOf}
+use Rattle.tr_events.specs.Events.{fits_declared}
 use Rattle.tr_session.specs.Steps.{ClearsPackets, ReleasesPackets, ShowsPackets, session_after_rotate_begin, session_after_rotate_finish, session_offer_answer, session_after_offer, session_take_answer, session_after_take, session_cut_answer, session_after_cut, session_clear_answer, session_after_clear, release_allowed_at, session_release_answer, session_after_release, session_snap_answer, session_after_switch}
 use Rattle.tr_session.specs.declared.events.Answer.{Answer}
 use Rattle.tr_session.specs.declared.events.Answer.TheVariants as answer
@@ -91,7 +92,8 @@ cut_let_through (Err fault) = []
 
 -- the steps that an event is for its own stream
 abbrev pub let_through : {A : Type 0} → Event A → SessionBookState → List (StreamEvent A)
-let_through (Offer i moment id payload) b = stream.Offer moment id payload ∷ []
+let_through (Offer i moment id payload) b =
+    if fits_declared b.events id payload then stream.Offer moment id payload ∷ [] else []
 let_through (Take i) b = stream.Take ∷ []
 let_through (Cut i) b = cut_let_through (cut_moment i b)
 let_through (Clear i) b = unless_refused (clear_allowed_at i b) (stream.Clear ∷ []) []

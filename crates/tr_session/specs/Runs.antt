@@ -2,7 +2,7 @@
 use Rattle.std.specs.Prelude.{◌≡◌, ℕ, zero, suc, List, [], ◌∷◌, Some, Result, Ok, Err, slice_get}
 use Rattle.tr_session.specs.Agreement.{SessionsAgree}
 use Rattle.tr_session.specs.Events.{session_after_events, session_answers, own_steps}
-use Rattle.tr_session.specs.Session.{SessionOf, new_session}
+use Rattle.tr_session.specs.Session.{SessionOf, declaring, new_session}
 use Rattle.tr_session.specs.Steps.{session_add_channel, session_add_thread}
 use Rattle.tr_session.specs.declared.config.ChannelConfig.{ChannelConfig}
 use Rattle.tr_session.specs.declared.config.Config.{Config}
@@ -37,9 +37,9 @@ abbrev pub configure_channels : {S : Type 0} → StreamRules S → List ChannelC
 configure_channels rules [] s = Ok s
 configure_channels rules (c ∷ cs) s = and_then (configure_channel rules c s) (configure_channels rules cs)
 
--- the session of a configuration, or why there is none
+-- the session of a configuration, or why there is none: its events are declared before all else
 abbrev pub session_of_config : {S A : Type 0} → StreamRules S → Config A → Result (SessionOf S) SessionFault
-session_of_config rules c = configure_channels rules c.channels.items (new_session c.uuid c.offset c.mode)
+session_of_config rules c = configure_channels rules c.channels.items (declaring c.events (new_session c.uuid c.offset c.mode))
 
 -- a session that its configuration and a list of events led to, and what the events answered
 module _ {A : Type 0} (config : Config A) (events : List (Event A)) where

@@ -4,10 +4,11 @@ use Rattle.std.specs.List.{list_any, sum_by}
 use Rattle.std.specs.Option.{option_map_or}
 pub use Rattle.tr_book.specs.Parts.{change_at}
 use Rattle.tr_book.specs.Snaps.{SnapState}
+use Rattle.tr_events.specs.Events.{Event, fits_declared}
 use Rattle.tr_terms.specs.declared.mode.Mode.{Mode}
 use Rattle.tr_schedule.specs.declared.cause.Cause.{Cause}
 use Rattle.tr_session_book.specs.Book.{SessionBookState}
-use Rattle.tr_session_book.specs.BookSteps.{unless_refused, channel_named, book_add_channel, thread_place, with_thread, book_start_answer, book_after_start, book_stop_answer, book_after_stop, book_switch_answer, book_rotate_begin_answer, archive_ended, with_pending, book_after_rotate_begin, cut_moment, with_cut, book_rotate_finish_answer, book_after_rotate_finish, book_snapshot_begin_answer, book_after_snapshot_begin, snap_allowed, book_clear_answer, clear_allowed_at, book_release_answer, due_now}
+use Rattle.tr_session_book.specs.BookSteps.{unless_refused, channel_named, book_add_channel, book_declare, thread_place, with_thread, book_start_answer, book_after_start, book_stop_answer, book_after_stop, book_switch_answer, book_rotate_begin_answer, archive_ended, with_pending, book_after_rotate_begin, cut_moment, with_cut, book_rotate_finish_answer, book_after_rotate_finish, book_snapshot_begin_answer, book_after_snapshot_begin, snap_allowed, book_clear_answer, clear_allowed_at, book_release_answer, due_now}
 use Rattle.tr_session.specs.Session.{SessionOf, session_of}
 use Rattle.tr_session_book.specs.declared.archive.Archive.{Archive}
 use Rattle.tr_session_book.specs.declared.archive.Pending.{Pending}
@@ -29,6 +30,7 @@ use Rattle.tr_stream.specs.declared.answers.Cleared.{Cleared}
 use Rattle.tr_stream.specs.declared.answers.CutDone.{CutDone}
 use Rattle.tr_stream.specs.declared.answers.CutFault.{CutFault}
 use Rattle.tr_stream.specs.declared.answers.OfferFault.{OfferFault}
+use Rattle.tr_stream.specs.declared.answers.OfferFault.TheVariants.{OtherLayout}
 use Rattle.tr_stream.specs.declared.answers.Offered.{Offered}
 use Rattle.tr_stream.specs.declared.answers.ReleaseFault.{ReleaseFault}
 use Rattle.tr_stream.specs.declared.answers.ReleaseFault.TheVariants as release_fault
@@ -48,6 +50,10 @@ with_book streams (Err fault) = Err fault
 -- a channel is added
 abbrev pub session_add_channel : {S : Type 0} → List ℕ → ℕ → ℕ → Mode → SessionOf S → Result (SessionOf S) SessionFault
 session_add_channel name size count mode s = with_book s.streams (book_add_channel name size count mode s.book)
+
+-- these events are declared, and no others
+abbrev pub session_declare : {S : Type 0} → List Event → SessionOf S → Result (SessionOf S) SessionFault
+session_declare events s = with_book s.streams (book_declare events s.book)
 
 -- what the next stream of a channel is made with
 abbrev pub next_config : Channel → SessionBookState → StreamConfig
@@ -85,16 +91,27 @@ abbrev pub cut_as_step : Result CutDone CutFault → Result CutDone StepFault
 cut_as_step (Ok done) = Ok done
 cut_as_step (Err fault) = Err (Cut fault)
 
--- an offer to stream i
-abbrev pub session_offer_answer : {S : Type 0} → StreamRules S → ℕ → ℕ → ℕ → List ℕ → SessionOf S
+-- an offer to stream i, which is asked
+abbrev pub stream_offer_answer : {S : Type 0} → StreamRules S → ℕ → ℕ → ℕ → List ℕ → SessionOf S
     → Result Offered StepFault
-session_offer_answer rules i moment id payload s =
+stream_offer_answer rules i moment id payload s =
     option_map_or (λ t. offer_as_step (rules.offer_answer moment id payload t)) (slice_get s.streams i)
     (Err (Session NoStream))
 
+abbrev pub stream_after_offer : {S : Type 0} → StreamRules S → ℕ → ℕ → ℕ → List ℕ → SessionOf S → SessionOf S
+stream_after_offer rules i moment id payload s =
+    record s { streams = change_at i (rules.after_offer moment id payload) s.streams }
+
+-- an offer to stream i, which is asked unless the record's id is declared with another layout
+abbrev pub session_offer_answer : {S : Type 0} → StreamRules S → ℕ → ℕ → ℕ → List ℕ → SessionOf S
+    → Result Offered StepFault
+session_offer_answer rules i moment id payload s =
+    if fits_declared s.book.events id payload then stream_offer_answer rules i moment id payload s
+    else Err (Offer OtherLayout)
+
 abbrev pub session_after_offer : {S : Type 0} → StreamRules S → ℕ → ℕ → ℕ → List ℕ → SessionOf S → SessionOf S
 session_after_offer rules i moment id payload s =
-    record s { streams = change_at i (rules.after_offer moment id payload) s.streams }
+    if fits_declared s.book.events id payload then stream_after_offer rules i moment id payload s else s
 
 -- a take from stream i
 abbrev pub session_take_answer : {S : Type 0} → StreamRules S → ℕ → SessionOf S → Result Taken StepFault

@@ -1,6 +1,7 @@
 //! What a session is made with.
 
 use std::alloc::{Allocator, Global};
+use tr_events::Events;
 use tr_terms::{Mode, Name, OffsetMinutes, SessionMode};
 use uuid::Uuid;
 
@@ -19,7 +20,7 @@ pub struct ChannelConfig<'a> {
     pub threads: u64,
 }
 
-/// What a session is made with: its channels are added in order, each before its threads.
+/// What a session is made with: its events are declared, and then its channels are added in order, each before its threads.
 #[derive(Drop)]
 pub struct Config<'a, A: Allocator = Global> {
     /// The identifier of the trace.
@@ -28,6 +29,8 @@ pub struct Config<'a, A: Allocator = Global> {
     pub offset: OffsetMinutes,
     /// What becomes of packets.
     pub mode: SessionMode,
+    /// The events that it declares; `Events::none` if it declares none.
+    pub events: Events<A>,
     /// The channels.
     pub channels: Vec<ChannelConfig<'a>, A>,
 }

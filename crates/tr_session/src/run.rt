@@ -80,7 +80,7 @@ fn add_configured<A: Allocator + Copy>(
 ///
 /// # Errors
 ///
-/// Those of `add_channel` and `add_thread` for the first channel or thread of the configuration that is refused.
+/// Those of `add_channel` and `add_thread` for the first channel or thread of the configuration that is refused; `NoMemory`.
 pub fn configure<A: Allocator + Copy>(
     alloc: A,
     config: &Config<'_, A>,
@@ -90,6 +90,7 @@ pub fn configure<A: Allocator + Copy>(
         (λ fault. fault ≢ SessionFault.NoMemory → session_of_config by_history config.now ≡ Err fault) }
 {
     let mut session = Session::new(alloc, config.uuid, config.offset, config.mode);
+    session.declare(&config.events)?;
     'channels: for channel in config.channels.iter() {
         if let Err(fault) = add_configured(&mut session, channel) {
             return Err(fault);

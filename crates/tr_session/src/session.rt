@@ -3,7 +3,7 @@
 ghost use Rattle.std.specs.Prelude.{◌≡◌, ◌≢◌, ◌≤◌, ◌<◌, [], true, false, None, Some, Ok, Err, IsOk, IfSome, IfOk, OnOk, IfErr, OnErr, length, map, option_copied, slice_get};
 ghost use Rattle.tr_session_book.specs.BookSteps.{channel_named, thread_place, book_start_answer, book_after_start, book_stop_answer, book_after_stop, book_switch_answer, book_rotate_begin_answer, cut_moment, book_rotate_finish_answer, book_snapshot_begin_answer, book_after_snapshot_begin, book_schedule_answer, book_after_schedule};
 ghost use Rattle.tr_session.specs.Session.{HasArchivedParts, HasItsStreams, IsStreamOf, new_session, session_of};
-ghost use Rattle.tr_session.specs.Steps.{session_add_channel, session_add_thread, session_offer_answer, session_after_offer, session_take_answer, session_after_take, session_cut_answer, session_after_cut, session_clear_answer, session_after_clear, ClearsPackets, session_release_answer, session_after_release, ReleasesPackets, session_snap_answer, ShowsPackets, session_after_switch, session_after_start, session_after_stop, session_after_rotate_begin, session_after_rotate_finish, current_sizes, session_fate_answer};
+ghost use Rattle.tr_session.specs.Steps.{session_add_channel, session_add_thread, session_declare, session_offer_answer, session_after_offer, stream_offer_answer, stream_after_offer, session_take_answer, session_after_take, session_cut_answer, session_after_cut, session_clear_answer, session_after_clear, ClearsPackets, session_release_answer, session_after_release, ReleasesPackets, session_snap_answer, ShowsPackets, session_after_switch, session_after_start, session_after_stop, session_after_rotate_begin, session_after_rotate_finish, current_sizes, session_fate_answer};
 ghost use Rattle.tr_stream.specs.Rules.{by_state};
 ghost use Rattle.tr_stream.specs.StateSteps.{state_snap};
 ghost use Rattle.tr_terms.specs.declared.limits.TheConstants.{MOST_STREAMS};
@@ -15,9 +15,12 @@ use crate::streams::{
 use std::alloc::{AllocError, Allocator, Global};
 use std::marker::Model;
 use tr_book::StreamSnap;
+use tr_events::Events;
 use tr_schedule::Schedule;
 use tr_session_book::{Archive, Channel, SessionBook, SessionFault};
-use tr_stream::{Cleared, CutDone, CutFault, Fate, Offered, Released, Stream, TakeFault, Taken};
+use tr_stream::{
+    Cleared, CutDone, CutFault, Fate, OfferFault, Offered, Released, Stream, TakeFault, Taken,
+};
 use tr_terms::{Mode, Moment, Name, OffsetMinutes, SessionMode};
 use uuid::Uuid;
 
@@ -103,6 +106,22 @@ impl<A: Allocator + Copy> Session<A> {
         self.book.add_channel(name, size, count, mode)
     }
 
+    /// Declares a copy of these events, and no others: those that were declared before are gone. From now on an offer of a
+    /// declared id is refused unless its payload fits.
+    ///
+    /// # Errors
+    ///
+    /// `AlreadyStarted`, `NoMemory`: nothing changed.
+    pub fn declare<B: Allocator>(&mut self, events: &Events<B>) -> Result<(), SessionFault>
+        ensures ok { OnOk result (session_declare events.now self.old ≡ Ok self.new) }
+        ensures refused { IfErr result
+            (λ fault. fault ≢ SessionFault.NoMemory → session_declare events.now self.old ≡ Err fault) }
+        ensures memory { result ≡ Err SessionFault.NoMemory → IsOk (session_declare events.now self.old) }
+        ensures unchanged { OnErr result (self.new ≡ self.old) }
+    {
+        self.book.declare(events)
+    }
+
     /// Adds a thread to a channel, and answers with the number of its stream. Its ring takes all its memory here: for each
     /// sub-buffer its size less a packet's header.
     ///
@@ -161,7 +180,8 @@ impl<A: Allocator + Copy> Session<A> {
     ///
     /// # Errors
     ///
-    /// `Session(NoStream)`, and those of the stream: nothing changed.
+    /// `Offer(OtherLayout)` if the record's id is declared and its payload doesn't fit, which is tried before the stream is looked
+    /// for; `Session(NoStream)`, and those of the stream: nothing changed.
     pub fn offer(
         &mut self,
         i: u64,
@@ -171,6 +191,24 @@ impl<A: Allocator + Copy> Session<A> {
     ) -> Result<Offered, StepFault>
         ensures answer { result ≡ session_offer_answer by_state i moment id payload.now self.old }
         ensures after { self.new ≡ session_after_offer by_state i moment id payload.now self.old }
+    {
+        if !self.book.fits(id, payload) {
+            return Err(StepFault::Offer(OfferFault::OtherLayout));
+        }
+        self.offer_fitting(i, moment, id, payload)
+    }
+
+    /// Offers a record that fits as declared.
+    #[inline(always)]
+    fn offer_fitting(
+        &mut self,
+        i: u64,
+        moment: Moment,
+        id: u32,
+        payload: &[u8],
+    ) -> Result<Offered, StepFault>
+        ensures answer { result ≡ stream_offer_answer by_state i moment id payload.now self.old }
+        ensures after { self.new ≡ stream_after_offer by_state i moment id payload.now self.old }
     {
         offer_at(&mut self.streams, i, moment, id, payload)
     }

@@ -6,6 +6,7 @@ use Rattle.tr_terms.specs.Geometry.{GeometryState, geometry_of}
 use Rattle.tr_terms.specs.declared.geometry.GeometryFault.{GeometryFault}
 use Rattle.tr_terms.specs.declared.mode.Mode.{Mode}
 use Rattle.tr_terms.specs.declared.mode.Mode.TheVariants.{Discard, Overwrite}
+use Rattle.tr_events.specs.Events.{Event}
 use Rattle.tr_schedule.specs.Due.{due_cause}
 use Rattle.tr_schedule.specs.Schedules.{ScheduleState}
 use Rattle.tr_schedule.specs.declared.cause.Cause.{Cause}
@@ -137,6 +138,12 @@ book_add_thread channel b = with_thread_at (thread_place channel b) b
 abbrev pub channel_of : ℕ → SessionBookState → Option (List ℕ)
 channel_of i b = option_and_then (λ place. option_map (λ (c : List ℕ × Channel). c.0) (slice_get b.channels place))
     (slice_get b.threads i)
+
+-- ---- declared events
+
+-- these events are declared, and no others
+abbrev pub book_declare : List Event → SessionBookState → Result SessionBookState SessionFault
+book_declare events b = if is_new b.state then Ok (record b { events = events }) else Err AlreadyStarted
 
 -- ---- starts and stops
 

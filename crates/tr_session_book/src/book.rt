@@ -13,12 +13,14 @@ use indexmap::IndexMap;
 use std::alloc::{AllocError, Allocator, Global};
 use std::hash::{BuildHasherDefault, FoldHasher};
 use std::marker::Model;
+use tr_events::Events;
 use tr_schedule::Schedule;
 use tr_terms::limits::{MOST_CHANNELS, MOST_STREAMS};
 use tr_terms::{Geometry, Mode, Moment, Name, OffsetMinutes, SessionMode};
 use uuid::Uuid;
 
 mod clears;
+mod declaring;
 mod readers;
 mod releases;
 mod schedules;
@@ -34,8 +36,8 @@ fn is_allowed(session: SessionMode, mode: Mode) -> bool
     }
 }
 
-/// What a session keeps beside its streams: its channels and the threads that were added to them, what it allows, its
-/// rotations and its archives. Contracts see a `SessionBookState`.
+/// What a session keeps beside its streams: its channels and the threads that were added to them, the events that it declares,
+/// what it allows, its rotations and its archives. Contracts see a `SessionBookState`.
 #[derive(Drop)]
 pub struct SessionBook<A: Allocator = Global> {
     alloc: A,
@@ -51,6 +53,7 @@ pub struct SessionBook<A: Allocator = Global> {
     pending: Option<Pending>,
     archives: Vec<Archive, A>,
     schedule: Option<Schedule>,
+    events: Events<A>,
 }
 
 impl<A: Allocator> Model for SessionBook<A> {
@@ -60,7 +63,7 @@ impl<A: Allocator> Model for SessionBook<A> {
     ghost Value = { SessionBookState };
 
     ghost view = { λ b. session_book_state b.uuid b.offset b.mode b.state b.rotated b.last b.begin
-        (by_name b.channels.entries) b.threads.items b.pending b.archives.items b.schedule };
+        (by_name b.channels.entries) b.threads.items b.pending b.archives.items b.schedule b.events };
 
     ghost use Rattle.std.specs.Prelude.{◌≡◌, ◌<◌, true, is_some, vec_capacity, vec_len};
     ghost use Rattle.tr_session_book.specs.BookSteps.{IsBook};
@@ -69,7 +72,7 @@ impl<A: Allocator> Model for SessionBook<A> {
     ghost invariant = { λ b.
         (is_some b.pending ≡ true → vec_len b.archives < vec_capacity b.archives)
         × IsBook (session_book_state b.uuid b.offset b.mode b.state b.rotated b.last b.begin
-        (by_name b.channels.entries) b.threads.items b.pending b.archives.items b.schedule) };
+        (by_name b.channels.entries) b.threads.items b.pending b.archives.items b.schedule b.events) };
 }
 
 impl<A: Allocator + Copy> SessionBook<A> {
@@ -91,6 +94,7 @@ impl<A: Allocator + Copy> SessionBook<A> {
             pending: None,
             archives: Vec::new(alloc),
             schedule: None,
+            events: Events::none(alloc),
         }
     }
 

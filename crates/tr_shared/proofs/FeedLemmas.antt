@@ -13,7 +13,7 @@ use Rattle.tr_seats.specs.Slots.{ProducerState, producer_after}
 use Rattle.tr_shared.specs.Calls.{HasOffered, IsOffered}
 use Rattle.tr_shared.specs.Feeds.{IsLogOf, offered_item}
 use Rattle.tr_stream.specs.declared.answers.OfferFault.{OfferFault}
-use Rattle.tr_stream.specs.declared.answers.OfferFault.TheVariants.{Inactive, TooBig, Spent, Misplaced}
+use Rattle.tr_stream.specs.declared.answers.OfferFault.TheVariants.{Inactive, TooBig, Spent, Misplaced, OtherLayout}
 use Rattle.tr_stream.specs.declared.answers.Offered.{Offered}
 use Rattle.tr_stream.specs.declared.answers.Offered.TheVariants.{Stored, StoredOver, Discarded}
 
@@ -27,6 +27,7 @@ raised moment id payload (Err Inactive) p log item = refl
 raised moment id payload (Err TooBig) p log item = refl
 raised moment id payload (Err Spent) p log item = refl
 raised moment id payload (Err Misplaced) p log item = refl
+raised moment id payload (Err OtherLayout) p log item = refl
 
 -- it leaves the producer's stream
 same-number : (moment id : ℕ) (payload : List ℕ) (answer : Result Offered OfferFault) (p : ProducerState)
@@ -38,6 +39,7 @@ same-number moment id payload (Err Inactive) p = refl
 same-number moment id payload (Err TooBig) p = refl
 same-number moment id payload (Err Spent) p = refl
 same-number moment id payload (Err Misplaced) p = refl
+same-number moment id payload (Err OtherLayout) p = refl
 
 goes : (before after : ProducerState × List Item) (work : List Item) → FoldsTo (OffersOne IsOffered) before work after
     → (after.0.offered + length before.1 ≡ before.0.offered + length after.1) × (after.0.number ≡ before.0.number)
@@ -83,6 +85,7 @@ as-logged moment id payload (Err Inactive) p log was = logs-offer offered_item p
 as-logged moment id payload (Err TooBig) p log was = logs-offer offered_item p.steps log moment id payload (Err TooBig) was
 as-logged moment id payload (Err Spent) p log was = logs-offer offered_item p.steps log moment id payload (Err Spent) was
 as-logged moment id payload (Err Misplaced) p log was = was
+as-logged moment id payload (Err OtherLayout) p log was = was
 
 logs : (before after : ProducerState × List Item) (work : List Item) → FoldsTo (OffersOne IsOffered) before work after
     → IsLogOf before.0 before.1 → IsLogOf after.0 after.1

@@ -1,5 +1,7 @@
 pub mod FeedLemmas
+pub mod LayoutLemmas
 pub mod ModeLemmas
+pub mod RoomLemmas
 pub mod RotationLemmas
 pub mod SettledLemmas
 pub mod ShownLemmas

@@ -1,6 +1,7 @@
 -- What the calls of a shared session answer, as far as those who hold no lock can tell.
-use Rattle.std.specs.Prelude.{◌≡◌, ◌≢◌, ◌≤◌, ◌<◌, ◌⊎◌, ◌+◌, ℕ, List, Result, Err, IfOk, length, slice_index_or, sum}
+use Rattle.std.specs.Prelude.{◌≡◌, ◌≢◌, ◌≤◌, ◌<◌, ◌⊎◌, ◌+◌, ℕ, false, List, Result, Err, IfOk, length, slice_index_or, sum}
 use Rattle.std.specs.List.{sum_by}
+use Rattle.tr_events.specs.Events.{fits_declared}
 use Rattle.tr_seats.specs.Books.{IsPlanned, IsTooBig, PlanState}
 use Rattle.tr_seats.specs.Drainers.{DrainerState, drainer_after}
 use Rattle.tr_seats.specs.Settling.{taken_of}
@@ -66,6 +67,9 @@ pub record IsOfferTo (plan : PlanState) (before : ProducerState) (moment id : �
   pub serial : IfOk answer (λ (offered : Offered). serial_of offered ≡ before.offered)
   pub too_big : answer ≡ Err offer_fault.TooBig → IsTooBig plan before.number (length payload)
   pub spent : answer ≡ Err offer_fault.Spent → MOST_OFFERS ≤ before.offered
+  -- just an offer that doesn't fit as declared is refused for its layout
+  pub other : answer ≡ Err offer_fault.OtherLayout → fits_declared plan.session.book.events id payload ≡ false
+  pub fits : fits_declared plan.session.book.events id payload ≡ false → answer ≡ Err offer_fault.OtherLayout
 
 -- what a take from the stream of this number answers to the owner of a drainer, and makes of it, in a session of this plan: the
 -- drainer has just this packet more, if it got one

@@ -150,6 +150,7 @@ pub use laws::{every_feed, every_rotation};
 pub use seats::{Offers, Takes};
 pub use shared::Shared;
 // What a shared session is made of, and what a program that records names.
+pub use tr_events::Events;
 pub use tr_schedule::{Cause, Schedule, ScheduleFault};
 pub use tr_seats::{
     Desk, Drainer, MOST_DRAINERS, Names, Operator, Plan, Producer, SettleError, Settled, Slot,

@@ -25,6 +25,7 @@ pub trait Offers<N: Names, A: Allocator> {
     ///
     /// # Errors
     ///
+    /// `OtherLayout` if the record's id is declared and its payload doesn't fit: no lock is taken, and the seat has no such offer.
     /// Those of `Slot::offer`: nothing changed.
     fn offer<R: Wait>(
         &mut self,
@@ -69,15 +70,20 @@ impl<N: Names, A: Allocator + Copy> Offers<N, A> for Producer<N, A> {
         id: u32,
         payload: &[u8],
     ) -> Result<Offered, OfferFault> {
-        let lock = &shared.slots[self.stream()];
-        // this is put into the caller, where `lock` stays a call
-        let mut slot = match lock.try_lock() {
-            Some(slot) => slot,
-            None => lock.lock(rt),
+        let answer = if shared.events.fits(id, payload) {
+            let lock = &shared.slots[self.stream()];
+            // this is put into the caller, where `lock` stays a call
+            let mut slot = match lock.try_lock() {
+                Some(slot) => slot,
+                None => lock.lock(rt),
+            };
+            let answer = slot.offer(self, moment, id, payload);
+            // watchers may read the count once others may take the lock
+            drop(slot);
+            answer
+        } else {
+            Err(OfferFault::OtherLayout)
         };
-        let answer = slot.offer(self, moment, id, payload);
-        // watchers may read the count once others may take the lock
-        drop(slot);
         self.publish();
         answer
     }

@@ -11,6 +11,7 @@ use crate::faults::SettleFault;
 use crate::shared::Shared;
 use std::alloc::Allocator;
 use std::sync::Mutex;
+use tr_events::Events;
 use tr_seats::{
     Drainer, Names, Opened, Operator, Producer, SettleError, Settled, Slot, Totals, Unsettled,
 };
@@ -45,8 +46,8 @@ impl<N: Names, A: Allocator + Copy> Shared<N, A> {
             (λ f. f.fault ≡ SettleError.ProducerMissing ↔ (¬ IsOneEach (length N.plan.books) producers.items)) }
         ensures back { IfErr result (λ f. (f.producers ≡ producers) × (f.drainers ≡ drainers)) }
     {
-        let (opened, locks) = self.open();
-        settle_opened(opened, locks, producers, drainers)
+        let (opened, locks, events) = self.open();
+        settle_opened(opened, locks, events, producers, drainers)
     }
 
     /// The same, which also shows that what an operator did is what the settled session has, and that all that was done to its
@@ -81,9 +82,9 @@ impl<N: Names, A: Allocator + Copy> Shared<N, A> {
             (λ f. f.fault ≡ SettleError.ProducerMissing ↔ (¬ IsOneEach (length N.plan.books) producers.items)) }
         ensures back { IfErr result (λ f. (f.producers ≡ producers) × (f.drainers ≡ drainers)) }
     {
-        let (mut opened, locks) = self.open();
+        let (mut opened, locks, events) = self.open();
         opened.audit_operator(operator);
-        settle_opened(opened, locks, producers, drainers)
+        settle_opened(opened, locks, events, producers, drainers)
     }
 }
 
@@ -91,11 +92,13 @@ impl<N: Names, A: Allocator + Copy> Shared<N, A> {
 fn settle_opened<N: Names, A: Allocator + Copy>(
     opened: Opened<N, A>,
     locks: Vec<Mutex<Slot<N, A>>, A>,
+    events: Events<A>,
     producers: Vec<Producer<N, A>, A>,
     drainers: Vec<Drainer<N, A>, A>,
 ) -> Result<(Settled<A>, Totals), SettleFault<N, A>>
     requires slots { length opened.slots ≡ length N.plan.books }
     requires locks { (vec_len locks ≡ 0) × (length N.plan.books ≤ vec_capacity locks) }
+    requires events { events ≡ N.plan.session.book.events }
     ensures session { IfOk result (λ r. r.0 ≡ session_of opened.desk.book (streams_of opened.slots)) }
     ensures in_place { IfOk result (λ r. AreInPlace opened.slots) }
     ensures planned { IfOk result (λ r. IsSessionOf N.plan r.0) }
@@ -127,7 +130,7 @@ fn settle_opened<N: Names, A: Allocator + Copy>(
             let (alloc, desk, slots, room) = opened.into_parts();
             Err(SettleFault {
                 fault,
-                shared: Shared::close(alloc, desk, slots, room, locks),
+                shared: Shared::close(alloc, desk, slots, room, locks, events),
                 producers,
                 drainers,
             })

@@ -8,6 +8,7 @@ ghost use Rattle.tr_tally.specs.Tallies.{WatcherState, new_watchers};
 
 use std::alloc::{Allocator, Global};
 use std::sync::{Mutex, Wait};
+use tr_events::Events;
 use tr_seats::{Desk, Drainer, Names, Opened, Plan, Producer, Slot};
 use tr_session_book::SessionFault;
 use tr_stream::Stream;
@@ -20,7 +21,10 @@ pub struct Shared<N: Names, A: Allocator = Global> {
     pub(crate) desk: Mutex<Desk<N, A>>,
     pub(crate) slots: Vec<Mutex<Slot<N, A>>, A>,
     places: Mutex<Places<N, A>>,
+    // what the session declares, beside the desk's lock
+    pub(crate) events: Events<A>,
     ghost all_here: { vec_len slots ≡ length N.plan.books },
+    ghost declared: { events ≡ N.plan.session.book.events },
 }
 
 /// Where the streams go when they leave their locks, and when they are settled: both are empty, with room for all. They lie
@@ -69,7 +73,8 @@ impl<N: Names, A: Allocator + Copy> Shared<N, A> {
         let (opened, producers, watchers) = plan.build_watched::<N>()?;
         let (alloc, desk, slots, room) = opened.into_parts();
         let locks = Vec::with_capacity(alloc, slots.len())?;
-        let shared = Shared::close(alloc, desk, slots, room, locks);
+        let events = desk.book().events().copy(alloc)?;
+        let shared = Shared::close(alloc, desk, slots, room, locks, events);
         Ok((shared, producers, watchers))
     }
 
@@ -100,10 +105,12 @@ impl<N: Names, A: Allocator> Shared<N, A> {
         mut slots: Vec<Slot<N, A>, A>,
         room: Vec<Stream<A>, A>,
         mut locks: Vec<Mutex<Slot<N, A>>, A>,
+        events: Events<A>,
     ) -> Shared<N, A>
         requires slots { length slots.items ≡ length N.plan.books }
         requires room { (vec_len room ≡ 0) × (length N.plan.books ≤ vec_capacity room) }
         requires locks { (vec_len locks ≡ 0) × (length N.plan.books ≤ vec_capacity locks) }
+        requires events { events ≡ N.plan.session.book.events }
     {
         while let Some(slot) = slots.pop() {
             locks.push_reserved(Mutex::new(slot));
@@ -114,6 +121,7 @@ impl<N: Names, A: Allocator> Shared<N, A> {
             desk: Mutex::new(desk),
             slots: locks,
             places: Mutex::new(Places { slots, room }),
+            events,
         }
     }
 
@@ -135,16 +143,18 @@ impl<N: Names, A: Allocator> Shared<N, A> {
         f()
     }
 
-    /// The session out of its locks, and the place for these, which is empty.
-    pub(crate) fn open(self) -> (Opened<N, A>, Vec<Mutex<Slot<N, A>>, A>)
+    /// The session out of its locks, the place for these, which is empty, and the events that it declares.
+    pub(crate) fn open(self) -> (Opened<N, A>, Vec<Mutex<Slot<N, A>>, A>, Events<A>)
         ensures slots { length result.0.slots ≡ length N.plan.books }
         ensures locks { (vec_len result.1 ≡ 0) × (length N.plan.books ≤ vec_capacity result.1) }
+        ensures events { result.2 ≡ N.plan.session.book.events }
     {
         let Shared {
             alloc,
             desk,
             slots: mut locks,
             places,
+            events,
         } = self;
         let Places { mut slots, room } = places.into_inner();
         while let Some(lock) = locks.pop() {
@@ -152,6 +162,6 @@ impl<N: Names, A: Allocator> Shared<N, A> {
         }
         slots.reverse();
         let opened = Opened::from_parts(alloc, desk.into_inner(), slots, room);
-        (opened, locks)
+        (opened, locks, events)
     }
 }

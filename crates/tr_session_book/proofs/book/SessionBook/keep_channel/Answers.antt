@@ -18,7 +18,7 @@ returns-clause-ok g c =
     (let b : SessionBookState =
     session_book_state c.self.inside.uuid c.self.inside.offset c.self.inside.mode c.self.inside.state
     c.self.inside.rotated c.self.inside.last c.self.inside.begin cs c.self.inside.threads.items c.self.inside.pending
-    c.self.inside.archives.items c.self.inside.schedule in b)) added
+    c.self.inside.archives.items c.self.inside.schedule c.self.inside.events in b)) added
     ∙ ap (λ (b : SessionBookState). with_channel name c.args.channel b) c.self.view_is
 
 pub invariant_of-self-2 : goal.invariant_of-self-2

@@ -4,6 +4,7 @@ use Rattle.std.specs.Prelude.{All, replicate}
 use Rattle.tr_seats.specs.Books.{PlanState}
 use Rattle.tr_tally.specs.Tallies.{WatcherState, watcher_state}
 use Rattle.std.proofs.lemmas.Grind.{common_steps}
+use Rattle.tr_shared.proofs.RoomLemmas.{room-for}
 use Rattle.tr_shared.proofs.shared.Shared.build_watched.Goals as goal
 
 pub returns-in_err-opened-clause-memory : goal.returns-in_err-opened-clause-memory
@@ -12,7 +13,8 @@ returns-in_err-opened-clause-memory g c = grind (arith, common_steps)
 pub close-shared-requires-clause-locks : goal.close-shared-requires-clause-locks
 close-shared-requires-clause-locks g c = (
   c.in_ok-locks.ensures.len,
-  omega (arith, c.in_ok-locks.ensures.capacity, c.len.ensures, c.into_parts-alloc.ensures.slots),
+  room-for c.into_parts-alloc.result.2 c.in_ok-locks.locks c.len.result (length g.N.Names.plan.books)
+      c.len.ensures c.into_parts-alloc.ensures.slots c.in_ok-locks.ensures.capacity,
 )
 
 pub returns-clause-tally : goal.returns-clause-tally

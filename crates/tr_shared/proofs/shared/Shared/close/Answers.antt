@@ -18,4 +18,7 @@ pub invariant_of-new : goal.invariant_of-new
 invariant_of-new g c = grind (arith, common_steps)
 
 pub invariant_of-result : goal.invariant_of-result
-invariant_of-result g c = grind (arith, common_steps)
+invariant_of-result g c = record {
+  all_here = grind (arith, common_steps, c.reverse.ensures.len, c.loop-slot.invariant.all, c.in_default.ensures.variant);
+  declared = c.requires.events;
+}

@@ -1,7 +1,7 @@
 use Rattle.std.proofs.Common.{◌∙◌, ap, List}
-use Rattle.tr_session.proofs.session.Session.offer.Goals as goal
+use Rattle.tr_session.proofs.session.Session.offer_fitting.Goals as goal
 use Rattle.tr_session.specs.Session.{SessionOf}
-use Rattle.tr_session.specs.Steps.{session_offer_answer, session_after_offer}
+use Rattle.tr_session.specs.Steps.{stream_offer_answer, stream_after_offer}
 use Rattle.tr_stream.specs.Rules.{by_state}
 use Rattle.tr_stream.specs.State.{StreamState}
 use Rattle.tr_session.proofs.CallLemmas.{offer-step}
@@ -14,9 +14,9 @@ invariant_of-self g c =
 pub returns-clause-answer : goal.returns-clause-answer
 returns-clause-answer g c =
     c.offer_at.ensures.answer
-    ∙ ap (λ (s : SessionOf StreamState). session_offer_answer by_state c.args.i c.args.moment c.args.id c.args.payload.now s) c.self.view_is
+    ∙ ap (λ (s : SessionOf StreamState). stream_offer_answer by_state c.args.i c.args.moment c.args.id c.args.payload.now s) c.self.view_is
 
 pub returns-clause-after : goal.returns-clause-after
 returns-clause-after g c =
     ap (λ (xs : List StreamState). (let s : SessionOf StreamState = record { book = c.self.inside.book; streams = xs } in s)) c.offer_at.ensures.after
-    ∙ ap (λ (s : SessionOf StreamState). session_after_offer by_state c.args.i c.args.moment c.args.id c.args.payload.now s) c.self.view_is
+    ∙ ap (λ (s : SessionOf StreamState). stream_after_offer by_state c.args.i c.args.moment c.args.id c.args.payload.now s) c.self.view_is
