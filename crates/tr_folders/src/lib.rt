@@ -30,4 +30,4 @@ pub use faults::ReadFault;
 pub use folders::{Folders, MOST_BYTES};
 pub use host::HostFolders;
 pub use memory::MemoryFolders;
-pub use reading::read_front;
+pub use reading::{buffer_of, read_front};

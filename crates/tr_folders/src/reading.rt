@@ -7,6 +7,14 @@ ghost use Rattle.tr_folders.specs.declared.faults.ReadFault.TheVariants.{Unreada
 
 use crate::faults::ReadFault;
 use crate::folders::Folders;
+use std::alloc::{AllocError, Global};
+
+/// A buffer of so many bytes, into which files are read.
+pub fn buffer_of(alloc: Global, size: usize) -> Result<Vec<u8>, AllocError>
+    ensures { IfOk result (λ buffer. length buffer.items ≡ size) }
+{
+    vec![in alloc; 0u8; size]
+}
 
 /// Reads the open file until the buffer is full or the file ends, and returns how many bytes are there.
 ///

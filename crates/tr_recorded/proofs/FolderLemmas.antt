@@ -11,7 +11,6 @@ use Rattle.tr_export.specs.Making.{Makings}
 use Rattle.tr_export.specs.declared.made.Made.TheVariants as made
 use Rattle.tr_folders.specs.Kept.{file_of}
 use Rattle.tr_folders.specs.Tree.{Tree}
-use Rattle.tr_packet.specs.Metadata.{metadata_of}
 use Rattle.tr_recorded.proofs.BelowLemmas.{HasNoSlash, below-is}
 use Rattle.tr_recorded.proofs.BoxLemmas.{AreFound, Box, IsBox, Leaf, archives-found, archives_in, boxes_made, leaf_made, session-names}
 use Rattle.tr_recorded.proofs.ListedLemmas.{AreSame, any-of-each, archives-same, filtered-same, names-same}
@@ -20,7 +19,6 @@ use Rattle.tr_recorded.proofs.PlainLemmas.{archive-is-named}
 use Rattle.tr_recorded.proofs.SetLemmas.{number-same, number-total, same-keys}
 use Rattle.tr_recorded.proofs.StoredLemmas.{IsStored, all-stored, leaf_file}
 use Rattle.tr_recorded.specs.Made.{ArePlain, Shows, file_made, is_folder_made, is_listed, is_plain_name, makes_folder, names_made, path_by}
-use Rattle.tr_survey.proofs.MetadataTextLemmas.{metadata_are_of_trace}
 use Rattle.tr_survey.specs.Listing.{archives_of, is_folder, names_at, names_in_order, streams_at, streams_of}
 use Rattle.tr_survey.specs.Metadata.{naming_in}
 use Rattle.tr_survey.specs.Names.{of_parts, stream_named}
@@ -28,6 +26,7 @@ use Rattle.tr_survey.specs.Order.{Numbered, name_cmp, number_cmp}
 use Rattle.tr_survey.specs.Paths.{archives_folder, file_path, path_of}
 use Rattle.tr_survey.specs.Sessions.{namings_of}
 use Rattle.tr_survey.specs.Whole.{FollowEachOther, HasItsFiles, NumberedFrom, StandsAlone, StreamFiles, streams_in}
+use Rattle.tr_survey.specs.declared.naming.Naming.TheVariants.{Named}
 use Rattle.tr_terms.specs.Names.{is_name}
 
 or-true : (b : Bool) → (b || true) ≡ true
@@ -38,9 +37,9 @@ or-true false = refl
 abbrev pub HaveStreams : List Numbered → List Box → Type 0
 HaveStreams streams = AllByRecursion (λ (b : Box). filter_map stream_named (map (λ (l : Leaf). l.0) b.leaves) ≡ streams)
 
--- they have the metadata of this trace
+-- they have this text for their metadata
 abbrev pub HaveMetadata : List ℕ → List Box → Type 0
-HaveMetadata uuid = AllByRecursion (λ (b : Box). leaf_file (codes "metadata") b.leaves ≡ Some (file_of (metadata_of uuid) false))
+HaveMetadata text = AllByRecursion (λ (b : Box). leaf_file (codes "metadata") b.leaves ≡ Some (file_of text false))
 
 not-so : {X : Type 0} (b : Bool) (x y : X) → b ≡ false → cond b x y ≡ y
 not-so true x y e = absurd (true≢false e)
@@ -164,15 +163,15 @@ module _ (t : Tree) (dir session : List ℕ) (first : Box) (others : List Box) (
 
   -- ---- files
 
-  namings-are : (uuid : List ℕ) (bs : List Box) → AllByRecursion IsBox bs → AllByRecursion (IsStored folder ms) bs → HaveMetadata uuid bs
-      → namings_of t folder (archives_in bs) ≡ map (λ (a : Numbered). naming_in (Some (file_of (metadata_of uuid) false))) (archives_in bs)
-  namings-are uuid [] is has have = refl
-  namings-are uuid (b ∷ bs) is has have =
+  namings-are : (text : List ℕ) (bs : List Box) → AllByRecursion IsBox bs → AllByRecursion (IsStored folder ms) bs → HaveMetadata text bs
+      → namings_of t folder (archives_in bs) ≡ map (λ (a : Numbered). naming_in (Some (file_of text false))) (archives_in bs)
+  namings-are text [] is has have = refl
+  namings-are text (b ∷ bs) is has have =
       both-same _ _ _ _
       (not-so _ _ _ (seen (path_of folder b.archive.name) (to-archive b is.0))
       ∙ ap naming_in (file-there (file_path folder b.archive.name (codes "metadata")) (to-file b (codes "metadata") is.0 refl)
       ∙ has.0.files (codes "metadata") ∙ have.0))
-      (namings-are uuid bs is.1 has.1 have.1)
+      (namings-are text bs is.1 has.1 have.1)
 
   files-of : (bs : List Box) → AllByRecursion IsBox bs → AllByRecursion (IsStored folder ms) bs
       → AllByRecursion (λ (b : Box). (name : List ℕ) → is_plain_name name ≡ true → t.file (file_path folder b.archive.name name) ≡ leaf_file name b.leaves) bs
@@ -188,11 +187,11 @@ module _ (t : Tree) (dir session : List ℕ) (first : Box) (others : List Box) (
 
   -- ---- the session
 
-  pub stands-alone : (uuid : List ℕ) (streams : List StreamFiles) → length uuid ≡ 16 → All (λ b. b < 256) uuid → is_name session ≡ true → FollowEachOther 0 (archives_in (first ∷ others))
-      → HaveMetadata uuid (first ∷ others) → NumberedFrom 0 (streams_in streams) → HaveStreams (streams_in streams) (first ∷ others)
+  pub stands-alone : (uuid text : List ℕ) (streams : List StreamFiles) → naming_in (Some (file_of text false)) ≡ Named uuid → is_name session ≡ true → FollowEachOther 0 (archives_in (first ∷ others))
+      → HaveMetadata text (first ∷ others) → NumberedFrom 0 (streams_in streams) → HaveStreams (streams_in streams) (first ∷ others)
       → AllByRecursion (HasItsFiles t folder uuid (archives_in (first ∷ others))) streams
       → StandsAlone t dir session uuid (archives_in (first ∷ others)) streams
-  stands-alone uuid streams sixteen bytes name follow metadata numbered have files = record {
+  stands-alone uuid text streams read name follow metadata numbered have files = record {
     seen = seen dir ([], tt, refl);
     alone = alone;
     named = name;
@@ -204,8 +203,8 @@ module _ (t : Tree) (dir session : List ℕ) (first : Box) (others : List Box) (
       others = archives_in others;
       some = refl;
       follow = follow;
-      metadata = namings-are uuid (first ∷ others) are stored metadata
-          ∙ ap (λ n. map (λ (a : Numbered). n) (archives_in (first ∷ others))) (metadata_are_of_trace uuid sixteen bytes);
+      metadata = namings-are text (first ∷ others) are stored metadata
+          ∙ ap (λ n. map (λ (a : Numbered). n) (archives_in (first ∷ others))) read;
       streams_are = streams-are (streams_in streams) (numbers-of 0 (streams_in streams) numbered) have;
       numbered = numbered;
       files = files;

@@ -14,7 +14,7 @@ use Rattle.tr_chunk.specs.Files.{file_name, packets_text}
 use Rattle.tr_export.specs.Archives.{part_of_stream}
 use Rattle.tr_folders.specs.Kept.{file_of}
 use Rattle.tr_folders.specs.Tree.{File}
-use Rattle.tr_packet.specs.Metadata.{metadata_of}
+use Rattle.tr_metadata.specs.Metadata.{metadata_with}
 use Rattle.tr_recorded.proofs.BelowLemmas.{HasNoSlash, same-name}
 use Rattle.tr_recorded.proofs.BoxLemmas.{Box, Leaf}
 use Rattle.tr_recorded.proofs.PlainLemmas.{file-plain}
@@ -103,7 +103,7 @@ leaves_of s id zero = []
 leaves_of s id (suc i) = leaves_of s id i ++ leaf_of i (channel_of i s.book) (part_of_stream i id s)
 
 abbrev pub metadata_leaf : SessionOf StreamState → List Leaf
-metadata_leaf s = (codes "metadata", metadata_of s.book.uuid) ∷ []
+metadata_leaf s = (codes "metadata", metadata_with s.book.events s.book.uuid) ∷ []
 
 abbrev pub box_of : SessionOf StreamState → Archive → Box
 box_of s a = record {
@@ -199,7 +199,7 @@ module _ (s : SessionOf StreamState) (streams : (i : ℕ) → i < length s.strea
 
     pub leaves-plain : AllByRecursion (λ (l : Leaf). HasNoSlash l.0) (leaves_of s id (length s.streams) ++ metadata_leaf s)
     leaves-plain =
-        all-then (leaves_of s id (length s.streams)) (codes "metadata", metadata_of s.book.uuid) (plain-upto (length s.streams) (omega arith))
+        all-then (leaves_of s id (length s.streams)) (codes "metadata", metadata_with s.book.events s.book.uuid) (plain-upto (length s.streams) (omega arith))
         (refl, (refl, (refl, (refl, (refl, (refl, (refl, (refl, tt))))))))
 
     -- ---- a stream's file
@@ -255,8 +255,8 @@ module _ (s : SessionOf StreamState) (streams : (i : ℕ) → i < length s.strea
     stream-found i below =
         let name = file_name (streams i below).channel i in
         leaves-append name (leaves_of s id (length s.streams)) (metadata_leaf s)
-        ∙ ap (λ (b : Bool). option_or (cond b (Some (file_of (metadata_of s.book.uuid) false)) None) (leaf_file name (leaves_of s id (length s.streams)))) (not-metadata i below)
+        ∙ ap (λ (b : Bool). option_or (cond b (Some (file_of (metadata_with s.book.events s.book.uuid) false)) None) (leaf_file name (leaves_of s id (length s.streams)))) (not-metadata i below)
         ∙ found-upto i below (length s.streams) below (omega arith)
 
-  pub metadata-found : leaf_file (codes "metadata") (leaves_of s id (length s.streams) ++ metadata_leaf s) ≡ Some (file_of (metadata_of s.book.uuid) false)
+  pub metadata-found : leaf_file (codes "metadata") (leaves_of s id (length s.streams) ++ metadata_leaf s) ≡ Some (file_of (metadata_with s.book.events s.book.uuid) false)
   metadata-found = leaves-append (codes "metadata") (leaves_of s id (length s.streams)) (metadata_leaf s)

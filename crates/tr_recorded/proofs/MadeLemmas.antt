@@ -9,7 +9,7 @@ use Rattle.tr_export.specs.Archives.{archive_made, archives_made, chunk_made, me
 use Rattle.tr_export.specs.Making.{Makings}
 use Rattle.tr_export.specs.Paths as export
 use Rattle.tr_export.specs.declared.made.Made.TheVariants as made
-use Rattle.tr_packet.specs.Metadata.{metadata_of}
+use Rattle.tr_metadata.specs.Metadata.{metadata_with}
 use Rattle.tr_recorded.proofs.BoxLemmas.{box_made, boxes_made, leaf_made}
 use Rattle.tr_recorded.proofs.LeafLemmas.{box_of, leaf_of, leaves_of, metadata_leaf}
 use Rattle.tr_recorded.proofs.PathLemmas.{file_is, folder_is}
@@ -45,7 +45,7 @@ module _ (dir name : List ℕ) (s : SessionOf StreamState) where
 
   metadata-made : (archive : List ℕ) → metadata_file (export.folder_of dir name archive) s ≡ map (leaf_made folder archive) (metadata_leaf s)
   metadata-made archive =
-      ap (λ (path : List ℕ). (made.File path (metadata_of s.book.uuid)) ∷ []) (sym (file_is dir name archive (codes "metadata")))
+      ap (λ (path : List ℕ). (made.File path (metadata_with s.book.events s.book.uuid)) ∷ []) (sym (file_is dir name archive (codes "metadata")))
 
   chunk-made : (a : Archive) → chunk_made (export.folder_of dir name (archive_named s.book a).name) a.id s ≡ box_made folder (box_of s a)
   chunk-made a =

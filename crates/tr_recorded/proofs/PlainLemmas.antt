@@ -9,8 +9,9 @@ use Rattle.std.specs.Str.Parse.{digits_value}
 use Rattle.tr_chunk.specs.Files.{file_name}
 use Rattle.tr_recorded.proofs.BelowLemmas.{HasNoSlash}
 use Rattle.tr_recorded.specs.Made.{is_plain_name}
-use Rattle.tr_survey.proofs.FileNameLemmas.{digits_written}
-use Rattle.tr_survey.specs.Names.{archive_number, fits, form_of_stamps, has_spare_zero, is_digit, number_of}
+use Rattle.tr_events.proofs.NumberLemmas.{digits_written}
+use Rattle.tr_events.specs.Numbers.{has_spare_zero, is_digit, number_of}
+use Rattle.tr_survey.specs.Names.{archive_number, fits, form_of_stamps}
 use Rattle.tr_terms.proofs.BoolLemmas.{both}
 use Rattle.tr_terms.specs.Names.{is_letter, is_name, is_of_name, is_plain}
 

@@ -1,5 +1,6 @@
 -- What is written of a session is what a survey finds nothing wrong with.
-use Rattle.std.proofs.Common.{◌≡◌, ◌≢◌, ◌∙◌, ◌+◌, ◌<◌, ◌≤◌, ◌^◌, ◌||◌, ℕ, zero, suc, Bool, true, false, true≢false, cond, refl, sym, ap, subst, arith, List, [], ◌∷◌, ◌++◌, length, map, take, Some, None, slice_get, length-append}
+use Rattle.std.proofs.Common.{◌≡◌, ◌≢◌, ◌∙◌, ◌+◌, ◌<◌, ◌≤◌, ◌^◌, ◌||◌, ℕ, zero, suc, Bool, true, false, true≢false, cond, refl, sym, ap, subst, arith, ⊎_elim, List, [], ◌∷◌, ◌++◌, length, map, take, Some, None, slice_get, length-append}
+use Rattle.std.proofs.lemmas.Bool.{cases_eq}
 use Rattle.std.proofs.lemmas.List.{length-map, map-append}
 use Rattle.std.specs.List.{All, AllByRecursion, flat_map, zip}
 use Rattle.std.specs.Option.{unwrap_or}
@@ -9,6 +10,7 @@ use Rattle.tr_export.proofs.HeldLemmas.{part-held}
 use Rattle.tr_export.specs.Archives.{archive_made, archives_made}
 use Rattle.tr_folders.specs.Kept.{file_of}
 use Rattle.tr_folders.specs.Tree.{Tree}
+use Rattle.tr_metadata.specs.Metadata.{metadata_with}
 use Rattle.tr_recorded.proofs.BelowLemmas.{same-name}
 use Rattle.tr_recorded.proofs.BoxLemmas.{Box, IsBox, archives_in, boxes_made}
 use Rattle.tr_recorded.proofs.FolderLemmas.{HaveMetadata, HaveStreams, files-are, stands-alone}
@@ -31,6 +33,7 @@ use Rattle.tr_stream.specs.State.{StreamState}
 use Rattle.tr_survey.proofs.SessionLemmas.{whole_is}
 use Rattle.tr_survey.proofs.StampLemmas.{archive_is_of_number}
 use Rattle.tr_survey.specs.Listing.{names_at, names_in_order}
+use Rattle.tr_survey.specs.Metadata.{IsShort, naming_in}
 use Rattle.tr_survey.specs.Names.{of_parts}
 use Rattle.tr_survey.specs.Order.{Numbered}
 use Rattle.tr_survey.specs.Paths.{archives_folder, file_path}
@@ -38,9 +41,14 @@ use Rattle.tr_survey.specs.Sessions.{ended_told, names_told, survey_of}
 use Rattle.tr_survey.specs.Told.{told}
 use Rattle.tr_survey.specs.Whole.{AreRecorded, FollowEachOther, HasFiles, HasItsFiles, NumberedFrom, StandsAlone, StreamFiles, streams_in}
 use Rattle.tr_survey.specs.declared.faults.Surveyed.TheVariants.{Faults, NoSession, Unlisted}
+use Rattle.tr_survey.specs.declared.naming.Naming.TheVariants.{Named}
 use Rattle.tr_terms.specs.Names.{is_name}
 use Rattle.tr_terms.specs.Offsets.{IsOffset}
 use Rattle.tr_terms.specs.declared.limits.TheConstants.{LAST_MOMENT, MOST_STREAMS}
+
+-- an audit reads its metadata as naming its identifier
+abbrev IsReadSo : SessionOf StreamState → Type 0
+IsReadSo s = naming_in (Some (file_of (metadata_with s.book.events s.book.uuid) false)) ≡ Named s.book.uuid
 
 -- what each archive has of a stream is what a survey finds no fault in
 abbrev pub Keeps : StreamState → Type 0
@@ -53,6 +61,17 @@ first-of-zip : {X Y : Type 0} (xs : List X) (ys : List Y) → length xs ≤ leng
 first-of-zip [] ys le = refl
 first-of-zip (x ∷ xs) [] le = absurd (omega (arith, le))
 first-of-zip {X = X} (x ∷ xs) (y ∷ ys) le = ap (λ (l : List X). x ∷ l) (first-of-zip xs ys (omega (arith, le)))
+
+pub same-in-some : {X : Type 0} (x y : X) → Some x ≡ Some y → x ≡ y
+same-in-some x y e = cc
+
+pub never-there : {X Y : Type 0} (x : X) → None ≡ Some x → Y
+never-there x e = absurd cc
+
+pub next-too : {X : Type 0} (P : X → Type 0) (xs : List X) (i : ℕ) → ((j : ℕ) (x : X) → j < i → slice_get xs j ≡ Some x → P x)
+    → ((x : X) → slice_get xs i ≡ Some x → P x) → (j : ℕ) (x : X) → j < i + 1 → slice_get xs j ≡ Some x → P x
+next-too P xs i earlier this j x lt at =
+    ⊎_elim (λ e. this x (subst (λ (k : ℕ). slice_get xs k ≡ Some x) e at)) (λ other. earlier j x (omega (arith, lt, other)) at) (cases_eq j i)
 
 all-push : {X : Type 0} (P : X → Type 0) (xs : List X) (x : X) → AllByRecursion P xs → P x → AllByRecursion P (xs ++ x ∷ [])
 all-push P [] x are is = (is, tt)
@@ -114,7 +133,7 @@ module _ (s : SessionOf StreamState) (streams : (i : ℕ) → i < length s.strea
       (have-streams s streams a.id (omega (arith, own.0, le)) small, have-all (k + 1) archives own.4 (omega (arith, le)))
 
   have-metadata : (k : ℕ) (archives : List Archive) → AreWithin k archives → k + length archives ≤ length s.book.archives
-      → HaveMetadata s.book.uuid (map (box_of s) archives)
+      → HaveMetadata (metadata_with s.book.events s.book.uuid) (map (box_of s) archives)
   have-metadata k [] own le = tt
   have-metadata k (a ∷ archives) own le =
       (metadata-found s streams a.id (omega (arith, own.0, le)), have-metadata (k + 1) archives own.4 (omega (arith, le)))
@@ -216,8 +235,8 @@ module _ (s : SessionOf StreamState) (streams : (i : ℕ) → i < length s.strea
 
   -- ---- all of it
 
-  module _ (own : AreWithin 0 s.book.archives) (chunk : ℕ) (chained : AreChained s.book.archives chunk) (sixteen : length s.book.uuid ≡ 16)
-      (bytes : All (λ b. b < 256) s.book.uuid) (keeps : (i : ℕ) (u : StreamState) → slice_get s.streams i ≡ Some u → Keeps u)
+  module _ (own : AreWithin 0 s.book.archives) (chunk : ℕ) (chained : AreChained s.book.archives chunk) (read : IsReadSo s)
+      (keeps : (i : ℕ) (u : StreamState) → slice_get s.streams i ≡ Some u → Keeps u)
       (none : HasItsArchives s) (t : Tree) (dir name : List ℕ) (named : is_name name ≡ true)
       (shows : Shows t dir (archives_made dir name s)) where
     stands : (first : Archive) (others : List Archive) → s.book.archives ≡ first ∷ others
@@ -239,8 +258,8 @@ module _ (s : SessionOf StreamState) (streams : (i : ℕ) → i < length s.strea
         let files = files-upto t folder (subst (λ (l : List Archive). AllByRecursion (HasItsLeaves t folder) (map (box_of s) l)) (sym is) leaves) own keeps none
         (length s.streams) (omega arith) in
         subst (λ (l : List Numbered). StandsAlone t dir name s.book.uuid l (streams_recorded s (length s.streams))) same
-        (stands-alone t dir name (box_of s first) (map (box_of s) others) seen plain its-name are numbered s.book.uuid (streams_recorded s (length s.streams))
-        sixteen bytes named
+        (stands-alone t dir name (box_of s first) (map (box_of s) others) seen plain its-name are numbered s.book.uuid
+        (metadata_with s.book.events s.book.uuid) (streams_recorded s (length s.streams)) read named
         (subst (FollowEachOther 0) (sym (named-in (first ∷ others))) (follow s.book 0 (first ∷ others) chunk (subst (λ (l : List Archive). AreChained l chunk) is chained) within))
         (have-metadata 0 (first ∷ others) within le) (numbered-upto (length s.streams) (omega arith)) (have-all 0 (first ∷ others) within le)
         (subst (λ (l : List Numbered). AllByRecursion (HasItsFiles t folder s.book.uuid l) (streams_recorded s (length s.streams))) (sym same) files))
@@ -252,15 +271,16 @@ module _ (s : SessionOf StreamState) (streams : (i : ℕ) → i < length s.strea
         whole_is asked t dir name s.book.uuid (archives_named s.book) (streams_recorded s (length s.streams)) (stands first others is)
 
 -- a session whose streams keep what they took
-pub whole-session : (s : SessionOf StreamState) → IsBook s.book → s.book.begin ≤ LAST_MOMENT → IsOffset s.book.offset → length s.book.uuid ≡ 16
-    → All (λ b. b < 256) s.book.uuid → length s.book.archives ≤ 2 ^ 64 → length s.streams ≤ MOST_STREAMS → HasItsStreams s
+pub whole-session : (s : SessionOf StreamState) → IsBook s.book → s.book.begin ≤ LAST_MOMENT → IsOffset s.book.offset → (IsShort s.book.events s.book.uuid → IsReadSo s)
+    → length s.book.archives ≤ 2 ^ 64 → length s.streams ≤ MOST_STREAMS → HasItsStreams s
     → ((i : ℕ) (u : StreamState) → slice_get s.streams i ≡ Some u → Keeps u)
     → (asked : Bool) (t : Tree) (dir name : List ℕ) → is_name name ≡ true → s.book.archives ≢ [] → HasItsArchives s
-    → Shows t dir (archives_made dir name s) → survey_of asked t dir ≡ told (session_recorded_text asked name s) (Faults 0)
-whole-session s book begin offset sixteen bytes few streams its keeps asked t dir name named some none shows =
+    → IsShort s.book.events s.book.uuid → Shows t dir (archives_made dir name s)
+    → survey_of asked t dir ≡ told (session_recorded_text asked name s) (Faults 0)
+whole-session s book begin offset read few streams its keeps asked t dir name named some none short shows =
     let more = archive_pending s.book.pending in
     let time = book-within s.book.archives more s.book.begin book.5.0 begin book.2.0 few in
-    told-whole s (stream-at s its book.4) streams offset time.0 (first_begin more s.book.begin) time.1 sixteen bytes keeps none t dir name named shows
+    told-whole s (stream-at s its book.4) streams offset time.0 (first_begin more s.book.begin) time.1 (read short) keeps none t dir name named shows
     asked s.book.archives refl some
 
 -- ---- without an archive

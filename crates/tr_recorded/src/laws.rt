@@ -10,6 +10,7 @@ ghost use Rattle.tr_recorded.specs.Made.{Shows, tree_made};
 ghost use Rattle.tr_recorded.specs.Recorded.{HasItsArchives, NoneReleased, recorded_of, session_recorded_text};
 ghost use Rattle.tr_session.specs.Sizes.{HoldsItsParts};
 ghost use Rattle.tr_stream.specs.Fates.{all_parts};
+ghost use Rattle.tr_survey.specs.Metadata.{IsShort};
 ghost use Rattle.tr_survey.specs.Order.{Numbered};
 ghost use Rattle.tr_survey.specs.Paths.{archives_folder, file_path, path_of};
 ghost use Rattle.tr_survey.specs.Sessions.{survey_of};
@@ -50,11 +51,12 @@ fn bytes_fit(bytes: &[u8])
 {}
 
 /// What is written of a session to a folder that was empty is whole to a survey, if it has an archive and no part of one was
-/// released, as after sharing: the survey says just its archives, its streams, and what each of them lost. Without an archive
+/// released, as after sharing, and its metadata isn't longer than what a survey looks at, as without declared events: the survey
+/// says just its archives, its streams, and what each of them lost. Without an archive
 /// nothing is written, and there is no session. It does nothing but look at each stream.
 pub fn what_is_written_is_whole<A: Allocator>(session: &Session<A>)
     ensures whole { (asked : Bool) (t : Tree) (dir name : List ℕ) → IsTrue (is_name name) → session.now.book.archives ≢ []
-        → HasItsArchives session.now → Shows t dir (archives_made dir name session.now)
+        → HasItsArchives session.now → IsShort session.now.book.events session.now.book.uuid → Shows t dir (archives_made dir name session.now)
         → survey_of asked t dir ≡ told (session_recorded_text asked name session.now) (Faults 0) }
     ensures none { (asked : Bool) (t : Tree) (dir name : List ℕ) → session.now.book.archives ≡ []
         → Shows t dir (archives_made dir name session.now) → survey_of asked t dir ≡ told [] NoSession }
@@ -65,6 +67,7 @@ pub fn what_is_written_is_whole<A: Allocator>(session: &Session<A>)
     bytes_fit(uuid.as_bytes());
     let _ = session.book().offset().get();
     let _ = session.book().archives().len();
+    let _ = session.book().events().list();
     'streams: for i in 0..session.streams() {
         if let Some(stream) = session.stream(i) {
             every_stream_is_recorded(stream);

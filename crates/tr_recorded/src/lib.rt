@@ -6,8 +6,8 @@
 //! # What is proved
 //!
 //! - What tr_export makes of a session in a folder that was empty is `whole` to a survey (`what_is_written_is_whole`), if the
-//!   session has an archive, no part of its archives was released (as in every session that was shared), and its name is one.
-//!   The survey says just its archives,
+//!   session has an archive, no part of its archives was released (as in every session that was shared), its name is one, and, if
+//!   events are declared, its metadata isn't longer than what a survey looks at (`IsShort`). The survey says just its archives,
 //!   its streams, and what each of them lost, as a definition over the session says it (`session_recorded_text`). This holds
 //!   of all folders that list what was made in them, in any order, and nothing else (`Shows`).
 //! - The packets of a stream's parts, none of which was released, are what tr_survey finds no fault in (`AreRecorded`), one

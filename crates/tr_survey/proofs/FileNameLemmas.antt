@@ -11,49 +11,11 @@ use Rattle.std.proofs.lemmas.List.{drop_at, get_or-append_right, take_at}
 use Rattle.std.proofs.lemmas.List.Folds.{list_all-append}
 use Rattle.std.proofs.lemmas.List.Sums.{AllPass-from_list_all, suffix_len_is}
 use Rattle.tr_chunk.specs.Files.{file_name}
-use Rattle.tr_survey.specs.Names.{has_spare_zero, is_digit, is_underscore, number_of, of_parts, stream_named, stream_of}
+use Rattle.tr_events.specs.Numbers.{has_spare_zero, is_digit, number_of}
+use Rattle.tr_survey.specs.Names.{is_underscore, of_parts, stream_named, stream_of}
 use Rattle.tr_terms.specs.Names.{is_name}
 use Rattle.tr_survey.proofs.NameLemmas.{both_there}
-
--- ---- numbers
-
--- two tests that pass
-pub also : (a b : Bool) → a ≡ true → b ≡ true → (a && b) ≡ true
-also a b e f = rw (e, f) refl
-
-pub digit_of : (n : ℕ) → n < 10 → is_digit (48 + n) ≡ true
-digit_of n small = also _ _ (le-leb 48 (48 + n) (omega arith)) (le-leb (48 + n) 57 (omega arith))
-
-pub digits_written : (n : ℕ) → n < 2 ^ 64 → list_all is_digit (decimal n) ≡ true
-digits_written =
-    decimal_by_steps (λ n text. list_all is_digit text ≡ true)
-    (λ n small. also _ _ (digit_of n small) refl)
-    (λ n text more before. list_all-append is_digit text ((48 + n % 10) ∷ [])
-    ∙ also _ _ before (also _ _ (digit_of (n % 10) (omega arith)) refl))
-
--- no zero is in front of other digits
-no_zero_in_front : (text : List ℕ) → 48 < get_or text 0 0 → has_spare_zero text ≡ false
-no_zero_in_front [] above = refl
-no_zero_in_front (b ∷ []) above = refl
-no_zero_in_front (b ∷ c ∷ rest) above = grind (arith, common_steps)
-
-no_spare_zero : (n : ℕ) → n < 2 ^ 64 → has_spare_zero (decimal n) ≡ false
-no_spare_zero n small =
-    elim (cases_order n 0) [
-      | inl none ↦ ap has_spare_zero (decimal_digit n (omega arith))
-      | inr (inl lt) ↦ absurd (omega arith)
-      | inr (inr gt) ↦ no_zero_in_front (decimal n) (first_decimal n gt small)
-    ]
-
-number_if : (text : List ℕ) (n : ℕ) → nat_lt 0 (length text) ≡ true → list_all is_digit text ≡ true → has_spare_zero text ≡ false
-    → digits_value 10 text ≡ n → nat_lt n (2 ^ 64) ≡ true → number_of text ≡ Some n
-number_if text n some digits no_zero value small = rw (some, digits, no_zero, value, small) refl
-
--- a number that is written is read
-pub number_is : (n : ℕ) → n < 2 ^ 64 → number_of (decimal n) ≡ Some n
-number_is n small =
-    number_if (decimal n) n (lt-ltb 0 (length (decimal n)) (decimal_nonempty n small)) (digits_written n small) (no_spare_zero n small)
-    (decimal_is_IsNumeral n small).1 (lt-ltb n (2 ^ 64) small)
+use Rattle.tr_events.proofs.NumberLemmas.{also, digits_written, number_is}
 
 -- ---- files of streams
 

@@ -6,7 +6,6 @@ pub mod ListingLemmas
 pub mod MetadataLemmas
 pub mod MetadataTextLemmas
 pub mod NameLemmas
-pub mod NumberLemmas
 pub mod PrefixLemmas
 pub mod RecordedSumLemmas
 pub mod SessionLemmas
@@ -14,4 +13,5 @@ pub mod StampLemmas
 pub mod SumLemmas
 pub mod SurveyLemmas
 pub mod TellLemmas
+pub mod TypedMetadataLemmas
 pub mod WholeLemmas

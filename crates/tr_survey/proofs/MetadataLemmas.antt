@@ -9,7 +9,7 @@ use Rattle.tr_folders.specs.Tree.{File}
 use Rattle.tr_survey.specs.Metadata.{ends_line, named, naming_by, naming_in, uuid_in, uuid_in_line, uuid_in_lines}
 use Rattle.tr_survey.specs.declared.naming.Naming.{Naming}
 use Rattle.tr_survey.specs.declared.naming.Naming.TheVariants.{Unreadable}
-use Rattle.tr_terms.specs.declared.limits.TheConstants.{MOST_METADATA}
+use Rattle.tr_metadata.specs.declared.metadata.TheConstants.{LONGEST_METADATA}
 
 abbrev end_of : List ℕ → ℕ
 end_of = position_or_len ends_line
@@ -73,20 +73,20 @@ named_some [] uuid some is = absurd (some refl)
 named_some (b ∷ bytes) uuid some is = ap (named (b ∷ bytes)) is
 
 -- the open file is read as metadata up to its end or as far as it counts
-pub read_whole : (file : File) (front : List ℕ) (naming : Naming) → front ≡ take MOST_METADATA file.bytes
-    → (length file.bytes < MOST_METADATA → file.breaks ≡ false) → naming ≡ naming_by front → naming ≡ naming_in (Some file)
-read_whole file front naming is whole found = found ∙ ap naming_by is ∙ by_test (ltb (length file.bytes) MOST_METADATA) refl
+pub read_whole : (file : File) (front : List ℕ) (naming : Naming) → front ≡ take LONGEST_METADATA file.bytes
+    → (length file.bytes < LONGEST_METADATA → file.breaks ≡ false) → naming ≡ naming_by front → naming ≡ naming_in (Some file)
+read_whole file front naming is whole found = found ∙ ap naming_by is ∙ by_test (ltb (length file.bytes) LONGEST_METADATA) refl
   where
-    by_test : (test : Bool) → ltb (length file.bytes) MOST_METADATA ≡ test
-        → naming_by (take MOST_METADATA file.bytes)
-        ≡ cond (ltb (length file.bytes) MOST_METADATA && file.breaks) Unreadable (naming_by (take MOST_METADATA file.bytes))
+    by_test : (test : Bool) → ltb (length file.bytes) LONGEST_METADATA ≡ test
+        → naming_by (take LONGEST_METADATA file.bytes)
+        ≡ cond (ltb (length file.bytes) LONGEST_METADATA && file.breaks) Unreadable (naming_by (take LONGEST_METADATA file.bytes))
     by_test true e =
-        ap (λ (t : Bool). cond t Unreadable (naming_by (take MOST_METADATA file.bytes)))
-        (sym (ap (λ (t : Bool). t && file.breaks) e ∙ whole (ltb-true (length file.bytes) MOST_METADATA e)))
+        ap (λ (t : Bool). cond t Unreadable (naming_by (take LONGEST_METADATA file.bytes)))
+        (sym (ap (λ (t : Bool). t && file.breaks) e ∙ whole (ltb-true (length file.bytes) LONGEST_METADATA e)))
     by_test false e =
-        ap (λ (t : Bool). cond t Unreadable (naming_by (take MOST_METADATA file.bytes))) (sym (ap (λ (t : Bool). t && file.breaks) e))
+        ap (λ (t : Bool). cond t Unreadable (naming_by (take LONGEST_METADATA file.bytes))) (sym (ap (λ (t : Bool). t && file.breaks) e))
 
-pub read_broken : (file : File) → (length file.bytes < MOST_METADATA) × (file.breaks ≡ true) → Unreadable ≡ naming_in (Some file)
+pub read_broken : (file : File) → (length file.bytes < LONGEST_METADATA) × (file.breaks ≡ true) → Unreadable ≡ naming_in (Some file)
 read_broken file broken =
-    ap (λ (t : Bool). cond t Unreadable (naming_by (take MOST_METADATA file.bytes)))
+    ap (λ (t : Bool). cond t Unreadable (naming_by (take LONGEST_METADATA file.bytes)))
     (sym (ap (λ (t : Bool). t && file.breaks) (lt-ltb _ _ broken.0) ∙ broken.1))

@@ -10,17 +10,18 @@ use Rattle.std.proofs.lemmas.List.Folds.{list_all-append}
 use Rattle.std.proofs.lemmas.List.Sums.{list_all-from_AllPass}
 use Rattle.std.proofs.lemmas.List.Splits.{length-slice_split}
 use Rattle.tr_terms.proofs.BoolLemmas.{both}
-use Rattle.tr_survey.proofs.FileNameLemmas.{also}
+use Rattle.tr_events.proofs.NumberLemmas.{also}
 use Rattle.uuid.proofs.RoundTrips.{parses_hyphenated}
 use Rattle.uuid.proofs.TextLemmas.{by_index_at, by_index_length}
 use Rattle.uuid.specs.Text.{digit_place, hex_digit, hyphenated_text, is_hyphen_place, lower, nibble, parsed}
 use Rattle.tr_packet.specs.Metadata.{clock_text, event_text, lines, metadata_of, packet_header_text, preface_text, stream_text}
-use Rattle.std.specs.Cmp.Lexicographic.{pointwise}
 use Rattle.tr_folders.specs.Kept.{file_of}
+use Rattle.tr_metadata.specs.Recovery.{is_text_of}
+use Rattle.tr_metadata.proofs.RecoveryLemmas.{plain_text}
 use Rattle.tr_survey.proofs.MetadataLemmas.{read_whole}
 use Rattle.tr_survey.specs.Metadata.{ends_line, named, naming_by, naming_in, quoted, uuid_in, uuid_in_line, uuid_in_lines}
 use Rattle.tr_survey.specs.declared.naming.Naming.TheVariants.{Named, Other}
-use Rattle.tr_terms.specs.declared.limits.TheConstants.{MOST_METADATA}
+use Rattle.tr_metadata.specs.declared.metadata.TheConstants.{LONGEST_METADATA}
 
 -- ---- the identifier
 
@@ -36,10 +37,10 @@ character_stays true d = refl
 character_stays false d = digit_stays d
 
 -- its text has 36 bytes, and ends no line
-long_so : (uuid : List ℕ) → length (hyphenated_text lower uuid) ≡ 36
+pub long_so : (uuid : List ℕ) → length (hyphenated_text lower uuid) ≡ 36
 long_so uuid = by_index_length 36 _
 
-text_stays : (uuid : List ℕ) → list_all stays (hyphenated_text lower uuid) ≡ true
+pub text_stays : (uuid : List ℕ) → list_all stays (hyphenated_text lower uuid) ≡ true
 text_stays uuid =
     list_all-from_AllPass stays (hyphenated_text lower uuid) (λ k d within.
     let here = by_index_at 36 (λ j. cond (is_hyphen_place j) 45 (hex_digit lower (nibble uuid (digit_place j)))) k d (omega (arith, long_so uuid)) in
@@ -57,7 +58,7 @@ or_else_of : {X : Type 0} (a b c : Option X) → option_or a (option_or b c) ≡
 or_else_of None b c = refl
 or_else_of (Some x) b c = refl
 
-named_in_both : (first second : List (List ℕ)) → uuid_in_lines (first ++ second) ≡ option_or (uuid_in_lines first) (uuid_in_lines second)
+pub named_in_both : (first second : List (List ℕ)) → uuid_in_lines (first ++ second) ≡ option_or (uuid_in_lines first) (uuid_in_lines second)
 named_in_both [] second = refl
 named_in_both (line ∷ first) second =
     ap (option_or (uuid_in_line line)) (named_in_both first second) ∙ or_else_of (uuid_in_line line) (uuid_in_lines first) (uuid_in_lines second)
@@ -79,11 +80,11 @@ split_at_newline (b ∷ first) second =
     ∙ onto_both (ends_line b) b first (split first) (split second) refl
 
 -- what the lines before a newline name, or else those after it
-named_before_or_behind : (first second : List ℕ) → uuid_in (first ++ (10 ∷ second)) ≡ option_or (uuid_in first) (uuid_in second)
+pub named_before_or_behind : (first second : List ℕ) → uuid_in (first ++ (10 ∷ second)) ≡ option_or (uuid_in first) (uuid_in second)
 named_before_or_behind first second = ap uuid_in_lines (split_at_newline first second) ∙ named_in_both (split first) (split second)
 
 -- the line of an identifier
-abbrev line_of : List ℕ → List ℕ
+abbrev pub line_of : List ℕ → List ℕ
 line_of text = codes "  uuid = \"" ++ (text ++ codes "\";")
 
 -- without a newline there is one line
@@ -98,7 +99,7 @@ one_line (b ∷ text) e =
     goes_on (ends_line b) b (split text) h.0 ∙ ap (onto_first b) (one_line text h.1)
 
 -- it names the identifier
-in_line_of : (text uuid : List ℕ) → length text ≡ 36 → list_all stays text ≡ true → Some uuid ≡ parsed text
+pub in_line_of : (text uuid : List ℕ) → length text ≡ 36 → list_all stays text ≡ true → Some uuid ≡ parsed text
     → uuid_in (line_of text) ≡ Some uuid
 in_line_of text uuid long stay is =
     let unbroken : list_all stays (line_of text) ≡ true = list_all-append stays text (codes "\";") ∙ also _ _ stay refl in
@@ -127,7 +128,7 @@ behind_short : length behind ≤ 2000
 unfolding behind
 behind_short = leb-true _ _ refl
 
-regroup : (p l u h q k t : List ℕ) → p ++ ((l ++ (u ++ (h ++ ((q ++ (10 ∷ [])) ++ k)))) ++ t) ≡ (p ++ l) ++ ((u ++ (h ++ q)) ++ (10 ∷ (k ++ t)))
+pub regroup : (p l u h q k t : List ℕ) → p ++ ((l ++ (u ++ (h ++ ((q ++ (10 ∷ [])) ++ k)))) ++ t) ≡ (p ++ l) ++ ((u ++ (h ++ q)) ++ (10 ∷ (k ++ t)))
 regroup p l u h q k t = simp append_assoc
 
 metadata_parts : (uuid : List ℕ) → metadata_of uuid ≡ front ++ (10 ∷ (line_of (hyphenated_text lower uuid) ++ (10 ∷ behind)))
@@ -145,21 +146,17 @@ uuid_of_line bytes text uuid parts found =
     ∙ named_before_or_behind (line_of text) behind
     ∙ ap (λ (o : Option (List ℕ)). option_or o (uuid_in behind)) found
 
-pointwise-same : (xs : List ℕ) → pointwise eqb xs xs ≡ true
-pointwise-same [] = refl
-pointwise-same (x ∷ xs) = also _ _ (eq-eqb x x refl) (pointwise-same xs)
-
 -- the recorder's text is known as such
-by_own_text : (bytes uuid : List ℕ) → bytes ≡ metadata_of uuid → (length bytes ≡ 0 → ⊥) → uuid_in bytes ≡ Some uuid → naming_by bytes ≡ Named uuid
+pub by_own_text : (bytes uuid : List ℕ) → is_text_of uuid bytes ≡ true → (length bytes ≡ 0 → ⊥) → uuid_in bytes ≡ Some uuid
+    → naming_by bytes ≡ Named uuid
 by_own_text [] uuid is some found = absurd (some refl)
 by_own_text (b ∷ bytes) uuid is some found =
-    ap (named (b ∷ bytes)) found
-    ∙ ap (λ (t : Bool). cond t (Named uuid) (Other uuid)) (ap (λ (l : List ℕ). pointwise eqb l (metadata_of uuid)) is ∙ pointwise-same (metadata_of uuid))
+    ap (named (b ∷ bytes)) found ∙ ap (λ (t : Bool). cond t (Named uuid) (Other uuid)) is
 
 named_by_line : (bytes text uuid : List ℕ) → bytes ≡ front ++ (10 ∷ (line_of text ++ (10 ∷ behind))) → bytes ≡ metadata_of uuid → length text ≡ 36
     → uuid_in (line_of text) ≡ Some uuid → naming_in (Some (file_of bytes false)) ≡ Named uuid
 named_by_line bytes text uuid parts own long found =
-    let short : length bytes ≤ MOST_METADATA = omega (
+    let short : length bytes ≤ LONGEST_METADATA = omega (
       arith,
       ap length parts,
       length-append front (10 ∷ (line_of text ++ (10 ∷ behind))),
@@ -169,8 +166,8 @@ named_by_line bytes text uuid parts own long found =
       behind_short,
     ) in
     let some : length bytes ≡ 0 → ⊥ = λ none. omega (arith, none, ap length parts, length-append front (10 ∷ (line_of text ++ (10 ∷ behind)))) in
-    sym (read_whole (file_of bytes false) bytes (naming_by bytes) (sym (take_all MOST_METADATA bytes short)) (λ _. refl) refl)
-    ∙ by_own_text bytes uuid own some (uuid_of_line bytes text uuid parts found)
+    sym (read_whole (file_of bytes false) bytes (naming_by bytes) (sym (take_all LONGEST_METADATA bytes short)) (λ _. refl) refl)
+    ∙ by_own_text bytes uuid (ap (is_text_of uuid) own ∙ plain_text uuid) some (uuid_of_line bytes text uuid parts found)
 
 pub metadata_are_of_trace : (uuid : List ℕ) → length uuid ≡ 16 → All (λ b. b < 256) uuid
     → naming_in (Some (file_of (metadata_of uuid) false)) ≡ Named uuid

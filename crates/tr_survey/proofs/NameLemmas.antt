@@ -9,7 +9,8 @@ use Rattle.std.proofs.lemmas.Grind.{common_steps}
 use Rattle.std.proofs.lemmas.List.{get_or-drop, length-drop}
 use Rattle.std.proofs.lemmas.List.Sums.{suffix_len_is}
 use Rattle.std.proofs.lemmas.Str.Pattern.{NoCharPasses-char}
-use Rattle.tr_survey.specs.Names.{is_underscore, number_of, of_parts, stream_named, stream_of}
+use Rattle.tr_events.specs.Numbers.{number_of}
+use Rattle.tr_survey.specs.Names.{is_underscore, of_parts, stream_named, stream_of}
 use Rattle.tr_survey.specs.Order.{Numbered}
 use Rattle.tr_terms.specs.Names.{is_name}
 

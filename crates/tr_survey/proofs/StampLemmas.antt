@@ -7,8 +7,9 @@ use Rattle.std.proofs.lemmas.Int.{ints}
 use Rattle.std.proofs.lemmas.List.{drop_at, take_at}
 use Rattle.tr_chunk.specs.ArchiveName.{Day, archive_name_text, clock_seconds, date_text, day_after, day_at, distance_text, offset_text, stamp_text, time_text}
 use Rattle.tr_chunk.proofs.ArchiveNameLemmas.{day_at_is}
-use Rattle.tr_survey.specs.Names.{archive_number, fits, form_of_stamps, is_digit, number_of}
-use Rattle.tr_survey.proofs.FileNameLemmas.{also, digit_of, number_is}
+use Rattle.tr_events.specs.Numbers.{is_digit, number_of}
+use Rattle.tr_survey.specs.Names.{archive_number, fits, form_of_stamps}
+use Rattle.tr_events.proofs.NumberLemmas.{also, digit_of, number_is}
 use Rattle.tr_terms.specs.Offsets.{IsOffset}
 use Rattle.tr_terms.specs.declared.limits.TheConstants.{LAST_MOMENT}
 

@@ -3,6 +3,7 @@ pub mod Heads
 pub mod Identifiers
 pub mod Lines
 pub mod Listing
+pub mod Losses
 pub mod Metadata
 pub mod Names
 pub mod Order

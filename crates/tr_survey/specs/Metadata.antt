@@ -1,14 +1,15 @@
 -- The identifier that metadata name.
-use Rattle.std.specs.Prelude.{ℕ, Bool, ◌&&◌, ◌-◌, ◌==◌, nat_eq, nat_lt, List, [], ◌∷◌, codes, length, map, take, drop, Option, Some, None, if◌then◌else◌}
-use Rattle.std.specs.Cmp.Lexicographic.{pointwise}
+use Rattle.std.specs.Prelude.{◌≢◌, ◌≤◌, ℕ, Bool, ◌&&◌, ◌-◌, ◌==◌, nat_eq, nat_lt, List, [], ◌∷◌, codes, length, map, take, drop, Option, Some, None, if◌then◌else◌}
 use Rattle.std.specs.List.{slice_split, starts_with, ends_with}
 use Rattle.std.specs.Option.{option_and_then, option_or}
 use Rattle.tr_folders.specs.Tree.{File}
-use Rattle.tr_packet.specs.Metadata.{metadata_of}
+use Rattle.tr_events.specs.Events.{Event}
+use Rattle.tr_metadata.specs.Metadata.{metadata_with}
+use Rattle.tr_metadata.specs.Recovery.{is_text_of}
+use Rattle.tr_metadata.specs.declared.metadata.TheConstants.{LONGEST_METADATA}
 use Rattle.tr_survey.specs.Identifiers.{most_often}
 use Rattle.tr_survey.specs.declared.naming.Naming.{Naming}
 use Rattle.tr_survey.specs.declared.naming.Naming.TheVariants.{Unfinished, Unreadable, NoUuid, Other, Named}
-use Rattle.tr_terms.specs.declared.limits.TheConstants.{MOST_METADATA}
 use Rattle.uuid.specs.Text.{parsed}
 
 -- a line without the spaces in front of it
@@ -39,10 +40,11 @@ uuid_in_lines (line ∷ lines) = option_or (uuid_in_line line) (uuid_in_lines li
 abbrev pub uuid_in : List ℕ → Option (List ℕ)
 uuid_in bytes = uuid_in_lines (slice_split ends_line bytes)
 
--- what bytes of metadata name: nothing; or an identifier, in a text of their own or in the recorder's of that identifier
+-- what bytes of metadata name: nothing; or an identifier, in a text of their own or in the recorder's of that identifier, with
+-- the events that it declares
 abbrev pub named : List ℕ → Option (List ℕ) → Naming
 named bytes None = NoUuid
-named bytes (Some uuid) = if pointwise nat_eq bytes (metadata_of uuid) then Named uuid else Other uuid
+named bytes (Some uuid) = if is_text_of uuid bytes then Named uuid else Other uuid
 
 -- the same, where a recorder that hasn't written them whole may have left none
 abbrev pub naming_by : List ℕ → Naming
@@ -53,7 +55,11 @@ naming_by (b ∷ bytes) = named (b ∷ bytes) (uuid_in (b ∷ bytes))
 abbrev pub naming_in : Option File → Naming
 naming_in None = Unfinished
 naming_in (Some file) =
-    if nat_lt (length file.bytes) MOST_METADATA && file.breaks then Unreadable else naming_by (take MOST_METADATA file.bytes)
+    if nat_lt (length file.bytes) LONGEST_METADATA && file.breaks then Unreadable else naming_by (take LONGEST_METADATA file.bytes)
+
+-- the text of these events and this identifier isn't longer than what is looked at, or it has no events: then it is shorter
+abbrev pub IsShort : List Event → List ℕ → Type 0
+IsShort events uuid = events ≢ [] → length (metadata_with events uuid) ≤ LONGEST_METADATA
 
 -- the identifier that is named, if one is
 abbrev pub uuid_named : Naming → Option (List ℕ)

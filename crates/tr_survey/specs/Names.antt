@@ -1,25 +1,10 @@
 -- The names of archives' folders and of streams' files.
-use Rattle.std.specs.Prelude.{ℕ, ◌^◌, Bool, false, not, ◌&&◌, ◌||◌, ◌==◌, nat_le, nat_lt, List, [], ◌∷◌, codes, length, take, drop, Option, Some, None, if◌then◌else◌}
+use Rattle.std.specs.Prelude.{ℕ, Bool, ◌&&◌, ◌||◌, ◌==◌, nat_le, List, codes, length, take, drop, Option, None, if◌then◌else◌}
 use Rattle.std.specs.List.{after_last, before_last, list_all, zip}
 use Rattle.std.specs.Option.{option_map}
-use Rattle.std.specs.Str.Parse.{digits_value}
+use Rattle.tr_events.specs.Numbers.{is_digit, number_of}
 use Rattle.tr_survey.specs.Order.{Numbered}
 use Rattle.tr_terms.specs.Names.{is_name}
-
-abbrev pub is_digit : ℕ → Bool
-is_digit b = nat_le 48 b && nat_le b 57
-
--- a zero with a digit after it
-abbrev pub has_spare_zero : List ℕ → Bool
-has_spare_zero [] = false
-has_spare_zero (b ∷ []) = false
-has_spare_zero (b ∷ c ∷ rest) = b == 48
-
--- a number as it is written: one or more digits, without a spare zero; it fits 64 bits
-abbrev pub number_of : List ℕ → Option ℕ
-number_of text =
-    if nat_lt 0 (length text) && (list_all is_digit text && (not (has_spare_zero text) && nat_lt (digits_value 10 text) (2 ^ 64)))
-    then Some (digits_value 10 text) else None
 
 -- the form of an archive's name before its number: 0 is any digit, and + a sign
 abbrev pub form_of_stamps : List ℕ

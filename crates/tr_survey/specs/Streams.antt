@@ -1,5 +1,6 @@
 -- What is reported of a stream, packet by packet through its files.
 use Rattle.std.specs.Prelude.{ℕ, ◌+◌, ◌-◌, Bool, true, false, nat_eq, nat_lt, List, [], ◌∷◌, ◌++◌, codes, length, drop, zero, suc, Option, Some, None, unwrap_or, option_map, if◌then◌else◌}
+use Rattle.std.specs.Option.{option_and_then}
 use Rattle.tr_chunk.specs.Audit.{capped_count, packet_cause}
 use Rattle.tr_chunk.specs.declared.audit_fault.AuditCause.{AuditCause}
 use Rattle.tr_chunk.specs.declared.audit_fault.AuditCause.TheVariants.{Packet}
@@ -10,9 +11,11 @@ use Rattle.tr_packet.specs.Packets.{Contents, packet_size}
 use Rattle.tr_packet.specs.declared.faults.PacketFault.{PacketFault}
 use Rattle.tr_packet.specs.declared.faults.PacketFault.TheVariants.{Short}
 use Rattle.tr_survey.specs.Lines.{before_text, between_text, cause_text, cleared_text, counts_text, file_fault_text, gap_text, last_text, lost_text, packet_fault_text, stream_text}
+use Rattle.tr_survey.specs.Losses.{and_more, no_taken, placed_told, taken_after, unplaced}
 use Rattle.tr_survey.specs.Order.{Numbered}
 use Rattle.tr_survey.specs.Paths.{file_in}
 use Rattle.tr_survey.specs.Told.{Told, and_then, told}
+use Rattle.tr_survey.specs.declared.losses.Taken.{Taken}
 use Rattle.tr_survey.specs.declared.tally.Last.{Last}
 use Rattle.tr_survey.specs.declared.tally.Tally.{Tally}
 
@@ -60,11 +63,43 @@ gap_told at last p =
     if nat_eq (absent_before last p.head.seq) 0 then []
     else gap_text at.stream (next_number last) (absent_before last p.head.seq) ++ where_text last at.archive.number p.head.begin
 
+-- how many records were discarded since the packet before
+abbrev pub discarded : Option Last → Contents → ℕ
+discarded last p = p.head.lost - lost_by last
+
+-- the serials that were taken by the end of a packet, if they are known
+abbrev pub taken_by : Option Last → Option Taken
+taken_by None = Some no_taken
+taken_by (Some l) = l.taken
+
+-- the same, if no number is absent right before the next one: overwritten and cleared records took serials too
+abbrev pub taken_before : Option Last → Contents → Option Taken
+taken_before last p = if nat_eq (absent_before last p.head.seq) 0 then taken_by last else None
+
+-- those that are taken by the end of that next one. If it is known where records were discarded, it is known how many took
+-- serials after its last record; none did if none were discarded since the packet before
+abbrev pub taken_at : ℕ → Option Last → Contents → Option Taken
+taken_at archive last p =
+    if nat_eq (discarded last p) 0 then Some (taken_after archive no_taken p.records)
+    else option_and_then (λ (t : Taken). option_map (and_more (taken_after archive t p.records)) (unplaced (discarded last p) t.next p.records))
+    (taken_before last p)
+
+-- between the ends of two packets records were discarded
+abbrev pub ends_told : Place → Option Last → Contents → List ℕ
+ends_told at last p = lost_text at.stream (discarded last p) ++ where_text last at.archive.number p.head.end
+
+-- between records and up to the end, where these serials were taken before; if they don't fit, between ends
+abbrev pub fitted_told : Place → Option Last → Contents → Taken → Option ℕ → List ℕ
+fitted_told at last p t None = ends_told at last p
+fitted_told at last p t (Some rest) = placed_told at.stream at.archive.number t p.records rest p.head.end
+
+abbrev pub discarded_told : Place → Option Last → Contents → Option Taken → List ℕ
+discarded_told at last p None = ends_told at last p
+discarded_told at last p (Some t) = fitted_told at last p t (unplaced (discarded last p) t.next p.records)
+
 -- records were discarded since the packet before
 abbrev pub lost_told : Place → Option Last → Contents → List ℕ
-lost_told at last p =
-    if nat_lt (lost_by last) p.head.lost
-    then lost_text at.stream (p.head.lost - lost_by last) ++ where_text last at.archive.number p.head.end else []
+lost_told at last p = if nat_eq (discarded last p) 0 then [] else discarded_told at last p (taken_before last p)
 
 -- fewer records are said to have been discarded than by the packet before
 abbrev pub falls : Option Last → Contents → Bool
@@ -94,13 +129,18 @@ absent_at s seq = if s.is_broken then 0 else absent_before s.last seq
 abbrev pub below_at : Tally → ℕ → ℕ
 below_at s seq = if nat_eq s.packets 0 then absent_at s seq else 0
 
-abbrev pub last_of : ℕ → Contents → Last
-last_of archive p = record {
+-- the serials that are taken after a packet of an archive, if they are known
+abbrev pub taken_then : ℕ → Tally → Contents → Option Taken
+taken_then archive s p = if s.is_broken then None else taken_at archive s.last p
+
+abbrev pub last_of : ℕ → Option Taken → Contents → Last
+last_of archive taken p = record {
   archive = archive;
   seq = p.head.seq;
   serial = unwrap_or (last_serial_after None p.records) 0;
   end = p.head.end;
   lost = p.head.lost;
+  taken = taken;
 }
 
 -- the counts after a packet
@@ -112,7 +152,7 @@ tally_after at s p = record {
   absent = capped_count (s.absent + absent_at s p.head.seq);
   below = capped_count (s.below + below_at s p.head.seq);
   first = Some (unwrap_or s.first p.head.begin);
-  last = Some (last_of at.archive.number p);
+  last = Some (last_of at.archive.number (taken_then at.archive.number s p) p);
   is_broken = false;
   faults = and_one s.faults (falls (before s) p);
 }

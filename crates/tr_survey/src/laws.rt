@@ -4,10 +4,13 @@ ghost use Rattle.std.specs.Prelude.{◌≡◌, Bool, ◌<◌, ◌≤◌, ◌^◌
 ghost use Rattle.std.specs.List.{All};
 ghost use Rattle.tr_chunk.specs.ArchiveName.{archive_name_text};
 ghost use Rattle.tr_chunk.specs.Files.{file_name};
+ghost use Rattle.tr_events.specs.Declarations.{AreDeclared};
+ghost use Rattle.tr_events.specs.Events.{Event};
 ghost use Rattle.tr_folders.specs.Kept.{file_of};
 ghost use Rattle.tr_folders.specs.Tree.{Tree};
 ghost use Rattle.tr_packet.specs.Metadata.{metadata_of};
-ghost use Rattle.tr_survey.specs.Metadata.{naming_in};
+ghost use Rattle.tr_metadata.specs.Metadata.{metadata_with};
+ghost use Rattle.tr_survey.specs.Metadata.{IsShort, naming_in};
 ghost use Rattle.tr_survey.specs.Names.{archive_number, of_parts, stream_named};
 ghost use Rattle.tr_survey.specs.Order.{Numbered};
 ghost use Rattle.tr_survey.specs.Sessions.{survey_of};
@@ -32,10 +35,13 @@ pub fn an_archive_is_named_for_its_number()
         → archive_number (archive_name_text begin end offset id) ≡ Some id }
 {}
 
-/// The metadata of a trace are read as naming its identifier. Does nothing.
+/// The metadata of a trace are read as naming its identifier, also with declared events, if they aren't longer than what is
+/// looked at. Does nothing.
 pub fn metadata_name_their_trace()
-    ensures { (uuid : List ℕ) → length uuid ≡ 16 → All (λ b. b < 256) uuid
+    ensures plain { (uuid : List ℕ) → length uuid ≡ 16 → All (λ b. b < 256) uuid
         → naming_in (Some (file_of (metadata_of uuid) false)) ≡ Named uuid }
+    ensures typed { (events : List Event) (uuid : List ℕ) → AreDeclared events → length uuid ≡ 16 → All (λ b. b < 256) uuid
+        → IsShort events uuid → naming_in (Some (file_of (metadata_with events uuid) false)) ≡ Named uuid }
 {}
 
 /// A stream's files have no fault if its audit passes their packets, and the counts of discarded records don't fall:

@@ -8,12 +8,14 @@
 //! - `Heads` says what is wrong with archives as a whole: numbers that are missing or there twice, an archive that doesn't
 //!   begin when the one before it ends, metadata that aren't the recorder's of the session's identifier, and streams that have
 //!   no file anywhere.
-//! - `Streams` says what is found packet by packet: numbers that are absent and records that were discarded, and between
-//!   which packets; a packet at fault, after which the next file is judged anew; a file that is missing or can't be read.
+//! - `Streams` says what is found packet by packet: numbers that are absent, and between which packets; a packet at fault,
+//!   after which the next file is judged anew; a file that is missing or can't be read.
+//! - `Losses` says between which records others were discarded: those took the serials that are missing. Where serials don't
+//!   tell it, `Streams` says between which packets.
 //! - `Identifiers` says which identifier is the session's: the one that most archives' metadata name, or, if none names one,
 //!   the one that most files of streams begin with. A packet of another one is at fault.
 //! - `Sums` says, if that is asked for, what the files of each archive add to the counts of their streams.
-//! - Of metadata the first `MOST_METADATA` bytes are looked at. A folder `archives` without an archive is a session with
+//! - Of metadata the first `LONGEST_METADATA` bytes are looked at. A folder `archives` without an archive is a session with
 //!   `uuid none archives 0`, and no fault. If two channels have a stream of the same number, each is a stream.
 //!
 //! # Example
@@ -32,7 +34,7 @@
 //!   fault, and the survey goes on.
 //! - It answers `TooMuch` if and only if the folders failed, and `Write` if and only if the output did.
 //! - The names that the recorder gives to archives and files are read as what they say, and so is the identifier in the
-//!   metadata that it writes.
+//!   metadata that it writes, if that isn't longer than what is looked at (`IsShort`: it isn't without declared events).
 //! - Of a stream whose files hold packets which its audit passes, with counts of discarded records that don't fall, no fault is
 //!   reported, but just where numbers are absent, what was lost, and its counts. A session that is below the folder as the
 //!   recorder writes it, with nothing missing and nothing beside it (`StandsAlone`), is `whole`.
@@ -46,7 +48,7 @@
 //! (`.ci/under-fire`). Not promised are:
 //!
 //! - that memory is there, and that a survey which answers `NoMemory` had to;
-//! - how many bytes of an archive's metadata are read (`MOST_METADATA`, which clauses name), beyond those that the recorder
+//! - how many bytes of an archive's metadata are read (`LONGEST_METADATA`, which clauses name), beyond those that the recorder
 //!   writes.
 //!
 //! tr_recorded proves that tr_export writes a session this way.
@@ -59,9 +61,9 @@ mod identifiers;
 mod laws;
 mod lines;
 mod listing;
+mod losses;
 mod names;
 mod naming;
-mod numbers;
 mod packets;
 mod paths;
 mod sessions;
@@ -76,5 +78,9 @@ pub use laws::{
     a_file_is_named_for_its_stream, a_recorded_session_is_whole, a_recorded_stream_has_no_fault,
     an_archive_is_named_for_its_number, metadata_name_their_trace,
 };
-pub use names::archive_number;
-pub use surveying::survey;
+pub use listing::{Listing, archives_among, listing_at, names_in_order, streams_among};
+pub use names::{Numbered, archive_number};
+pub use naming::Naming;
+pub use paths::{archives_path, file_path, stream_path};
+pub use sessions::naming_of;
+pub use surveying::{has_archives, survey};

@@ -19,7 +19,7 @@ use tr_folders::{Folders, ReadFault};
 
 /// What is at a path where a folder is looked for.
 #[derive(Drop)]
-pub(crate) enum Listing {
+pub enum Listing {
     /// No folder.
     Absent,
     /// A folder that can't be read.
@@ -29,7 +29,7 @@ pub(crate) enum Listing {
 }
 
 /// What is at a path where a folder is looked for.
-pub(crate) fn listing_at<F: Folders>(
+pub fn listing_at<F: Folders>(
     alloc: Global,
     folders: &mut F,
     path: &str,
@@ -72,7 +72,7 @@ fn add_name(alloc: Global, found: &mut BTreeSet<String>, name: &str) -> Result<(
 }
 
 /// These names, each once and in order.
-pub(crate) fn names_in_order(alloc: Global, names: &[String]) -> Result<Vec<String>, AllocError>
+pub fn names_in_order(alloc: Global, names: &[String]) -> Result<Vec<String>, AllocError>
     ensures { IfOk result (λ found. by_text found.items ≡ names_in_order (by_text names.now)) }
 {
     let mut found = BTreeSet::new(alloc);
@@ -109,7 +109,7 @@ fn archive_at<F: Folders>(
 }
 
 /// The archives among what has these names in a folder, in order.
-pub(crate) fn archives_among<F: Folders>(
+pub fn archives_among<F: Folders>(
     alloc: Global,
     folders: &mut F,
     folder: &str,
@@ -148,7 +148,7 @@ fn add_streams(
 }
 
 /// The streams that have a file in one of these archives of a folder, in order.
-pub(crate) fn streams_among<F: Folders>(
+pub fn streams_among<F: Folders>(
     alloc: Global,
     folders: &mut F,
     folder: &str,

@@ -5,7 +5,7 @@ ghost use Rattle.std.specs.List.{list_all, zip};
 ghost use Rattle.std.specs.Option.{option_map};
 ghost use Rattle.tr_survey.specs.Names.{archive_number, fits, form_of_stamps, of_parts, stream_named};
 
-use crate::numbers::number_in;
+use tr_events::number_in;
 use tr_terms::Name;
 
 /// The bytes of an archive's name before its number.
@@ -17,9 +17,9 @@ const FORM: &[u8; STAMPS] = b"00000000T000000+0000-00000000T000000+0000-";
 /// A number and a name: those of an archive's folder, whose name ends with the number, or a stream's number and its channel's
 /// name. They are in order of their numbers, and of their names where numbers are the same.
 #[derive(PartialEq, Eq, PartialOrd, Ord, Debug, Drop)]
-pub(crate) struct Numbered {
-    pub(crate) number: u64,
-    pub(crate) name: String,
+pub struct Numbered {
+    pub number: u64,
+    pub name: String,
 }
 
 /// Whether a byte of an archive's name fits the form.

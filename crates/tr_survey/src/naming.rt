@@ -5,19 +5,19 @@ ghost use Rattle.std.specs.List.{position};
 ghost use Rattle.std.specs.Option.{option_map};
 ghost use Rattle.tr_survey.specs.Failures.{reads_after, writes_after};
 ghost use Rattle.tr_folders.specs.Tree.{File, Tree};
-ghost use Rattle.tr_terms.specs.declared.limits.TheConstants.{MOST_METADATA};
+ghost use Rattle.tr_metadata.specs.declared.metadata.TheConstants.{LONGEST_METADATA};
 ghost use Rattle.tr_survey.specs.Metadata.{ends_line, most_named, naming_by, naming_in, quoted, uuid_in, uuid_in_line, uuid_named, without_indent};
 
 use crate::faults::SurveyFault;
 use crate::identifiers::most_often;
 use std::alloc::{AllocError, Global};
 use tr_folders::{Folders, ReadFault, read_front};
-use tr_packet::metadata_text;
+use tr_metadata::is_text_of;
 use uuid::Uuid;
 
 /// What an archive's metadata say of the trace.
 #[derive(Clone, Copy, Debug, PartialEq, Eq)]
-pub(crate) enum Naming {
+pub enum Naming {
     /// There is no file `metadata`, or an empty one: the recorder writes it last.
     Unfinished,
     /// It can't be read, or the archive's folder can't.
@@ -26,7 +26,7 @@ pub(crate) enum Naming {
     NoUuid,
     /// The first such line names this one, but the text isn't the recorder's.
     Other(Uuid),
-    /// It is the recorder's text of this identifier.
+    /// It is the recorder's text of this identifier, and of the events that it declares itself.
     Named(Uuid),
 }
 
@@ -93,8 +93,7 @@ fn naming_by(alloc: Global, bytes: &[u8]) -> Result<Naming, AllocError>
     let Some(uuid) = uuid_in(bytes) else {
         return Ok(Naming::NoUuid);
     };
-    let text = metadata_text(alloc, &uuid)?;
-    if bytes == text.as_bytes() {
+    if is_text_of(alloc, &uuid, bytes)? {
         Ok(Naming::Named(uuid))
     } else {
         Ok(Naming::Other(uuid))
@@ -107,7 +106,7 @@ fn naming_read<F: Folders>(
     folders: &mut F,
     buffer: &mut [u8],
 ) -> Result<Naming, SurveyFault>
-    requires { length buffer.old ≡ MOST_METADATA }
+    requires { length buffer.old ≡ LONGEST_METADATA }
     ensures naming { IfOk result (λ naming. (file : File) → F.left folders.old ≡ Some file → naming ≡ naming_in (Some file)) }
     ensures tree { F.tree folders.new ≡ F.tree folders.old }
     ensures failures { F.failures folders.new ≡ reads_after result (F.failures folders.old) }
@@ -132,7 +131,7 @@ pub(crate) fn naming_at<F: Folders>(
     path: &str,
     buffer: &mut [u8],
 ) -> Result<Naming, SurveyFault>
-    requires { length buffer.old ≡ MOST_METADATA }
+    requires { length buffer.old ≡ LONGEST_METADATA }
     ensures naming { IfOk result (λ naming. (t : Tree) → F.tree folders.old ≡ Some t → naming ≡ naming_in (t.file path.now)) }
     ensures tree { F.tree folders.new ≡ F.tree folders.old }
     ensures failures { F.failures folders.new ≡ reads_after result (F.failures folders.old) }

@@ -4,11 +4,12 @@ ghost use Rattle.std.specs.Prelude.{◌≡◌, ℕ, List, IfOk};
 ghost use Rattle.std.specs.String.{string_bytes};
 ghost use Rattle.tr_survey.specs.Lines.{between_text, before_text};
 ghost use Rattle.tr_survey.specs.Listing.{key_of};
-ghost use Rattle.tr_survey.specs.Streams.{fall_told, gap_told, lost_told, packet_told, place, where_text};
+ghost use Rattle.tr_survey.specs.Streams.{ends_told, fall_told, gap_told, lost_told, packet_told, place, where_text};
 
 use crate::lines::{gap_text, lost_text, packet_fault_line};
+use crate::losses::{placed_told, unplaced};
 use crate::names::Numbered;
-use crate::tally::{Last, Tally, absent_before, falls, lost_by, next_number};
+use crate::tally::{Last, Tally, absent_before, discarded, falls, next_number, taken_before};
 use std::alloc::{AllocError, Global};
 use tr_packet::PacketView;
 
@@ -52,7 +53,23 @@ fn gap_told(
     Ok(line)
 }
 
-/// The line of records that were discarded since the packet before; empty if none were.
+/// The line of records that were discarded between the ends of two packets, or by the end of the first.
+fn ends_told(
+    alloc: Global,
+    stream: u64,
+    archive: &Numbered,
+    last: Option<Last>,
+    packet: &PacketView<'_>,
+) -> Result<String, AllocError>
+    ensures { IfOk result (λ s. (uuid : List ℕ) → string_bytes s ≡ ends_told (place uuid stream (key_of archive.now)) last packet.now) }
+{
+    let mut line = lost_text(alloc, stream, discarded(last, packet))?;
+    let place = where_text(alloc, last, archive.number, packet.head().end.get())?;
+    line.push_str(place.as_str())?;
+    Ok(line)
+}
+
+/// The lines of records that were discarded since the packet before; empty if none were.
 fn lost_told(
     alloc: Global,
     stream: u64,
@@ -62,15 +79,17 @@ fn lost_told(
 ) -> Result<String, AllocError>
     ensures { IfOk result (λ s. (uuid : List ℕ) → string_bytes s ≡ lost_told (place uuid stream (key_of archive.now)) last packet.now) }
 {
-    let head = packet.head();
-    let before = lost_by(last);
-    if head.lost <= before {
+    let count = discarded(last, packet);
+    if count == 0 {
         return Ok(String::new(alloc));
     }
-    let mut line = lost_text(alloc, stream, head.lost - before)?;
-    let place = where_text(alloc, last, archive.number, head.end.get())?;
-    line.push_str(place.as_str())?;
-    Ok(line)
+    let Some(taken) = taken_before(last, packet) else {
+        return ends_told(alloc, stream, archive, last, packet);
+    };
+    match unplaced(count, taken.next, packet) {
+        None => ends_told(alloc, stream, archive, last, packet),
+        Some(rest) => placed_told(alloc, stream, archive.number, taken, packet, rest),
+    }
 }
 
 /// The line of a packet that says that fewer records were discarded than the one before says; empty if it doesn't.

@@ -9,7 +9,7 @@ use crate::names::Numbered;
 use std::alloc::{AllocError, Global};
 
 /// The folder of a session's archives: `DIR/SESSION/archives`.
-pub(crate) fn archives_path(alloc: Global, dir: &str, session: &str) -> Result<String, AllocError>
+pub fn archives_path(alloc: Global, dir: &str, session: &str) -> Result<String, AllocError>
     ensures { IfOk result (λ s. string_bytes s ≡ archives_folder dir.now session.now) }
 {
     format!(in alloc; "{dir}/{session}/archives")
@@ -23,7 +23,7 @@ pub(crate) fn path_in(alloc: Global, folder: &str, name: &str) -> Result<String,
 }
 
 /// The path of a file in an archive of a folder: `FOLDER/ARCHIVE/FILE`.
-pub(crate) fn file_path(
+pub fn file_path(
     alloc: Global,
     folder: &str,
     archive: &str,
@@ -35,7 +35,7 @@ pub(crate) fn file_path(
 }
 
 /// The path of a stream's file in an archive of a folder.
-pub(crate) fn stream_path(
+pub fn stream_path(
     alloc: Global,
     folder: &str,
     archive: &Numbered,

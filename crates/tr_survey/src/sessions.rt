@@ -7,7 +7,7 @@ ghost use Rattle.tr_survey.specs.Heads.{head_told};
 ghost use Rattle.tr_survey.specs.Listing.{archives_of, key_of};
 ghost use Rattle.tr_survey.specs.Prefix.{IsPrefixOut, IsTold};
 ghost use Rattle.tr_survey.specs.Sessions.{archives_told, closed_told, identity_of, named_told, naming_of, namings_of, streams_and_sums_told};
-ghost use Rattle.tr_terms.specs.declared.limits.TheConstants.{MOST_METADATA};
+ghost use Rattle.tr_metadata.specs.declared.metadata.TheConstants.{LONGEST_METADATA};
 
 use crate::faults::SurveyFault;
 use crate::heads::{deleted_of, wrong_lines};
@@ -26,14 +26,14 @@ use tr_record::ByteSink;
 use uuid::Uuid;
 
 /// What the metadata of an archive of a folder name.
-fn naming_of<F: Folders>(
+pub fn naming_of<F: Folders>(
     alloc: Global,
     folders: &mut F,
     folder: &str,
     archive: &Numbered,
     buffer: &mut [u8],
 ) -> Result<Naming, SurveyFault>
-    requires { length buffer.old ≡ MOST_METADATA }
+    requires { length buffer.old ≡ LONGEST_METADATA }
     ensures naming { IfOk result (λ naming. (t : Tree) → F.tree folders.old ≡ Some t
         → naming ≡ naming_of t folder.now (key_of archive.now)) }
     ensures tree { F.tree folders.new ≡ F.tree folders.old }
@@ -58,7 +58,7 @@ fn namings_of<F: Folders>(
     archives: &[Numbered],
     buffer: &mut [u8],
 ) -> Result<Vec<Naming>, SurveyFault>
-    requires { length buffer.old ≡ MOST_METADATA }
+    requires { length buffer.old ≡ LONGEST_METADATA }
     ensures namings { IfOk result (λ namings. (t : Tree) → F.tree folders.old ≡ Some t
         → namings.items ≡ namings_of t folder.now (map key_of archives.now)) }
     ensures len { IfOk result (λ namings. length namings.items ≡ length archives.now) }
@@ -117,7 +117,7 @@ fn tell_streams_and_sums<F: Folders, K: ByteSink>(
     faults: u64,
     buffer: &mut [u8],
 ) -> Result<u64, SurveyFault>
-    requires { length buffer.old ≡ MOST_METADATA }
+    requires { length buffer.old ≡ LONGEST_METADATA }
     ensures ok { IfOk result (λ n. (t : Tree) → F.tree folders.old ≡ Some t
         → IsTold (streams_and_sums_told asked t folder.now uuid.now (map key_of archives.now) (map key_of streams.now) faults)
         (K.taken sink.old) (K.taken sink.new) n) }
@@ -178,7 +178,7 @@ fn tell_named<F: Folders, K: ByteSink>(
     faults: u64,
     buffer: &mut [u8],
 ) -> Result<u64, SurveyFault>
-    requires room { length buffer.old ≡ MOST_METADATA }
+    requires room { length buffer.old ≡ LONGEST_METADATA }
     requires namings { length namings.now ≡ length archives.now }
     ensures ok { IfOk result (λ n. (t : Tree) → F.tree folders.old ≡ Some t
         → IsTold (named_told asked t session.now folder.now identity.now (map key_of archives.now) namings.now (map key_of streams.now) faults)
@@ -212,7 +212,7 @@ pub(crate) fn tell_archives<F: Folders, K: ByteSink>(
     faults: u64,
     buffer: &mut [u8],
 ) -> Result<u64, SurveyFault>
-    requires { length buffer.old ≡ MOST_METADATA }
+    requires { length buffer.old ≡ LONGEST_METADATA }
     ensures ok { IfOk result (λ n. (t : Tree) → F.tree folders.old ≡ Some t
         → IsTold (archives_told asked t session.now folder.now (map key_of archives.now) faults) (K.taken sink.old) (K.taken sink.new) n) }
     ensures err { OnErr result ((t : Tree) → F.tree folders.old ≡ Some t

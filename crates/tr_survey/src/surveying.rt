@@ -7,7 +7,7 @@ ghost use Rattle.tr_survey.specs.Failures.{reads_after, writes_after};
 ghost use Rattle.tr_survey.specs.Prefix.{IsPrefixOut, IsTold};
 ghost use Rattle.tr_survey.specs.Sessions.{HasToldPrefix, TellsFolder, able_told, closed_told, end_of, faults_of, has_archives, name_told, names_told, passed_told, surveyed_of};
 ghost use Rattle.tr_survey.specs.Told.{told};
-ghost use Rattle.tr_terms.specs.declared.limits.TheConstants.{MOST_METADATA};
+ghost use Rattle.tr_metadata.specs.declared.metadata.TheConstants.{LONGEST_METADATA};
 
 use crate::faults::{SurveyFault, Surveyed};
 use crate::lines::{last_line, passed_line, session_line};
@@ -16,10 +16,10 @@ use crate::paths::archives_path;
 use crate::sessions::tell_archives;
 use crate::writing::{put_bytes, put_line};
 use std::alloc::Global;
-use tr_folders::Folders;
+use tr_folders::{Folders, buffer_of};
+use tr_metadata::LONGEST_METADATA;
 use tr_record::ByteSink;
 use tr_terms::Name;
-use tr_terms::limits::MOST_METADATA;
 
 /// Reports a session whose folder of archives can't be read.
 fn tell_closed<K: ByteSink>(
@@ -47,7 +47,7 @@ fn faults_of(faults: Option<u64>) -> u64
 }
 
 /// Whether there is a folder of archives below the folder of this name, whether it can be read or not.
-fn has_archives<F: Folders>(
+pub fn has_archives<F: Folders>(
     alloc: Global,
     folders: &mut F,
     dir: &str,
@@ -101,7 +101,7 @@ fn tell_able<F: Folders, K: ByteSink>(
     faults: Option<u64>,
     buffer: &mut [u8],
 ) -> Result<Option<u64>, SurveyFault>
-    requires { length buffer.old ≡ MOST_METADATA }
+    requires { length buffer.old ≡ LONGEST_METADATA }
     ensures ok { IfOk result (λ n. (t : Tree) → F.tree folders.old ≡ Some t
         → IsTold (able_told asked t dir.now faults name.now) (K.taken sink.old) (K.taken sink.new) n) }
     ensures err { OnErr result ((t : Tree) → F.tree folders.old ≡ Some t
@@ -146,7 +146,7 @@ fn tell_name<F: Folders, K: ByteSink>(
     faults: Option<u64>,
     buffer: &mut [u8],
 ) -> Result<Option<u64>, SurveyFault>
-    requires { length buffer.old ≡ MOST_METADATA }
+    requires { length buffer.old ≡ LONGEST_METADATA }
     ensures ok { IfOk result (λ n. (t : Tree) → F.tree folders.old ≡ Some t
         → IsTold (name_told asked t dir.now faults name.now) (K.taken sink.old) (K.taken sink.new) n) }
     ensures err { OnErr result ((t : Tree) → F.tree folders.old ≡ Some t
@@ -173,7 +173,7 @@ fn tell_names<F: Folders, K: ByteSink>(
     asked: bool,
     buffer: &mut [u8],
 ) -> Result<Option<u64>, SurveyFault>
-    requires { length buffer.old ≡ MOST_METADATA }
+    requires { length buffer.old ≡ LONGEST_METADATA }
     ensures ok { IfOk result (λ n. (t : Tree) → F.tree folders.old ≡ Some t
         → IsTold (names_told asked t dir.now None (by_text names.now)) (K.taken sink.old) (K.taken sink.new) n) }
     ensures err { OnErr result ((t : Tree) → F.tree folders.old ≡ Some t
@@ -241,7 +241,7 @@ pub fn survey<F: Folders, K: ByteSink>(
     ensures reads { F.failures folders.new ≡ reads_after result (F.failures folders.old) }
     ensures writes { K.failures sink.new ≡ writes_after result (K.failures sink.old) }
 {
-    let mut buffer = vec![in alloc; 0u8; MOST_METADATA]?;
+    let mut buffer = buffer_of(alloc, LONGEST_METADATA)?;
     let names = match listing_at(alloc, folders, dir)? {
         Listing::Absent => return Ok(Surveyed::NoSession),
         Listing::Unreadable => return Ok(Surveyed::Unlisted),

@@ -5,15 +5,16 @@ ghost use Rattle.tr_chunk.specs.Audit.{starts_above};
 ghost use Rattle.tr_packet.specs.Packets.{packet_size};
 ghost use Rattle.tr_survey.specs.Listing.{key_of};
 ghost use Rattle.tr_survey.specs.declared.tally.Last as value;
-ghost use Rattle.tr_survey.specs.Streams.{absent_at, absent_before, and_one, before, below_at, broken, cause_of, falls, last_of, lost_by, next_number, no_tally, place, tally_after, unexplained};
+ghost use Rattle.tr_survey.specs.Streams.{absent_at, absent_before, and_one, before, below_at, broken, cause_of, discarded, falls, last_of, lost_by, next_number, no_tally, place, taken_at, taken_before, taken_by, taken_then, tally_after, unexplained};
 
+use crate::losses::{Taken, taken_after, unplaced};
 use crate::names::Numbered;
 use tr_chunk::AuditCause;
 use tr_packet::{PacketView, may_follow};
 use uuid::Uuid;
 
-/// A packet, by what the next one is judged by: its archive's number, its number, its last serial, when it ended, and how many
-/// records the stream had discarded by then.
+/// A packet, by what the next one is judged by: its archive's number, its number, its last serial, when it ended, and of its
+/// stream by then how many records were discarded and, if that is known, which serials were taken.
 #[derive(Clone, Copy, Debug, PartialEq, Eq)]
 pub(crate) struct Last {
     pub(crate) archive: u64,
@@ -21,6 +22,7 @@ pub(crate) struct Last {
     pub(crate) serial: u64,
     pub(crate) end: u64,
     pub(crate) lost: u64,
+    pub(crate) taken: Option<Taken>,
 }
 
 /// The counts of a stream so far, each up to the greatest u64.
@@ -71,6 +73,47 @@ pub(crate) fn lost_by(last: Option<Last>) -> u64
         None => 0,
         Some(last) => last.lost,
     }
+}
+
+/// How many records were discarded since the packet before.
+pub(crate) fn discarded(last: Option<Last>, packet: &PacketView<'_>) -> u64
+    ensures { result ≡ discarded last packet.now }
+{
+    packet.head().lost.saturating_sub(lost_by(last))
+}
+
+/// The serials that were taken by the end of a packet, if they are known.
+fn taken_by(last: Option<Last>) -> Option<Taken>
+    ensures { result ≡ taken_by last }
+{
+    match last {
+        None => Some(Taken::none()),
+        Some(last) => last.taken,
+    }
+}
+
+/// The same, if no number is absent right before the next packet.
+pub(crate) fn taken_before(last: Option<Last>, packet: &PacketView<'_>) -> Option<Taken>
+    ensures { result ≡ taken_before last packet.now }
+{
+    if absent_before(last, packet.head().seq) == 0 {
+        taken_by(last)
+    } else {
+        None
+    }
+}
+
+/// The serials that are taken by the end of the next packet, of an archive of this number.
+fn taken_at(archive: u64, last: Option<Last>, packet: &PacketView<'_>) -> Option<Taken>
+    ensures { result ≡ taken_at archive last packet.now }
+{
+    let count = discarded(last, packet);
+    if count == 0 {
+        return Some(taken_after(archive, Taken::none(), packet));
+    }
+    let taken = taken_before(last, packet)?;
+    let rest = unplaced(count, taken.next, packet)?;
+    Some(taken_after(archive, taken, packet).and_more(rest))
 }
 
 /// Whether a packet says that fewer records were discarded than the one before says.
@@ -142,8 +185,8 @@ fn and_one(faults: u64, is_fault: bool) -> u64
 }
 
 /// What the next packet is judged by.
-fn last_of(archive: u64, packet: &PacketView<'_>) -> Last
-    ensures { result ≡ last_of archive packet.now }
+fn last_of(archive: u64, taken: Option<Taken>, packet: &PacketView<'_>) -> Last
+    ensures { result ≡ last_of archive taken packet.now }
 {
     let head = packet.head();
     Last {
@@ -152,6 +195,7 @@ fn last_of(archive: u64, packet: &PacketView<'_>) -> Last
         serial: packet.last_serial(),
         end: head.end.get(),
         lost: head.lost,
+        taken,
     }
 }
 
@@ -213,6 +257,17 @@ impl Tally {
         }
     }
 
+    /// The serials that are taken after a packet of an archive, if they are known.
+    fn taken_then(&self, archive: u64, packet: &PacketView<'_>) -> Option<Taken>
+        ensures { result ≡ taken_then archive self.now packet.now }
+    {
+        if self.is_broken {
+            None
+        } else {
+            taken_at(archive, self.last, packet)
+        }
+    }
+
     /// The counts after a packet of an archive, which has `size` bytes.
     pub(crate) fn after(&self, archive: &Numbered, packet: &PacketView<'_>, size: usize) -> Tally
         requires { size ≡ packet_size packet.now }
@@ -220,6 +275,7 @@ impl Tally {
     {
         let head = packet.head();
         let falls = falls(self.before(), packet);
+        let taken = self.taken_then(archive.number, packet);
         Tally {
             packets: self.packets.saturating_add(1),
             records: self.records.saturating_add(packet.count() as u64),
@@ -227,7 +283,7 @@ impl Tally {
             absent: self.absent.saturating_add(self.absent_at(head.seq)),
             below: self.below.saturating_add(self.below_at(head.seq)),
             first: Some(self.first.unwrap_or(head.begin.get())),
-            last: Some(last_of(archive.number, packet)),
+            last: Some(last_of(archive.number, taken, packet)),
             is_broken: false,
             faults: and_one(self.faults, falls),
         }

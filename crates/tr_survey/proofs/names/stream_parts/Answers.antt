@@ -1,5 +1,5 @@
 use Rattle.std.proofs.Common.{sym, ap, ◌∙◌}
-use Rattle.tr_survey.specs.Names.{number_of}
+use Rattle.tr_events.specs.Numbers.{number_of}
 use Rattle.tr_survey.proofs.NameLemmas.{both_there, named_at, named_none, no_name, no_number, refused, taken}
 use Rattle.tr_survey.proofs.names.stream_parts.Goals as goal
 

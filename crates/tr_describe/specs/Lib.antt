@@ -1,0 +1,9 @@
+pub mod Answers
+pub mod Failures
+pub mod Files
+pub mod Flaws
+pub mod Homes
+pub mod Kept
+pub mod Put
+pub mod Steps
+pub mod Telling
