@@ -14,31 +14,38 @@ use Rattle.tr_command.specs.declared.invocation.Job.TheVariants as job
 abbrev pub Folder : Type 0
 Folder = Option Text
 
+-- the file that declares the events of a run, if one is named
+abbrev pub Declarations : Type 0
+Declarations = Option Text
+
 -- a job with its text in place of a reference to it
 pub data Task : Type 0 where
-  Script : (out : Folder) → Task
+  Script : (events : Declarations) (out : Folder) → Task
   Load : (threads records workers : ℕ) (watch : Bool) (out : Folder) → Task
   Audit : (dir : Text) (archives : Bool) → Task
+  Describe : (events dir : Text) → Task
 
--- a folder by its text
+-- a folder or a file by its text
 abbrev pub folder_named : Option (Bor Text) → Folder
 folder_named out = option_map (λ d. d.now) out
 
 abbrev pub task_of : Job → Task
-task_of (job.Script out) = Script (folder_named out)
+task_of (job.Script events out) = Script (folder_named events) (folder_named out)
 task_of (job.Load threads records workers watch out) = Load threads records workers watch (folder_named out)
 task_of (job.Audit dir archives) = Audit dir.now archives
+task_of (job.Describe events dir) = Describe events.now dir.now
 
 -- the numbers of a load lie within their limits
 abbrev pub IsWithinLimits : Job → Type 0
-IsWithinLimits (job.Script out) = Unit
+IsWithinLimits (job.Script events out) = Unit
 IsWithinLimits (job.Load threads records workers watch out) =
     ((1 ≤ threads) × (threads ≤ MOST_FEEDERS)) × (records ≤ MOST_RECORDS) × ((1 ≤ workers) × (workers ≤ MOST_WORKERS))
 IsWithinLimits (job.Audit dir archives) = Unit
+IsWithinLimits (job.Describe events dir) = Unit
 
--- `script [--out DIR]`
+-- `script [--events FILE] [--out DIR]`
 abbrev pub script_run_app : App
-script_run_app = line_app (codes "script") (option (codes "out") ∷ [])
+script_run_app = line_app (codes "script") (option (codes "events") ∷ option (codes "out") ∷ [])
 
 -- `load --threads T --records R --workers W [--watch] [--out DIR]`
 abbrev pub load_app : App
@@ -49,12 +56,19 @@ load_app = line_app (codes "load")
 abbrev pub audit_app : App
 audit_app = line_app (codes "audit") (flag (codes "archives") ∷ place (codes "dir") ∷ [])
 
--- `tracerd script ..`, `tracerd load ..` and `tracerd audit ..`
-abbrev pub program_app : App
-program_app = with_subcommand (with_subcommand (with_subcommand (new_app (codes "tracerd")) script_run_app.top)
-    load_app.top) audit_app.top
+-- `describe --events FILE DIR`
+abbrev pub describe_app : App
+describe_app = line_app (codes "describe") (option (codes "events") ∷ place (codes "dir") ∷ [])
 
--- a named folder has a name that isn't empty
+-- `tracerd script ..` and `tracerd load ..`
+abbrev pub recording_app : App
+recording_app = with_subcommand (with_subcommand (new_app (codes "tracerd")) script_run_app.top) load_app.top
+
+-- the same, `tracerd audit ..` and `tracerd describe ..`
+abbrev pub program_app : App
+program_app = with_subcommand (with_subcommand recording_app audit_app.top) describe_app.top
+
+-- a named folder or file has a name that isn't empty
 abbrev pub folder_given : Option Text → Option Folder
 folder_given None = Some None
 folder_given (Some []) = None
@@ -65,8 +79,11 @@ abbrev pub count_given : Text → (least most : ℕ) → List Row → Option ℕ
 count_given id least most rows =
     and_then (number_given id most rows) (λ n. if nat_le least n then Some n else None)
 
+-- the file of declared events, and the folder for the archives, each if it is named
 abbrev pub script_given : List Row → Option Task
-script_given rows = and_last (folder_given (first_of (codes "out") rows)) (λ out. Script out)
+script_given rows =
+    and_then (folder_given (first_of (codes "events") rows)) (λ events.
+    and_last (folder_given (first_of (codes "out") rows)) (λ out. Script events out))
 
 abbrev pub load_given : List Row → Option Task
 load_given rows =
@@ -82,14 +99,22 @@ audit_given rows =
     and_then (folder_given (first_of (codes "dir") rows)) (λ named. and_last named (λ dir.
     Audit dir (has_flag (codes "archives") rows)))
 
+-- the file of declared events, and the folder whose archives get their metadata
+abbrev pub describe_given : List Row → Option Task
+describe_given rows =
+    and_then (folder_given (first_of (codes "events") rows)) (λ file. and_then file (λ events.
+    and_then (folder_given (first_of (codes "dir") rows)) (λ named. and_last named (λ dir. Describe events dir))))
+
 -- what the command that was entered asks for
 abbrev pub job_named : Text → List Row → Option Task
 job_named name rows =
     if bytes_eq name (codes "script") then script_given rows else
     (if bytes_eq name (codes "load") then load_given rows else
-    (if bytes_eq name (codes "audit") then audit_given rows else None))
+    (if bytes_eq name (codes "audit") then audit_given rows else
+    (if bytes_eq name (codes "describe") then describe_given rows else None)))
 
--- what these words ask for, the program's name before them: a run of a script, a load, or an audit; none is a bad command line
+-- what these words ask for, the program's name before them: a run of a script, a load, an audit, or typed metadata for archives;
+-- none is a bad command line
 unfoldable pub job_of : List Text → Option Task
 job_of words = option_and_then (λ entered. job_named entered.0 entered.1) (entered_by program_app words)
 

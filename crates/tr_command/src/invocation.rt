@@ -4,7 +4,7 @@ ghost use Rattle.std.specs.Prelude.{◌≡◌, ◌≤◌, ◌∷◌, IfOk, IfSom
 ghost use Rattle.std.specs.Vec.Iter.{into_iter_items};
 ghost use Rattle.clap.specs.Words.{app_of, first_of};
 ghost use Rattle.tr_command.specs.Ordinary.{rows_in};
-ghost use Rattle.tr_command.specs.Invocation.{IsWithinLimits, audit_given, count_given, folder_given, folder_named, job_named, job_of, load_given, program_app, script_given, task_of, words_of};
+ghost use Rattle.tr_command.specs.Invocation.{IsWithinLimits, audit_given, count_given, describe_given, folder_given, folder_named, job_named, job_of, load_given, program_app, recording_app, script_given, task_of, words_of};
 
 use crate::arguments::Argument::{self, Flag, Named, Placed};
 use crate::command_lines::{command_of, joined};
@@ -18,8 +18,11 @@ use tr_terms::limits::{MOST_FEEDERS, MOST_RECORDS, MOST_WORKERS};
 /// What the program is asked to do.
 #[derive(Clone, Copy, Debug, PartialEq, Eq)]
 pub enum Job<'a> {
-    /// Runs the script from standard input, and then writes its archives below a folder, if one is named.
+    /// Runs the script from standard input, with the events that a file declares, if one is named, and then writes its archives
+    /// below a folder, if one is named.
     Script {
+        /// The file that declares events, if one is named.
+        events: Option<&'a str>,
         /// The folder for the archives, if one is named.
         out: Option<&'a str>,
     },
@@ -43,10 +46,17 @@ pub enum Job<'a> {
         /// Whether each archive gets a line of its own.
         archives: bool,
     },
+    /// Gives the archives of the sessions below a folder the metadata of declared events.
+    Describe {
+        /// The file that declares them.
+        events: &'a str,
+        /// The folder.
+        dir: &'a str,
+    },
 }
 
-/// `script [--out DIR]`.
-static SCRIPT: [Argument; 1] = [Named("out")];
+/// `script [--events FILE] [--out DIR]`.
+static SCRIPT: [Argument; 2] = [Named("events"), Named("out")];
 
 /// `load --threads T --records R --workers W [--watch] [--out DIR]`.
 static LOAD: [Argument; 5] = [
@@ -60,16 +70,26 @@ static LOAD: [Argument; 5] = [
 /// `audit [--archives] DIR`.
 static AUDIT: [Argument; 2] = [Flag("archives"), Placed("dir")];
 
-/// The whole command line: `tracerd script ..`, `tracerd load ..` and `tracerd audit ..`.
-fn command_line<'a>(alloc: Global) -> Result<Command<'a>, AllocError>
-    ensures { IfOk result (λ c. app_of c ≡ program_app) }
+/// `describe --events FILE DIR`.
+static DESCRIBE: [Argument; 2] = [Named("events"), Placed("dir")];
+
+/// The commands that record: `tracerd script ..` and `tracerd load ..`.
+fn recording_line<'a>(alloc: Global) -> Result<Command<'a>, AllocError>
+    ensures { IfOk result (λ c. app_of c ≡ recording_app) }
 {
     let command = joined(
         Ok(Command::new(alloc, "tracerd")),
         command_of(alloc, "script", &SCRIPT),
     );
-    let command = joined(command, command_of(alloc, "load", &LOAD));
-    joined(command, command_of(alloc, "audit", &AUDIT))
+    joined(command, command_of(alloc, "load", &LOAD))
+}
+
+/// The whole command line: these, `tracerd audit ..` and `tracerd describe ..`.
+fn command_line<'a>(alloc: Global) -> Result<Command<'a>, AllocError>
+    ensures { IfOk result (λ c. app_of c ≡ program_app) }
+{
+    let command = joined(recording_line(alloc), command_of(alloc, "audit", &AUDIT));
+    joined(command, command_of(alloc, "describe", &DESCRIBE))
 }
 
 /// The arguments as a list.
@@ -116,7 +136,7 @@ pub fn with_program<'a>(alloc: Global, words: &[&'a str]) -> Result<Vec<&'a str>
 }
 
 /// What the words ask for, the program's name first. None if they are no command line of this program; that includes help,
-/// a folder with an empty name, and a load with a number that is missing, not a number, or not within its limits.
+/// a folder or a file with an empty name, and a load with a number that is missing, not a number, or not within its limits.
 pub fn job_of<'a>(alloc: Global, words: &'a [&'a str]) -> Result<Option<Job<'a>>, AllocError>
     ensures value { IfOk result (λ job. option_map task_of job ≡ job_of (map (λ w. w.now) words.entry.now)) }
     ensures within { IfOk result (λ job. IfSome job IsWithinLimits) }
@@ -139,17 +159,20 @@ fn job_named<'a>(name: &str, values: &Values<'_, 'a>) -> Option<Job<'a>>
         "script" => script_given(values),
         "load" => load_given(values),
         "audit" => audit_given(values),
+        "describe" => describe_given(values),
         _ => None,
     }
 }
 
-/// A run of a script, with its archives below a folder, if one is named.
+/// A run of a script, with declared events, if a file is named, and its archives below a folder, if one is named. None if either
+/// has an empty name.
 fn script_given<'a>(values: &Values<'_, 'a>) -> Option<Job<'a>>
     ensures value { option_map task_of result ≡ script_given (rows_in values.now) }
     ensures within { IfSome result IsWithinLimits }
 {
+    let events = folder_given(values, "events")?;
     let out = folder_given(values, "out")?;
-    Some(Job::Script { out })
+    Some(Job::Script { events, out })
 }
 
 /// A load of these numbers, watched if that is asked for, with its archives below a folder, if one is named.
@@ -181,6 +204,16 @@ fn audit_given<'a>(values: &Values<'_, 'a>) -> Option<Job<'a>>
     Some(Job::Audit { dir, archives })
 }
 
+/// The file of declared events, and the folder whose archives get their metadata. None if either has an empty name.
+fn describe_given<'a>(values: &Values<'_, 'a>) -> Option<Job<'a>>
+    ensures value { option_map task_of result ≡ describe_given (rows_in values.now) }
+    ensures within { IfSome result IsWithinLimits }
+{
+    let events = folder_given(values, "events")??;
+    let dir = folder_given(values, "dir")??;
+    Some(Job::Describe { events, dir })
+}
+
 /// The number of an option, if one is given and lies within these limits.
 fn count_given(values: &Values<'_, '_>, id: &str, least: u64, most: u64) -> Option<u64>
     ensures value { result ≡ count_given id.now least most (rows_in values.now) }
@@ -192,7 +225,7 @@ fn count_given(values: &Values<'_, '_>, id: &str, least: u64, most: u64) -> Opti
     }
 }
 
-/// The folder that is named, if one is; none if its name is empty.
+/// The folder or the file that is named, if one is; none if its name is empty.
 fn folder_given<'a>(values: &Values<'_, 'a>, id: &str) -> Option<Option<&'a str>>
     ensures { option_map folder_named result ≡ folder_given (first_of id.now (rows_in values.now)) }
 {

@@ -6,9 +6,9 @@ use Rattle.std.specs.Prelude.{ℤ, nat_le, option_copied}
 use Rattle.tr_console.specs.Steps.{reply_step, refusal_step}
 use Rattle.tr_console.specs.Text.{Text}
 use Rattle.tr_console.specs.World.{World, session_named}
-use Rattle.tr_console.specs.commands.Create.{create_step}
+use Rattle.tr_console.specs.commands.Create.{create_step, with_new}
 use Rattle.tr_console.specs.declared.line_fault.LineFault.TheVariants as fault
-use Rattle.tr_session.specs.Session.{new_session}
+use Rattle.tr_session.specs.Session.{declaring, new_session}
 use Rattle.tr_session_book.specs.declared.faults.SessionFault.TheVariants.{TooMany, NameTaken}
 use Rattle.tr_terms.specs.Names.{is_name}
 use Rattle.tr_terms.specs.Offsets.{IsOffset}
@@ -27,14 +27,14 @@ module _ {S : Type 0} where
   create-taken w name uuid offset mode u named good taken = rw (named, good, taken) refl
 
   pub create-full : (w : World S) (name uuid : Text) (offset : ℤ) (mode : SessionMode) (u : List ℕ) → is_name name ≡ true
-      → parsed uuid ≡ Some u → is_some (session_named name w) ≡ false → nat_le MOST_SESSIONS (length w) ≡ true
+      → parsed uuid ≡ Some u → is_some (session_named name w) ≡ false → nat_le MOST_SESSIONS (length w.sessions) ≡ true
       → create_step w name uuid offset mode ≡ refusal_step w (fault.Session TooMany)
   create-full w name uuid offset mode u named good free full = rw (named, good, free, full) refl
 
   pub create-new : (w : World S) (name uuid : Text) (offset : ℤ) (mode : SessionMode) (u : List ℕ) → is_name name ≡ true
-      → parsed uuid ≡ Some u → is_some (session_named name w) ≡ false → nat_le MOST_SESSIONS (length w) ≡ false
+      → parsed uuid ≡ Some u → is_some (session_named name w) ≡ false → nat_le MOST_SESSIONS (length w.sessions) ≡ false
       → create_step w name uuid offset mode
-      ≡ reply_step (w ++ (name, new_session u offset mode) ∷ []) (codes "created " ++ name)
+      ≡ reply_step (with_new name (declaring w.events (new_session u offset mode)) w) (codes "created " ++ name)
   create-new w name uuid offset mode u named good free few = rw (named, good, free, few) refl
 
 -- what isn't there is none, seen through the reference

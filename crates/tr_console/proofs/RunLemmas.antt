@@ -2,14 +2,15 @@
 use Rattle.std.proofs.Common.{◌≡◌, ◌∙◌, ◌≤◌, ◌<◌, ◌+◌, ◌⊎◌, ◌-◌, ℕ, inl, inr, refl, sym, ap, ap₂, subst, arith, List, [], ◌∷◌, ◌++◌, Option, length, take, append_assoc, append-nil, length-append}
 use Rattle.std.proofs.Math.Seq.{take-append_seam, take-append-add}
 use Rattle.std.proofs.lemmas.List.{take-append-le}
-use Rattle.tr_console.specs.World.{World}
+use Rattle.tr_console.specs.World.{World, no_sessions}
+use Rattle.tr_events.specs.Events.{Event}
 use Rattle.tr_console.proofs.LineSteps.{answers-append, answers-last, answers-push, line_step-text, one_if, one_if-le, refused_in-append, refused_in-last, refused_in-push, world_after-append, world_after-last, world_after-push}
 use Rattle.tr_console.proofs.ScriptAgreement.{agree-after, line-agree}
 use Rattle.tr_console.proofs.WorldAgreement.{StepsAgree}
 use Rattle.tr_console.specs.Agreement.{WorldsAgree}
 use Rattle.tr_console.specs.Gathering.{Gathers, WentInPart}
 use Rattle.tr_console.specs.Runs.{AnsweredSome, BrokeOff, Ran, WentTooFar, WroteSome, text_answered, world_left}
-use Rattle.tr_console.specs.Script.{answers, line_step, refused_in, script_text, text_step, world_after}
+use Rattle.tr_console.specs.Script.{answers, line_step, refused_in, script_text_by, text_step, world_after}
 use Rattle.tr_console.specs.Steps.{Step}
 use Rattle.tr_lines.proofs.LineLemmas.{AreLines, AreLines-push, joined, joined-push, lines_of-joined, lines_of-last, whole_lines-front, whole_lines_of-joined, whole_lines_of-last}
 use Rattle.tr_lines.specs.Lines.{HasNoFeed, lines_of, text_of_line, whole_lines_of, with_last}
@@ -26,7 +27,7 @@ use Rattle.tr_terms.specs.declared.limits.TheConstants.{LONGEST_PIECE, LONGEST_S
 -- ---- where a run is between two lines
 
 -- `out` of the answer went out, and the rest is gathered
-pub record Going (given now taken wrote_now : Option (List ℕ)) (gathered : Text) (reader : Reading) (world : World StreamState)
+pub record Going (events : List Event) (given now taken wrote_now : Option (List ℕ)) (gathered : Text) (reader : Reading) (world : World StreamState)
     (refused : ℕ) : Type 0 where
   pub seen : List (List ℕ)
   pub are_lines : AreLines seen
@@ -35,14 +36,14 @@ pub record Going (given now taken wrote_now : Option (List ℕ)) (gathered : Tex
   pub most : reader.total ≤ LONGEST_SCRIPT
   pub out : Text
   pub went : wrote_now ≡ and_then_bytes taken out
-  pub answered : out ++ gathered ≡ text_answered seen
-  pub left : world ≡ world_after by_state [] seen
-  pub refusals : refused ≡ refused_in by_history [] seen
+  pub answered : out ++ gathered ≡ text_answered events seen
+  pub left : world ≡ world_after by_state (no_sessions events) seen
+  pub refusals : refused ≡ refused_in by_history (no_sessions events) seen
   pub fits : refused + budget reader ≤ LONGEST_SCRIPT
 
-pub Going-first : (given taken : Option (List ℕ)) (gathered : Text) (reader : Reading) (world : World StreamState) → gathered ≡ []
-    → reader.held ≡ [] → reader.total ≡ 0 → world ≡ [] → Going given given taken taken gathered reader world 0
-Going-first given taken gathered reader world nothing empty total none = record {
+pub Going-first : (events : List Event) (given taken : Option (List ℕ)) (gathered : Text) (reader : Reading) (world : World StreamState) → gathered ≡ []
+    → reader.held ≡ [] → reader.total ≡ 0 → world ≡ no_sessions events → Going events given given taken taken gathered reader world 0
+Going-first events given taken gathered reader world nothing empty total none = record {
   seen = [];
   are_lines = tt;
   read = sym (ap (and_then_bytes given) empty ∙ and_then_bytes-none given);
@@ -63,8 +64,8 @@ in_part out left all more k is short =
     ∙ take-append-le (length out + k) (out ++ left) more (omega (arith, short, length-append out left))
     ∙ take-append-add out left k
 
-module _ (given now taken wrote_now : Option (List ℕ)) (gathered : Text) (reader : Reading) (world : World StreamState) (refused : ℕ)
-    (g : Going given now taken wrote_now gathered reader world refused) where
+module _ (events : List Event) (given now taken wrote_now : Option (List ℕ)) (gathered : Text) (reader : Reading) (world : World StreamState) (refused : ℕ)
+    (g : Going events given now taken wrote_now gathered reader world refused) where
   -- more was gathered, and some of it all went out
   module _ (wrote' : Option (List ℕ)) (more gathered' : Text) (h : Gathers wrote_now wrote' gathered more gathered') where
     went_on : wrote' ≡ and_then_bytes taken (g.out ++ h.out)
@@ -75,7 +76,7 @@ module _ (given now taken wrote_now : Option (List ℕ)) (gathered : Text) (read
 
   -- some of what is gathered went out
   pub Going-gathers : (wrote' : Option (List ℕ)) (gathered' : Text) → Gathers wrote_now wrote' gathered [] gathered'
-      → Going given now taken wrote' gathered' reader world refused
+      → Going events given now taken wrote' gathered' reader world refused
   Going-gathers wrote' gathered' h = record {
     seen = g.seen;
     are_lines = g.are_lines;
@@ -91,7 +92,7 @@ module _ (given now taken wrote_now : Option (List ℕ)) (gathered : Text) (read
   }
 
   -- all that is gathered went out
-  all_out : (wrote' : Option (List ℕ)) → wrote' ≡ and_then_bytes wrote_now gathered → wrote' ≡ and_then_bytes taken (text_answered g.seen)
+  all_out : (wrote' : Option (List ℕ)) → wrote' ≡ and_then_bytes wrote_now gathered → wrote' ≡ and_then_bytes taken (text_answered events g.seen)
   all_out wrote' is =
       is ∙ ap (λ k. and_then_bytes k gathered) g.went ∙ and_then_bytes-append taken g.out gathered ∙ ap (and_then_bytes taken) g.answered
 
@@ -130,24 +131,24 @@ module _ (given now taken wrote_now : Option (List ℕ)) (gathered : Text) (read
 
   -- the step that the text of a line takes, by what streams hold
   by_states : (raw : List ℕ) (text : Option (List ℕ)) → text ≡ text_of_line raw
-      → text_step by_state world text ≡ line_step by_state (world_after by_state [] g.seen) raw
-  by_states raw text is = ap₂ (text_step by_state) g.left is ∙ line_step-text by_state (world_after by_state [] g.seen) raw
+      → text_step by_state world text ≡ line_step by_state (world_after by_state (no_sessions events) g.seen) raw
+  by_states raw text is = ap₂ (text_step by_state) g.left is ∙ line_step-text by_state (world_after by_state (no_sessions events) g.seen) raw
 
   -- both say the same
-  agrees : (raw : List ℕ) → StepsAgree (line_step by_state (world_after by_state [] g.seen) raw)
-      (line_step by_history (world_after by_history [] g.seen) raw)
-  agrees raw = line-agree raw (world_after by_state [] g.seen) (world_after by_history [] g.seen) (agree-after g.seen [] [] tt)
+  agrees : (raw : List ℕ) → StepsAgree (line_step by_state (world_after by_state (no_sessions events) g.seen) raw)
+      (line_step by_history (world_after by_history (no_sessions events) g.seen) raw)
+  agrees raw = line-agree raw (world_after by_state (no_sessions events) g.seen) (world_after by_history (no_sessions events) g.seen) (agree-after g.seen (no_sessions events) (no_sessions events) (record { sessions = tt; events = refl }))
 
   same_text : (raw : List ℕ) (text : Option (List ℕ)) → text ≡ text_of_line raw
-      → (text_step by_state world text).text ≡ (line_step by_history (world_after by_history [] g.seen) raw).text
+      → (text_step by_state world text).text ≡ (line_step by_history (world_after by_history (no_sessions events) g.seen) raw).text
   same_text raw text is = ap (λ (s : Step StreamState). s.text) (by_states raw text is) ∙ (agrees raw).text
 
   -- what went out, what is gathered, and the next answer
   with_next : (raw : List ℕ) (text : Option (List ℕ)) → text ≡ text_of_line raw
-      → g.out ++ (gathered ++ (text_step by_state world text).text) ≡ text_answered (g.seen ++ raw ∷ [])
+      → g.out ++ (gathered ++ (text_step by_state world text).text) ≡ text_answered events (g.seen ++ raw ∷ [])
   with_next raw text is =
       sym (append_assoc g.out gathered (text_step by_state world text).text) ∙ ap₂ (λ t u. t ++ u) g.answered (same_text raw text is)
-      ∙ sym (answers-push by_history [] g.seen raw)
+      ∙ sym (answers-push by_history (no_sessions events) g.seen raw)
 
   module _ (after wrote' : Option (List ℕ)) (gathered' : Text) (reader' : Reading) (world' : World StreamState) (refused' : ℕ)
       (text : Option (List ℕ)) (says : text ≡ reader'.line)
@@ -157,31 +158,31 @@ module _ (given now taken wrote_now : Option (List ℕ)) (gathered : Text) (read
     went_more : wrote' ≡ and_then_bytes taken (g.out ++ h.out)
     went_more = went_on wrote' (text_step by_state world text).text gathered' h
 
-    answered_more : (raw : List ℕ) → reader'.line ≡ text_of_line raw → (g.out ++ h.out) ++ gathered' ≡ text_answered (g.seen ++ raw ∷ [])
+    answered_more : (raw : List ℕ) → reader'.line ≡ text_of_line raw → (g.out ++ h.out) ++ gathered' ≡ text_answered events (g.seen ++ raw ∷ [])
     answered_more raw is = still_all wrote' (text_step by_state world text).text gathered' h ∙ with_next raw text (says ∙ is)
 
-    refused_more : (raw : List ℕ) → reader'.line ≡ text_of_line raw → refused' ≡ refused_in by_history [] (g.seen ++ raw ∷ [])
+    refused_more : (raw : List ℕ) → reader'.line ≡ text_of_line raw → refused' ≡ refused_in by_history (no_sessions events) (g.seen ++ raw ∷ [])
     refused_more raw is =
         refusals ∙ ap₂ (λ n b. n + one_if b) g.refusals
         (ap (λ (s : Step StreamState). s.is_refused) (by_states raw text (says ∙ is)) ∙ (agrees raw).is_refused)
-        ∙ sym (refused_in-push by_history [] g.seen raw)
+        ∙ sym (refused_in-push by_history (no_sessions events) g.seen raw)
 
-    left_more : (raw : List ℕ) → reader'.line ≡ text_of_line raw → world' ≡ world_after by_state [] (g.seen ++ raw ∷ [])
-    left_more raw is = left ∙ ap (λ (s : Step StreamState). s.world) (by_states raw text (says ∙ is)) ∙ sym (world_after-push by_state [] g.seen raw)
+    left_more : (raw : List ℕ) → reader'.line ≡ text_of_line raw → world' ≡ world_after by_state (no_sessions events) (g.seen ++ raw ∷ [])
+    left_more raw is = left ∙ ap (λ (s : Step StreamState). s.world) (by_states raw text (says ∙ is)) ∙ sym (world_after-push by_state (no_sessions events) g.seen raw)
 
     -- the sessions that are left are the script's
     agree_left : (raw : List ℕ) → reader'.line ≡ text_of_line raw → (script : List ℕ)
-        → lines_of script ≡ g.seen ++ with_last raw → WorldsAgree world' (world_left script)
+        → lines_of script ≡ g.seen ++ with_last raw → WorldsAgree world' (world_left events script)
     agree_left raw is script lines =
-        let seen : world_after by_history [] (g.seen ++ raw ∷ []) ≡ world_left script =
-        world_after-append by_history [] g.seen (raw ∷ []) ∙ world_after-last by_history (world_after by_history [] g.seen) raw
-        ∙ sym (world_after-append by_history [] g.seen (with_last raw)) ∙ ap (world_after by_history []) (sym lines) in
-        subst (λ (v : World StreamState). WorldsAgree v (world_left script)) (sym (left_more raw is))
-        (subst (WorldsAgree (world_after by_state [] (g.seen ++ raw ∷ []))) seen (agree-after (g.seen ++ raw ∷ []) [] [] tt))
+        let seen : world_after by_history (no_sessions events) (g.seen ++ raw ∷ []) ≡ world_left events script =
+        world_after-append by_history (no_sessions events) g.seen (raw ∷ []) ∙ world_after-last by_history (world_after by_history (no_sessions events) g.seen) raw
+        ∙ sym (world_after-append by_history (no_sessions events) g.seen (with_last raw)) ∙ ap (world_after by_history (no_sessions events)) (sym lines) in
+        subst (λ (v : World StreamState). WorldsAgree v (world_left events script)) (sym (left_more raw is))
+        (subst (WorldsAgree (world_after by_state (no_sessions events) (g.seen ++ raw ∷ []))) seen (agree-after (g.seen ++ raw ∷ []) (no_sessions events) (no_sessions events) (record { sessions = tt; events = refl })))
 
     -- a line was answered
     pub Going-line : ReadsLine now after reader reader' → budget reader' < budget reader → reader'.total ≤ LONGEST_SCRIPT
-        → Going given after taken wrote' gathered' reader' world' refused'
+        → Going events given after taken wrote' gathered' reader' world' refused'
     Going-line r less most = record {
       seen = g.seen ++ r.raw ∷ [];
       are_lines = AreLines-push g.seen r.raw g.are_lines r.no_feed;
@@ -207,7 +208,7 @@ module _ (given now taken wrote_now : Option (List ℕ)) (gathered : Text) (read
 
     -- the last line was answered, and all went out
     pub Going-last : (wrote'' : Option (List ℕ)) → wrote'' ≡ and_then_bytes wrote' gathered' → ReadsOn now after reader reader'
-        → reader'.held ≡ [] → reader'.total ≤ LONGEST_SCRIPT → Ran given after taken wrote'' world' refused'
+        → reader'.held ≡ [] → reader'.total ≤ LONGEST_SCRIPT → Ran events given after taken wrote'' world' refused'
     Going-last wrote'' all_went r none most =
         let lines = lines_of-joined g.seen r.raw g.are_lines ∙ ap (λ ls. g.seen ++ ls) (lines_of-last r.raw r.no_feed) in
         let all : reader.held ++ r.more ≡ r.raw = r.bytes ∙ ap (λ bs. r.raw ++ bs) none ∙ append-nil r.raw in
@@ -216,12 +217,12 @@ module _ (given now taken wrote_now : Option (List ℕ)) (gathered : Text) (read
           fits = within_limit reader' r.more r.raw all r.total most;
           read = more_read after r.more _ r.came all;
           wrote = all_went ∙ ap (λ k. and_then_bytes k gathered') went_more ∙ and_then_bytes-append taken (g.out ++ h.out) gathered'
-              ∙ ap (and_then_bytes taken) (answered_more r.raw r.text ∙ answers-append by_history [] g.seen (r.raw ∷ [])
-              ∙ ap (λ t. text_answered g.seen ++ t) (answers-last by_history (world_after by_history [] g.seen) r.raw)
-              ∙ sym (answers-append by_history [] g.seen (with_last r.raw)) ∙ ap text_answered (sym lines));
-          refusals = refused_more r.raw r.text ∙ refused_in-append by_history [] g.seen (r.raw ∷ [])
-              ∙ ap (λ n. refused_in by_history [] g.seen + n) (refused_in-last by_history (world_after by_history [] g.seen) r.raw)
-              ∙ sym (refused_in-append by_history [] g.seen (with_last r.raw)) ∙ ap (refused_in by_history []) (sym lines);
+              ∙ ap (and_then_bytes taken) (answered_more r.raw r.text ∙ answers-append by_history (no_sessions events) g.seen (r.raw ∷ [])
+              ∙ ap (λ t. text_answered events g.seen ++ t) (answers-last by_history (world_after by_history (no_sessions events) g.seen) r.raw)
+              ∙ sym (answers-append by_history (no_sessions events) g.seen (with_last r.raw)) ∙ ap (text_answered events) (sym lines));
+          refusals = refused_more r.raw r.text ∙ refused_in-append by_history (no_sessions events) g.seen (r.raw ∷ [])
+              ∙ ap (λ n. refused_in by_history (no_sessions events) g.seen + n) (refused_in-last by_history (world_after by_history (no_sessions events) g.seen) r.raw)
+              ∙ sym (refused_in-append by_history (no_sessions events) g.seen (with_last r.raw)) ∙ ap (refused_in by_history (no_sessions events)) (sym lines);
           sessions = agree_left r.raw r.text (joined g.seen ++ r.raw) lines;
         }
 
@@ -233,19 +234,19 @@ module _ (given now taken wrote_now : Option (List ℕ)) (gathered : Text) (read
 
   -- the source failed: the line that broke off isn't answered
   pub Going-breaks : (after wrote' : Option (List ℕ)) (reader' : Reading) → wrote' ≡ and_then_bytes wrote_now gathered
-      → reader'.total ≤ LONGEST_SCRIPT → ReadsAll now after reader reader' → BrokeOff given after taken wrote'
+      → reader'.total ≤ LONGEST_SCRIPT → ReadsAll now after reader reader' → BrokeOff events given after taken wrote'
   Going-breaks after wrote' reader' all_went most r =
       let all : reader.held ++ r.on.more ≡ r.on.raw = r.on.bytes ∙ ap (λ bs. r.on.raw ++ bs) r.nothing_held ∙ append-nil r.on.raw in
       record {
         script = joined g.seen ++ r.on.raw;
         fits = within_limit reader' r.on.more r.on.raw all r.on.total most;
         read = more_read after r.on.more _ r.on.came all;
-        wrote = all_out wrote' all_went ∙ ap (λ ls. and_then_bytes taken (text_answered ls)) (sym (whole_so_far r.on.raw r.on.no_feed));
+        wrote = all_out wrote' all_went ∙ ap (λ ls. and_then_bytes taken (text_answered events ls)) (sym (whole_so_far r.on.raw r.on.no_feed));
       }
 
   -- the script is too long
   pub Going-too_far : (after wrote' : Option (List ℕ)) (reader' : Reading) → wrote' ≡ and_then_bytes wrote_now gathered
-      → GoesTooFar now after reader reader' → WentTooFar given after taken wrote'
+      → GoesTooFar now after reader reader' → WentTooFar events given after taken wrote'
   Going-too_far after wrote' reader' all_went r =
       let on = r.all.on in
       let came : r.within ≡ and_then_bytes given (joined g.seen ++ on.raw) =
@@ -267,7 +268,7 @@ module _ (given now taken wrote_now : Option (List ℕ)) (gathered : Text) (read
           length-append (joined g.seen) on.raw,
         );
         read = r.came ∙ ap (λ k. and_then_bytes k (r.byte ∷ [])) came ∙ and_then_bytes-append given (joined g.seen ++ on.raw) (r.byte ∷ []);
-        wrote = all_out wrote' all_went ∙ ap (λ ls. and_then_bytes taken (text_answered ls)) (sym (whole_so_far on.raw on.no_feed));
+        wrote = all_out wrote' all_went ∙ ap (λ ls. and_then_bytes taken (text_answered events ls)) (sym (whole_so_far on.raw on.no_feed));
       }
 
   -- of what came before the last piece, at most one whole line isn't seen
@@ -288,13 +289,13 @@ module _ (given now taken wrote_now : Option (List ℕ)) (gathered : Text) (read
   -- an allocation failed while a line was read
   pub Going-memory : (after wrote' : Option (List ℕ)) (reader' : Reading) → wrote' ≡ and_then_bytes wrote_now gathered
       → reader'.total ≤ LONGEST_SCRIPT → length reader'.held ≤ LONGEST_PIECE → ReadsOn now after reader reader'
-      → AnsweredSome given after taken wrote'
+      → AnsweredSome events given after taken wrote'
   Going-memory after wrote' reader' all_went most held r = record {
     script = joined g.seen ++ (r.raw ++ reader'.held);
     count = length g.seen;
     fits = within_limit reader' r.more (r.raw ++ reader'.held) r.bytes r.total most;
     read = more_read after r.more _ r.came r.bytes;
-    wrote = all_out wrote' all_went ∙ ap (λ ls. and_then_bytes taken (text_answered ls))
+    wrote = all_out wrote' all_went ∙ ap (λ ls. and_then_bytes taken (text_answered events ls))
         (sym (ap (take (length g.seen)) (whole_seen (r.raw ++ reader'.held))
         ∙ first_seen (whole_lines_of (r.raw ++ reader'.held))));
     reached = reached_by (joined g.seen ++ r.raw) reader'.held (joined g.seen ++ (r.raw ++ reader'.held))
@@ -304,11 +305,11 @@ module _ (given now taken wrote_now : Option (List ℕ)) (gathered : Text) (read
 
   -- the sink failed before more was read
   pub Going-wrote : (content after wrote' : Option (List ℕ)) → after ≡ now → WentInPart wrote_now wrote' gathered
-      → WroteSome given after taken wrote' content
+      → WroteSome events given after taken wrote' content
   Going-wrote content after wrote' same w =
       let script = joined g.seen ++ reader.held in
-      let lines = ap text_answered (lines_of-joined g.seen reader.held g.are_lines) ∙ answers-append by_history [] g.seen (lines_of reader.held) in
-      let whole = ap text_answered (whole_seen reader.held) ∙ answers-append by_history [] g.seen (whole_lines_of reader.held) in
+      let lines = ap (text_answered events) (lines_of-joined g.seen reader.held g.are_lines) ∙ answers-append by_history (no_sessions events) g.seen (lines_of reader.held) in
+      let whole = ap (text_answered events) (whole_seen reader.held) ∙ answers-append by_history (no_sessions events) g.seen (whole_lines_of reader.held) in
       record {
         script = script;
         count = length g.out + w.count;
@@ -316,7 +317,7 @@ module _ (given now taken wrote_now : Option (List ℕ)) (gathered : Text) (read
         read = same ∙ g.read;
         wrote = w.went ∙ ap (λ k. and_then_bytes k (take w.count gathered)) g.went ∙ and_then_bytes-append taken g.out (take w.count gathered)
             ∙ ap (and_then_bytes taken) (sym (ap (take (length g.out + w.count)) lines
-            ∙ in_part g.out gathered (text_answered g.seen) (answers by_history (world_after by_history [] g.seen) (lines_of reader.held))
+            ∙ in_part g.out gathered (text_answered events g.seen) (answers by_history (world_after by_history (no_sessions events) g.seen) (lines_of reader.held))
             w.count g.answered w.within));
         within = inl (omega (
           arith,
@@ -324,7 +325,7 @@ module _ (given now taken wrote_now : Option (List ℕ)) (gathered : Text) (read
           ap length g.answered,
           length-append g.out gathered,
           ap length whole,
-          length-append (text_answered g.seen) (answers by_history (world_after by_history [] g.seen) (whole_lines_of reader.held)),
+          length-append (text_answered events g.seen) (answers by_history (world_after by_history (no_sessions events) g.seen) (whole_lines_of reader.held)),
         ));
       }
 
@@ -339,9 +340,9 @@ module _ (given now taken wrote_now : Option (List ℕ)) (gathered : Text) (read
     pub fits : length script ≤ LONGEST_SCRIPT
     pub text : reader'.line ≡ text_of_line raw
     pub read : after ≡ and_then_bytes given script
-    pub answer : script_text script ≡ text_answered (g.seen ++ raw ∷ []) ++ more
+    pub answer : script_text_by events script ≡ text_answered events (g.seen ++ raw ∷ []) ++ more
     pub whole : whole_lines_of script ≡ g.seen ++ lines
-    pub within : (length (text_answered (g.seen ++ raw ∷ [])) ≤ length (text_answered (whole_lines_of script))) ⊎ (after ≡ content)
+    pub within : (length (text_answered events (g.seen ++ raw ∷ [])) ≤ length (text_answered events (whole_lines_of script))) ⊎ (after ≡ content)
     pub reached : length (whole_lines_of (take (length script - LONGEST_PIECE) script)) ≤ length g.seen + 1
 
   Comes-whole : (content after : Option (List ℕ)) (reader' : Reading) → reader'.total ≤ LONGEST_SCRIPT
@@ -350,23 +351,23 @@ module _ (given now taken wrote_now : Option (List ℕ)) (gathered : Text) (read
       let are = AreLines-push g.seen r.raw g.are_lines r.no_feed in
       let lines = lines_of-joined (g.seen ++ r.raw ∷ []) reader'.held are in
       let whole = whole_lines_of-joined (g.seen ++ r.raw ∷ []) reader'.held are in
-      let reached = ap text_answered whole ∙ answers-append by_history [] (g.seen ++ r.raw ∷ []) (whole_lines_of reader'.held) in
+      let reached = ap (text_answered events) whole ∙ answers-append by_history (no_sessions events) (g.seen ++ r.raw ∷ []) (whole_lines_of reader'.held) in
       record {
         raw = r.raw;
         script = joined (g.seen ++ r.raw ∷ []) ++ reader'.held;
-        more = answers by_history (world_after by_history [] (g.seen ++ r.raw ∷ [])) (lines_of reader'.held);
+        more = answers by_history (world_after by_history (no_sessions events) (g.seen ++ r.raw ∷ [])) (lines_of reader'.held);
         lines = r.raw ∷ whole_lines_of reader'.held;
         fits = subst (λ (bs : List ℕ). length bs ≤ LONGEST_SCRIPT) (joined-line r.raw reader'.held)
             (within_limit reader' r.more (r.raw ++ 10 ∷ reader'.held) r.bytes r.total most);
         text = r.text;
         read = more_read after r.more _ r.came r.bytes ∙ ap (and_then_bytes given) (joined-line r.raw reader'.held);
-        answer = ap text_answered lines ∙ answers-append by_history [] (g.seen ++ r.raw ∷ []) (lines_of reader'.held);
+        answer = ap (text_answered events) lines ∙ answers-append by_history (no_sessions events) (g.seen ++ r.raw ∷ []) (lines_of reader'.held);
         whole = whole ∙ append_assoc g.seen (r.raw ∷ []) (whole_lines_of reader'.held);
         within = inl (omega (
           arith,
           ap length reached,
-          length-append (text_answered (g.seen ++ r.raw ∷ []))
-              (answers by_history (world_after by_history [] (g.seen ++ r.raw ∷ [])) (whole_lines_of reader'.held)),
+          length-append (text_answered events (g.seen ++ r.raw ∷ []))
+              (answers by_history (world_after by_history (no_sessions events) (g.seen ++ r.raw ∷ [])) (whole_lines_of reader'.held)),
         ));
         reached = reached_by (joined (g.seen ++ r.raw ∷ [])) reader'.held _ refl held
             (omega (arith, ap length (whole_joined (g.seen ++ r.raw ∷ []) are), length-append g.seen (r.raw ∷ [])));
@@ -386,9 +387,9 @@ module _ (given now taken wrote_now : Option (List ℕ)) (gathered : Text) (read
         fits = within_limit reader' on.more on.raw all on.total most;
         text = on.text;
         read = more_read after on.more _ on.came all;
-        answer = ap text_answered lines ∙ answers-append by_history [] g.seen (with_last on.raw)
-            ∙ ap (λ t. text_answered g.seen ++ t) (sym (answers-last by_history (world_after by_history [] g.seen) on.raw))
-            ∙ sym (answers-append by_history [] g.seen (on.raw ∷ [])) ∙ sym (append-nil (text_answered (g.seen ++ on.raw ∷ [])));
+        answer = ap (text_answered events) lines ∙ answers-append by_history (no_sessions events) g.seen (with_last on.raw)
+            ∙ ap (λ t. text_answered events g.seen ++ t) (sym (answers-last by_history (world_after by_history (no_sessions events) g.seen) on.raw))
+            ∙ sym (answers-append by_history (no_sessions events) g.seen (on.raw ∷ [])) ∙ sym (append-nil (text_answered events (g.seen ++ on.raw ∷ [])));
         whole = whole_seen on.raw ∙ ap (λ ls. g.seen ++ ls) (whole_lines_of-last on.raw on.no_feed);
         within = inr end;
         reached = reached_by (joined g.seen ++ on.raw) [] _ (sym (append-nil (joined g.seen ++ on.raw))) (omega arith)
@@ -404,8 +405,8 @@ module _ (given now taken wrote_now : Option (List ℕ)) (gathered : Text) (read
 
   -- the sink failed: a prefix of the answer went out
   Comes-in_part : (content after wrote' wrote'' : Option (List ℕ)) (reader' : Reading) (c : Comes content after reader') (out left : Text)
-      → wrote' ≡ and_then_bytes taken out → out ++ left ≡ text_answered (g.seen ++ c.raw ∷ []) → WentInPart wrote' wrote'' left
-      → WroteSome given after taken wrote'' content
+      → wrote' ≡ and_then_bytes taken out → out ++ left ≡ text_answered events (g.seen ++ c.raw ∷ []) → WentInPart wrote' wrote'' left
+      → WroteSome events given after taken wrote'' content
   Comes-in_part content after wrote' wrote'' reader' c out left went is w = record {
     script = c.script;
     count = length out + w.count;
@@ -413,7 +414,7 @@ module _ (given now taken wrote_now : Option (List ℕ)) (gathered : Text) (read
     read = c.read;
     wrote = w.went ∙ ap (λ k. and_then_bytes k (take w.count left)) went ∙ and_then_bytes-append taken out (take w.count left)
         ∙ ap (and_then_bytes taken) (sym (ap (take (length out + w.count)) c.answer
-        ∙ in_part out left (text_answered (g.seen ++ c.raw ∷ [])) c.more w.count is w.within));
+        ∙ in_part out left (text_answered events (g.seen ++ c.raw ∷ [])) c.more w.count is w.within));
     within = elim c.within [
       | inl before ↦ inl (omega (arith, before, w.within, ap length is, length-append out left))
       | inr end ↦ inr end
@@ -423,7 +424,7 @@ module _ (given now taken wrote_now : Option (List ℕ)) (gathered : Text) (read
   -- .. while the answer to the line was gathered
   pub Comes-wrote : (content after wrote' : Option (List ℕ)) (reader' : Reading) (text : Option (List ℕ)) → text ≡ reader'.line
       → WentInPart wrote_now wrote' (gathered ++ (text_step by_state world text).text) → Comes content after reader'
-      → WroteSome given after taken wrote' content
+      → WroteSome events given after taken wrote' content
   Comes-wrote content after wrote' reader' text says w c =
       Comes-in_part content after wrote_now wrote' reader' c g.out (gathered ++ (text_step by_state world text).text) g.went
       (with_next c.raw text (says ∙ c.text)) w
@@ -431,7 +432,7 @@ module _ (given now taken wrote_now : Option (List ℕ)) (gathered : Text) (read
   -- .. after it was gathered
   pub Comes-gathered : (content after wrote' wrote'' : Option (List ℕ)) (gathered' : Text) (reader' : Reading) (text : Option (List ℕ))
       → text ≡ reader'.line → Gathers wrote_now wrote' gathered (text_step by_state world text).text gathered'
-      → WentInPart wrote' wrote'' gathered' → Comes content after reader' → WroteSome given after taken wrote'' content
+      → WentInPart wrote' wrote'' gathered' → Comes content after reader' → WroteSome events given after taken wrote'' content
   Comes-gathered content after wrote' wrote'' gathered' reader' text says h w c =
       Comes-in_part content after wrote' wrote'' reader' c (g.out ++ h.out) gathered'
       (went_on wrote' (text_step by_state world text).text gathered' h)
@@ -439,12 +440,12 @@ module _ (given now taken wrote_now : Option (List ℕ)) (gathered : Text) (read
 
   -- an allocation failed while a line was answered
   pub Comes-memory : (content after wrote' : Option (List ℕ)) (reader' : Reading) → wrote' ≡ and_then_bytes wrote_now gathered
-      → Comes content after reader' → AnsweredSome given after taken wrote'
+      → Comes content after reader' → AnsweredSome events given after taken wrote'
   Comes-memory content after wrote' reader' all_went c = record {
     script = c.script;
     count = length g.seen;
     fits = c.fits;
     read = c.read;
-    wrote = all_out wrote' all_went ∙ ap (λ ls. and_then_bytes taken (text_answered ls)) (sym (ap (take (length g.seen)) c.whole ∙ first_seen c.lines));
+    wrote = all_out wrote' all_went ∙ ap (λ ls. and_then_bytes taken (text_answered events ls)) (sym (ap (take (length g.seen)) c.whole ∙ first_seen c.lines));
     reached = c.reached;
   }

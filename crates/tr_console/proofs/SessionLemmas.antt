@@ -7,7 +7,8 @@ use Rattle.std.specs.Prelude.{◌&&◌, String, option_map, slice_get}
 use Rattle.std.specs.Str.{bytes_eq}
 use Rattle.std.specs.String.{string_bytes}
 use Rattle.tr_console.specs.Text.{Text}
-use Rattle.tr_console.specs.World.{World, session_named, with_session}
+use Rattle.tr_console.specs.World.{World, session_named, with_session, world_of}
+use Rattle.tr_events.specs.Events.{Event}
 use Rattle.tr_session.specs.Session.{SessionOf}
 use Rattle.tr_session_book.proofs.NameLemmas.{lookup-by_name, set_value-by_name}
 use Rattle.tr_session_book.specs.Names.{AreNamed, by_name}
@@ -18,13 +19,14 @@ is_named name key = bytes_eq name (string_bytes key)
 
 module _ {Z S : Type 0} where
   -- what the map has at a name is the world's session of that name
-  pub named-is : (name : Text) (es : List (String Z × SessionOf S)) → lookup (is_named name) es ≡ session_named name (by_name es)
-  named-is name es = lookup-by_name name es
+  pub named-is : (name : Text) (es : List (String Z × SessionOf S)) (events : List Event)
+      → lookup (is_named name) es ≡ session_named name (world_of (by_name es) events)
+  named-is name es events = lookup-by_name name es
 
   -- a session in its place is the world's
-  pub set-is : (name : Text) (es : List (String Z × SessionOf S)) (s : SessionOf S)
-      → by_name (set_value (is_named name) es s) ≡ with_session name (by_name es) s
-  set-is name es s = set_value-by_name name es s
+  pub set-is : (name : Text) (es : List (String Z × SessionOf S)) (events : List Event) (s : SessionOf S)
+      → world_of (by_name (set_value (is_named name) es s)) events ≡ with_session name (world_of (by_name es) events) s
+  set-is name es events s = ap (λ (f : List (Text × SessionOf S)). world_of f events) (set_value-by_name name es s)
 
   -- what the map has at a place is what the world has there
   pub entry-is : (es : List (String Z × SessionOf S)) (k : ℕ) (o : Option (String Z × SessionOf S)) → o ≡ slice_get es k
@@ -50,14 +52,19 @@ module _ {Z S : Type 0} where
       → AreNamed (by_name (set_value (is_named name) es s))
   names-kept name es s are = set-names (is_named name) es s ∙ are
 
--- the session of a name in its own place leaves the world as it is
-pub same-session : {S : Type 0} → (name : Text) (w : World S) (s : SessionOf S) → session_named name w ≡ Some s → with_session name w s ≡ w
-same-session name [] s found = refl
-same-session {S = S} name (e ∷ es) s found = go (bytes_eq name e.0) refl (λ later. same-session name es s later)
+-- the session of a name in its own place leaves the sessions as they are
+same-in : {S : Type 0} → (name : Text) (es : List (Text × SessionOf S)) (s : SessionOf S) → lookup (bytes_eq name) es ≡ Some s
+    → set_value (bytes_eq name) es s ≡ es
+same-in name [] s found = refl
+same-in {S = S} name (e ∷ es) s found = go (bytes_eq name e.0) refl (λ later. same-in name es s later)
   where
-    go : (b : Bool) → bytes_eq name e.0 ≡ b → (session_named name es ≡ Some s → with_session name es s ≡ es) → with_session name (e ∷ es) s ≡ e ∷ es
+    go : (b : Bool) → bytes_eq name e.0 ≡ b → (lookup (bytes_eq name) es ≡ Some s → set_value (bytes_eq name) es s ≡ es)
+        → set_value (bytes_eq name) (e ∷ es) s ≡ e ∷ es
     go true t rest =
         let here : Some e.1 ≡ Some s = rw t at found in
         let same : e.1 ≡ s = cc in
         rw t (ap (λ (u : SessionOf S). (e.0, u) ∷ es) (sym same))
-    go false t rest = rw t (ap (λ w. e ∷ w) (rest (rw t at found)))
+    go false t rest = rw t (ap (λ f. e ∷ f) (rest (rw t at found)))
+
+pub same-session : {S : Type 0} → (name : Text) (w : World S) (s : SessionOf S) → session_named name w ≡ Some s → with_session name w s ≡ w
+same-session {S = S} name w s found = ap (λ (f : List (Text × SessionOf S)). world_of f w.events) (same-in name w.sessions s found)

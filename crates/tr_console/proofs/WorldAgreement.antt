@@ -1,8 +1,10 @@
 -- The sessions of a console by what their streams hold, and by their histories: what is done with them agrees.
-use Rattle.std.proofs.Common.{Bool, Err, None, Ok, Option, Result, Some, [], ap, arith, false, is_err, is_some, length, refl, subst, sym, true, ◌++◌, ◌∙◌, ◌∷◌, ◌≡◌}
+use Rattle.std.proofs.Common.{Bool, Err, List, None, Ok, Option, Result, Some, [], ap, arith, false, is_err, is_some, length, refl, subst, sym, true, ◌++◌, ◌∙◌, ◌∷◌, ◌≡◌}
 use Rattle.std.proofs.lemmas.Grind.{common_steps}
+use Rattle.std.specs.Map.{lookup, set_value}
 use Rattle.std.specs.Str.{bytes_eq}
-use Rattle.tr_console.specs.Agreement.{WorldsAgree}
+use Rattle.tr_console.specs.commands.Create.{with_new}
+use Rattle.tr_console.specs.Agreement.{AllAgreeByName, WorldsAgree}
 use Rattle.tr_console.specs.Steps.{Step, addition_step, call_step, line_of, session_step}
 use Rattle.tr_console.specs.Text.{Text}
 use Rattle.tr_console.specs.World.{World, session_named, with_session}
@@ -26,41 +28,62 @@ FoundAgree None (Some b) = ⊥
 FoundAgree (Some a) None = ⊥
 FoundAgree (Some a) (Some b) = SessionsAgree a b
 
-pub found-agree : (name : Text) (v : World StreamState) (w : World Traced) → WorldsAgree v w → FoundAgree (session_named name v) (session_named name w)
-found-agree name [] [] is = tt
-found-agree name [] (f ∷ fs) is = absurd is
-found-agree name (e ∷ es) [] is = absurd is
-found-agree name (e ∷ es) (f ∷ fs) is = go (bytes_eq name e.0) refl (found-agree name es fs is.2)
+-- the sessions by name, as lists
+abbrev Named : Type 0 → Type 0
+Named S = List (Text × SessionOf S)
+
+found-in : (name : Text) (es : Named StreamState) (fs : Named Traced) → AllAgreeByName es fs
+    → FoundAgree (lookup (bytes_eq name) es) (lookup (bytes_eq name) fs)
+found-in name [] [] is = tt
+found-in name [] (f ∷ fs) is = absurd is
+found-in name (e ∷ es) [] is = absurd is
+found-in name (e ∷ es) (f ∷ fs) is = go (bytes_eq name e.0) refl (found-in name es fs is.2)
   where
-    go : (b : Bool) → bytes_eq name e.0 ≡ b → FoundAgree (session_named name es) (session_named name fs)
-        → FoundAgree (session_named name (e ∷ es)) (session_named name (f ∷ fs))
+    go : (b : Bool) → bytes_eq name e.0 ≡ b → FoundAgree (lookup (bytes_eq name) es) (lookup (bytes_eq name) fs)
+        → FoundAgree (lookup (bytes_eq name) (e ∷ es)) (lookup (bytes_eq name) (f ∷ fs))
     go true x rest = let y : bytes_eq name f.0 ≡ true = ap (bytes_eq name) (sym is.0) ∙ x in rw (x, y) is.1
     go false x rest = let y : bytes_eq name f.0 ≡ false = ap (bytes_eq name) (sym is.0) ∙ x in rw (x, y) rest
 
-pub set-agree : (name : Text) (v : World StreamState) (w : World Traced) (a : SessionOf StreamState) (b : SessionOf Traced)
-    → WorldsAgree v w → SessionsAgree a b → WorldsAgree (with_session name v a) (with_session name w b)
-set-agree name [] [] a b is new = tt
-set-agree name [] (f ∷ fs) a b is new = absurd is
-set-agree name (e ∷ es) [] a b is new = absurd is
-set-agree name (e ∷ es) (f ∷ fs) a b is new = go (bytes_eq name e.0) refl (set-agree name es fs a b is.2 new)
+pub found-agree : (name : Text) (v : World StreamState) (w : World Traced) → WorldsAgree v w → FoundAgree (session_named name v) (session_named name w)
+found-agree name v w is = found-in name v.sessions w.sessions is.sessions
+
+set-in : (name : Text) (es : Named StreamState) (fs : Named Traced) (a : SessionOf StreamState) (b : SessionOf Traced)
+    → AllAgreeByName es fs → SessionsAgree a b → AllAgreeByName (set_value (bytes_eq name) es a) (set_value (bytes_eq name) fs b)
+set-in name [] [] a b is new = tt
+set-in name [] (f ∷ fs) a b is new = absurd is
+set-in name (e ∷ es) [] a b is new = absurd is
+set-in name (e ∷ es) (f ∷ fs) a b is new = go (bytes_eq name e.0) refl (set-in name es fs a b is.2 new)
   where
-    go : (t : Bool) → bytes_eq name e.0 ≡ t → WorldsAgree (with_session name es a) (with_session name fs b)
-        → WorldsAgree (with_session name (e ∷ es) a) (with_session name (f ∷ fs) b)
+    go : (t : Bool) → bytes_eq name e.0 ≡ t → AllAgreeByName (set_value (bytes_eq name) es a) (set_value (bytes_eq name) fs b)
+        → AllAgreeByName (set_value (bytes_eq name) (e ∷ es) a) (set_value (bytes_eq name) (f ∷ fs) b)
     go true x rest = let y : bytes_eq name f.0 ≡ true = ap (bytes_eq name) (sym is.0) ∙ x in rw (x, y) (is.0, new, is.2)
     go false x rest = let y : bytes_eq name f.0 ≡ false = ap (bytes_eq name) (sym is.0) ∙ x in rw (x, y) (is.0, is.1, rest)
 
-pub worlds-length : (v : World StreamState) (w : World Traced) → WorldsAgree v w → length v ≡ length w
-worlds-length [] [] is = refl
-worlds-length [] (f ∷ fs) is = absurd is
-worlds-length (e ∷ es) [] is = absurd is
-worlds-length (e ∷ es) (f ∷ fs) is = grind (arith, common_steps, worlds-length es fs is.2)
+pub set-agree : (name : Text) (v : World StreamState) (w : World Traced) (a : SessionOf StreamState) (b : SessionOf Traced)
+    → WorldsAgree v w → SessionsAgree a b → WorldsAgree (with_session name v a) (with_session name w b)
+set-agree name v w a b is new =
+    record { sessions = set-in name v.sessions w.sessions a b is.sessions new; events = is.events }
+
+all-length : (es : Named StreamState) (fs : Named Traced) → AllAgreeByName es fs → length es ≡ length fs
+all-length [] [] is = refl
+all-length [] (f ∷ fs) is = absurd is
+all-length (e ∷ es) [] is = absurd is
+all-length (e ∷ es) (f ∷ fs) is = grind (arith, common_steps, all-length es fs is.2)
+
+pub worlds-length : (v : World StreamState) (w : World Traced) → WorldsAgree v w → length v.sessions ≡ length w.sessions
+worlds-length v w is = all-length v.sessions w.sessions is.sessions
+
+all-push : (es : Named StreamState) (fs : Named Traced) (name : Text) (a : SessionOf StreamState) (b : SessionOf Traced)
+    → AllAgreeByName es fs → SessionsAgree a b → AllAgreeByName (es ++ (name, a) ∷ []) (fs ++ (name, b) ∷ [])
+all-push [] [] name a b is new = (refl, new, tt)
+all-push [] (f ∷ fs) name a b is new = absurd is
+all-push (e ∷ es) [] name a b is new = absurd is
+all-push (e ∷ es) (f ∷ fs) name a b is new = (is.0, is.1, all-push es fs name a b is.2 new)
 
 pub worlds-push : (v : World StreamState) (w : World Traced) (name : Text) (a : SessionOf StreamState) (b : SessionOf Traced)
-    → WorldsAgree v w → SessionsAgree a b → WorldsAgree (v ++ (name, a) ∷ []) (w ++ (name, b) ∷ [])
-worlds-push [] [] name a b is new = (refl, new, tt)
-worlds-push [] (f ∷ fs) name a b is new = absurd is
-worlds-push (e ∷ es) [] name a b is new = absurd is
-worlds-push (e ∷ es) (f ∷ fs) name a b is new = (is.0, is.1, worlds-push es fs name a b is.2 new)
+    → WorldsAgree v w → SessionsAgree a b → WorldsAgree (with_new name a v) (with_new name b w)
+worlds-push v w name a b is new =
+    record { sessions = all-push v.sessions w.sessions name a b is.sessions new; events = is.events }
 
 pub same-found : (o : Option (SessionOf StreamState)) (p : Option (SessionOf Traced)) → FoundAgree o p → is_some o ≡ is_some p
 same-found None None is = refl

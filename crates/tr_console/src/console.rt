@@ -7,7 +7,8 @@ ghost use Rattle.tr_command.specs.Language.{asked_of};
 ghost use Rattle.tr_console.specs.Lends.{lends_session};
 ghost use Rattle.tr_console.specs.Replies.{Does};
 ghost use Rattle.tr_console.specs.Script.{asked_step, text_step};
-ghost use Rattle.tr_console.specs.World.{session_named};
+ghost use Rattle.tr_console.specs.World.{no_sessions, session_named};
+ghost use Rattle.tr_console.specs.commands.Create.{with_new};
 ghost use Rattle.tr_stream.specs.Rules.{by_state};
 
 use crate::replies::{Reply, bad_line, skipped};
@@ -16,25 +17,28 @@ use std::alloc::{AllocError, Allocator, Global};
 use std::hash::{BuildHasherDefault, FoldHasher};
 use std::marker::Model;
 use tr_command::parse;
+use tr_events::Events;
 use tr_lines::{Words, is_skipped_line, push_words};
 use tr_session::Session;
 use tr_terms::Name;
 
-/// The sessions of a script by name, in order of creation. Contracts see a `World`.
+/// The sessions of a script by name, in order of creation, and the events that each of them is created with. Contracts see a
+/// `World`.
 #[derive(Drop)]
 pub struct Console<A: Allocator = Global> {
     alloc: A,
     sessions: IndexMap<String<A>, Session<A>, BuildHasherDefault<FoldHasher>, A>,
+    events: Events<A>,
 }
 
 impl<A: Allocator> Model for Console<A> {
-    ghost use Rattle.tr_console.specs.World.{World};
+    ghost use Rattle.tr_console.specs.World.{World, world_of};
     ghost use Rattle.tr_session_book.specs.Names.{by_name};
     ghost use Rattle.tr_stream.specs.State.{StreamState};
 
     ghost Value = { World StreamState };
 
-    ghost view = { λ c. by_name c.sessions.entries };
+    ghost view = { λ c. world_of (by_name c.sessions.entries) c.events };
 
     ghost use Rattle.tr_session_book.specs.Names.{AreNamed};
 
@@ -42,14 +46,22 @@ impl<A: Allocator> Model for Console<A> {
 }
 
 impl<A: Allocator + Copy> Console<A> {
-    /// A console without sessions. It takes no memory.
-    pub(crate) fn new(alloc: A) -> Console<A>
-        ensures { result ≡ [] }
+    /// A console without sessions, whose sessions will be created with these events. It takes no memory.
+    pub(crate) fn new(alloc: A, events: Events<A>) -> Console<A>
+        ensures { result ≡ no_sessions events }
     {
         Console {
             alloc,
             sessions: IndexMap::new(alloc),
+            events,
         }
+    }
+
+    /// The events that its sessions are created with.
+    pub(crate) fn events(&self) -> &Events<A>
+        ensures { result.now ≡ self.now.events }
+    {
+        &self.events
     }
 
     /// Answers a line; `None` is a bad one. The words of the line are read with memory of `clap`.
@@ -101,7 +113,7 @@ impl<A: Allocator + Copy> Console<A> {
     /// An allocation failed: nothing changed.
     pub(crate) fn add(&mut self, name: &Name<'_>, session: Session<A>) -> Result<(), AllocError>
         requires { session_named name.now self.old ≡ None }
-        ensures ok { OnOk result (self.new ≡ self.old ++ (name.now, session) ∷ []) }
+        ensures ok { OnOk result (self.new ≡ with_new name.now session self.old) }
         ensures err { OnErr result (self.new ≡ self.old) }
     {
         let name = String::from_str(self.alloc, name.as_str())?;
@@ -113,14 +125,14 @@ impl<A: Allocator + Copy> Console<A> {
 impl<A: Allocator> Console<A> {
     /// How many sessions there are.
     pub fn sessions(&self) -> usize
-        ensures { result ≡ length self.now }
+        ensures { result ≡ length self.now.sessions }
     {
         self.sessions.len()
     }
 
     /// The session number `k` in the order of creation, counted from 0, with its name. None if there are fewer.
     pub fn session(&self, k: usize) -> Option<(Name<'_>, &Session<A>)>
-        ensures { option_map (λ e. (e.0, e.1.now)) result ≡ slice_get self.now k }
+        ensures { option_map (λ e. (e.0, e.1.now)) result ≡ slice_get self.now.sessions k }
     {
         let Some((text, session)) = self.sessions.get_index(k) else {
             return None;

@@ -36,5 +36,5 @@ mod script;
 mod script_fault;
 
 pub use console::Console;
-pub use script::{ScriptDone, run_script, run_text};
+pub use script::{ScriptDone, run_script, run_script_with, run_text};
 pub use script_fault::ScriptFault;

@@ -12,6 +12,7 @@ use crate::console::Console;
 use crate::outbox::Outbox;
 use crate::script_fault::ScriptFault;
 use std::alloc::{Allocator, Global};
+use tr_events::Events;
 use tr_lines::{Found, LineReader};
 use tr_record::{ByteSink, ByteSource, MemorySink, MemorySource};
 use tr_terms::limits::LONGEST_PIECE;
@@ -108,34 +109,36 @@ fn answer_line<A: Allocator + Copy, K: ByteSink>(
     Ok(reply.is_refused())
 }
 
-/// Reads a script from its source and answers each line to the sink. Answers to lines that came together may go out
-/// together, but all are out before the source is asked for more. The command line of a line takes its memory from `clap`.
+/// Reads a script, whose sessions are created with these events, from its source and answers each line to the sink. Answers to
+/// lines that came together may go out together, but all are out before the source is asked for more. The command line of a line
+/// takes its memory from `clap`.
 ///
 /// # Errors
 ///
 /// `Read` and `Write` only if the source or the sink failed in this call, `TooLong` if a byte came after 16,777,216 others,
 /// `NoMemory` if an allocation failed. Each variant of `ScriptFault` says what went out by then.
-pub fn run_script<A: Allocator + Copy, S: ByteSource, K: ByteSink>(
+pub fn run_script_with<A: Allocator + Copy, S: ByteSource, K: ByteSink>(
     alloc: A,
     clap: Global,
+    events: Events<A>,
     source: &mut S,
     sink: &mut K,
 ) -> Result<ScriptDone<A>, ScriptFault>
     ensures done { IfOk result
-        (λ done. Ran (S.given source.old) (S.given source.new) (K.taken sink.old) (K.taken sink.new) done.console
+        (λ done. Ran events (S.given source.old) (S.given source.new) (K.taken sink.old) (K.taken sink.new) done.console
         done.refused) }
     ensures end { OnOk result (S.given source.new ≡ S.content source.old) }
     ensures content { S.content source.new ≡ S.content source.old }
 
     ensures read { result ≡ Err ScriptFault.Read
-        → BrokeOff (S.given source.old) (S.given source.new) (K.taken sink.old) (K.taken sink.new) }
+        → BrokeOff events (S.given source.old) (S.given source.new) (K.taken sink.old) (K.taken sink.new) }
     ensures too_long { result ≡ Err ScriptFault.TooLong
-        → WentTooFar (S.given source.old) (S.given source.new) (K.taken sink.old) (K.taken sink.new) }
+        → WentTooFar events (S.given source.old) (S.given source.new) (K.taken sink.old) (K.taken sink.new) }
     ensures write { result ≡ Err ScriptFault.Write
-        → WroteSome (S.given source.old) (S.given source.new) (K.taken sink.old) (K.taken sink.new)
+        → WroteSome events (S.given source.old) (S.given source.new) (K.taken sink.old) (K.taken sink.new)
         (S.content source.old) }
     ensures memory { result ≡ Err ScriptFault.NoMemory
-        → AnsweredSome (S.given source.old) (S.given source.new) (K.taken sink.old) (K.taken sink.new) }
+        → AnsweredSome events (S.given source.old) (S.given source.new) (K.taken sink.old) (K.taken sink.new) }
 
     ensures source_failed { result ≡ Err ScriptFault.Read
         → S.failures source.new ≡ once_more (S.failures source.old) }
@@ -145,7 +148,7 @@ pub fn run_script<A: Allocator + Copy, S: ByteSource, K: ByteSink>(
 {
     let mut reader = LineReader::new(alloc)?;
     let mut outbox = Outbox::new(alloc)?;
-    let mut console = Console::new(alloc);
+    let mut console = Console::new(alloc, events);
     let mut refused = 0;
     'lines: loop {
         let found = next_line(&mut reader, source, &mut outbox, sink)?;
@@ -159,6 +162,42 @@ pub fn run_script<A: Allocator + Copy, S: ByteSource, K: ByteSink>(
             }
         }
     }
+}
+
+/// The same, with sessions that declare no events.
+///
+/// # Errors
+///
+/// Those of `run_script_with`.
+pub fn run_script<A: Allocator + Copy, S: ByteSource, K: ByteSink>(
+    alloc: A,
+    clap: Global,
+    source: &mut S,
+    sink: &mut K,
+) -> Result<ScriptDone<A>, ScriptFault>
+    ensures done { IfOk result
+        (λ done. Ran [] (S.given source.old) (S.given source.new) (K.taken sink.old) (K.taken sink.new) done.console
+        done.refused) }
+    ensures end { OnOk result (S.given source.new ≡ S.content source.old) }
+    ensures content { S.content source.new ≡ S.content source.old }
+
+    ensures read { result ≡ Err ScriptFault.Read
+        → BrokeOff [] (S.given source.old) (S.given source.new) (K.taken sink.old) (K.taken sink.new) }
+    ensures too_long { result ≡ Err ScriptFault.TooLong
+        → WentTooFar [] (S.given source.old) (S.given source.new) (K.taken sink.old) (K.taken sink.new) }
+    ensures write { result ≡ Err ScriptFault.Write
+        → WroteSome [] (S.given source.old) (S.given source.new) (K.taken sink.old) (K.taken sink.new)
+        (S.content source.old) }
+    ensures memory { result ≡ Err ScriptFault.NoMemory
+        → AnsweredSome [] (S.given source.old) (S.given source.new) (K.taken sink.old) (K.taken sink.new) }
+
+    ensures source_failed { result ≡ Err ScriptFault.Read
+        → S.failures source.new ≡ once_more (S.failures source.old) }
+    ensures source_works { (result ≡ Err ScriptFault.Read → ⊥) → S.failures source.new ≡ S.failures source.old }
+    ensures sink_failed { result ≡ Err ScriptFault.Write → K.failures sink.new ≡ once_more (K.failures sink.old) }
+    ensures sink_works { (result ≡ Err ScriptFault.Write → ⊥) → K.failures sink.new ≡ K.failures sink.old }
+{
+    run_script_with(alloc, clap, Events::none(alloc), source, sink)
 }
 
 /// The answer to a script in memory.

@@ -19,7 +19,7 @@ chunk_in s = option_map_or (λ (t : Traced). option_map_or (λ (part : PartState
 -- those of the first session that a script leaves
 abbrev pub first_chunk : List ℕ → List Contents
 first_chunk script = option_map_or (λ (entry : List ℕ × SessionOf Traced). chunk_in entry.1)
-    (slice_get (world_left script) 0) []
+    (slice_get (world_left [] script).sessions 0) []
 
 -- what is compared of a packet: its number, the number of discarded records, and its records' serials
 abbrev pub outline : Contents → ℕ × (ℕ × List ℕ)

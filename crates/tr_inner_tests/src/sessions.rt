@@ -3,6 +3,7 @@
 mod audits;
 mod channels;
 mod clears;
+mod declared;
 mod releases;
 mod rotations;
 mod runs;

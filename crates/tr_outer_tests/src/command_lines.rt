@@ -5,6 +5,7 @@ mod generated;
 mod layout;
 mod numbers;
 mod others;
+mod program;
 mod rotation;
 mod running;
 mod schedules;

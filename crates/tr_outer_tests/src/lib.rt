@@ -10,6 +10,10 @@ mod asserting;
 #[cfg(test)]
 mod command_lines;
 #[cfg(test)]
+mod declarations;
+#[cfg(test)]
+mod descriptions;
+#[cfg(test)]
 mod scripts;
 #[cfg(test)]
 mod surveys;

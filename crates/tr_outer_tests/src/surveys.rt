@@ -1,7 +1,8 @@
 //! Surveys of folders in memory: a worked example, and what can be wrong.
 
-mod failing;
-mod room;
+pub(crate) mod failing;
+pub(crate) mod places;
+pub(crate) mod room;
 
 use crate::asserting::assert_same;
 use room::{Room, STAMPS, Thing, furnished, packets, text, uuid};
@@ -311,7 +312,7 @@ static DISCARDING: [Thing; 7] = [
 #[test]
 fn losses(rt: HostRuntime) {
     let expected = "session s uuid 00000000-0000-0000-0000-000000000001 archives 2
-lost 0 3 before 0 5
+lost 0 3 between 0 5 and 0 5
 gap 0 2 2 between 0 6 and 1 8
 lost 0 4 between 0 6 and 1 8
 fault 0 19700101T000000+0000-19700101T000000+0000-1 154 lost falls
@@ -338,7 +339,7 @@ fn unreadable_things(rt: HostRuntime) {
 uuid of packets
 fault 19700101T000000+0000-19700101T000000+0000-0 unreadable
 fault 19700101T000000+0000-19700101T000000+0000-1 unreadable
-lost 0 3 before 0 5
+lost 0 3 between 0 5 and 0 5
 fault 0 19700101T000000+0000-19700101T000000+0000-0 unreadable
 fault 0 19700101T000000+0000-19700101T000000+0000-1 154 lost falls
 stream 0 c packets 4 records 4 absent 0 lost 6 last 5 10 from 5 to 9

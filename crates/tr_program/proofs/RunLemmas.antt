@@ -1,5 +1,5 @@
 -- How runs end that read and wrote nothing, and audits that found no session.
-use Rattle.std.proofs.Common.{◌≡◌, ◌⊎◌, ℕ, Bool, zero, suc, refl, inl, inr, List, [], Option, Some, None, Result, Ok, Err}
+use Rattle.std.proofs.Common.{◌≡◌, ◌⊎◌, ◌∙◌, ℕ, Bool, zero, suc, refl, sym, ap, subst, inl, inr, List, [], ◌∷◌, append-nil, Option, Some, None, Result, Ok, Err}
 use Rattle.tr_folders.specs.Tree.{Tree}
 use Rattle.tr_load.specs.declared.loaded.LoadFault.TheVariants as load
 use Rattle.tr_chunk.specs.Files.{Sunk}
@@ -12,16 +12,30 @@ use Rattle.tr_survey.specs.declared.faults.SurveyFault.{SurveyFault}
 use Rattle.tr_survey.specs.declared.faults.SurveyFault.TheVariants as survey
 use Rattle.tr_survey.specs.declared.faults.Surveyed.{Surveyed}
 use Rattle.tr_survey.specs.declared.faults.Surveyed.TheVariants as surveyed
-use Rattle.tr_command.specs.Invocation.{Script, Load, Audit, Task}
-use Rattle.tr_program.specs.Endings.{ending_of_survey}
-use Rattle.tr_program.specs.Runs.{CannotBeRead, EndsSo, FoldersState, HasAudited, HasNoSession, Outside, TellsAudit}
+use Rattle.tr_command.specs.Invocation.{Script, Load, Audit, Describe, Task}
+use Rattle.tr_describe.specs.Answers.{described_of}
+use Rattle.tr_describe.specs.Failures as failing
+use Rattle.tr_describe.specs.Files.{declaring}
+use Rattle.tr_describe.specs.Put.{Text, and_then_put}
+use Rattle.tr_describe.specs.Telling.{FailedSo, TellsTree, declared_text, puts_by, text_by}
+use Rattle.tr_describe.specs.declared.faults.DescribeFault.{DescribeFault}
+use Rattle.tr_describe.specs.declared.faults.DescribeFault.TheVariants as describe
+use Rattle.tr_describe.specs.declared.telling.Outcome.{Outcome}
+use Rattle.tr_describe.specs.declared.telling.Outcome.TheVariants as outcome
+use Rattle.tr_program.specs.Endings.{ending_of_describe, ending_of_survey}
+use Rattle.tr_program.specs.Runs.{CannotBeRead, EndsSo, FoldersState, HasAudited, HasCause, HasNoSession, Host, Outside, TellsAudit}
 use Rattle.tr_program.specs.declared.ending.Ending.{Ending}
 use Rattle.tr_program.specs.declared.ending.Ending.TheVariants.{NoSession, NoMemory, ReadOrWrite}
+
+put_nothing : (known : Option (List Text)) → and_then_put known [] ≡ known
+put_nothing None = refl
+put_nothing (Some texts) = ap Some (append-nil texts)
 
 -- without memory nothing was begun
 pub ends_without_memory : (asked : Option Task) (o : Outside) → EndsSo o o asked NoMemory
 ends_without_memory None o = (inr refl, (refl, refl, refl))
-ends_without_memory (Some (Script dir)) o = inl (refl, refl, refl)
+ends_without_memory (Some (Script None dir)) o = inl ([], refl, inl (refl, refl, refl))
+ends_without_memory (Some (Script (Some file) dir)) o = inr ((λ t known. front_nothing (declared_text (declaring (t.file file))) o.host.taken), refl, refl)
 ends_without_memory (Some (Load threads records workers watch dir)) o = (refl, inr ((load.NoMemory, refl), (refl, refl, refl)))
 ends_without_memory (Some (Audit dir archives)) o = record {
   audited = record { result = Err survey.NoMemory; ends = refl; tells = λ t known. front_nothing (survey_of archives t dir).text o.host.taken; reads = refl; writes = refl };
@@ -30,6 +44,29 @@ ends_without_memory (Some (Audit dir archives)) o = record {
   inputs = refl;
   disks = refl;
 }
+ends_without_memory (Some (Describe file dir)) o = record {
+  described = record {
+    result = Err describe.NoMemory;
+    ends = refl;
+    tells = λ t known. (
+      record { front = []; rest = puts_by t dir (declaring (t.file file)); parts = refl; put = sym (put_nothing o.texts.written) },
+      front_nothing (text_by t dir (declaring (t.file file))) o.host.taken,
+    );
+    reads = refl;
+    failures = (refl, refl);
+  };
+  given = refl;
+  made = refl;
+  inputs = refl;
+  disks = refl;
+}
+
+-- what failed after a file of declarations was read
+pub cause_after : (old new : Host) (taken : Option (List ℕ)) (failures : ℕ) → taken ≡ old.taken → failures ≡ old.output_failures
+    → HasCause (record old { taken = taken; output_failures = failures }) new → HasCause old new
+cause_after old new taken failures same none cause =
+    subst (λ (x : Option (List ℕ)). HasCause (record old { taken = x }) new) same
+    (subst (λ (n : ℕ). HasCause (record old { taken = taken; output_failures = n }) new) none cause)
 
 found_none : (t : Tree) (dir : List ℕ) (archives : Bool) (result : Result Surveyed SurveyFault) (before now : Option (List ℕ)) → NoSession ≡ ending_of_survey result
     → TellsAudit t dir archives result before now → sessions_of t dir ≡ []

@@ -4,6 +4,10 @@ use Rattle.std.specs.declared.io.ErrorKind.{ErrorKind}
 use Rattle.std.specs.declared.io.ErrorKind.TheVariants.{OutOfMemory}
 use Rattle.tr_console.specs.declared.script_fault.ScriptFault.{ScriptFault}
 use Rattle.tr_console.specs.declared.script_fault.ScriptFault.TheVariants as fault
+use Rattle.tr_describe.specs.declared.faults.DescribeFault.{DescribeFault}
+use Rattle.tr_describe.specs.declared.faults.DescribeFault.TheVariants as describe
+use Rattle.tr_describe.specs.declared.telling.Outcome.{Outcome}
+use Rattle.tr_describe.specs.declared.telling.Outcome.TheVariants as outcome
 use Rattle.tr_export.specs.declared.faults.ExportFault.{ExportFault}
 use Rattle.tr_export.specs.declared.faults.ExportFault.TheVariants as export
 use Rattle.tr_load.specs.declared.loaded.LoadFault.{LoadFault}
@@ -82,3 +86,17 @@ ending_of_survey (Ok said) = ending_of_audit said
 ending_of_survey (Err survey.TooMuch) = ReadOrWrite
 ending_of_survey (Err survey.Write) = ReadOrWrite
 ending_of_survey (Err survey.NoMemory) = NoMemory
+
+-- archives that were to be described: what that came to, or why it isn't known
+abbrev pub ending_of_described : Outcome → Ending
+ending_of_described outcome.Unreadable = ReadOrWrite
+ending_of_described outcome.NoSession = NoSession
+ending_of_described outcome.Refused = Refused
+ending_of_described outcome.Wrong = Faulty
+ending_of_described outcome.Done = Done
+
+abbrev pub ending_of_describe : Result Outcome DescribeFault → Ending
+ending_of_describe (Ok said) = ending_of_described said
+ending_of_describe (Err describe.TooMuch) = ReadOrWrite
+ending_of_describe (Err describe.Write) = ReadOrWrite
+ending_of_describe (Err describe.NoMemory) = NoMemory

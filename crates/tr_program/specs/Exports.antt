@@ -8,7 +8,7 @@ use Rattle.tr_stream.specs.State.{StreamState}
 
 -- the archives of every session, in order of creation
 abbrev pub all_made : List ℕ → World StreamState → Makings
-all_made dir w = flat_map (λ e. archives_made dir e.0 e.1) w
+all_made dir w = flat_map (λ e. archives_made dir e.0 e.1) w.sessions
 
 -- these archives were made below the folder; nothing, if none is named
 abbrev pub IsMadeBelow : Option (List ℕ) → World StreamState → Option Makings → Option Makings → Type 0

@@ -3,6 +3,15 @@ use Rattle.std.specs.Prelude.{◌≡◌, ◌⊎◌, ℕ, Bool, is_some, [], List
 use Rattle.tr_console.specs.World.{World}
 use Rattle.tr_chunk.specs.Files.{Sunk, WentOut}
 use Rattle.tr_console.specs.Runs.{AnsweredSome, BrokeOff, Ran, WentTooFar, WroteSome}
+use Rattle.tr_describe.specs.Failures as describe
+use Rattle.tr_describe.specs.Files.{declaring}
+use Rattle.tr_describe.specs.Put.{Text}
+use Rattle.tr_describe.specs.Telling.{FailedSo, TellsTree, declared_text, refused_text}
+use Rattle.tr_describe.specs.declared.faults.DescribeFault.{DescribeFault}
+use Rattle.tr_describe.specs.declared.telling.Outcome.{Outcome}
+use Rattle.tr_describe.specs.declared.texts.Texts as Texts
+use Rattle.tr_events.specs.Events.{Event}
+use Rattle.tr_events.specs.declared.faults.LineFault.{LineFault}
 use Rattle.tr_export.specs.Failures.{HasFailed, HasNotFailed}
 use Rattle.tr_export.specs.Making.{MadePrefix, Makings}
 use Rattle.tr_export.specs.declared.disk.Disk as Disk
@@ -20,11 +29,12 @@ use Rattle.tr_record.specs.declared.bytes.ByteSource as Source
 use Rattle.tr_session.specs.Session.{SessionOf}
 use Rattle.tr_stream.specs.State.{StreamState}
 use Rattle.tr_survey.specs.Failures.{reads_after, writes_after}
+use Rattle.tr_survey.specs.Prefix.{IsPrefixOut}
 use Rattle.tr_survey.specs.Sessions.{HasToldPrefix, TellsFolder, sessions_of}
 use Rattle.tr_survey.specs.declared.faults.SurveyFault.{SurveyFault}
 use Rattle.tr_survey.specs.declared.faults.Surveyed.{Surveyed}
-use Rattle.tr_command.specs.Invocation.{Folder, Script, Load, Audit, Task}
-use Rattle.tr_program.specs.Endings.{ending_of_load, ending_of_refused, ending_of_survey, ending_of_told, message_of, status_of}
+use Rattle.tr_command.specs.Invocation.{Folder, Script, Load, Audit, Describe, Task}
+use Rattle.tr_program.specs.Endings.{ending_of_describe, ending_of_load, ending_of_refused, ending_of_survey, ending_of_told, message_of, status_of}
 use Rattle.tr_program.specs.Exports.{IsMadeBelow, all_made}
 use Rattle.tr_program.specs.declared.ending.Ending.{Ending}
 use Rattle.tr_program.specs.declared.ending.Ending.TheVariants.{Done, Refused, Faulty, BadCommandLine, ReadOrWrite, NoSession, NoMemory}
@@ -65,15 +75,26 @@ pub record FoldersState : Type 0 where
 abbrev pub folders_of : {F : Type 0} → Folders.Ghosts F → F → FoldersState
 folders_of ghosts folders = record { tree = ghosts.tree folders; failures = ghosts.failures folders }
 
+-- what is known at one step of the texts that are put in place of files: those that were put, and how often that failed
+pub record TextsState : Type 0 where
+  pub written : Option (List Text)
+  pub failures : ℕ
+
+abbrev pub texts_state : {T : Type 0} → Texts.Ghosts T → T → TextsState
+texts_state ghosts texts = record { written = ghosts.written texts; failures = ghosts.failures texts }
+
 -- what is known at one step of all that a run reads and writes, but standard error
 pub record Outside : Type 0 where
   pub host : Host
   pub folders : FoldersState
+  pub texts : TextsState
 
-abbrev pub outside_of : {S K D C F : Type 0} → Source.Ghosts S → Sink.Ghosts K → Disk.Ghosts D C → Folders.Ghosts F → S → K → D → F → Outside
-outside_of source sink disks ghosts input out disk folders = record {
+abbrev pub outside_of : {S K D C F T : Type 0} → Source.Ghosts S → Sink.Ghosts K → Disk.Ghosts D C → Folders.Ghosts F → Texts.Ghosts T
+    → S → K → D → F → T → Outside
+outside_of source sink disks folders_ghosts texts_ghosts input out disk folders texts = record {
   host = host_of source sink disks input out disk;
-  folders = folders_of ghosts folders;
+  folders = folders_of folders_ghosts folders;
+  texts = texts_state texts_ghosts texts;
 }
 
 -- what an audit with this result reports of a folder: this was out before it, and that is out after it
@@ -89,6 +110,51 @@ pub record HasAudited (dir : List ℕ) (archives : Bool) (folders folders_now : 
   pub tells : (t : Tree) → folders.tree ≡ Some t → TellsAudit t dir archives result out.taken out_now.taken
   pub reads : folders_now.failures ≡ reads_after result folders.failures
   pub writes : out_now.failures ≡ writes_after result out.failures
+
+-- the archives below a folder were to be described by a file of declarations: what was put and what went out is what that comes to,
+-- or a front of it, and the ending says how it went
+pub record HasDescribed (file dir : List ℕ) (folders folders_now : FoldersState) (texts texts_now : TextsState) (out out_now : Sunk) (ending : Ending) : Type 0 where
+  pub result : Result Outcome DescribeFault
+  pub ends : ending ≡ ending_of_describe result
+  pub tells : (t : Tree) → folders.tree ≡ Some t → TellsTree t file dir result texts.written texts_now.written out.taken out_now.taken
+  pub reads : folders_now.failures ≡ describe.reads_after result folders.failures
+  pub failures : FailedSo result texts.failures texts_now.failures out.failures out_now.failures
+
+-- a file of declarations can't be read, as far as is known
+abbrev pub CannotDeclare : List ℕ → Option Tree → Type 0
+CannotDeclare file tree = (t : Tree) → tree ≡ Some t → declaring (t.file file) ≡ None
+
+-- a file of declarations declares these events, as far as is known; without a file there are none
+abbrev pub Declares : Option (List ℕ) → List Event → Option Tree → Type 0
+Declares None events tree = events ≡ []
+Declares (Some file) events tree = (t : Tree) → tree ≡ Some t → declaring (t.file file) ≡ Some (Ok events)
+
+-- a line of a file of declarations declares no event, and the output says which
+pub record IsRefusedBy (t : Tree) (file : List ℕ) (out out_now : Option (List ℕ)) : Type 0 where
+  pub fault : LineFault
+  pub refuses : declaring (t.file file) ≡ Some (Err fault)
+  pub tells : out_now ≡ and_then_bytes out (refused_text fault)
+
+-- a front of what the output says of a file of declarations went out, as far as is known: nothing if it declares events
+abbrev pub HasToldFront : List ℕ → Option Tree → (out out_now : Option (List ℕ)) → Type 0
+HasToldFront file tree out out_now = (t : Tree) → tree ≡ Some t → IsPrefixOut (declared_text (declaring (t.file file))) out out_now
+
+-- how a run of a script ends whose file of declarations declares nothing: it can't be read, or a line of it declares no event, or
+-- reading, writing or an allocation failed
+abbrev pub EndsUndeclared : Option (List ℕ) → Option Tree → (out out_now : Option (List ℕ)) → Ending → Type 0
+EndsUndeclared None tree out out_now ending = ⊥
+EndsUndeclared (Some file) tree out out_now Done = ⊥
+EndsUndeclared (Some file) tree out out_now Refused = (t : Tree) → tree ≡ Some t → IsRefusedBy t file out out_now
+EndsUndeclared (Some file) tree out out_now Faulty = ⊥
+EndsUndeclared (Some file) tree out out_now BadCommandLine = ⊥
+EndsUndeclared (Some file) tree out out_now NoSession = ⊥
+EndsUndeclared (Some file) tree out out_now ReadOrWrite = HasToldFront file tree out out_now
+EndsUndeclared (Some file) tree out out_now NoMemory = HasToldFront file tree out out_now
+
+-- a file of declarations was named, and reading failed or it can't be read
+abbrev pub LacksDeclarations : Option (List ℕ) → FoldersState → FoldersState → Type 0
+LacksDeclarations None old new = ⊥
+LacksDeclarations (Some file) old new = (new.failures ≡ once_more old.failures) ⊎ CannotDeclare file old.tree
 
 -- a folder has no session, as far as is known
 abbrev pub HasNoSession : List ℕ → Option Tree → Type 0
@@ -109,22 +175,22 @@ pub record EndsTold (dir : Folder) (threads : ℕ) (session : SessionOf StreamSt
 module _ (old new : Host) where
   -- the input was read to its end and answered whole, the archives of its sessions were made below the folder, if one is
   -- named, and the ending says whether lines were refused
-  pub record CameToEnd (dir : Folder) (ending : Ending) : Type 0 where
+  pub record CameToEnd (events : List Event) (dir : Folder) (ending : Ending) : Type 0 where
     pub world : World StreamState
     pub refused : ℕ
-    pub ran : Ran old.given new.given old.taken new.taken world refused
+    pub ran : Ran events old.given new.given old.taken new.taken world refused
     pub whole : new.given ≡ old.content
     pub archived : IsMadeBelow dir world old.made new.made
     pub tells : ending ≡ ending_of_refused refused
 
   -- the input was read to its end and answered whole, and a prefix of the archives below the folder, which is named, was
   -- made
-  pub record MadeSome (dir : Folder) : Type 0 where
+  pub record MadeSome (events : List Event) (dir : Folder) : Type 0 where
     pub world : World StreamState
     pub refused : ℕ
     pub folder : List ℕ
     pub named : dir ≡ Some folder
-    pub ran : Ran old.given new.given old.taken new.taken world refused
+    pub ran : Ran events old.given new.given old.taken new.taken world refused
     pub whole : new.given ≡ old.content
     pub front : MadePrefix old.made new.made (all_made folder world)
 
@@ -133,37 +199,43 @@ module _ (old new : Host) where
   NeitherFailed = (new.input_failures ≡ old.input_failures) × (new.output_failures ≡ old.output_failures)
 
   -- the input failed, or the script was too long, or the output failed: what was read and answered until then
-  abbrev pub HasBrokenOff : Type 0
-  HasBrokenOff =
-      (BrokeOff old.given new.given old.taken new.taken
+  abbrev pub HasBrokenOff : List Event → Type 0
+  HasBrokenOff events =
+      (BrokeOff events old.given new.given old.taken new.taken
       × (new.input_failures ≡ once_more old.input_failures) × (new.output_failures ≡ old.output_failures))
-      ⊎ ((WentTooFar old.given new.given old.taken new.taken × NeitherFailed)
-      ⊎ (WroteSome old.given new.given old.taken new.taken old.content
+      ⊎ ((WentTooFar events old.given new.given old.taken new.taken × NeitherFailed)
+      ⊎ (WroteSome events old.given new.given old.taken new.taken old.content
       × (new.input_failures ≡ old.input_failures) × (new.output_failures ≡ once_more old.output_failures)))
 
   -- the script broke off and the disk is as it was, or the disk failed while the archives were made
-  abbrev pub EndsByFault : Folder → Type 0
-  EndsByFault dir = (HasBrokenOff × (new.made ≡ old.made) × (new.disk_failures ≡ old.disk_failures))
-      ⊎ (MadeSome dir × NeitherFailed × HasFailed old.disk_failures new.disk_failures)
+  abbrev pub EndsByFault : List Event → Folder → Type 0
+  EndsByFault events dir = (HasBrokenOff events × (new.made ≡ old.made) × (new.disk_failures ≡ old.disk_failures))
+      ⊎ (MadeSome events dir × NeitherFailed × HasFailed old.disk_failures new.disk_failures)
 
   -- nothing was read, answered or made
   abbrev pub IsUntouched : Type 0
   IsUntouched = (new.given ≡ old.given) × (new.taken ≡ old.taken) × (new.made ≡ old.made)
 
   -- an allocation failed before the script was begun, within it, or while its archives were made
-  abbrev pub EndsByMemory : Folder → Type 0
-  EndsByMemory dir =
-      IsUntouched ⊎ ((AnsweredSome old.given new.given old.taken new.taken × (new.made ≡ old.made)) ⊎ MadeSome dir)
+  abbrev pub EndsByMemory : List Event → Folder → Type 0
+  EndsByMemory events dir =
+      IsUntouched ⊎ ((AnsweredSome events old.given new.given old.taken new.taken × (new.made ≡ old.made)) ⊎ MadeSome events dir)
 
-  -- a run of a script came to its end, or says why not
-  abbrev pub EndsAs : Folder → Ending → Type 0
-  EndsAs dir Done = CameToEnd dir Done
-  EndsAs dir Refused = CameToEnd dir Refused
-  EndsAs dir Faulty = ⊥
-  EndsAs dir BadCommandLine = ⊥
-  EndsAs dir NoSession = ⊥
-  EndsAs dir ReadOrWrite = EndsByFault dir
-  EndsAs dir NoMemory = EndsByMemory dir
+  -- a run of a script, whose sessions are created with these events, came to its end, or says why not
+  abbrev pub EndsAs : List Event → Folder → Ending → Type 0
+  EndsAs events dir Done = CameToEnd events dir Done
+  EndsAs events dir Refused = CameToEnd events dir Refused
+  EndsAs events dir Faulty = ⊥
+  EndsAs events dir BadCommandLine = ⊥
+  EndsAs events dir NoSession = ⊥
+  EndsAs events dir ReadOrWrite = EndsByFault events dir
+  EndsAs events dir NoMemory = EndsByMemory events dir
+
+  -- it ran with the events that a file declares, if one is named; or the file declares nothing, and nothing was read or made
+  abbrev pub EndsScript : (file : Option (List ℕ)) → Folder → Option Tree → Ending → Type 0
+  EndsScript file dir tree ending =
+      ((events : List Event) × Declares file events tree × EndsAs events dir ending)
+      ⊎ (EndsUndeclared file tree old.taken new.taken ending × (new.given ≡ old.given) × (new.made ≡ old.made))
 
   -- a load was settled, judged by its feeders' logs, watched if that was asked for, and reported
   pub record HasLoaded (threads records : ℕ) (watch : Bool) (dir : Folder) (ending : Ending) : Type 0 where
@@ -191,7 +263,15 @@ module _ (old new : Host) where
     pub inputs : new.input_failures ≡ old.input_failures
     pub disks : new.disk_failures ≡ old.disk_failures
 
-  -- neither a run of a script, nor a load, nor an audit is asked for
+  -- typed metadata for archives; it reads no input and makes nothing, so neither fails
+  pub record EndsDescribe (file dir : List ℕ) (folders folders_now : FoldersState) (texts texts_now : TextsState) (ending : Ending) : Type 0 where
+    pub described : HasDescribed file dir folders folders_now texts texts_now (output_of old) (output_of new) ending
+    pub given : new.given ≡ old.given
+    pub made : new.made ≡ old.made
+    pub inputs : new.input_failures ≡ old.input_failures
+    pub disks : new.disk_failures ≡ old.disk_failures
+
+  -- nothing that the program does is asked for
   abbrev pub IsNoRun : Ending → Type 0
   IsNoRun ending = ((ending ≡ BadCommandLine) ⊎ (ending ≡ NoMemory)) × IsUntouched
 
@@ -199,7 +279,8 @@ module _ (old new : Host) where
   abbrev pub HasCause : Type 0
   HasCause =
       ((new.input_failures ≡ once_more old.input_failures) ⊎ (new.output_failures ≡ once_more old.output_failures))
-      ⊎ (HasFailed old.disk_failures new.disk_failures ⊎ WentTooFar old.given new.given old.taken new.taken)
+      ⊎ (HasFailed old.disk_failures new.disk_failures
+      ⊎ ((events : List Event) × WentTooFar events old.given new.given old.taken new.taken))
 
   -- none of them failed
   abbrev pub HasNoFault : Type 0
@@ -219,9 +300,10 @@ IsTold ending old new = IsPut (message_of ending) old new
 -- the run ended as what was asked for does
 abbrev pub EndsSo : Outside → Outside → Option Task → Ending → Type 0
 EndsSo old new None ending = IsNoRun old.host new.host ending
-EndsSo old new (Some (Script dir)) ending = EndsAs old.host new.host dir ending
+EndsSo old new (Some (Script file dir)) ending = EndsScript old.host new.host file dir old.folders.tree ending
 EndsSo old new (Some (Load threads records workers watch dir)) ending = EndsLoad old.host new.host threads records watch dir ending
 EndsSo old new (Some (Audit dir archives)) ending = EndsAudit old.host new.host dir archives old.folders new.folders ending
+EndsSo old new (Some (Describe file dir)) ending = EndsDescribe old.host new.host file dir old.folders new.folders old.texts new.texts ending
 
 -- the same: its status and its line say how
 pub record HasEnded (asked : Option Task) (old new : Outside) (told told_now : Sunk) (status : ℕ) : Type 0 where
@@ -230,18 +312,23 @@ pub record HasEnded (asked : Option Task) (old new : Outside) (told told_now : S
   pub line : IsTold ending told told_now
   pub ends : EndsSo old new asked ending
 
--- an audit is asked for, and reading failed, or the folder can't be read or has no session
+-- reading failed, or the folder can't be read or has no session
+abbrev pub LacksFolder : List ℕ → FoldersState → FoldersState → Type 0
+LacksFolder dir old new = (new.failures ≡ once_more old.failures) ⊎ (CannotBeRead dir old.tree ⊎ HasNoSession dir old.tree)
+
+-- archives or declarations are to be read, and that isn't so
 abbrev pub LacksArchives : Option Task → FoldersState → FoldersState → Type 0
 LacksArchives None old new = ⊥
-LacksArchives (Some (Script dir)) old new = ⊥
+LacksArchives (Some (Script file dir)) old new = LacksDeclarations file old new
 LacksArchives (Some (Load threads records workers watch dir)) old new = ⊥
-LacksArchives (Some (Audit dir archives)) old new =
-    (new.failures ≡ once_more old.failures) ⊎ (CannotBeRead dir old.tree ⊎ HasNoSession dir old.tree)
+LacksArchives (Some (Audit dir archives)) old new = LacksFolder dir old new
+LacksArchives (Some (Describe file dir)) old new = LacksFolder dir old new ⊎ CannotDeclare file old.tree
 
 -- what a status of 3 says
 abbrev pub HasFault : Option Task → Outside → Outside → Type 0
-HasFault asked old new = HasCause old.host new.host ⊎ LacksArchives asked old.folders new.folders
+HasFault asked old new =
+    HasCause old.host new.host ⊎ (LacksArchives asked old.folders new.folders ⊎ (new.texts.failures ≡ once_more old.texts.failures))
 
 -- what any other status says: nothing failed
 abbrev pub FailedNowhere : Outside → Outside → Type 0
-FailedNowhere old new = HasNoFault old.host new.host × (new.folders.failures ≡ old.folders.failures)
+FailedNowhere old new = HasNoFault old.host new.host × (new.folders.failures ≡ old.folders.failures) × (new.texts.failures ≡ old.texts.failures)

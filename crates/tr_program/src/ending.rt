@@ -1,10 +1,11 @@
 //! How a run of the program ends.
 
 ghost use Rattle.std.specs.Prelude.{◌≡◌, option_map};
-ghost use Rattle.tr_program.specs.Endings.{ending_of_script, ending_of_arguments, ending_of_export, ending_of_load, ending_of_outcome, ending_of_refused, ending_of_survey, message_of, status_of};
+ghost use Rattle.tr_program.specs.Endings.{ending_of_script, ending_of_arguments, ending_of_describe, ending_of_export, ending_of_load, ending_of_outcome, ending_of_refused, ending_of_survey, message_of, status_of};
 
 use std::io::ErrorKind;
 use tr_console::ScriptFault;
+use tr_describe::{DescribeFault, Outcome};
 use tr_export::ExportFault;
 use tr_load::LoadFault;
 use tr_pool::{Mismatch, Report};
@@ -16,16 +17,16 @@ pub enum Ending {
     /// All was done.
     Done,
     /// The script came to its end, and some of its lines were refused; or a load's logs don't agree with its session, or
-    /// one of its calls was refused.
+    /// one of its calls was refused; or a line of declarations declares no event.
     Refused,
-    /// An audit found something wrong.
+    /// An audit found something wrong, or archives can't be described because something is.
     Faulty,
     /// The command line was bad.
     BadCommandLine,
     /// The input, a folder or a file couldn't be read, or the input was too long, or the output or an archive couldn't be
     /// written.
     ReadOrWrite,
-    /// There was no session to audit.
+    /// There was no session to audit or to describe.
     NoSession,
     /// An allocation failed, or a thread of a load couldn't be made.
     NoMemory,
@@ -131,6 +132,22 @@ impl Ending {
                 Ending::ReadOrWrite
             }
             Err(SurveyFault::NoMemory) => Ending::NoMemory,
+        }
+    }
+
+    /// How archives that were to be described end the program.
+    pub fn of_describe(described: Result<Outcome, DescribeFault>) -> Ending
+        ensures { result ≡ ending_of_describe described }
+    {
+        match described {
+            Ok(Outcome::NoSession) => Ending::NoSession,
+            Ok(Outcome::Refused) => Ending::Refused,
+            Ok(Outcome::Wrong) => Ending::Faulty,
+            Ok(Outcome::Done) => Ending::Done,
+            Ok(Outcome::Unreadable) | Err(DescribeFault::TooMuch | DescribeFault::Write) => {
+                Ending::ReadOrWrite
+            }
+            Err(DescribeFault::NoMemory) => Ending::NoMemory,
         }
     }
 }

@@ -11,14 +11,17 @@
 //! - The words ask for a run of a script or for a load, with the folder for the archives if one is named, or for the audit of
 //!   a folder, or they are a bad command line, by clap's definition.
 //! - The run ends as what the words ask for does. Its exit status and the one line that standard error gets agree.
-//! - A script at 0 and 1: the input was read to its end and answered whole, and the archives of every session were made below
-//!   the folder, if one is named. Of these two, the status is 1 if and only if a line was refused.
+//! - A script at 0 and 1: the input was read to its end and answered whole, its sessions with the events that a file declares, if
+//!   one is named, and the archives of every session were made below the folder, if one is named. Of these two, the status is 1
+//!   if and only if a line was refused. Or, at 1, a line of the file declares no event, which the output says, and nothing was
+//!   read or made.
 //! - A load at 0 and 1: it was settled and judged by its feeders' logs, its text went out whole, and then the archives were
 //!   made below the folder, if one is named. The status is 0 if and only if the logs agree. Or, at 1, a call of it was
 //!   refused, and nothing was put out or made.
 //! - A bad command line, or arguments that can't be taken, end at 2, or at 4 if an allocation fails. Then nothing was read,
 //!   answered or made. Nothing else ends at 2.
-//! - A script at 3: either the input failed, or the script was too long, or the output failed, and nothing was made; or the
+//! - A script at 3: either the file can't be read, or reading it or the output failed, and nothing was read or made; or the input
+//!   failed, or the script was too long, or the output failed, and nothing was made; or the
 //!   input was read to its end and answered whole, and then the disk failed: a prefix of the archives was made below the
 //!   folder, and the next file may be broken.
 //! - At every status but 3 neither the input nor the output nor the disk nor reading of folders failed.

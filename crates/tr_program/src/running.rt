@@ -1,6 +1,6 @@
-//! A run of the program, over any input, output, disk and folders.
+//! A run of the program, over any input, output, disk, folders and texts.
 
-ghost use Rattle.std.specs.Prelude.{◌≡◌, ◌⊎◌, OnOk, OnErr, IfErr, map, option_and_then, option_map};
+ghost use Rattle.std.specs.Prelude.{◌≡◌, ◌⊎◌, Err, OnOk, OnErr, IfErr, IfOk, map, option_and_then, option_map};
 ghost use Rattle.std.specs.IoError.{error_kind};
 ghost use Rattle.std.specs.Result.{result_ok};
 ghost use Rattle.std.specs.Vec.Iter.{into_iter_items};
@@ -11,7 +11,7 @@ ghost use Rattle.tr_command.specs.Invocation.{job_asked, words_of};
 ghost use Rattle.tr_load.specs.Telling.{disk_of};
 ghost use Rattle.tr_program.specs.Endings.{ending_of_arguments, status_of};
 ghost use Rattle.tr_program.specs.Exports.{all_made};
-ghost use Rattle.tr_program.specs.Runs.{EndsAs, EndsSo, EndsTold, FailedNowhere, HasAudited, HasCause, HasEnded, HasFault, HasNoFault, IsTold, folders_of, host_of, outside_of};
+ghost use Rattle.tr_program.specs.Runs.{Declares, EndsAs, EndsSo, EndsUndeclared, LacksDeclarations, EndsTold, FailedNowhere, HasAudited, HasCause, HasDescribed, HasEnded, HasFault, HasNoFault, IsTold, folders_of, host_of, outside_of, texts_state};
 ghost use Rattle.tr_record.specs.Bytes.{once_more};
 
 use crate::ending::Ending;
@@ -22,7 +22,9 @@ use std::sync::Wait;
 use std::thread::Threads;
 use std::time::Clock;
 use tr_command::{Job, collected, job_of, with_program, words_after};
-use tr_console::{Console, run_script};
+use tr_console::{Console, run_script_with};
+use tr_describe::{Declarations, DescribeFault, Texts, declarations_told, describe_by};
+use tr_events::Events;
 use tr_export::{Disk, ExportFault, write_archives};
 use tr_folders::Folders;
 use tr_load::{Loaded, Progress, load, tell_load};
@@ -49,16 +51,46 @@ fn write_all<D: Disk>(
     Ok(())
 }
 
-/// Runs a script, and writes its archives if it came to its end.
+/// What a file declares, if one is named, with a line to the output if a line of it declares no event; or how the run ends without
+/// it.
+fn declared<F: Folders, K: ByteSink>(
+    alloc: Global,
+    folders: &mut F,
+    out: &mut K,
+    file: Option<&str>,
+) -> Result<Events, Ending>
+    ensures declares { IfOk result (λ events. Declares (option_map (λ f. f.now) file.entry) events (F.tree folders.old)
+        × (K.taken out.new ≡ K.taken out.old)) }
+    ensures ends { IfErr result (λ ending. EndsUndeclared (option_map (λ f. f.now) file.entry) (F.tree folders.old) (K.taken out.old)
+        (K.taken out.new) ending) }
+    ensures fault { result ≡ Err Ending.ReadOrWrite → (K.failures out.new ≡ once_more (K.failures out.old))
+        ⊎ LacksDeclarations (option_map (λ f. f.now) file.entry) (folders_of F.Folders folders.old) (folders_of F.Folders folders.new) }
+    ensures no_fault { (result ≡ Err Ending.ReadOrWrite → ⊥)
+        → (K.failures out.new ≡ K.failures out.old) × (F.failures folders.new ≡ F.failures folders.old) }
+{
+    let Some(file) = file else {
+        return Ok(Events::none(alloc));
+    };
+    match declarations_told(alloc, folders, out, file) {
+        Ok(Declarations::Declared(events)) => Ok(events),
+        Ok(Declarations::Refused(_)) => Err(Ending::Refused),
+        Ok(Declarations::Unreadable) => Err(Ending::ReadOrWrite),
+        Err(DescribeFault::TooMuch | DescribeFault::Write) => Err(Ending::ReadOrWrite),
+        Err(DescribeFault::NoMemory) => Err(Ending::NoMemory),
+    }
+}
+
+/// Runs a script, whose sessions are created with these events, and writes its archives if it came to its end.
 fn end_script<S: ByteSource, K: ByteSink, D: Disk>(
     alloc: Global,
     input: &mut S,
     out: &mut K,
     disk: &mut D,
+    events: Events,
     dir: Option<&str>,
 ) -> Ending
     ensures ends { EndsAs (host_of S.ByteSource K.ByteSink D.Disk input.old out.old disk.old)
-        (host_of S.ByteSource K.ByteSink D.Disk input.new out.new disk.new) (option_map (λ d. d.now) dir.entry)
+        (host_of S.ByteSource K.ByteSink D.Disk input.new out.new disk.new) events (option_map (λ d. d.now) dir.entry)
         result }
     ensures fault { result ≡ Ending.ReadOrWrite
         → HasCause (host_of S.ByteSource K.ByteSink D.Disk input.old out.old disk.old)
@@ -67,7 +99,7 @@ fn end_script<S: ByteSource, K: ByteSink, D: Disk>(
         → HasNoFault (host_of S.ByteSource K.ByteSink D.Disk input.old out.old disk.old)
         (host_of S.ByteSource K.ByteSink D.Disk input.new out.new disk.new) }
 {
-    let done = match run_script(alloc, alloc, input, out) {
+    let done = match run_script_with(alloc, alloc, events, input, out) {
         Ok(done) => done,
         Err(fault) => return Ending::of_script(fault),
     };
@@ -118,6 +150,21 @@ fn end_audit<K: ByteSink, F: Folders>(
     Ending::of_survey(survey(alloc, folders, out, dir, archives))
 }
 
+/// Gives the archives below a folder the metadata of the events that a file declares.
+fn end_describe<K: ByteSink, F: Folders, T: Texts>(
+    alloc: Global,
+    out: &mut K,
+    folders: &mut F,
+    texts: &mut T,
+    file: &str,
+    dir: &str,
+) -> Ending
+    ensures { HasDescribed file.now dir.now (folders_of F.Folders folders.old) (folders_of F.Folders folders.new)
+        (texts_state T.Texts texts.old) (texts_state T.Texts texts.new) (sunk_of K.ByteSink out.old) (sunk_of K.ByteSink out.new) result }
+{
+    Ending::of_describe(describe_by(alloc, folders, texts, out, file, dir))
+}
+
 /// Does what the words ask for.
 fn end<
     R: Threads + Wait + Clock + Sync,
@@ -125,6 +172,7 @@ fn end<
     K: ByteSink,
     D: Disk,
     F: Folders,
+    T: Texts,
     P: Progress + Sync,
 >(
     rt: &R,
@@ -134,29 +182,33 @@ fn end<
     out: &mut K,
     disk: &mut D,
     folders: &mut F,
+    texts: &mut T,
     progress: &P,
 ) -> Ending
-    ensures ends { EndsSo (outside_of S.ByteSource K.ByteSink D.Disk F.Folders input.old out.old disk.old folders.old)
-        (outside_of S.ByteSource K.ByteSink D.Disk F.Folders input.new out.new disk.new folders.new)
+    ensures ends { EndsSo (outside_of S.ByteSource K.ByteSink D.Disk F.Folders T.Texts input.old out.old disk.old folders.old texts.old)
+        (outside_of S.ByteSource K.ByteSink D.Disk F.Folders T.Texts input.new out.new disk.new folders.new texts.new)
         (job_asked (map (λ w. w.now) words.now)) result }
     ensures fault { result ≡ Ending.ReadOrWrite
         → HasFault (job_asked (map (λ w. w.now) words.now))
-        (outside_of S.ByteSource K.ByteSink D.Disk F.Folders input.old out.old disk.old folders.old)
-        (outside_of S.ByteSource K.ByteSink D.Disk F.Folders input.new out.new disk.new folders.new) }
+        (outside_of S.ByteSource K.ByteSink D.Disk F.Folders T.Texts input.old out.old disk.old folders.old texts.old)
+        (outside_of S.ByteSource K.ByteSink D.Disk F.Folders T.Texts input.new out.new disk.new folders.new texts.new) }
     ensures no_session { result ≡ Ending.NoSession
         → HasFault (job_asked (map (λ w. w.now) words.now))
-        (outside_of S.ByteSource K.ByteSink D.Disk F.Folders input.old out.old disk.old folders.old)
-        (outside_of S.ByteSource K.ByteSink D.Disk F.Folders input.new out.new disk.new folders.new) }
+        (outside_of S.ByteSource K.ByteSink D.Disk F.Folders T.Texts input.old out.old disk.old folders.old texts.old)
+        (outside_of S.ByteSource K.ByteSink D.Disk F.Folders T.Texts input.new out.new disk.new folders.new texts.new) }
     ensures no_fault { (result ≡ Ending.ReadOrWrite → ⊥)
         → FailedNowhere
-        (outside_of S.ByteSource K.ByteSink D.Disk F.Folders input.old out.old disk.old folders.old)
-        (outside_of S.ByteSource K.ByteSink D.Disk F.Folders input.new out.new disk.new folders.new) }
+        (outside_of S.ByteSource K.ByteSink D.Disk F.Folders T.Texts input.old out.old disk.old folders.old texts.old)
+        (outside_of S.ByteSource K.ByteSink D.Disk F.Folders T.Texts input.new out.new disk.new folders.new texts.new) }
 {
     let Ok(words) = with_program(alloc, words) else {
         return Ending::NoMemory;
     };
     match job_of(alloc, words.as_slice()) {
-        Ok(Some(Job::Script { out: dir })) => end_script(alloc, input, out, disk, dir),
+        Ok(Some(Job::Script { events, out: dir })) => match declared(alloc, folders, out, events) {
+            Ok(events) => end_script(alloc, input, out, disk, events, dir),
+            Err(ending) => ending,
+        },
         Ok(
             Some(
                 Job::Load {
@@ -180,6 +232,9 @@ fn end<
             Err(fault) => Ending::of_load(fault),
         },
         Ok(Some(Job::Audit { dir, archives })) => end_audit(alloc, out, folders, dir, archives),
+        Ok(Some(Job::Describe { events, dir })) => {
+            end_describe(alloc, out, folders, texts, events, dir)
+        }
         Ok(None) => Ending::BadCommandLine,
         Err(_) => Ending::NoMemory,
     }
@@ -198,11 +253,12 @@ fn tell<E: ByteSink>(ending: Ending, err: &mut E) -> u8
 }
 
 /// Runs the program with the words after its name. The answer is the exit status: 0 if all was done, 1 if a line was
-/// refused, or if a load's logs don't agree with its session or one of its calls was refused, or if an audit found something
-/// wrong, 2 for a bad command line, 3 for a fault of input, output, a folder or a file, a script that is too long, or an audit
-/// that found no session, 4 for a failed allocation or a thread that can't be made. From 2 on `err` gets one line. Archives
-/// are made only once the input was read to its end and answered whole, or a load was reported whole; if one can't be made,
-/// those before it stay, and a prefix of its own folder and files.
+/// refused, or a line of declarations, or if a load's logs don't agree with its session or one of its calls was refused, or if an
+/// audit found something wrong, or if archives can't be described because of what is there, 2 for a bad command line, 3 for a fault
+/// of input, output, a folder or a file, a script that is too long, or no session to audit or to describe, 4 for a failed
+/// allocation or a thread that can't be made. From 2 on `err` gets one line. Archives are made only once the input was read to its
+/// end and answered whole, or a load was reported whole; if one can't be made, those before it stay, and a prefix of its own folder
+/// and files.
 ///
 /// Only a load starts threads and waits for them. If it is watched, it says by `progress` how far it is.
 pub fn run<
@@ -212,6 +268,7 @@ pub fn run<
     E: ByteSink,
     D: Disk,
     F: Folders,
+    T: Texts,
     P: Progress + Sync,
 >(
     rt: &R,
@@ -222,22 +279,23 @@ pub fn run<
     err: &mut E,
     disk: &mut D,
     folders: &mut F,
+    texts: &mut T,
     progress: &P,
 ) -> u8
     ensures ends { HasEnded (job_asked (map (λ w. w.now) words.now))
-        (outside_of S.ByteSource K.ByteSink D.Disk F.Folders input.old out.old disk.old folders.old)
-        (outside_of S.ByteSource K.ByteSink D.Disk F.Folders input.new out.new disk.new folders.new)
+        (outside_of S.ByteSource K.ByteSink D.Disk F.Folders T.Texts input.old out.old disk.old folders.old texts.old)
+        (outside_of S.ByteSource K.ByteSink D.Disk F.Folders T.Texts input.new out.new disk.new folders.new texts.new)
         (sunk_of E.ByteSink err.old) (sunk_of E.ByteSink err.new) result }
     ensures fault { result ≡ 3
         → HasFault (job_asked (map (λ w. w.now) words.now))
-        (outside_of S.ByteSource K.ByteSink D.Disk F.Folders input.old out.old disk.old folders.old)
-        (outside_of S.ByteSource K.ByteSink D.Disk F.Folders input.new out.new disk.new folders.new) }
+        (outside_of S.ByteSource K.ByteSink D.Disk F.Folders T.Texts input.old out.old disk.old folders.old texts.old)
+        (outside_of S.ByteSource K.ByteSink D.Disk F.Folders T.Texts input.new out.new disk.new folders.new texts.new) }
     ensures no_fault { (result ≡ 3 → ⊥)
         → FailedNowhere
-        (outside_of S.ByteSource K.ByteSink D.Disk F.Folders input.old out.old disk.old folders.old)
-        (outside_of S.ByteSource K.ByteSink D.Disk F.Folders input.new out.new disk.new folders.new) }
+        (outside_of S.ByteSource K.ByteSink D.Disk F.Folders T.Texts input.old out.old disk.old folders.old texts.old)
+        (outside_of S.ByteSource K.ByteSink D.Disk F.Folders T.Texts input.new out.new disk.new folders.new texts.new) }
 {
-    let ending = end(rt, alloc, words, input, out, disk, folders, progress);
+    let ending = end(rt, alloc, words, input, out, disk, folders, texts, progress);
     tell(ending, err)
 }
 
@@ -249,6 +307,7 @@ fn run_arguments<
     E: ByteSink,
     D: Disk,
     F: Folders,
+    T: Texts,
     P: Progress + Sync,
 >(
     rt: &R,
@@ -259,20 +318,21 @@ fn run_arguments<
     err: &mut E,
     disk: &mut D,
     folders: &mut F,
+    texts: &mut T,
     progress: &P,
 ) -> u8
     ensures ends { HasEnded (job_asked (words_of (into_iter_items given)))
-        (outside_of S.ByteSource K.ByteSink D.Disk F.Folders input.old out.old disk.old folders.old)
-        (outside_of S.ByteSource K.ByteSink D.Disk F.Folders input.new out.new disk.new folders.new)
+        (outside_of S.ByteSource K.ByteSink D.Disk F.Folders T.Texts input.old out.old disk.old folders.old texts.old)
+        (outside_of S.ByteSource K.ByteSink D.Disk F.Folders T.Texts input.new out.new disk.new folders.new texts.new)
         (sunk_of E.ByteSink err.old) (sunk_of E.ByteSink err.new) result }
     ensures fault { result ≡ 3
         → HasFault (job_asked (words_of (into_iter_items given)))
-        (outside_of S.ByteSource K.ByteSink D.Disk F.Folders input.old out.old disk.old folders.old)
-        (outside_of S.ByteSource K.ByteSink D.Disk F.Folders input.new out.new disk.new folders.new) }
+        (outside_of S.ByteSource K.ByteSink D.Disk F.Folders T.Texts input.old out.old disk.old folders.old texts.old)
+        (outside_of S.ByteSource K.ByteSink D.Disk F.Folders T.Texts input.new out.new disk.new folders.new texts.new) }
     ensures no_fault { (result ≡ 3 → ⊥)
         → FailedNowhere
-        (outside_of S.ByteSource K.ByteSink D.Disk F.Folders input.old out.old disk.old folders.old)
-        (outside_of S.ByteSource K.ByteSink D.Disk F.Folders input.new out.new disk.new folders.new) }
+        (outside_of S.ByteSource K.ByteSink D.Disk F.Folders T.Texts input.old out.old disk.old folders.old texts.old)
+        (outside_of S.ByteSource K.ByteSink D.Disk F.Folders T.Texts input.new out.new disk.new folders.new texts.new) }
 {
     let Ok(given) = collected(alloc, given) else {
         return tell(Ending::NoMemory, err);
@@ -287,6 +347,7 @@ fn run_arguments<
             err,
             disk,
             folders,
+            texts,
             progress,
         ),
         Err(_) => tell(Ending::NoMemory, err),
@@ -302,6 +363,7 @@ pub fn run_given<
     E: ByteSink,
     D: Disk,
     F: Folders,
+    T: Texts,
     P: Progress + Sync,
 >(
     rt: &R,
@@ -312,24 +374,27 @@ pub fn run_given<
     err: &mut E,
     disk: &mut D,
     folders: &mut F,
+    texts: &mut T,
     progress: &P,
 ) -> u8
     ensures ends { HasEnded (option_and_then (λ arguments. job_asked (words_of (into_iter_items arguments))) (result_ok given))
-        (outside_of S.ByteSource K.ByteSink D.Disk F.Folders input.old out.old disk.old folders.old)
-        (outside_of S.ByteSource K.ByteSink D.Disk F.Folders input.new out.new disk.new folders.new)
+        (outside_of S.ByteSource K.ByteSink D.Disk F.Folders T.Texts input.old out.old disk.old folders.old texts.old)
+        (outside_of S.ByteSource K.ByteSink D.Disk F.Folders T.Texts input.new out.new disk.new folders.new texts.new)
         (sunk_of E.ByteSink err.old) (sunk_of E.ByteSink err.new) result }
     ensures arguments { IfErr given (λ error. result ≡ status_of (ending_of_arguments (error_kind error))) }
     ensures fault { result ≡ 3
         → HasFault (option_and_then (λ arguments. job_asked (words_of (into_iter_items arguments))) (result_ok given))
-        (outside_of S.ByteSource K.ByteSink D.Disk F.Folders input.old out.old disk.old folders.old)
-        (outside_of S.ByteSource K.ByteSink D.Disk F.Folders input.new out.new disk.new folders.new) }
+        (outside_of S.ByteSource K.ByteSink D.Disk F.Folders T.Texts input.old out.old disk.old folders.old texts.old)
+        (outside_of S.ByteSource K.ByteSink D.Disk F.Folders T.Texts input.new out.new disk.new folders.new texts.new) }
     ensures no_fault { (result ≡ 3 → ⊥)
         → FailedNowhere
-        (outside_of S.ByteSource K.ByteSink D.Disk F.Folders input.old out.old disk.old folders.old)
-        (outside_of S.ByteSource K.ByteSink D.Disk F.Folders input.new out.new disk.new folders.new) }
+        (outside_of S.ByteSource K.ByteSink D.Disk F.Folders T.Texts input.old out.old disk.old folders.old texts.old)
+        (outside_of S.ByteSource K.ByteSink D.Disk F.Folders T.Texts input.new out.new disk.new folders.new texts.new) }
 {
     match given {
-        Ok(given) => run_arguments(rt, alloc, given, input, out, err, disk, folders, progress),
+        Ok(given) => run_arguments(
+            rt, alloc, given, input, out, err, disk, folders, texts, progress,
+        ),
         Err(error) => tell(Ending::of_arguments(error.kind()), err),
     }
 }

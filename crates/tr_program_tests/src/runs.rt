@@ -1,6 +1,7 @@
-//! Runs of the program over memory whose input, output, disk, folders or arguments fail. What else runs come to is shown by
+//! Runs of the program over memory whose input, output, disk, folders, texts or arguments fail. What else runs come to is shown by
 //! the program itself, in `examples`.
 
+mod described;
 mod failing;
 mod unreadable;
 
@@ -8,6 +9,7 @@ use crate::asserting::assert_same;
 use std::alloc::Global;
 use std::io;
 use std::test::*;
+use tr_describe::MemoryTexts;
 use tr_export::MemoryDisk;
 use tr_folders::MemoryFolders;
 use tr_load::NoProgress;
@@ -34,6 +36,7 @@ fn arguments_without_memory_are_told(rt: HostRuntime) {
         &mut err,
         &mut disk,
         &mut no_folders(alloc),
+        &mut MemoryTexts::new(alloc, 16),
         &NoProgress,
     );
     assert_same(&rt, (status, disk.made().len()), (4, 0));

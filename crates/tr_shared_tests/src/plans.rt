@@ -4,6 +4,7 @@ use std::alloc::Global;
 use std::fmt::Debug;
 use std::process::Abort;
 use std::test::*;
+use tr_events::Events;
 use tr_seats::{Plan, plan, plan_watched};
 use tr_session::{ChannelConfig, Config};
 use tr_session_book::SessionFault;
@@ -60,6 +61,7 @@ fn config_with(
         uuid: Uuid::nil(),
         offset,
         mode: session,
+        events: Events::none(alloc),
         channels,
     }
 }
@@ -80,6 +82,13 @@ pub(crate) fn plan_with(
 pub(crate) fn plan_of_watched(rt: &impl Abort, alloc: Global, watchers: usize) -> Plan {
     let config = config_with(rt, alloc, SessionMode::Local, Mode::Overwrite, 256, 2);
     plan_watched(alloc, &config, watchers).expect(rt, "a plan")
+}
+
+/// A plan of one stream that declares what a text does.
+pub(crate) fn plan_declaring(rt: &impl Abort, alloc: Global, text: &str) -> Plan {
+    let mut config = config_with(rt, alloc, SessionMode::Local, Mode::Discard, 256, 1);
+    config.events = Events::parse(alloc, text.as_bytes()).expect(rt, "events");
+    plan(alloc, &config).expect(rt, "a plan")
 }
 
 /// A plan of `threads` streams with two sub-buffers of 256 bytes each.

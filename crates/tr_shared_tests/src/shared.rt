@@ -4,6 +4,7 @@ ghost use Rattle.std.specs.Prelude.{◌≡◌, ◌<◌};
 
 mod clearing;
 mod contention;
+mod declared;
 mod operators;
 mod rotating;
 mod snapshots;

@@ -1,4 +1,4 @@
-//! The daemon's program: answers a script of commands, runs a load, or audits archives.
+//! The daemon's program: answers a script of commands, runs a load, audits archives, or gives archives their types.
 #![tactic(auto)]
 
 mod progress;
@@ -9,6 +9,7 @@ use std::io::IsTerminal;
 use std::process::ExitCode;
 use std::{env, io};
 use tr_command::notice_given;
+use tr_describe::HostTexts;
 use tr_export::{HostFiles, SystemDisk};
 use tr_folders::HostFolders;
 use tr_program::run_given;
@@ -29,6 +30,7 @@ fn main(rt: HostRuntime) -> ExitCode {
     let mut out = WriterSink::new(io::writer(&rt));
     let mut disk = SystemDisk::new(HostFiles::new(&rt));
     let mut folders = HostFolders::new(&rt);
+    let mut texts = HostTexts::new(alloc, &rt);
     let status = run_given(
         &rt,
         alloc,
@@ -38,6 +40,7 @@ fn main(rt: HostRuntime) -> ExitCode {
         &mut err,
         &mut disk,
         &mut folders,
+        &mut texts,
         &OnStandardError { rt: &rt },
     );
     ExitCode::from(status)

@@ -7,7 +7,7 @@ use Rattle.tr_console.specs.Text.{Text}
 use Rattle.tr_console.specs.World.{World, session_named}
 use Rattle.tr_console.specs.commands.Create.{create_named_step, create_step}
 use Rattle.tr_session.specs.Agreement.{SessionsAgree}
-use Rattle.tr_session.specs.Session.{new_session}
+use Rattle.tr_session.specs.Session.{declaring, new_session}
 use Rattle.tr_stream.specs.Rules.{Traced}
 use Rattle.tr_stream.specs.State.{StreamState}
 use Rattle.tr_terms.specs.Names.{is_name}
@@ -17,9 +17,9 @@ use Rattle.uuid.specs.Text.{parsed}
 
 created-agree : (v : World StreamState) (w : World Traced) (name : Text) (offset : ℤ) (mode : SessionMode) (uuid : List ℕ)
     → WorldsAgree v w → StepsAgree (create_named_step v name offset mode uuid) (create_named_step w name offset mode uuid)
-created-agree v w name offset mode uuid is = go (is_some (session_named name v)) (nat_le MOST_SESSIONS (length v)) refl refl
+created-agree v w name offset mode uuid is = go (is_some (session_named name v)) (nat_le MOST_SESSIONS (length v.sessions)) refl refl
   where
-    go : (taken full : Bool) → is_some (session_named name v) ≡ taken → nat_le MOST_SESSIONS (length v) ≡ full
+    go : (taken full : Bool) → is_some (session_named name v) ≡ taken → nat_le MOST_SESSIONS (length v.sessions) ≡ full
         → StepsAgree (create_named_step v name offset mode uuid) (create_named_step w name offset mode uuid)
     go true full x y =
         let u : is_some (session_named name w) ≡ true =
@@ -28,15 +28,16 @@ created-agree v w name offset mode uuid is = go (is_some (session_named name v))
     go false true x y =
         let u : is_some (session_named name w) ≡ false =
         sym (same-found (session_named name v) (session_named name w) (found-agree name v w is)) ∙ x in
-        let z : nat_le MOST_SESSIONS (length w) ≡ true = ap (nat_le MOST_SESSIONS) (sym (worlds-length v w is)) ∙ y in
+        let z : nat_le MOST_SESSIONS (length w.sessions) ≡ true = ap (nat_le MOST_SESSIONS) (sym (worlds-length v w is)) ∙ y in
         rw (x, u, y, z) (record { world = is; text = refl; is_refused = refl })
     go false false x y =
         let u : is_some (session_named name w) ≡ false =
         sym (same-found (session_named name v) (session_named name w) (found-agree name v w is)) ∙ x in
-        let z : nat_le MOST_SESSIONS (length w) ≡ false = ap (nat_le MOST_SESSIONS) (sym (worlds-length v w is)) ∙ y in
-        let new : SessionsAgree (new_session uuid offset mode) (new_session uuid offset mode) = record { book = refl; streams = tt; made = tt } in
+        let z : nat_le MOST_SESSIONS (length w.sessions) ≡ false = ap (nat_le MOST_SESSIONS) (sym (worlds-length v w is)) ∙ y in
+        let new : SessionsAgree (declaring v.events (new_session uuid offset mode)) (declaring w.events (new_session uuid offset mode)) =
+        record { book = ap (λ events. (declaring {S = Traced} events (new_session uuid offset mode)).book) is.events; streams = tt; made = tt } in
         rw (x, u, y, z) (record {
-          world = worlds-push v w name (new_session uuid offset mode) (new_session uuid offset mode)
+          world = worlds-push v w name (declaring v.events (new_session uuid offset mode)) (declaring w.events (new_session uuid offset mode))
               is new;
           text = refl;
           is_refused = refl;

@@ -58,7 +58,12 @@ impl<A: Allocator + Copy> Console<A> {
             return refusal(alloc, LineFault::Session(SessionFault::TooMany));
         }
         let text = format!(in alloc; "created {session}\n")?;
-        self.add(&name, Session::new(alloc, uuid, offset, mode))?;
+        let mut made = Session::new(alloc, uuid, offset, mode);
+        // (it wasn't started, so only a failed allocation refuses this)
+        if let Err(_) = made.declare(self.events()) {
+            return Err(AllocError);
+        }
+        self.add(&name, made)?;
         Ok(Reply::done(ReplyText::Written(text)))
     }
 }

@@ -7,6 +7,7 @@ use Call::{
 };
 use std::alloc::Global;
 use std::process::Abort;
+use tr_events::Events;
 use tr_session::{Answer, ChannelConfig, Config, Event, Session, StepFault, run_session};
 use tr_session_book::SessionFault;
 use tr_snapshot::{count, oldest_serial};
@@ -38,6 +39,7 @@ fn config<'a>(
         uuid: Uuid::nil(),
         offset,
         mode: session,
+        events: Events::none(alloc),
         channels,
     }
 }

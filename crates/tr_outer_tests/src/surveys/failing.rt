@@ -12,13 +12,30 @@ use tr_survey::{SurveyFault, Surveyed, survey};
 
 /// Folders that fail after `calls` calls.
 #[derive(Drop)]
-struct FailingFolders {
+pub(crate) struct FailingFolders {
     folders: MemoryFolders,
     calls: u64,
     failures: u64,
 }
 
 impl FailingFolders {
+    pub(crate) fn new(folders: MemoryFolders, calls: u64) -> Self {
+        FailingFolders {
+            folders,
+            calls,
+            failures: 0,
+        }
+    }
+
+    /// How many calls are left.
+    pub(crate) fn calls(&self) -> u64 {
+        self.calls
+    }
+
+    pub(crate) fn failures(&self) -> u64 {
+        self.failures
+    }
+
     /// Counts a fault, if it is a failure.
     fn counted(&mut self, fault: ReadFault) -> ReadFault
         ensures fault { result ≡ fault }

@@ -29,6 +29,28 @@ pub(crate) fn text(rt: &impl Abort, alloc: Global, parts: &[&str]) -> String {
 /// of its records.
 pub(crate) type Row = (u64, u64, u64, &'static [u64]);
 
+/// A packet whose records have moments of their own: its number, how many records were discarded by its end, when it ends, and the
+/// serial and the moment of each of its records.
+pub(crate) type TimedRow = (u64, u64, u64, &'static [(u64, u64)]);
+
+fn moment_of(rt: &impl Abort, moment: u64) -> Moment {
+    Moment::new(moment).expect(rt, "a moment")
+}
+
+fn push_record(rt: &impl Abort, alloc: Global, records: &mut Vec<Rec>, serial: u64, moment: u64) {
+    let moment = moment_of(rt, moment);
+    let record = Rec::copy_of(alloc, serial, moment, 7, &[0x61; 50]).expect(rt, "memory");
+    records.push(record).expect(rt, "memory");
+}
+
+fn push_packet(rt: &impl Abort, alloc: Global, bytes: &mut Vec<u8>, head: Head, records: Vec<Rec>) {
+    let packet = Packet::checked(head, records).expect(rt, "a packet");
+    let packet = encode_packet(alloc, &packet).expect(rt, "memory");
+    for byte in &packet {
+        bytes.push(*byte).expect(rt, "memory");
+    }
+}
+
 /// The bytes of packets of a stream of a trace.
 pub(crate) fn packets(
     rt: &impl Abort,
@@ -39,14 +61,11 @@ pub(crate) fn packets(
 ) -> Vec<u8> {
     let mut bytes = Vec::new(alloc);
     for (seq, lost, moment, serials) in rows {
-        let moment = Moment::new(*moment).expect(rt, "a moment");
         let mut records = Vec::new(alloc);
         for serial in serials.iter() {
-            let record = Rec::copy_of(alloc, *serial, moment, 7, &[0x61; 50]);
-            records
-                .push(record.expect(rt, "memory"))
-                .expect(rt, "memory");
+            push_record(rt, alloc, &mut records, *serial, *moment);
         }
+        let moment = moment_of(rt, *moment);
         let head = Head {
             uuid: uuid(trace),
             stream,
@@ -55,11 +74,38 @@ pub(crate) fn packets(
             seq: *seq,
             lost: *lost,
         };
-        let packet = Packet::checked(head, records).expect(rt, "a packet");
-        let packet = encode_packet(alloc, &packet).expect(rt, "memory");
-        for byte in &packet {
-            bytes.push(*byte).expect(rt, "memory");
+        push_packet(rt, alloc, &mut bytes, head, records);
+    }
+    bytes
+}
+
+/// Those of packets whose records have moments of their own.
+fn timed_packets(
+    rt: &impl Abort,
+    alloc: Global,
+    trace: u8,
+    stream: u64,
+    rows: &[TimedRow],
+) -> Vec<u8> {
+    let mut bytes = Vec::new(alloc);
+    for (seq, lost, end, timed) in rows {
+        let mut records = Vec::new(alloc);
+        let begin = match timed {
+            [] => *end,
+            [(_, moment), ..] => *moment,
+        };
+        for (serial, moment) in timed.iter() {
+            push_record(rt, alloc, &mut records, *serial, *moment);
         }
+        let head = Head {
+            uuid: uuid(trace),
+            stream,
+            begin: moment_of(rt, begin),
+            end: moment_of(rt, *end),
+            seq: *seq,
+            lost: *lost,
+        };
+        push_packet(rt, alloc, &mut bytes, head, records);
     }
     bytes
 }
@@ -174,6 +220,8 @@ pub(crate) enum Thing {
     Metadata(&'static str, u8),
     /// A file of an archive with packets of a stream, as `packets` takes them.
     Packets(&'static str, &'static str, u64, &'static [Row]),
+    /// The same, where records have moments of their own.
+    Timed(&'static str, &'static str, u64, &'static [TimedRow]),
 }
 
 impl<'a, R: Abort> Room<'a, R> {
@@ -184,6 +232,10 @@ impl<'a, R: Abort> Room<'a, R> {
             Thing::Metadata(archive, last) => self.metadata(archive, uuid(*last)),
             Thing::Packets(archive, name, stream, rows) => {
                 self.packets(archive, name, *stream, rows);
+            }
+            Thing::Timed(archive, name, stream, rows) => {
+                let bytes = timed_packets(self.rt, self.alloc, 1, *stream, rows);
+                self.file(archive, name, bytes);
             }
         }
     }

@@ -8,6 +8,7 @@ use std::alloc::Global;
 use std::sync::Wait;
 use std::thread::Threads;
 use std::time::Clock;
+use tr_describe::MemoryTexts;
 use tr_export::Disk;
 use tr_load::NoProgress;
 use tr_program::run;
@@ -163,6 +164,7 @@ fn ends<R: Threads + Wait + Clock + Sync, S: ByteSource, K: ByteSink>(
         &mut err,
         &mut disk,
         &mut folders,
+        &mut MemoryTexts::new(alloc, 16),
         &NoProgress,
     );
     (status, disk.left, err.into_bytes().as_slice() == FAULT)
@@ -306,6 +308,7 @@ fn a_fault_that_cannot_be_told_keeps_its_status(rt: HostRuntime) {
         &mut err,
         &mut disk,
         &mut folders,
+        &mut MemoryTexts::new(rt.alloc(), 16),
         &NoProgress,
     );
     assert_same(&rt, status, 3);

@@ -1,4 +1,4 @@
-//! Audits of folders that can't be read.
+//! Folders that can't be read: what an audit and a description come to.
 
 ghost use Rattle.std.specs.Prelude.{◌≡◌};
 ghost use Rattle.tr_folders.specs.Failures.{read_failures};
@@ -8,6 +8,7 @@ use std::alloc::Global;
 use std::sync::Wait;
 use std::thread::Threads;
 use std::time::Clock;
+use tr_describe::MemoryTexts;
 use tr_export::MemoryDisk;
 use tr_folders::{Folders, ReadFault};
 use tr_load::NoProgress;
@@ -60,11 +61,12 @@ impl Folders for Unreadable {
     }
 }
 
-/// The status of `audit d` where folders fail so, whether nothing went out and no file was made, and whether this line went to
+/// The status of a run of these words where folders fail so, whether nothing went out and no file was made, and whether this line went to
 /// standard error.
-fn audited<R: Threads + Wait + Clock + Sync>(
+fn read<R: Threads + Wait + Clock + Sync>(
     rt: &R,
     alloc: Global,
+    words: &[&str],
     fault: ReadFault,
     line: &str,
 ) -> (u8, bool, bool) {
@@ -74,12 +76,13 @@ fn audited<R: Threads + Wait + Clock + Sync>(
     let status = run(
         rt,
         alloc,
-        &["audit", "d"],
+        words,
         &mut MemorySource::new(b"", 4096),
         &mut out,
         &mut err,
         &mut disk,
         &mut Unreadable { fault, failures: 0 },
+        &mut MemoryTexts::new(alloc, 16),
         &NoProgress,
     );
     let untouched = disk.made().is_empty() && out.into_bytes().is_empty();
@@ -97,7 +100,15 @@ fn folders_that_cannot_be_read_are_told(rt: HostRuntime) {
         (ReadFault::TooMuch, 3, "tracerd: read or write fault\n"),
         (ReadFault::NoMemory, 4, "tracerd: no memory\n"),
     ] {
-        let found = audited(&rt, rt.alloc(), fault, line);
+        let found = read(&rt, rt.alloc(), &["audit", "d"], fault, line);
+        assert_same(&rt, found, (status, true, true));
+        let found = read(
+            &rt,
+            rt.alloc(),
+            &["describe", "--events", "e", "d"],
+            fault,
+            line,
+        );
         assert_same(&rt, found, (status, true, true));
     }
 }

@@ -7,6 +7,7 @@ use crate::streams::size_of;
 use crate::turns::{Call, assert_same, refuse_each_request};
 use std::alloc::{Allocator, Global};
 use std::process::Abort;
+use tr_events::Events;
 use tr_session::{Answer, ChannelConfig, Config, Event, Session, StepFault, run_session};
 use tr_session_book::SessionFault;
 use tr_stream::{Cleared, CutDone, CutFault, Payload, Released, TakeFault, Taken};
@@ -279,6 +280,7 @@ fn config<A: Allocator + Copy>(rt: &impl Abort, alloc: A) -> Config<'static, A> 
         uuid: Uuid::from_u128(1),
         offset: OffsetMinutes::new(60).expect(rt, "an offset"),
         mode: SessionMode::Local,
+        events: Events::none(alloc),
         channels,
     }
 }

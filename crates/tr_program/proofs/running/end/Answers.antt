@@ -1,7 +1,8 @@
 use Rattle.std.proofs.Common.{◌≡◌, ◌∙◌, ap, inl, inr, map, option_map, subst, sym, Option, Some}
-use Rattle.tr_command.specs.Invocation.{Audit, Task, job_asked, job_of, task_of}
-use Rattle.tr_program.specs.Runs.{HasFault, outside_of}
-use Rattle.tr_program.proofs.RunLemmas.{audit_fault, ends_without_memory, no_session}
+use Rattle.tr_command.specs.Invocation.{Audit, Describe, Task, job_asked, job_of, task_of}
+use Rattle.tr_program.specs.Runs.{HasFault, host_of, outside_of}
+use Rattle.tr_program.proofs.DescribeLemmas.{describe_fault, nothing_described}
+use Rattle.tr_program.proofs.RunLemmas.{audit_fault, cause_after, ends_without_memory, no_session}
 use Rattle.tr_program.proofs.running.end.Goals as goal
 
 pub returns-in_default-clause-ends : goal.returns-in_default-clause-ends
@@ -13,9 +14,9 @@ returns-in-Ok-Some-Audit-clause-no_session g c is =
     sym (ap (option_map task_of) (c.in-Ok-Some-Audit.field-0-is ∙ ap Some c.in-Ok-Some-Audit.field-0-0-is))
     ∙ c.in-Ok-Some-Audit.ensures.value ∙ ap (λ l. job_of (map (λ w. w.now) l)) c.as_slice.ensures.value ∙ ap job_of c.in-Ok.ensures in
     subst
-    (λ (task : Option Task). HasFault task (outside_of g.S.ByteSource g.K.ByteSink g.D.Disk g.F.Folders c.args.input.now c.args.out.now c.args.disk.now c.args.folders.now)
-    (outside_of g.S.ByteSource g.K.ByteSink g.D.Disk g.F.Folders c.args.input.now c.end_audit.new.out c.args.disk.now c.end_audit.new.folders))
-    asked (inr (inr (inr (no_session _ _ _ _ _ _ _ c.end_audit.ensures is))))
+    (λ (task : Option Task). HasFault task (outside_of g.S.ByteSource g.K.ByteSink g.D.Disk g.F.Folders g.T.Texts c.args.input.now c.args.out.now c.args.disk.now c.args.folders.now c.args.texts.now)
+    (outside_of g.S.ByteSource g.K.ByteSink g.D.Disk g.F.Folders g.T.Texts c.args.input.now c.end_audit.new.out c.args.disk.now c.end_audit.new.folders c.args.texts.now))
+    asked (inr (inl (inr (inr (no_session _ _ _ _ _ _ _ c.end_audit.ensures is)))))
 
 pub returns-in-Ok-Some-Audit-clause-fault : goal.returns-in-Ok-Some-Audit-clause-fault
 returns-in-Ok-Some-Audit-clause-fault g c is =
@@ -23,9 +24,35 @@ returns-in-Ok-Some-Audit-clause-fault g c is =
     sym (ap (option_map task_of) (c.in-Ok-Some-Audit.field-0-is ∙ ap Some c.in-Ok-Some-Audit.field-0-0-is))
     ∙ c.in-Ok-Some-Audit.ensures.value ∙ ap (λ l. job_of (map (λ w. w.now) l)) c.as_slice.ensures.value ∙ ap job_of c.in-Ok.ensures in
     subst
-    (λ (task : Option Task). HasFault task (outside_of g.S.ByteSource g.K.ByteSink g.D.Disk g.F.Folders c.args.input.now c.args.out.now c.args.disk.now c.args.folders.now)
-    (outside_of g.S.ByteSource g.K.ByteSink g.D.Disk g.F.Folders c.args.input.now c.end_audit.new.out c.args.disk.now c.end_audit.new.folders))
-    asked (elim (audit_fault _ _ _ _ _ _ _ c.end_audit.ensures is) [ inl writes ↦ inl (inl (inr writes)) | inr lacks ↦ inr (elim lacks [ inl reads ↦ inl reads | inr hidden ↦ inr (inl hidden) ]) ])
+    (λ (task : Option Task). HasFault task (outside_of g.S.ByteSource g.K.ByteSink g.D.Disk g.F.Folders g.T.Texts c.args.input.now c.args.out.now c.args.disk.now c.args.folders.now c.args.texts.now)
+    (outside_of g.S.ByteSource g.K.ByteSink g.D.Disk g.F.Folders g.T.Texts c.args.input.now c.end_audit.new.out c.args.disk.now c.end_audit.new.folders c.args.texts.now))
+    asked (elim (audit_fault _ _ _ _ _ _ _ c.end_audit.ensures is) [ inl writes ↦ inl (inl (inr writes)) | inr lacks ↦ inr (inl (elim lacks [ inl reads ↦ inl reads | inr hidden ↦ inr (inl hidden) ])) ])
+
+pub returns-in-Ok-Some-Describe-clause-no_session : goal.returns-in-Ok-Some-Describe-clause-no_session
+returns-in-Ok-Some-Describe-clause-no_session g c is =
+    let asked : Some (Describe c.in-Ok-Some-Describe.events.now c.in-Ok-Some-Describe.dir.now) ≡ job_asked (map (λ w. w.now) c.args.words.now) =
+    sym (ap (option_map task_of) (c.in-Ok-Some-Describe.field-0-is ∙ ap Some c.in-Ok-Some-Describe.field-0-0-is))
+    ∙ c.in-Ok-Some-Describe.ensures.value ∙ ap (λ l. job_of (map (λ w. w.now) l)) c.as_slice.ensures.value ∙ ap job_of c.in-Ok.ensures in
+    subst
+    (λ (task : Option Task). HasFault task (outside_of g.S.ByteSource g.K.ByteSink g.D.Disk g.F.Folders g.T.Texts c.args.input.now c.args.out.now c.args.disk.now c.args.folders.now c.args.texts.now)
+    (outside_of g.S.ByteSource g.K.ByteSink g.D.Disk g.F.Folders g.T.Texts c.args.input.now c.end_describe.new.out c.args.disk.now c.end_describe.new.folders c.end_describe.new.texts))
+    asked (inr (inl (inl (inr (inr (nothing_described _ _ _ _ _ _ _ _ _ c.end_describe.ensures is))))))
+
+pub returns-in-Ok-Some-Describe-clause-fault : goal.returns-in-Ok-Some-Describe-clause-fault
+returns-in-Ok-Some-Describe-clause-fault g c is =
+    let asked : Some (Describe c.in-Ok-Some-Describe.events.now c.in-Ok-Some-Describe.dir.now) ≡ job_asked (map (λ w. w.now) c.args.words.now) =
+    sym (ap (option_map task_of) (c.in-Ok-Some-Describe.field-0-is ∙ ap Some c.in-Ok-Some-Describe.field-0-0-is))
+    ∙ c.in-Ok-Some-Describe.ensures.value ∙ ap (λ l. job_of (map (λ w. w.now) l)) c.as_slice.ensures.value ∙ ap job_of c.in-Ok.ensures in
+    subst
+    (λ (task : Option Task). HasFault task (outside_of g.S.ByteSource g.K.ByteSink g.D.Disk g.F.Folders g.T.Texts c.args.input.now c.args.out.now c.args.disk.now c.args.folders.now c.args.texts.now)
+    (outside_of g.S.ByteSource g.K.ByteSink g.D.Disk g.F.Folders g.T.Texts c.args.input.now c.end_describe.new.out c.args.disk.now c.end_describe.new.folders c.end_describe.new.texts))
+    asked (elim (describe_fault _ _ _ _ _ _ _ _ _ c.end_describe.ensures is) [ inl told ↦ inl (inl (inr told)) | inr other ↦ inr other ])
 
 pub returns-clause-ends : goal.returns-clause-ends
 returns-clause-ends g c = ends_without_memory _ _
+
+pub returns-in-Ok-declared-clause-fault : goal.returns-in-Ok-declared-clause-fault
+returns-in-Ok-declared-clause-fault g c is =
+    inl (cause_after (host_of g.S.ByteSource g.K.ByteSink g.D.Disk c.args.input.now c.args.out.now c.args.disk.now)
+    (host_of g.S.ByteSource g.K.ByteSink g.D.Disk c.end_script.new.input c.end_script.new.out c.end_script.new.disk) _ _
+    c.in-Ok-declared.ensures.declares.1 (c.in-Ok-declared.ensures.no_fault (λ e. absurd cc)).0 (c.end_script.ensures.fault is))

@@ -11,7 +11,7 @@ use Rattle.tr_program.proofs.running.write_all.Goals as goal
 
 pub sessions-preserved : goal.sessions-preserved
 sessions-preserved g c =
-    let w = c.args.console.now in
+    let w = c.args.console.now.sessions in
     let e : Text × SessionOf StreamState = (c.in-Some.name, c.in-Some.session.now) in
     let got : slice_get w c.sessions.k ≡ Some e = sym c.in-Some.ensures in
     let within : c.sessions.k < length w = omega (arith, c.sessions-test.true, c.sessions-k-end.ensures) in
@@ -26,7 +26,7 @@ sessions-preserved g c =
 
 pub returns-in_err-write_archives-clause-err : goal.returns-in_err-write_archives-clause-err
 returns-in_err-write_archives-clause-err g c =
-    let w = c.args.console.now in
+    let w = c.args.console.now.sessions in
     let e : Text × SessionOf StreamState = (c.in-Some.name, c.in-Some.session.now) in
     let got : slice_get w c.sessions.k ≡ Some e = sym c.in-Some.ensures in
     let within : c.sessions.k < length w = omega (arith, c.sessions-test.true, c.sessions-k-end.ensures) in

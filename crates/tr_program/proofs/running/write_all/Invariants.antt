@@ -7,6 +7,6 @@ use Rattle.tr_program.proofs.running.write_all.Given as goal
 -- what the earlier sessions have is made
 abbrev pub invariant-sessions : goal.invariant-sessions
 invariant-sessions g l = record {
-  made : g.D.Disk.made l.disk ≡ and_then_made (g.D.Disk.made l.initial.disk) (all_made l.dir (take l.k l.console));
+  made : g.D.Disk.made l.disk ≡ and_then_made (g.D.Disk.made l.initial.disk) (all_made l.dir (record l.console { sessions = take l.k l.console.sessions }));
   works : HasNotFailed (g.D.Disk.failures l.initial.disk) (g.D.Disk.failures l.disk);
 }

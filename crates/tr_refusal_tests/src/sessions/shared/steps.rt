@@ -9,6 +9,7 @@ use crate::turns::assert_same;
 use std::alloc::Allocator;
 use std::process::Abort;
 use std::sync::Wait;
+use tr_events::Events;
 use tr_schedule::Cause;
 use tr_session::{ChannelConfig, Config, Next, StepFault, Ticked};
 use tr_session_book::{Archive, SessionFault};
@@ -65,6 +66,7 @@ pub(super) fn config_of<A: Allocator + Copy>(
         uuid: Uuid::from_u128(1),
         offset: OffsetMinutes::new(60).expect(rt, "an offset"),
         mode,
+        events: Events::none(alloc),
         channels,
     }
 }

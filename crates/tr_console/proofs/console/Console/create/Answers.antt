@@ -7,9 +7,10 @@ use Rattle.tr_console.proofs.CreateLemmas.{create-bad_uuid, create-new, none_cop
 use Rattle.tr_console.proofs.console.Console.create.Goals as goal
 use Rattle.tr_console.specs.Text.{Text}
 use Rattle.tr_console.specs.World.{session_named}
-use Rattle.tr_console.specs.commands.Create.{create_step}
+use Rattle.tr_console.specs.commands.Create.{create_step, with_new}
 use Rattle.tr_console.specs.declared.line_fault.LineFault.TheVariants.{BadUuid}
-use Rattle.tr_session.specs.Session.{new_session}
+use Rattle.tr_session.specs.Session.{declaring, new_session}
+use Rattle.tr_session.proofs.RunLemmas.{declared-new}
 use Rattle.tr_terms.specs.Names.{is_name}
 use Rattle.tr_terms.specs.declared.limits.TheConstants.{MOST_SESSIONS}
 use Rattle.uuid.specs.Text.{parsed}
@@ -36,16 +37,20 @@ returns-clause-done g c =
     let w = c.args.self.now in
     let name = c.args.session.now in
     let uuid = c.args.uuid.now in
-    let named : is_name name ≡ true = search rules in
+    let named : is_name name ≡ true = c.in-Some-new.ensures.succeeds.0 refl in
     let good : parsed uuid ≡ Some c.in-Ok.uuid = sym c.in-Ok.ensures.bytes in
     let free : is_some (session_named name w) ≡ false =
     ap is_some (none_copied c.find.result (session_named name w) c.find.ensures (sym c.if-is_some.ensures)) in
-    let few : nat_le MOST_SESSIONS (length w) ≡ false = grind (arith, nat_tests, c.sessions.ensures, c.if-sessions-ge-MOST_SESSIONS.false) in
+    let few : nat_le MOST_SESSIONS (length w.sessions) ≡ false =
+    grind (arith, nat_tests, c.sessions.ensures, c.if-sessions-ge-MOST_SESSIONS.false) in
     let step = create-new w name uuid c.args.offset c.args.mode c.in-Ok.uuid named good free few in
     let offset : c.in-Some.offset ≡ c.args.offset = c.in-Some.ensures.value ∙ to_z-of_z w32 c.args.offset c.ranges.offset in
+    let made : c.declare.new.self ≡ declaring c.events.result.now (new_session c.in-Ok.uuid c.in-Some.offset c.args.mode) =
+    declared-new c.in-Ok.uuid c.in-Some.offset c.args.mode c.events.result.now c.new-made.result c.declare.new.self c.new-made.ensures
+    c.in_default-declare.ensures.ok in
     rw step (
       c.done.ensures.text ∙ c.in_ok-text.ensures.ok,
       c.done.ensures.done,
-      c.in_ok-add.ensures.ok ∙ ap₂ (λ n s. w ++ (n, s) ∷ []) c.in-Some-new.ensures.value
-          (c.new-3.ensures ∙ ap (λ o. new_session c.in-Ok.uuid o c.args.mode) offset),
+      c.in_ok-add.ensures.ok ∙ (λ j. with_new (c.in-Some-new.ensures.value j)
+          ((made ∙ (λ k. declaring (c.events.ensures k) (new_session c.in-Ok.uuid (offset k) c.args.mode))) j) w),
     )

@@ -6,4 +6,4 @@ use Rattle.tr_console.specs.World.{session_named}
 pub returns : goal.returns
 returns g c =
     let name = c.args.name.now in
-    c.get.ensures.value ∙ named-is name c.self.inside.sessions.entries ∙ ap (session_named name) c.self.view_is
+    c.get.ensures.value ∙ named-is name c.self.inside.sessions.entries c.self.inside.events ∙ ap (session_named name) c.self.view_is

@@ -11,7 +11,7 @@ use Rattle.tr_terms.specs.Names.{is_name}
 pub returns-in_default : goal.returns-in_default
 returns-in_default g c =
     entry-is c.self.inside.sessions.entries c.args.k None c.in_default.ensures.entry
-    ∙ ap (λ (w : World StreamState). slice_get w c.args.k) c.self.view_is
+    ∙ ap (λ (w : World StreamState). slice_get w.sessions c.args.k) c.self.view_is
 
 pub unreachable-requires : goal.unreachable-requires
 unreachable-requires g c =
@@ -23,4 +23,4 @@ pub returns : goal.returns
 returns g c =
     ap (λ (n : Text). Some (n, c.in-Some.session.now)) (c.in-Some-new.ensures.value ∙ c.as_str.ensures.value)
     ∙ entry-is c.self.inside.sessions.entries c.args.k (Some (c.in-Some.text.now, c.in-Some.session.now)) c.in-Some.ensures.entry
-    ∙ ap (λ (w : World StreamState). slice_get w c.args.k) c.self.view_is
+    ∙ ap (λ (w : World StreamState). slice_get w.sessions c.args.k) c.self.view_is
