@@ -1,13 +1,14 @@
-/* What the static library libtr_cell.a exports: proved calls on one stream, on pages in reserve, on one session's book, on what
- * a look shows and on an audit. No call locks, waits, starts a thread, prints, or touches a global.
+/* What the static library libtr_cell.a exports: proved calls on one stream, on pages in reserve, on one session's book, on declared
+ * events, on what a look shows and on an audit. No call locks, waits, starts a thread, prints, or touches a global.
  *
  * `rt lib --jobs 1` in crates/tr_cell makes crates/tr_cell/out/libtr_cell.a; link it with the toolchain's c/liblibc_c.a, which
  * has malloc, realloc and free alone.
  *
  * What the caller owes, since nothing checks it:
  * - One call at a time is given a handle; calls of several threads on it are ordered by a lock.
- * - A handle is never copied, and written only once, as all zeros: then it is closed. Only `_new`, `_make`, `trc_book_thread`,
- *   `trc_book_look`, `trc_book_clear` and `trc_book_release` open one, and `_free` closes it again; closed ones may be freed.
+ * - A handle is never copied, and written only once, as all zeros: then it is closed. Only `_new`, `_make`, `_share`,
+ *   `trc_book_thread`, `trc_book_look`, `trc_book_clear` and `trc_book_release` open one, and `_free` closes it again; closed ones
+ *   may be freed.
  * - Each pointer to a result may be written, each slice may be read (a room: written) for its length, and points somewhere even
  *   at length 0. A `bool` is 0 or 1. Results, rooms, slices and handles of one call don't overlap.
  * - malloc, realloc and free are of one allocator, which aligns to 16 bytes. No call is made in a signal handler. In a forked
@@ -44,21 +45,24 @@ enum {
 
 /* Refusals of the session, a stream, a schedule and an audit are the numbers of the product's own codes: 100 + n for Sn,
  * 200 + n for On (offer), 300 + n for Tn (take), 400 + n for Cn (cut), 500 + n for Xn (clear), 600 + n for Yn (release),
- * 700 + n for Dn (schedule), 800 + n for An (audit), 900 + n for Gn (geometry). */
+ * 700 + n for Dn (schedule), 800 + n for An (audit), 900 + n for Gn (geometry), 1000 + n for Vn (a line that declares no
+ * event). */
 enum {
     TRC_S_SNAPSHOT_MODE = 101, TRC_S_NOT_SNAPSHOT_MODE = 102, TRC_S_NEVER_STARTED = 103, TRC_S_ROTATION_PENDING = 104,
     TRC_S_ALREADY_ROTATED = 105, TRC_S_ALREADY_ACTIVE = 106, TRC_S_NOT_ACTIVE = 107, TRC_S_NO_STREAM = 108,
     TRC_S_DISCARD_IN_SNAPSHOT = 109, TRC_S_ALREADY_STARTED = 110, TRC_S_BAD_GEOMETRY = 111, TRC_S_TOO_MANY = 112,
     TRC_S_NOT_PENDING = 113, TRC_S_CUT_MISSING = 114, TRC_S_NAME_TAKEN = 115, TRC_S_NO_CHANNEL = 117,
     TRC_S_NO_ARCHIVE = 118, TRC_S_RELEASED = 119, TRC_S_MISPLACED = 120,
-    TRC_O_INACTIVE = 201, TRC_O_TOO_BIG = 202, TRC_O_SPENT = 203,
+    TRC_O_INACTIVE = 201, TRC_O_TOO_BIG = 202, TRC_O_SPENT = 203, TRC_O_OTHER_LAYOUT = 206,
     TRC_T_NOTHING = 301, TRC_T_SNAPSHOT_MODE = 302,
     TRC_C_SNAPSHOT_MODE = 401,
     TRC_X_SNAPSHOT_MODE = 501,
     TRC_Y_NO_PART = 601, TRC_Y_RELEASED = 602,
     TRC_D_ZERO_PERIOD = 701, TRC_D_ZERO_SIZE = 702,
     TRC_A_PACKET = 801, TRC_A_NUMBER_REPEAT = 802, TRC_A_SERIAL_REPEAT = 803, TRC_A_FOREIGN = 804,
-    TRC_G_BAD_SIZE = 901, TRC_G_BAD_COUNT = 902
+    TRC_G_BAD_SIZE = 901, TRC_G_BAD_COUNT = 902,
+    TRC_V_BAD_EVENT = 1001, TRC_V_BAD_FIELD = 1002, TRC_V_BAD_TYPE = 1003, TRC_V_NOT_ALONE = 1004, TRC_V_FIELD_TWICE = 1005,
+    TRC_V_EVENT_TAKEN = 1006, TRC_V_TOO_MANY = 1007
 };
 
 enum { TRC_DISCARD = 0, TRC_OVERWRITE = 1 };          /* modes of a channel */
@@ -231,9 +235,27 @@ uint32_t trc_book_archive_name(trc_book *, uint64_t id, uint8_t *room, size_t ro
 uint32_t trc_book_snapshot_name(trc_book *, uint64_t stored, uint8_t *room, size_t room_len, uint64_t *copied);
 /* The name of a stream's file in it: 85 bytes at most. CLOSED, S8, NO_MEMORY, NO_ROOM. */
 uint32_t trc_book_file_name(trc_book *, uint64_t stream, uint8_t *room, size_t room_len, uint64_t *copied);
-/* The text of the file `metadata`: 4,096 bytes at most. CLOSED, NO_MEMORY, NO_ROOM. */
+/* The text of the file `metadata`, with the events that the book declares: without any 4,096 bytes at most. CLOSED, NO_MEMORY,
+ * NO_ROOM. */
 uint32_t trc_book_metadata(trc_book *, uint8_t *room, size_t room_len, uint64_t *copied);
 void trc_book_free(trc_book *);
+
+/* ---- Declared events --------------------------------------------------------------------------------------------------- */
+
+typedef struct { void *at; bool live; } trc_events;
+
+/* Opens the events that the lines of a text declare. IN_USE; NO_MEMORY; V1 to V7: `line` is the number of the first line that
+ * declares none, from 1 on. */
+uint32_t trc_events_new(trc_events *, const uint8_t *text, size_t len, uint64_t *line);
+/* Opens another handle of the same events, which calls on both may use at once. CLOSED, IN_USE (the other), NO_MEMORY. */
+uint32_t trc_events_share(trc_events *, trc_events *other);
+/* Has the session declare these events, of which it has a copy, in place of those that it declared. CLOSED (book, then events),
+ * S10, NO_MEMORY. */
+uint32_t trc_book_declare(trc_book *, trc_events *);
+/* DONE if a record of this id and payload is laid out as its event is declared, and of an id that isn't declared. It takes no
+ * memory. CLOSED, O6. */
+uint32_t trc_events_fit(trc_events *, uint32_t id, const uint8_t *payload, size_t len);
+void trc_events_free(trc_events *);
 
 /* DONE if this text is a name, of a session or a channel. BAD_NAME. */
 uint32_t trc_name(const uint8_t *name, size_t len);

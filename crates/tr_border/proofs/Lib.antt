@@ -1,4 +1,3 @@
 mod AbsentLemmas
 mod CopyLemmas
 mod NameLemmas
-pub mod TextLemmas

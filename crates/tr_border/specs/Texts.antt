@@ -1,8 +1,11 @@
 -- Texts that are copied out.
-use Rattle.std.specs.Prelude.{◌≡◌, ℕ, ◌-◌, ◌<◌, ◌≤◌, min, List, ◌++◌, take, drop, length}
-use Rattle.tr_packet.specs.Metadata.{metadata_of}
+use Rattle.std.specs.Prelude.{◌≡◌, ℕ, ◌-◌, ◌<◌, ◌≤◌, min, List, ◌++◌, take, drop, length, Option, Some, None, Result, Ok, Err}
+use Rattle.tr_events.specs.Events.{Event}
+use Rattle.tr_events.specs.Faults.{event_fault_code}
+use Rattle.tr_events.specs.declared.faults.LineFault.{LineFault}
 use Rattle.tr_packet.specs.Packets.{Contents}
 use Rattle.tr_packet.specs.Texts.{packets_text}
+use Rattle.tr_border.specs.Codes.{code_number}
 use Rattle.tr_border.specs.declared.texts.Place.{Place}
 use Rattle.tr_border.specs.declared.codes.TheConstants.{DONE, NO_ROOM}
 
@@ -31,6 +34,7 @@ CopiesWhole text code room room' count count' =
     → (code ≡ DONE) × (room' ≡ text ++ drop (length text) room) × (count' ≡ length text))
     × (length room < length text → (code ≡ NO_ROOM) × (room' ≡ room) × (count' ≡ count))
 
--- the file `metadata` of the trace with this identifier
-unfoldable pub metadata_file : List ℕ → List ℕ
-metadata_file uuid = metadata_of uuid
+-- a call that answers this code holds the events that a text declares; or it says which line declares none, and holds nothing
+abbrev pub HoldsDeclared : Result (List Event) LineFault → ℕ → Option (List Event) → ℕ → ℕ → Type 0
+HoldsDeclared (Ok events) code held line line' = (code ≡ DONE) × (held ≡ Some events) × (line' ≡ line)
+HoldsDeclared (Err at) code held line line' = (code ≡ code_number (event_fault_code at.fault)) × (held ≡ None) × (line' ≡ at.line)

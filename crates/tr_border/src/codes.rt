@@ -3,6 +3,7 @@
 ghost use Rattle.std.specs.Prelude.{◌≡◌};
 ghost use Rattle.tr_border.specs.Codes.{code_number, code_of};
 ghost use Rattle.tr_chunk.specs.Faults.{audit_cause_code};
+ghost use Rattle.tr_events.specs.Faults.{event_fault_code};
 ghost use Rattle.tr_packet.specs.Faults.{packet_fault_code};
 ghost use Rattle.tr_schedule.specs.Schedules.{schedule_fault_code};
 ghost use Rattle.tr_session.specs.Faults.{step_fault_code};
@@ -11,6 +12,7 @@ ghost use Rattle.tr_stream.specs.Faults.{clear_fault_code, cut_fault_code, offer
 ghost use Rattle.tr_terms.specs.Geometry.{geometry_fault_code};
 
 use tr_chunk::AuditCause;
+use tr_events::EventFault;
 use tr_packet::PacketFault;
 use tr_schedule::ScheduleFault;
 use tr_session::StepFault;
@@ -52,6 +54,7 @@ pub fn offer_code(fault: OfferFault) -> u32
         OfferFault::TooBig => 202,
         OfferFault::Spent => 203,
         OfferFault::Misplaced => 205,
+        OfferFault::OtherLayout => 206,
     }
 }
 
@@ -165,6 +168,21 @@ pub fn schedule_code(fault: ScheduleFault) -> u32
     match fault {
         ScheduleFault::ZeroPeriod => 701,
         ScheduleFault::ZeroSize => 702,
+    }
+}
+
+/// The number of why a line declares no event.
+pub fn event_code(fault: EventFault) -> u32
+    ensures { result ≡ code_number (event_fault_code fault) }
+{
+    match fault {
+        EventFault::BadEvent => 1001,
+        EventFault::BadField => 1002,
+        EventFault::BadType => 1003,
+        EventFault::NotAlone => 1004,
+        EventFault::FieldTwice => 1005,
+        EventFault::EventTaken => 1006,
+        EventFault::TooMany => 1007,
     }
 }
 

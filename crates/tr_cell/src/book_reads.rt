@@ -2,10 +2,11 @@
 
 ghost use Rattle.std.specs.Prelude.{◌≡◌, ◌≢◌, ◌≤◌, ◌<◌, Some, None, MatchOption, slice_get};
 ghost use Rattle.tr_border.specs.Outs.{about_out, archive_out};
-ghost use Rattle.tr_border.specs.Texts.{CopiesWhole, metadata_file};
+ghost use Rattle.tr_border.specs.Texts.{CopiesWhole};
 ghost use Rattle.tr_border.specs.declared.codes.TheConstants.{BAD_MOMENT, CLOSED, DONE, NO_MEMORY};
 ghost use Rattle.tr_chunk.specs.ArchiveName.{archive_name_text};
 ghost use Rattle.tr_chunk.specs.Files.{file_name};
+ghost use Rattle.tr_metadata.specs.Metadata.{metadata_with};
 ghost use Rattle.tr_session_book.specs.BookSteps.{channel_of};
 ghost use Rattle.tr_terms.specs.declared.limits.TheConstants.{LAST_MOMENT};
 
@@ -15,10 +16,9 @@ use tr_border::outs::{AboutOut, ArchiveOut, about_out, archive_out};
 use tr_border::texts::copy_whole;
 use tr_chunk::{archive_name, stream_file_name};
 use tr_held::BookCell;
-use tr_packet::metadata_text;
+use tr_metadata::metadata_text;
 use tr_session_book::{Archive, SessionBook, SessionFault};
 use tr_terms::Moment;
-use uuid::Uuid;
 
 /// What the book says of its session.
 #[unsafe(no_mangle)]
@@ -181,13 +181,13 @@ fn copy_file_name(
     }
 }
 
-/// Copies the metadata of the trace with this identifier.
-fn copy_metadata(alloc: Global, uuid: &Uuid, room: &mut [u8], count: &mut u64) -> u32
+/// Copies the metadata of the book's trace, with the events that it declares.
+fn copy_metadata(alloc: Global, book: &SessionBook<Global>, room: &mut [u8], count: &mut u64) -> u32
     ensures value { result ≢ NO_MEMORY
-        → CopiesWhole (metadata_file uuid.now) result room.old room.new count.old count.new }
+        → CopiesWhole (metadata_with book.now.events book.now.uuid) result room.old room.new count.old count.new }
     ensures no_memory { result ≡ NO_MEMORY → (room.new ≡ room.old) × (count.new ≡ count.old) }
 {
-    match metadata_text(alloc, uuid) {
+    match metadata_text(alloc, book.events().list(), &book.uuid()) {
         Ok(text) => copy_whole(text.as_bytes(), room, count),
         Err(_) => NO_MEMORY,
     }
@@ -202,14 +202,14 @@ pub extern "C" fn trc_book_metadata(
     count: &mut u64,
 ) -> u32
     ensures value { result ≢ NO_MEMORY → MatchOption handle.old.value ((result ≡ CLOSED) × (room.new ≡ room.old) × (count.new ≡ count.old))
-        (λ b. CopiesWhole (metadata_file b.uuid) result room.old room.new count.old count.new) }
+        (λ b. CopiesWhole (metadata_with b.events b.uuid) result room.old room.new count.old count.new) }
     ensures no_memory { result ≡ NO_MEMORY → MatchOption handle.old.value ⊥ (λ _. (room.new ≡ room.old) × (count.new ≡ count.old)) }
     ensures same { handle.new.value ≡ handle.old.value }
 {
     let Some(book) = handle.take(alloc) else {
         return CLOSED;
     };
-    let uuid = book.uuid();
+    let code = copy_metadata(alloc, &book, room, count);
     handle.put(book);
-    copy_metadata(alloc, &uuid, room, count)
+    code
 }

@@ -16,6 +16,7 @@
 //!   where it stopped, and says the same again.
 //! - No call requires anything of its arguments, waits, or touches a global.
 //! - The audit that bytes are fed to finds what the audit of whole files finds.
+//! - Declared events are those of their text, and a record fits or not by them.
 //!
 //! # What the caller owes
 //!
@@ -34,6 +35,7 @@ mod audits;
 mod book_reads;
 mod book_steps;
 mod books;
+mod declarations;
 mod sessions;
 mod snaps;
 mod spares;

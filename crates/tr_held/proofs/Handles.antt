@@ -8,9 +8,10 @@ use Rattle.std.specs.contracts.alloc.Global as heap
 use Rattle.std.specs.contracts.impls.GlobalAllocator.TheImpl.{ghosts}
 use Rattle.tr_held.proofs.Apart.{outline}
 use Rattle.tr_held.specs.Holding.{holds}
-use Rattle.tr_held.specs.Kept.{audit_row, book_row, removed_row, snap_row, spares_row, stream_row}
+use Rattle.tr_held.specs.Kept.{audit_row, book_row, events_row, removed_row, snap_row, spares_row, stream_row}
 use Rattle.tr_held.specs.contracts.audit_cell.AuditCell as AuditCell
 use Rattle.tr_held.specs.contracts.book_cell.BookCell as BookCell
+use Rattle.tr_held.specs.contracts.events_cell.EventsCell as EventsCell
 use Rattle.tr_held.specs.contracts.held.Held as Held
 use Rattle.tr_held.specs.contracts.removed_cell.RemovedCell as RemovedCell
 use Rattle.tr_held.specs.contracts.snap_cell.SnapCell as SnapCell
@@ -47,6 +48,9 @@ audit_cell = record { fields = λ x. record { at = x.at; live = x.live; alloc = 
 
 abbrev pub book_cell : IsHandle book_row BookCell.the_type
 book_cell = record { fields = λ x. record { at = x.at; live = x.live; alloc = x.alloc; value = x.value }; made = λ h. record { at = h.at; live = h.live; alloc = h.alloc; value = h.value }; kept = λ h. refl; owned = λ x vs. refl; silent = λ k x w. refl }
+
+abbrev pub events_cell : IsHandle events_row EventsCell.the_type
+events_cell = record { fields = λ x. record { at = x.at; live = x.live; alloc = x.alloc; value = x.value }; made = λ h. record { at = h.at; live = h.live; alloc = h.alloc; value = h.value }; kept = λ h. refl; owned = λ x vs. refl; silent = λ k x w. refl }
 
 abbrev pub snap_cell : IsHandle snap_row SnapCell.the_type
 snap_cell = record { fields = λ x. record { at = x.at; live = x.live; alloc = x.alloc; value = x.value }; made = λ h. record { at = h.at; live = h.live; alloc = h.alloc; value = h.value }; kept = λ h. refl; owned = λ x vs. refl; silent = λ k x w. refl }

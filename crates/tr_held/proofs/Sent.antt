@@ -1,8 +1,8 @@
 -- What handles have may cross threads.
 use denote.RattleType.{RattleType}
-use denote.Param.Send.{IsSend, sendable}
+use denote.Param.Send.{IsSend, IsSync, sendable}
 use denote.Builtin.{bool, usize}
-use Rattle.std.proofs.Crossing.{crosses, frees, send as memory}
+use Rattle.std.proofs.Crossing.{Arc-send, crosses, frees, send as memory}
 use Rattle.std.specs.contracts.alloc.Global as heap
 use Rattle.std.specs.contracts.impls.GlobalAllocator.TheImpl.{ghosts}
 use Rattle.circular_buffer.proofs.Crosses.{Cells-send, Deed-send}
@@ -32,6 +32,11 @@ use Rattle.tr_book.specs.contracts.runs.Runs as Runs
 use Rattle.tr_chunk.specs.contracts.audit_fault.AuditFault as AuditFault
 use Rattle.tr_chunk.specs.contracts.stream_audit.Gaps as Gaps
 use Rattle.tr_chunk.specs.contracts.stream_audit.StreamAudit as StreamAudit
+use Rattle.tr_events.specs.contracts.event.Event as Event
+use Rattle.tr_events.specs.contracts.event.Field as Field
+use Rattle.tr_events.specs.contracts.event.Label as Label
+use Rattle.tr_events.specs.contracts.events.Events as Events
+use Rattle.tr_events.specs.contracts.ids.Known as Known
 use Rattle.tr_packet.specs.contracts.text.PacketText as PacketText
 use Rattle.tr_ring.specs.contracts.ring.Ring as Ring
 use Rattle.tr_ring.specs.contracts.sealed.Sealed as Sealed
@@ -41,7 +46,7 @@ use Rattle.tr_session_book.specs.contracts.channel.Channel as Channel
 use Rattle.tr_stream.specs.contracts.config.StreamConfig as StreamConfig
 use Rattle.tr_stream.specs.contracts.spares.Spares as Spares
 use Rattle.tr_subbuf.specs.contracts.sub_buffer.SubBuf as SubBuf
-use Rattle.tr_held.specs.Kept.{audit_row, book_row, removed_row, snap_row, spares_row, stream_row}
+use Rattle.tr_held.specs.Kept.{audit_row, book_row, events_row, removed_row, snap_row, spares_row, stream_row}
 
 text : IsSend (PacketText.the_row heap.the_row ghosts)
 text = search (sendable, crosses) depth 40
@@ -170,6 +175,39 @@ schedule = search (sendable, crosses, archive, pending) depth 40
 hasher : IsSend (Hasher.the_row Fold.the_row)
 hasher = search (sendable, crosses, archive, pending) depth 40
 
+label : IsSend (Label.the_row heap.the_row ghosts)
+label = search (sendable, crosses) depth 40
+
+field : IsSend (Field.the_row heap.the_row ghosts)
+field = search (sendable, crosses, label) depth 40
+
+event : IsSend (Event.the_row heap.the_row ghosts)
+event = search (sendable, crosses, field) depth 40
+
+known : IsSend Known.the_row
+known = search (sendable, crosses) depth 40
+
+events : IsSend (Events.the_row heap.the_row ghosts)
+events = search (sendable, crosses, event, known) depth 40
+
+label-sync : IsSync (Label.the_row heap.the_row ghosts)
+label-sync = search (sendable, crosses) depth 40
+
+field-sync : IsSync (Field.the_row heap.the_row ghosts)
+field-sync = search (sendable, crosses, label-sync) depth 40
+
+event-sync : IsSync (Event.the_row heap.the_row ghosts)
+event-sync = search (sendable, crosses, field-sync) depth 40
+
+known-sync : IsSync Known.the_row
+known-sync = search (sendable, crosses) depth 40
+
+events-sync : IsSync (Events.the_row heap.the_row ghosts)
+events-sync = search (sendable, crosses, event-sync, known-sync) depth 40
+
+pub declared : IsSend events_row
+declared = Arc-send (Events.the_row heap.the_row ghosts) events events-sync
+
 pub book : IsSend book_row
 book = record {
   owned = λ d vs x. (
@@ -199,7 +237,10 @@ book = record {
                             unfinished.owned x.0.pending p.1.1.1.1.1.1.1.1.1.1.0,
                             (
                               archives.owned x.0.archives p.1.1.1.1.1.1.1.1.1.1.1.0,
-                              (schedule.owned x.0.schedule p.1.1.1.1.1.1.1.1.1.1.1.1.0, tt),
+                              (
+                                schedule.owned x.0.schedule p.1.1.1.1.1.1.1.1.1.1.1.1.0,
+                                (events.owned x.0.events p.1.1.1.1.1.1.1.1.1.1.1.1.1.0, tt),
+                              ),
                             ),
                           ),
                         ),

@@ -1,5 +1,5 @@
 //! What a C program holds across calls: a handle of a stream, of pages in reserve, of packets that were
-//! removed, of a session's book, a look or an audit.
+//! removed, of a session's book, of declared events, a look or an audit.
 //!
 //! A handle is an address and a flag, and has a value on the heap or nothing. All zeros are a handle of nothing. Contracts see
 //! what it has.
@@ -28,6 +28,7 @@
 
 mod audit_cell;
 mod book_cell;
+mod events_cell;
 mod held;
 mod removed_cell;
 mod snap_cell;
@@ -36,6 +37,7 @@ mod stream_cell;
 
 pub use audit_cell::AuditCell;
 pub use book_cell::BookCell;
+pub use events_cell::EventsCell;
 pub use held::Held;
 pub use removed_cell::RemovedCell;
 pub use snap_cell::SnapCell;
