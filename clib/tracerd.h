@@ -14,11 +14,13 @@
  * Answers. A call answers TRACERD_OK, or why it was refused. After a refusal nothing has changed and no result is written,
  * unless the call says otherwise. BAD_MOMENT goes for each moment. No pointer may be NULL but where that is said.
  *
- * Threads. Any thread may make any call at any time, except that a producer offers in one thread at a time, and that
- * tracerd_free comes last, when no other call runs; the session's producers are gone then. Calls that write files wait for
- * each other, and a release waits while its archive is written. No call may be made in a signal handler, and no thread may be
- * cancelled in one. A call takes up to 32 KiB of the stack. The library has no global state, prints nothing and ends no
- * process. It starts a thread only where tracerd_drainer_start asks for one.
+ * Threads. Any thread may make any call at any time, except that a producer offers in one thread at a time, unless a pool has
+ * several threads share it, whose offers wait for each other; and that tracerd_free comes last, when no other call runs; the
+ * session's producers are gone then. A release waits while its archive
+ * is written, and so does a write or a snapshot while another one of the session writes to the same place. No other call waits
+ * for these, or for an audit. No call may be made in a signal handler, and no thread may be cancelled in one. A call takes up to
+ * 32 KiB of the stack. The library has no global state, prints nothing and ends no process. It starts a thread only where
+ * tracerd_drainer_start asks for one, or tracerd_keeper_start for two.
  *
  * Waits. An offer waits only while another call holds its own stream, at a time for:
  * - a drain, also the drainer's: one step, whatever the sub-buffer's size; but a copy of it if less than a quarter of it is used;
@@ -28,7 +30,7 @@
  *   where offers fill the ring faster than it is copied that may be as much as the ring holds;
  * - a clear or a release: one step for each packet that is removed, and for each record of those with a loss before their end;
  * - a fate: a search of packets, and one step for each record of at most one of them;
- * - any other call: one step.
+ * - any other call, also an offer of another thread that shares the producer: one step.
  * While it waits, the thread that holds the stream has its priority, if that is higher.
  * A drain and a rotation make the sub-buffers that they need before they hold the stream, and a clear and a release free what
  * they removed after. What they ask for while they hold it are such copies, and lists that double as packets come.
@@ -69,7 +71,8 @@ typedef struct tracerd_session tracerd_session; /* a session */
 /* One thread's right to offer to one stream. `active` is 1 while offers are taken, for TRACERD_TRACE: nobody writes it. */
 typedef struct tracerd_producer { uint32_t active; } tracerd_producer;
 
-/* What a call answers. From 101 on these are the numbers of the product's own codes: 101 is S1, 201 O1, 701 D1, 801 A1. */
+/* What a call answers. From 101 on these are the numbers of the product's own codes: 101 is S1, 201 O1, 701 D1, 801 A1,
+ * 1001 V1. */
 typedef enum tracerd_status {
     TRACERD_OK = 0,
     TRACERD_NO_MEMORY = 1,           /* an allocation failed, or a thread could not be made */
@@ -81,7 +84,7 @@ typedef enum tracerd_status {
     TRACERD_WRITE = 20,              /* a folder or a file could not be made or written; errno says why */
     TRACERD_READ = 21,               /* a folder or a file could not be read; errno says why */
     TRACERD_MISSING = 22,            /* a producer was not given back */
-    TRACERD_DRAINING = 23,           /* the library's drainer runs */
+    TRACERD_DRAINING = 23,           /* the library's drainer runs, or a keeper */
     TRACERD_NOT_DRAINING = 24,       /* it does not run */
     TRACERD_EXISTS = 25,             /* something else has the archive's name */
     TRACERD_SNAPSHOT_MODE = 101,     /* not in a snapshot session */
@@ -103,12 +106,20 @@ typedef enum tracerd_status {
     TRACERD_INACTIVE = 201,          /* the session takes no offers now */
     TRACERD_TOO_BIG = 202,           /* the payload is longer than a sub-buffer's bytes less 104 */
     TRACERD_SPENT = 203,             /* the stream has accepted 2^62 offers */
+    TRACERD_OTHER_LAYOUT = 206,      /* the payload isn't laid out as the event of this id is declared */
     TRACERD_ZERO_PERIOD = 701,
     TRACERD_ZERO_SIZE = 702,
     TRACERD_PACKET = 801,            /* of an audit: no packet is there */
     TRACERD_NUMBER_REPEAT = 802,     /* a packet's number is not above the one before */
     TRACERD_SERIAL_REPEAT = 803,     /* a packet's first serial is not above the last one before */
-    TRACERD_FOREIGN = 804            /* a packet of another trace or another stream */
+    TRACERD_FOREIGN = 804,           /* a packet of another trace or another stream */
+    TRACERD_BAD_EVENT = 1001,        /* of a declaration: no name, no id, or a byte that can't be printed */
+    TRACERD_BAD_FIELD = 1002,        /* a field without a name */
+    TRACERD_BAD_TYPE = 1003,         /* a type that is none */
+    TRACERD_NOT_ALONE = 1004,        /* text or bytes beside other fields */
+    TRACERD_FIELD_TWICE = 1005,      /* two fields have this name */
+    TRACERD_EVENT_TAKEN = 1006,      /* an event has this name or this id */
+    TRACERD_TOO_MANY_DECLARED = 1007 /* more than 1,024 events, 32 fields, 524,288 bytes, or what no sub-buffer holds */
 } tracerd_status;
 
 /* The version of the library that is called, as "0.9.0": that of a shared object may be later than the header's. */
@@ -125,17 +136,17 @@ TRACERD_API uint64_t tracerd_now(void);
 typedef enum tracerd_kind { TRACERD_LOCAL = 0, TRACERD_SNAPSHOT = 1 } tracerd_kind;
 typedef enum tracerd_mode { TRACERD_DISCARD = 0, TRACERD_OVERWRITE = 1 } tracerd_mode;
 
-/* A session of this name, with the trace's identifier. A local one is rotated into archives, a snapshot one shows what its
- * rings hold. `east` is how many minutes the clock of archives' names is ahead of UTC. BAD_NAME, BAD_OFFSET, BAD_MODE,
- * NO_MEMORY: *session is NULL. */
-TRACERD_API TRACERD_CHECKED TRACERD_POINTERS
+/* A session of this name, with the trace's identifier; of NULL it makes one by chance. A local session is rotated into archives,
+ * a snapshot one shows what its rings hold. `east` is how many minutes the clock of archives' names is ahead of UTC. BAD_NAME,
+ * BAD_OFFSET, BAD_MODE, NO_MEMORY, READ (the system gives no chance; errno says why): *session is NULL. */
+TRACERD_API TRACERD_CHECKED TRACERD_POINTER(1) TRACERD_POINTER(2)
 tracerd_status tracerd_new(tracerd_session **session, const char *name, const uint8_t uuid[16], int32_t east, tracerd_kind);
 /* The moment by the session's clock, for offers and calls on it: the wall clock's when the session was made, and since then as
  * much later as CLOCK_MONOTONIC is. So it never goes back, whatever the wall clock is set to; it stands while the machine
  * sleeps. */
 TRACERD_API TRACERD_POINTERS
 uint64_t tracerd_now_of(const tracerd_session *);
-/* Lets all go, also its producers and what was not written. NULL is ignored. */
+/* Lets all go, also its producers and what was not written; a drainer or a keeper ends first. NULL is ignored. */
 TRACERD_API void tracerd_free(tracerd_session *);
 
 /* A channel: its producers have rings of `count` sub-buffers of `size` bytes, powers of two of 2 to 64 and of 256 to 1,048,576.
@@ -154,6 +165,14 @@ uint64_t tracerd_producer_number(const tracerd_producer *);
 /* Gives it back: nothing is offered by it any more, and its records stay. CLOSED. */
 TRACERD_API TRACERD_POINTERS
 tracerd_status tracerd_producer_done(tracerd_producer *);
+
+/* Declares events, so that readers show their records by names and fields: each line of the text one, as
+ * "queue_push 3 worker:u32 depth:u64" (docs/FORMATS.md). They take the place of what was declared before. Metadata of all archives
+ * have them, and a record of an id that isn't declared is shown by its bytes. tracerd_events.h makes such a text, with a function
+ * of each event. ALREADY_STARTED, NO_MEMORY. BAD_EVENT to TOO_MANY_DECLARED: *line, unless it is NULL, is the number of the first
+ * line that declares none, from 1 on. */
+TRACERD_API TRACERD_CHECKED TRACERD_POINTER(1) TRACERD_POINTER(2)
+tracerd_status tracerd_declare(tracerd_session *, const char *text, uint64_t *line);
 
 /* From this moment on offers are taken; the first start begins the first trace chunk. ROTATION_PENDING, ALREADY_ACTIVE. */
 TRACERD_API TRACERD_CHECKED TRACERD_POINTERS
@@ -176,7 +195,7 @@ typedef struct tracerd_offered {
 } tracerd_offered;
 
 /* Offers a record: `id` and `size` bytes, which are copied. `payload` may be NULL if there are none. It takes no memory.
- * CLOSED, INACTIVE, TOO_BIG, SPENT. */
+ * CLOSED; OTHER_LAYOUT, of a declared id alone; INACTIVE, TOO_BIG, SPENT. */
 TRACERD_API TRACERD_CHECKED TRACERD_POINTER(1) TRACERD_POINTER(6)
 tracerd_status tracerd_offer(tracerd_producer *, uint64_t moment, uint32_t id, const void *payload, size_t size,
                              tracerd_offered *);
@@ -187,7 +206,8 @@ tracerd_status tracerd_trace(tracerd_producer *, uint32_t id, const void *payloa
 
 /* A tracepoint, TRACERD_TRACE(producer, id, payload, size): while the session is off it costs a load and a branch, and nothing
  * but the producer is evaluated. The payload may be a compound literal. Refusals are lost: where they matter, call
- * tracerd_trace; tracerd_counts has them. Each thread has the producer that it names. Names that begin with tracerd_ are the library's. */
+ * tracerd_trace; tracerd_counts has them. Each thread has the producer that it names. Names that begin with tracerd_ are the
+ * library's. */
 #define TRACERD_TRACE(producer, ...)                                                                        \
     do {                                                                                                    \
         tracerd_producer *tracerd_of_tracepoint_ = (producer);                                              \
@@ -290,11 +310,12 @@ typedef enum tracerd_state { TRACERD_NEW = 0, TRACERD_ACTIVE = 1, TRACERD_STOPPE
 typedef struct tracerd_about {
     uint32_t kind, state;         /* a tracerd_kind, and a tracerd_state */
     uint32_t is_pending;          /* 1 if a rotation is pending: its archive will have the number `archives` */
-    uint32_t is_draining;         /* 1 if the library's drainer runs */
+    uint32_t is_draining;         /* 1 if the library's drainer runs, or a keeper */
     uint64_t channels, producers; /* how many were made */
     uint64_t archives;            /* they have the numbers below this one, also those that were released */
     uint64_t begun, last;         /* when the current chunk began, and the last stored moment; 0 before the first start */
-    uint64_t reserved[9];
+    uint8_t uuid[16];             /* the trace's identifier */
+    uint64_t reserved[7];
 } tracerd_about;
 
 /* What a session is now. */
@@ -312,6 +333,101 @@ typedef struct tracerd_archive {
 /* What an archive has. NO_ARCHIVE. */
 TRACERD_API TRACERD_CHECKED TRACERD_POINTERS
 tracerd_status tracerd_archive_of(tracerd_session *, uint64_t archive, tracerd_archive *);
+/* The name of an archive's folder, as tracerd_write gives it, also if it isn't written or was released. NO_ARCHIVE, NO_MEMORY. */
+#define TRACERD_ARCHIVE_NAME 64 /* more than the longest one, with the zero at its end */
+TRACERD_API TRACERD_CHECKED TRACERD_POINTERS
+tracerd_status tracerd_archive_name(tracerd_session *, uint64_t archive, char name[TRACERD_ARCHIVE_NAME]);
+
+/* ---- Threads that come and go ---- */
+
+typedef struct tracerd_pool tracerd_pool; /* producers that threads are lent, each until it ends */
+
+/* The names, ids and fields of what threads say of themselves; tid is the number that the system gave the thread. */
+#define TRACERD_THREAD_BEGIN 4294967293u  /* thread_begin name:str tid:u32 */
+#define TRACERD_THREAD_END 4294967294u    /* thread_end tid:u32 */
+#define TRACERD_THREAD_SHARED 4294967295u /* thread_shared name:str tid:u32 */
+
+/* A pool of `count` producers of a channel. The session then declares these three events beside what its program declares,
+ * before or after: a program's line with such a name or id is EVENT_TAKEN, and it may declare three events and 113 bytes
+ * fewer. ZERO_SIZE. BAD_NAME, ALREADY_STARTED, NO_CHANNEL, TOO_MANY: as of tracerd_producer_new. EVENT_TAKEN,
+ * TOO_MANY_DECLARED: of what the program has declared. NO_MEMORY: also without a key left for threads' own data; producers
+ * that were made stay, given back. */
+TRACERD_API TRACERD_CHECKED TRACERD_POINTERS
+tracerd_status tracerd_pool_new(tracerd_pool **pool, tracerd_session *, const char *channel, uint64_t count);
+/* A pool with a producer for each processor, for programs of very many threads: tracerd_here gives that of the processor on
+ * which it is called. Nothing is lent, said or declared: a record doesn't have its thread. BAD_NAME, ALREADY_STARTED,
+ * NO_CHANNEL, NO_MEMORY; TOO_MANY: the machine has more processors than the session may have producers more. */
+TRACERD_API TRACERD_CHECKED TRACERD_POINTERS
+tracerd_status tracerd_cpu_pool_new(tracerd_pool **pool, tracerd_session *, const char *channel);
+
+/* The calling thread's producer, at any time, as in TRACERD_TRACE(tracerd_here(pool), id, payload, size). It is never NULL. A
+ * thread is lent the one that was free for longest, and has it until it ends; if none is free it shares one, in turn.
+ *
+ * It says thread_begin when it is lent one, thread_shared when it shares one, and thread_end last. So a stream's record is of
+ * the thread that said thread_begin last before it, unless that has said thread_end; or of one that said thread_shared, and
+ * not thread_end yet. Where records were overwritten or cleared since, their serials are missing, and a thread_begin may be
+ * among them.
+ * - While the session is off nothing is said. A thread that was lent one meanwhile says thread_begin at the start, before all
+ *   else; one that shares says so in its next call of this.
+ * - A thread_begin or thread_shared that is discarded is said again in the thread's next call of this: so make it for each
+ *   record. A thread_end that can't be stored isn't said again.
+ * - A thread for which there is no memory to keep one shares one, says so, and says no thread_end.
+ * - A name is the thread's at that time, at most 15 bytes, with '?' for what isn't UTF-8 or can't be printed, and for an empty
+ *   one.
+ *
+ * In a child of fork, and once the session was freed, offers by what it gives are answered CLOSED. */
+TRACERD_API TRACERD_POINTERS
+tracerd_producer *tracerd_here(tracerd_pool *);
+/* Gives the producers back, and lets the pool go, also after tracerd_free. No thread may call tracerd_here of it meanwhile or
+ * later. MISSING: a thread lives that has one; the calling one's own is given back. CLOSED: in a child of fork. */
+TRACERD_API TRACERD_POINTERS
+tracerd_status tracerd_pool_free(tracerd_pool *);
+
+/* ---- Archives that keep themselves ---- */
+
+typedef struct tracerd_keeper tracerd_keeper; /* two threads of the library's own, and what they did */
+
+/* Starts a keeper. One of its threads drains each 10 milliseconds and rotates by tracerd_schedule(session, every, bytes) and
+ * tracerd_tick, at the session's clock. The other one writes each archive, also such as the program rotates, as tracerd_write
+ * does, releases it, and then deletes the oldest beyond the last `keep`. TRACERD_NEVER of `every`, `bytes` or `keep` leaves it
+ * out.
+ *
+ * Archives are below a folder of this run's own, FOLDER/SESSION-BEGIN: BEGIN is this moment, in the form of archives' names, and
+ * -1, -2 and so on follow if that is there. Only archives of this run are deleted, and of their folders only the archive's own
+ * files: if another is in one, that stays, in `.ARCHIVE.part`. What earlier runs left stays, until somebody removes it.
+ *
+ * What is refused meanwhile is in tracerd_keeping, and is tried again when there is a next archive, or after a second. Nothing is
+ * deleted to make room. An archive waits in memory until it is written. While three wait the keeper neither drains nor rotates,
+ * so that they don't become more: then rings are full, and records are discarded or overwritten as their channel says, and
+ * counted so. Where one can't be deleted, newer ones are written, and stay until it can.
+ *
+ * SNAPSHOT_MODE, ZERO_PERIOD; ZERO_SIZE: also of `keep`; DRAINING: also if the session has a keeper. WRITE: the folder can't be
+ * made; errno says why. NO_MEMORY: also if a thread can't be made; the schedule may be set. Folders that were made stay. */
+TRACERD_API TRACERD_CHECKED TRACERD_POINTERS
+tracerd_status tracerd_keeper_start(tracerd_keeper **keeper, tracerd_session *, const char *folder, uint64_t every,
+                                    uint64_t bytes, uint64_t keep);
+/* The path of its run's folder, for tracerd_audit, as long as there is the keeper. In a child of fork it is empty. */
+TRACERD_API TRACERD_POINTERS
+const char *tracerd_keeper_folder(const tracerd_keeper *);
+
+typedef struct tracerd_keeping {
+    uint64_t written, deleted; /* archives: how many it has written, and how many of these it has deleted */
+    uint64_t waiting;          /* archives in memory */
+    uint64_t refused;          /* how many steps were refused: drains, rotations, writes, releases and deletions */
+    uint64_t moment;           /* of the last of these its moment, by the session's clock; 0 if there is none */
+    uint32_t last;             /* its status, which is WRITE if an archive can't be deleted */
+    int32_t error;             /* its errno, of WRITE and READ; else 0 */
+    uint64_t reserved[10];
+} tracerd_keeping;
+
+/* What it did so far. CLOSED: in a child of fork. */
+TRACERD_API TRACERD_CHECKED TRACERD_POINTERS
+tracerd_status tracerd_keeper_state(tracerd_keeper *, tracerd_keeping *);
+/* Ends it, after a last round that rotates first, and answers why a step of that was refused, if one was; of WRITE and READ
+ * errno says why. The archives that wait are still in memory then. It is called once, and not after tracerd_free. CLOSED: in a
+ * child of fork. */
+TRACERD_API TRACERD_CHECKED TRACERD_POINTERS
+tracerd_status tracerd_keeper_stop(tracerd_keeper *);
 
 /* ---- Accounts ---- */
 
@@ -320,8 +436,8 @@ tracerd_status tracerd_archive_of(tracerd_session *, uint64_t archive, tracerd_a
  * what is offered by a producer that was given back. */
 typedef struct tracerd_counts {
     uint64_t offered, discarded, overwritten, cleared, in_ring, in_chunks;
-    uint64_t refused_inactive, refused_too_big, refused_bad_moment, refused_spent;
-    uint64_t reserved[6];
+    uint64_t refused_inactive, refused_too_big, refused_bad_moment, refused_spent, refused_other_layout;
+    uint64_t reserved[5];
 } tracerd_counts;
 
 /* Of one producer: as of one moment. */

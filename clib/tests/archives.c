@@ -1,77 +1,30 @@
-/* An archive is written once, beside its place: what is there already, and what links point to, is never touched; and what is
- * written isn't released meanwhile. Link with --wrap of openat, write, fdatasync and flock.
+/* An archive is written once, beside its place: what is there already, and what links point to, is never touched.
  *
  *     archives DIR     a folder that is there, in which files are written */
 #include "sessions.h"
 #include <errno.h>
 #include <fcntl.h>
-#include <pthread.h>
-#include <semaphore.h>
 #include <signal.h>
-#include <stdarg.h>
-#include <stdatomic.h>
 #include <stdbool.h>
 #include <sys/file.h>
 #include <sys/resource.h>
 #include <sys/stat.h>
-#include <time.h>
 #include <unistd.h>
 
 #define NAME "19700101T000000+0000-19700101T000000+0000-0"
 enum { STREAM_BYTES = 80 + 24 + 27 };
 
-/* ---- Calls that are interrupted, and write little at a time ---- */
-
-static bool is_slow;
-static int interrupted;
-static sem_t writing;
-static atomic_bool is_released;
-
-int __real_openat(int at, const char *name, int flags, ...);
-ssize_t __real_write(int file, const void *from, size_t size);
-int __real_fdatasync(int file);
-
-/* Each call is interrupted before it is made. */
-static bool is_interrupted(void) {
-    static bool was;
-    was = is_slow && !was;
-    interrupted += was;
-    if (was) errno = EINTR;
-    return was;
-}
-
-int __wrap_openat(int at, const char *name, int flags, ...) {
-    va_list more;
-    va_start(more, flags);
-    mode_t mode = flags & O_CREAT ? va_arg(more, mode_t) : 0;
-    va_end(more);
-    return is_interrupted() ? -1 : __real_openat(at, name, flags, mode);
-}
-
-ssize_t __wrap_write(int file, const void *from, size_t size) {
-    static bool is_second;
-    if (!is_slow) return __real_write(file, from, size);
-    if (is_interrupted()) return -1;
-    if (!is_second) {
-        is_second = true;
-        sem_post(&writing);
-        nanosleep(&(struct timespec){0, 100000000}, NULL); /* by then a release would be over */
-    }
-    is(!is_released);
-    return __real_write(file, from, size < 1000 ? size : 1000);
-}
-
-int __wrap_fdatasync(int file) { return is_interrupted() ? -1 : __real_fdatasync(file); }
-
 /* ---- Another program ---- */
 
 static const char *finishes_from, *finishes_to;
+static bool begins_another;
 int __real_flock(int file, int how);
 
-/* It renames what it wrote, just before somebody else comes to hold it. */
+/* It renames what it wrote, just before somebody else comes to hold it, and may begin to write again. */
 int __wrap_flock(int file, int how) {
     if (finishes_from && how & LOCK_EX) {
         is(!rename(finishes_from, finishes_to));
+        if (begins_another) is(!mkdir(finishes_from, 0777));
         finishes_from = NULL;
     }
     return __real_flock(file, how);
@@ -217,17 +170,21 @@ static void clears_left_overs(tracerd_session *s, tracerd_producer *p) {
     is(is_missing(part) && size_of(at("left", "s/archives/" NAME "/c_0")) == STREAM_BYTES);
 }
 
-/* A folder that another program finishes is none of what is left. */
+/* A folder that another program finishes is none of what is left, also if there is another one of its name by then. */
 static void leaves_what_is_finished(tracerd_session *s, tracerd_producer *p) {
     const char *part = at("raced", "s/archives/." NAME ".part"), *whole = at("raced", "s/archives/" NAME);
     archives_one(s, p);
     answers(OK, tracerd_write(s, 0, below("raced")));
-    is(!rename(whole, part));
-    finishes_from = part;
-    finishes_to = whole;
-    answers(WRITE, tracerd_write(s, 0, below("raced")));
-    is(errno == EAGAIN && !finishes_from && size_of(at("raced", "s/archives/" NAME "/c_0")) == STREAM_BYTES);
-    answers(OK, tracerd_write(s, 0, below("raced")));
+    for (int round = 0; round < 2; round++) {
+        begins_another = round == 1;
+        is(!rename(whole, part));
+        finishes_from = part;
+        finishes_to = whole;
+        answers(WRITE, tracerd_write(s, 0, below("raced")));
+        is(errno == EAGAIN && !finishes_from && size_of(at("raced", "s/archives/" NAME "/c_0")) == STREAM_BYTES);
+        is(is_missing(part) == !begins_another);
+        answers(OK, tracerd_write(s, 0, below("raced")));
+    }
 }
 
 /* The disk takes 100 bytes a file: the archive that is there stays whole, and of another one nothing is left. */
@@ -244,54 +201,6 @@ static void meets_a_full_disk(tracerd_session *s, tracerd_producer *p) {
     is(size_of(at("full", "s/archives/" NAME "/c_0")) == STREAM_BYTES);
     is(is_missing(at("fuller", "s/archives/" NAME)) && is_missing(at("fuller", "s/archives/." NAME ".part")));
     answers(OK, tracerd_write(s, 0, below("fuller")));
-}
-
-static atomic_bool is_written;
-
-static void *write_first(void *session) {
-    answers(OK, tracerd_write(session, 0, below("slow")));
-    is_written = true;
-    return NULL;
-}
-
-static void *release_first(void *session) {
-    answers(OK, tracerd_release(session, 0));
-    is_released = true;
-    return NULL;
-}
-
-/* While an archive is written a release of it waits, and no other; and the file gets all its bytes, though calls are
- * interrupted. */
-static void keeps_what_is_written(void) {
-    enum { RECORDS = 5, EACH = 65000 };
-    tracerd_session *s;
-    tracerd_producer *p;
-    tracerd_offered o;
-    tracerd_audited a;
-    pthread_t writer, releaser;
-    uint64_t n;
-    answers(OK, tracerd_new(&s, "s", ONE, 0, TRACERD_LOCAL));
-    answers(OK, tracerd_channel(s, "c", 65536, 8, TRACERD_DISCARD));
-    answers(OK, tracerd_producer_new(s, "c", &p));
-    answers(OK, tracerd_start(s, 0));
-    for (uint64_t k = 0; k < RECORDS; k++) answers(OK, tracerd_offer(p, k, 7, letters, EACH, &o));
-    answers(OK, tracerd_rotate(s, 0, &n));
-    answers(OK, tracerd_rotate(s, 0, &n));
-    is(!sem_init(&writing, 0, 0));
-    is_slow = true;
-    is(!pthread_create(&writer, NULL, write_first, s) && !sem_wait(&writing));
-    answers(OK, tracerd_release(s, 1));
-    is(!is_written);
-    is(!pthread_create(&releaser, NULL, release_first, s));
-    pthread_join(writer, NULL);
-    pthread_join(releaser, NULL);
-    is_slow = false;
-    is(interrupted > RECORDS * EACH / 1000);
-    is(size_of(at("slow", "s/archives/" NAME "/c_0")) == RECORDS * (80 + 24 + EACH));
-    answers(OK, tracerd_audit(below("slow"), "s", "c", 0, ONE, &a));
-    is(a.records == RECORDS);
-    answers(RELEASED, tracerd_write(s, 0, below("slow")));
-    tracerd_free(s);
 }
 
 /* A folder has one snapshot of a second: the same again is OK, another is refused. */
@@ -312,14 +221,12 @@ static void shows_each_once(void) {
 }
 
 int main(int count, char **words) {
-    void (*const alone[])(void) = {keeps_what_is_written, shows_each_once};
+    void (*const alone[])(void) = {shows_each_once};
     void (*const with_session[])(tracerd_session *, tracerd_producer *) = {
-        writes_once, writes_no_half, follows_no_links, clears_left_overs, leaves_what_is_finished,
-        meets_a_full_disk};
+        writes_once, writes_no_half, follows_no_links, clears_left_overs, leaves_what_is_finished, meets_a_full_disk};
     static char folder[4096]; /* links need all of its path */
     if (count != 2 || !realpath(words[1], folder)) return 2;
     begin(folder);
-    alarm(60); /* a writer may never come to write */
     EACH_ALONE(alone);
     EACH_WITH_SESSION(with_session);
     return closing();

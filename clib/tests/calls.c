@@ -1,21 +1,15 @@
 /* Each call of tracerd.h does what it says, and each refusal is met but those of memory (tests/memory.c), those of files and
- * audits (tests/files.c), and SPENT: no test meets that, since only 2^62 offers bring a stream there.
+ * audits (tests/files.c), those of the drainer (tests/drains.c), and SPENT: no test meets that, since only 2^62 offers bring a
+ * stream there.
  *
  *     calls DIR     a folder that is there, in which files are written
  *
  * Expected values are worked out by hand: a packet has 80 bytes before its records, a record 24 before its payload. */
 #include "sessions.h"
 #include <errno.h>
-#include <pthread.h>
-#include <signal.h>
-#include <time.h>
 #include <unistd.h>
 
 static const uint64_t LAST_MOMENT = 9000000000000000000;
-
-static volatile sig_atomic_t handled;
-
-static void handle(int signal) { handled = signal; }
 
 static void has_counts(tracerd_counts c, uint64_t offered, uint64_t discarded, uint64_t overwritten, uint64_t cleared,
                        uint64_t in_ring, uint64_t in_chunks) {
@@ -148,16 +142,6 @@ static void refuses_at_the_wrong_time(tracerd_session *s, tracerd_producer *p) {
     is_at(p, 0, TRACERD_IN_CHUNK, 0, 0);
 }
 
-/* What a snapshot session refuses of a drainer it refuses before it has a stream, too. */
-static void drains_no_snapshots(void) {
-    tracerd_session *s;
-    uint64_t n;
-    answers(OK, tracerd_new(&s, "bare", ONE, 0, TRACERD_SNAPSHOT));
-    answers(SNAPSHOT_MODE, tracerd_drain(s, &n));
-    answers(SNAPSHOT_MODE, tracerd_drainer_start(s, 1));
-    tracerd_free(s);
-}
-
 static void works_without_streams(void) {
     tracerd_session *s;
     tracerd_cause cause;
@@ -219,41 +203,26 @@ static void clears(tracerd_session *s, tracerd_producer *p) {
     is_stored(p, 4, 50, 3, 2);
 }
 
-static void drains_by_itself(tracerd_session *s, tracerd_producer *p) {
-    tracerd_counts c;
-    uint64_t n;
-    answers(NOT_DRAINING, tracerd_drainer_stop(s));
-    answers(ZERO_PERIOD, tracerd_drainer_start(s, 0));
-    answers(NOT_DRAINING, tracerd_drainer_stop(s));
-    answers(OK, tracerd_start(s, 0));
+/* A start switches on no producer that was given back. */
+static void stays_given_back(tracerd_session *s, tracerd_producer *p) {
+    tracerd_producer *other;
+    tracerd_offered o;
+    answers(OK, tracerd_producer_new(s, "c", &other));
     answers(OK, tracerd_producer_done(p));
     for (int round = 0; round < 2; round++) {
-        answers(OK, tracerd_drainer_start(s, round ? 1000000 : UINT64_MAX));
-        answers(DRAINING, tracerd_drainer_start(s, 1000000));
-        answers(DRAINING, tracerd_settle(s, &c, &n));
-        answers(OK, tracerd_drainer_stop(s));
+        answers(OK, tracerd_start(s, 0));
+        is(!p->active && other->active == 1);
+        answers(CLOSED, tracerd_offer(p, 0, 7, "x", 1, &o));
+        TRACERD_TRACE(p, 7, "x", 1);
+        has_refused(s, p, 0, 0, 0);
+        answers(OK, tracerd_stop(s));
+        is(!p->active && !other->active);
     }
-    answers(OK, tracerd_settle(s, &c, &n));
-    answers(OK, tracerd_drainer_start(s, 1000000)); /* which the session's end ends */
 }
 
-/* The drainer's thread handles no signal of the program's, though it began when none was blocked. */
-static void leaves_signals_alone(tracerd_session *s, tracerd_producer *p) {
-    sigset_t one;
-    (void)p;
-    sigemptyset(&one);
-    sigaddset(&one, SIGUSR1);
-    signal(SIGUSR1, handle);
-    handled = 0;
-    answers(OK, tracerd_drainer_start(s, UINT64_MAX));
-    is(!pthread_sigmask(SIG_BLOCK, &one, NULL) && !kill(getpid(), SIGUSR1));
-    nanosleep(&(struct timespec){0, 50000000}, NULL); /* by then another thread would have handled it */
-    is(sigtimedwait(&one, NULL, &(struct timespec){5, 0}) == SIGUSR1 && !handled);
-    is(!pthread_sigmask(SIG_UNBLOCK, &one, NULL));
-    answers(OK, tracerd_drainer_stop(s));
-}
-
-typedef struct { int one, other; } pair;
+typedef struct {
+    int one, other;
+} pair;
 
 static void traces(tracerd_session *s, tracerd_producer *p) {
     tracerd_counts c;
@@ -265,90 +234,20 @@ static void traces(tracerd_session *s, tracerd_producer *p) {
     TRACERD_TRACE(p, 1, (evaluated++, "x"), 1);
     is(evaluated == 1);
     tracerd_producer *tracerd_by = p; /* a name that the program may have too */
-    if (evaluated) TRACERD_TRACE(tracerd_by, 1, &(pair){1, 2}, sizeof(pair));
-    else evaluated = 2;
+    if (evaluated)
+        TRACERD_TRACE(tracerd_by, 1, &(pair){1, 2}, sizeof(pair));
+    else
+        evaluated = 2;
     answers(OK, tracerd_counts_of(p, &c));
     is(c.offered == 2 && c.in_ring == 2);
     is(before > 1700000000000000000 && before < LAST_MOMENT && tracerd_now() >= before);
     is(!strcmp(tracerd_status_name(TRACERD_TOO_BIG), "TooBig") && !strcmp(tracerd_status_name((tracerd_status)3), "Unknown"));
 }
 
-/* What is reserved in a result is zeros, whatever was there before; after a refusal it is as it was. */
-static void reserves(tracerd_session *s, tracerd_producer *p) {
-    static const uint64_t zeros[10];
-    tracerd_counts c[3];
-    tracerd_fate f;
-    tracerd_audited a;
-    uint64_t n;
-    int one = 0, two = 0, three = 0;
-    memset(c, 255, sizeof c);
-    memset(&f, 255, sizeof f);
-    memset(&a, 255, sizeof a);
-    answers(MISSING, tracerd_settle(s, &c[2], &n));
-    is(c[2].offered == UINT64_MAX && c[2].reserved[5] == UINT64_MAX);
-    answers(OK, tracerd_start(s, 0));
-    is_stored(p, 0, 27, 0, 0);
-    answers(OK, tracerd_rotate(s, 0, &n));
-    answers(OK, tracerd_write(s, 0, below("reserved")));
-    answers(OK, tracerd_counts_of(p, &c[0]));
-    answers(OK, tracerd_counts_sum(s, &c[1]));
-    answers(OK, tracerd_producer_done(p));
-    answers(OK, tracerd_settle(s, &c[2], &n));
-    for (int i = 0; i < 3; i++) is(c[i].offered == 1 && !memcmp(c[i].reserved, zeros, sizeof c[i].reserved));
-    answers(OK, tracerd_fate_of(p, 0, &f));
-    is(f.place == TRACERD_IN_CHUNK && !memcmp(f.reserved, zeros, sizeof f.reserved));
-    answers(OK, tracerd_audit(below("reserved"), "s", "c", 0, ONE, &a));
-    is(a.records == 1 && !a.reserved_too && !memcmp(a.reserved, zeros, sizeof a.reserved));
-    is(!strcmp(tracerd_version(), TRACERD_VERSION) && sscanf(TRACERD_VERSION, "%d.%d.%d", &one, &two, &three) == 3);
-    is(TRACERD_VERSION_NUMBER == 10000 * one + 100 * two + three);
-}
-
-static void has_state(tracerd_session *s, tracerd_state state, uint64_t archives, uint64_t begun, uint64_t last) {
-    static const uint64_t zeros[9];
-    tracerd_about a;
-    memset(&a, 255, sizeof a);
-    answers(OK, tracerd_about_of(s, &a));
-    is(a.kind == TRACERD_LOCAL && a.state == state && a.archives == archives && a.begun == begun && a.last == last);
-    is(a.channels == 1 && a.producers == 1 && !a.is_pending && !a.is_draining);
-    is(!memcmp(a.reserved, zeros, sizeof a.reserved));
-}
-
-/* Two records of 80 + 2 * 74 bytes are a packet, a third one another of 80 + 74. */
-static void says_what_there_is(tracerd_session *s, tracerd_producer *p) {
-    static const uint64_t zeros[10];
-    tracerd_about a;
-    tracerd_archive it;
-    uint64_t n;
-    memset(&it, 255, sizeof it);
-    has_state(s, TRACERD_NEW, 0, 0, 0);
-    answers(NO_ARCHIVE, tracerd_archive_of(s, 0, &it));
-    is(it.begun == UINT64_MAX);
-    answers(OK, tracerd_start(s, 5));
-    has_state(s, TRACERD_ACTIVE, 0, 5, 5);
-    for (uint64_t k = 0; k < 3; k++) is_stored(p, 6, 50, k, k / 2);
-    answers(OK, tracerd_rotate(s, 9, &n));
-    answers(OK, tracerd_stop(s));
-    has_state(s, TRACERD_STOPPED, 1, 9, 9);
-    answers(OK, tracerd_archive_of(s, 0, &it));
-    is(it.begun == 5 && it.ended == 9 && it.packets == 2 && it.records == 3 && it.bytes == 80 + 2 * 74 + 80 + 74);
-    is(!it.is_released && !it.reserved_too && !memcmp(it.reserved, zeros, sizeof it.reserved));
-    answers(OK, tracerd_release(s, 0));
-    answers(OK, tracerd_archive_of(s, 0, &it));
-    is(it.is_released == 1 && it.packets == 2 && it.records == 3 && it.bytes == 80 + 2 * 74 + 80 + 74);
-    answers(NO_ARCHIVE, tracerd_archive_of(s, 1, &it));
-    answers(OK, tracerd_drainer_start(s, 1000000));
-    answers(OK, tracerd_about_of(s, &a));
-    is(a.is_draining == 1 && a.archives == 1);
-    answers(OK, tracerd_drainer_stop(s));
-    answers(OK, tracerd_about_of(s, &a));
-    is(!a.is_draining);
-}
-
 int main(int count, char **words) {
-    void (*const alone[])(void) = {refuses_what_is_planned_badly, drains_no_snapshots, works_without_streams};
+    void (*const alone[])(void) = {refuses_what_is_planned_badly, works_without_streams};
     void (*const with_session[])(tracerd_session *, tracerd_producer *) = {
-        records_and_archives, refuses_at_the_wrong_time, rotates_when_due, clears, drains_by_itself,
-        leaves_signals_alone, traces, reserves, says_what_there_is};
+        records_and_archives, refuses_at_the_wrong_time, rotates_when_due, clears, stays_given_back, traces};
     if (count != 2) return 2;
     begin(words[1]);
     EACH_ALONE(alone);

@@ -1,5 +1,5 @@
-/* The wall clock is set back by an hour and ahead by a day while a program records: the moments of its records are as far apart as
- * they are by CLOCK_MONOTONIC. Link with --wrap of clock_gettime.
+/* The wall clock is set back by an hour and ahead by a day while a program records: the moments of its records are as far apart
+ * as they are by CLOCK_MONOTONIC.
  *
  *     clock DIR     a folder that is there, in which files are written */
 #include "testing.h"
@@ -13,9 +13,12 @@ int __real_clock_gettime(clockid_t clock, struct timespec *now);
 int __wrap_clock_gettime(clockid_t clock, struct timespec *now);
 
 int __wrap_clock_gettime(clockid_t clock, struct timespec *now) {
-    if (clock == CLOCK_REALTIME) *now = (struct timespec){(time_t)(1700000000 + step), 0};
-    else if (clock == CLOCK_MONOTONIC) *now = (struct timespec){(time_t)(steady / SECOND), (long)(steady % SECOND)};
-    else return __real_clock_gettime(clock, now);
+    if (clock == CLOCK_REALTIME)
+        *now = (struct timespec){(time_t)(1700000000 + step), 0};
+    else if (clock == CLOCK_MONOTONIC)
+        *now = (struct timespec){(time_t)(steady / SECOND), (long)(steady % SECOND)};
+    else
+        return __real_clock_gettime(clock, now);
     return 0;
 }
 

@@ -1,6 +1,6 @@
 /* A disk that stops before the k-th system call on it: that one and all later ones fail, as if it were full. Of what was done
  * before, a cut of the power may lose what no call has had on disk: bytes of files, and names in folders.
- * Link with --wrap of the calls below; those of the C library's own, as fopen's, go on. */
+ * The calls below are wrapped (clib/tests/wraps); those of the C library's own, as fopen's, go on. */
 #ifndef DISK_H
 #define DISK_H
 #include "testing.h"
@@ -89,14 +89,17 @@ static inline void cut_power(enum failure failure) {
     for (int i = losable - 1; i >= 0 && failure != IS_FULL; i--) {
         snprintf(path, sizeof path, "%s/%s", lost[i].path, lost[i].name);
         bool is_kept = failure == LOSES_BYTES || (failure == LOSES_EARLIER_NAMES && i == losable - 1);
-        if (lost[i].file) (void)truncate(lost[i].path, 0);
-        else if (!is_kept) remove_all(path);
+        if (lost[i].file)
+            (void)truncate(lost[i].path, 0);
+        else if (!is_kept)
+            remove_all(path);
     }
     losable = 0;
 }
 
 /* ---- The calls ---- */
 
+int __real_access(const char *path, int how);
 int __real_mkdir(const char *path, mode_t mode);
 int __real_mkdirat(int at, const char *name, mode_t mode);
 int __real_open(const char *path, int flags, ...);
@@ -110,6 +113,8 @@ int __real_flock(int file, int how);
 int __real_fstat(int file, struct stat *about);
 int __real_fstatat(int at, const char *name, struct stat *about, int flags);
 ssize_t __real_getdents64(int folder, void *to, size_t size);
+
+int __wrap_access(const char *path, int how) { return has_stopped(EIO) ? -1 : __real_access(path, how); }
 
 int __wrap_mkdir(const char *path, mode_t mode) {
     char above[4100];

@@ -28,6 +28,7 @@ static void finds_all_closed(tracerd_session *s, tracerd_producer *p) {
     tracerd_producer *other = NULL;
     tracerd_about about = {.archives = 99};
     tracerd_archive archive = {.bytes = 99};
+    char name[TRACERD_ARCHIVE_NAME] = "none";
     uint64_t n = 99;
     is(!p->active);
     TRACERD_TRACE(p, 1, "x", 1);
@@ -38,9 +39,11 @@ static void finds_all_closed(tracerd_session *s, tracerd_producer *p) {
     answers(CLOSED, tracerd_counts_sum(s, &c));
     answers(CLOSED, tracerd_about_of(s, &about));
     answers(CLOSED, tracerd_archive_of(s, 0, &archive));
+    answers(CLOSED, tracerd_archive_name(s, 0, name));
     answers(CLOSED, tracerd_settle(s, &c, &n));
     answers(CLOSED, tracerd_channel(s, "d", 256, 2, TRACERD_OVERWRITE));
     answers(CLOSED, tracerd_producer_new(s, "c", &other));
+    answers(CLOSED, tracerd_declare(s, "event 1", &n));
     answers(CLOSED, tracerd_start(s, 0));
     answers(CLOSED, tracerd_stop(s));
     answers(CLOSED, tracerd_drain(s, &n));
@@ -56,7 +59,7 @@ static void finds_all_closed(tracerd_session *s, tracerd_producer *p) {
     answers(CLOSED, tracerd_snapshot(s, 0, dir));
     answers(CLOSED, tracerd_producer_done(p));
     is(o.serial == 99 && c.offered == 99 && f.place == 99 && cause == TRACERD_SIZE && n == 99 && !other);
-    is(about.archives == 99 && archive.bytes == 99);
+    is(about.archives == 99 && archive.bytes == 99 && !strcmp(name, "none"));
     tracerd_free(s);
 }
 

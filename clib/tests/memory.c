@@ -1,117 +1,20 @@
 /* Each allocation fails in turn, alone, or with all after it until a call is refused: the call is answered NO_MEMORY, nothing is
  * lost by it, the same call then goes through, and in the end all is given back. (A block that isn't made smaller is no want of
  * memory. Nor is one page alone that a drain, a rotation or a snapshot would have made ahead, nor a handle of what a clear or a
- * release has removed, which is then freed at once.) A file that can't be closed wasn't written.
- * Link with --wrap of malloc, calloc, realloc, aligned_alloc, mmap, munmap, free, scandir, close, fsync, fdatasync and
- * pthread_create.
+ * release has removed, which is then freed at once.) A file that can't be closed wasn't written. Cells' memory lies apart from
+ * other threads'.
  *
  *     memory DIR     a folder that is there, in which files are written */
-#include "testing.h"
-#include <dirent.h>
-#include <errno.h>
-#include <malloc.h>
-#include <pthread.h>
+#include "rationed.h"
 #include <sched.h>
-#include <stdatomic.h>
-#include <stdbool.h>
-#include <sys/mman.h>
-#include <time.h>
 
-static long fails_at = -1;
-static bool is_lasting; /* all allocations after that one fail too */
-static atomic_long asked, held, refused, shrunk, done_without;
-
-void *__real_malloc(size_t size);
-void *__real_calloc(size_t count, size_t size);
-void *__real_realloc(void *at, size_t size);
-void *__real_aligned_alloc(size_t alignment, size_t size);
-void __real_free(void *at);
-
-static atomic_bool is_slow, is_in_it;
-
-static bool is_refused(void) {
-    long number = asked++;
-    bool is_it = number == fails_at || (is_lasting && fails_at >= 0 && number > fails_at);
-    if (is_slow && !atomic_exchange(&is_in_it, true)) nanosleep(&(struct timespec){0, 100000000}, NULL);
-    refused += is_it;
-    return is_it;
-}
-
-static void *counted(void *at) {
-    held += at != NULL;
-    return at;
-}
-
-void *__wrap_malloc(size_t size) { return is_refused() ? NULL : counted(__real_malloc(size)); }
-void *__wrap_calloc(size_t count, size_t size) { return is_refused() ? NULL : counted(__real_calloc(count, size)); }
-void *__wrap_aligned_alloc(size_t to, size_t size) { return is_refused() ? NULL : counted(__real_aligned_alloc(to, size)); }
-void *__wrap_realloc(void *at, size_t size) {
-    bool shrinks = at && size <= malloc_usable_size(at);
-    if (is_refused()) {
-        refused -= shrinks;
-        shrunk += shrinks;
-        return NULL;
-    }
-    return at ? __real_realloc(at, size) : counted(__real_realloc(at, size));
-}
-void __wrap_free(void *at) {
-    held -= at != NULL;
-    __real_free(at);
-}
-
-void *__real_mmap(void *at, size_t size, int how, int flags, int file, off_t from);
-int __real_munmap(void *at, size_t size);
-
-void *__wrap_mmap(void *at, size_t size, int how, int flags, int file, off_t from) {
-    return is_refused() ? MAP_FAILED : counted(__real_mmap(at, size, how, flags, file, from));
-}
-int __wrap_munmap(void *at, size_t size) {
-    held--;
-    return __real_munmap(at, size);
-}
-
-typedef int chosen(const struct dirent *);
-typedef int compared(const struct dirent **, const struct dirent **);
-int __real_scandir(const char *path, struct dirent ***list, chosen *choose, compared *compare);
-
-/* What it answers is from the C library's own malloc. */
-int __wrap_scandir(const char *path, struct dirent ***list, chosen *choose, compared *compare) {
-    if (is_refused()) {
-        errno = ENOMEM;
-        return -1;
-    }
-    int count = __real_scandir(path, list, choose, compare);
-    if (count >= 0) held += count + (*list != NULL);
-    return count;
-}
-
-static bool fails_to_close;
-int __real_close(int file);
-
-int __wrap_close(int file) {
-    int status = __real_close(file);
-    if (fails_to_close) errno = EIO;
-    return fails_to_close ? -1 : status;
-}
-
-/* The test needn't wait for a disk. */
-int __wrap_fsync(int file) { return (void)file, 0; }
-int __wrap_fdatasync(int file) { return (void)file, 0; }
-
-static bool fails_to_create;
-int __real_pthread_create(pthread_t *thread, const pthread_attr_t *how, void *(*run)(void *), void *with);
-
-int __wrap_pthread_create(pthread_t *thread, const pthread_attr_t *how, void *(*run)(void *), void *with) {
-    return fails_to_create ? EAGAIN : __real_pthread_create(thread, how, run, with);
-}
-
-/* What a call may do without: nothing, one page that it would have made ahead, or all memory. */
-enum spared { NOTHING, PAGE, ALL };
+/* What a call may do without: nothing, one block that it would have made ahead (a page, or room for a list), or all memory. */
+enum spared { NOTHING, BLOCK, ALL };
 
 /* Whether a call had no memory, and was answered so; then there is memory again. */
 static bool had_no_memory(tracerd_status status, long before, enum spared spared, const char *call, int line) {
     if (refused == before) return false;
-    if (status == TRACERD_OK && (spared == ALL || (spared == PAGE && !is_lasting))) {
+    if (status == TRACERD_OK && (spared == ALL || (spared == BLOCK && !is_lasting))) {
         done_without++;
         return false;
     }
@@ -121,11 +24,12 @@ static bool had_no_memory(tracerd_status status, long before, enum spared spared
 }
 
 /* The call goes through, at the second try if an allocation fails at the first. */
-#define goes_without(spared, call) do { \
-        long before = refused; \
-        tracerd_status status = (call); \
-        if (had_no_memory(status, before, spared, #call, __LINE__)) status = (call); \
-        is_status(status, TRACERD_OK, #call, __FILE__, __LINE__); \
+#define goes_without(spared, call)                                                                                               \
+    do {                                                                                                                         \
+        long before = refused;                                                                                                   \
+        tracerd_status status = (call);                                                                                          \
+        if (had_no_memory(status, before, spared, #call, __LINE__)) status = (call);                                             \
+        is_status(status, TRACERD_OK, #call, __FILE__, __LINE__);                                                                \
     } while (0)
 #define goes(call) goes_without(NOTHING, call)
 
@@ -134,10 +38,12 @@ static void rotates(tracerd_session *s, uint64_t moment) {
     uint64_t archive, records;
     long before = refused;
     tracerd_status status = tracerd_rotate(s, moment, &archive);
-    if (had_no_memory(status, before, PAGE, "rotate", __LINE__)) {
+    if (had_no_memory(status, before, BLOCK, "rotate", __LINE__)) {
         status = tracerd_rotate_on(s, &archive);
-        if (status == TRACERD_NOT_PENDING) status = tracerd_rotate(s, moment, &archive);
-        else answers(NOT_PENDING, tracerd_rotate_on(s, &archive));
+        if (status == TRACERD_NOT_PENDING)
+            status = tracerd_rotate(s, moment, &archive);
+        else
+            answers(NOT_PENDING, tracerd_rotate_on(s, &archive));
     }
     is_status(status, TRACERD_OK, "rotate", __FILE__, __LINE__);
     answers(OK, tracerd_clear(s, &records));
@@ -151,7 +57,7 @@ static void meets_the_pending(tracerd_session *s, tracerd_producer *p) {
     uint64_t n;
     long before = refused;
     tracerd_status status = tracerd_rotate(s, 20, &n);
-    bool is_refused = had_no_memory(status, before, PAGE, "rotate", __LINE__);
+    bool is_refused = had_no_memory(status, before, BLOCK, "rotate", __LINE__);
     if (is_refused && tracerd_rotate(s, 21, &n) == TRACERD_ROTATION_PENDING) {
         tracerd_about about;
         was_pending = true;
@@ -176,18 +82,21 @@ static void records(const char *dir) {
     tracerd_audited a;
     tracerd_cause cause;
     uint64_t n;
-    char forty[40] = "abc";
+    char forty[40] = "abc", name[TRACERD_ARCHIVE_NAME];
     goes(tracerd_new(&s, "a", ONE, 0, TRACERD_LOCAL));
     goes(tracerd_channel(s, "c", 256, 2, TRACERD_DISCARD));
     goes(tracerd_producer_new(s, "c", &p));
+    goes_without(BLOCK, tracerd_declare(s, "forty 1 all:u8[40]\nthree 2 all:u8[3]", NULL));
     goes(tracerd_producer_new(s, "c", &q));
+    goes_without(BLOCK, tracerd_declare(s, "all 1 all:bytes", NULL));
     is(tracerd_producer_number(p) == 0 && tracerd_producer_number(q) == 1);
     answers(OK, tracerd_start(s, 0));
     long before = asked;
     for (uint64_t k = 0; k < 8; k++) answers(OK, tracerd_offer(k & 1 ? p : q, k, 1, forty, 40, &o));
     is(asked == before); /* no offer takes memory */
-    goes_without(PAGE, tracerd_drain(s, &n));
+    goes_without(BLOCK, tracerd_drain(s, &n));
     rotates(s, 9);
+    goes(tracerd_archive_name(s, 0, name));
     goes(tracerd_write(s, 0, dir));
     goes(tracerd_write(s, 0, dir)); /* and once more, to be compared */
     goes(tracerd_audit(dir, "a", "c", 0, ONE, &a));
@@ -217,8 +126,8 @@ static void shows(const char *dir) {
     goes(tracerd_producer_new(s, "c", &p));
     answers(OK, tracerd_start(s, 0));
     for (uint64_t k = 0; k < 20; k++) answers(OK, tracerd_offer(p, k, 1, "abc", 3, &o));
-    goes_without(PAGE, tracerd_snapshot(s, 30, dir));
-    goes_without(PAGE, tracerd_snapshot(s, 30, dir));
+    goes_without(BLOCK, tracerd_snapshot(s, 30, dir));
+    goes_without(BLOCK, tracerd_snapshot(s, 30, dir));
     goes(tracerd_audit(dir, "z", "c", 0, ONE, &a));
     is(a.last_serial == 19);
     fails_to_close = true;
@@ -227,6 +136,53 @@ static void shows(const char *dir) {
     is_lasting = false;
     fails_to_close = false;
     tracerd_free(s);
+}
+
+/* What a pool declares, and what the program does before and after; a thread that is lent one asks for no memory. */
+static void lends(const char *dir) {
+    tracerd_session *s;
+    tracerd_pool *p;
+    tracerd_counts c;
+    (void)dir;
+    goes(tracerd_new(&s, "a", NULL, 0, TRACERD_LOCAL));
+    goes(tracerd_channel(s, "c", 256, 2, TRACERD_DISCARD));
+    goes_without(BLOCK, tracerd_declare(s, "three 1 all:u8[3]", NULL));
+    goes_without(BLOCK, tracerd_pool_new(&p, s, "c", 2));
+    goes_without(BLOCK, tracerd_declare(s, "four 1 all:u8[4]", NULL));
+    answers(OK, tracerd_start(s, 0));
+    long before = asked;
+    answers(OK, tracerd_trace(tracerd_here(p), 1, "four", 4));
+    answers(OTHER_LAYOUT, tracerd_trace(tracerd_here(p), 1, "abc", 3));
+    answers(OTHER_LAYOUT, tracerd_trace(tracerd_here(p), 4294967294, "abc", 3));
+    is(asked == before);
+    answers(OK, tracerd_pool_free(p));
+    answers(OK, tracerd_counts_sum(s, &c));
+    is(c.offered == 3); /* with what the thread said first and last */
+    tracerd_free(s);
+}
+
+/* A keeper without one of its threads, or both, is none, and another one may be started. */
+static void keeps_with_threads(const char *dir) {
+    tracerd_session *s;
+    tracerd_keeper *k = NULL;
+    tracerd_producer *p;
+    answers(OK, tracerd_new(&s, "a", ONE, 0, TRACERD_LOCAL));
+    answers(OK, tracerd_channel(s, "c", 256, 2, TRACERD_DISCARD));
+    answers(OK, tracerd_producer_new(s, "c", &p));
+    for (int first = 0; first < 2; first++) {
+        fails_to_create = true;
+        made_first = first;
+        answers(NO_MEMORY, tracerd_keeper_start(&k, s, dir, 1, 1, 1));
+        fails_to_create = false;
+        answers(NOT_DRAINING, tracerd_drainer_stop(s));
+        is(!k);
+    }
+    answers(OK, tracerd_drainer_start(s, 1));
+    answers(OK, tracerd_drainer_stop(s));
+    answers(OK, tracerd_keeper_start(&k, s, dir, 1, 1, 1));
+    answers(OK, tracerd_keeper_stop(k));
+    tracerd_free(s);
+    is(held == 0);
 }
 
 /* The drainer is slow at the second stream when a sub-buffer of the first is closed, and ends only after it has taken that. */
@@ -257,6 +213,22 @@ static void drains_to_the_last(void) {
     tracerd_free(s);
 }
 
+/* What an offer writes to shares no cache line with what another thread's writes to. */
+static void lies_apart(void) {
+    tracerd_session *s;
+    tracerd_producer *p;
+    answers(OK, tracerd_new(&s, "a", ONE, 0, TRACERD_LOCAL));
+    answers(OK, tracerd_channel(s, "c", 256, 2, TRACERD_DISCARD));
+    answers(OK, tracerd_declare(s, "all 1 all:bytes", NULL)); /* an offer writes to its handle of this too */
+    long together_before = together, apart_before = apart;
+    for (int k = 0; k < 2; k++) {
+        answers(OK, tracerd_producer_new(s, "c", &p));
+        is((uintptr_t)p % 128 == 0);
+    }
+    is(together == together_before && apart > apart_before);
+    tracerd_free(s);
+}
+
 /* Each run has a folder of its own, so that it writes what it writes anew. */
 static const char *own_folder(const char *folder, int lasting) {
     static char path[4200];
@@ -268,8 +240,12 @@ int main(int count, char **words) {
     if (count != 2) return 2;
     drains_to_the_last();
     counts_as_one();
+    lies_apart();
+    counts_as_one();
+    keeps_with_threads(words[1]);
+    counts_as_one();
     for (int lasting = 0; lasting < 2; lasting++) {
-        for (void (*const *run)(const char *) = (void (*const[])(const char *)){records, shows, NULL}; *run; run++) {
+        for (void (*const *run)(const char *) = (void (*const[])(const char *)){records, shows, lends, NULL}; *run; run++) {
             do {
                 asked = refused = shrunk = 0;
                 fails_at++;
@@ -282,7 +258,7 @@ int main(int count, char **words) {
         }
     }
     is_lasting = false;
-    is(was_pending && done_without);
+    is(was_pending && done_without && !half_apart);
     counts_as_one();
     return closing();
 }

@@ -66,8 +66,10 @@ static void offer(void) {
     size_t size = option("--fill") ? (size_t)atol(option("--fill")) : 0;
     memset(payload, 'a', size);
     if (refused(tracerd_offer(producers[number(2)], number(3), (uint32_t)number(4), payload, size, &o))) return;
-    if (o.outcome == TRACERD_DISCARDED) printf("discarded %" PRIu64 "\n", o.serial);
-    else printf("stored %" PRIu64 " in %" PRIu64, o.serial, o.packet);
+    if (o.outcome == TRACERD_DISCARDED)
+        printf("discarded %" PRIu64 "\n", o.serial);
+    else
+        printf("stored %" PRIu64 " in %" PRIu64, o.serial, o.packet);
     if (o.outcome == TRACERD_STORED_OVER) printf(" over %" PRIu64 " %" PRIu64, o.gone, o.gone_count);
     if (o.outcome != TRACERD_DISCARDED) printf("\n");
 }
@@ -94,8 +96,10 @@ static void schedule(void) {
 static void tick(void) {
     tracerd_cause cause;
     if (refused(tracerd_tick(session, number(2), &cause, &archives))) return;
-    if (cause == TRACERD_IDLE) puts("idle");
-    else printf("rotated %s %" PRIu64 "\n", cause == TRACERD_TIMER ? "timer" : "size", archives++);
+    if (cause == TRACERD_IDLE)
+        puts("idle");
+    else
+        printf("rotated %s %" PRIu64 "\n", cause == TRACERD_TIMER ? "timer" : "size", archives++);
 }
 
 static void channel(void) {
@@ -130,15 +134,19 @@ static void keep(const char *folder, const char *name) {
         if (tracerd_audit(folder, name, channels[i], i, uuid, &a)) exit(1);
         printf("stream %" PRIu64 " %s packets %" PRIu64 " records %" PRIu64, i, channels[i], a.packets, a.records);
         printf(" absent %" PRIu64 " lost %" PRIu64 " last ", a.absent, a.discarded);
-        if (a.packets) printf("%" PRIu64 " %" PRIu64 "\n", a.last_packet, a.last_serial);
-        else puts("none");
+        if (a.packets)
+            printf("%" PRIu64 " %" PRIu64 "\n", a.last_packet, a.last_serial);
+        else
+            puts("none");
     }
 }
 
 int main(int given, char **arguments) {
-    static const struct { const char *name; void (*play)(void); } calls[] = {
-        {"create", create}, {"channel", channel}, {"thread", thread}, {"offer", offer}, {"fate", fate},
-        {"schedule", schedule}, {"tick", tick}, {"rotate", rotate}, {NULL, operate}};
+    static const struct {
+        const char *name;
+        void (*play)(void);
+    } calls[] = {{"create", create},     {"channel", channel}, {"thread", thread}, {"offer", offer}, {"fate", fate},
+                 {"schedule", schedule}, {"tick", tick},       {"rotate", rotate}, {NULL, operate}};
     char line[4200];
     if (given != 2) return 2;
     while (fgets(line, sizeof line, stdin)) {

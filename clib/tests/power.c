@@ -1,6 +1,6 @@
 /* The disk is full, or the power is cut, before the k-th system call of a write or a snapshot, for each k. Then the archive is
  * not there, or all of it is; what was there stays; no descriptor is left open; and the same call goes through once the disk is
- * well. Of what was answered OK nothing is lost. Link with --wrap of the calls in disk.h.
+ * well. Of what was answered OK nothing is lost.
  *
  *     power DIR     a folder that is there, in which files are written */
 #include "disk.h"
@@ -8,6 +8,7 @@
 enum { RECORDS = 40 };
 
 static const char NAME[] = "19700101T000000+0000-19700101T000000+0000-0";
+static const char STOPPED[] = "stopped/there"; /* the folder, of which each part may be missing */
 static const char *dir;
 static tracerd_session *session;
 static tracerd_status (*keep)(const char *folder);
@@ -74,7 +75,10 @@ static int descriptors(void) {
 
 /* ---- What is there before ---- */
 
-static void nothing(const char *folder) { remove_all(in(folder, "", "")); }
+static void nothing(const char *folder) {
+    (void)folder;
+    remove_all(in("stopped", "", ""));
+}
 
 /* What is left of an attempt that stopped between two pieces. */
 static void left_over(const char *folder) {
@@ -107,12 +111,12 @@ static void unsure_archive(const char *folder) {
 /* Whether the call was stopped. */
 static bool stops(long at, enum failure failure, void (*before)(const char *folder)) {
     stops_at = -1;
-    before("stopped");
-    bool was_there = is_there(in("stopped", NAME, ""));
+    before(STOPPED);
+    bool was_there = is_there(in(STOPPED, NAME, ""));
     int open = descriptors();
     calls = 0;
     stops_at = at;
-    tracerd_status status = keep("stopped");
+    tracerd_status status = keep(STOPPED);
     bool is_stopped = calls > at;
     stops_at = -1;
     is(descriptors() == open);
@@ -120,11 +124,11 @@ static bool stops(long at, enum failure failure, void (*before)(const char *fold
     is(status == TRACERD_OK || (is_stopped && is_told));
     is(status != TRACERD_OK || !losable);
     if (before != unsure_archive) cut_power(failure);
-    is(is_there(in("stopped", NAME, "")) ? is_whole("stopped") : status != TRACERD_OK && !was_there);
+    is(is_there(in(STOPPED, NAME, "")) ? is_whole(STOPPED) : status != TRACERD_OK && !was_there);
     losable = 0;
-    answers(OK, keep("stopped"));
-    is(is_whole("stopped") && !losable);
-    is(!is_there(in("stopped", ".19700101T000000+0000-19700101T000000+0000-0.part", "")));
+    answers(OK, keep(STOPPED));
+    is(is_whole(STOPPED) && !losable);
+    is(!is_there(in(STOPPED, ".19700101T000000+0000-19700101T000000+0000-0.part", "")));
     return is_stopped;
 }
 

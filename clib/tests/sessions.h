@@ -37,18 +37,18 @@ static inline void begin(const char *folder) {
     memset(letters, 'a', sizeof letters - 1);
 }
 
-#define EACH_ALONE(tests)                                              \
-    for (size_t i_ = 0; i_ < sizeof tests / sizeof *tests; i_++) {     \
-        tests[i_]();                                                   \
-        counts_as_one();                                               \
+#define EACH_ALONE(tests)                                                                                                        \
+    for (size_t i_ = 0; i_ < sizeof tests / sizeof *tests; i_++) {                                                               \
+        tests[i_]();                                                                                                             \
+        counts_as_one();                                                                                                         \
     }
 
-#define EACH_WITH_SESSION(tests)                                                             \
-    for (size_t i_ = 0; i_ < sizeof tests / sizeof *tests; i_++) {                           \
-        tracerd_producer *producer_;                                                         \
-        tracerd_session *session_ = fresh(TRACERD_LOCAL, TRACERD_DISCARD, &producer_);       \
-        tests[i_](session_, producer_);                                                      \
-        tracerd_free(session_);                                                              \
-        counts_as_one();                                                                     \
+#define EACH_WITH_SESSION(tests)                                                                                                 \
+    for (size_t i_ = 0; i_ < sizeof tests / sizeof *tests; i_++) {                                                               \
+        tracerd_producer *producer_;                                                                                             \
+        tracerd_session *session_ = fresh(TRACERD_LOCAL, TRACERD_DISCARD, &producer_);                                           \
+        tests[i_](session_, producer_);                                                                                          \
+        tracerd_free(session_);                                                                                                  \
+        counts_as_one();                                                                                                         \
     }
 #endif

@@ -1,25 +1,23 @@
 /* All calls at once, in random order: threads that offer, rotate, tick, write, write again, release, stop, start, clear, drain,
  * start and stop the drainer, look, take snapshots and give producers back. Then clib/tests/judge reads what is below DIR: the
- * bytes of each record, and the fate of each serial. Link with --wrap of fsync and fdatasync.
+ * bytes of each record, and the fate of each serial.
  *
  *     stress SEED MILLISECONDS DIR */
-#include "testing.h"
+#include "turns.h"
 #include <pthread.h>
 #include <sched.h>
 #include <stdatomic.h>
-#include <stdbool.h>
-#include <time.h>
 
 enum { OFFERING = 8, STREAMS = 9, SHOWN = 2, KINDS = 4, MOST_SNAPSHOTS = 40, MOST_THREADS = 32 };
-static const uint64_t LAST_MOMENT = 9000000000000000000;
 
 static const struct {
     const char *name;
     uint64_t size, count;
     tracerd_mode mode;
-} channels[KINDS] = {
-    {"d", 4096, 4, TRACERD_DISCARD}, {"o", 4096, 8, TRACERD_OVERWRITE},
-    {"big", 1048576, 2, TRACERD_DISCARD}, {"tiny", 256, 2, TRACERD_OVERWRITE}};
+} channels[KINDS] = {{"d", 4096, 4, TRACERD_DISCARD},
+                     {"o", 4096, 8, TRACERD_OVERWRITE},
+                     {"big", 1048576, 2, TRACERD_DISCARD},
+                     {"tiny", 256, 2, TRACERD_OVERWRITE}};
 
 static tracerd_session *local, *snapshots;
 static tracerd_producer *producers[STREAMS], *shown[SHOWN];
@@ -32,31 +30,6 @@ static uint64_t seed;
 /* The test needn't wait for a disk. */
 int __wrap_fsync(int file) { return (void)file, 0; }
 int __wrap_fdatasync(int file) { return (void)file, 0; }
-
-/* One of the answers that may be. */
-static void one_of(tracerd_status found, tracerd_status one, tracerd_status other, const char *what) {
-    if (found == one || found == other) return;
-    printf("%s: %s\n", what, tracerd_status_name(found));
-    exit(1);
-}
-
-#define MAY(one, other, call) one_of((call), TRACERD_##one, TRACERD_##other, #call)
-#define MUST(call) MAY(OK, OK, call)
-
-static void must_be(bool so, const char *what) {
-    if (so) return;
-    printf("not so: %s\n", what);
-    exit(1);
-}
-
-static uint64_t next_random(uint64_t *state) {
-    uint64_t z = (*state += 0x9e3779b97f4a7c15);
-    z = (z ^ (z >> 30)) * 0xbf58476d1ce4e5b9;
-    z = (z ^ (z >> 27)) * 0x94d049bb133111eb;
-    return z ^ (z >> 31);
-}
-
-static void nap(uint64_t microseconds) { nanosleep(&(struct timespec){0, (long)microseconds * 1000}, NULL); }
 
 static bool is_on(const tracerd_producer *p) { return __atomic_load_n(&p->active, __ATOMIC_RELAXED) != 0; }
 
@@ -96,7 +69,10 @@ static void offer_one(int i, uint64_t moment, uint8_t *bytes, size_t size) {
     uint32_t id = (uint32_t)(told[i].serial ^ (uint64_t)i);
     tracerd_status status = tracerd_offer(producers[i], moment, id, size ? bytes : NULL, size, &o);
     MAY(OK, INACTIVE, status);
-    if (status) return (void)sched_yield();
+    if (status) {
+        sched_yield();
+        return;
+    }
     must_be(o.serial == told[i].serial++, "serials");
     told[i].discarded += o.outcome == TRACERD_DISCARDED;
     told[i].stored += o.outcome != TRACERD_DISCARDED;
@@ -153,8 +129,10 @@ static void tick(uint64_t random) {
 static void write_next(uint64_t random) {
     tracerd_status status = tracerd_write(local, (uint64_t)written, dir);
     MAY(OK, NO_ARCHIVE, status);
-    if (status) nap(random % 1000);
-    else written++;
+    if (status)
+        nap(random % 1000);
+    else
+        written++;
 }
 
 static void write_again(uint64_t random) {
@@ -166,7 +144,8 @@ static void release(uint64_t random) {
     if (released < written) {
         MUST(tracerd_release(local, (uint64_t)released));
         MAY(RELEASED, RELEASED, tracerd_release(local, (uint64_t)released++));
-    } else nap(random % 3000);
+    } else
+        nap(random % 3000);
 }
 
 static void stop_and_start(uint64_t random) {
@@ -227,8 +206,8 @@ static void take_snapshot(uint64_t random) {
 }
 
 typedef void turn(uint64_t random);
-static turn *const turns[] = {rotate, tick, write_next, write_again, release, stop_and_start, clear, drain,
-                              drain, start_drainer, look, look, take_snapshot, take_snapshot};
+static turn *const turns[] = {rotate, tick,  write_next,    write_again, release, stop_and_start, clear,
+                              drain,  drain, start_drainer, look,        look,    take_snapshot,  take_snapshot};
 
 static void *take_turns(void *given) {
     uint64_t number = (uint64_t)(intptr_t)given, state = seed + number;
@@ -292,8 +271,7 @@ int main(int count, char **words) {
     open_sessions();
     for (int i = 0; i < OFFERING; i++) is(!pthread_create(&threads[made++], NULL, offer_all, (void *)(intptr_t)i));
     is(!pthread_create(&threads[made++], NULL, trace, NULL));
-    for (size_t i = 0; i < sizeof turns / sizeof *turns; i++)
-        is(!pthread_create(&threads[made++], NULL, take_turns, (void *)i));
+    for (size_t i = 0; i < sizeof turns / sizeof *turns; i++) is(!pthread_create(&threads[made++], NULL, take_turns, (void *)i));
     nap(half);
     is_late = true;
     nap(half);

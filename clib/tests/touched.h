@@ -2,14 +2,23 @@
  * calls on one that no lock orders are seen, though the cells themselves aren't watched. */
 #define _GNU_SOURCE
 #include "../cells.h"
+#include <pthread.h>
+
+static inline int forget(pthread_mutex_t *lock) { return lock == NULL; }
+
+/* At the beginning of a function that is to forget the locks that it takes: for clib/must-fail. */
+#define FORGETS_LOCKS                                                                                                            \
+    int (*const pthread_mutex_lock)(pthread_mutex_t *) = forget, (*const pthread_mutex_unlock)(pthread_mutex_t *) = forget;
 
 static inline void touch(void *handle) {
     volatile bool *live = &((trc_stream *)handle)->live;
     *live = *live;
 }
 
-#define ONE(name, handle, ...) (touch(handle), name(handle, ##__VA_ARGS__))
-#define TWO(name, one, other, ...) (touch(one), touch(other), name(one, other, ##__VA_ARGS__))
+#define FIRST_OF(first, ...) first
+#define SECOND_OF(first, second, ...) second
+#define ONE(name, ...) (touch(FIRST_OF(__VA_ARGS__, NULL)), name(__VA_ARGS__))
+#define TWO(name, ...) (touch(FIRST_OF(__VA_ARGS__, NULL)), touch(SECOND_OF(__VA_ARGS__, NULL)), name(__VA_ARGS__))
 
 #define trc_stream_offer(...) ONE(trc_stream_offer, __VA_ARGS__)
 #define trc_stream_take(...) ONE(trc_stream_take, __VA_ARGS__)

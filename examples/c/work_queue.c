@@ -2,7 +2,7 @@
  *
  *     work_queue         the jobs alone: tracepoints cost a branch each
  *     work_queue DIR     the same, and the trace below DIR */
-#include <tracerd.h>
+#include <tracerd_events.h>
 #include <pthread.h>
 #include <stdint.h>
 #include <stdio.h>
@@ -10,7 +10,14 @@
 #include <sys/random.h>
 
 enum { WORKERS = 4, JOBS = 1000, ROOM = 64 };
-enum { QUEUED = 1, BEGUN = 2, ENDED = 3 }; /* the ids of records; the payload of each is a job */
+
+/* What is recorded: of each event a name, an id and fields. */
+#define EVENTS(E)                                   \
+    E(job_queued, 1, (u32, number), (u32, waiting)) \
+    E(job_begun, 2, (u32, number))                  \
+    E(job_ended, 3, (u32, number), (x32, result))   \
+    E(queue_closed, 4)
+TRACERD_EVENTS(EVENTS)
 
 typedef struct { uint32_t number, result; } job;
 
@@ -33,7 +40,7 @@ static void put(tracerd_producer *producer, job it) {
     pthread_mutex_lock(&queue.lock);
     while (queue.count == ROOM) pthread_cond_wait(&queue.has_room, &queue.lock);
     queue.jobs[(queue.first + queue.count++) % ROOM] = it;
-    TRACERD_TRACE(producer, QUEUED, &it, sizeof it);
+    TRACERD_EVENT(job_queued, producer, it.number, (uint32_t)queue.count);
     pthread_cond_signal(&queue.has_jobs);
     pthread_mutex_unlock(&queue.lock);
 }
@@ -56,17 +63,18 @@ static void *work(void *given) {
     tracerd_producer *producer = given;
     job it;
     while (get(&it)) {
-        TRACERD_TRACE(producer, BEGUN, &it, sizeof it);
+        TRACERD_EVENT(job_begun, producer, it.number);
         for (uint32_t k = 0; k < 10000; k++) it.result = it.result * 31 + k;
-        TRACERD_TRACE(producer, ENDED, &it, sizeof it);
+        TRACERD_EVENT(job_ended, producer, it.number, it.result);
     }
     tracerd_producer_done(producer);
     return NULL;
 }
 
-static void close_queue(void) {
+static void close_queue(tracerd_producer *producer) {
     pthread_mutex_lock(&queue.lock);
     queue.is_closed = 1;
+    TRACERD_EVENT(queue_closed, producer);
     pthread_cond_broadcast(&queue.has_jobs);
     pthread_mutex_unlock(&queue.lock);
 }
@@ -85,7 +93,7 @@ static void keep(tracerd_session *session, const char *folder) {
 }
 
 /* A session of this run's own, so that several runs may have one folder: it is named by when it began, and has an identifier that
- * no other has. */
+ * no other has. Readers find its events' names and fields in its archives. */
 static tracerd_session *open_session(void) {
     uint8_t uuid[16];
     char name[32];
@@ -95,6 +103,7 @@ static tracerd_session *open_session(void) {
     uuid[8] = (uuid[8] & 0x3f) | 0x80;
     snprintf(name, sizeof name, "queue_%llu", (unsigned long long)tracerd_now());
     must(tracerd_new(&session, name, uuid, 0, TRACERD_LOCAL), "new");
+    must(tracerd_declare(session, tracerd_declarations, NULL), "declare");
     return session;
 }
 
@@ -112,7 +121,7 @@ int main(int count, char **words) {
     for (int i = 0; i < WORKERS; i++)
         if (pthread_create(&workers[i], NULL, work, working[i])) abort();
     for (uint32_t k = 0; k < JOBS; k++) put(queueing, (job){k, 0});
-    close_queue();
+    close_queue(queueing);
     for (int i = 0; i < WORKERS; i++) pthread_join(workers[i], NULL);
     must(tracerd_producer_done(queueing), "producer_done");
     if (count > 1) keep(session, words[1]);

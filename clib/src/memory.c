@@ -1,0 +1,30 @@
+/* Where cells, sessions and slots get their memory from. */
+#include "session.h"
+#include <stdlib.h>
+#include <string.h>
+#include <sys/mman.h>
+
+void *trc_apart(size_t size);
+
+/* The memory of cells: the build has them call this in place of malloc. A block is whole pairs of cache lines, so that
+ * no other thread's data shares one with it. What grows later may share one, and no offer lets anything grow. */
+void *trc_apart(size_t size) {
+    if (size > SIZE_MAX - APART)
+        return NULL;
+    return aligned_alloc(APART, (size + APART - 1) / APART * APART);
+}
+
+void *new_apart(size_t size) {
+    void *at = trc_apart(size);
+    if (at)
+        memset(at, 0, size);
+    return at;
+}
+
+void *new_pages(size_t size) {
+    void *at = mmap(NULL, size, PROT_READ | PROT_WRITE, MAP_PRIVATE | MAP_ANONYMOUS, -1, 0);
+    if (at == MAP_FAILED)
+        return NULL;
+    (void)madvise(at, size, MADV_WIPEONFORK);
+    return at;
+}
