@@ -8,15 +8,15 @@ UUID = bytes(range(16))
 THREADS, RECORDS = 2, 1000
 
 
-def record(session, producer):
-    for k in range(RECORDS):
-        offered = producer.offer(session.now(), 7, b"%d" % k)
-        assert (offered.outcome, offered.serial) == (tracerd.STORED, k), offered
-    producer.done()
+def record(session: tracerd.Session, producer: tracerd.Producer) -> None:
+    with producer:
+        for k in range(RECORDS - 1):
+            offered = producer.offer(session.now(), 7, b"%d" % k)
+            assert (offered.outcome, offered.serial) == (tracerd.STORED, k), offered
+        assert producer.trace(8, bytearray(b"the last one, at the session's clock"))
 
 
-def main(folder):
-    session = tracerd.Session("snake", UUID)
+def run(session: tracerd.Session, folder: str) -> None:
     session.channel("main", 65536, 16, tracerd.DISCARD)
     producers = [session.producer("main") for _ in range(THREADS)]
     session.start(session.now())
@@ -37,8 +37,13 @@ def main(folder):
         session.write(archive + 1, folder)
         raise AssertionError("an archive that isn't there was written")
     except tracerd.Refused as refused:
-        assert str(refused) == "NoArchive", refused
+        assert str(refused) == "NoArchive" and refused.status is tracerd.Status.NO_ARCHIVE, refused
     print(f"python: {totals.in_chunks} records in archive {archive}")
+
+
+def main(folder: str) -> None:
+    with tracerd.Session("snake", UUID) as session:
+        run(session, folder)
 
 
 if __name__ == "__main__":

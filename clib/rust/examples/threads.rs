@@ -1,6 +1,6 @@
 //! Records from four threads, rotates, writes the archive below the folder that is named, and reads it back.
 use std::path::Path;
-use tracerd::{audit, Fate, Kind, Mode, Offered, Refused, Session};
+use tracerd::{audit, trace, Fate, Kind, Mode, Offered, Refused, Session};
 
 const UUID: [u8; 16] = [3; 16];
 const THREADS: u64 = 4;
@@ -17,10 +17,11 @@ fn main() -> Result<(), Refused> {
     std::thread::scope(|scope| {
         for mut producer in producers {
             scope.spawn(move || {
-                for k in 0..RECORDS {
+                for k in 0..RECORDS - 1 {
                     let offered = producer.offer(session.now(), 7, &k.to_le_bytes());
                     assert!(matches!(offered, Ok(Offered::Stored { serial, .. }) if serial == k), "{offered:?}");
                 }
+                trace!(producer, 8, "the last one, at the session's clock");
                 assert!(matches!(producer.fate(0), Ok(Fate::InRing { packet: 0 })));
                 assert_eq!(producer.offer(session.now(), 7, &[0; 65_536]), Err(Refused::TooBig));
             });

@@ -1,5 +1,6 @@
 //! What `tracerd.h` declares.
 use std::ffi::{c_char, c_void};
+use std::sync::atomic::AtomicU32;
 
 #[repr(C)]
 pub struct RawSession {
@@ -8,7 +9,7 @@ pub struct RawSession {
 
 #[repr(C)]
 pub struct RawProducer {
-    _active: u32,
+    pub active: AtomicU32,
 }
 
 #[repr(C)]
@@ -44,7 +45,8 @@ pub struct Counts {
     pub refused_too_big: u64,
     pub refused_bad_moment: u64,
     pub refused_spent: u64,
-    reserved: [u64; 6],
+    pub refused_other_layout: u64,
+    reserved: [u64; 5],
 }
 
 /// What a session is.
@@ -98,6 +100,7 @@ pub struct Audited {
 
 extern "C" {
     pub fn tracerd_version() -> *const c_char;
+    pub fn tracerd_status_name(status: u32) -> *const c_char;
     pub fn tracerd_now() -> u64;
     pub fn tracerd_now_of(s: *const RawSession) -> u64;
     pub fn tracerd_new(s: *mut *mut RawSession, name: *const c_char, uuid: *const u8, east: i32, kind: u32) -> u32;
@@ -106,6 +109,7 @@ extern "C" {
     pub fn tracerd_producer_new(s: *mut RawSession, channel: *const c_char, p: *mut *mut RawProducer) -> u32;
     pub fn tracerd_producer_number(p: *const RawProducer) -> u64;
     pub fn tracerd_producer_done(p: *mut RawProducer) -> u32;
+    pub fn tracerd_declare(s: *mut RawSession, text: *const c_char, line: *mut u64) -> u32;
     pub fn tracerd_start(s: *mut RawSession, moment: u64) -> u32;
     pub fn tracerd_stop(s: *mut RawSession) -> u32;
     pub fn tracerd_offer(
@@ -116,6 +120,7 @@ extern "C" {
         size: usize,
         o: *mut RawOffered,
     ) -> u32;
+    pub fn tracerd_trace(p: *mut RawProducer, id: u32, bytes: *const c_void, size: usize) -> u32;
     pub fn tracerd_drain(s: *mut RawSession, packets: *mut u64) -> u32;
     pub fn tracerd_drainer_start(s: *mut RawSession, period: u64) -> u32;
     pub fn tracerd_drainer_stop(s: *mut RawSession) -> u32;

@@ -1,5 +1,5 @@
 //! A recorder: sessions of channels, in which each thread offers records by a producer of its own. `tracerd.h` has the meaning
-//! of each call, its units and refusals.
+//! of each call, its units and refusals. [`tracerd_events!`] makes typed events.
 //!
 //! ```no_run
 //! use tracerd::{Kind, Mode, Session};
@@ -14,55 +14,26 @@
 //!     session.write(archive, "DIR".as_ref())
 //! }
 //! ```
+pub mod events;
 mod ffi;
+mod refused;
+#[cfg(test)]
+#[path = "../../tests/typed.rs"]
+mod typed;
+#[cfg(test)]
+#[path = "../../tests/wrapper.rs"]
+mod wrapper;
 
 use std::ffi::{CStr, CString};
 use std::fmt;
 use std::os::unix::ffi::OsStrExt;
 use std::path::Path;
 use std::ptr::{null_mut, NonNull};
+use std::sync::atomic::Ordering;
 use std::sync::Arc;
 
 pub use ffi::{About, Archive, Audited, Counts};
-
-macro_rules! refusals {
-    ($($name:ident = $code:literal,)*) => {
-        /// Why a call was refused. Its number is the status of `tracerd.h`.
-        #[derive(Clone, Copy, Debug, PartialEq, Eq)]
-        #[repr(u32)]
-        #[non_exhaustive]
-        pub enum Refused {
-            $($name = $code,)*
-        }
-
-        impl Refused {
-            fn from_status(status: u32) -> Refused {
-                match status {
-                    $($code => Refused::$name,)*
-                    _ => unreachable!("tracerd answered {status}"),
-                }
-            }
-        }
-    };
-}
-
-refusals! {
-    NoMemory = 1, Closed = 2, BadMoment = 4, BadMode = 6, BadName = 7, BadOffset = 8,
-    Write = 20, Read = 21, Missing = 22, Draining = 23, NotDraining = 24, Exists = 25,
-    SnapshotMode = 101, NotSnapshotMode = 102, NeverStarted = 103, RotationPending = 104, AlreadyRotated = 105,
-    AlreadyActive = 106, NotActive = 107, DiscardInSnapshot = 109, AlreadyStarted = 110, BadGeometry = 111, TooMany = 112,
-    NotPending = 113, NameTaken = 115, NoChannel = 117, NoArchive = 118, Released = 119,
-    Inactive = 201, TooBig = 202, Spent = 203, ZeroPeriod = 701, ZeroSize = 702,
-    Packet = 801, NumberRepeat = 802, SerialRepeat = 803, Foreign = 804,
-}
-
-impl fmt::Display for Refused {
-    fn fmt(&self, out: &mut fmt::Formatter<'_>) -> fmt::Result {
-        fmt::Debug::fmt(self, out)
-    }
-}
-
-impl std::error::Error for Refused {}
+pub use refused::{Fault, Refused};
 
 fn done(status: u32) -> Result<(), Refused> {
     if status == 0 {
@@ -83,8 +54,8 @@ fn name(text: &str) -> Result<CString, Refused> {
     CString::new(text).map_err(|_| Refused::BadName)
 }
 
-fn path(folder: &Path, otherwise: Refused) -> Result<CString, Refused> {
-    CString::new(folder.as_os_str().as_bytes()).map_err(|_| otherwise)
+fn path(folder: &Path, otherwise: fn(std::io::Error) -> Refused) -> Result<CString, Refused> {
+    CString::new(folder.as_os_str().as_bytes()).map_err(|why| otherwise(why.into()))
 }
 
 /// The version of the library that is linked.
@@ -139,6 +110,7 @@ pub enum Ticked {
 }
 
 /// A session in the library: it goes with the last that holds it.
+#[derive(Debug)]
 struct Handle(NonNull<ffi::RawSession>);
 
 // the library orders all calls on a session by locks
@@ -152,7 +124,7 @@ impl Drop for Handle {
 }
 
 /// A session, which threads share by reference or by clones.
-#[derive(Clone)]
+#[derive(Clone, Debug)]
 pub struct Session(Arc<Handle>);
 
 /// One thread's right to offer. It keeps its session alive, and gives itself back.
@@ -186,6 +158,18 @@ impl Session {
         let channel = name(channel)?;
         done(unsafe { ffi::tracerd_producer_new(self.raw(), channel.as_ptr(), &mut raw) })?;
         Ok(Producer { raw: NonNull::new(raw).ok_or(Refused::NoMemory)?, _session: self.0.clone() })
+    }
+
+    /// Declares events, a line each: those of [`tracerd_events!`], or of any text. Several texts may be put together; what was
+    /// declared before goes. A refusal has the number of the first line that declares none, as [`Refused::BadType`].
+    pub fn declare(&self, text: &str) -> Result<(), Refused> {
+        // (a zero byte would end the text for C; this one can't be printed either)
+        let text = CString::new(text.replace('\0', "\u{1}")).expect("no byte is zero");
+        let mut line = 0;
+        match unsafe { ffi::tracerd_declare(self.raw(), text.as_ptr(), &mut line) } {
+            0 => Ok(()),
+            status => Err(Refused::from_line(status, line)),
+        }
     }
 
     /// The moment by the session's clock, for offers and calls on it.
@@ -270,10 +254,13 @@ impl Session {
         written(|counts| unsafe { ffi::tracerd_counts_sum(self.raw(), counts) })
     }
 
-    /// The sums once every producer was given back.
+    /// The sums, once every producer was given back. [`Refused::Missing`] has the number of the first stream whose wasn't.
     pub fn settle(&self) -> Result<Counts, Refused> {
-        let mut stream = 0;
-        written(|counts| unsafe { ffi::tracerd_settle(self.raw(), counts, &mut stream) })
+        let (mut counts, mut stream) = (Counts::default(), 0);
+        match unsafe { ffi::tracerd_settle(self.raw(), &mut counts, &mut stream) } {
+            refused::MISSING => Err(Refused::Missing(stream)),
+            status => done(status).map(|()| counts),
+        }
     }
 }
 
@@ -287,6 +274,28 @@ impl Producer {
             1 => Offered::StoredOver { serial: it.serial, packet: it.packet, gone: it.gone, gone_count: it.gone_count },
             _ => Offered::Discarded { serial: it.serial },
         })
+    }
+
+    /// Offers at the session's clock, and answers only a refusal. [`trace!`] evaluates nothing while the session is off.
+    #[inline]
+    pub fn trace(&mut self, id: u32, payload: &[u8]) -> Result<(), Refused> {
+        done(unsafe { ffi::tracerd_trace(self.raw.as_ptr(), id, payload.as_ptr().cast(), payload.len()) })
+    }
+
+    /// Whether offers are taken now: a load.
+    #[inline]
+    pub fn is_active(&self) -> bool {
+        unsafe { self.raw.as_ref() }.active.load(Ordering::Relaxed) != 0
+    }
+
+    /// Itself, if offers are taken now.
+    #[inline]
+    pub fn if_active(&mut self) -> Option<&mut Producer> {
+        if self.is_active() {
+            Some(self)
+        } else {
+            None
+        }
     }
 
     /// The number of its stream.
@@ -311,16 +320,27 @@ impl Producer {
     }
 }
 
+impl fmt::Debug for Producer {
+    fn fmt(&self, out: &mut fmt::Formatter<'_>) -> fmt::Result {
+        let (number, is_active) = (self.number(), self.is_active());
+        out.debug_struct("Producer").field("number", &number).field("is_active", &is_active).finish()
+    }
+}
+
 impl Drop for Producer {
     fn drop(&mut self) {
         unsafe { ffi::tracerd_producer_done(self.raw.as_ptr()) };
     }
 }
 
-/// Reads a stream's files of all archives below a folder, and judges each packet.
+/// Reads a stream's files of all archives below a folder, and judges each packet. Of a fault the refusal has the place
+/// ([`Fault`]).
 pub fn audit(folder: &Path, session: &str, channel: &str, stream: u64, uuid: [u8; 16]) -> Result<Audited, Refused> {
     let (folder, session, channel) = (path(folder, Refused::Read)?, name(session)?, name(channel)?);
-    written(|audited| unsafe {
-        ffi::tracerd_audit(folder.as_ptr(), session.as_ptr(), channel.as_ptr(), stream, uuid.as_ptr(), audited)
-    })
+    let (folder, session, channel) = (folder.as_ptr(), session.as_ptr(), channel.as_ptr());
+    let mut found = Audited::default();
+    match unsafe { ffi::tracerd_audit(folder, session, channel, stream, uuid.as_ptr(), &mut found) } {
+        0 => Ok(found),
+        status => Err(Refused::from_audit(status, &found)),
+    }
 }

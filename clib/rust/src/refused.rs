@@ -1,0 +1,194 @@
+//! Why a call was refused.
+use crate::ffi;
+use std::ffi::CStr;
+use std::{fmt, io};
+
+const WRITE: u32 = 20;
+const READ: u32 = 21;
+pub(crate) const MISSING: u32 = 22;
+const PACKET: u32 = 801;
+const NUMBER_REPEAT: u32 = 802;
+const SERIAL_REPEAT: u32 = 803;
+const FOREIGN: u32 = 804;
+
+/// Where an audit found a fault.
+#[derive(Clone, Copy, Debug, PartialEq, Eq)]
+#[non_exhaustive]
+pub struct Fault {
+    /// The number of the archive.
+    pub archive: u64,
+    /// Where in the stream's file of this archive the packet begins.
+    pub byte: u64,
+    /// Of [`Refused::Packet`]: 1 to 7 for P1 to P7; else 0.
+    pub packet_fault: u32,
+}
+
+macro_rules! refusals {
+    ($($name:ident = $code:literal,)*; lines: $($bad:ident = $of_line:literal,)*) => {
+        /// Why a call was refused. A later library may answer what isn't here: match with a last arm for it.
+        #[derive(Debug)]
+        #[non_exhaustive]
+        pub enum Refused {
+            $(#[doc = concat!("The status ", $code, " of `tracerd.h`.")] $name,)*
+            /// A folder or a file could not be made or written, for this reason.
+            Write(io::Error),
+            /// A folder or a file could not be read, for this reason.
+            Read(io::Error),
+            /// Producers were not given back: the number of the first one's stream.
+            Missing(u64),
+            /// An audit found no packet here.
+            Packet(Fault),
+            /// An audit found a packet here whose number isn't above the one before.
+            NumberRepeat(Fault),
+            /// An audit found a packet here whose first serial isn't above the last one before.
+            SerialRepeat(Fault),
+            /// An audit found a packet of another trace or another stream here.
+            Foreign(Fault),
+            $(#[doc = concat!("The status ", $of_line, " of `tracerd.h`: the first line that declares no event.")] $bad(u64),)*
+            /// A status that this version of the crate doesn't know.
+            Other(u32),
+        }
+
+        impl Refused {
+            /// Of a status, just after the call that answered it: errno is that call's.
+            pub(crate) fn from_status(status: u32) -> Refused {
+                match status {
+                    $($code => Refused::$name,)*
+                    WRITE => Refused::Write(io::Error::last_os_error()),
+                    READ => Refused::Read(io::Error::last_os_error()),
+                    _ => Refused::Other(status),
+                }
+            }
+
+            /// Of a text of declarations, of which this line declares no event.
+            pub(crate) fn from_line(status: u32, line: u64) -> Refused {
+                match status {
+                    $($of_line => Refused::$bad(line),)*
+                    _ => Refused::from_status(status),
+                }
+            }
+
+            fn line(&self) -> Option<u64> {
+                match self {
+                    $(Refused::$bad(line) => Some(*line),)*
+                    _ => None,
+                }
+            }
+
+            /// The status of `tracerd.h`.
+            pub fn status(&self) -> u32 {
+                match self {
+                    $(Refused::$name => $code,)*
+                    Refused::Write(_) => WRITE,
+                    Refused::Read(_) => READ,
+                    Refused::Missing(_) => MISSING,
+                    Refused::Packet(_) => PACKET,
+                    Refused::NumberRepeat(_) => NUMBER_REPEAT,
+                    Refused::SerialRepeat(_) => SERIAL_REPEAT,
+                    Refused::Foreign(_) => FOREIGN,
+                    $(Refused::$bad(_) => $of_line,)*
+                    Refused::Other(status) => *status,
+                }
+            }
+        }
+    };
+}
+
+refusals! {
+    NoMemory = 1, Closed = 2, BadMoment = 4, BadMode = 6, BadName = 7, BadOffset = 8,
+    Draining = 23, NotDraining = 24, Exists = 25,
+    SnapshotMode = 101, NotSnapshotMode = 102, NeverStarted = 103, RotationPending = 104, AlreadyRotated = 105,
+    AlreadyActive = 106, NotActive = 107, DiscardInSnapshot = 109, AlreadyStarted = 110, BadGeometry = 111, TooMany = 112,
+    NotPending = 113, NameTaken = 115, NoChannel = 117, NoArchive = 118, Released = 119,
+    Inactive = 201, TooBig = 202, Spent = 203, OtherLayout = 206, ZeroPeriod = 701, ZeroSize = 702,
+    ;
+    lines:
+    BadEvent = 1001, BadField = 1002, BadType = 1003, NotAlone = 1004, FieldTwice = 1005, EventTaken = 1006,
+    TooManyDeclared = 1007,
+}
+
+impl Refused {
+    /// Of an audit that stopped at a fault.
+    pub(crate) fn from_audit(status: u32, found: &ffi::Audited) -> Refused {
+        let fault = Fault { archive: found.archive, byte: found.byte, packet_fault: found.packet_fault };
+        match status {
+            PACKET => Refused::Packet(fault),
+            NUMBER_REPEAT => Refused::NumberRepeat(fault),
+            SERIAL_REPEAT => Refused::SerialRepeat(fault),
+            FOREIGN => Refused::Foreign(fault),
+            _ => Refused::from_status(status),
+        }
+    }
+
+    /// The status's name, as `TooBig`; of one that the library doesn't know `Unknown`.
+    pub fn name(&self) -> &'static str {
+        unsafe { CStr::from_ptr(ffi::tracerd_status_name(self.status())) }.to_str().unwrap_or_default()
+    }
+
+    fn io_error(&self) -> Option<&io::Error> {
+        match self {
+            Refused::Write(why) | Refused::Read(why) => Some(why),
+            _ => None,
+        }
+    }
+
+    fn fault(&self) -> Option<Fault> {
+        match self {
+            Refused::Packet(it) | Refused::NumberRepeat(it) | Refused::SerialRepeat(it) | Refused::Foreign(it) => Some(*it),
+            _ => None,
+        }
+    }
+
+    fn stream(&self) -> Option<u64> {
+        match self {
+            Refused::Missing(stream) => Some(*stream),
+            _ => None,
+        }
+    }
+}
+
+/// Two are equal if they are of one status and say the same; errors of files, if they are of one kind and one errno.
+impl PartialEq for Refused {
+    fn eq(&self, other: &Refused) -> bool {
+        let why = |it: &Refused| it.io_error().map(|why| (why.kind(), why.raw_os_error()));
+        let all = |it: &Refused| (it.status(), why(it), it.fault(), it.stream(), it.line());
+        all(self) == all(other)
+    }
+}
+
+impl Eq for Refused {}
+
+impl fmt::Display for Refused {
+    fn fmt(&self, out: &mut fmt::Formatter<'_>) -> fmt::Result {
+        match self {
+            Refused::Write(why) | Refused::Read(why) => write!(out, "{}: {why}", self.name()),
+            Refused::Missing(stream) => write!(out, "{}: stream {stream}", self.name()),
+            Refused::Other(status) => write!(out, "{}: status {status}", self.name()),
+            _ => match (self.fault(), self.line()) {
+                (Some(at), _) if at.packet_fault != 0 => {
+                    write!(out, "{}: archive {}, byte {}, P{}", self.name(), at.archive, at.byte, at.packet_fault)
+                }
+                (Some(at), _) => write!(out, "{}: archive {}, byte {}", self.name(), at.archive, at.byte),
+                (None, Some(line)) => write!(out, "{}: line {line}", self.name()),
+                (None, None) => out.write_str(self.name()),
+            },
+        }
+    }
+}
+
+impl std::error::Error for Refused {
+    fn source(&self) -> Option<&(dyn std::error::Error + 'static)> {
+        self.io_error().map(|why| why as _)
+    }
+}
+
+/// What `?` makes of it where files are written: the reason of `Write` and `Read`; for all else an error that has it inside.
+impl From<Refused> for io::Error {
+    fn from(why: Refused) -> io::Error {
+        match why {
+            Refused::Write(why) | Refused::Read(why) => why,
+            Refused::NoMemory => io::ErrorKind::OutOfMemory.into(),
+            why => io::Error::other(why),
+        }
+    }
+}
