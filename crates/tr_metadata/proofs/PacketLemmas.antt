@@ -9,7 +9,8 @@ use Rattle.tr_packet.specs.Decoding.{content_bits_in, packet_bits_in}
 use Rattle.tr_packet.proofs.DecodingLemmas as decoding
 use Rattle.tr_packet.proofs.TextLemmas.{length-packet_text}
 use Rattle.tr_packet.specs.Packets.{Contents, packet_text, packet_size, IsPacket}
-use Rattle.tr_packet.proofs.LayoutLemmas.{HeadFits, fields_read}
+use Rattle.tr_packet.specs.Texts.{HeadFits}
+use Rattle.tr_packet.proofs.LayoutLemmas.{fields_read}
 use Rattle.tr_packet.proofs.OrderLemmas.{in_order-within, moments_hold_says}
 use Rattle.tr_terms.specs.declared.limits.TheConstants.{PACKET_HEADER}
 use Rattle.tr_events.specs.Events.{Event, AreEvents, FitsAsDeclared}

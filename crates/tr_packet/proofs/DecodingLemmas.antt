@@ -21,7 +21,8 @@ use Rattle.tr_packet.specs.Seen.{verdict, verdict_on}
 use Rattle.tr_packet.specs.declared.faults.PacketFault.{PacketFault}
 use Rattle.tr_packet.specs.declared.faults.PacketFault.TheVariants.{Short, BadMagic, BadStreamId, BadSize, BadRecord, SerialOrder, MomentOrder}
 use Rattle.tr_packet.specs.declared.head.Head.{Head}
-use Rattle.tr_packet.proofs.LayoutLemmas.{HeadFits, fields_read, fields_stand}
+use Rattle.tr_packet.specs.Texts.{HeadFits}
+use Rattle.tr_packet.proofs.LayoutLemmas.{fields_read, fields_stand}
 use Rattle.tr_packet.proofs.TextLemmas.{length-packet_text}
 use Rattle.tr_packet.proofs.OrderLemmas.{both, first_holds, second_holds, in_order-within, moments_hold_says}
 use Rattle.tr_terms.specs.declared.limits.TheConstants.{LARGEST_PACKET, LAST_MOMENT, PACKET_HEADER, SMALLEST_PACKET}

@@ -1,12 +1,13 @@
 -- The fields of a packet's header and context: what is at each place, and what is read there.
-use Rattle.std.proofs.Common.{◌≡◌, ℕ, ◌+◌, ◌*◌, ◌^◌, ◌<◌, ◌≤◌, List, ◌++◌, length, take, drop, refl, sym, ap, ◌∙◌, append_assoc, arith}
+use Rattle.std.proofs.Common.{◌≡◌, ℕ, ◌+◌, ◌*◌, ◌^◌, ◌<◌, ◌≤◌, List, [], ◌++◌, length, take, drop, refl, sym, ap, ◌∙◌, append_assoc, arith}
 use Rattle.std.specs.Int.{Width, w32, w64, byte_len, from_le_bytes, to_le_bytes}
 use Rattle.std.proofs.lemmas.List.{take_at, drop_at, drop-drop, take-append-drop, length-take, length-drop}
 use Rattle.tr_record.specs.Records.{records_text}
 use Rattle.tr_record.proofs.Fields.{AreBytes-take, AreBytes-drop, IsNumeral, numeral_32, numeral_64}
 use Rattle.tr_record.specs.Whole.{AreBytes}
+use Rattle.tr_packet.specs.Texts.{HeadFits}
 use Rattle.tr_packet.specs.declared.head.Head.{Head}
-use Rattle.tr_packet.specs.Packets.{Contents, magic, header_text, context_text, packet_text, packet_size}
+use Rattle.tr_packet.specs.Packets.{Contents, contents, magic, header_text, context_text, packet_text, packet_size}
 use Rattle.tr_packet.specs.Decoding.{number_from, bytes_from, stream_id_in, begin_in, end_in, content_bits_in, packet_bits_in, contents_in}
 use Rattle.tr_terms.specs.declared.limits.TheConstants.{PACKET_HEADER}
 
@@ -25,11 +26,6 @@ reads w limit numeral k n tail bytes stands below =
     ∙ numeral.read n below
 
 -- ten fields, one after another
-in_a_row : (m u i s b e c z q l r rest : List ℕ)
-    → ((m ++ (u ++ (i ++ s))) ++ (((b ++ (e ++ (c ++ z))) ++ (q ++ l)) ++ r)) ++ rest
-    ≡ m ++ (u ++ (i ++ (s ++ (b ++ (e ++ (c ++ (z ++ (q ++ (l ++ (r ++ rest))))))))))
-in_a_row m u i s b e c z q l r rest = simp append_assoc
-
 in_parts : (m u i s b e c z q l r : List ℕ)
     → (m ++ (u ++ (i ++ s))) ++ (((b ++ (e ++ (c ++ z))) ++ (q ++ l)) ++ r) ≡ m ++ (u ++ (i ++ (s ++ (b ++ (e ++ (c ++ (z ++ (q ++ (l ++ r)))))))))
 in_parts m u i s b e c z q l r = simp append_assoc
@@ -48,23 +44,12 @@ pub record Fields (p : Contents) (bits : ℕ) (back bytes : List ℕ) : Type 0 w
   pub lost : number_from w64 72 bytes ≡ p.head.lost
   pub tail : drop PACKET_HEADER bytes ≡ back
 
--- what fits the fields
-pub record HeadFits (h : Head) : Type 0 where
-  pub uuid : length h.uuid ≡ 16
-  pub stream : h.stream < 2 ^ 64
-  pub begin : h.begin < 2 ^ 64
-  pub end : h.end < 2 ^ 64
-  pub seq : h.seq < 2 ^ 64
-  pub lost : h.lost < 2 ^ 64
-
--- if the bytes start with a packet's text, its fields are read
-pub fields_read : (p : Contents) (rest bytes : List ℕ) → bytes ≡ packet_text p ++ rest → HeadFits p.head
-    → 8 * packet_size p < 2 ^ 64 → Fields p (8 * packet_size p) (records_text p.records ++ rest) bytes
-fields_read p rest bytes is fits small =
+-- if the bytes start with a packet's header and context, their fields are read
+pub front_read : (p : Contents) (bits : ℕ) (back bytes : List ℕ) → bytes ≡ header_text p.head ++ (context_text p.head bits ++ back)
+    → HeadFits p.head → bits < 2 ^ 64 → Fields p bits back bytes
+front_read p bits back bytes is fits small =
     let h = p.head in
-    let bits = 8 * packet_size p in
-    let t80 = records_text p.records ++ rest in
-    let t72 = to_le_bytes w64 h.lost ++ t80 in
+    let t72 = to_le_bytes w64 h.lost ++ back in
     let t64 = to_le_bytes w64 h.seq ++ t72 in
     let t56 = to_le_bytes w64 bits ++ t64 in
     let t48 = to_le_bytes w64 bits ++ t56 in
@@ -74,9 +59,9 @@ fields_read p rest bytes is fits small =
     let t20 = to_le_bytes w32 0 ++ t24 in
     let t4 = h.uuid ++ t20 in
     let at0 : bytes ≡ magic ++ t4 =
-    is ∙ in_a_row magic h.uuid (to_le_bytes w32 0) (to_le_bytes w64 h.stream) (to_le_bytes w64 h.begin)
+    is ∙ in_parts magic h.uuid (to_le_bytes w32 0) (to_le_bytes w64 h.stream) (to_le_bytes w64 h.begin)
     (to_le_bytes w64 h.end) (to_le_bytes w64 bits) (to_le_bytes w64 bits)
-    (to_le_bytes w64 h.seq) (to_le_bytes w64 h.lost) (records_text p.records) rest in
+    (to_le_bytes w64 h.seq) (to_le_bytes w64 h.lost) back in
     let at4 : drop 4 bytes ≡ t4 = behind 0 4 4 magic t4 bytes at0 refl refl in
     let at20 : drop 20 bytes ≡ t20 = behind 4 16 20 h.uuid t20 bytes at4 fits.uuid refl in
     let at24 : drop 24 bytes ≡ t24 = behind 20 4 24 (to_le_bytes w32 0) t24 bytes at20 refl refl in
@@ -96,9 +81,32 @@ fields_read p rest bytes is fits small =
       content = reads w64 (2 ^ 64) numeral_64 48 bits t56 bytes at48 small;
       size = reads w64 (2 ^ 64) numeral_64 56 bits t64 bytes at56 small;
       seq = reads w64 (2 ^ 64) numeral_64 64 h.seq t72 bytes at64 fits.seq;
-      lost = reads w64 (2 ^ 64) numeral_64 72 h.lost t80 bytes at72 fits.lost;
-      tail = behind 72 8 PACKET_HEADER (to_le_bytes w64 h.lost) t80 bytes at72 refl refl;
+      lost = reads w64 (2 ^ 64) numeral_64 72 h.lost back bytes at72 fits.lost;
+      tail = behind 72 8 PACKET_HEADER (to_le_bytes w64 h.lost) back bytes at72 refl refl;
     }
+
+-- so are those of a packet's text
+pub fields_read : (p : Contents) (rest bytes : List ℕ) → bytes ≡ packet_text p ++ rest → HeadFits p.head
+    → 8 * packet_size p < 2 ^ 64 → Fields p (8 * packet_size p) (records_text p.records ++ rest) bytes
+fields_read p rest bytes is =
+    let bits = 8 * packet_size p in
+    front_read p bits (records_text p.records ++ rest) bytes
+    (is ∙ append_assoc (header_text p.head) (context_text p.head bits ++ records_text p.records) rest
+    ∙ ap (λ (t : List ℕ). header_text p.head ++ t) (append_assoc (context_text p.head bits) (records_text p.records) rest))
+
+abbrev head_with : List ℕ → ℕ → ℕ → ℕ → ℕ → ℕ → Head
+head_with u s b e q l = record { uuid = u; stream = s; begin = b; end = e; seq = q; lost = l }
+
+same_head : {u v : List ℕ} {s s' b b' e e' q q' l l' : ℕ} → u ≡ v → s ≡ s' → b ≡ b' → e ≡ e' → q ≡ q' → l ≡ l'
+    → head_with u s b e q l ≡ head_with v s' b' e' q' l'
+same_head u s b e q l = cc
+
+-- and the head is what was written
+pub head_read : (h : Head) (bits : ℕ) (back bytes : List ℕ) → bytes ≡ header_text h ++ (context_text h bits ++ back)
+    → HeadFits h → bits < 2 ^ 64 → ((contents_in bytes).head ≡ h) × (content_bits_in bytes ≡ bits)
+head_read h bits back bytes is fits small =
+    let f = front_read (contents h []) bits back bytes is fits small in
+    (same_head f.uuid f.stream f.begin f.end f.seq f.lost, f.content)
 
 -- ---- what the bytes are if fields are read
 

@@ -6,4 +6,5 @@ pub mod LayoutLemmas
 pub mod MetadataLemmas
 pub mod OrderLemmas
 pub mod SealLemmas
+pub mod StoreLemmas
 pub mod TextLemmas

@@ -4,4 +4,5 @@ pub mod Metadata
 pub mod Order
 pub mod Packets
 pub mod Seen
+pub mod Stores
 pub mod Texts

@@ -1,5 +1,5 @@
 -- Packets as their texts.
-use Rattle.std.specs.Prelude.{◌≡◌, ℕ, List, length, drop}
+use Rattle.std.specs.Prelude.{◌≡◌, ℕ, ◌<◌, ◌^◌, List, length, drop}
 use Rattle.std.specs.List.{flat_map}
 use Rattle.tr_record.specs.Whole.{AreWhole, entries_of}
 use Rattle.tr_packet.specs.Packets.{Contents, IsPacket, contents, packet_text}
@@ -24,3 +24,12 @@ pub record IsTextOf (head : Head) (count : ℕ) (text : List ℕ) : Type 0 where
   pub whole : AreWhole (body_of text)
   pub counted : count ≡ length (entries_of (body_of text))
   pub is_text : text ≡ packet_text (packet_in head text)
+
+-- what fits the fields of a header and context
+pub record HeadFits (h : Head) : Type 0 where
+  pub uuid : length h.uuid ≡ 16
+  pub stream : h.stream < 2 ^ 64
+  pub begin : h.begin < 2 ^ 64
+  pub end : h.end < 2 ^ 64
+  pub seq : h.seq < 2 ^ 64
+  pub lost : h.lost < 2 ^ 64

@@ -39,7 +39,7 @@ mod text;
 mod view;
 
 pub use decoding::decode_packet;
-pub use encoding::encode_packet;
+pub use encoding::{encode_packet, write_extent, write_head, write_number};
 pub use faults::PacketFault;
 pub use fields::size_by_fields;
 pub use head::Head;

@@ -6,7 +6,7 @@ ghost use Rattle.tr_packet.specs.Packets.{IsPacket, contents, header_text, conte
 ghost use Rattle.tr_packet.specs.Texts.{body_of};
 ghost use Rattle.tr_terms.specs.declared.limits.TheConstants.{PACKET_HEADER};
 
-use crate::encoding::{put_head, write_head};
+use crate::encoding::write_head;
 use crate::head::Head;
 use crate::view::PacketView;
 use std::alloc::{AllocError, Allocator, Global};
@@ -49,7 +49,8 @@ impl<A: Allocator> PacketText<A> {
         PacketText { head, count, bytes }
     }
 
-    /// A copy of the packet of this head and these `count` records, in memory of just its size. Fails if an allocation fails.
+    /// A copy of the packet of this head and these `count` records, in memory of just its size. Its head is written last: until
+    /// then nobody who looks at the memory finds a packet there. Fails if an allocation fails.
     pub fn copy_of(
         alloc: A,
         head: Head,
@@ -61,11 +62,10 @@ impl<A: Allocator> PacketText<A> {
         ensures { IfOk result (λ t. t ≡ contents head records.now) }
     {
         let text = records.text();
-        let size = PACKET_HEADER + text.len();
-        let mut bytes = Vec::with_capacity(alloc, size)?;
-        put_head(&mut bytes, &head, 8 * size as u64);
+        let mut bytes = Vec::with_capacity(alloc, PACKET_HEADER + text.len())?;
+        put_bytes(&mut bytes, &[0; PACKET_HEADER]);
         put_bytes(&mut bytes, text);
-        Ok(PacketText { head, count, bytes })
+        Ok(PacketText::seal(head, count, bytes))
     }
 
     /// What it says beside its records.

@@ -5,10 +5,11 @@ use crate::streams::{assert_same_stream, try_stream};
 use crate::turns::{Call, assert_same, only, refuse_each, refuse_each_request};
 use std::alloc::{AllocError, Allocator};
 use std::process::Abort;
-use tr_ring::Ring;
+use tr_ring::{Origin, Ring};
 use tr_stream::Stream;
 use tr_terms::{Geometry, Mode};
 use tr_testing::Rationed;
+use uuid::Uuid;
 
 /// What is made.
 #[derive(Clone, Copy, Debug, PartialEq, Eq)]
@@ -46,7 +47,11 @@ fn try_ring<A: Allocator + Copy>(
     count: u64,
 ) -> Result<Ring<A>, AllocError> {
     let geometry = Geometry::new(256, count).expect(rt, "a geometry");
-    Ring::new(alloc, geometry.size(), geometry.count(), true)
+    let origin = Origin {
+        uuid: Uuid::from_bytes([7; 16]),
+        stream: 0,
+    };
+    Ring::new(alloc, origin, geometry.size(), geometry.count(), true)
 }
 
 /// Makes what a row says.

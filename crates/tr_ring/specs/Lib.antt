@@ -1,3 +1,4 @@
 pub mod ClosedBuffer
+pub mod Heads
 pub mod Pages
 pub mod Ring

@@ -7,11 +7,14 @@ use Rattle.tr_record.specs.Weight.{weight_of}
 use Rattle.tr_subbuf.specs.SubBuffer.{SubBuffer, has_room, sub_buffer}
 use Rattle.tr_ring.specs.declared.pushed.Pushed.{Pushed}
 use Rattle.tr_ring.specs.declared.pushed.Pushed.TheVariants.{Stored, StoredOver, Refused}
+use Rattle.tr_packet.specs.declared.head.Head.{Head}
+use Rattle.tr_ring.specs.declared.origin.Origin.{Origin}
 use Rattle.tr_ring.specs.ClosedBuffer.{ClosedBuffer, closed_buffer}
+use Rattle.tr_ring.specs.Heads.{head_from, last_after, said_of}
 use Rattle.tr_terms.specs.declared.limits.TheConstants.{FEWEST_SUB_BUFFERS, LARGEST_PACKET, SMALLEST_PACKET}
 
 -- the closed sub-buffers that wait, the oldest first; the current one's records and number; how many records the ring
--- discarded; each sub-buffer's size, how many there are, and whether the oldest one is overwritten
+-- discarded; each sub-buffer's size, how many there are, whether the oldest one is overwritten, and whose packets they become
 pub record RingState : Type 0 where
   pub waiting : List ClosedBuffer
   pub current : List Entry
@@ -20,9 +23,10 @@ pub record RingState : Type 0 where
   pub size : ℕ
   pub count : ℕ
   pub overwrite : Bool
+  pub origin : Origin
 
-abbrev pub ring_state : List ClosedBuffer → List Entry → ℕ → ℕ → ℕ → ℕ → Bool → RingState
-ring_state waiting current seq discarded size count overwrite =
+abbrev pub ring_state : List ClosedBuffer → List Entry → ℕ → ℕ → ℕ → ℕ → Bool → Origin → RingState
+ring_state waiting current seq discarded size count overwrite origin =
     record {
       waiting = waiting;
       current = current;
@@ -31,14 +35,19 @@ ring_state waiting current seq discarded size count overwrite =
       size = size;
       count = count;
       overwrite = overwrite;
+      origin = origin;
     }
 
-abbrev pub empty_ring : ℕ → ℕ → Bool → RingState
-empty_ring size count overwrite =
-    ring_state [] [] 0 0 size count overwrite
+abbrev pub empty_ring : Origin → ℕ → ℕ → Bool → RingState
+empty_ring origin size count overwrite =
+    ring_state [] [] 0 0 size count overwrite origin
+
+-- what the packet that stands in the current page says: it ends with the last record
+abbrev pub current_head : Origin → ℕ → ℕ → List Entry → Option Head
+current_head o seq discarded es = said_of es (head_from o (closed_buffer seq (last_after 0 es) discarded es))
 
 abbrev pub current_buffer : RingState → SubBuffer
-current_buffer r = sub_buffer r.current r.size
+current_buffer r = sub_buffer r.current r.size (current_head r.origin r.seq r.discarded r.current)
 
 -- the current sub-buffer as it is when it is closed at this moment
 abbrev pub closed_current : ℕ → RingState → ClosedBuffer

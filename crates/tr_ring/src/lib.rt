@@ -15,15 +15,19 @@
 //!   follows the current one; the oldest sub-buffer is overwritten; or the record is discarded.
 //! - The ring takes all its pages when it is made. It uses each again once its records are overwritten or cleared, and hands
 //!   one out only for an empty one. So a push takes no memory, and has no answer for a failed allocation.
+//! - After each call every page that has a record is, in memory, the text of the packet that it becomes (`image`): so who finds
+//!   the memory of a program that was killed finds its packets. In a free page no packet stands.
 #![tactic(auto)]
 
 mod closed;
 mod items;
+mod origin;
 mod pushed;
 mod ring;
 mod sealed;
 
 pub use closed::ClosedSubBuf;
 pub use items::RingItems;
+pub use origin::Origin;
 pub use pushed::Pushed;
 pub use ring::Ring;

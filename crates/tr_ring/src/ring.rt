@@ -1,18 +1,21 @@
 //! `Ring`, closed sub-buffers and the current one.
 
-ghost use Rattle.std.specs.Prelude.{◌≡◌, ◌+◌, ◌≤◌, ◌<◌, ◌^◌, [], ◌∷◌, ◌++◌, IfOk, Some, length, slice_get};
+ghost use Rattle.std.specs.Prelude.{◌≡◌, ◌+◌, ◌≤◌, ◌<◌, ◌^◌, [], ◌∷◌, ◌++◌, IfOk, Some, false, length, slice_get};
 ghost use Rattle.std.specs.Option.{option_map};
 ghost use Rattle.circular_buffer.specs.Buffer.{buffer};
-ghost use Rattle.tr_packet.specs.Packets.{IsPacket, contents};
+ghost use Rattle.tr_packet.specs.Packets.{IsPacket, contents, packet_text};
 ghost use Rattle.tr_record.specs.Records.{entry};
-ghost use Rattle.tr_subbuf.specs.SubBuffer.{empty_buffer, sub_buffer};
+ghost use Rattle.tr_subbuf.specs.SubBuffer.{IsShownBy, empty_buffer, ending, joins};
+ghost use Rattle.tr_ring.specs.Heads.{packet_from, page_from};
 ghost use Rattle.tr_ring.specs.ClosedBuffer.{ClosedBuffer, closed_buffer};
 ghost use Rattle.tr_ring.specs.Pages.{ArePages, sealed_page, seq_in_pages};
-ghost use Rattle.tr_ring.specs.Ring.{IsRing, empty_ring, current_buffer, after_push, push_answer, follow_current, drop_front, close_current, take_current, clear_ring, seq_waiting, seq_of, ring_records};
+ghost use Rattle.tr_ring.specs.declared.origin.Origin.{Origin};
+ghost use Rattle.tr_ring.specs.Ring.{IsRing, empty_ring, current_buffer, current_head, after_push, push_answer, discard_newest, follow_current, join_current, drop_front, close_current, take_current, clear_ring, seq_waiting, seq_of, ring_records};
 ghost use Rattle.tr_terms.specs.declared.limits.TheConstants.{FEWEST_SUB_BUFFERS, LARGEST_PACKET, SMALLEST_PACKET};
 
 use crate::closed::ClosedSubBuf;
 use crate::items::RingItems;
+use crate::origin::Origin;
 use crate::pushed::Pushed;
 use crate::sealed::Sealed;
 use circular_buffer::HeapCircularBuffer;
@@ -28,6 +31,7 @@ use tr_terms::Moment;
 /// takes memory. Contracts see a `RingState`.
 #[derive(Drop)]
 pub struct Ring<A: Allocator = Global> {
+    origin: Origin,
     overwrite: bool,
     seq: u64,
     discarded: u64,
@@ -37,19 +41,20 @@ pub struct Ring<A: Allocator = Global> {
 }
 
 impl<A: Allocator> Model for Ring<A> {
-    ghost use Rattle.std.specs.Prelude.{◌+◌};
+    ghost use Rattle.std.specs.Prelude.{◌≡◌, ◌+◌};
     ghost use Rattle.tr_ring.specs.Pages.{ArePages, closed_in};
-    ghost use Rattle.tr_ring.specs.Ring.{RingState, IsRing, ring_state};
+    ghost use Rattle.tr_ring.specs.Ring.{RingState, IsRing, current_head, ring_state};
 
     ghost Value = { RingState };
 
     ghost view = { λ r. ring_state (closed_in r.waiting.items) r.current.records r.seq r.discarded r.current.size
-        (r.waiting.capacity + 1) r.overwrite };
+        (r.waiting.capacity + 1) r.overwrite r.origin };
 
     ghost invariant = { λ r. IsRing
         (ring_state (closed_in r.waiting.items) r.current.records r.seq r.discarded r.current.size
-        (r.waiting.capacity + 1) r.overwrite)
-        × ArePages r.current.size r.waiting.items r.free r.waiting.capacity };
+        (r.waiting.capacity + 1) r.overwrite r.origin)
+        × (ArePages r.origin r.current.size r.waiting.items r.free r.waiting.capacity
+        × (r.current.head ≡ current_head r.origin r.seq r.discarded r.current.records)) };
 }
 
 /// Closes the current sub-buffer, and puts the next one in its place.
@@ -61,14 +66,17 @@ fn close<A: Allocator>(
     end: Moment,
     discarded: u64,
 )
-    requires { length waiting.old.items < waiting.old.capacity }
+    requires room { length waiting.old.items < waiting.old.capacity }
+    requires some { 1 ≤ length current.old.records }
     ensures waiting { waiting.new
         ≡ buffer (waiting.old.items
-        ++ sealed_page (closed_buffer seq end discarded current.old.records) current.old.size ∷ [])
+        ++ sealed_page (closed_buffer seq end discarded current.old.records) current.old.size
+        (option_map (ending end) current.old.head) ∷ [])
         waiting.old.capacity }
     ensures current { current.new ≡ next }
 {
-    let buffer = mem::replace(current, next);
+    let mut buffer = mem::replace(current, next);
+    buffer.end(end);
     let _ = waiting.push_back(Sealed::new(buffer, seq, end, discarded));
 }
 
@@ -78,7 +86,7 @@ fn free_pages<A: Allocator + Copy>(
     size: usize,
     count: usize,
 ) -> Result<HeapCircularBuffer<SubBuf<A>, A>, AllocError>
-    ensures { IfOk result (λ pages. ArePages size [] pages count) }
+    ensures { (o : Origin) → IfOk result (λ pages. ArePages o size [] pages count) }
 {
     let mut pages = HeapCircularBuffer::with_capacity(alloc, count)?;
     for _ in 0..count {
@@ -98,17 +106,24 @@ fn seq_waiting<A: Allocator>(waiting: &HeapCircularBuffer<Sealed<A>, A>, serial:
 }
 
 impl<A: Allocator + Copy> Ring<A> {
-    /// An empty ring of `n` sub-buffers of `size` bytes each. `overwrite`: whether a full ring overwrites the oldest. All
-    /// memory that the ring ever has is taken here.
-    pub fn new(alloc: A, size: usize, n: usize, overwrite: bool) -> Result<Ring<A>, AllocError>
+    /// An empty ring of `n` sub-buffers of `size` bytes each, for packets of this origin. `overwrite`: whether a full ring
+    /// overwrites the oldest. All memory that the ring ever has is taken here.
+    pub fn new(
+        alloc: A,
+        origin: Origin,
+        size: usize,
+        n: usize,
+        overwrite: bool,
+    ) -> Result<Ring<A>, AllocError>
         requires size { (SMALLEST_PACKET ≤ size) × (size ≤ LARGEST_PACKET) }
         requires n { FEWEST_SUB_BUFFERS ≤ n }
-        ensures { IfOk result (λ r. r ≡ empty_ring size n overwrite) }
+        ensures { IfOk result (λ r. r ≡ empty_ring origin size n overwrite) }
     {
         let current = SubBuf::new(alloc, size)?;
         let waiting = HeapCircularBuffer::with_capacity(alloc, n - 1)?;
         let free = free_pages(alloc, size, n - 1)?;
         Ok(Ring {
+            origin,
             overwrite,
             seq: 0,
             discarded: 0,
@@ -130,8 +145,24 @@ impl<A: Allocator> Ring<A> {
         ensures answer { result ≡ push_answer (entry serial moment id payload.now) self.old }
         ensures after { self.new ≡ after_push (entry serial moment id payload.now) self.old }
     {
-        if self.current.fits(payload.len()) {
+        if self.current.joins(payload.len()) {
             self.current.put(&RecView::new(serial, moment, id, payload));
+            return Pushed::Stored { seq: self.seq };
+        }
+        self.push_apart(moment, id, serial, payload)
+    }
+
+    /// The same of a record that doesn't join others.
+    fn push_apart(&mut self, moment: Moment, id: u32, serial: u64, payload: &[u8]) -> Pushed
+        requires fits { SMALLEST_PACKET + length payload.now ≤ self.old.size }
+        requires apart { joins (current_buffer self.old) (length payload.now) ≡ false }
+        requires numbers { self.old.seq + 1 < 2 ^ 64 }
+        requires discards { self.old.discarded + 1 < 2 ^ 64 }
+        ensures answer { result ≡ push_answer (entry serial moment id payload.now) self.old }
+        ensures after { self.new ≡ after_push (entry serial moment id payload.now) self.old }
+    {
+        if self.current.is_empty() {
+            self.begin(moment, id, serial, payload);
             return Pushed::Stored { seq: self.seq };
         }
         if !self.waiting.is_full() {
@@ -139,7 +170,7 @@ impl<A: Allocator> Ring<A> {
             return Pushed::Stored { seq: self.seq };
         }
         if !self.overwrite {
-            self.discarded += 1;
+            self.discard();
             return Pushed::Refused;
         }
         let Some(oldest) = self.front() else {
@@ -155,8 +186,36 @@ impl<A: Allocator> Ring<A> {
         }
     }
 
-    /// Closes the current sub-buffer, which has a record, and begins the next one with this record.
+    /// Begins the current sub-buffer, which has no record, with this one.
     // It takes a record's parts: a view would have to lie in memory at each push.
+    fn begin(&mut self, moment: Moment, id: u32, serial: u64, payload: &[u8])
+        requires fits { SMALLEST_PACKET + length payload.now ≤ self.old.size }
+        requires none { self.old.current ≡ [] }
+        ensures { self.new ≡ join_current (entry serial moment id payload.now) self.old }
+    {
+        let head = Head {
+            uuid: self.origin.uuid,
+            stream: self.origin.stream,
+            begin: moment,
+            end: moment,
+            seq: self.seq,
+            lost: self.discarded,
+        };
+        self.current
+            .begin(head, &RecView::new(serial, moment, id, payload));
+    }
+
+    /// Discards a record. The current sub-buffer has one.
+    fn discard(&mut self)
+        requires some { 1 ≤ length self.old.current }
+        requires discards { self.old.discarded + 1 < 2 ^ 64 }
+        ensures { self.new ≡ discard_newest self.old }
+    {
+        self.discarded += 1;
+        self.current.note_lost(self.discarded);
+    }
+
+    /// Closes the current sub-buffer, which has a record, and begins the next one with this record.
     fn follow(&mut self, moment: Moment, id: u32, serial: u64, payload: &[u8])
         requires fits { SMALLEST_PACKET + length payload.now ≤ self.old.size }
         requires room { length self.old.waiting + 1 < self.old.count }
@@ -165,7 +224,7 @@ impl<A: Allocator> Ring<A> {
         ensures { self.new ≡ follow_current (entry serial moment id payload.now) self.old }
     {
         self.close_current(moment);
-        self.current.put(&RecView::new(serial, moment, id, payload));
+        self.begin(moment, id, serial, payload);
     }
 
     /// Closes the current sub-buffer, which has a record, and begins an empty one. It takes no memory.
@@ -204,8 +263,7 @@ impl<A: Allocator> Ring<A> {
     pub fn take_front(&mut self, spare: SubBuf<A>) -> SubBuf<A>
         requires some { 1 ≤ length self.old.waiting }
         requires spare { spare ≡ empty_buffer self.old.size }
-        ensures page { Some result ≡ option_map (λ (b : ClosedBuffer). sub_buffer b.records self.old.size)
-            (slice_get self.old.waiting 0) }
+        ensures page { Some result ≡ option_map (page_from self.old.origin self.old.size) (slice_get self.old.waiting 0) }
         ensures after { self.new ≡ drop_front self.old }
     {
         let Some(oldest) = self.waiting.pop_front() else {
@@ -245,6 +303,19 @@ impl<A: Allocator> Ring<A> {
         match self.waiting.get(i) {
             Some(page) => page.warm(),
             None => self.current.warm(),
+        }
+    }
+
+    /// What stands in the memory of the sub-buffer number `i` of those that wait, the oldest first, or of the current one after
+    /// them: once it has a record, the text of the packet that it becomes. The current one's ends with its last record.
+    pub fn image(&self, i: usize) -> &[u8]
+        ensures waiting { (b : ClosedBuffer) → slice_get self.now.waiting i ≡ Some b
+            → result.now ≡ packet_text (packet_from self.now.origin b) }
+        ensures current { length self.now.waiting ≤ i → IsShownBy (current_buffer self.now).head self.now.current result.now }
+    {
+        match self.waiting.get(i) {
+            Some(page) => page.image(),
+            None => self.current.image(),
         }
     }
 

@@ -3,7 +3,7 @@
 ghost use Rattle.std.specs.Prelude.{◌≡◌, IfOk};
 ghost use Rattle.tr_packet.specs.Packets.{IsPacket, contents};
 ghost use Rattle.tr_record.specs.Records.{has_serial};
-ghost use Rattle.tr_subbuf.specs.SubBuffer.{empty_buffer, sub_buffer};
+ghost use Rattle.tr_subbuf.specs.SubBuffer.{IsShownBy, empty_buffer, sub_buffer};
 ghost use Rattle.tr_ring.specs.ClosedBuffer.{closed_buffer};
 ghost use Rattle.tr_ring.specs.Pages.{sealed_page};
 
@@ -29,12 +29,12 @@ impl<A: Allocator> Model for Sealed<A> {
 
     ghost Value = { SealedPage };
 
-    ghost view = { λ p. sealed_page (closed_buffer p.seq p.end p.discarded p.buffer.records) p.buffer.size };
+    ghost view = { λ p. sealed_page (closed_buffer p.seq p.end p.discarded p.buffer.records) p.buffer.size p.buffer.head };
 }
 
 impl<A: Allocator> Sealed<A> {
     pub fn new(buffer: SubBuf<A>, seq: u64, end: Moment, discarded: u64) -> Sealed<A>
-        ensures { result ≡ sealed_page (closed_buffer seq end discarded buffer.records) buffer.size }
+        ensures { result ≡ sealed_page (closed_buffer seq end discarded buffer.records) buffer.size buffer.head }
     {
         Sealed {
             buffer,
@@ -61,6 +61,13 @@ impl<A: Allocator> Sealed<A> {
         ensures { result ≡ has_serial serial self.now.closed.records }
     {
         self.buffer.has(serial)
+    }
+
+    /// What stands in its memory.
+    pub fn image(&self) -> &[u8]
+        ensures { IsShownBy self.now.head self.now.closed.records result.now }
+    {
+        self.buffer.image()
     }
 
     pub fn warm(&self) -> u32 {
@@ -99,7 +106,7 @@ impl<A: Allocator> Sealed<A> {
 
     /// The page, with its records.
     pub fn into_page(self) -> SubBuf<A>
-        ensures { result ≡ sub_buffer self.closed.records self.size }
+        ensures { result ≡ sub_buffer self.closed.records self.size self.head }
     {
         self.buffer
     }

@@ -26,7 +26,7 @@ use Rattle.tr_stream.proofs.Refinement.{with_moved}
 use Rattle.tr_stream.proofs.SessionLemmas.{in-local}
 use Rattle.tr_stream.proofs.SoundLemmas.{records_of-packets}
 use Rattle.tr_stream.proofs.TakeLemmas.{takes}
-use Rattle.tr_stream.specs.Chunks.{packet_of, buffer_runs, closed_if_any, ring_buffers}
+use Rattle.tr_stream.specs.Chunks.{origin_of, packet_of, buffer_runs, closed_if_any, ring_buffers}
 use Rattle.tr_stream.specs.History.{History}
 use Rattle.tr_stream.specs.Kept.{IsKept}
 use Rattle.tr_stream.specs.Sound.{IsMade, ArePackets}
@@ -200,7 +200,7 @@ kept-moved s b ring parts counters local is first ring_is parts_is counters_is =
 
 -- what a new stream is made of
 pub new-is : (c : StreamConfig) (ring : RingState) (parts : PartsState) (counters : CountersState) (size count : ℕ)
-    (over : Bool) → ring ≡ empty_ring size count over → parts ≡ no_parts → counters ≡ new_counters → size ≡ c.geometry.size
+    (over : Bool) → ring ≡ empty_ring (origin_of c) size count over → parts ≡ no_parts → counters ≡ new_counters → size ≡ c.geometry.size
     → count ≡ c.geometry.count → over ≡ overwrites c.mode
     → (let t : StreamState = record { config = c; ring = ring; parts = parts; counters = counters; active = false } in t)
     ≡ new_state c

@@ -143,7 +143,7 @@ pub kept-new : (c : StreamConfig) → IsConfig c → SMALLEST_SUB_BUFFER ≤ c.g
 kept-new c config size count = record {
   sound = record {
     config = config;
-    made = record { size = refl; count = refl; mode = refl; size_low = size; count_low = count };
+    made = record { size = refl; count = refl; mode = refl; origin = refl; size_low = size; count_low = count };
     few = omega arith;
     in_time = omega arith;
     total = refl;

@@ -11,6 +11,7 @@ pub mod FateLemmas
 pub mod FormLemmas
 pub mod GapLemmas
 pub mod GoneLemmas
+pub mod ImageLemmas
 pub mod KeptLemmas
 pub mod LookLemmas
 pub mod ModelLemmas

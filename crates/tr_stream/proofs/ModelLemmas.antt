@@ -9,7 +9,7 @@ use Rattle.tr_stream.proofs.CutLemmas.{cuts}
 use Rattle.tr_stream.proofs.OfferLemmas.{offers}
 use Rattle.tr_stream.proofs.Refinement.{stands-switched}
 use Rattle.tr_stream.proofs.TakeLemmas.{starts, takes}
-use Rattle.tr_stream.specs.Chunks.{chunk_of, part_of, parts_below, waiting_of, kept_of, cleared_of, buffer_runs}
+use Rattle.tr_stream.specs.Chunks.{chunk_of, origin_of, part_of, parts_below, waiting_of, kept_of, cleared_of, buffer_runs}
 use Rattle.tr_stream.specs.Consistent.{Rising}
 use Rattle.tr_stream.specs.History.{Status, Waiting, Dropped, Kept, Cleared, Closed, History, is_waiting, is_dropped, is_kept, is_cleared, is_consumed, is_withdrawn, offered_of, discarded_of, records_where, blocks_where, times}
 use Rattle.tr_stream.specs.Runs.{history_after_event, history_after_events}
@@ -36,6 +36,7 @@ held_by c h = record {
     size = c.geometry.size;
     count = c.geometry.count;
     overwrite = overwrites c.mode;
+    origin = origin_of c;
   };
   parts = record {
     closed = parts_below c h.cuts h;
@@ -76,7 +77,7 @@ stands c h well = record {
 }
 
 made : (c : StreamConfig) (h : History) → IsUsable c → IsMade (held_by c h).config (held_by c h).ring
-made c h is = record { size = refl; count = refl; mode = refl; size_low = is.size; count_low = is.count }
+made c h is = record { size = refl; count = refl; mode = refl; origin = refl; size_low = is.size; count_low = is.count }
 
 number-at : (n : ℕ) (cs : List Closed) (i : ℕ) (b : Closed) → NumberedFrom n cs → slice_get cs i ≡ Some b → b.block.number ≡ n + i
 number-at n [] i b numbers at = cc

@@ -7,7 +7,7 @@ use Rattle.tr_packet.specs.Order.{IsBelow}
 use Rattle.tr_packet.specs.Packets.{MakePacket}
 use Rattle.tr_record.specs.Records.{Entry, Fits}
 use Rattle.tr_record.specs.Weight.{weight_of, record_weight}
-use Rattle.tr_stream.specs.Chunks.{begin_of}
+use Rattle.tr_ring.specs.Heads.{begin_of}
 use Rattle.tr_stream.specs.Sound.{IsOpen}
 use Rattle.tr_terms.specs.declared.limits.TheConstants.{LARGEST_PACKET, LAST_MOMENT}
 

@@ -11,7 +11,9 @@ use Rattle.tr_ring.specs.Ring.{RingState, clear_ring, seq_after, take_current}
 use Rattle.tr_stream.specs.Chunks.{closed_if_any, packet_of, ring_buffers}
 use Rattle.tr_stream.specs.Sound.{ArePackets}
 use Rattle.tr_stream.specs.declared.config.StreamConfig.{StreamConfig}
-use Rattle.tr_subbuf.specs.SubBuffer.{SubBuffer, sub_buffer}
+use Rattle.tr_subbuf.specs.SubBuffer.{SubBuffer}
+use Rattle.tr_ring.specs.Heads.{page_from}
+use Rattle.tr_ring.specs.declared.origin.Origin.{Origin}
 
 pub all-but_last : {X : Type 0} (P : X → Type 0) (xs : List X) (x : X) → AllByRecursion P (xs ++ x ∷ []) → AllByRecursion P xs
 all-but_last P [] x are = tt
@@ -22,16 +24,16 @@ last-of_all P [] x are = are.0
 last-of_all P (y ∷ xs) x are = last-of_all P xs x are.1
 
 -- the page that a ring gives away has the records of its oldest sub-buffer
-pub given-page : (size : ℕ) (waiting : List ClosedBuffer) (b : ClosedBuffer) (page : SubBuffer) → slice_get waiting 0 ≡ Some b
-    → Some page ≡ option_map (λ (c : ClosedBuffer). sub_buffer c.records size) (slice_get waiting 0) → page ≡ sub_buffer b.records size
-given-page size [] b page first is = cc
-given-page size (x ∷ xs) b page first is = let same : x ≡ b = cc in let there : page ≡ sub_buffer x.records size = cc in
-    there ∙ ap (λ (c : ClosedBuffer). sub_buffer c.records size) same
+pub given-page : (o : Origin) (size : ℕ) (waiting : List ClosedBuffer) (b : ClosedBuffer) (page : SubBuffer) → slice_get waiting 0 ≡ Some b
+    → Some page ≡ option_map (page_from o size) (slice_get waiting 0) → page ≡ page_from o size b
+given-page o size [] b page first is = cc
+given-page o size (x ∷ xs) b page first is = let same : x ≡ b = cc in let there : page ≡ page_from o size x = cc in
+    there ∙ ap (page_from o size) same
 
 -- so it is the packet of that sub-buffer
-pub given-packet : (c : StreamConfig) (b : ClosedBuffer) (head : Head) (size : ℕ) (page : SubBuffer) → head ≡ (packet_of c b).head
-    → page ≡ sub_buffer b.records size → contents head page.records ≡ packet_of c b
-given-packet c b head size page head-is page-is =
+pub given-packet : (c : StreamConfig) (b : ClosedBuffer) (head : Head) (o : Origin) (size : ℕ) (page : SubBuffer) → head ≡ (packet_of c b).head
+    → page ≡ page_from o size b → contents head page.records ≡ packet_of c b
+given-packet c b head o size page head-is page-is =
     ap (λ (h : Head). contents h page.records) head-is ∙ ap (λ (p : SubBuffer). contents (packet_of c b).head p.records) page-is
 
 pub first-packet : (c : StreamConfig) (waiting : List ClosedBuffer) (b : ClosedBuffer) → slice_get waiting 0 ≡ Some b

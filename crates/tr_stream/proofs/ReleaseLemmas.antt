@@ -253,7 +253,7 @@ sound-released : (s : StreamState) (k : ℕ) (p : PartState) → slice_get s.par
     → IsSound (record s { parts = release_part k s.parts })
 sound-released s k p at held is = record {
   config = is.config;
-  made = record { size = is.made.size; count = is.made.count; mode = is.made.mode; size_low = is.made.size_low; count_low = is.made.count_low };
+  made = record { size = is.made.size; count = is.made.count; mode = is.made.mode; origin = is.made.origin; size_low = is.made.size_low; count_low = is.made.count_low };
   few = is.few;
   in_time = is.in_time;
   total = omega (arith, is.total, sum-released k s.parts.closed p at held);

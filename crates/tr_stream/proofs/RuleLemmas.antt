@@ -14,7 +14,7 @@ use Rattle.tr_stream.proofs.PartLemmas.{part-is}
 use Rattle.tr_stream.proofs.Refinement.{stands-switched}
 use Rattle.tr_stream.proofs.SoundLemmas.{losses-discarded, losses-without_oldest}
 use Rattle.tr_stream.proofs.TakeLemmas.{starts, taken, takes, counts-are}
-use Rattle.tr_stream.specs.Chunks.{part_in}
+use Rattle.tr_stream.specs.Chunks.{origin_of, part_in}
 use Rattle.tr_stream.specs.Rules.{Traced, Agrees, by_state, by_history}
 use Rattle.tr_stream.specs.Sound.{IsMade, LosesByMode}
 use Rattle.tr_stream.specs.StandsFor.{StandsFor}
@@ -51,6 +51,8 @@ made-pushed c e r is =
           (follow_current e r) (follow_current e (drop_front r)) (discard_newest r) is.count is.count is.count is.count;
       mode = chosen (λ (q : RingState). q.overwrite) (overwrites c.mode) room free r.overwrite (join_current e r)
           (follow_current e r) (follow_current e (drop_front r)) (discard_newest r) is.mode is.mode is.mode is.mode;
+      origin = chosen (λ (q : RingState). q.origin) (origin_of c) room free r.overwrite (join_current e r)
+          (follow_current e r) (follow_current e (drop_front r)) (discard_newest r) is.origin is.origin is.origin is.origin;
       size_low = is.size_low;
       count_low = is.count_low;
     }
@@ -96,7 +98,7 @@ losses-unless s e None made is =
 pub agree-made : (c : StreamConfig) → SMALLEST_SUB_BUFFER ≤ c.geometry.size → 2 ≤ c.geometry.count → Agrees (by_state.new c) (by_history.new c)
 agree-made c size count = record {
   config = refl;
-  made = record { size = refl; count = refl; mode = refl; size_low = size; count_low = count };
+  made = record { size = refl; count = refl; mode = refl; origin = refl; size_low = size; count_low = count };
   losses = record { discarding = λ e. (refl, refl); overwriting = λ e. refl };
   stands = starts c;
 }
@@ -127,7 +129,7 @@ same-taken s t is = rw (← is.config) ((takes s t.history is.stands).0)
 made-oldest : (s : StreamState) (waiting : List ClosedBuffer) → IsMade s.config s.ring
     → IsMade (move_oldest waiting s).config (move_oldest waiting s).ring
 made-oldest s [] is = is
-made-oldest s (b ∷ bs) is = record { size = is.size; count = is.count; mode = is.mode; size_low = is.size_low; count_low = is.count_low }
+made-oldest s (b ∷ bs) is = record { size = is.size; count = is.count; mode = is.mode; origin = is.origin; size_low = is.size_low; count_low = is.count_low }
 
 losses-oldest : (s : StreamState) (waiting : List ClosedBuffer) → LosesByMode s → LosesByMode (move_oldest waiting s)
 losses-oldest s [] is = is
@@ -162,7 +164,7 @@ agree-cut_ring : (m : SessionMode) (s : StreamState) (t : Traced) (moment : ℕ)
 agree-cut_ring Snapshot s t moment is = record { config = is.config; made = is.made; losses = is.losses; stands = is.stands }
 agree-cut_ring Local s t moment is = record {
   config = is.config;
-  made = record { size = is.made.size; count = is.made.count; mode = is.made.mode; size_low = is.made.size_low; count_low = is.made.count_low };
+  made = record { size = is.made.size; count = is.made.count; mode = is.made.mode; origin = is.made.origin; size_low = is.made.size_low; count_low = is.made.count_low };
   losses = record { discarding = is.losses.discarding; overwriting = is.losses.overwriting };
   stands = rw (ap (max moment) is.stands.last) (stands-cut s t.history (max moment t.history.last) is.stands);
 }
@@ -180,7 +182,7 @@ agree-clear_ring : (m : SessionMode) (s : StreamState) (t : Traced) → Agrees s
 agree-clear_ring Snapshot s t is = record { config = is.config; made = is.made; losses = is.losses; stands = is.stands }
 agree-clear_ring Local s t is = record {
   config = is.config;
-  made = record { size = is.made.size; count = is.made.count; mode = is.made.mode; size_low = is.made.size_low; count_low = is.made.count_low };
+  made = record { size = is.made.size; count = is.made.count; mode = is.made.mode; origin = is.made.origin; size_low = is.made.size_low; count_low = is.made.count_low };
   losses = record { discarding = is.losses.discarding; overwriting = is.losses.overwriting };
   stands = stands-clear s t.history is.stands;
 }
@@ -199,7 +201,7 @@ agree-part (Some fault) s t k g is stands =
     record { config = is.config; made = is.made; losses = is.losses; stands = stands }
 agree-part None s t k g is stands = record {
   config = is.config;
-  made = record { size = is.made.size; count = is.made.count; mode = is.made.mode; size_low = is.made.size_low; count_low = is.made.count_low };
+  made = record { size = is.made.size; count = is.made.count; mode = is.made.mode; origin = is.made.origin; size_low = is.made.size_low; count_low = is.made.count_low };
   losses = record { discarding = is.losses.discarding; overwriting = is.losses.overwriting };
   stands = stands;
 }

@@ -19,7 +19,8 @@ use Rattle.tr_stream.proofs.CutLemmas.{records_in-ring}
 use Rattle.tr_stream.proofs.OpenLemmas.{open-joined, open-one, open-discarded, open-none}
 use Rattle.tr_packet.proofs.OrderLemmas.{MakePacket-later}
 use Rattle.tr_stream.proofs.Refinement.{with_joined, with_followed, with_discarded, without_oldest, with_moved}
-use Rattle.tr_stream.specs.Chunks.{packet_of, begin_of, closed_if_any, ring_buffers}
+use Rattle.tr_stream.specs.Chunks.{packet_of, closed_if_any, ring_buffers}
+use Rattle.tr_ring.specs.Heads.{begin_of}
 use Rattle.tr_stream.specs.Sound.{IsSound, ArePackets, CanBeSent, LosesByMode}
 use Rattle.tr_stream.specs.State.{StreamState, records_in, in_ring, in_parts}
 use Rattle.tr_stream.specs.StateSteps.{state_after_switch, state_cut_ring, state_clear_ring}
@@ -69,7 +70,7 @@ pub sound-joined : (s : StreamState) (e : Entry) → IsSound s → IsNext s e
     → weight_of s.ring.current + (24 + length e.payload) ≤ s.config.geometry.size → IsSound (with_joined e s)
 sound-joined s e is next room = record {
   config = is.config;
-  made = record { size = is.made.size; count = is.made.count; mode = is.made.mode; size_low = is.made.size_low; count_low = is.made.count_low };
+  made = record { size = is.made.size; count = is.made.count; mode = is.made.mode; origin = is.made.origin; size_low = is.made.size_low; count_low = is.made.count_low };
   few = omega (arith, next.left);
   in_time = next.fits.moment;
   total = grind (arith, common_steps, is.total);
@@ -103,7 +104,7 @@ pub sound-discarded : (s : StreamState) (moment : ℕ) → IsSound s → s.count
     → moment ≤ LAST_MOMENT → s.config.mode ≡ Discard → IsSound (with_discarded moment s)
 sound-discarded s moment is left le in_time mode = record {
   config = is.config;
-  made = record { size = is.made.size; count = is.made.count; mode = is.made.mode; size_low = is.made.size_low; count_low = is.made.count_low };
+  made = record { size = is.made.size; count = is.made.count; mode = is.made.mode; origin = is.made.origin; size_low = is.made.size_low; count_low = is.made.count_low };
   few = omega (arith, left);
   in_time = in_time;
   total = grind (arith, is.total);
@@ -128,7 +129,7 @@ pub sound-followed : (s : StreamState) (e : Entry) → IsSound s → IsNext s e 
     → IsSound (with_followed e s)
 sound-followed s e is next used small room = record {
   config = is.config;
-  made = record { size = is.made.size; count = is.made.count; mode = is.made.mode; size_low = is.made.size_low; count_low = is.made.count_low };
+  made = record { size = is.made.size; count = is.made.count; mode = is.made.mode; origin = is.made.origin; size_low = is.made.size_low; count_low = is.made.count_low };
   few = omega (arith, next.left);
   in_time = next.fits.moment;
   total = grind (
@@ -163,7 +164,7 @@ first-split (b ∷ bs) = grind (arith, common_steps, records_in-cons b bs, recor
 pub sound-without_oldest : (s : StreamState) → IsSound s → 0 < length s.ring.waiting → s.config.mode ≡ Overwrite → IsSound (without_oldest s)
 sound-without_oldest s is some mode = record {
   config = is.config;
-  made = record { size = is.made.size; count = is.made.count; mode = is.made.mode; size_low = is.made.size_low; count_low = is.made.count_low };
+  made = record { size = is.made.size; count = is.made.count; mode = is.made.mode; origin = is.made.origin; size_low = is.made.size_low; count_low = is.made.count_low };
   few = is.few;
   in_time = is.in_time;
   total = grind (arith, is.total, first-split s.ring.waiting);
@@ -193,7 +194,7 @@ pub sound-moved : (s : StreamState) (b : ClosedBuffer) (bs : List ClosedBuffer) 
     → s.config.session ≡ Local → IsSound s → IsSound (with_moved b s)
 sound-moved s b bs oldest local is = record {
   config = is.config;
-  made = record { size = is.made.size; count = is.made.count; mode = is.made.mode; size_low = is.made.size_low; count_low = is.made.count_low };
+  made = record { size = is.made.size; count = is.made.count; mode = is.made.mode; origin = is.made.origin; size_low = is.made.size_low; count_low = is.made.count_low };
   few = is.few;
   in_time = is.in_time;
   total = omega (arith, is.total, one b bs s.ring.waiting oldest, grown);
@@ -298,7 +299,7 @@ pub sound-cut : (s : StreamState) (end : ℕ) → s.config.session ≡ Local →
     → end ≤ LAST_MOMENT → IsSound (state_cut_ring end s)
 sound-cut s end local is later in_time = record {
   config = is.config;
-  made = record { size = is.made.size; count = is.made.count; mode = is.made.mode; size_low = is.made.size_low; count_low = is.made.count_low };
+  made = record { size = is.made.size; count = is.made.count; mode = is.made.mode; origin = is.made.origin; size_low = is.made.size_low; count_low = is.made.count_low };
   few = is.few;
   in_time = in_time;
   total = omega (arith, is.total, in_parts-cut);
@@ -334,7 +335,7 @@ sound-cut s end local is later in_time = record {
 pub sound-clear : (s : StreamState) → s.config.session ≡ Local → IsSound s → IsSound (state_clear_ring s)
 sound-clear s local is = record {
   config = is.config;
-  made = record { size = is.made.size; count = is.made.count; mode = is.made.mode; size_low = is.made.size_low; count_low = is.made.count_low };
+  made = record { size = is.made.size; count = is.made.count; mode = is.made.mode; origin = is.made.origin; size_low = is.made.size_low; count_low = is.made.count_low };
   few = is.few;
   in_time = is.in_time;
   total = omega (arith, is.total);

@@ -7,7 +7,9 @@ use Rattle.tr_book.specs.declared.runs.Run.{Run}
 use Rattle.tr_packet.specs.Packets.{Contents}
 use Rattle.tr_record.specs.Records.{Entry}
 use Rattle.tr_ring.specs.ClosedBuffer.{ClosedBuffer, closed_buffer}
+use Rattle.tr_ring.specs.Heads.{packet_from}
 use Rattle.tr_ring.specs.Ring.{RingState}
+use Rattle.tr_ring.specs.declared.origin.Origin.{Origin}
 use Rattle.tr_stream.specs.History.{Status, Closed, History, is_waiting, is_kept, is_kept_in, is_cleared, is_released, discarded_of}
 use Rattle.tr_stream.specs.declared.config.StreamConfig.{StreamConfig}
 
@@ -59,24 +61,13 @@ cleared_of h = buffers_where is_cleared 0 h.closed
 abbrev pub buffer_runs : List ClosedBuffer → List Run
 buffer_runs buffers = flat_map (λ (b : ClosedBuffer). runs_of b.seq b.records) buffers
 
--- the moment of the first record
-abbrev pub begin_of : List Entry → ℕ
-begin_of [] = 0
-begin_of (e ∷ es) = e.moment
+-- whose packets a stream's are
+abbrev pub origin_of : StreamConfig → Origin
+origin_of c = record { uuid = c.uuid; stream = c.number }
 
 -- the packet that a closed sub-buffer becomes
 abbrev pub packet_of : StreamConfig → ClosedBuffer → Contents
-packet_of c b = record {
-  head = record {
-    uuid = c.uuid;
-    stream = c.number;
-    begin = begin_of b.records;
-    end = b.end;
-    seq = b.seq;
-    lost = b.discarded;
-  };
-  records = b.records;
-}
+packet_of c = packet_from (origin_of c)
 
 -- a part: the packets of a chunk
 abbrev pub part_of : StreamConfig → ℕ → List ClosedBuffer → PartState

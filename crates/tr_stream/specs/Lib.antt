@@ -6,6 +6,7 @@ pub mod Fates
 pub mod Faults
 pub mod Gaps
 pub mod History
+pub mod Images
 pub mod Kept
 pub mod Laws
 pub mod Placed

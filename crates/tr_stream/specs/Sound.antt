@@ -9,7 +9,8 @@ use Rattle.tr_record.specs.Records.{Entry}
 use Rattle.tr_record.specs.Weight.{weight_of}
 use Rattle.tr_ring.specs.Ring.{RingState, IsClosedWithin}
 use Rattle.tr_ring.specs.ClosedBuffer.{ClosedBuffer}
-use Rattle.tr_stream.specs.Chunks.{packet_of, begin_of}
+use Rattle.tr_stream.specs.Chunks.{origin_of, packet_of}
+use Rattle.tr_ring.specs.Heads.{begin_of}
 use Rattle.tr_stream.specs.State.{StreamState, in_ring, in_parts}
 use Rattle.tr_stream.specs.StateSteps.{overwrites}
 use Rattle.tr_terms.specs.declared.session_mode.SessionMode.TheVariants.{Snapshot}
@@ -33,6 +34,7 @@ pub record IsMade (c : StreamConfig) (r : RingState) : Type 0 where
   pub size : r.size ≡ c.geometry.size
   pub count : r.count ≡ c.geometry.count
   pub mode : r.overwrite ≡ overwrites c.mode
+  pub origin : r.origin ≡ origin_of c
   pub size_low : SMALLEST_SUB_BUFFER ≤ c.geometry.size
   pub count_low : FEWEST_SUB_BUFFERS ≤ c.geometry.count
 

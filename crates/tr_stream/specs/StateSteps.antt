@@ -12,7 +12,7 @@ use Rattle.tr_ring.specs.declared.pushed.Pushed.{Pushed}
 use Rattle.tr_ring.specs.declared.pushed.Pushed.TheVariants as pushed
 use Rattle.tr_terms.specs.declared.mode.Mode.{Mode}
 use Rattle.tr_terms.specs.declared.mode.Mode.TheVariants.{Discard, Overwrite}
-use Rattle.tr_stream.specs.Chunks.{packet_of, ring_buffers, buffer_runs}
+use Rattle.tr_stream.specs.Chunks.{origin_of, packet_of, ring_buffers, buffer_runs}
 use Rattle.tr_stream.specs.State.{StreamState, in_ring, in_parts, stream_state}
 use Rattle.tr_stream.specs.declared.answers.ClearFault.{ClearFault}
 use Rattle.tr_stream.specs.declared.answers.ClearFault.TheVariants as clear_fault
@@ -201,5 +201,5 @@ overwrites Overwrite = true
 
 -- at the start
 abbrev pub new_state : StreamConfig → StreamState
-new_state c = stream_state c (empty_ring c.geometry.size c.geometry.count (overwrites c.mode)) no_parts new_counters
+new_state c = stream_state c (empty_ring (origin_of c) c.geometry.size c.geometry.count (overwrites c.mode)) no_parts new_counters
     false

@@ -5,7 +5,8 @@ ghost use Rattle.tr_book.specs.Parts.{close_part, records_of, with_packet, with_
 ghost use Rattle.tr_packet.specs.Packets.{IsPacket};
 ghost use Rattle.tr_ring.specs.ClosedBuffer.{ClosedBuffer};
 ghost use Rattle.tr_ring.specs.Ring.{clear_ring, closed_current, drop_front};
-ghost use Rattle.tr_stream.specs.Chunks.{begin_of, buffer_runs, packet_of, ring_buffers};
+ghost use Rattle.tr_stream.specs.Chunks.{buffer_runs, packet_of, ring_buffers};
+ghost use Rattle.tr_ring.specs.Heads.{begin_of};
 ghost use Rattle.tr_stream.specs.Gaps.{DiscardsShow};
 ghost use Rattle.tr_stream.specs.Sound.{ArePackets};
 ghost use Rattle.tr_terms.specs.declared.limits.TheConstants.{MOST_SUB_BUFFERS};

@@ -1,6 +1,9 @@
 //! One stream: a ring of sub-buffers, and the parts that it is consumed into.
 
 ghost use Rattle.std.specs.Prelude.{◌≡◌, ◌≢◌, ◌+◌, ◌-◌, ◌≤◌, ◌<◌, [], Some, Ok, Err, IsOk, IfOk, OnOk, OnErr, length, option_copied, slice_get};
+ghost use Rattle.tr_packet.specs.Decoding.{content_bits_in};
+ghost use Rattle.tr_packet.specs.Packets.{Contents, IsPacket, packet_text};
+ghost use Rattle.tr_stream.specs.Images.{packets_standing};
 ghost use Rattle.tr_stream.specs.Spares.{spares_state};
 ghost use Rattle.tr_stream.specs.Answers.{answer_of};
 ghost use Rattle.tr_stream.specs.Calls.{part_in, IsConsistent, history_fate, all_parts, fate_in_parts, state_fate, held_fate, History, IsKept, IsSound, StandsFor, in_ring, in_parts, new_state, overwrites, refusal_of, state_entry, state_with_offer, offered_as, state_offer_answer, state_after_offer, state_take_answer, state_after_take, cut_done, state_cut_answer, state_cut_ring, state_after_cut, ClearsSome, ReleasesSome, state_cleared, state_clear_answer, state_clear_ring, state_after_clear, state_release_answer, state_after_release, state_after_switch, state_snap, state_counts, new_history, history_offer_answer, history_after_offer, history_take_answer, history_after_take, history_cut_answer, history_after_cut, history_clear_answer, history_after_clear, history_release_answer, history_after_release, history_after_switch, history_snap, history_counts, part_at, push_answer, ring_records, history_ring};
@@ -19,7 +22,7 @@ use std::alloc::{AllocError, Allocator, Global};
 use std::marker::Model;
 use tr_book::{Book, Counts, Part, Parts, StreamSnap};
 use tr_record::RecView;
-use tr_ring::{Pushed, Ring};
+use tr_ring::{Origin, Pushed, Ring};
 use tr_terms::limits::{MOST_OFFERS, SMALLEST_PACKET};
 use tr_terms::{Geometry, Mode, Moment, SessionMode};
 use uuid::Uuid;
@@ -80,7 +83,17 @@ impl<A: Allocator + Copy> Stream<A> {
         ensures starts { IfOk result (λ s. StandsFor s new_history) }
     {
         let _ = uuid.into_bytes();
-        let ring = Ring::new(alloc, geometry.size(), geometry.count(), gives_way(mode))?;
+        let origin = Origin {
+            uuid,
+            stream: number,
+        };
+        let ring = Ring::new(
+            alloc,
+            origin,
+            geometry.size(),
+            geometry.count(),
+            gives_way(mode),
+        )?;
         Ok(Stream {
             alloc,
             config: StreamConfig {
@@ -261,6 +274,16 @@ impl<A: Allocator + Copy> Stream<A> {
         let current = self.ring.current();
         let current = usize::from(!current.is_empty() && !current.is_mostly_empty());
         (self.ring.waiting() + current).saturating_sub(self.spares.len())
+    }
+
+    /// What stands in the memory of the sub-buffer number `i` of those that wait, the oldest first, or of the current one after
+    /// them: the text of a packet, or, as long as the current one has no record, bytes in which none stands. A program that is
+    /// killed leaves these.
+    pub fn image(&self, i: usize) -> &[u8]
+        ensures packet { (p : Contents) → slice_get (packets_standing self.now) i ≡ Some p → IsPacket p × (result.now ≡ packet_text p) }
+        ensures none { length self.now.ring.waiting ≤ i → self.now.ring.current ≡ [] → content_bits_in result.now ≡ 0 }
+    {
+        self.ring.image(i)
     }
 
     /// Whether it is ever taken from or cut.

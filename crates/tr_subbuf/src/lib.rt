@@ -1,13 +1,15 @@
 //! A sub-buffer: the records that are to make one packet, within its size in bytes.
-//! It keeps their texts, end to end, in a page whose memory is taken once, behind room for the packet's header: so the page
-//! becomes the packet's text. Contracts see the records alone.
+//! It keeps their texts, end to end, in a page whose memory is taken once, behind the packet's header and context: so the page is
+//! the packet's text after each call, and becomes it. Contracts see the records, and what the packet says beside them.
 //!
 //! # Example
 //!
 //! ```
 //! let mut page = SubBuf::new(alloc, 4_096)?;
-//! if page.fits(payload.len()) {
+//! if page.joins(payload.len()) {
 //!     page.put(&record);  // takes no memory, and refuses nothing
+//! } else if page.is_empty() {
+//!     page.begin(head, &record);
 //! }
 //! ```
 //!
@@ -16,8 +18,15 @@
 //! - A record is added at the end of a sub-buffer that has room for it. This takes no memory.
 //! - The records are within the sub-buffer's size, as a packet.
 //! - The packet that the page becomes has just these records, and so has a copy of it.
+//! - What stands in memory after a call is that packet's text, or, without a record, no packet. While a call is under way it is so
+//!   too by the list of its stores (`laws`): the packet before or after, and never a part of a record.
+//!
+//! # What is only tested
+//!
+//! That the code makes the stores of that list, in its order: programs that record are killed at any moment.
 #![tactic(auto)]
 
+pub mod laws;
 mod sub_buffer;
 
 pub use sub_buffer::SubBuf;

@@ -3,13 +3,23 @@
 use super::{assert_record, assert_same, payload};
 use std::alloc::Global;
 use std::process::Abort;
-use tr_ring::{ClosedSubBuf, Pushed, Ring};
+use tr_packet::decode_packet;
+use tr_ring::{ClosedSubBuf, Origin, Pushed, Ring};
 use tr_testing::moment;
+use uuid::Uuid;
+
+/// Whose packets those of the rings are.
+fn origin() -> Origin {
+    Origin {
+        uuid: Uuid::from_bytes([7; 16]),
+        stream: 3,
+    }
+}
 
 /// A ring of `count` sub-buffers of 256 bytes.
 fn ring(rt: &impl Abort, alloc: Global, count: usize, overwrite: bool) -> Ring {
     assert!(rt; 2 <= count);
-    let ring = Ring::new(alloc, 256, count, overwrite).expect(rt, "memory");
+    let ring = Ring::new(alloc, origin(), 256, count, overwrite).expect(rt, "memory");
     assert_same(rt, (ring.overwrites(), ring.count()), (overwrite, count));
     ring
 }
@@ -108,6 +118,9 @@ enum Step {
     Last(usize, (u64, u64, u64, usize)),
     /// The record at this place of the oldest closed sub-buffer: its serial, and the length of its payload.
     InFront(usize, u64, usize),
+    /// The packet that stands in the page at this place: its number, its end, what was discarded until then, and how many
+    /// records it has; or none.
+    Stands(usize, Option<(u64, u64, u64, usize)>),
     /// The serial of each record and the length of its payload.
     Shows(&'static [(u64, usize)]),
 }
@@ -123,8 +136,31 @@ fn make(rt: &impl Abort, ring: &mut Ring, step: &Step) {
         Step::Front(wanted) => assert_closed(rt, ring.front(), *wanted),
         Step::Last(place, wanted) => assert_last(rt, ring, *place, *wanted),
         Step::InFront(place, serial, len) => assert_in_front(rt, ring, *place, *serial, *len),
+        Step::Stands(place, wanted) => assert_stands(rt, ring, *place, *wanted),
         Step::Shows(rows) => assert_records(rt, ring, rows),
     }
+}
+
+/// Asserts the packet that stands in the page at this place of those that wait, or in the current one.
+fn assert_stands(
+    rt: &impl Abort,
+    ring: &Ring,
+    place: usize,
+    wanted: Option<(u64, u64, u64, usize)>,
+) {
+    let Ok((packet, size)) = decode_packet(ring.image(place)) else {
+        assert_same(rt, (place, None), (place, wanted));
+        return;
+    };
+    let head = packet.head();
+    let found = (head.seq, head.end.get(), head.lost, packet.count());
+    assert_same(rt, (place, Some(found)), (place, wanted));
+    let of = (head.uuid, head.stream, size);
+    assert_same(
+        rt,
+        of,
+        (origin().uuid, origin().stream, ring.image(place).len()),
+    );
 }
 
 /// Asserts the last closed sub-buffer, as `assert_closed` does.
@@ -149,7 +185,8 @@ fn make_steps(rt: &impl Abort, alloc: Global, count: usize, overwrite: bool, ste
 }
 
 // two records of 74 bytes fit beside the packet's 80
-static DISCARDING: [Step; 14] = [
+static DISCARDING: [Step; 19] = [
+    Step::Stands(0, None),
     Step::Push(0, 50, Pushed::Stored { seq: 0 }),
     Step::Push(1, 50, Pushed::Stored { seq: 0 }),
     Step::Push(2, 50, Pushed::Stored { seq: 1 }),
@@ -160,11 +197,16 @@ static DISCARDING: [Step; 14] = [
     Step::Shows(&[(0, 50), (1, 50), (2, 50), (3, 50), (5, 0)]),
     Step::Push(6, 50, Pushed::Refused),
     Step::Ring((1, 2, 2, 1, 3)),
+    Step::Stands(0, Some((0, 1002, 0, 2))),
+    // the current one ends with its last record, and has what was discarded since
+    Step::Stands(1, Some((1, 1005, 2, 3))),
     Step::Front((0, 1002, 0, 2)),
     Step::InFront(1, 1, 50),
     Step::Remove,
     Step::Push(7, 50, Pushed::Stored { seq: 2 }),
     Step::Last(0, (1, 1007, 2, 3)),
+    Step::Clear,
+    Step::Stands(0, None),
 ];
 
 #[test]

@@ -85,9 +85,9 @@ fn assert_same_texts(rt: &impl Abort, alloc: Global, one: &StreamSnap, other: &S
 #[test]
 fn looks_show_what_was_copied_ahead_and_what_came_after(rt: HostRuntime) {
     let mut stream = begun(&rt, rt.alloc());
-    // four packets of 80 + 24 + 3,000 bytes
+    // four packets of 80 + 24 + 3,000 bytes; the 80 of a head are written when the packet is handed out
     assert_same(&rt, stream.copy_more(5_000), 5_000);
-    assert_same(&rt, stream.copy_more(100_000), 7_416);
+    assert_same(&rt, stream.copy_more(100_000), 7_096);
     assert_same(&rt, stream.copy_more(100_000), 0);
     // one joins the last of them, and one comes in the place of the first, whose copy is begun anew
     offer(&rt, &mut stream, 5, 500);
@@ -133,7 +133,7 @@ fn looks_take_no_memory_for_what_was_copied_ahead(rt: HostRuntime) {
     let heap = LocalHeap::new(rt.alloc(), 65_536).expect(&rt, "memory");
     let mut stream = begun(&rt, &heap);
     let before = heap.used();
-    assert_same(&rt, stream.copy_more(100_000), 12_416);
+    assert_same(&rt, stream.copy_more(100_000), 12_096);
     offer(&rt, &mut stream, 5, 500);
     assert_same(&rt, heap.used(), before);
     let snap = stream.peek_out(moment(9)).expect(&rt, "a look");

@@ -19,17 +19,17 @@ invariant_of-self g c =
       length-map own.waiting.items (λ (p : SealedPage). p.closed),
     ) in
     let first : Some c.in-Some.oldest ≡ slice_get own.waiting.items 0 = sym c.in-Some.is ∙ c.pop_front.ensures.value in
-    let held = front-gone own.current.size own.waiting c.pop_front.new.self own.free c.push_back.new.self c.into_free.result own.current.records
-    own.seq own.discarded own.overwrite c.self.invariant.0 c.self.invariant.1 some
-    (c.into_free.ensures ∙ ap empty_buffer (front-size own.current.size own.waiting.items c.in-Some.oldest c.self.invariant.1.sizes first))
+    let held = front-gone own.origin own.current.size own.waiting c.pop_front.new.self own.free c.push_back.new.self c.into_free.result own.current.records
+    own.seq own.discarded own.overwrite c.self.invariant.0 c.self.invariant.1.0 some
+    (c.into_free.ensures ∙ ap empty_buffer (front-size own.current.size own.waiting.items c.in-Some.oldest c.self.invariant.1.0.sizes first))
     c.pop_front.ensures.items c.push_back.ensures.items in
-    (held.ring, held.pages)
+    (held.ring, (held.pages, c.self.invariant.1.1))
 
 pub returns : goal.returns
 returns g c =
     let own = c.self.inside in
-    ap (λ (w : Buffer SealedPage). ring_state (closed_in w.items) own.current.records own.seq own.discarded own.current.size (w.capacity + 1) own.overwrite)
+    ap (λ (w : Buffer SealedPage). ring_state (closed_in w.items) own.current.records own.seq own.discarded own.current.size (w.capacity + 1) own.overwrite own.origin)
     c.pop_front.ensures.items
-    ∙ ap (λ (bs : List ClosedBuffer). ring_state bs own.current.records own.seq own.discarded own.current.size (own.waiting.capacity + 1) own.overwrite)
+    ∙ ap (λ (bs : List ClosedBuffer). ring_state bs own.current.records own.seq own.discarded own.current.size (own.waiting.capacity + 1) own.overwrite own.origin)
     (left-waits own.waiting.items)
     ∙ ap drop_front c.self.view_is

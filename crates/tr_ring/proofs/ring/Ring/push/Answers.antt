@@ -1,36 +1,34 @@
-use Rattle.std.proofs.Common.{arith}
+use Rattle.std.proofs.Common.{◌≡◌, ◌+◌, ◌≤◌, ◌∷◌, ◌++◌, [], length, arith, subst, sym, ap, ◌∙◌}
 use Rattle.std.proofs.lemmas.Grind.{common_steps}
+use Rattle.tr_record.specs.Records.{Entry}
+use Rattle.tr_record.specs.Weight.{weight_of}
+use Rattle.tr_record.proofs.RecordLemmas.{weight_of-push}
+use Rattle.tr_subbuf.specs.SubBuffer.{SubBuffer}
+use Rattle.tr_subbuf.proofs.PageLemmas.{joining}
+use Rattle.tr_ring.specs.Pages.{ArePages, closed_in}
+use Rattle.tr_ring.specs.Ring.{IsRing, current_head, ring_state}
+use Rattle.tr_ring.proofs.MoveLemmas.{joins-as-packet}
 use Rattle.tr_ring.proofs.ring.Ring.push.Goals as goal
 
 pub invariant_of-self : goal.invariant_of-self
-invariant_of-self g c = grind (arith, common_steps)
-
-pub follow-requires-clause-room : goal.follow-requires-clause-room
-follow-requires-clause-room g c = grind (arith, common_steps)
-
-pub follow-requires-clause-some : goal.follow-requires-clause-some
-follow-requires-clause-some g c = grind (arith, common_steps)
-
-pub returns-then-not-is_full-clause-answer : goal.returns-then-not-is_full-clause-answer
-returns-then-not-is_full-clause-answer g c = grind (arith, common_steps)
-
-pub returns-then-not-is_full-clause-after : goal.returns-then-not-is_full-clause-after
-returns-then-not-is_full-clause-after g c = grind (arith, common_steps)
-
-pub returns-then-not-self-clause-answer : goal.returns-then-not-self-clause-answer
-returns-then-not-self-clause-answer g c = grind (arith, common_steps)
-
-pub returns-then-not-self-clause-after : goal.returns-then-not-self-clause-after
-returns-then-not-self-clause-after g c = grind (arith, common_steps)
-
-pub drop_front-requires : goal.drop_front-requires
-drop_front-requires g c = grind (arith, common_steps)
-
-pub follow-requires-2-clause-some : goal.follow-requires-2-clause-some
-follow-requires-2-clause-some g c = grind (arith, common_steps)
-
-pub returns-clause-answer : goal.returns-clause-answer
-returns-clause-answer g c = grind (arith, common_steps)
-
-pub returns-clause-after : goal.returns-clause-after
-returns-clause-after g c = grind (arith, common_steps)
+invariant_of-self g c =
+    let own = c.self.inside in
+    let e = c.new.result in
+    let es = own.current.records in
+    let entry-is = c.new.ensures.value in
+    let joined = joining own.current (length c.args.payload.now) (sym c.joins.ensures ∙ c.if-joins.true) in
+    let room : weight_of es + (24 + length e.payload) ≤ own.current.size = omega (arith, joined.1, ap (λ (x : Entry). length x.payload) entry-is) in
+    let is = c.self.invariant.0 in
+    subst (λ (b : SubBuffer). IsRing (ring_state (closed_in own.waiting.items) b.records own.seq own.discarded b.size (own.waiting.capacity + 1)
+    own.overwrite own.origin) × (ArePages own.origin b.size own.waiting.items own.free own.waiting.capacity
+    × (b.head ≡ current_head own.origin own.seq own.discarded b.records))) (sym c.put.ensures) (
+      record {
+        room = is.room;
+        closed = is.closed;
+        current = omega (arith, room, weight_of-push es e);
+        size_low = is.size_low;
+        size_high = is.size_high;
+        count_low = is.count_low;
+      },
+      (c.self.invariant.1.0, joins-as-packet own.origin own.seq own.discarded es e own.current.head joined.0 c.self.invariant.1.1),
+    )

@@ -1,23 +1,50 @@
-use Rattle.std.proofs.Common.{rules, ◌≡◌, ◌≤◌, ◌++◌, [], List, arith, ap, length, replicate, ◌∙◌}
-use Rattle.std.specs.Prelude.{vec_capacity}
+use Rattle.std.proofs.Common.{rules, ◌≡◌, ◌+◌, ◌*◌, ◌≤◌, ◌<◌, ◌∙◌, ◌++◌, ◌∷◌, [], ℕ, List, Option, Some, None, Bool, true, take, drop, length, leb, ltb, arith, refl, sym, ap, subst, length-append}
 use Rattle.std.proofs.lemmas.Grind.{common_steps}
-use Rattle.tr_record.specs.Records.{Entry}
-use Rattle.tr_subbuf.specs.SubBuffer.{sub_buffer}
-use Rattle.tr_subbuf.proofs.PageLemmas.{page_none}
+use Rattle.std.specs.Prelude.{IfSome, IsTrue, vec_capacity}
+use Rattle.std.proofs.lemmas.Bool.{leb-true, ltb-true}
+use Rattle.std.proofs.lemmas.List.{take_at, length-take}
+use Rattle.tr_packet.specs.Packets.{context_text, header_text}
+use Rattle.tr_packet.specs.Stores.{with_extent, with_number}
+use Rattle.tr_packet.specs.Texts.{HeadFits, body_of}
+use Rattle.tr_packet.proofs.OrderLemmas.{first_holds, second_holds}
+use Rattle.tr_record.specs.Records.{Entry, record_text}
+use Rattle.tr_record.specs.Weight.{weight_of}
+use Rattle.tr_record.specs.Whole.{entries_of}
+use Rattle.tr_record.proofs.RecordLemmas.{length-record_text}
+use Rattle.tr_subbuf.specs.Page.{IsBegun, IsPage, buffer_in}
+use Rattle.tr_subbuf.specs.SubBuffer.{SubBuffer, empty_buffer, ended, ending, first_record, has_room, joins, losing, sub_buffer, with_lost, with_record}
+use Rattle.tr_terms.specs.declared.limits.TheConstants.{LARGEST_PACKET, PACKET_HEADER}
+use Rattle.std.specs.Int.{w64, from_le_bytes}
+use Rattle.tr_packet.specs.Decoding.{content_bits_in}
+use Rattle.tr_packet.proofs.StoreLemmas.{number_written}
+use Rattle.tr_subbuf.proofs.PageLemmas.{number_long, page_none}
 use Rattle.tr_subbuf.proofs.sub_buffer.SubBuf.touched.Goals as goal
-use Rattle.tr_terms.specs.declared.limits.TheConstants.{PACKET_HEADER}
+
+pub renumber-requires : goal.renumber-requires
+renumber-requires g c =
+    let long : length c.truncate.new.self.items ≡ PACKET_HEADER = grind (arith, common_steps) in
+    omega (arith, long)
 
 pub invariant_of-result : goal.invariant_of-result
 invariant_of-result g c =
-    let long : length c.truncate.new.self.items ≡ PACKET_HEADER = grind (arith, common_steps) in
-    let room : c.args.size ≤ vec_capacity c.truncate.new.self =
-    omega (arith, c.in_ok-bytes.ensures.exact, c.max-room.ensures, c.resize.ensures.capacity, c.truncate.ensures.capacity) in
-    ((page_none c.truncate.new.self.items c.args.size (vec_capacity c.truncate.new.self) long room).0, tt)
+    let there = c.truncate.new.self.items in
+    let out = c.renumber.new.bytes.items in
+    let few : length there ≡ PACKET_HEADER = grind (arith, common_steps) in
+    let long : length out ≡ PACKET_HEADER = ap (λ (t : List ℕ). length t) c.renumber.ensures.items ∙ number_long 48 0 there (omega (arith, few)) ∙ few in
+    let free : content_bits_in out ≡ 0 = ap content_bits_in c.renumber.ensures.items ∙ number_written 48 0 there (omega (arith, few)) (omega arith) in
+    let room : c.args.size ≤ vec_capacity c.renumber.new.bytes =
+    omega (arith, c.in_ok-bytes.ensures.exact, c.max-room.ensures, c.resize.ensures.capacity, c.truncate.ensures.capacity, c.renumber.ensures.capacity) in
+    let small : c.args.size ≤ LARGEST_PACKET = search rules in
+    ((page_none out c.args.size (vec_capacity c.renumber.new.bytes) long free room small).page, tt)
 
 pub returns : goal.returns
 returns g c =
-    let long : length c.truncate.new.self.items ≡ PACKET_HEADER = grind (arith, common_steps) in
-    let room : c.args.size ≤ vec_capacity c.truncate.new.self =
-    omega (arith, c.in_ok-bytes.ensures.exact, c.max-room.ensures, c.resize.ensures.capacity, c.truncate.ensures.capacity) in
-    ap (λ (es : List Entry). sub_buffer es c.args.size)
-    (page_none c.truncate.new.self.items c.args.size (vec_capacity c.truncate.new.self) long room).1
+    let there = c.truncate.new.self.items in
+    let out = c.renumber.new.bytes.items in
+    let few : length there ≡ PACKET_HEADER = grind (arith, common_steps) in
+    let long : length out ≡ PACKET_HEADER = ap (λ (t : List ℕ). length t) c.renumber.ensures.items ∙ number_long 48 0 there (omega (arith, few)) ∙ few in
+    let free : content_bits_in out ≡ 0 = ap content_bits_in c.renumber.ensures.items ∙ number_written 48 0 there (omega (arith, few)) (omega arith) in
+    let room : c.args.size ≤ vec_capacity c.renumber.new.bytes =
+    omega (arith, c.in_ok-bytes.ensures.exact, c.max-room.ensures, c.resize.ensures.capacity, c.truncate.ensures.capacity, c.renumber.ensures.capacity) in
+    let small : c.args.size ≤ LARGEST_PACKET = search rules in
+    (page_none out c.args.size (vec_capacity c.renumber.new.bytes) long free room small).view

@@ -1,0 +1,44 @@
+use Rattle.std.proofs.Common.{rules, ◌≡◌, ◌+◌, ◌*◌, ◌≤◌, ◌<◌, ◌∙◌, ◌++◌, ◌∷◌, [], ℕ, List, Option, Some, None, Bool, true, take, drop, length, leb, ltb, arith, refl, sym, ap, subst, length-append}
+use Rattle.std.proofs.lemmas.Grind.{common_steps}
+use Rattle.std.specs.Prelude.{IfSome, IsTrue, vec_capacity}
+use Rattle.std.proofs.lemmas.Bool.{leb-true, ltb-true}
+use Rattle.std.proofs.lemmas.List.{take_at, length-take}
+use Rattle.tr_packet.specs.Packets.{context_text, header_text}
+use Rattle.tr_packet.specs.Stores.{with_extent, with_number}
+use Rattle.tr_packet.specs.Texts.{HeadFits, body_of}
+use Rattle.tr_packet.proofs.OrderLemmas.{first_holds, second_holds}
+use Rattle.tr_record.specs.Records.{Entry, record_text}
+use Rattle.tr_record.specs.Weight.{weight_of}
+use Rattle.tr_record.specs.Whole.{entries_of}
+use Rattle.tr_record.proofs.RecordLemmas.{length-record_text}
+use Rattle.tr_subbuf.specs.Page.{IsBegun, IsPage, buffer_in}
+use Rattle.tr_subbuf.specs.SubBuffer.{SubBuffer, empty_buffer, ended, ending, first_record, has_room, joins, losing, sub_buffer, with_lost, with_record}
+use Rattle.tr_terms.specs.declared.limits.TheConstants.{PACKET_HEADER}
+use Rattle.tr_subbuf.proofs.PageLemmas.{begun-copied}
+use Rattle.tr_subbuf.proofs.sub_buffer.SubBuf.copy_more.Goals as goal
+
+pub copy_on-requires-clause-header : goal.copy_on-requires-clause-header
+copy_on-requires-clause-header g c =
+    let own = c.self.inside in
+    let is : IsBegun c.in-Some.copy.items own.bytes.items own.size (vec_capacity c.in-Some.copy) =
+    subst (λ (o : _). IfSome o (λ copy. IsBegun copy.items own.bytes.items own.size (vec_capacity copy))) (sym c.take.ensures.value ∙ c.in-Some.is) c.self.invariant.1 in
+    is.header
+
+pub copy_on-requires-clause-first : goal.copy_on-requires-clause-first
+copy_on-requires-clause-first g c =
+    let own = c.self.inside in
+    let is : IsBegun c.in-Some.copy.items own.bytes.items own.size (vec_capacity c.in-Some.copy) =
+    subst (λ (o : _). IfSome o (λ copy. IsBegun copy.items own.bytes.items own.size (vec_capacity copy))) (sym c.take.ensures.value ∙ c.in-Some.is) c.self.invariant.1 in
+    subst (λ (t : List ℕ). take (length (body_of c.in-Some.copy.items)) (body_of t) ≡ body_of c.in-Some.copy.items) (sym c.deref.ensures.value) is.first
+
+pub invariant_of-self-in-Some-2 : goal.invariant_of-self-in-Some-2
+invariant_of-self-in-Some-2 g c =
+    let own = c.self.inside in
+    let is : IsBegun c.in-Some.copy.items own.bytes.items own.size (vec_capacity c.in-Some.copy) =
+    subst (λ (o : _). IfSome o (λ copy. IsBegun copy.items own.bytes.items own.size (vec_capacity copy))) (sym c.take.ensures.value ∙ c.in-Some.is) c.self.invariant.1 in
+    let first = subst (λ (t : List ℕ). take (length (body_of c.copy_on.new.copy.items)) (body_of t) ≡ body_of c.copy_on.new.copy.items)
+    c.deref.ensures.value c.copy_on.ensures.first in (
+      c.self.invariant.0,
+      begun-copied c.in-Some.copy.items own.bytes.items c.copy_on.new.copy.items own.size (vec_capacity c.in-Some.copy)
+          (vec_capacity c.copy_on.new.copy) is c.copy_on.ensures.header c.copy_on.ensures.long first c.copy_on.ensures.capacity,
+    )
