@@ -1,3 +1,5 @@
 mod AbsentLemmas
 mod CopyLemmas
+mod LineLemmas
 mod NameLemmas
+mod NumberLemmas

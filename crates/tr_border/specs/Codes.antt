@@ -3,12 +3,13 @@ use Rattle.std.specs.Prelude.{ℕ, ◌+◌, ◌-◌, ◌*◌, ◌==◌, List, []
 use Rattle.std.specs.List.{list_any}
 use Rattle.std.specs.Str.{bytes_eq}
 
--- the hundred of a code's letter: S, O, T, C, X, Y, D, A, G, V
+-- the hundred of a code's letter: S, O, T, C, X, Y, D, A, G, V, K
 abbrev pub hundred_of : ℕ → ℕ
 hundred_of letter =
     if letter == 83 then 100 else (if letter == 79 then 200 else (if letter == 84 then 300 else (if letter == 67 then 400
     else (if letter == 88 then 500 else (if letter == 89 then 600 else (if letter == 68 then 700 else (if letter == 65 then 800
-    else (if letter == 71 then 900 else (if letter == 86 then 1000 else 0)))))))))
+    else (if letter == 71 then 900 else (if letter == 86 then 1000
+    else (if letter == 75 then 1100 else 0))))))))))
 
 -- the number that digits write, after those before
 abbrev pub written_after : ℕ → List ℕ → ℕ

@@ -1,5 +1,5 @@
 -- What results say.
-use Rattle.std.specs.Prelude.{ℕ, Bool, is_some, length, unwrap_or, slice_get, ◌+◌, ◌-◌, ◌^◌, min, Option, Some, None}
+use Rattle.std.specs.Prelude.{ℕ, Bool, is_some, length, unwrap_or, slice_get, ◌+◌, ◌-◌, ◌^◌, ◌==◌, min, Option, Some, None, if◌then◌else◌}
 use Rattle.tr_book.specs.Parts.{PartState, part_bytes, part_packets, part_records}
 use Rattle.tr_book.specs.declared.counts.Counts.{Counts}
 use Rattle.tr_book.specs.Snaps.{SnapState}
@@ -92,6 +92,16 @@ fate_out (Some (fate.InChunk chunk seq)) = record { kind = 2; chunk = chunk; seq
 fate_out (Some fate.Discarded) = record { kind = 3; chunk = 0; seq = 0 }
 fate_out (Some fate.Overwritten) = record { kind = 4; chunk = 0; seq = 0 }
 fate_out (Some (fate.Cleared seq)) = record { kind = 5; chunk = 0; seq = seq }
+
+-- the fate that has these numbers, if one has
+abbrev pub fate_in : FateOut → Option (Option Fate)
+fate_in out =
+    if out.kind == 0 then Some None
+    else (if out.kind == 1 then Some (Some (fate.InRing out.seq))
+    else (if out.kind == 2 then Some (Some (fate.InChunk out.chunk out.seq))
+    else (if out.kind == 3 then Some (Some fate.Discarded)
+    else (if out.kind == 4 then Some (Some fate.Overwritten)
+    else (if out.kind == 5 then Some (Some (fate.Cleared out.seq)) else None)))))
 
 abbrev pub part_out : PartState → PartOut
 part_out p = record {

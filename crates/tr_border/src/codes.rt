@@ -42,8 +42,55 @@ pub const BAD_OFFSET: u32 = 8;
 pub const NO_ROOM: u32 = 9;
 /// The stream has no part of this number.
 pub const NO_PART: u32 = 10;
+/// A number is no refusal's, or no answer's.
+pub const BAD_NUMBER: u32 = 11;
 /// An audit was fed too much.
 pub const TOO_MUCH: u32 = 21;
+
+/// A line gets no answer.
+pub const ASKS_NOTHING: u32 = 0;
+/// It is a bad line.
+pub const ASKS_BADLY: u32 = 1;
+/// It is a command that no live session answers.
+pub const ASKS_OTHER: u32 = 2;
+/// `status`
+pub const ASKS_STATUS: u32 = 3;
+/// `archives`
+pub const ASKS_ARCHIVES: u32 = 4;
+/// `fate`
+pub const ASKS_FATE: u32 = 5;
+/// `start`
+pub const ASKS_START: u32 = 6;
+/// `stop`
+pub const ASKS_STOP: u32 = 7;
+/// `rotate`
+pub const ASKS_ROTATE: u32 = 8;
+/// `snapshot`
+pub const ASKS_SNAPSHOT: u32 = 9;
+/// `clear`
+pub const ASKS_CLEAR: u32 = 10;
+/// `release`
+pub const ASKS_RELEASE: u32 = 11;
+/// `schedule`
+pub const ASKS_SCHEDULE: u32 = 12;
+
+/// A line is refused as K1: it names another session.
+pub const K_NO_SESSION: u32 = 1101;
+
+/// The line is a bad one.
+pub const SAYS_BAD_LINE: u32 = 0;
+/// No live session answers such a command.
+pub const SAYS_SCRIPT_ONLY: u32 = 1;
+/// The session was started.
+pub const SAYS_STARTED: u32 = 2;
+/// It was stopped.
+pub const SAYS_STOPPED: u32 = 3;
+/// A schedule was set.
+pub const SAYS_SCHEDULE_SET: u32 = 4;
+/// There is no schedule now.
+pub const SAYS_SCHEDULE_OFF: u32 = 5;
+/// There is no archive.
+pub const SAYS_NO_ARCHIVES: u32 = 6;
 
 /// The number of an offer's refusal.
 pub fn offer_code(fault: OfferFault) -> u32

@@ -1,5 +1,5 @@
-//! What crosses to C: the numbers of refusals and modes, structs of results, and texts that are copied out. And the steps of a
-//! session's book with one of its streams, which C lends it.
+//! What crosses to C: the numbers of refusals and modes, structs of results, texts that are copied out, and what a shell's line
+//! asks for. And the steps of a session's book with one of its streams, which C lends it.
 //!
 //! # Example
 //!
@@ -16,15 +16,19 @@
 //!   place is then behind these.
 //! - A step of a book and a stream is answered by the session's rules. A stream of another trace is `Misplaced`.
 //! - A thread is added to the book together with its stream, or not at all.
+//! - What a shell's line asks for is what a script's line with these bytes asks for, with its numbers one by one.
+//! - A number of a refusal, and of counts and fates, goes back to the fault, the counts and the fate that it is of.
 //!
 //! # What is only tested
 //!
 //! Nothing beside the proofs.
 #![tactic(auto)]
 
+pub mod asks;
 pub mod audits;
 pub mod codes;
 pub mod inputs;
 pub mod outs;
 pub mod pairs;
+pub mod replies;
 pub mod texts;

@@ -1,7 +1,8 @@
 //! What results say, as C reads it.
 
-ghost use Rattle.std.specs.Prelude.{◌≡◌, ◌-◌, ◌^◌, min};
-ghost use Rattle.tr_border.specs.Outs.{about_out, archive_out, cause_out, cleared_out, counts_out, cut_out, fate_out, offered_out, part_out, released_out, session_mode_out, shown_out, state_out, sum_out, taken_out};
+ghost use Rattle.std.specs.Prelude.{◌≡◌, ◌-◌, ◌^◌, min, Option, Some};
+ghost use Rattle.tr_border.specs.Outs.{about_out, archive_out, cause_out, cleared_out, counts_out, cut_out, fate_in, fate_out, offered_out, part_out, released_out, session_mode_out, shown_out, state_out, sum_out, taken_out};
+ghost use Rattle.tr_stream.specs.declared.fate.Fate.{Fate};
 
 use crate::texts::packets_len;
 use std::alloc::Global;
@@ -303,6 +304,25 @@ pub fn counts_out(counts: Counts) -> CountsOut
     }
 }
 
+/// The counts that these are.
+pub fn counts_in(out: CountsOut) -> Counts
+    ensures { counts_out result ≡ out }
+{
+    Counts {
+        offered: out.offered,
+        discarded: out.discarded,
+        overwritten: out.overwritten,
+        overwritten_packets: out.overwritten_packets,
+        in_ring: out.in_ring,
+        consumed: out.consumed,
+        in_chunks: out.in_chunks,
+        cleared: out.cleared,
+        withdrawn: out.withdrawn,
+        cuts: out.cuts,
+        current_bytes: out.current_bytes,
+    }
+}
+
 /// Sums with one stream's counts more.
 pub fn sum_out(sum: SumOut, counts: Counts) -> SumOut
     ensures { result ≡ sum_out sum counts }
@@ -330,6 +350,23 @@ pub fn fate_out(fate: Option<Fate>) -> FateOut
         Some(Fate::Cleared { seq }) => (5, 0, seq),
     };
     FateOut { kind, chunk, seq }
+}
+
+/// The fate that has these numbers, if one has.
+pub fn fate_in(fate: FateOut) -> Option<Option<Fate>>
+    ensures value { result ≡ fate_in fate }
+    ensures told { (f : Option Fate) → fate_out f ≡ fate → result ≡ Some f }
+{
+    let FateOut { kind, chunk, seq } = fate;
+    match kind {
+        0 => Some(None),
+        1 => Some(Some(Fate::InRing { seq })),
+        2 => Some(Some(Fate::InChunk { chunk, seq })),
+        3 => Some(Some(Fate::Discarded)),
+        4 => Some(Some(Fate::Overwritten)),
+        5 => Some(Some(Fate::Cleared { seq })),
+        _ => None,
+    }
 }
 
 /// The numbers of a part.

@@ -36,7 +36,7 @@ pub extern "C" fn trc_book_about(alloc: Global, handle: &mut BookCell, out: &mut
 }
 
 /// The archive of this number, if there is one.
-fn archive_of(book: &SessionBook<Global>, id: u64) -> Option<Archive>
+pub(crate) fn archive_of(book: &SessionBook<Global>, id: u64) -> Option<Archive>
     ensures { result ≡ slice_get book.now.archives id }
 {
     match book.archives().get(id as usize) {

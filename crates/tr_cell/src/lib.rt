@@ -17,6 +17,7 @@
 //! - No call requires anything of its arguments, waits, or touches a global.
 //! - The audit that bytes are fed to finds what the audit of whole files finds.
 //! - Declared events are those of their text, and a record fits or not by them.
+//! - A shell's line asks for what the script's parser says, and each answer is the text of the script's console.
 //!
 //! # What the caller owes
 //!
@@ -31,11 +32,13 @@
 //! (`Misplaced`).
 #![tactic(auto)]
 
+mod asks;
 mod audits;
 mod book_reads;
 mod book_steps;
 mod books;
 mod declarations;
+mod replies;
 mod sessions;
 mod snaps;
 mod spares;

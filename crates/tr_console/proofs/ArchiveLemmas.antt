@@ -1,7 +1,7 @@
 -- The lines of archives.
 use Rattle.std.proofs.Common.{◌≡◌, ◌∙◌, ℕ, ◌+◌, List, [], ◌∷◌, ◌++◌, Some, drop, length, refl, sym, ap, append_assoc, append-nil}
 use Rattle.std.specs.Prelude.{slice_get}
-use Rattle.tr_console.specs.Text.{Text}
+use Rattle.tr_replies.specs.Text.{Text}
 use Rattle.tr_console.proofs.DropLemmas.{drop-got, drop-all}
 use Rattle.tr_console.specs.commands.Archives.{archive_line, archive_lines, lines_or_none}
 use Rattle.tr_session.specs.Session.{SessionOf}

@@ -3,13 +3,14 @@ use Rattle.std.proofs.Common.{◌≡◌, ◌≢◌, ◌∙◌, ◌⊎◌, Bool, 
 use Rattle.std.specs.Prelude.{IfErr}
 use Rattle.std.specs.declared.alloc.AllocError.{AllocError}
 use Rattle.tr_console.proofs.SessionLemmas.{same-session}
-use Rattle.tr_console.specs.LineFaults.{HasMemory, from_session, from_step, wants_memory}
+use Rattle.tr_replies.specs.LineFaults.{HasMemory, from_session, from_step, wants_memory}
 use Rattle.tr_console.specs.Replies.{Does, said, text_or_refusal}
-use Rattle.tr_console.specs.Steps.{Step, addition_step, call_step, line_of, question_step, refusal_step, refusal_text, session_step}
-use Rattle.tr_console.specs.Text.{Text}
+use Rattle.tr_console.specs.Steps.{Step, addition_step, call_step, line_of, question_step, refusal_step, session_step}
+use Rattle.tr_replies.specs.OneLine.{refusal_text}
+use Rattle.tr_replies.specs.Text.{Text}
 use Rattle.tr_console.specs.World.{World, session_named, with_session}
-use Rattle.tr_console.specs.declared.line_fault.LineFault.{LineFault}
-use Rattle.tr_console.specs.declared.line_fault.LineFault.TheVariants as fault
+use Rattle.tr_replies.specs.declared.line_fault.LineFault.{LineFault}
+use Rattle.tr_replies.specs.declared.line_fault.LineFault.TheVariants as fault
 use Rattle.tr_console.specs.declared.replies.Reply.{Reply}
 use Rattle.tr_session.specs.Faults.{step_wants_memory}
 use Rattle.tr_session.specs.Session.{SessionOf}

@@ -4,10 +4,10 @@ use Rattle.std.proofs.lemmas.Int.{ints}
 use Rattle.std.specs.Borrow.{Bor}
 use Rattle.std.specs.Prelude.{ℤ, nat_le, option_copied}
 use Rattle.tr_console.specs.Steps.{reply_step, refusal_step}
-use Rattle.tr_console.specs.Text.{Text}
+use Rattle.tr_replies.specs.Text.{Text}
 use Rattle.tr_console.specs.World.{World, session_named}
 use Rattle.tr_console.specs.commands.Create.{create_step, with_new}
-use Rattle.tr_console.specs.declared.line_fault.LineFault.TheVariants as fault
+use Rattle.tr_replies.specs.declared.line_fault.LineFault.TheVariants as fault
 use Rattle.tr_session.specs.Session.{declaring, new_session}
 use Rattle.tr_session_book.specs.declared.faults.SessionFault.TheVariants.{TooMany, NameTaken}
 use Rattle.tr_terms.specs.Names.{is_name}

@@ -4,7 +4,7 @@ use Rattle.std.proofs.Math.Seq.{take-append-add}
 use Rattle.std.proofs.lemmas.List.{take-append-le}
 use Rattle.std.specs.Result.{OnErr, OnOk}
 use Rattle.tr_console.specs.Gathering.{Gathers, WentInPart}
-use Rattle.tr_console.specs.Text.{Text}
+use Rattle.tr_replies.specs.Text.{Text}
 use Rattle.tr_record.proofs.ByteLemmas.{and_then_bytes-append}
 use Rattle.tr_record.specs.Bytes.{and_then_bytes}
 

@@ -1,13 +1,11 @@
 pub mod Agreement
 pub mod ArchiveLemmas
 pub mod CallLemmas
-pub mod ColumnLemmas
 pub mod CreateLemmas
 pub mod DropLemmas
 pub mod FaultLemmas
 pub mod GatheringLemmas
 pub mod LineSteps
-pub mod PacketLemmas
 pub mod RotateLemmas
 pub mod RunLemmas
 pub mod ScriptAgreement

@@ -3,14 +3,15 @@ use Rattle.std.proofs.Common.{◌≡◌, ◌≢◌, ◌∙◌, ◌∷◌, ◌++�
 use Rattle.std.specs.Prelude.{ℤ}
 use Rattle.std.specs.declared.alloc.AllocError.{AllocError}
 use Rattle.tr_console.proofs.CallLemmas.{called, left, memory_or_not, session_kept}
-use Rattle.tr_console.specs.LineFaults.{HasMemory}
+use Rattle.tr_replies.specs.LineFaults.{HasMemory}
 use Rattle.tr_console.specs.Replies.{Does, said}
 use Rattle.tr_console.specs.Steps.{call_step, line_of, session_step}
-use Rattle.tr_console.specs.Text.{Text}
+use Rattle.tr_replies.specs.Text.{Text}
 use Rattle.tr_console.specs.World.{World, session_named, with_session}
-use Rattle.tr_console.specs.commands.Rotate.{archive_named, archived_text}
-use Rattle.tr_console.specs.declared.commands.rotate.NamedArchive.{NamedArchive}
-use Rattle.tr_console.specs.declared.line_fault.LineFault.{LineFault}
+use Rattle.tr_console.specs.commands.Rotate.{archive_named}
+use Rattle.tr_replies.specs.OneLine.{archived_text}
+use Rattle.tr_replies.specs.declared.one_line.NamedArchive.{NamedArchive}
+use Rattle.tr_replies.specs.declared.line_fault.LineFault.{LineFault}
 use Rattle.tr_console.specs.declared.replies.Reply.{Reply}
 use Rattle.tr_session.specs.Session.{SessionOf}
 use Rattle.tr_session_book.specs.declared.archive.Archive.{Archive}

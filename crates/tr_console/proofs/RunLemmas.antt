@@ -17,7 +17,7 @@ use Rattle.tr_lines.specs.Lines.{HasNoFeed, lines_of, text_of_line, whole_lines_
 use Rattle.tr_lines.specs.Reading.{GoesTooFar, Reading, ReadsAll, ReadsLine, ReadsOn, budget}
 use Rattle.tr_lines.specs.declared.reader.Found.{Found}
 use Rattle.tr_lines.specs.declared.reader.Found.TheVariants.{Last, Whole}
-use Rattle.tr_console.specs.Text.{Text}
+use Rattle.tr_replies.specs.Text.{Text}
 use Rattle.tr_record.proofs.ByteLemmas.{and_then_bytes-append, and_then_bytes-none}
 use Rattle.tr_record.specs.Bytes.{and_then_bytes}
 use Rattle.tr_stream.specs.Rules.{by_history, by_state}

@@ -12,7 +12,7 @@ use Rattle.tr_console.specs.Script.{words_step, text_step, line_step, answers, w
 use Rattle.tr_console.specs.Steps.{bad_line_step, skipped_step}
 use Rattle.tr_lines.specs.Lines.{text_of_line}
 use Rattle.tr_lines.specs.Words.{words_of, is_skipped}
-use Rattle.tr_console.specs.Text.{Text}
+use Rattle.tr_replies.specs.Text.{Text}
 use Rattle.tr_stream.specs.Rules.{Traced, by_state, by_history}
 use Rattle.tr_stream.specs.State.{StreamState}
 

@@ -1,9 +1,10 @@
 -- The lines of a status.
 use Rattle.std.proofs.Common.{◌≡◌, ◌∙◌, ℕ, ◌+◌, List, [], ◌∷◌, ◌++◌, Some, drop, length, sym, ap, append_assoc, append-nil}
 use Rattle.std.specs.Prelude.{slice_get}
-use Rattle.tr_console.specs.Text.{Text}
+use Rattle.tr_replies.specs.Text.{Text}
 use Rattle.tr_console.proofs.DropLemmas.{drop-got, drop-all}
-use Rattle.tr_console.specs.commands.Status.{status_head, status_line, status_row, status_rows, status_text}
+use Rattle.tr_console.specs.commands.Status.{status_rows, status_text}
+use Rattle.tr_replies.specs.Status.{status_head, status_line, status_row}
 use Rattle.tr_session.specs.Session.{SessionOf}
 use Rattle.tr_session.specs.Sizes.{all_cleared}
 use Rattle.tr_stream.specs.Rules.{by_state}
@@ -11,16 +12,11 @@ use Rattle.tr_stream.specs.State.{StreamState}
 use Rattle.tr_stream.specs.StateSteps.{state_counts}
 
 -- the lines that are written, and those that are left
-pub begins : (s : SessionOf StreamState) (name : Text) (line one two : Text) → line ≡ status_line name s.book (all_cleared by_state s)
-    → one ≡ line ++ 10 ∷ [] → two ≡ one ++ status_head
-    → two ++ status_rows by_state 0 (drop 0 s.streams) ≡ status_text by_state name s
-begins s name line one two a b c =
+pub begins : (s : SessionOf StreamState) (name begun : Text) → begun ≡ status_line name s.book (all_cleared by_state s) ++ (10 ∷ status_head)
+    → begun ++ status_rows by_state 0 (drop 0 s.streams) ≡ status_text by_state name s
+begins s name begun e =
     let rows = status_rows by_state 0 s.streams in
-    let first = status_line name s.book (all_cleared by_state s) in
-    let e : two ≡ (first ++ 10 ∷ []) ++ status_head =
-    c ∙ ap (λ (t : Text). t ++ status_head) (b ∙ ap (λ (t : Text). t ++ 10 ∷ []) a) in
-    ap (λ (t : Text). t ++ rows) e ∙ append_assoc (first ++ 10 ∷ []) status_head rows
-    ∙ append_assoc first (10 ∷ []) (status_head ++ rows)
+    ap (λ (t : Text). t ++ rows) e ∙ append_assoc (status_line name s.book (all_cleared by_state s)) (10 ∷ status_head) rows
 
 pub goes_on : (ts : List StreamState) (i : ℕ) (t : StreamState) (text more whole : Text) → slice_get ts i ≡ Some t
     → text ++ status_rows by_state i (drop i ts) ≡ whole → more ≡ text ++ 10 ∷ status_row i (state_counts t)

@@ -6,9 +6,9 @@ use Rattle.std.specs.Str.{bytes_eq}
 use Rattle.tr_console.specs.commands.Create.{with_new}
 use Rattle.tr_console.specs.Agreement.{AllAgreeByName, WorldsAgree}
 use Rattle.tr_console.specs.Steps.{Step, addition_step, call_step, line_of, session_step}
-use Rattle.tr_console.specs.Text.{Text}
+use Rattle.tr_replies.specs.Text.{Text}
 use Rattle.tr_console.specs.World.{World, session_named, with_session}
-use Rattle.tr_console.specs.declared.line_fault.LineFault.{LineFault}
+use Rattle.tr_replies.specs.declared.line_fault.LineFault.{LineFault}
 use Rattle.tr_session.proofs.Agreement.{ResultsAgree}
 use Rattle.tr_session.specs.Agreement.{SessionsAgree}
 use Rattle.tr_session.specs.Session.{SessionOf}

@@ -1,6 +1,6 @@
 -- The sessions of a console by what their streams hold, and by those streams' histories.
 use Rattle.std.specs.Prelude.{◌≡◌, List, [], ◌∷◌}
-use Rattle.tr_console.specs.Text.{Text}
+use Rattle.tr_replies.specs.Text.{Text}
 use Rattle.tr_console.specs.World.{World}
 use Rattle.tr_session.specs.Agreement.{SessionsAgree}
 use Rattle.tr_session.specs.Session.{SessionOf}

@@ -1,6 +1,6 @@
 -- Answers that are gathered, and go out together.
 use Rattle.std.specs.Prelude.{◌≡◌, ◌≤◌, ℕ, ◌++◌, Option, length, take}
-use Rattle.tr_console.specs.Text.{Text}
+use Rattle.tr_replies.specs.Text.{Text}
 use Rattle.tr_record.specs.Bytes.{and_then_bytes}
 
 -- what the sink had taken before, and after it

@@ -2,7 +2,7 @@
 use Rattle.std.specs.Borrow.{Fml, LendsIf, MutBor, RattleType}
 use Rattle.std.specs.Prelude.{Option}
 use Rattle.std.specs.declared.alloc.Allocator as alloc
-use Rattle.tr_console.specs.Text.{Text}
+use Rattle.tr_replies.specs.Text.{Text}
 use Rattle.tr_console.specs.World.{World, with_session}
 use Rattle.tr_console.specs.contracts.console.Console.{the_row as console_row}
 use Rattle.tr_session.specs.Session.{SessionOf}

@@ -1,12 +1,10 @@
 pub mod Agreement
 pub mod Gathering
 pub mod Lends
-pub mod LineFaults
 pub mod Replies
 pub mod Runs
 pub mod Script
 pub mod ScriptFaults
 pub mod Steps
-pub mod Text
 pub mod World
 pub mod commands

@@ -7,7 +7,7 @@ use Rattle.tr_console.specs.Agreement.{WorldsAgree}
 use Rattle.tr_console.specs.Script.{answers, refused_in, script_text_by, text_step, world_after}
 use Rattle.tr_console.specs.Steps.{Step}
 use Rattle.tr_lines.specs.Lines.{lines_of, whole_lines_of}
-use Rattle.tr_console.specs.Text.{Text}
+use Rattle.tr_replies.specs.Text.{Text}
 use Rattle.tr_record.specs.Bytes.{and_then_bytes}
 use Rattle.tr_stream.specs.Rules.{Traced, by_history, by_state}
 use Rattle.tr_stream.specs.State.{StreamState}

@@ -9,7 +9,7 @@ use Rattle.tr_console.specs.commands.{request_step}
 use Rattle.tr_console.specs.Steps.{Step, bad_line_step, skipped_step}
 use Rattle.tr_lines.specs.Lines.{lines_of, text_of_line}
 use Rattle.tr_lines.specs.Words.{words_of, is_skipped}
-use Rattle.tr_console.specs.Text.{Text}
+use Rattle.tr_replies.specs.Text.{Text}
 use Rattle.tr_stream.specs.Rules.{StreamRules, by_history}
 
 -- the answer to what the words of a line ask for; none is a bad line

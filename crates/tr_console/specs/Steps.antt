@@ -1,11 +1,11 @@
 -- The answer to a line, and what the line leaves.
 use Rattle.std.specs.Option.{option_map_or}
-use Rattle.std.specs.Prelude.{◌≡◌, ◌⊎◌, [], ◌∷◌, ◌++◌, Bool, true, false, codes, is_err, Result, Ok, Err}
-use Rattle.tr_console.specs.LineFaults.{line_fault_code, line_fault_name}
-use Rattle.tr_console.specs.Text.{Text}
+use Rattle.std.specs.Prelude.{◌≡◌, ◌⊎◌, [], ◌∷◌, ◌++◌, Bool, true, false, is_err, Result, Ok, Err}
+use Rattle.tr_replies.specs.OneLine.{bad_line_text, refusal_text}
+use Rattle.tr_replies.specs.Text.{Text}
 use Rattle.tr_console.specs.World.{World, session_named, with_session}
-use Rattle.tr_console.specs.declared.line_fault.LineFault.{LineFault}
-use Rattle.tr_console.specs.declared.line_fault.LineFault.TheVariants as fault
+use Rattle.tr_replies.specs.declared.line_fault.LineFault.{LineFault}
+use Rattle.tr_replies.specs.declared.line_fault.LineFault.TheVariants as fault
 use Rattle.tr_session.specs.Session.{SessionOf}
 use Rattle.tr_session_book.specs.declared.faults.SessionFault.{SessionFault}
 
@@ -18,14 +18,11 @@ pub record Step (S : Type 0) : Type 0 where
 abbrev pub reply_step : {S : Type 0} → World S → Text → Step S
 reply_step w text = record { world = w; text = text ++ 10 ∷ []; is_refused = false }
 
-abbrev pub refusal_text : LineFault → Text
-refusal_text fault = codes "refused " ++ (line_fault_code fault ++ (32 ∷ line_fault_name fault))
-
 abbrev pub refusal_step : {S : Type 0} → World S → LineFault → Step S
 refusal_step w fault = record { world = w; text = refusal_text fault ++ 10 ∷ []; is_refused = true }
 
 abbrev pub bad_line_step : {S : Type 0} → World S → Step S
-bad_line_step w = record { world = w; text = codes "bad line" ++ 10 ∷ []; is_refused = true }
+bad_line_step w = record { world = w; text = bad_line_text ++ 10 ∷ []; is_refused = true }
 
 abbrev pub skipped_step : {S : Type 0} → World S → Step S
 skipped_step w = record { world = w; text = []; is_refused = false }

@@ -2,7 +2,7 @@
 use Rattle.std.specs.Map.{lookup, set_value}
 use Rattle.std.specs.Prelude.{List, [], Option}
 use Rattle.std.specs.Str.{bytes_eq}
-use Rattle.tr_console.specs.Text.{Text}
+use Rattle.tr_replies.specs.Text.{Text}
 use Rattle.tr_events.specs.Events.{Event}
 use Rattle.tr_session.specs.Session.{SessionOf}
 

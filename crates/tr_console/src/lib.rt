@@ -29,7 +29,6 @@
 
 mod commands;
 mod console;
-mod line_fault;
 mod outbox;
 mod replies;
 mod script;

@@ -20,7 +20,7 @@ pub(crate) struct Outbox<A: Allocator = Global> {
 
 impl<A: Allocator> Model for Outbox<A> {
     ghost use Rattle.std.specs.Prelude.{◌≡◌, ◌≤◌, take, vec_len};
-    ghost use Rattle.tr_console.specs.Text.{Text};
+    ghost use Rattle.tr_replies.specs.Text.{Text};
     ghost use Rattle.tr_terms.specs.declared.limits.TheConstants.{LONGEST_PIECE};
 
     ghost Value = { Text };

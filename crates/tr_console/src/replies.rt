@@ -1,27 +1,13 @@
 //! The answers to lines, as texts.
 
 ghost use Rattle.std.specs.Prelude.{◌≡◌, ◌∷◌, ◌++◌, [], true, false, Ok, Err, IfOk, OnOk, codes, is_err};
-ghost use Rattle.std.specs.Fmt.{decimal};
-ghost use Rattle.std.specs.String.{string_bytes};
-ghost use Rattle.tr_console.specs.LineFaults.{HasMemory, wants_memory};
-ghost use Rattle.tr_console.specs.Replies.{said, text_bytes, text_or_refusal, words_and_numbers};
-ghost use Rattle.tr_console.specs.Steps.{refusal_text};
+ghost use Rattle.tr_replies.specs.LineFaults.{HasMemory, wants_memory};
+ghost use Rattle.tr_console.specs.Replies.{said, text_or_refusal};
+ghost use Rattle.tr_replies.specs.Words.{text_bytes};
+ghost use Rattle.tr_replies.specs.OneLine.{refusal_text};
 
-use crate::line_fault::LineFault;
-use itoa::Buffer;
 use std::alloc::{AllocError, Allocator, Global};
-
-/// How many bytes most answers with numbers have at most.
-const USUAL_LENGTH: usize = 64;
-
-/// The text of an answer, with its newlines.
-#[derive(Drop)]
-pub(crate) enum ReplyText<A: Allocator = Global> {
-    /// One that every such answer has. It takes no memory.
-    Constant(&'static str),
-    /// One that is written for this answer.
-    Written(String<A>),
-}
+use tr_replies::{LineFault, ReplyText, refusal_line};
 
 /// The answer to a line: its text, with its newlines, and whether it says that the line was refused.
 #[derive(Drop)]
@@ -37,10 +23,7 @@ impl<A: Allocator> Reply<A> {
     pub(crate) fn text(&self) -> &str
         ensures { result.now ≡ said self.now }
     {
-        match &self.text {
-            ReplyText::Constant(text) => text,
-            ReplyText::Written(text) => text.as_str(),
-        }
+        self.text.as_str()
     }
 
     /// Whether the line was refused, or was a bad one.
@@ -73,31 +56,6 @@ impl<A: Allocator> Reply<A> {
     }
 }
 
-/// Adds a number in decimal.
-fn push_number<A: Allocator>(text: &mut String<A>, number: u64) -> Result<(), AllocError>
-    ensures { OnOk result (string_bytes text.new ≡ string_bytes text.old ++ decimal number) }
-{
-    let mut digits = Buffer::new();
-    text.push_str(digits.format(number))
-}
-
-/// A line of words, with a number after each of them. Few are longer than what is asked for at first.
-pub(crate) fn words_and_numbers<A: Allocator>(
-    alloc: A,
-    parts: &[(&str, u64)],
-) -> Result<String<A>, AllocError>
-    ensures { IfOk result (λ t. string_bytes t ≡ words_and_numbers parts.now ++ 10 ∷ []) }
-{
-    let mut text = String::with_capacity(alloc, USUAL_LENGTH)?;
-    'parts: for part in parts {
-        let (words, number) = *part;
-        text.push_str(words)?;
-        push_number(&mut text, number)?;
-    }
-    text.push('\n')?;
-    Ok(text)
-}
-
 /// The answer to a line that was refused. If an allocation failed there is none.
 pub(crate) fn refusal<A: Allocator + Copy>(
     alloc: A,
@@ -110,9 +68,7 @@ pub(crate) fn refusal<A: Allocator + Copy>(
     if fault.wants_memory() {
         return Err(AllocError);
     }
-    let code = fault.code();
-    let name = fault.name();
-    let text = format!(in alloc; "refused {code} {name}\n")?;
+    let text = refusal_line(alloc, fault)?;
     Ok(Reply::refused(ReplyText::Written(text)))
 }
 

@@ -3,10 +3,11 @@ use Rattle.std.proofs.Common.{List, [], ap, codes, length, refl, ℕ, ℤ, ◌++
 use Rattle.std.specs.Fmt.{decimal}
 use Rattle.tr_console.proofs.WorldAgreement.{StepsAgree, at-agree}
 use Rattle.tr_console.specs.Agreement.{WorldsAgree}
-use Rattle.tr_console.specs.Text.{Text}
+use Rattle.tr_replies.specs.Text.{Text}
 use Rattle.tr_console.specs.World.{World}
-use Rattle.tr_console.specs.commands.Archives.{archive_line, archive_lines, archives_step, archives_text, lines_or_none, released_mark}
-use Rattle.tr_console.specs.commands.Rotate.{archive_text}
+use Rattle.tr_console.specs.commands.Archives.{archive_line, archive_lines, archives_step, archives_text, lines_or_none}
+use Rattle.tr_replies.specs.Archives.{released_mark}
+use Rattle.tr_replies.specs.OneLine.{archive_text}
 use Rattle.tr_session.proofs.Agreement.{same-archive_bytes, same-archive_packets, same-archive_released, same-length}
 use Rattle.tr_session.specs.Agreement.{SessionsAgree}
 use Rattle.tr_session.specs.Session.{SessionOf}

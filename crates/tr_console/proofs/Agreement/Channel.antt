@@ -3,10 +3,10 @@ use Rattle.std.proofs.Common.{Bool, codes, cond, false, refl, true, ℕ, ◌++�
 use Rattle.tr_console.proofs.WorldAgreement.{StepsAgree, at-agree, settled-agree}
 use Rattle.tr_console.specs.Agreement.{WorldsAgree}
 use Rattle.tr_console.specs.Steps.{addition_step, refusal_step}
-use Rattle.tr_console.specs.Text.{Text}
+use Rattle.tr_replies.specs.Text.{Text}
 use Rattle.tr_console.specs.World.{World}
 use Rattle.tr_console.specs.commands.Channel.{channel_step}
-use Rattle.tr_console.specs.declared.line_fault.LineFault.TheVariants.{BadName}
+use Rattle.tr_replies.specs.declared.line_fault.LineFault.TheVariants.{BadName}
 use Rattle.tr_session.proofs.Agreement.{agree-channel}
 use Rattle.tr_session.specs.Agreement.{SessionsAgree}
 use Rattle.tr_session.specs.Session.{SessionOf}

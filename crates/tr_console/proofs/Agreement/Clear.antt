@@ -2,10 +2,11 @@
 use Rattle.std.proofs.Common.{ap}
 use Rattle.tr_console.proofs.WorldAgreement.{StepsAgree, answered-agree, at-agree}
 use Rattle.tr_console.specs.Agreement.{WorldsAgree}
-use Rattle.tr_console.specs.LineFaults.{from_session}
-use Rattle.tr_console.specs.Text.{Text}
+use Rattle.tr_replies.specs.LineFaults.{from_session}
+use Rattle.tr_replies.specs.Text.{Text}
 use Rattle.tr_console.specs.World.{World}
-use Rattle.tr_console.specs.commands.Clear.{clear_step, cleared_text}
+use Rattle.tr_console.specs.commands.Clear.{clear_step}
+use Rattle.tr_replies.specs.OneLine.{cleared_text}
 use Rattle.tr_session.proofs.ClearAgreement.{agree-clear_all, same-clear_all}
 use Rattle.tr_session.specs.Steps.{session_after_clear_all}
 use Rattle.tr_stream.specs.Rules.{Traced, by_history, by_state}

@@ -2,8 +2,8 @@
 use Rattle.std.proofs.Common.{ap, ℕ}
 use Rattle.tr_console.proofs.WorldAgreement.{StepsAgree, answered-agree, at-agree}
 use Rattle.tr_console.specs.Agreement.{WorldsAgree}
-use Rattle.tr_console.specs.LineFaults.{from_step}
-use Rattle.tr_console.specs.Text.{Text}
+use Rattle.tr_replies.specs.LineFaults.{from_step}
+use Rattle.tr_replies.specs.Text.{Text}
 use Rattle.tr_console.specs.World.{World}
 use Rattle.tr_console.specs.commands.Consume.{consume_step, taken_text}
 use Rattle.tr_session.proofs.Agreement.{agree-take, same-take}

@@ -3,7 +3,7 @@ use Rattle.std.proofs.Common.{Bool, List, None, Option, Some, ap, false, is_some
 use Rattle.std.specs.Prelude.{nat_le}
 use Rattle.tr_console.proofs.WorldAgreement.{StepsAgree, found-agree, same-found, worlds-length, worlds-push}
 use Rattle.tr_console.specs.Agreement.{WorldsAgree}
-use Rattle.tr_console.specs.Text.{Text}
+use Rattle.tr_replies.specs.Text.{Text}
 use Rattle.tr_console.specs.World.{World, session_named}
 use Rattle.tr_console.specs.commands.Create.{create_named_step, create_step}
 use Rattle.tr_session.specs.Agreement.{SessionsAgree}

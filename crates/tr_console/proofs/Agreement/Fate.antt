@@ -2,11 +2,12 @@
 use Rattle.std.proofs.Common.{[], ap, is_err, ℕ, ◌++◌, ◌∷◌}
 use Rattle.tr_console.proofs.WorldAgreement.{StepsAgree, at-agree}
 use Rattle.tr_console.specs.Agreement.{WorldsAgree}
-use Rattle.tr_console.specs.LineFaults.{from_step}
+use Rattle.tr_replies.specs.LineFaults.{from_step}
 use Rattle.tr_console.specs.Steps.{line_of}
-use Rattle.tr_console.specs.Text.{Text}
+use Rattle.tr_replies.specs.Text.{Text}
 use Rattle.tr_console.specs.World.{World}
-use Rattle.tr_console.specs.commands.Fate.{fate_step, fate_text}
+use Rattle.tr_console.specs.commands.Fate.{fate_step}
+use Rattle.tr_replies.specs.OneLine.{fate_text}
 use Rattle.tr_session.proofs.Agreement.{same-fate}
 use Rattle.tr_stream.specs.Rules.{Traced, by_history, by_state}
 use Rattle.tr_stream.specs.State.{StreamState}

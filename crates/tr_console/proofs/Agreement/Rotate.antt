@@ -2,10 +2,11 @@
 use Rattle.std.proofs.Common.{Result, ap, ap₂, ℕ, ◌≡◌}
 use Rattle.tr_console.proofs.WorldAgreement.{StepsAgree, answered-agree, at-agree}
 use Rattle.tr_console.specs.Agreement.{WorldsAgree}
-use Rattle.tr_console.specs.LineFaults.{from_session, from_step}
-use Rattle.tr_console.specs.Text.{Text}
+use Rattle.tr_replies.specs.LineFaults.{from_session, from_step}
+use Rattle.tr_replies.specs.Text.{Text}
 use Rattle.tr_console.specs.World.{World}
-use Rattle.tr_console.specs.commands.Rotate.{archive_named, archived_text, next_text, rotate_begin_step, rotate_finish_step, rotate_next_step, rotate_step, rotating_text}
+use Rattle.tr_console.specs.commands.Rotate.{archive_named, next_text, rotate_begin_step, rotate_finish_step, rotate_next_step, rotate_step, rotating_text}
+use Rattle.tr_replies.specs.OneLine.{archived_text}
 use Rattle.tr_session.proofs.Agreement.{agree-begun, agree-finished, agree-next, agree-rotate, same-next, same-rotate}
 use Rattle.tr_session.specs.Agreement.{SessionsAgree}
 use Rattle.tr_session.specs.Session.{SessionOf}

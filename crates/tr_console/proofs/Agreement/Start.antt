@@ -2,10 +2,11 @@
 use Rattle.std.proofs.Common.{ap, ℕ}
 use Rattle.tr_console.proofs.WorldAgreement.{StepsAgree, answered-agree, at-agree}
 use Rattle.tr_console.specs.Agreement.{WorldsAgree}
-use Rattle.tr_console.specs.LineFaults.{from_session}
-use Rattle.tr_console.specs.Text.{Text}
+use Rattle.tr_replies.specs.LineFaults.{from_session}
+use Rattle.tr_replies.specs.Text.{Text}
 use Rattle.tr_console.specs.World.{World}
-use Rattle.tr_console.specs.commands.Start.{start_step, started_text, stop_step, stopped_text}
+use Rattle.tr_console.specs.commands.Start.{start_step, stop_step}
+use Rattle.tr_replies.specs.OneLine.{started_text, stopped_text}
 use Rattle.tr_session.proofs.Agreement.{agree-started, agree-stopped}
 use Rattle.tr_session.specs.Steps.{session_after_start, session_after_stop}
 use Rattle.tr_session_book.specs.BookSteps.{book_start_answer, book_stop_answer}

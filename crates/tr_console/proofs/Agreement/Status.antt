@@ -2,9 +2,10 @@
 use Rattle.std.proofs.Common.{List, [], ap, refl, ℕ, ◌++◌, ◌+◌, ◌∙◌, ◌∷◌, ◌≡◌}
 use Rattle.tr_console.proofs.WorldAgreement.{StepsAgree, at-agree}
 use Rattle.tr_console.specs.Agreement.{WorldsAgree}
-use Rattle.tr_console.specs.Text.{Text}
+use Rattle.tr_replies.specs.Text.{Text}
 use Rattle.tr_console.specs.World.{World}
-use Rattle.tr_console.specs.commands.Status.{status_head, status_line, status_row, status_rows, status_step, status_text}
+use Rattle.tr_console.specs.commands.Status.{status_rows, status_step, status_text}
+use Rattle.tr_replies.specs.Status.{status_head, status_line, status_row}
 use Rattle.tr_session.proofs.ClearAgreement.{same-all_cleared}
 use Rattle.tr_session.specs.Agreement.{AllAgree, SessionsAgree}
 use Rattle.tr_session.specs.Session.{SessionOf}

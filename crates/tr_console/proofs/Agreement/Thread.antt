@@ -4,7 +4,7 @@ use Rattle.std.specs.Fmt.{decimal}
 use Rattle.tr_console.proofs.WorldAgreement.{StepsAgree, at-agree, settled-agree}
 use Rattle.tr_console.specs.Agreement.{WorldsAgree}
 use Rattle.tr_console.specs.Steps.{addition_step}
-use Rattle.tr_console.specs.Text.{Text}
+use Rattle.tr_replies.specs.Text.{Text}
 use Rattle.tr_console.specs.World.{World}
 use Rattle.tr_console.specs.commands.Thread.{thread_step}
 use Rattle.tr_session.proofs.Agreement.{agree-thread, same-length}

@@ -2,12 +2,12 @@
 use Rattle.std.proofs.Common.{◌∙◌, Err, Ok, Result, ap, refl, ℕ, ◌≡◌}
 use Rattle.tr_console.proofs.WorldAgreement.{StepsAgree, answered-agree, at-agree}
 use Rattle.tr_console.specs.Agreement.{WorldsAgree}
-use Rattle.tr_console.specs.Text.{Text}
+use Rattle.tr_replies.specs.Text.{Text}
 use Rattle.tr_console.specs.World.{World}
 use Rattle.tr_console.specs.commands.Tick.{tick_step, tick_text, tick_told}
 use Rattle.tr_console.specs.declared.commands.tick.TickTold.TheVariants as told
 use Rattle.tr_console.specs.declared.commands.tick.TickTold.{TickTold}
-use Rattle.tr_console.specs.declared.line_fault.LineFault.{LineFault}
+use Rattle.tr_replies.specs.declared.line_fault.LineFault.{LineFault}
 use Rattle.tr_session.proofs.Agreement.{agree-tick, same-tick}
 use Rattle.tr_session.specs.Agreement.{SessionsAgree}
 use Rattle.tr_session.specs.Session.{SessionOf}

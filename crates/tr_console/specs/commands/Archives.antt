@@ -1,27 +1,19 @@
 -- `archives`: the archives of a session, a line for each.
-use Rattle.std.specs.Fmt.{decimal}
-use Rattle.std.specs.Prelude.{List, [], codes, false, if◌then◌else◌, length, not, ℕ, ◌++◌, ◌==◌, ◌&&◌, ◌∷◌}
+use Rattle.std.specs.Prelude.{List, [], false, length, ◌++◌, ◌∷◌}
 use Rattle.tr_console.specs.Steps.{Step, session_step}
-use Rattle.tr_console.specs.Text.{Text}
 use Rattle.tr_console.specs.World.{World}
-use Rattle.tr_console.specs.commands.Rotate.{archive_text}
+use Rattle.tr_replies.specs.Archives.{archive_row, no_archives}
+use Rattle.tr_replies.specs.Text.{Text}
 use Rattle.tr_session.specs.Session.{SessionOf}
 use Rattle.tr_session.specs.Sizes.{archive_bytes, archive_packets, archive_released}
 use Rattle.tr_session_book.specs.declared.archive.Archive.{Archive}
 use Rattle.tr_stream.specs.Rules.{StreamRules}
 
--- what the line of an archive ends with, by how many streams there are and of how many its part is released: of all, if there
--- are any
-abbrev pub released_mark : ℕ → ℕ → Text
-released_mark streams released = if not (streams == 0) && (released == streams) then codes " released" else []
-
 -- the line of an archive: how many packets it got over all streams, how many bytes, and whether it was released
 abbrev pub archive_line : {S : Type 0} → StreamRules S → SessionOf S → Archive → Text
 archive_line rules s archive =
-    archive_text s.book.offset archive
-    ++ (codes " packets " ++ (decimal (archive_packets rules archive.id s)
-    ++ (codes " bytes " ++ (decimal (archive_bytes rules archive.id s)
-    ++ released_mark (length s.streams) (archive_released rules archive.id s)))))
+    archive_row s.book.offset archive (archive_packets rules archive.id s) (archive_bytes rules archive.id s) (length s.streams)
+    (archive_released rules archive.id s)
 
 -- the lines of archives, each with its newline
 abbrev pub archive_lines : {S : Type 0} → StreamRules S → SessionOf S → List Archive → Text
@@ -30,7 +22,7 @@ archive_lines rules s (archive ∷ archives) = archive_line rules s archive ++ (
 
 -- a line for each archive, or one that says that there is none
 abbrev pub lines_or_none : {S : Type 0} → StreamRules S → SessionOf S → List Archive → Text
-lines_or_none rules s [] = codes "none" ++ 10 ∷ []
+lines_or_none rules s [] = no_archives ++ 10 ∷ []
 lines_or_none rules s (archive ∷ archives) = archive_lines rules s (archive ∷ archives)
 
 -- the answer about archives, with its newlines

@@ -1,17 +1,13 @@
 -- `clear`: what rings and current parts hold is removed.
-use Rattle.std.specs.Fmt.{decimal}
-use Rattle.std.specs.Prelude.{Some, codes, ℕ, ◌++◌, ◌≡◌, ◌⊎◌}
-use Rattle.tr_console.specs.LineFaults.{from_session}
+use Rattle.std.specs.Prelude.{Some, ◌≡◌, ◌⊎◌}
+use Rattle.tr_replies.specs.LineFaults.{from_session}
 use Rattle.tr_console.specs.Steps.{Step, call_step, session_step}
-use Rattle.tr_console.specs.Text.{Text}
+use Rattle.tr_replies.specs.OneLine.{cleared_text}
+use Rattle.tr_replies.specs.Text.{Text}
 use Rattle.tr_console.specs.World.{World, session_named, with_session}
 use Rattle.tr_session.specs.Session.{SessionOf}
 use Rattle.tr_session.specs.Steps.{IsClearedSome, session_after_clear_all, session_clear_all_answer}
 use Rattle.tr_stream.specs.Rules.{StreamRules}
-
--- how many records a clear removed
-abbrev pub cleared_text : ℕ → Text
-cleared_text records = codes "cleared " ++ decimal records
 
 abbrev pub clear_step : {S : Type 0} → StreamRules S → World S → Text → Step S
 clear_step rules w name =

@@ -1,9 +1,9 @@
 -- `consume`: a take of the oldest packet of a stream.
 use Rattle.std.specs.Fmt.{decimal}
 use Rattle.std.specs.Prelude.{codes, ℕ, ◌++◌}
-use Rattle.tr_console.specs.LineFaults.{from_step}
+use Rattle.tr_replies.specs.LineFaults.{from_step}
 use Rattle.tr_console.specs.Steps.{Step, call_step, session_step}
-use Rattle.tr_console.specs.Text.{Text}
+use Rattle.tr_replies.specs.Text.{Text}
 use Rattle.tr_console.specs.World.{World}
 use Rattle.tr_session.specs.Steps.{session_after_take, session_take_answer}
 use Rattle.tr_stream.specs.Rules.{StreamRules}

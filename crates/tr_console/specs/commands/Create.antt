@@ -2,9 +2,9 @@
 use Rattle.std.specs.Option.{option_map_or}
 use Rattle.std.specs.Prelude.{ℕ, ℤ, List, [], ◌∷◌, ◌++◌, Bool, true, false, nat_le, length, is_some, codes, if◌then◌else◌}
 use Rattle.tr_console.specs.Steps.{Step, reply_step, refusal_step}
-use Rattle.tr_console.specs.Text.{Text}
+use Rattle.tr_replies.specs.Text.{Text}
 use Rattle.tr_console.specs.World.{World, session_named, world_of}
-use Rattle.tr_console.specs.declared.line_fault.LineFault.TheVariants as fault
+use Rattle.tr_replies.specs.declared.line_fault.LineFault.TheVariants as fault
 use Rattle.tr_session.specs.Session.{SessionOf, declaring, new_session}
 use Rattle.tr_session_book.specs.declared.faults.SessionFault.TheVariants.{TooMany, NameTaken}
 use Rattle.tr_terms.specs.Names.{is_name}

@@ -1,9 +1,9 @@
 -- `offer`: a record for a stream.
 use Rattle.std.specs.Fmt.{decimal}
 use Rattle.std.specs.Prelude.{List, codes, replicate, ℕ, ◌++◌, ◌∷◌}
-use Rattle.tr_console.specs.LineFaults.{from_step}
+use Rattle.tr_replies.specs.LineFaults.{from_step}
 use Rattle.tr_console.specs.Steps.{Step, call_step, session_step}
-use Rattle.tr_console.specs.Text.{Text}
+use Rattle.tr_replies.specs.Text.{Text}
 use Rattle.tr_console.specs.World.{World}
 use Rattle.tr_session.specs.Steps.{session_after_offer, session_offer_answer}
 use Rattle.tr_stream.specs.Rules.{StreamRules}

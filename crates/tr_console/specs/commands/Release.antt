@@ -1,17 +1,13 @@
 -- `release`: an archive gives up its bytes.
-use Rattle.std.specs.Fmt.{decimal}
-use Rattle.std.specs.Prelude.{Some, codes, ℕ, ◌++◌, ◌≡◌, ◌⊎◌}
-use Rattle.tr_console.specs.LineFaults.{from_session}
+use Rattle.std.specs.Prelude.{Some, ℕ, ◌≡◌, ◌⊎◌}
+use Rattle.tr_replies.specs.LineFaults.{from_session}
 use Rattle.tr_console.specs.Steps.{Step, call_step, session_step}
-use Rattle.tr_console.specs.Text.{Text}
+use Rattle.tr_replies.specs.OneLine.{released_text}
+use Rattle.tr_replies.specs.Text.{Text}
 use Rattle.tr_console.specs.World.{World, session_named, with_session}
 use Rattle.tr_session.specs.Session.{SessionOf}
 use Rattle.tr_session.specs.Steps.{IsReleasedSome, session_after_release_all, session_release_all_answer}
 use Rattle.tr_stream.specs.Rules.{StreamRules}
-
--- the number of the archive that was released
-abbrev pub released_text : ℕ → Unit {0} → Text
-released_text archive done = codes "released " ++ decimal archive
 
 abbrev pub release_step : {S : Type 0} → StreamRules S → World S → Text → ℕ → Step S
 release_step rules w name archive =

@@ -1,14 +1,14 @@
 -- `rotate`, and its steps `rotate-begin`, `rotate-next` and `rotate-finish`.
 use Rattle.std.specs.Fmt.{decimal}
-use Rattle.std.specs.Prelude.{Err, Ok, Result, Some, codes, ℕ, ℤ, ◌++◌, ◌∷◌, ◌≡◌, ◌⊎◌}
-use Rattle.tr_chunk.specs.ArchiveName.{archive_name_text}
-use Rattle.tr_console.specs.LineFaults.{from_session, from_step}
+use Rattle.std.specs.Prelude.{Err, Ok, Result, Some, codes, ℕ, ℤ, ◌++◌, ◌≡◌, ◌⊎◌}
+use Rattle.tr_replies.specs.LineFaults.{from_session, from_step}
 use Rattle.tr_console.specs.Steps.{Step, call_step, session_step}
-use Rattle.tr_console.specs.Text.{Text}
+use Rattle.tr_replies.specs.OneLine.{archived_text}
+use Rattle.tr_replies.specs.Text.{Text}
 use Rattle.tr_console.specs.World.{World, session_named, with_session}
-use Rattle.tr_console.specs.declared.commands.rotate.NamedArchive.{NamedArchive}
-use Rattle.tr_console.specs.declared.line_fault.LineFault.TheVariants.{Session}
-use Rattle.tr_console.specs.declared.line_fault.LineFault.{LineFault}
+use Rattle.tr_replies.specs.declared.one_line.NamedArchive.{NamedArchive}
+use Rattle.tr_replies.specs.declared.line_fault.LineFault.TheVariants.{Session}
+use Rattle.tr_replies.specs.declared.line_fault.LineFault.{LineFault}
 use Rattle.tr_session.specs.Session.{SessionOf}
 use Rattle.tr_session.specs.Steps.{IsHeldUp, session_after_next, session_after_rotate, session_after_rotate_begin, session_after_rotate_finish, session_next_answer, session_rotate_answer}
 use Rattle.tr_session.specs.declared.rotation.Next.TheVariants as next
@@ -28,14 +28,6 @@ rotating_text id = codes "rotating " ++ decimal id
 abbrev pub next_text : Next → Text
 next_text (next.Cut stream records) = codes "cut " ++ (decimal stream ++ (codes " records " ++ decimal records))
 next_text next.AllCut = codes "all cut"
-
--- the number of an archive and its name, by a clock this number of minutes ahead of UTC
-abbrev pub archive_text : ℤ → Archive → Text
-archive_text offset archive = decimal archive.id ++ (32 ∷ archive_name_text archive.begin archive.end offset archive.id)
-
--- the archive that a rotation made
-abbrev pub archived_text : NamedArchive → Text
-archived_text named = codes "archived " ++ archive_text named.offset named.archive
 
 -- an archive that a session made, with what its name needs: by how many minutes its clock is ahead of UTC
 abbrev pub archive_named : ℤ → Result Archive SessionFault → Result NamedArchive LineFault

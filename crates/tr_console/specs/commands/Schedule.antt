@@ -1,10 +1,11 @@
 -- `schedule`: when rotations are due.
-use Rattle.std.specs.Prelude.{Err, None, Ok, Option, Result, Some, codes, ℕ}
+use Rattle.std.specs.Prelude.{Err, None, Ok, Option, Result, Some, ℕ}
 use Rattle.tr_console.specs.Steps.{Step, call_step, session_step}
-use Rattle.tr_console.specs.Text.{Text}
+use Rattle.tr_replies.specs.OneLine.{schedule_text}
+use Rattle.tr_replies.specs.Text.{Text}
 use Rattle.tr_console.specs.World.{World}
-use Rattle.tr_console.specs.declared.line_fault.LineFault.TheVariants.{Schedule, Session}
-use Rattle.tr_console.specs.declared.line_fault.LineFault.{LineFault}
+use Rattle.tr_replies.specs.declared.line_fault.LineFault.TheVariants.{Schedule, Session}
+use Rattle.tr_replies.specs.declared.line_fault.LineFault.{LineFault}
 use Rattle.tr_schedule.specs.Schedules.{ScheduleState, schedule_of}
 use Rattle.tr_schedule.specs.declared.faults.ScheduleFault.{ScheduleFault}
 use Rattle.tr_session.specs.Session.{SessionOf}
@@ -31,11 +32,6 @@ schedule_set (Ok done) (Ok schedule) = Ok schedule
 abbrev pub after_schedule_asked : {S : Type 0} → Result (Option ScheduleState) ScheduleFault → SessionOf S → SessionOf S
 after_schedule_asked (Err why) s = s
 after_schedule_asked (Ok schedule) s = record s { book = book_after_schedule schedule s.book }
-
--- that a schedule was set, or that there is none now
-abbrev pub schedule_text : Option ScheduleState → Text
-schedule_text None = codes "schedule off"
-schedule_text (Some schedule) = codes "schedule set"
 
 abbrev pub schedule_step : {S : Type 0} → World S → Text → Option ℕ → Option ℕ → Step S
 schedule_step w name every size =

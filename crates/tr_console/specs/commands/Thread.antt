@@ -2,7 +2,7 @@
 use Rattle.std.specs.Fmt.{decimal}
 use Rattle.std.specs.Prelude.{◌++◌, codes, length}
 use Rattle.tr_console.specs.Steps.{Step, addition_step, session_step}
-use Rattle.tr_console.specs.Text.{Text}
+use Rattle.tr_replies.specs.Text.{Text}
 use Rattle.tr_console.specs.World.{World}
 use Rattle.tr_session.specs.Steps.{session_add_thread}
 use Rattle.tr_stream.specs.Rules.{StreamRules}

@@ -1,13 +1,13 @@
 -- `tick`: a rotation, if one is due.
 use Rattle.std.specs.Prelude.{Err, Ok, Result, codes, ℕ, ◌++◌, ◌∷◌}
 use Rattle.tr_console.specs.Steps.{Step, call_step, session_step}
-use Rattle.tr_console.specs.Text.{Text}
+use Rattle.tr_replies.specs.Text.{Text}
 use Rattle.tr_console.specs.World.{World}
-use Rattle.tr_console.specs.commands.Rotate.{archive_text}
+use Rattle.tr_replies.specs.OneLine.{archive_text}
 use Rattle.tr_console.specs.declared.commands.tick.TickTold.TheVariants as told
 use Rattle.tr_console.specs.declared.commands.tick.TickTold.{TickTold}
-use Rattle.tr_console.specs.declared.line_fault.LineFault.TheVariants.{Session}
-use Rattle.tr_console.specs.declared.line_fault.LineFault.{LineFault}
+use Rattle.tr_replies.specs.declared.line_fault.LineFault.TheVariants.{Session}
+use Rattle.tr_replies.specs.declared.line_fault.LineFault.{LineFault}
 use Rattle.tr_schedule.specs.Due.{cause_word}
 use Rattle.tr_session.specs.Session.{SessionOf}
 use Rattle.tr_session.specs.Steps.{session_after_tick, session_tick_answer}

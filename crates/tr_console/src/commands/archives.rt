@@ -2,32 +2,20 @@
 
 ghost use Rattle.std.specs.Prelude.{◌≡◌, ◌∷◌, ◌++◌, [], IfOk, OnOk};
 ghost use Rattle.std.specs.String.{string_bytes};
-ghost use Rattle.tr_console.specs.Replies.{Does, text_bytes};
-ghost use Rattle.tr_console.specs.commands.Archives.{archive_line, archives_step, archives_text, released_mark};
+ghost use Rattle.tr_console.specs.Replies.{Does};
+ghost use Rattle.tr_replies.specs.Words.{text_bytes};
+ghost use Rattle.tr_console.specs.commands.Archives.{archive_line, archives_step, archives_text};
 ghost use Rattle.tr_stream.specs.Rules.{by_state};
 
 use crate::console::Console;
-use crate::line_fault::LineFault;
-use crate::replies::{Reply, ReplyText, refusal};
+use crate::replies::{Reply, refusal};
 use std::alloc::{AllocError, Allocator};
-use std::fmt::Write;
-use tr_chunk::archive_name;
+use tr_replies::{LineFault, NamedArchive, ReplyText, push_archive};
 use tr_session::Session;
 use tr_session_book::Archive;
 
-/// What the line of an archive ends with, by how many streams there are and of how many its part is released.
-fn released_mark(streams: u64, released: u64) -> &'static str
-    ensures { result.now ≡ released_mark streams released }
-{
-    if streams != 0 && released == streams {
-        " released"
-    } else {
-        ""
-    }
-}
-
 /// Adds the line of an archive.
-fn push_archive<A: Allocator + Copy>(
+fn push_archive_of<A: Allocator + Copy>(
     text: &mut String<A>,
     alloc: A,
     session: &Session<A>,
@@ -36,17 +24,12 @@ fn push_archive<A: Allocator + Copy>(
     ensures { OnOk result (string_bytes text.new ≡ string_bytes text.old
         ++ (archive_line by_state session.now archive.now ++ 10 ∷ [])) }
 {
-    let id = archive.id;
-    let offset = session.book().offset();
-    let name = archive_name(alloc, archive.begin, archive.end, offset, id)?;
-    let size = session.archive_size(id);
-    let packets = size.packets;
-    let bytes = size.bytes;
-    let mark = released_mark(session.streams(), size.released);
-    match write!(text, "{id} {name} packets {packets} bytes {bytes}{mark}\n") {
-        Ok(()) => Ok(()),
-        Err(_) => Err(AllocError),
-    }
+    let named = NamedArchive {
+        archive: *archive,
+        offset: session.book().offset(),
+    };
+    let size = session.archive_size(archive.id);
+    push_archive(text, alloc, named, size, session.streams())
 }
 
 /// A line for each archive of a session, with its newline, or one that says that there is none.
@@ -62,7 +45,7 @@ fn archives_of<A: Allocator + Copy>(
     }
     let mut text = String::new(alloc);
     'archives: for archive in archives {
-        push_archive(&mut text, alloc, session, archive)?;
+        push_archive_of(&mut text, alloc, session, archive)?;
     }
     Ok(ReplyText::Written(text))
 }

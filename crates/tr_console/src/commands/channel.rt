@@ -6,9 +6,9 @@ ghost use Rattle.tr_console.specs.Steps.{IsBeforeOrAfter};
 ghost use Rattle.tr_console.specs.commands.Channel.{channel_step};
 
 use crate::console::Console;
-use crate::line_fault::LineFault;
-use crate::replies::{Reply, ReplyText, refusal};
+use crate::replies::{Reply, refusal};
 use std::alloc::{AllocError, Allocator};
+use tr_replies::{LineFault, ReplyText};
 use tr_terms::{Mode, Name};
 
 /// How the streams of a channel that is asked for are made.

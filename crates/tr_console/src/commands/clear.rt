@@ -1,16 +1,17 @@
 //! `clear`
 
 ghost use Rattle.std.specs.Prelude.{◌≡◌, ◌∷◌, ◌++◌, [], IfOk, OnOk, OnErr, is_err};
-ghost use Rattle.tr_console.specs.LineFaults.{HasMemory};
+ghost use Rattle.tr_replies.specs.LineFaults.{HasMemory};
 ghost use Rattle.tr_console.specs.Replies.{Does, said};
 ghost use Rattle.tr_console.specs.Steps.{line_of};
-ghost use Rattle.tr_console.specs.commands.Clear.{IsClearedSomeOrAfter, clear_step, cleared_text};
+ghost use Rattle.tr_console.specs.commands.Clear.{IsClearedSomeOrAfter, clear_step};
+ghost use Rattle.tr_replies.specs.OneLine.{cleared_text};
 ghost use Rattle.tr_stream.specs.Rules.{by_state};
 
 use crate::console::Console;
-use crate::line_fault::{LineFault, from_session};
-use crate::replies::{Reply, ReplyText, refusal};
+use crate::replies::{Reply, refusal};
 use std::alloc::{AllocError, Allocator};
+use tr_replies::{LineFault, ReplyText, cleared_line, from_session};
 
 /// The answer to a clear. If an allocation failed there is none.
 fn cleared_reply<A: Allocator + Copy>(
@@ -23,7 +24,7 @@ fn cleared_reply<A: Allocator + Copy>(
 {
     match answer {
         Ok(records) => {
-            let text = format!(in alloc; "cleared {records}\n")?;
+            let text = cleared_line(alloc, records)?;
             Ok(Reply::done(ReplyText::Written(text)))
         }
         Err(fault) => refusal(alloc, fault),

@@ -1,16 +1,16 @@
 //! `consume`
 
 ghost use Rattle.std.specs.Prelude.{◌≡◌, ◌∷◌, ◌++◌, [], IfOk, OnOk, OnErr, is_err};
-ghost use Rattle.tr_console.specs.LineFaults.{HasMemory};
+ghost use Rattle.tr_replies.specs.LineFaults.{HasMemory};
 ghost use Rattle.tr_console.specs.Replies.{Does, said};
 ghost use Rattle.tr_console.specs.Steps.{IsBeforeOrAfter, line_of};
 ghost use Rattle.tr_console.specs.commands.Consume.{consume_step, taken_text};
 ghost use Rattle.tr_stream.specs.Rules.{by_state};
 
 use crate::console::Console;
-use crate::line_fault::{LineFault, from_step};
-use crate::replies::{Reply, ReplyText, refusal, words_and_numbers};
+use crate::replies::{Reply, refusal};
 use std::alloc::{AllocError, Allocator};
+use tr_replies::{LineFault, ReplyText, from_step, words_and_numbers};
 use tr_stream::Taken;
 
 /// The answer to a take. If an allocation failed there is none.

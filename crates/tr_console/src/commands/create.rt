@@ -7,9 +7,9 @@ ghost use Rattle.tr_console.specs.commands.Create.{create_step, mode_asked};
 ghost use Rattle.tr_terms.specs.Offsets.{IsOffset};
 
 use crate::console::Console;
-use crate::line_fault::LineFault;
-use crate::replies::{Reply, ReplyText, refusal};
+use crate::replies::{Reply, refusal};
 use std::alloc::{AllocError, Allocator};
+use tr_replies::{LineFault, ReplyText};
 use tr_session::Session;
 use tr_session_book::SessionFault;
 use tr_terms::limits::MOST_SESSIONS;

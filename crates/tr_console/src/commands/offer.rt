@@ -2,17 +2,17 @@
 
 ghost use Rattle.std.specs.Prelude.{◌≡◌, ◌∷◌, ◌++◌, [], IfOk, OnOk, OnErr, is_err};
 ghost use Rattle.std.specs.String.{string_bytes};
-ghost use Rattle.tr_console.specs.LineFaults.{HasMemory};
+ghost use Rattle.tr_replies.specs.LineFaults.{HasMemory};
 ghost use Rattle.tr_console.specs.Replies.{Does, said};
 ghost use Rattle.tr_console.specs.Steps.{IsBeforeOrAfter, line_of};
 ghost use Rattle.tr_console.specs.commands.Offer.{offer_step, offered_text, payload_of};
 ghost use Rattle.tr_stream.specs.Rules.{by_state};
 
 use crate::console::Console;
-use crate::line_fault::{LineFault, from_step};
-use crate::replies::{Reply, ReplyText, refusal, words_and_numbers};
+use crate::replies::{Reply, refusal};
 use std::alloc::{AllocError, Allocator};
 use tr_record::put_bytes;
+use tr_replies::{LineFault, ReplyText, from_step, words_and_numbers};
 use tr_stream::Offered;
 use tr_terms::Moment;
 

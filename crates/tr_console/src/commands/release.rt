@@ -1,16 +1,17 @@
 //! `release`
 
 ghost use Rattle.std.specs.Prelude.{◌≡◌, ◌∷◌, ◌++◌, [], IfOk, OnOk, OnErr, is_err};
-ghost use Rattle.tr_console.specs.LineFaults.{HasMemory};
+ghost use Rattle.tr_replies.specs.LineFaults.{HasMemory};
 ghost use Rattle.tr_console.specs.Replies.{Does, said};
 ghost use Rattle.tr_console.specs.Steps.{line_of};
-ghost use Rattle.tr_console.specs.commands.Release.{IsReleasedSomeOrAfter, release_step, released_text};
+ghost use Rattle.tr_console.specs.commands.Release.{IsReleasedSomeOrAfter, release_step};
+ghost use Rattle.tr_replies.specs.OneLine.{released_text};
 ghost use Rattle.tr_stream.specs.Rules.{by_state};
 
 use crate::console::Console;
-use crate::line_fault::{LineFault, from_session};
-use crate::replies::{Reply, ReplyText, refusal};
+use crate::replies::{Reply, refusal};
 use std::alloc::{AllocError, Allocator};
+use tr_replies::{LineFault, ReplyText, from_session, released_line};
 
 /// The answer to a release of the archive of this number. If an allocation failed there is none.
 fn released_reply<A: Allocator + Copy>(
@@ -25,7 +26,7 @@ fn released_reply<A: Allocator + Copy>(
 {
     match answer {
         Ok(()) => {
-            let text = format!(in alloc; "released {archive}\n")?;
+            let text = released_line(alloc, archive)?;
             Ok(Reply::done(ReplyText::Written(text)))
         }
         Err(fault) => refusal(alloc, fault),

@@ -1,29 +1,20 @@
 //! `rotate`, and its steps `rotate-begin`, `rotate-next` and `rotate-finish`
 
 ghost use Rattle.std.specs.Prelude.{◌≡◌, ◌∷◌, ◌++◌, [], IfOk, OnOk, OnErr, is_err};
-ghost use Rattle.tr_console.specs.LineFaults.{HasMemory};
+ghost use Rattle.tr_replies.specs.LineFaults.{HasMemory};
 ghost use Rattle.tr_console.specs.Replies.{Does, said};
 ghost use Rattle.tr_console.specs.Steps.{IsBeforeOrAfter, line_of};
-ghost use Rattle.tr_console.specs.commands.Rotate.{IsHeldUpOrAfter, archive_named, archived_text, next_text, rotate_begin_step, rotate_finish_step, rotate_next_step, rotate_step, rotating_text};
+ghost use Rattle.tr_console.specs.commands.Rotate.{IsHeldUpOrAfter, archive_named, next_text, rotate_begin_step, rotate_finish_step, rotate_next_step, rotate_step, rotating_text};
+ghost use Rattle.tr_replies.specs.OneLine.{archived_text};
 ghost use Rattle.tr_stream.specs.Rules.{by_state};
 
 use crate::console::Console;
-use crate::line_fault::{LineFault, from_session, from_step};
-use crate::replies::{Reply, ReplyText, refusal};
+use crate::replies::{Reply, refusal};
 use std::alloc::{AllocError, Allocator};
-use tr_chunk::archive_name;
+use tr_replies::{LineFault, NamedArchive, ReplyText, archived_line, from_session, from_step};
 use tr_session::Next;
 use tr_session_book::{Archive, SessionFault};
 use tr_terms::{Moment, OffsetMinutes};
-
-/// An archive, and what else its name needs.
-#[derive(Clone, Copy, Debug, PartialEq, Eq)]
-pub(crate) struct NamedArchive {
-    /// The archive itself.
-    pub(crate) archive: Archive,
-    /// How many minutes the clock of its name is ahead of UTC.
-    pub(crate) offset: OffsetMinutes,
-}
 
 /// The archive that a session made, with what its name needs.
 fn archive_named(
@@ -85,10 +76,8 @@ fn archived_reply<A: Allocator + Copy>(
     ensures memory { OnOk result (HasMemory answer) }
 {
     match answer {
-        Ok(NamedArchive { archive, offset }) => {
-            let id = archive.id;
-            let name = archive_name(alloc, archive.begin, archive.end, offset, id)?;
-            let text = format!(in alloc; "archived {id} {name}\n")?;
+        Ok(named) => {
+            let text = archived_line(alloc, named)?;
             Ok(Reply::done(ReplyText::Written(text)))
         }
         Err(fault) => refusal(alloc, fault),

@@ -1,16 +1,17 @@
 //! `schedule`
 
 ghost use Rattle.std.specs.Prelude.{◌≡◌, ◌∷◌, ◌++◌, [], IfOk, OnOk, OnErr, is_err};
-ghost use Rattle.tr_console.specs.LineFaults.{HasMemory};
+ghost use Rattle.tr_replies.specs.LineFaults.{HasMemory};
 ghost use Rattle.tr_console.specs.Replies.{Does, said};
 ghost use Rattle.tr_console.specs.Steps.{IsBeforeOrAfter, line_of};
-ghost use Rattle.tr_console.specs.commands.Schedule.{after_schedule_asked, schedule_asked, schedule_set, schedule_step, schedule_text};
+ghost use Rattle.tr_console.specs.commands.Schedule.{after_schedule_asked, schedule_asked, schedule_set, schedule_step};
+ghost use Rattle.tr_replies.specs.OneLine.{schedule_text};
 ghost use Rattle.tr_session_book.specs.BookSteps.{book_schedule_answer};
 
 use crate::console::Console;
-use crate::line_fault::LineFault;
-use crate::replies::{Reply, ReplyText, refusal};
+use crate::replies::{Reply, refusal};
 use std::alloc::{AllocError, Allocator};
+use tr_replies::{LineFault, ReplyText};
 use tr_schedule::{Schedule, ScheduleFault};
 use tr_session::Session;
 

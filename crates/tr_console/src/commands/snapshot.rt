@@ -2,80 +2,18 @@
 
 ghost use Rattle.std.specs.Prelude.{◌≡◌, ◌∷◌, ◌++◌, [], IfOk, OnOk, OnErr, is_err};
 ghost use Rattle.std.specs.String.{string_bytes};
-ghost use Rattle.tr_console.specs.LineFaults.{HasMemory};
+ghost use Rattle.tr_replies.specs.LineFaults.{HasMemory};
 ghost use Rattle.tr_console.specs.Replies.{Does, said};
 ghost use Rattle.tr_console.specs.Steps.{IsBeforeOrAfter, line_of};
-ghost use Rattle.tr_console.specs.commands.Snapshot.{packet_line, packet_lines, snapshot_step, snapshot_text, stream_line};
+ghost use Rattle.tr_console.specs.commands.Snapshot.{snapshot_step, snapshot_text};
 ghost use Rattle.tr_stream.specs.Rules.{by_state};
 
 use crate::console::Console;
-use crate::line_fault::{LineFault, from_session};
-use crate::replies::{Reply, ReplyText, refusal};
+use crate::replies::{Reply, refusal};
 use std::alloc::{AllocError, Allocator};
-use std::fmt::Write;
-use tr_book::StreamSnap;
-use tr_packet::PacketView;
-use tr_snapshot::{Snapshot, count};
+use tr_replies::{LineFault, ReplyText, from_session, push_stream, snapshot_begun};
+use tr_snapshot::Snapshot;
 use tr_terms::Moment;
-
-/// Adds the line of a packet.
-fn push_packet<A: Allocator>(
-    text: &mut String<A>,
-    packet: &PacketView<'_>,
-) -> Result<(), AllocError>
-    ensures { OnOk result (string_bytes text.new ≡ string_bytes text.old ++ (10 ∷ packet_line packet.now)) }
-{
-    let seq = packet.head().seq;
-    let count = packet.count();
-    let Some(first) = packet.records().next() else {
-        unreachable!()
-    };
-    let first = first.serial();
-    let last = packet.last_serial();
-    match write!(
-        text,
-        "\npacket {seq} records {count} first {first} last {last}"
-    ) {
-        Ok(()) => Ok(()),
-        Err(_) => Err(AllocError),
-    }
-}
-
-/// Adds the line of a stream without its packets.
-fn push_head<A: Allocator, B: Allocator>(
-    text: &mut String<A>,
-    snap: &StreamSnap<B>,
-) -> Result<(), AllocError>
-    ensures { OnOk result (string_bytes text.new ≡ string_bytes text.old ++ (10 ∷ stream_line snap.now)) }
-{
-    let stream = snap.stream();
-    let offered = snap.offered();
-    let packets = snap.packets().len();
-    let records = count(snap);
-    match write!(
-        text,
-        "\nstream {stream} offered {offered} packets {packets} records {records}"
-    ) {
-        Ok(()) => Ok(()),
-        Err(_) => Err(AllocError),
-    }
-}
-
-/// Adds the line of a stream and those of its packets.
-fn push_stream<A: Allocator, B: Allocator>(
-    text: &mut String<A>,
-    snap: &StreamSnap<B>,
-) -> Result<(), AllocError>
-    ensures { OnOk result (string_bytes text.new ≡ string_bytes text.old
-        ++ (10 ∷ (stream_line snap.now ++ packet_lines snap.now.packets))) }
-{
-    push_head(text, snap)?;
-    let packets = snap.packets();
-    'packets: for packet in packets {
-        push_packet(text, &packet)?;
-    }
-    Ok(())
-}
 
 /// What is said of a snapshot, without the last newline.
 fn snapshot_of<A: Allocator + Copy, B: Allocator>(
@@ -85,7 +23,7 @@ fn snapshot_of<A: Allocator + Copy, B: Allocator>(
     ensures { IfOk result (λ s. string_bytes s ≡ snapshot_text snapshot.now) }
 {
     let moment = snapshot.moment().get();
-    let mut text = format!(in alloc; "snapshot {moment}")?;
+    let mut text = snapshot_begun(alloc, moment)?;
     let streams = snapshot.streams();
     'streams: for snap in streams {
         push_stream(&mut text, snap)?;

@@ -7,9 +7,9 @@ ghost use Rattle.tr_console.specs.commands.Start.{start_step, stop_step};
 ghost use Rattle.tr_stream.specs.Rules.{by_state};
 
 use crate::console::Console;
-use crate::line_fault::{LineFault, from_session};
 use crate::replies::{Reply, done_reply, refusal};
 use std::alloc::{AllocError, Allocator};
+use tr_replies::{LineFault, from_session};
 use tr_terms::Moment;
 
 impl<A: Allocator + Copy> Console<A> {

@@ -7,9 +7,9 @@ ghost use Rattle.tr_console.specs.commands.Thread.{thread_step};
 ghost use Rattle.tr_stream.specs.Rules.{by_state};
 
 use crate::console::Console;
-use crate::line_fault::LineFault;
-use crate::replies::{Reply, ReplyText, refusal};
+use crate::replies::{Reply, refusal};
 use std::alloc::{AllocError, Allocator};
+use tr_replies::{LineFault, ReplyText};
 
 impl<A: Allocator + Copy> Console<A> {
     /// Adds a thread to a channel of the session of this name.

@@ -1,7 +1,7 @@
 //! `tick`
 
 ghost use Rattle.std.specs.Prelude.{◌≡◌, ◌∷◌, ◌++◌, [], true, None, IfOk, IfErr, OnOk, OnErr, is_err, option_and_then};
-ghost use Rattle.tr_console.specs.LineFaults.{HasMemory, wants_memory};
+ghost use Rattle.tr_replies.specs.LineFaults.{HasMemory, wants_memory};
 ghost use Rattle.tr_console.specs.Replies.{Does, said};
 ghost use Rattle.tr_console.specs.Steps.{line_of};
 ghost use Rattle.tr_console.specs.World.{session_named};
@@ -10,12 +10,11 @@ ghost use Rattle.tr_console.specs.commands.Tick.{tick_step, tick_text, tick_told
 ghost use Rattle.tr_session.specs.Steps.{IsHeldUp, session_after_tick, session_tick_answer, tick_cause};
 ghost use Rattle.tr_stream.specs.Rules.{by_state};
 
-use crate::commands::rotate::NamedArchive;
 use crate::console::Console;
-use crate::line_fault::LineFault;
-use crate::replies::{Reply, ReplyText, refusal};
+use crate::replies::{Reply, refusal};
 use std::alloc::{AllocError, Allocator};
 use tr_chunk::archive_name;
+use tr_replies::{LineFault, NamedArchive, ReplyText};
 use tr_schedule::Cause;
 use tr_session::{Session, Ticked};
 use tr_terms::Moment;

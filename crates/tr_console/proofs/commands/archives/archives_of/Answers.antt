@@ -2,7 +2,7 @@ use Rattle.std.proofs.Common.{◌≡◌, ◌∙◌, ◌++◌, [], Some, true≢f
 use Rattle.std.proofs.lemmas.Option.{slice_get_read}
 use Rattle.std.specs.Prelude.{◌==◌, slice_get}
 use Rattle.std.specs.String.{string_bytes}
-use Rattle.tr_console.specs.Text.{Text}
+use Rattle.tr_replies.specs.Text.{Text}
 use Rattle.tr_console.proofs.ArchiveLemmas.{goes_on, ends, told}
 use Rattle.tr_console.proofs.commands.archives.archives_of.Goals as goal
 use Rattle.tr_console.specs.commands.Archives.{archive_lines, lines_or_none}
@@ -20,8 +20,8 @@ archives-preserved g c =
     let i = c.archives.archive-index in
     let got : slice_get archives i ≡ Some c.archive-item.result =
     slice_get_read archives _ i c.archive-item.result refl c.archives-test.true c.archive-item.is in
-    goes_on s archives i c.archive-item.result (string_bytes c.archives.text) (string_bytes c.push_archive.new.text)
-    (archive_lines by_state s archives) got c.archives.invariant c.in_ok-push_archive.ensures
+    goes_on s archives i c.archive-item.result (string_bytes c.archives.text) (string_bytes c.push_archive_of.new.text)
+    (archive_lines by_state s archives) got c.archives.invariant c.in_ok-push_archive_of.ensures
 
 pub returns : goal.returns
 returns g c =

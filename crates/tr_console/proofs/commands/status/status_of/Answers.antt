@@ -1,18 +1,16 @@
-use Rattle.std.proofs.Common.{rules, ◌≡◌, ◌∙◌, Some, ap}
+use Rattle.std.proofs.Common.{rules, ◌≡◌, ◌∙◌, ◌∷◌, ◌++◌, ℕ, Some, ap}
 use Rattle.std.specs.Prelude.{slice_get}
 use Rattle.std.specs.String.{string_bytes}
 use Rattle.tr_console.proofs.StatusLemmas.{begins, goes_on, ends}
 use Rattle.tr_console.proofs.commands.status.status_of.Goals as goal
-use Rattle.tr_console.specs.commands.Status.{status_line}
+use Rattle.tr_replies.specs.Status.{status_head, status_line}
 use Rattle.tr_session_book.specs.Book.{SessionBookState}
 
 pub rows-init : goal.rows-init
 rows-init g c =
-    begins c.args.session.now c.args.name.now (string_bytes c.in_ok-text.text) (string_bytes c.push_str.new.self)
-    (string_bytes c.push_str-2.new.self) (c.in_ok-text.ensures
-    ∙ ap (λ (b : SessionBookState). status_line c.args.name.now b c.cleared.result) c.book.ensures
-    ∙ ap (status_line c.args.name.now c.args.session.now.book) c.cleared.ensures)
-    (rw c.in_ok-push_str.was at c.push_str.ensures.bytes) (rw c.in_ok-push_str-2.was at c.push_str-2.ensures.bytes)
+    begins c.args.session.now c.args.name.now (string_bytes c.in_ok-text.text) (c.in_ok-text.ensures
+    ∙ ap (λ (b : SessionBookState). status_line c.args.name.now b c.cleared.result ++ (10 ∷ status_head)) c.book.ensures
+    ∙ ap (λ (n : ℕ). status_line c.args.name.now c.args.session.now.book n ++ (10 ∷ status_head)) c.cleared.ensures)
 
 pub rows-preserved : goal.rows-preserved
 rows-preserved g c =

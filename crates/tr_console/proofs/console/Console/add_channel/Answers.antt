@@ -1,10 +1,10 @@
 use Rattle.std.proofs.Common.{Err, Some, false, inl, refl, rules, subst, sym, true, ◌≡◌}
 use Rattle.tr_console.proofs.CallLemmas.{on_err, refuses, session_kept, unchanged}
 use Rattle.tr_console.proofs.console.Console.add_channel.Goals as goal
-use Rattle.tr_console.specs.Text.{Text}
+use Rattle.tr_replies.specs.Text.{Text}
 use Rattle.tr_console.specs.World.{session_named, with_session}
 use Rattle.tr_console.specs.commands.Channel.{channel_step}
-use Rattle.tr_console.specs.declared.line_fault.LineFault.TheVariants.{BadName, Session}
+use Rattle.tr_replies.specs.declared.line_fault.LineFault.TheVariants.{BadName, Session}
 use Rattle.tr_session.specs.Steps.{session_add_channel}
 use Rattle.tr_terms.specs.Names.{is_name}
 

@@ -3,10 +3,10 @@ use Rattle.std.specs.Fmt.{decimal}
 use Rattle.tr_console.proofs.CallLemmas.{added-err, at-some, on_err, refuses, session_kept, unchanged}
 use Rattle.tr_console.proofs.console.Console.add_thread.Goals as goal
 use Rattle.tr_console.specs.Steps.{addition_step}
-use Rattle.tr_console.specs.Text.{Text}
+use Rattle.tr_replies.specs.Text.{Text}
 use Rattle.tr_console.specs.World.{session_named, with_session}
 use Rattle.tr_console.specs.commands.Thread.{thread_step}
-use Rattle.tr_console.specs.declared.line_fault.LineFault.TheVariants.{Session}
+use Rattle.tr_replies.specs.declared.line_fault.LineFault.TheVariants.{Session}
 use Rattle.tr_session.specs.Session.{SessionOf}
 use Rattle.tr_session.specs.Steps.{session_add_thread}
 use Rattle.tr_stream.specs.Rules.{by_state}

@@ -2,7 +2,8 @@ use Rattle.std.proofs.Common.{Some, refl, sym, ◌≡◌}
 use Rattle.tr_console.proofs.CallLemmas.{called_session, left_session, on_err}
 use Rattle.tr_console.proofs.console.Console.clear.Goals as goal
 use Rattle.tr_console.specs.World.{session_named, with_session}
-use Rattle.tr_console.specs.commands.Clear.{IsClearedSomeNamed, cleared_text}
+use Rattle.tr_console.specs.commands.Clear.{IsClearedSomeNamed}
+use Rattle.tr_replies.specs.OneLine.{cleared_text}
 use Rattle.tr_session.specs.Steps.{session_after_clear_all, session_clear_all_answer}
 use Rattle.tr_stream.specs.Rules.{by_state}
 

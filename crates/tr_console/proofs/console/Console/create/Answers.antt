@@ -5,10 +5,10 @@ use Rattle.std.specs.Prelude.{nat_le}
 use Rattle.tr_console.proofs.CallLemmas.{refuses}
 use Rattle.tr_console.proofs.CreateLemmas.{create-bad_uuid, create-new, none_copied, none_from}
 use Rattle.tr_console.proofs.console.Console.create.Goals as goal
-use Rattle.tr_console.specs.Text.{Text}
+use Rattle.tr_replies.specs.Text.{Text}
 use Rattle.tr_console.specs.World.{session_named}
 use Rattle.tr_console.specs.commands.Create.{create_step, with_new}
-use Rattle.tr_console.specs.declared.line_fault.LineFault.TheVariants.{BadUuid}
+use Rattle.tr_replies.specs.declared.line_fault.LineFault.TheVariants.{BadUuid}
 use Rattle.tr_session.specs.Session.{declaring, new_session}
 use Rattle.tr_session.proofs.RunLemmas.{declared-new}
 use Rattle.tr_terms.specs.Names.{is_name}

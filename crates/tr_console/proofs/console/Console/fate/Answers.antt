@@ -1,9 +1,9 @@
 use Rattle.std.proofs.Common.{Some, ap, sym, ◌∙◌, ◌≡◌}
 use Rattle.tr_console.proofs.CallLemmas.{asked}
 use Rattle.tr_console.proofs.console.Console.fate.Goals as goal
-use Rattle.tr_console.specs.LineFaults.{from_step}
+use Rattle.tr_replies.specs.LineFaults.{from_step}
 use Rattle.tr_console.specs.World.{session_named}
-use Rattle.tr_console.specs.commands.Fate.{fate_text}
+use Rattle.tr_replies.specs.OneLine.{fate_text}
 use Rattle.tr_session.specs.Steps.{session_fate_answer}
 use Rattle.tr_stream.specs.Rules.{by_state}
 

@@ -1,7 +1,7 @@
 use Rattle.std.proofs.Common.{ℕ, List, Result, Some, ap, inr, sym, ◌∙◌, ◌≡◌}
 use Rattle.tr_console.proofs.CallLemmas.{called, left, on_err}
 use Rattle.tr_console.proofs.console.Console.offer.Goals as goal
-use Rattle.tr_console.specs.LineFaults.{from_step}
+use Rattle.tr_replies.specs.LineFaults.{from_step}
 use Rattle.tr_console.specs.World.{session_named, with_session}
 use Rattle.tr_console.specs.commands.Offer.{offered_text, payload_of}
 use Rattle.tr_session.specs.Session.{SessionOf}

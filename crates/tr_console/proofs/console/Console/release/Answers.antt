@@ -2,7 +2,8 @@ use Rattle.std.proofs.Common.{Some, refl, sym, ◌≡◌}
 use Rattle.tr_console.proofs.CallLemmas.{called_session, left_session, on_err}
 use Rattle.tr_console.proofs.console.Console.release.Goals as goal
 use Rattle.tr_console.specs.World.{session_named, with_session}
-use Rattle.tr_console.specs.commands.Release.{IsReleasedSomeNamed, released_text}
+use Rattle.tr_console.specs.commands.Release.{IsReleasedSomeNamed}
+use Rattle.tr_replies.specs.OneLine.{released_text}
 use Rattle.tr_session.specs.Steps.{session_after_release_all, session_release_all_answer}
 use Rattle.tr_stream.specs.Rules.{by_state}
 

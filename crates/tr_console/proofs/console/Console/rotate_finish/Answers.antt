@@ -3,7 +3,8 @@ use Rattle.tr_console.proofs.CallLemmas.{left, on_err}
 use Rattle.tr_console.proofs.RotateLemmas.{called_archive}
 use Rattle.tr_console.proofs.console.Console.rotate_finish.Goals as goal
 use Rattle.tr_console.specs.World.{session_named, with_session}
-use Rattle.tr_console.specs.commands.Rotate.{archive_named, archived_text}
+use Rattle.tr_console.specs.commands.Rotate.{archive_named}
+use Rattle.tr_replies.specs.OneLine.{archived_text}
 use Rattle.tr_session.specs.Steps.{session_after_rotate_finish}
 use Rattle.tr_session_book.specs.BookSteps.{book_rotate_finish_answer}
 

@@ -2,7 +2,8 @@ use Rattle.std.proofs.Common.{Some, ap, inr, sym, ◌∙◌, ◌≡◌}
 use Rattle.tr_console.proofs.CallLemmas.{called, left, on_err}
 use Rattle.tr_console.proofs.console.Console.schedule.Goals as goal
 use Rattle.tr_console.specs.World.{session_named, with_session}
-use Rattle.tr_console.specs.commands.Schedule.{after_schedule_asked, schedule_asked, schedule_set, schedule_text}
+use Rattle.tr_console.specs.commands.Schedule.{after_schedule_asked, schedule_asked, schedule_set}
+use Rattle.tr_replies.specs.OneLine.{schedule_text}
 use Rattle.tr_session_book.specs.BookSteps.{book_schedule_answer}
 
 pub returns-clause-done : goal.returns-clause-done

@@ -3,7 +3,7 @@ use Rattle.std.specs.Prelude.{slice_get}
 use Rattle.tr_console.proofs.SessionLemmas.{entry-is}
 use Rattle.tr_console.specs.World.{World}
 use Rattle.tr_console.proofs.console.Console.session.Goals as goal
-use Rattle.tr_console.specs.Text.{Text}
+use Rattle.tr_replies.specs.Text.{Text}
 use Rattle.tr_session_book.proofs.NameLemmas.{named-at}
 use Rattle.tr_stream.specs.State.{StreamState}
 use Rattle.tr_terms.specs.Names.{is_name}

@@ -1,9 +1,9 @@
 use Rattle.std.proofs.Common.{Some, codes, inr, refl, sym, ◌≡◌}
 use Rattle.tr_console.proofs.CallLemmas.{called_session, done_text, left, on_err}
 use Rattle.tr_console.proofs.console.Console.start.Goals as goal
-use Rattle.tr_console.specs.LineFaults.{from_session}
+use Rattle.tr_replies.specs.LineFaults.{from_session}
 use Rattle.tr_console.specs.World.{session_named, with_session}
-use Rattle.tr_console.specs.commands.Start.{started_text}
+use Rattle.tr_replies.specs.OneLine.{started_text}
 use Rattle.tr_session.specs.Steps.{session_after_start}
 use Rattle.tr_session_book.specs.BookSteps.{book_start_answer}
 use Rattle.tr_stream.specs.Rules.{by_state}

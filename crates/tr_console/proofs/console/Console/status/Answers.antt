@@ -2,7 +2,7 @@ use Rattle.std.proofs.Common.{◌≡◌, ◌∙◌, ◌∷◌, ◌++◌, [], Som
 use Rattle.tr_console.proofs.CallLemmas.{at-some}
 use Rattle.tr_console.proofs.console.Console.status.Goals as goal
 use Rattle.tr_console.specs.Steps.{reply_step}
-use Rattle.tr_console.specs.Text.{Text}
+use Rattle.tr_replies.specs.Text.{Text}
 use Rattle.tr_console.specs.World.{session_named}
 use Rattle.tr_console.specs.commands.Status.{status_text}
 use Rattle.tr_session.specs.Session.{SessionOf}
