@@ -39,6 +39,7 @@ enum {
     TRC_BAD_OFFSET = 8, /* not from -1,439 to 1,439 minutes */
     TRC_NO_ROOM = 9,    /* the room is too small for the text */
     TRC_NO_PART = 10,   /* the stream has no part of this number */
+    TRC_BAD_NUMBER = 11, /* a number is no refusal's, or no answer's */
     TRC_TOO_MUCH = TRACERD_READ, /* an audit was fed 2^62 bytes, or began 2^62 pieces */
     TRC_MISPLACED = 120 /* S20: the stream isn't one of this book's trace */
 };
@@ -259,6 +260,63 @@ void trc_events_free(trc_events *);
 
 /* DONE if this text is a name, of a session or a channel. BAD_NAME. */
 uint32_t trc_name(const uint8_t *name, size_t len);
+
+/* ---- A shell's lines, and their answers --------------------------------------------------------------------------------- */
+
+/* What a line asks for: nothing (it gets no answer), it is a bad line, it is a command of a script that no live session answers,
+ * or one of the commands that one answers. */
+enum {
+    TRC_ASKS_NOTHING = 0, TRC_ASKS_BADLY = 1, TRC_ASKS_OTHER = 2, TRC_ASKS_STATUS = 3, TRC_ASKS_ARCHIVES = 4, TRC_ASKS_FATE = 5,
+    TRC_ASKS_START = 6, TRC_ASKS_STOP = 7, TRC_ASKS_ROTATE = 8, TRC_ASKS_SNAPSHOT = 9, TRC_ASKS_CLEAR = 10,
+    TRC_ASKS_RELEASE = 11, TRC_ASKS_SCHEDULE = 12
+};
+typedef struct {
+    uint32_t kind;       /* TRC_ASKS_.. */
+    bool is_named;       /* whether its session has the name that is meant; false of the first three kinds */
+    bool is_timed;       /* of `schedule`: whether `every` is given, */
+    bool is_by_size;     /* and whether `size` is */
+    uint64_t moment, stream, serial, archive, every, size; /* 0 if the command has none */
+} trc_asked;
+
+/* Reads a line, without its newline, as a script's is read. `name` is the session's that is meant. NO_MEMORY. */
+uint32_t trc_line_parse(const uint8_t *line, size_t len, const uint8_t *name, size_t name_len, trc_asked *);
+
+/* Answers that have no number of their own. */
+enum {
+    TRC_SAYS_BAD_LINE = 0, TRC_SAYS_SCRIPT_ONLY = 1, TRC_SAYS_STARTED = 2, TRC_SAYS_STOPPED = 3, TRC_SAYS_SCHEDULE_SET = 4,
+    TRC_SAYS_SCHEDULE_OFF = 5, TRC_SAYS_NO_ARCHIVES = 6
+};
+
+/* What follows copies answers, with the newline at their end unless that is said. Each has at most TRC_REPLY bytes. */
+enum { TRC_REPLY = 16384 };
+
+/* One of these. BAD_NUMBER, NO_ROOM. */
+uint32_t trc_reply_said(uint32_t number, uint8_t *room, size_t room_len, uint64_t *copied);
+/* That a line is refused with this number, of a session or a schedule, or with TRC_K_NO_SESSION. BAD_NUMBER, NO_MEMORY,
+ * NO_ROOM. */
+enum { TRC_K_NO_SESSION = 1101 };
+uint32_t trc_reply_refused(uint32_t number, uint8_t *room, size_t room_len, uint64_t *copied);
+/* That this archive was made. CLOSED, S18, NO_MEMORY, NO_ROOM. */
+uint32_t trc_reply_archived(trc_book *, uint64_t id, uint8_t *room, size_t room_len, uint64_t *copied);
+/* How many records were cleared; which archive was released. NO_MEMORY, NO_ROOM. */
+uint32_t trc_reply_cleared(uint64_t records, uint8_t *room, size_t room_len, uint64_t *copied);
+uint32_t trc_reply_released(uint64_t archive, uint8_t *room, size_t room_len, uint64_t *copied);
+/* What became of an offer, as trc_stream_fate says it. BAD_NUMBER: no fate has these; NO_MEMORY, NO_ROOM. */
+uint32_t trc_reply_fate(const tracerd_fate *, uint8_t *room, size_t room_len, uint64_t *copied);
+/* The line of an archive, which has so many packets and bytes over so many streams, and of so many of these a released part.
+ * CLOSED, S18, NO_MEMORY, NO_ROOM. */
+uint32_t trc_reply_archive(trc_book *, uint64_t id, uint64_t packets, uint64_t bytes, uint64_t streams, uint64_t released,
+                           uint8_t *room, size_t room_len, uint64_t *copied);
+/* The first two lines of a status, without a newline at the end, by the session's name and how many of its records were cleared.
+ * CLOSED, BAD_NAME, NO_MEMORY, NO_ROOM. */
+uint32_t trc_reply_status(trc_book *, const uint8_t *name, size_t name_len, uint64_t cleared, uint8_t *room, size_t room_len,
+                          uint64_t *copied);
+/* A newline, and the line of a status of the stream of this number, which counts this. NO_MEMORY, NO_ROOM. */
+uint32_t trc_reply_row(uint64_t number, const trc_counts *, uint8_t *room, size_t room_len, uint64_t *copied);
+/* The first line of a snapshot, without a newline at the end. NO_MEMORY, NO_ROOM. */
+uint32_t trc_reply_snapshot(uint64_t moment, uint8_t *room, size_t room_len, uint64_t *copied);
+/* A newline, and the lines of what a stream shows. CLOSED, NO_MEMORY, NO_ROOM. */
+uint32_t trc_reply_shown(trc_snap *, uint8_t *room, size_t room_len, uint64_t *copied);
 
 /* ---- The audit of one stream's files ----------------------------------------------------------------------------------- */
 

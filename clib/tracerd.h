@@ -20,7 +20,7 @@
  * is written, and so does a write or a snapshot while another one of the session writes to the same place. No other call waits
  * for these, or for an audit. No call may be made in a signal handler, and no thread may be cancelled in one. A call takes up to
  * 32 KiB of the stack. The library has no global state, prints nothing and ends no process. It starts a thread only where
- * tracerd_drainer_start asks for one, or tracerd_keeper_start for two.
+ * tracerd_drainer_start or tracerd_listen asks for one, or tracerd_keeper_start for two.
  *
  * Waits. An offer waits only while another call holds its own stream, at a time for:
  * - a drain, also the drainer's: one step, whatever the sub-buffer's size; but a copy of it if less than a quarter of it is used;
@@ -86,7 +86,8 @@ typedef enum tracerd_status {
     TRACERD_MISSING = 22,            /* a producer was not given back */
     TRACERD_DRAINING = 23,           /* the library's drainer runs, or a keeper */
     TRACERD_NOT_DRAINING = 24,       /* it does not run */
-    TRACERD_EXISTS = 25,             /* something else has the archive's name */
+    TRACERD_EXISTS = 25,             /* something else has the archive's name, or the socket's */
+    TRACERD_LISTENING = 26,          /* the session has a listener */
     TRACERD_SNAPSHOT_MODE = 101,     /* not in a snapshot session */
     TRACERD_NOT_SNAPSHOT_MODE = 102, /* only in a snapshot session */
     TRACERD_NEVER_STARTED = 103,     /* the session was never started */
@@ -146,8 +147,27 @@ tracerd_status tracerd_new(tracerd_session **session, const char *name, const ui
  * sleeps. */
 TRACERD_API TRACERD_POINTERS
 uint64_t tracerd_now_of(const tracerd_session *);
-/* Lets all go, also its producers and what was not written; a drainer or a keeper ends first. NULL is ignored. */
+/* Lets all go, also its producers and what was not written; a listener, and a drainer or a keeper, end first. NULL is ignored. */
 TRACERD_API void tracerd_free(tracerd_session *);
+
+/* Has the session's rings lie in a file, so that what they hold is there after the program was killed, by whatever signal. Best on
+ * tmpfs, as "/dev/shm/app.rings": elsewhere the system may have an offer wait while it writes the file's memory to disk. Before the
+ * first producer, once.
+ *
+ * Whenever no offer is under way each sub-buffer that has a record is, in the file, the text of a packet; while one is, it is that
+ * of the records before it, or of all. The metadata is near the beginning. A packet stays there until its archive is released, but
+ * for those that a rotation closes with less than a quarter of their sub-buffer: these are in memory of their own, and so is what
+ * a snapshot copies. To lose nothing, keep archives on disk (tracerd_keeper_start), or have a snapshot session. What the machine
+ * itself loses by a crash or a power cut isn't in the file.
+ *
+ * The file is for its owner alone (0600), and so large that its file system has its bytes when a producer is made or a stream is
+ * drained: a full one is NO_MEMORY then, and no signal later. What an earlier run has left is renamed beside it, to FILE.1 or the
+ * next number. tracerd_free removes the file.
+ *
+ * ALREADY_STARTED: a producer is there, or this was called before. WRITE: the file can't be made; errno says why (EEXIST: what has
+ * the path is no file; EMFILE: 16 sessions have such files). NO_MEMORY: also if the system has no addresses for it. */
+TRACERD_API TRACERD_CHECKED TRACERD_POINTERS
+tracerd_status tracerd_rings_in(tracerd_session *, const char *file);
 
 /* A channel: its producers have rings of `count` sub-buffers of `size` bytes, powers of two of 2 to 64 and of 256 to 1,048,576.
  * A full ring discards the newest record, or overwrites its oldest sub-buffer. BAD_NAME, BAD_MODE, ALREADY_STARTED, NAME_TAKEN,
@@ -428,6 +448,43 @@ tracerd_status tracerd_keeper_state(tracerd_keeper *, tracerd_keeping *);
  * child of fork. */
 TRACERD_API TRACERD_CHECKED TRACERD_POINTERS
 tracerd_status tracerd_keeper_stop(tracerd_keeper *);
+
+/* ---- A shell that asks ---- */
+
+typedef struct tracerd_listener tracerd_listener; /* a socket, and a thread of the library's own that answers there */
+
+/* Has the program answer at a socket of this path (AF_UNIX, a stream), as `tracerd-ask PATH 'status app'` asks there. A line is
+ * one of a script (docs/FORMATS.md), and is read, done and answered as there; S is the session's own name:
+ *
+ *     status S    archives S    fate S I SERIAL    start S MOMENT    stop S    clear S    release S K
+ *     rotate S MOMENT    snapshot S MOMENT    schedule S [--every NS] [--size BYTES]
+ *
+ * MOMENT may be `now`: tracerd_now_of(session). Another name is refused K1 NoSession, another command of a script K4 ScriptOnly,
+ * and what fails for want of memory S16 NoMemory; any other line is a bad one. An answer has the script's text, and no mark at
+ * its end: whoever wants to see that shuts down its writing side, and reads to the end. A refused line changes nothing; if
+ * memory is lacking for an answer, the line may have been done, and the client is hung up on.
+ *
+ * FOLDER is where archives are written before the answer: a rotation's as by tracerd_write(session, K, FOLDER), so it is at
+ * FOLDER/SESSION/archives/ARCHIVE; a snapshot's as by tracerd_snapshot, at FOLDER/snapshot-MOMENT/SESSION/archives/ARCHIVE by the
+ * moment that it answers, each stream with the packets that it answers. What isn't written has a line more, `not written STATUS
+ * ERRNO`, by tracerd_status_name and errno, 0 if it has none; a snapshot then shows no streams. The archive stays in memory. One
+ * that a keeper was quicker to write isn't written again. FOLDER may be NULL: then nothing is written. It is this run's alone.
+ *
+ * Only the program's own user and the superuser are let in: the socket has mode 0600 before it has its name, and the system is
+ * asked whose each client is. One is answered at a time, the others wait. A client that says or takes nothing for two seconds is
+ * hung up on, and so is one whose line has more than 4,096 bytes, after `bad line`. No path comes from a client. The thread
+ * blocks all signals.
+ *
+ * PATH has 1 to 107 bytes. A socket there at which no program listens is replaced: it is a dead one's.
+ * LISTENING. EXISTS: a program listens there, or something that is no socket has the path, which is left alone. WRITE: no socket
+ * can be made there, or FOLDER not be made; errno says why, EAGAIN if another program holds the socket's folder (flock) for a
+ * second. NO_MEMORY: also if a thread can't be made. CLOSED: in a child of fork. Folders that were made stay. */
+TRACERD_API TRACERD_CHECKED TRACERD_POINTER(1) TRACERD_POINTER(2) TRACERD_POINTER(3)
+tracerd_status tracerd_listen(tracerd_listener **listener, tracerd_session *, const char *path, const char *folder);
+/* Ends it after what it does now, hangs up on its client, and removes the socket, unless another has its path. It is called once,
+ * and not after tracerd_free. CLOSED: in a child of fork. */
+TRACERD_API TRACERD_POINTERS
+tracerd_status tracerd_listener_stop(tracerd_listener *);
 
 /* ---- Accounts ---- */
 

@@ -155,7 +155,23 @@ private:
     tracerd_producer *handle_;
 };
 
-// A session, which goes with the last of its copies and producers.
+// A shell is answered as long as it is there (tracerd-ask). It may be moved, and keeps its session alive.
+class listener {
+public:
+    listener(listener &&other) noexcept = default;
+    listener &operator=(listener &&other) = delete;
+
+private:
+    friend class session;
+    struct ending {
+        void operator()(tracerd_listener *handle) const noexcept { tracerd_listener_stop(handle); }
+    };
+    listener(std::shared_ptr<tracerd_session> session, tracerd_listener *handle) : session_(std::move(session)), handle_(handle) {}
+    std::shared_ptr<tracerd_session> session_; // which goes after what comes next
+    std::unique_ptr<tracerd_listener, ending> handle_;
+};
+
+// A session, which goes with the last of its copies, producers and listeners.
 class session {
 public:
     session(const std::string &name, const std::array<uint8_t, 16> &uuid, int32_t east = 0, tracerd_kind kind = TRACERD_LOCAL) {
@@ -163,6 +179,7 @@ public:
         must(tracerd_new(&handle, text(name, TRACERD_BAD_NAME), uuid.data(), east, kind));
         handle_.reset(handle, tracerd_free);
     }
+    void rings_in(const std::string &file) { must(tracerd_rings_in(get(), text(file, TRACERD_WRITE))); }
     void channel(const std::string &name, uint64_t size, uint64_t count, tracerd_mode mode) {
         must(tracerd_channel(get(), text(name, TRACERD_BAD_NAME), size, count, mode));
     }
@@ -204,6 +221,9 @@ public:
     void snapshot(uint64_t moment, const std::string &folder) {
         must(tracerd_snapshot(get(), moment, text(folder, TRACERD_WRITE)));
     }
+    // Has a shell be answered at a socket of this path; archives are written below the folder, or nowhere.
+    class listener listen(const std::string &path) { return listen_to(path, nullptr); }
+    class listener listen(const std::string &path, const std::string &folder) { return listen_to(path, text(folder, TRACERD_WRITE)); }
     tracerd_about about() const {
         tracerd_about about;
         must(tracerd_about_of(get(), &about));
@@ -235,6 +255,11 @@ private:
         uint64_t found;
         must(call(get(), &found));
         return found;
+    }
+    class listener listen_to(const std::string &path, const char *folder) {
+        tracerd_listener *handle;
+        must(tracerd_listen(&handle, get(), text(path, TRACERD_WRITE), folder));
+        return {handle_, handle};
     }
     std::shared_ptr<tracerd_session> handle_;
 };

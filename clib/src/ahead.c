@@ -1,5 +1,5 @@
 /* What is made, copied and read ahead of a take, a cut or a look, so that little is left to do while a slot is locked. */
-#include "session.h"
+#include "rings.h"
 
 enum { WARM = 8 };                             /* sub-buffers that are read while a slot is locked once */
 enum { MOST_ROUNDS = 4, MOST_PIECES = 65536 }; /* since offers may never end */
@@ -29,7 +29,9 @@ bool stock(slot *s, enum next next) {
     uint64_t count = ask_lacking(s, next, &size);
     if (!count)
         return false;
+    pages_in(next == LOOK ? NULL : s->rings); /* what a look copies is no ring's */
     (void)trc_spares_make(&spares, size, count);
+    pages_in(NULL);
     pthread_mutex_lock(&s->lock);
     if (next == LOOK)
         (void)trc_stream_begin_copies(&s->stream, &spares);

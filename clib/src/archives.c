@@ -1,6 +1,7 @@
 /* Archives and snapshots as files: the calls that write them, and what waits for these. */
 #include "archives.h"
 #include <errno.h>
+#include <inttypes.h>
 #include <stdio.h>
 #include <string.h>
 
@@ -107,12 +108,24 @@ static tracerd_status take_place(writing *w, int archives) {
 
 /* ---- Where ---- */
 
-/* Opens FOLDER/SESSION/archives, and makes what is missing of it. */
-static int open_archives(const tracerd_session *t, const char *folder) {
+/* Opens FOLDER, or the folder in it of a snapshot of which something is said. */
+static int open_own(const writing *w, const char *folder) {
+    char name[NAME];
     int given = open_given(folder);
+    if (given < 0 || !w->told)
+        return given;
+    snprintf(name, sizeof name, "snapshot-%" PRIu64, w->moment);
+    int own = open_within(given, name);
+    close_quietly(given);
+    return own;
+}
+
+/* Opens SESSION/archives there, and makes what is missing of it. */
+static int open_archives(const writing *w, const char *folder) {
+    int given = open_own(w, folder);
     if (given < 0)
         return -1;
-    int session = open_within(given, t->name);
+    int session = open_within(given, w->session->name);
     close_quietly(given);
     if (session < 0)
         return -1;
@@ -137,17 +150,20 @@ static tracerd_status keep_in(writing *w, int archives) {
     return is_other(errno) ? TRACERD_EXISTS : TRACERD_READ;
 }
 
+static tracerd_status keep_below(writing *w, const char *folder) {
+    int archives = open_archives(w, folder);
+    if (archives < 0)
+        return TRACERD_WRITE;
+    tracerd_status status = keep_in(w, archives);
+    close_quietly(archives);
+    return status;
+}
+
 static tracerd_status keep(writing *w, const char *folder) {
     tracerd_status status = begin(w);
     if (status)
         return status;
-    int archives = open_archives(w->session, folder);
-    if (archives < 0) {
-        status = TRACERD_WRITE;
-    } else {
-        status = keep_in(w, archives);
-        close_quietly(archives);
-    }
+    status = keep_below(w, folder);
     end(w);
     return status;
 }
@@ -160,4 +176,21 @@ tracerd_status tracerd_write(tracerd_session *t, uint64_t number, const char *fo
 tracerd_status tracerd_snapshot(tracerd_session *t, uint64_t moment, const char *folder) {
     writing w = {.session = t, .is_snapshot = true, .moment = moment};
     return keep(&w, folder);
+}
+
+static tracerd_status look_alone(content *c, int folder) {
+    (void)folder;
+    return look(c);
+}
+
+tracerd_status take_snapshot(tracerd_session *t, uint64_t moment, const char *folder, struct text *told,
+                             tracerd_status *written) {
+    writing w = {.session = t, .is_snapshot = true, .moment = moment, .told = told};
+    tracerd_status status = begin(&w);
+    if (status)
+        return status;
+    say_snapshot(told, w.moment);
+    *written = folder ? keep_below(&w, folder) : each_file(&w, -1, look_alone);
+    end(&w);
+    return TRACERD_OK;
 }

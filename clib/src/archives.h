@@ -15,6 +15,7 @@ typedef struct writing {
     char name[NAME];      /* its folder's, */
     char part[PART_NAME]; /* and that of the folder in which it is written */
     struct writing *next; /* the session's others: the desk guards this, and what follows */
+    struct text *told;    /* of a snapshot: what is said of it, or NULL; then its folder is in one of its own */
     bool has_place;       /* no other call of the session writes by this name into this folder */
     folder_id place;
 } writing;
@@ -35,6 +36,9 @@ typedef struct {
 
 /* Waits until no call writes an archive. The desk is held, but while it waits. */
 void wait_for_writers_locked(tracerd_session *t, uint64_t archive);
+/* Takes a snapshot, and says what it shows, without the last newline: each stream as its file has it, in a folder of the
+ * snapshot's own in FOLDER, or in no file if that is NULL. *written is why it isn't written, if it isn't. */
+tracerd_status take_snapshot(tracerd_session *t, uint64_t moment, const char *folder, struct text *told, tracerd_status *written);
 
 /* ---- What files have (contents.c) ---- */
 
@@ -62,6 +66,11 @@ bool is_other(int why);
 tracerd_status remove_part(const writing *w, int archives);
 /* Writes an archive beside its place, and renames it. */
 tracerd_status write_archive(const writing *w, int archives);
+
+/* ---- What is said of a snapshot (replies.c) ---- */
+
+void say_snapshot(struct text *told, uint64_t moment);
+void say_shown(struct text *told, trc_snap *snap);
 
 /* ---- What is deleted (deletions.c) ---- */
 

@@ -28,6 +28,8 @@ tracerd_status look(content *c) {
     tracerd_status status = trc_book_look(&t->book, &s->stream, c->of->moment, &c->snap);
     pthread_mutex_unlock(&s->lock);
     pthread_mutex_unlock(&t->desk);
+    if (!status && c->of->told)
+        say_shown(c->of->told, &c->snap);
     return status;
 }
 
@@ -39,19 +41,24 @@ static tracerd_status next_of_part(content *c, uint8_t *room, uint64_t *size) {
     return status;
 }
 
-/* Asks for the metadata's text, with more and more room until there is enough. */
+/* Asks with more and more room until there is enough. */
+tracerd_status make_metadata_locked(tracerd_session *t, uint8_t **text, uint64_t *size) {
+    uint32_t status = TRC_NO_ROOM;
+    for (size_t room = PIECE; status == TRC_NO_ROOM; room *= 4) {
+        free(*text);
+        *text = malloc(room);
+        if (!*text)
+            return TRACERD_NO_MEMORY;
+        status = trc_book_metadata(&t->book, *text, room, size);
+    }
+    return status;
+}
+
 static tracerd_status ask_metadata(content *c) {
     tracerd_session *t = c->of->session;
-    uint32_t status = TRC_NO_ROOM;
-    for (size_t size = PIECE; status == TRC_NO_ROOM; size *= 4) {
-        free(c->text);
-        c->text = malloc(size);
-        if (!c->text)
-            return TRACERD_NO_MEMORY;
-        pthread_mutex_lock(&t->desk);
-        status = trc_book_metadata(&t->book, c->text, size, &c->left);
-        pthread_mutex_unlock(&t->desk);
-    }
+    pthread_mutex_lock(&t->desk);
+    tracerd_status status = make_metadata_locked(t, &c->text, &c->left);
+    pthread_mutex_unlock(&t->desk);
     return status;
 }
 

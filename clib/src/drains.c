@@ -1,5 +1,5 @@
 /* Drains, and the library's own drainer. */
-#include "session.h"
+#include "rings.h"
 #include <signal.h>
 
 /* Moves the oldest closed sub-buffer into the current trace chunk. */
@@ -7,7 +7,9 @@ static tracerd_status take(slot *s) {
     trc_taken taken;
     (void)stock(s, TAKE);
     pthread_mutex_lock(&s->lock);
+    pages_in(s->rings);
     tracerd_status status = trc_stream_take(&s->stream, &taken);
+    pages_in(NULL);
     pthread_mutex_unlock(&s->lock);
     return status;
 }

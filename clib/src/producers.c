@@ -1,5 +1,5 @@
 /* Producers, and offers by them. */
-#include "session.h"
+#include "rings.h"
 #include <string.h>
 #include <sys/mman.h>
 
@@ -26,10 +26,13 @@ tracerd_status add_producer_locked(tracerd_session *t, const char *channel, slot
         return TRACERD_NO_MEMORY;
     s->is_out = true;
     s->ahead = t->ahead;
+    s->rings = t->rings;
     make_lock(&s->lock);
     tracerd_status status = share_events(t->events, &s->events);
+    pages_in(s->rings);
     if (!status)
         status = trc_book_thread(&t->book, &s->stream, (const uint8_t *)channel, strlen(channel), &s->number);
+    pages_in(NULL);
     if (status) {
         free_slot(s);
         return status;

@@ -1,5 +1,5 @@
 /* Rotations, and when they are due. */
-#include "session.h"
+#include "rings.h"
 
 /* Cuts a slot's stream, which is the next of the pending rotation. The desk is held. */
 static tracerd_status cut_locked(tracerd_session *t, slot *s) {
@@ -7,7 +7,9 @@ static tracerd_status cut_locked(tracerd_session *t, slot *s) {
     stock_up(s, CUT);
     warm(s);
     pthread_mutex_lock(&s->lock);
+    pages_in(s->rings);
     tracerd_status status = trc_rotate_cut(&t->book, &s->stream, &done);
+    pages_in(NULL);
     pthread_mutex_unlock(&s->lock);
     return status;
 }
@@ -56,12 +58,15 @@ tracerd_status tracerd_rotate(tracerd_session *t, uint64_t moment, uint64_t *arc
 
 /* ---- By a schedule ---- */
 
-tracerd_status tracerd_schedule(tracerd_session *t, uint64_t every, uint64_t bytes) {
-    bool is_timed = every != TRACERD_NEVER, is_by_size = bytes != TRACERD_NEVER;
+tracerd_status set_schedule(tracerd_session *t, bool is_timed, uint64_t every, bool is_by_size, uint64_t bytes) {
     pthread_mutex_lock(&t->desk);
     tracerd_status status = trc_book_schedule(&t->book, is_timed, every, is_by_size, bytes);
     pthread_mutex_unlock(&t->desk);
     return status;
+}
+
+tracerd_status tracerd_schedule(tracerd_session *t, uint64_t every, uint64_t bytes) {
+    return set_schedule(t, every != TRACERD_NEVER, every, bytes != TRACERD_NEVER, bytes);
 }
 
 /* Why a rotation is due now, or TRC_IDLE. The desk is held. */

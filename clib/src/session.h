@@ -32,6 +32,7 @@ typedef struct slot {
     trc_events *coming; /* while events are declared: those that it will have; the desk guards it */
     uint64_t number;
     uint64_t ahead;              /* the session's; it never changes */
+    struct rings *rings;         /* the session's too */
     uint8_t first[ABOUT_THREAD]; /* of a pool: what the thread that it is lent to says first */
     _Atomic uint32_t unsaid;     /* how many bytes that is, or 0 once it is stored; read without the lock */
 } slot;
@@ -49,6 +50,7 @@ struct tracerd_session {
     char *text;                       /* the program's declarations, or NULL */
     bool has_pool;                    /* events of pools are declared with them */
     struct tracerd_pool *pools;       /* those that lend its producers */
+    struct rings *rings;              /* the file in which its rings lie, or NULL; it is there before the first slot */
     slot *_Atomic slots[STREAMS + 1]; /* NULL after the last; read without the desk */
     struct writing *writings;         /* the calls that write files now */
     pthread_cond_t has_written;       /* one of them has ended */
@@ -57,6 +59,8 @@ struct tracerd_session {
     uint64_t period;
     sem_t bell; /* rung, it ends the drainer */
     pthread_t thread;
+    _Atomic int listening;             /* OFF or ON; if BUSY what follows is the thread's that starts or stops it */
+    struct tracerd_listener *listener; /* or NULL */
 };
 
 static inline slot *slot_of(tracerd_producer *producer) { return (slot *)producer; }
@@ -100,6 +104,11 @@ tracerd_status read_with_pools_locked(tracerd_session *t, trc_events **events);
 /* Has the session declare these events in place of *declared, and its slots with it; or nothing changes. The desk is held. */
 tracerd_status declare_locked(tracerd_session *t, trc_events **declared);
 
+/* ---- What files have (contents.c) ---- */
+
+/* Has *text, which is NULL or of malloc, be the metadata's text, for `free`. The desk is held. */
+tracerd_status make_metadata_locked(tracerd_session *t, uint8_t **text, uint64_t *size);
+
 /* ---- Pools (pools.c) ---- */
 
 /* Offers what a pool's thread says first, if it isn't stored yet. The slot is locked. */
@@ -123,6 +132,16 @@ void end_drainer(tracerd_session *t);
 void collect(struct tracerd_keeper *k);
 /* Ends a keeper whose session goes, if it has one. */
 void end_keeper(tracerd_session *t);
+
+/* ---- Rotations (rotations.c) ---- */
+
+/* Sets when rotations are due: each period if they are timed, at so many bytes if they are by size, or never. */
+tracerd_status set_schedule(tracerd_session *t, bool is_timed, uint64_t every, bool is_by_size, uint64_t bytes);
+
+/* ---- Listeners (listeners.c) ---- */
+
+/* Ends the listener of a session that goes, if it has one. */
+void end_listener(tracerd_session *t);
 
 /* ---- What is done ahead, so that little is left to do while a slot is locked (ahead.c) ---- */
 

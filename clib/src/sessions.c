@@ -1,5 +1,5 @@
 /* Sessions: made, planned, started, stopped and freed; and their clock. */
-#include "session.h"
+#include "rings.h"
 #include <errno.h>
 #include <stdlib.h>
 #include <string.h>
@@ -52,6 +52,7 @@ tracerd_status tracerd_new(tracerd_session **session, const char *name, const ui
 void tracerd_free(tracerd_session *t) {
     if (!t)
         return;
+    end_listener(t);
     end_keeper(t);
     tracerd_drainer_stop(t);
     close_pools(t);
@@ -63,12 +64,26 @@ void tracerd_free(tracerd_session *t) {
     free_events(t->events);
     free(t->text);
     trc_book_free(&t->book);
+    free_rings(t->rings);
     munmap(t, sizeof *t);
 }
 
 tracerd_status tracerd_channel(tracerd_session *t, const char *name, uint64_t size, uint64_t count, tracerd_mode mode) {
     pthread_mutex_lock(&t->desk);
     tracerd_status status = trc_book_channel(&t->book, (const uint8_t *)name, strlen(name), size, count, mode);
+    pthread_mutex_unlock(&t->desk);
+    return status;
+}
+
+tracerd_status tracerd_rings_in(tracerd_session *t, const char *path) {
+    tracerd_status status = TRACERD_OK;
+    if (!t->is_here)
+        return TRACERD_CLOSED;
+    pthread_mutex_lock(&t->desk);
+    if (t->rings || first_slot(t))
+        status = TRACERD_ALREADY_STARTED;
+    else if (!(t->rings = make_rings(path)))
+        status = errno == ENOMEM ? TRACERD_NO_MEMORY : TRACERD_WRITE;
     pthread_mutex_unlock(&t->desk);
     return status;
 }
@@ -88,9 +103,24 @@ static tracerd_status switch_all_locked(tracerd_session *t, bool is_active) {
     return TRACERD_OK;
 }
 
+/* Has the file of rings, if there is one, tell what records are. The desk is held. */
+static tracerd_status describe_rings_locked(tracerd_session *t) {
+    uint8_t *text = NULL;
+    uint64_t size;
+    if (!t->rings)
+        return TRACERD_OK;
+    tracerd_status status = make_metadata_locked(t, &text, &size);
+    if (!status && !keep_metadata(t->rings, text, size))
+        status = TRACERD_NO_MEMORY;
+    free(text);
+    return status;
+}
+
 tracerd_status tracerd_start(tracerd_session *t, uint64_t moment) {
     pthread_mutex_lock(&t->desk);
-    tracerd_status status = trc_book_start(&t->book, moment);
+    tracerd_status status = describe_rings_locked(t);
+    if (!status)
+        status = trc_book_start(&t->book, moment);
     if (!status)
         status = switch_all_locked(t, true);
     pthread_mutex_unlock(&t->desk);

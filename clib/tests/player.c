@@ -1,9 +1,13 @@
-/* Answers a script as `tracerd script` does, by calls of the library: lines of one session that are no bad lines.
+/* Answers a script as `tracerd script` does, of one session and without bad lines: by its listener what that answers, and else by
+ * calls of the library.
  *
  *     player DIR < SCRIPT     at the end writes the archives below DIR, and audits them
  *
- * `drain S` stands for as many `consume` as find something, and gets no answer. An archive's name isn't said. */
+ * `drain S` stands for as many `consume` as find something, and gets no answer. */
 #include "testing.h"
+#include <sys/socket.h>
+#include <sys/un.h>
+#include <unistd.h>
 
 enum { STREAMS = 16, WORDS = 16 };
 
@@ -14,7 +18,7 @@ static uint64_t streams;
 static uint8_t uuid[16];
 static char *words[WORDS];
 static int count;
-static uint64_t archives;
+static struct sockaddr_un door = {.sun_family = AF_UNIX}; /* the listener's */
 
 static uint64_t number(int at) { return strtoull(words[at], NULL, 10); }
 
@@ -46,7 +50,9 @@ static void create(void) {
     for (int i = 0; i < 16; i++) sscanf(digits + 2 * i, "%2hhx", &uuid[i]);
     int east = option("--east") ? atoi(option("--east")) : option("--west") ? -atoi(option("--west")) : 0;
     tracerd_kind kind = has_flag("--snapshot") ? TRACERD_SNAPSHOT : TRACERD_LOCAL;
+    tracerd_listener *listener;
     if (refused(tracerd_new(&session, words[1], uuid, east, kind))) exit(1);
+    if (tracerd_listen(&listener, session, door.sun_path, NULL)) exit(1);
     printf("created %s\n", words[1]);
 }
 
@@ -74,32 +80,17 @@ static void offer(void) {
     if (o.outcome != TRACERD_DISCARDED) printf("\n");
 }
 
-static void fate(void) {
-    tracerd_fate f;
-    if (refused(tracerd_fate_of(producers[number(2)], number(3), &f))) return;
-    switch ((tracerd_place)f.place) {
-    case TRACERD_NOT_OFFERED: puts("not offered"); break;
-    case TRACERD_IN_RING: printf("in ring %" PRIu64 "\n", f.packet); break;
-    case TRACERD_IN_CHUNK: printf("in chunk %" PRIu64 " %" PRIu64 "\n", f.chunk, f.packet); break;
-    case TRACERD_WAS_DISCARDED: puts("discarded"); break;
-    case TRACERD_WAS_OVERWRITTEN: puts("overwritten"); break;
-    case TRACERD_WAS_CLEARED: printf("cleared %" PRIu64 "\n", f.packet); break;
-    }
-}
-
-static void schedule(void) {
-    uint64_t every = option("--every") ? strtoull(option("--every"), NULL, 10) : TRACERD_NEVER;
-    uint64_t size = option("--size") ? strtoull(option("--size"), NULL, 10) : TRACERD_NEVER;
-    if (!refused(tracerd_schedule(session, every, size))) printf("schedule %s\n", count > 2 ? "set" : "off");
-}
-
 static void tick(void) {
     tracerd_cause cause;
-    if (refused(tracerd_tick(session, number(2), &cause, &archives))) return;
-    if (cause == TRACERD_IDLE)
+    uint64_t archive;
+    if (refused(tracerd_tick(session, number(2), &cause, &archive))) return;
+    char name[TRACERD_ARCHIVE_NAME];
+    if (cause == TRACERD_IDLE) {
         puts("idle");
-    else
-        printf("rotated %s %" PRIu64 "\n", cause == TRACERD_TIMER ? "timer" : "size", archives++);
+        return;
+    }
+    if (tracerd_archive_name(session, archive, name)) exit(1);
+    printf("rotated %s %" PRIu64 " %s\n", cause == TRACERD_TIMER ? "timer" : "size", archive, name);
 }
 
 static void channel(void) {
@@ -107,24 +98,28 @@ static void channel(void) {
     if (!refused(tracerd_channel(session, words[2], number(3), number(4), mode))) printf("channel %s\n", words[2]);
 }
 
-static void rotate(void) {
-    if (!refused(tracerd_rotate(session, number(2), &archives))) printf("archived %" PRIu64 "\n", archives++);
+static void drain(void) {
+    uint64_t packets;
+    if (tracerd_drain(session, &packets)) exit(1);
 }
 
-static void operate(void) {
-    uint64_t n;
-    const char *what = words[0];
-    if (!strcmp(what, "start") && !refused(tracerd_start(session, number(2)))) puts("started");
-    if (!strcmp(what, "stop") && !refused(tracerd_stop(session))) puts("stopped");
-    if (!strcmp(what, "drain") && tracerd_drain(session, &n)) exit(1);
-    if (!strcmp(what, "clear") && !refused(tracerd_clear(session, &n))) printf("cleared %" PRIu64 "\n", n);
-    if (!strcmp(what, "release") && !refused(tracerd_release(session, number(2)))) printf("released %s\n", words[2]);
+/* Has the session's listener answer a line. */
+static void ask(const char *line) {
+    char answer[4096];
+    ssize_t got;
+    int to = socket(AF_UNIX, SOCK_STREAM, 0);
+    if (to < 0 || connect(to, (const struct sockaddr *)&door, sizeof door)) exit(1);
+    if (send(to, line, strlen(line), MSG_NOSIGNAL) < 0 || shutdown(to, SHUT_WR)) exit(1);
+    while ((got = recv(to, answer, sizeof answer, 0)) > 0) fwrite(answer, 1, (size_t)got, stdout);
+    close(to);
 }
 
 /* Writes the archives, and says of each stream what `tracerd audit` says of it but for its moments. */
 static void keep(const char *folder, const char *name) {
     int is_any = 0;
-    for (uint64_t k = 0; k < archives; k++) {
+    tracerd_about about;
+    if (tracerd_about_of(session, &about)) exit(1);
+    for (uint64_t k = 0; k < about.archives; k++) {
         tracerd_status status = tracerd_write(session, k, folder);
         if (status && status != TRACERD_RELEASED) exit(1);
         is_any |= !status;
@@ -145,16 +140,21 @@ int main(int given, char **arguments) {
     static const struct {
         const char *name;
         void (*play)(void);
-    } calls[] = {{"create", create},     {"channel", channel}, {"thread", thread}, {"offer", offer}, {"fate", fate},
-                 {"schedule", schedule}, {"tick", tick},       {"rotate", rotate}, {NULL, operate}};
-    char line[4200];
-    if (given != 2) return 2;
+    } calls[] = {{"create", create}, {"channel", channel}, {"thread", thread},
+                 {"offer", offer},   {"tick", tick},       {"drain", drain}};
+    char line[4200], cut[sizeof line];
+    if (given != 2 || strlen(arguments[1]) + 8 > sizeof door.sun_path) return 2;
+    sprintf(door.sun_path, "%s.socket", arguments[1]);
     while (fgets(line, sizeof line, stdin)) {
+        size_t at = 0, most = sizeof calls / sizeof *calls;
         count = 0;
-        for (char *word = strtok(line, " \n"); word && count < WORDS; word = strtok(NULL, " \n")) words[count++] = word;
-        int at = 0;
-        while (count && calls[at].name && strcmp(words[0], calls[at].name)) at++;
-        if (count) calls[at].play();
+        strcpy(cut, line);
+        for (char *word = strtok(cut, " \n"); word && count < WORDS; word = strtok(NULL, " \n")) words[count++] = word;
+        while (count && at < most && strcmp(words[0], calls[at].name)) at++;
+        if (count && at < most)
+            calls[at].play();
+        else if (session)
+            ask(line);
     }
     keep(arguments[1], "s");
     tracerd_free(session);

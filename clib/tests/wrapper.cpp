@@ -4,6 +4,7 @@
 //
 //     wrapper DIR     a folder that is there, in which files are written
 #include <errno.h>
+#include <fstream>
 #include <glob.h>
 #include <sys/stat.h>
 #include <sys/wait.h>
@@ -23,6 +24,8 @@ static void record(tracerd::producer producer, char *is_good) {
 
 static void records(const std::string &folder) {
     tracerd::session session("app", {{1, 2, 3}}, -300);
+    session.rings_in(folder + "/rings");
+    is(std::ifstream(folder + "/rings").good());
     session.channel("main", 16384, 4, TRACERD_DISCARD);
     std::vector<tracerd::producer> producers;
     for (int i = 0; i < 4; i++) producers.push_back(session.producer("main"));
@@ -259,6 +262,18 @@ static void exits() {
 }
 
 // The second word leaves out children: they find the session as zeros, which valgrind takes for memory that they lost.
+// A shell is answered as long as there is a listener; its socket goes with it.
+static void listens(const std::string &folder) {
+    const std::string path = folder + "/app.socket";
+    tracerd::session session("app", {{1}});
+    {
+        tracerd::listener first = session.listen(path, folder), moved = std::move(first);
+        is(access(path.c_str(), F_OK) == 0);
+        answers(LISTENING, refusal([&] { session.listen(path); }));
+    }
+    is(access(path.c_str(), F_OK) != 0);
+}
+
 int main(int count, char **words) {
     if (count != 2 && count != 3) return 2;
     records(words[1]);
@@ -278,6 +293,8 @@ int main(int count, char **words) {
     refuses_zero_bytes(words[1]);
     counts_as_one();
     outlives();
+    counts_as_one();
+    listens(words[1]);
     counts_as_one();
     if (count == 2) {
         offers_in_children();

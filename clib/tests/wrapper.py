@@ -12,6 +12,7 @@ import os
 import pathlib
 import pickle
 import re
+import socket
 import struct
 import sys
 import tempfile
@@ -174,6 +175,18 @@ def tells_errno():
     assert not isinstance(raised(session.write, 1, BELOW_A_FILE), OSError)
 
 
+def has_rings_in_a_file():
+    with tempfile.TemporaryDirectory() as folder:
+        file = os.path.join(folder, "rings")
+        session = tracerd.Session("app", UUID)
+        session.rings_in(file)
+        assert os.path.exists(file)
+        assert raised(session.rings_in, file).status == Status.ALREADY_STARTED
+        session.close()
+        del session
+        assert not os.path.exists(file)
+
+
 def keeps_what_it_says_when_it_is_sent():
     """A process may raise what another was refused."""
     session = planned()
@@ -303,6 +316,23 @@ def has_threads(count):
     return True
 
 
+def listens_until_its_block_ends():
+    with tempfile.TemporaryDirectory() as folder, tracerd.Session("s", UUID) as session:
+        door = f"{folder}/s.socket"
+        with session.listen(door, folder), socket.socket(socket.AF_UNIX) as client:
+            assert raised(session.listen, door).status is Status.LISTENING
+            client.connect(door)
+            client.sendall(b"archives s")
+            client.shutdown(socket.SHUT_WR)
+            assert client.recv(100) == b"none\n" and not client.recv(100)
+        assert not os.path.exists(door)
+        session.listen(door).stop()
+        left = session.listen(door)
+        session.close()
+        assert not os.path.exists(door)
+        left.stop()
+
+
 def closes_at_the_end_of_a_block():
     freed = []
     assert has_threads(1)
@@ -366,12 +396,14 @@ if __name__ == "__main__":
         has_each_status_by_name,
         takes_the_status_of_a_later_library,
         tells_errno,
+        has_rings_in_a_file,
         keeps_what_it_says_when_it_is_sent,
         tells_where_a_fault_is,
         takes_any_buffer,
         copies_no_payload,
         traces,
         traces_nothing_in_a_child,
+        listens_until_its_block_ends,
         closes_at_the_end_of_a_block,
         gives_back_what_others_have,
     )

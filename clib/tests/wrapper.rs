@@ -3,7 +3,9 @@ use crate::refused::{Fault, Refused};
 use crate::{audit, trace, Audited, Kind, Mode, Offered, Producer, Session};
 use std::error::Error;
 use std::fs;
-use std::io::{self, ErrorKind};
+use std::io::{self, ErrorKind, Read, Write};
+use std::net::Shutdown;
+use std::os::unix::net::UnixStream;
 use std::path::{Path, PathBuf};
 
 pub(crate) const UUID: [u8; 16] = [3; 16];
@@ -59,6 +61,18 @@ fn has_each_status_by_name() {
         assert_eq!(variant.split(['(', ' ']).next(), Some(&name[..]));
         assert_eq!((why.status(), why.name()), (*status, &name[..]));
     }
+}
+
+#[test]
+fn has_rings_in_a_file() {
+    let folder = Folder::new("rings");
+    let file = folder.0.join("rings");
+    let session = Session::new("s", UUID, 0, Kind::Snapshot).unwrap();
+    session.rings_in(&file).unwrap();
+    assert!(file.exists());
+    assert_eq!(session.rings_in(&file), Err(Refused::AlreadyStarted));
+    drop(session);
+    assert!(!file.exists());
 }
 
 #[test]
@@ -196,6 +210,26 @@ fn refuses_offers_while_stopped() {
     session.start(0).unwrap();
     assert_eq!(producer.offer(0, 7, b"first"), Ok(Offered::Stored { serial: 0, packet: 0 }));
     assert_eq!(producer.offer(9_000_000_000_000_000_001, 7, b"late"), Err(Refused::BadMoment));
+}
+
+/// A shell is answered until the listener is dropped.
+#[test]
+fn listens() {
+    let folder = Folder::new("listens");
+    fs::create_dir_all(&folder.0).unwrap();
+    let door = folder.0.join("s.socket");
+    let (session, _producer) = planned();
+    let listener = session.listen(&door, Some(&folder.0)).unwrap();
+    assert!(matches!(session.listen(&door, None), Err(Refused::Listening)));
+    let mut client = UnixStream::connect(&door).unwrap();
+    client.write_all(b"archives s").unwrap();
+    client.shutdown(Shutdown::Write).unwrap();
+    let mut answer = String::new();
+    client.read_to_string(&mut answer).unwrap();
+    assert_eq!(answer, "none\n");
+    drop(session);
+    drop(listener);
+    assert!(!door.exists());
 }
 
 #[test]

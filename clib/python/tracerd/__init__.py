@@ -25,8 +25,9 @@ __version__ = "0.9.0"
 from ._library import (
     About, Archive, Audited, Counts, Fate, Offered, Status,
     _about_of, _archive_of, _audit, _channel, _clear, _counts_of, _counts_sum, _declare, _drain, _drainer_start, _drainer_stop,
-    _fate_of, _free, _new, _now, _now_of, _offer, _passed, _producer_done, _producer_new, _producer_number, _release, _rotate,
-    _rotate_on, _schedule, _settle, _snapshot, _start, _status_name, _stop, _tick, _trace, _write, version,
+    _fate_of, _free, _listen, _listener_stop, _new, _now, _now_of, _offer, _passed, _producer_done, _producer_new,
+    _producer_number, _release, _rings_in, _rotate, _rotate_on, _schedule, _settle, _snapshot, _start, _status_name, _stop, _tick,
+    _trace, _write, version,
 )
 
 from ._events import Event
@@ -35,7 +36,7 @@ from ._logging import Handler
 if TYPE_CHECKING:
     from _typeshed import ReadableBuffer, StrOrBytesPath
 
-__all__ = ["Session", "Producer", "Event", "Handler", "audit", "now", "version", "Refused", "FileRefused", "Status"]
+__all__ = ["Session", "Producer", "Listener", "Event", "Handler", "audit", "now", "version", "Refused", "FileRefused", "Status"]
 __all__ += ["Offered", "Fate", "Counts", "About", "Archive", "Audited"]
 __all__ += ["LOCAL", "SNAPSHOT", "DISCARD", "OVERWRITE", "STORED", "STORED_OVER", "DISCARDED", "IDLE", "TIMER", "SIZE", "NEVER"]
 __all__ += ["NEW", "ACTIVE", "STOPPED"]
@@ -200,8 +201,41 @@ class Producer:
         return _written(Fate, _fate_of, self._handle, serial)
 
 
+class Listener:
+    """Has a shell be answered at a socket (`tracerd-ask`), until `stop`, or the end of its block by `with`. It keeps its session."""
+
+    # what __del__ finds if __init__ wasn't reached
+    _handle = c_void_p()
+    _holders: list[c_void_p | None] | None = None
+
+    def __init__(self, session: Session, path: StrOrBytesPath, folder: StrOrBytesPath | None) -> None:
+        self._handle = c_void_p()
+        below = None if folder is None else _path(folder, Status.WRITE)
+        session._holders.append(None)
+        self._holders = session._holders
+        _must(_listen(byref(self._handle), session._handle, _path(path, Status.WRITE), below), path)
+        session._listeners.add(self)
+
+    def __del__(self) -> None:
+        self.stop()
+        if self._holders is not None:
+            _let_go(self._holders)
+
+    def __enter__(self) -> Listener:
+        return self
+
+    def __exit__(self, *raised: object) -> None:
+        self.stop()
+
+    def stop(self) -> None:
+        """Ends it, and removes its socket; once more changes nothing."""
+        handle, self._handle = self._handle, c_void_p()
+        if handle:
+            _listener_stop(handle)
+
+
 class Session:
-    """A session, which threads share. It goes when nobody has it or one of its producers. `with` closes it at the end of its
+    """A session, which threads share. It goes when nobody has it or one of its producers or listeners. `with` closes it at the end of its
     block."""
 
     # what __del__ finds if __init__ wasn't reached
@@ -210,6 +244,7 @@ class Session:
     def __init__(self, name: str, uuid: bytes, east: int = 0, kind: int = LOCAL) -> None:
         self._made, self._is_closed = c_void_p(), False
         self._producers: weakref.WeakSet[Producer] = weakref.WeakSet()
+        self._listeners: weakref.WeakSet[Listener] = weakref.WeakSet()
         _must(_new(byref(self._made), _name(name), _uuid(uuid), east, kind))
         self._holders: list[c_void_p | None] = [self._made]
 
@@ -230,12 +265,19 @@ class Session:
         return self._made
 
     def close(self) -> None:
-        """Ends it: its producers are given back, its drainer ends, and any other call on it is refused (CLOSED). What wasn't
+        """Ends it: its producers are given back, its drainer and its listener end, and any other call on it is refused (CLOSED). What wasn't
         written is lost. Once more changes nothing. Its memory is freed when nobody has it or one of its producers."""
         self._is_closed = True
+        for listener in list(self._listeners):
+            listener.stop()
         for producer in list(self._producers):
             producer.done()
         _drainer_stop(self._made)
+
+    def rings_in(self, file: StrOrBytesPath) -> None:
+        """Has the session's rings lie in a file, as on /dev/shm, so that what they hold outlives the program: before the first
+        producer, once."""
+        _must(_rings_in(self._handle, _path(file, Status.WRITE)), file)
 
     def channel(self, name: str, size: int, count: int, mode: int) -> None:
         _must(_channel(self._handle, _name(name), size, count, mode))
@@ -260,6 +302,10 @@ class Session:
 
     def stop(self) -> None:
         _must(_stop(self._handle))
+
+    def listen(self, path: StrOrBytesPath, folder: StrOrBytesPath | None = None) -> Listener:
+        """Has a shell be answered at a socket of this path. Archives are written below the folder, if there is one."""
+        return Listener(self, path, folder)
 
     def drain(self) -> int:
         """How many packets came of it."""

@@ -29,6 +29,7 @@ class Status(enum.IntEnum):
     DRAINING = 23
     NOT_DRAINING = 24
     EXISTS = 25
+    LISTENING = 26
     SNAPSHOT_MODE = 101
     NOT_SNAPSHOT_MODE = 102
     NEVER_STARTED = 103
@@ -256,6 +257,7 @@ _number = POINTER(c_uint64)
 _status_name = _call("status_name", _u32, result=c_char_p)
 _new = _call("new", POINTER(c_void_p), c_char_p, c_char_p, _i32, _u32)
 _free = _call("free", c_void_p, result=None)
+_rings_in = _call("rings_in", c_void_p, c_char_p)
 _channel = _call("channel", c_void_p, c_char_p, _u64, _u64, _u32)
 _producer_new = _call("producer_new", c_void_p, c_char_p, POINTER(c_void_p))
 _producer_number = _call("producer_number", c_void_p, result=c_uint64)
@@ -276,6 +278,8 @@ _clear = _call("clear", c_void_p, _number)
 _write = _call("write", c_void_p, _u64, c_char_p)
 _release = _call("release", c_void_p, _u64)
 _snapshot = _call("snapshot", c_void_p, _u64, c_char_p)
+_listen = _call("listen", POINTER(c_void_p), c_void_p, c_char_p, c_char_p)
+_listener_stop = _call("listener_stop", c_void_p)
 _audit = _call("audit", c_char_p, c_char_p, c_char_p, _u64, c_char_p, POINTER(Audited))
 _about_of = _call("about_of", c_void_p, POINTER(About))
 _archive_of = _call("archive_of", c_void_p, _u64, POINTER(Archive))

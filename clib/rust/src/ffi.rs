@@ -8,6 +8,11 @@ pub struct RawSession {
 }
 
 #[repr(C)]
+pub struct RawListener {
+    _opaque: [u8; 0],
+}
+
+#[repr(C)]
 pub struct RawProducer {
     pub active: AtomicU32,
 }
@@ -105,6 +110,7 @@ extern "C" {
     pub fn tracerd_now_of(s: *const RawSession) -> u64;
     pub fn tracerd_new(s: *mut *mut RawSession, name: *const c_char, uuid: *const u8, east: i32, kind: u32) -> u32;
     pub fn tracerd_free(s: *mut RawSession);
+    pub fn tracerd_rings_in(s: *mut RawSession, file: *const c_char) -> u32;
     pub fn tracerd_channel(s: *mut RawSession, name: *const c_char, size: u64, count: u64, mode: u32) -> u32;
     pub fn tracerd_producer_new(s: *mut RawSession, channel: *const c_char, p: *mut *mut RawProducer) -> u32;
     pub fn tracerd_producer_number(p: *const RawProducer) -> u64;
@@ -140,6 +146,8 @@ extern "C" {
         uuid: *const u8,
         a: *mut Audited,
     ) -> u32;
+    pub fn tracerd_listen(l: *mut *mut RawListener, s: *mut RawSession, path: *const c_char, folder: *const c_char) -> u32;
+    pub fn tracerd_listener_stop(l: *mut RawListener) -> u32;
     pub fn tracerd_about_of(s: *mut RawSession, about: *mut About) -> u32;
     pub fn tracerd_archive_of(s: *mut RawSession, number: u64, archive: *mut Archive) -> u32;
     pub fn tracerd_counts_of(p: *mut RawProducer, counts: *mut Counts) -> u32;

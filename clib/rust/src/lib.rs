@@ -28,7 +28,7 @@ use std::ffi::{CStr, CString};
 use std::fmt;
 use std::os::unix::ffi::OsStrExt;
 use std::path::Path;
-use std::ptr::{null_mut, NonNull};
+use std::ptr::{null, null_mut, NonNull};
 use std::sync::atomic::Ordering;
 use std::sync::Arc;
 
@@ -136,6 +136,23 @@ pub struct Producer {
 // a producer is used by one thread at a time: its offers take it by `&mut`
 unsafe impl Send for Producer {}
 
+/// Has a shell be answered, until it is dropped. It keeps its session alive.
+#[derive(Debug)]
+pub struct Listener {
+    raw: NonNull<ffi::RawListener>,
+    _session: Arc<Handle>,
+}
+
+// only its drop makes a call on it
+unsafe impl Send for Listener {}
+unsafe impl Sync for Listener {}
+
+impl Drop for Listener {
+    fn drop(&mut self) {
+        unsafe { ffi::tracerd_listener_stop(self.raw.as_ptr()) };
+    }
+}
+
 impl Session {
     pub fn new(session: &str, uuid: [u8; 16], east: i32, kind: Kind) -> Result<Session, Refused> {
         let mut raw = null_mut();
@@ -146,6 +163,13 @@ impl Session {
 
     fn raw(&self) -> *mut ffi::RawSession {
         self.0 .0.as_ptr()
+    }
+
+    /// Has the session's rings lie in a file, as on /dev/shm, so that what they hold outlives the program: before the first
+    /// producer, once. `Write` if the file can't be made.
+    pub fn rings_in(&self, file: &Path) -> Result<(), Refused> {
+        let file = path(file, Refused::Write)?;
+        done(unsafe { ffi::tracerd_rings_in(self.raw(), file.as_ptr()) })
     }
 
     pub fn channel(&self, channel: &str, size: u64, count: u64, mode: Mode) -> Result<(), Refused> {
@@ -238,6 +262,17 @@ impl Session {
     pub fn snapshot(&self, moment: u64, folder: &Path) -> Result<(), Refused> {
         let folder = path(folder, Refused::Write)?;
         done(unsafe { ffi::tracerd_snapshot(self.raw(), moment, folder.as_ptr()) })
+    }
+
+    /// Has a shell be answered at a socket of this path (`tracerd-ask`), as long as there is what this gives. Archives are
+    /// written below the folder, if there is one.
+    pub fn listen(&self, socket: &Path, folder: Option<&Path>) -> Result<Listener, Refused> {
+        let mut raw = null_mut();
+        let socket = path(socket, Refused::Write)?;
+        let folder = folder.map(|folder| path(folder, Refused::Write)).transpose()?;
+        let folder = folder.as_ref().map_or(null(), |folder| folder.as_ptr());
+        done(unsafe { ffi::tracerd_listen(&mut raw, self.raw(), socket.as_ptr(), folder) })?;
+        Ok(Listener { raw: NonNull::new(raw).ok_or(Refused::NoMemory)?, _session: self.0.clone() })
     }
 
     /// What the session is now.

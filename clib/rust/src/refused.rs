@@ -96,7 +96,7 @@ macro_rules! refusals {
 
 refusals! {
     NoMemory = 1, Closed = 2, BadMoment = 4, BadMode = 6, BadName = 7, BadOffset = 8,
-    Draining = 23, NotDraining = 24, Exists = 25,
+    Draining = 23, NotDraining = 24, Exists = 25, Listening = 26,
     SnapshotMode = 101, NotSnapshotMode = 102, NeverStarted = 103, RotationPending = 104, AlreadyRotated = 105,
     AlreadyActive = 106, NotActive = 107, DiscardInSnapshot = 109, AlreadyStarted = 110, BadGeometry = 111, TooMany = 112,
     NotPending = 113, NameTaken = 115, NoChannel = 117, NoArchive = 118, Released = 119,

@@ -1,0 +1,279 @@
+/* Files in which the pages of rings lie: mapped shared, so that they are there when the program isn't any more.
+ *
+ * A file is parts of PART bytes, or of one page if that is larger. The first part says where the metadata is; each other one has
+ * pages of one size. A page that is free has zeros where a packet's header and context would be. */
+#include "rings.h"
+#include <errno.h>
+#include <fcntl.h>
+#include <stdio.h>
+#include <stdlib.h>
+#include <string.h>
+#include <sys/mman.h>
+#include <sys/stat.h>
+#include <unistd.h>
+
+enum {
+    PART = 65536,
+    SMALLEST = 256,
+    LARGEST = 1048576,
+    SIZES = 13,
+    FRONT = 80,
+    FILES = 16,
+    PATH_ROOM = 4096,
+    MOST_EARLIER = 9999
+};
+
+/* The most bytes that a file may have; less if the system gives no such addresses. */
+static const size_t MOST = (size_t)1 << 38, LEAST = (size_t)1 << 28;
+
+/* Pages of one size that are free: there is room for all there are. */
+typedef struct {
+    void **pages;
+    size_t count, all;
+} stack;
+
+struct rings {
+    int file;
+    uint8_t *base;        /* the first part; addresses are reserved behind it */
+    size_t reserved;      /* how many */
+    uint8_t *size_of;     /* of each part, the place of its pages' size among the sizes */
+    pthread_mutex_t lock; /* guards what follows */
+    size_t used;          /* bytes of the file */
+    stack free[SIZES];
+    char path[PATH_ROOM];
+};
+
+/* Those that there are, for blocks that are given back. A file's addresses stay reserved in a child of fork. */
+static struct rings *_Atomic there[FILES];
+
+static _Thread_local struct rings *here;
+
+void pages_in(struct rings *r) { here = r; }
+
+bool is_page(size_t size) { return here && size >= SMALLEST && size <= LARGEST && !(size & (size - 1)); }
+
+static unsigned place_of(size_t size) {
+    unsigned place = 0;
+    while ((size_t)SMALLEST << place < size)
+        place++;
+    return place;
+}
+
+static size_t size_at(unsigned place) { return (size_t)SMALLEST << place; }
+
+/* ---- Parts ---- */
+
+/* Adds so many bytes to the file, which the file system has then. The address, or NULL. */
+static uint8_t *add_part_locked(struct rings *r, size_t size) {
+    if (r->reserved - r->used < size)
+        return NULL;
+    int why = posix_fallocate(r->file, (off_t)r->used, (off_t)size);
+    if (why) {
+        errno = why;
+        return NULL;
+    }
+    uint8_t *at = mmap(r->base + r->used, size, PROT_READ | PROT_WRITE, MAP_SHARED | MAP_FIXED, r->file, (off_t)r->used);
+    if (at == MAP_FAILED)
+        return NULL;
+    r->used += size;
+    return at;
+}
+
+/* Adds a part with pages of this size, which are free. */
+static bool add_pages_locked(struct rings *r, unsigned place) {
+    size_t size = size_at(place), bytes = size > PART ? size : PART, count = bytes / size;
+    stack *s = &r->free[place];
+    void **pages = realloc(s->pages, (s->all + count) * sizeof *pages);
+    if (!pages)
+        return false;
+    s->pages = pages;
+    uint8_t *at = add_part_locked(r, bytes);
+    if (!at)
+        return false;
+    r->size_of[(size_t)(at - r->base) / PART] = (uint8_t)place;
+    s->all += count;
+    while (count--) /* the first one is taken first */
+        s->pages[s->count++] = at + count * size;
+    return true;
+}
+
+void *take_page(size_t size) {
+    struct rings *r = here;
+    unsigned place = place_of(size);
+    void *page = NULL;
+    pthread_mutex_lock(&r->lock);
+    stack *s = &r->free[place];
+    if (s->count || add_pages_locked(r, place))
+        page = s->pages[--s->count];
+    pthread_mutex_unlock(&r->lock);
+    return page;
+}
+
+static struct rings *rings_of(const void *at) {
+    for (int i = 0; i < FILES; i++) {
+        struct rings *r = atomic_load_explicit(&there[i], memory_order_acquire);
+        if (r && (const uint8_t *)at >= r->base && (const uint8_t *)at < r->base + r->reserved)
+            return r;
+    }
+    return NULL;
+}
+
+static unsigned place_at(const struct rings *r, const void *at) {
+    return r->size_of[(size_t)((const uint8_t *)at - r->base) / PART];
+}
+
+size_t size_in_rings(const void *at) {
+    const struct rings *r = rings_of(at);
+    return r ? size_at(place_at(r, at)) : 0;
+}
+
+void give_page_back(void *at) {
+    struct rings *r = rings_of(at);
+    memset(at, 0, FRONT); /* else who reads the file found a packet that is gone */
+    pthread_mutex_lock(&r->lock);
+    stack *s = &r->free[place_at(r, at)];
+    s->pages[s->count++] = at;
+    pthread_mutex_unlock(&r->lock);
+}
+
+/* ---- Metadata ---- */
+
+/* What a file begins with. */
+typedef struct {
+    char what[16];
+    uint64_t at, size; /* of the metadata; 0 before there is one */
+} opening;
+
+static const opening EMPTY = {"tracerd rings 1", 0, 0};
+
+bool keep_metadata(struct rings *r, const uint8_t *text, uint64_t size) {
+    opening *o = (opening *)(void *)r->base;
+    uint8_t *at = r->base + sizeof *o;
+    if (o->size == size && !memcmp(r->base + o->at, text, size))
+        return true;
+    if (size > PART - sizeof *o) {
+        pthread_mutex_lock(&r->lock);
+        at = add_part_locked(r, (size + PART - 1) / PART * PART);
+        pthread_mutex_unlock(&r->lock);
+    }
+    if (!at)
+        return false;
+    memcpy(at, text, size);
+    o->at = (uint64_t)(at - r->base);
+    o->size = size;
+    return true;
+}
+
+/* ---- Files ---- */
+
+/* Gives what has a path another name beside it: PATH.1, or the next number that is free. 0 if nothing has it. */
+static int rename_earlier(const char *path) {
+    struct stat found;
+    char other[PATH_ROOM + 8];
+    if (lstat(path, &found))
+        return errno == ENOENT ? 0 : -1;
+    if (!S_ISREG(found.st_mode)) {
+        errno = EEXIST;
+        return -1;
+    }
+    for (int i = 1; i <= MOST_EARLIER; i++) {
+        snprintf(other, sizeof other, "%s.%d", path, i);
+        if (!renameat2(AT_FDCWD, path, AT_FDCWD, other, RENAME_NOREPLACE))
+            return 0;
+        if (errno != EEXIST)
+            return -1;
+    }
+    return -1;
+}
+
+/* Addresses for a file of the largest size that the system gives. */
+static bool reserve(struct rings *r) {
+    for (r->reserved = MOST; r->reserved >= LEAST; r->reserved /= 2) {
+        void *at = mmap(NULL, r->reserved, PROT_NONE, MAP_PRIVATE | MAP_ANONYMOUS | MAP_NORESERVE, -1, 0);
+        if (at == MAP_FAILED)
+            continue;
+        (void)madvise(at, r->reserved, MADV_DONTDUMP); /* what has no memory yet */
+        r->base = at;
+        r->size_of = mmap(NULL, r->reserved / PART, PROT_READ | PROT_WRITE, MAP_PRIVATE | MAP_ANONYMOUS | MAP_NORESERVE, -1, 0);
+        if (r->size_of != MAP_FAILED)
+            return true;
+        munmap(at, r->reserved);
+        break;
+    }
+    r->base = NULL;
+    errno = ENOMEM;
+    return false;
+}
+
+/* Has blocks of its file be known. */
+static bool announce(struct rings *r) {
+    for (int i = 0; i < FILES; i++) {
+        struct rings *none = NULL;
+        if (atomic_compare_exchange_strong(&there[i], &none, r))
+            return true;
+    }
+    errno = EMFILE;
+    return false;
+}
+
+static void withdraw(struct rings *r) {
+    for (int i = 0; i < FILES; i++) {
+        struct rings *own = r;
+        if (atomic_compare_exchange_strong(&there[i], &own, NULL))
+            return;
+    }
+}
+
+static bool open_rings(struct rings *r, const char *path) {
+    if (strlen(path) >= PATH_ROOM) {
+        errno = ENAMETOOLONG;
+        return false;
+    }
+    strcpy(r->path, path);
+    if (rename_earlier(path))
+        return false;
+    r->file = open(path, O_RDWR | O_CREAT | O_EXCL | O_CLOEXEC | O_NOFOLLOW, 0600);
+    return r->file >= 0;
+}
+
+/* Removes the file, unless its path is another's. */
+static void remove_file(const struct rings *r) {
+    struct stat own, found;
+    if (!fstat(r->file, &own) && !lstat(r->path, &found) && own.st_dev == found.st_dev && own.st_ino == found.st_ino)
+        unlink(r->path);
+}
+
+void free_rings(struct rings *r) {
+    if (!r)
+        return;
+    int why = errno;
+    withdraw(r);
+    if (r->file >= 0) {
+        remove_file(r);
+        close(r->file);
+    }
+    if (r->base) {
+        munmap(r->base, r->reserved);
+        munmap(r->size_of, r->reserved / PART);
+    }
+    for (int i = 0; i < SIZES; i++)
+        free(r->free[i].pages);
+    free(r);
+    errno = why;
+}
+
+struct rings *make_rings(const char *path) {
+    struct rings *r = calloc(1, sizeof *r);
+    if (!r) {
+        errno = ENOMEM;
+        return NULL;
+    }
+    r->file = -1;
+    make_lock(&r->lock);
+    if (reserve(r) && open_rings(r, path) && add_part_locked(r, PART) && announce(r)) {
+        memcpy(r->base, &EMPTY, sizeof EMPTY);
+        return r;
+    }
+    free_rings(r);
+    return NULL;
+}

@@ -1,0 +1,212 @@
+/* Rings that lie in a file: what is refused, what the file has at each step, and what becomes of it.
+ *
+ *     rings DIR [few] */
+#include "testing.h"
+#include <errno.h>
+#include <fcntl.h>
+#include <sys/stat.h>
+#include <unistd.h>
+
+enum { PATH = 4096, ROOM = 1 << 21 };
+
+static const char *dir;
+static char path[PATH], other[PATH + 8];
+static int is_full;
+
+int __real_posix_fallocate(int file, off_t at, off_t size);
+int __wrap_posix_fallocate(int file, off_t at, off_t size);
+
+/* A file system may be full. */
+int __wrap_posix_fallocate(int file, off_t at, off_t size) { return is_full ? ENOSPC : __real_posix_fallocate(file, at, size); }
+
+static const char *file_named(const char *name) {
+    snprintf(path, sizeof path, "%s/%s", dir, name);
+    return path;
+}
+
+static int is_there(const char *name) { return !access(file_named(name), F_OK); }
+
+static mode_t mode_of(const char *name) {
+    struct stat found;
+    return lstat(file_named(name), &found) ? 0 : found.st_mode & 0777;
+}
+
+/* How many packets a file has: magic, identifier, and a content_size that isn't 0. */
+static int packets_in(const char *name) {
+    static uint8_t image[ROOM];
+    static const uint8_t magic[4] = {0xC1, 0x1F, 0xFC, 0xC1};
+    int found = 0, file = open(file_named(name), O_RDONLY);
+    ssize_t size = read(file, image, ROOM);
+    close(file);
+    for (ssize_t at = 0; at + 80 <= size; at++) {
+        uint64_t content;
+        memcpy(&content, image + at + 48, sizeof content);
+        found += !memcmp(image + at, magic, 4) && !memcmp(image + at + 4, ONE, 16) && content;
+    }
+    return found;
+}
+
+static int has_text(const char *name, const char *text) {
+    static char image[ROOM];
+    int file = open(file_named(name), O_RDONLY);
+    ssize_t size = read(file, image, ROOM);
+    close(file);
+    return size > 0 && memmem(image, (size_t)size, text, strlen(text)) != NULL;
+}
+
+static tracerd_session *made(const char *name, tracerd_kind kind) {
+    tracerd_session *s;
+    answers(OK, tracerd_new(&s, "s", ONE, 0, kind));
+    answers(OK, tracerd_rings_in(s, file_named(name)));
+    answers(OK, tracerd_channel(s, "c", 4096, 4, kind == TRACERD_LOCAL ? TRACERD_DISCARD : TRACERD_OVERWRITE));
+    return s;
+}
+
+/* Offers so many records of 2,000 bytes, of which a sub-buffer has two less one: so each begins one after the first. */
+static void offer(tracerd_producer *p, int count) {
+    static const uint8_t payload[2100];
+    tracerd_offered offered;
+    for (int i = 0; i < count; i++) answers(OK, tracerd_offer(p, 5, 1, payload, sizeof payload, &offered));
+}
+
+static void refuse(void) {
+    tracerd_session *s;
+    tracerd_producer *p;
+    answers(OK, tracerd_new(&s, "s", ONE, 0, TRACERD_LOCAL));
+    errno = 0;
+    answers(WRITE, tracerd_rings_in(s, file_named("missing/rings")));
+    is(errno == ENOENT);
+    answers(WRITE, tracerd_rings_in(s, dir));
+    is(errno == EEXIST);
+    answers(WRITE, tracerd_rings_in(s, ""));
+    is(errno == ENOENT);
+    is_full = 1;
+    answers(WRITE, tracerd_rings_in(s, file_named("full")));
+    is(errno == ENOSPC);
+    is_full = 0;
+    is(!is_there("full"));
+    answers(OK, tracerd_rings_in(s, file_named("one")));
+    answers(ALREADY_STARTED, tracerd_rings_in(s, file_named("two")));
+    tracerd_free(s);
+    answers(OK, tracerd_new(&s, "s", ONE, 0, TRACERD_LOCAL));
+    answers(OK, tracerd_channel(s, "c", 4096, 4, TRACERD_DISCARD));
+    answers(OK, tracerd_producer_new(s, "c", &p));
+    answers(ALREADY_STARTED, tracerd_rings_in(s, file_named("late")));
+    is(!is_there("late") && !is_there("two") && !is_there("one"));
+    tracerd_free(s);
+    counts_as_one();
+}
+
+static void hold(void) {
+    tracerd_producer *p;
+    tracerd_session *s = made("rings", TRACERD_SNAPSHOT);
+    is(mode_of("rings") == 0600);
+    answers(OK, tracerd_declare(s, "told 7 worker:u32", NULL));
+    answers(OK, tracerd_producer_new(s, "c", &p));
+    is(packets_in("rings") == 0);
+    is(!has_text("rings", "told"));
+    answers(OK, tracerd_start(s, 1));
+    is(has_text("rings", "/* CTF 1.8 */") && has_text("rings", "told"));
+    offer(p, 1);
+    is(packets_in("rings") == 1);
+    offer(p, 2);
+    is(packets_in("rings") == 3);
+    offer(p, 9);
+    is(packets_in("rings") == 4); /* the oldest ones are overwritten */
+    tracerd_free(s);
+    is(!is_there("rings"));
+    counts_as_one();
+}
+
+/* What is drained stays until it is released, and pages that take its place are in the file too. */
+static void drain(void) {
+    tracerd_producer *p;
+    uint64_t packets, archive;
+    tracerd_session *s = made("rings", TRACERD_LOCAL);
+    answers(OK, tracerd_producer_new(s, "c", &p));
+    answers(OK, tracerd_start(s, 1));
+    offer(p, 3);
+    answers(OK, tracerd_drain(s, &packets));
+    is(packets == 2 && packets_in("rings") == 3);
+    offer(p, 3);
+    is(packets_in("rings") == 6);
+    answers(OK, tracerd_rotate(s, 9, &archive));
+    offer(p, 2);
+    is(packets_in("rings") == 8);
+    answers(OK, tracerd_release(s, archive));
+    is(packets_in("rings") == 2);
+    tracerd_free(s);
+    counts_as_one();
+}
+
+/* A file system that is full refuses a producer, and a drain that lacks a page, which goes on later. */
+static void fill(void) {
+    tracerd_producer *p;
+    uint64_t packets = 0, all = 0;
+    tracerd_session *s = made("rings", TRACERD_LOCAL);
+    is_full = 1;
+    answers(NO_MEMORY, tracerd_producer_new(s, "c", &p));
+    is_full = 0;
+    answers(OK, tracerd_producer_new(s, "c", &p));
+    answers(OK, tracerd_start(s, 1));
+    is_full = 1;
+    tracerd_status status = TRACERD_OK;
+    for (int i = 0; i < 100 && !status; i++) {
+        offer(p, 1);
+        status = tracerd_drain(s, &packets);
+        all += packets;
+    }
+    is(status == TRACERD_NO_MEMORY && all > 0);
+    is_full = 0;
+    answers(OK, tracerd_drain(s, &packets));
+    tracerd_free(s);
+    counts_as_one();
+}
+
+/* What is there already stays, by another name; so does what has taken the file's place. */
+static void keep(void) {
+    tracerd_session *first = made("rings", TRACERD_LOCAL), *second = made("rings", TRACERD_LOCAL);
+    is(is_there("rings") && is_there("rings.1"));
+    snprintf(other, sizeof other, "%s/rings", dir);
+    is(!rename(other, file_named("mine")));
+    is(!symlink("mine", other));
+    tracerd_free(second);
+    is(is_there("mine"));
+    tracerd_free(first);
+    is(is_there("rings.1")); /* it has another name than it was made by */
+    answers(OK, tracerd_new(&first, "s", ONE, 0, TRACERD_LOCAL));
+    answers(WRITE, tracerd_rings_in(first, file_named("rings")));
+    is(errno == EEXIST); /* a link isn't followed */
+    tracerd_free(first);
+    counts_as_one();
+}
+
+static void make_many(void) {
+    enum { FILES = 16 };
+    tracerd_session *many[FILES], *more;
+    char name[16];
+    for (int i = 0; i < FILES; i++) {
+        snprintf(name, sizeof name, "many%d", i);
+        many[i] = made(name, TRACERD_LOCAL);
+    }
+    answers(OK, tracerd_new(&more, "s", ONE, 0, TRACERD_LOCAL));
+    answers(WRITE, tracerd_rings_in(more, file_named("more")));
+    is(errno == EMFILE && !is_there("more"));
+    tracerd_free(many[0]);
+    answers(OK, tracerd_rings_in(more, file_named("more")));
+    tracerd_free(more);
+    for (int i = 1; i < FILES; i++) tracerd_free(many[i]);
+    counts_as_one();
+}
+
+int main(int count, char **words) {
+    if (count < 2) return 2;
+    dir = words[1];
+    refuse();
+    hold();
+    drain();
+    fill();
+    keep();
+    if (count == 2) make_many(); /* valgrind has too few addresses for them */
+    return closing();
+}
