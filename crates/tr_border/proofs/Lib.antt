@@ -1,5 +1,4 @@
 mod AbsentLemmas
 mod CopyLemmas
-mod LineLemmas
 mod NameLemmas
 mod NumberLemmas

@@ -1,11 +1,9 @@
 //! What a line of a shell asks for, as C reads it.
 
 ghost use Rattle.std.specs.Prelude.{◌≡◌, IfOk, map, option_map};
-ghost use Rattle.std.specs.List.{list_all};
 ghost use Rattle.tr_border.specs.Asks.{asked_out, line_asked, plain_asked, words_asked};
 ghost use Rattle.tr_command.specs.Asked.{asked_by};
 ghost use Rattle.tr_command.specs.Language.{asked_of};
-ghost use Rattle.tr_lines.specs.Lines.{is_printable, text_of_line};
 
 use crate::codes::{
     ASKS_ARCHIVES, ASKS_BADLY, ASKS_CLEAR, ASKS_FATE, ASKS_NOTHING, ASKS_OTHER, ASKS_RELEASE,
@@ -13,8 +11,7 @@ use crate::codes::{
 };
 use std::alloc::{AllocError, Global};
 use tr_command::{Request, parse};
-use tr_lines::{Words, is_skipped_line, push_words};
-use tr_terms::limits::LONGEST_LINE;
+use tr_lines::{Words, is_skipped_line, push_words, text_of_line};
 
 /// What a line asks for. What it doesn't give is 0 or false.
 #[repr(C)]
@@ -145,31 +142,6 @@ pub fn asked_out(name: &[u8], asked: Option<Request<'_>>) -> AskedOut
         },
         _ => plain_asked(ASKS_OTHER, false),
     }
-}
-
-/// The text of a line, if it isn't too long and each byte can be printed.
-#[tactic(auto, using(crate::proofs::LineLemmas::line_is_text))]
-fn text_of_line(line: &[u8]) -> Option<&str>
-    ensures { option_map (λ t. t.now) result ≡ text_of_line line.now }
-{
-    if line.len() > LONGEST_LINE || !is_printable(line) {
-        return None;
-    }
-    let Ok(text) = str::from_utf8(line) else {
-        return None;
-    };
-    Some(text)
-}
-
-/// Whether each byte can be printed.
-fn is_printable(line: &[u8]) -> bool
-    ensures { result ≡ list_all is_printable line.now }
-{
-    let mut is_printable = true;
-    'bytes: for byte in line {
-        is_printable = is_printable & (*byte >= 0x20) & (*byte <= 0x7e);
-    }
-    is_printable
 }
 
 /// What the words of a command ask for, with the program's name before them.

@@ -2,7 +2,7 @@
 
 ghost use Rattle.std.specs.Prelude.{◌≡◌, ◌≢◌, ◌∷◌, ◌++◌, [], true, false, None, Option, MatchOption, slice_get};
 ghost use Rattle.tr_book.specs.declared.counts.Counts.{Counts};
-ghost use Rattle.tr_border.specs.Outs.{counts_out, fate_out};
+ghost use Rattle.tr_border.specs.Outs.{counts_out, fate_in, fate_out};
 ghost use Rattle.tr_border.specs.Replies.{fault_numbered, said_text};
 ghost use Rattle.tr_border.specs.Texts.{CopiesWhole};
 ghost use Rattle.tr_border.specs.declared.codes.TheConstants.{BAD_NAME, BAD_NUMBER, CLOSED, DONE, NO_MEMORY};
@@ -109,6 +109,7 @@ pub extern "C" fn trc_reply_fate(
 ) -> u32
     ensures value { (f : Option Fate) → fate_out f ≡ fate.now → result ≢ NO_MEMORY
         → CopiesWhole (fate_text f ++ 10 ∷ []) result room.old room.new count.old count.new }
+    ensures bad_number { fate_in fate.now ≡ None → result ≡ BAD_NUMBER }
     ensures refused { result ≢ DONE → (room.new ≡ room.old) × (count.new ≡ count.old) }
 {
     let Some(fate) = fate_in(*fate) else {

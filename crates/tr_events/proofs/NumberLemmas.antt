@@ -5,13 +5,12 @@ use Rattle.std.specs.List.{list_all}
 use Rattle.std.specs.Char.{digit_value}
 use Rattle.std.specs.Str.{IsAscii, IsUtf8}
 use Rattle.std.specs.Str.Parse.{AllDigits, IsNumeral, digits_value, without_leading_plus}
-use Rattle.std.proofs.lemmas.Bool.{lt-ltb, le-leb, leb-true, cases_order}
+use Rattle.std.proofs.lemmas.Bool.{lt-ltb, le-leb, cases_order}
 use Rattle.std.proofs.lemmas.Fmt.{decimal_by_steps, decimal_digit, decimal_is_IsNumeral, decimal_nonempty, first_decimal}
 use Rattle.std.proofs.lemmas.Grind.{common_steps}
 use Rattle.std.proofs.lemmas.List.Folds.{list_all-append}
 use Rattle.std.proofs.lemmas.Str.{IsUtf8-from_ascii}
 use Rattle.tr_events.specs.Numbers.{has_spare_zero, is_digit, number_of}
-use Rattle.tr_lines.specs.Lines.{is_printable}
 use Rattle.tr_terms.proofs.BoolLemmas.{both}
 
 digit-below : (b : ℕ) → is_digit b ≡ true → digit_value b < 10
@@ -92,14 +91,3 @@ pub number_is : (n : ℕ) → n < 2 ^ 64 → number_of (decimal n) ≡ Some n
 number_is n small =
     number_if (decimal n) n (lt-ltb 0 (length (decimal n)) (decimal_nonempty n small)) (digits_written n small) (no_spare_zero n small)
     (decimal_is_IsNumeral n small).1 (lt-ltb n (2 ^ 64) small)
-
--- ---- lines
-
-printed_ascii : (text : List ℕ) → list_all is_printable text ≡ true → IsAscii text
-printed_ascii [] e i = lit< tt
-printed_ascii (b ∷ bs) e zero = let most = leb-true b 0x7e (both _ _ (both _ _ e).0).1 in omega (arith, most)
-printed_ascii (b ∷ bs) e (suc i) = printed_ascii bs (both _ _ e).1 i
-
--- what can be printed is a text
-pub printed_is_text : (text : List ℕ) → list_all is_printable text ≡ true → IsUtf8 text
-printed_is_text text e = IsUtf8-from_ascii text (printed_ascii text e)

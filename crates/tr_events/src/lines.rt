@@ -1,10 +1,9 @@
 //! What the lines of a text declare.
 
 ghost use Rattle.std.specs.Prelude.{◌≡◌, ◌++◌, [], IfOk, OnOk, Ok, map, nat_le};
-ghost use Rattle.std.specs.List.{flat_map, list_all};
+ghost use Rattle.std.specs.List.{flat_map};
 ghost use Rattle.std.specs.Option.{option_and_then};
 ghost use Rattle.std.specs.String.{string_bytes};
-ghost use Rattle.tr_lines.specs.Lines.{is_printable};
 ghost use Rattle.tr_events.specs.Numbers.{number_of};
 ghost use Rattle.tr_events.specs.Lines.{added, after_line, after_lines, are_names_apart, checked, event_by, event_in, field_in, fields_in, id_if, is_among_names, is_event_name, is_field_name, is_taken, least, least_of, listed, names_of, placed, unless};
 ghost use Rattle.tr_events.specs.declared.layouts.TheConstants.{MOST_PAYLOAD};
@@ -16,7 +15,7 @@ use crate::layouts::{Layout, MOST_EVENTS, MOST_FIELDS, MOST_PAYLOAD};
 use crate::numbers::number_in;
 use crate::types::{parted_at, type_in};
 use std::alloc::{AllocError, Global};
-use tr_lines::{Words, is_skipped_line, push_words};
+use tr_lines::{Words, has_only_printable, is_skipped_line, push_words};
 use tr_terms::Name;
 
 /// Whether a field may have this name.
@@ -234,13 +233,6 @@ fn add(event: Event, events: &mut Vec<Event>) -> Result<Option<EventFault>, Allo
     Ok(None)
 }
 
-/// Whether all of a line can be printed.
-fn is_printable(line: &[u8]) -> bool
-    ensures { result ≡ list_all is_printable line.now }
-{
-    line.iter().all(|b| (0x20..=0x7e).contains(b))
-}
-
 /// Adds the event that a line declares, if it declares one.
 fn add_line(
     alloc: Global,
@@ -249,7 +241,7 @@ fn add_line(
 ) -> Result<Option<EventFault>, AllocError>
     ensures { IfOk result (λ fault. unless fault events.new.items ≡ after_line events.old.items line.now) }
 {
-    if !is_printable(line) {
+    if !has_only_printable(line) {
         return Ok(Some(EventFault::BadEvent));
     }
     let Ok(text) = str::from_utf8(line) else {

@@ -1,8 +1,9 @@
 -- Lines, and how they make up a script.
 use Rattle.std.proofs.Common.{◌≡◌, ◌∙◌, ◌<◌, ◌≤◌, ◌+◌, ◌-◌, ◌&&◌, ℕ, Bool, zero, suc, cond, true, false, refl, sym, ap, ap₂, inl, inr, length-append, arith, List, [], ◌∷◌, ◌++◌, Option, Some, None, length, take, get_or, nat_le, true≢false, lit<, lt-ltb, append_assoc, append-nil, add-one, drop-cons}
 use Rattle.std.specs.List.{flat_map, list_all, onto_first, position, position_or_len}
-use Rattle.std.specs.Str.{IsAscii}
+use Rattle.std.specs.Str.{IsAscii, IsUtf8}
 use Rattle.std.proofs.Math.ListN.{drop}
+use Rattle.std.proofs.lemmas.Str.{IsUtf8-from_ascii}
 use Rattle.std.proofs.lemmas.List.{take-append-drop, take-append-le}
 use Rattle.std.proofs.lemmas.List.Elements.{All-from_get_or}
 use Rattle.std.proofs.lemmas.List.Folds.{list_all-append}
@@ -23,6 +24,9 @@ pub printable_is_ascii : (text : List ℕ) → list_all is_printable text ≡ tr
 printable_is_ascii [] e i = lit< tt
 printable_is_ascii (b ∷ bytes) e zero = below_128 b (both (is_printable b) (list_all is_printable bytes) e).0
 printable_is_ascii (b ∷ bytes) e (suc i) = printable_is_ascii bytes (both (is_printable b) (list_all is_printable bytes) e).1 i
+
+pub printable_is_text : (text : List ℕ) → list_all is_printable text ≡ true → IsUtf8 text
+printable_is_text text e = IsUtf8-from_ascii text (printable_is_ascii text e)
 
 -- ---- a line in parts
 

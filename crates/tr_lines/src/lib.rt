@@ -14,11 +14,13 @@
 //! Lines are read whole, however the source cuts them. A script that is too long is refused, so reading ends over every
 //! source. `take_line` asks no source, so whoever reads can answer all that came before more is asked for. The words of a line
 //! are the parts between spaces that aren't empty.
+//! `text_of_line` has the text of a line that is there as a whole, by the same rule.
 #![tactic(auto)]
 
 mod line;
 mod reader;
 mod words;
 
+pub use line::{has_only_printable, text_of_line};
 pub use reader::{Found, LineReader, ReadFault};
 pub use words::{Words, is_skipped_line, push_words};

@@ -1,15 +1,15 @@
-//! A line as it comes in parts.
+//! A line as it comes in parts, and one that is there as a whole.
 
 ghost use Rattle.std.specs.Prelude.{◌≡◌, Some, [], OnOk, OnErr, option_map};
 ghost use Rattle.std.specs.List.{list_all};
-ghost use Rattle.tr_lines.specs.Lines.{is_printable, keep_more};
+ghost use Rattle.tr_lines.specs.Lines.{is_printable, keep_more, text_of_line};
 
 use std::alloc::{AllocError, Allocator, Global};
 use std::marker::Model;
 use tr_terms::limits::LONGEST_LINE;
 
 /// Whether all bytes are printable. It goes on after one that isn't, so that many bytes are compared at once.
-fn has_only_printable(part: &[u8]) -> bool
+pub fn has_only_printable(part: &[u8]) -> bool
     ensures { result ≡ list_all is_printable part.now }
 {
     let mut is_printable = true;
@@ -17,6 +17,20 @@ fn has_only_printable(part: &[u8]) -> bool
         is_printable = is_printable & (*byte >= 0x20) & (*byte <= 0x7e);
     }
     is_printable
+}
+
+/// The text of a line, if it isn't too long and all of its bytes are printable.
+#[tactic(auto, using(crate::proofs::LineLemmas::printable_is_text))]
+pub fn text_of_line(line: &[u8]) -> Option<&str>
+    ensures { option_map (λ t. t.now) result ≡ text_of_line line.now }
+{
+    if line.len() > LONGEST_LINE || !has_only_printable(line) {
+        return None;
+    }
+    let Ok(text) = str::from_utf8(line) else {
+        return None;
+    };
+    Some(text)
 }
 
 /// The text of a line, as far as it came. Nothing more is kept of a bad line. Contracts see the text, or none for a bad

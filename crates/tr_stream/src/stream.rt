@@ -82,6 +82,7 @@ impl<A: Allocator + Copy> Stream<A> {
             })) }
         ensures starts { IfOk result (λ s. StandsFor s new_history) }
     {
+        // (read for the proof, which learns that an identifier has 16 bytes)
         let _ = uuid.into_bytes();
         let origin = Origin {
             uuid,

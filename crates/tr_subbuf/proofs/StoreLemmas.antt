@@ -6,15 +6,15 @@ use Rattle.tr_packet.specs.Decoding.{Begins, bytes_from, content_bits_in, packet
 use Rattle.tr_packet.specs.Packets.{Contents, IsPacket, contents, context_text, header_text, magic, packet_size, packet_text}
 use Rattle.tr_packet.specs.Texts.{HeadFits}
 use Rattle.tr_packet.specs.declared.head.Head.{Head}
-use Rattle.tr_packet.specs.declared.layout.TheConstants.{CONTENT_SIZE_AT, END_AT, PACKET_SIZE_AT, SEQ_AT}
+use Rattle.tr_packet.specs.declared.layout.TheConstants.{CONTENT_SIZE_AT, END_AT, LOST_AT, PACKET_SIZE_AT, SEQ_AT}
 use Rattle.tr_packet.proofs.LayoutLemmas.{fields_read}
 use Rattle.tr_packet.proofs.TextLemmas.{length-packet_text}
 use Rattle.tr_record.specs.Records.{Entry, record_text, records_text}
 use Rattle.tr_record.specs.Weight.{record_weight, weight_of}
 use Rattle.tr_record.proofs.RecordLemmas.{length-record_text, records_text-push, weight_of-push}
 use Rattle.tr_record.proofs.Fields.{numeral_64}
-use Rattle.tr_subbuf.specs.Stores.{NoneStands, Stands, Store, after_store, after_stores, committed, put_stores, store}
-use Rattle.tr_subbuf.specs.SubBuffer.{ending}
+use Rattle.tr_subbuf.specs.Stores.{NoneStands, Stands, Store, after_store, after_stores, begin_stores, committed, put_stores, store}
+use Rattle.tr_subbuf.specs.SubBuffer.{ending, losing}
 use Rattle.tr_terms.specs.declared.limits.TheConstants.{PACKET_HEADER}
 
 -- a header and context whose sizes need not be equal, and what is behind them
@@ -230,16 +230,150 @@ content_of h content size back sixteen small =
     ∙ ap (from_le_bytes w64) (take_at (word content) (word size ++ late h back) 8 (numeral_64.len content))
     ∙ numeral_64.read content small
 
+-- so no packet stands where content_size is 0
+none_in_front : (h : Head) (size : ℕ) (back : List ℕ) → length h.uuid ≡ 16 → NoneStands (front h 0 size back)
+none_in_front h size back sixteen = λ q found.
+    let text : front h 0 0 back ≡ front q.head (8 * packet_size q) (8 * packet_size q) (records_text q.records ++ found.rest) =
+    sym (commits h 0 size back sixteen) ∙ found.begins.parts ∙ text_so q found.rest in
+    let zero-is = content_of h 0 0 back sixteen (omega arith) in
+    absurd (omega (arith, sym zero-is ∙ ap content_bits_in text ∙ size_of q found.rest found.begins.packet))
+  where
+    size_of : (q : Contents) (rest : List ℕ) → IsPacket q
+        → content_bits_in (front q.head (8 * packet_size q) (8 * packet_size q) (records_text q.records ++ rest)) ≡ 8 * packet_size q
+    size_of q rest is =
+        content_of q.head (8 * packet_size q) (8 * packet_size q) (records_text q.records ++ rest) is.uuid (omega (arith, is.records.small))
+
 pub emptied : (h : Head) (es : List Entry) (stale : List ℕ) → IsPacket (contents h es)
     → NoneStands (after_store (store CONTENT_SIZE_AT (to_le_bytes w64 0)) (packet_text (contents h es) ++ stale))
-emptied h es stale is = λ q found.
+emptied h es stale is =
     let bits = 8 * weight_of es in
     let back = records_text es ++ stale in
-    let there : after_store (store CONTENT_SIZE_AT (word 0)) (packet_text (contents h es) ++ stale) ≡ front h 0 bits back =
-    ap (after_store (store CONTENT_SIZE_AT (word 0))) (text_so (contents h es) stale) ∙ content_stored h bits bits 0 back is.uuid in
-    let text : front h 0 0 back ≡ front q.head (8 * packet_size q) (8 * packet_size q) (records_text q.records ++ found.rest) =
-    sym (commits h 0 bits back is.uuid) ∙ ap committed (sym there) ∙ found.begins.parts ∙ text_so q found.rest in
-    let zero-is = content_of h 0 0 back is.uuid (omega arith) in
-    let size-is = content_of q.head (8 * packet_size q) (8 * packet_size q) (records_text q.records ++ found.rest) found.begins.packet.uuid
-    (omega (arith, found.begins.packet.records.small)) in
-    absurd (omega (arith, sym zero-is ∙ ap content_bits_in text ∙ size-is))
+    subst NoneStands
+    (sym (ap (after_store (store CONTENT_SIZE_AT (word 0))) (text_so (contents h es) stale) ∙ content_stored h bits bits 0 back is.uuid))
+    (none_in_front h bits back is.uuid)
+
+-- ---- a first record
+
+-- the number that is read as content_size is the one that counts
+committed_size : (memory : List ℕ) → PACKET_HEADER ≤ length memory → content_bits_in (committed memory) ≡ content_bits_in memory
+committed_size memory long =
+    let start = take CONTENT_SIZE_AT memory in
+    let number = bytes_from 8 CONTENT_SIZE_AT memory in
+    let rest = bytes_from 8 CONTENT_SIZE_AT memory ++ drop SEQ_AT memory in
+    let few : length start ≡ CONTENT_SIZE_AT = omega (arith, long, length-take CONTENT_SIZE_AT memory) in
+    let eight : length number ≡ 8 = omega (arith, long, length-take 8 (drop CONTENT_SIZE_AT memory), length-drop CONTENT_SIZE_AT memory) in
+    let kept : take PACKET_SIZE_AT memory ≡ start ++ number =
+    ap (take PACKET_SIZE_AT) (sym (take-append-drop CONTENT_SIZE_AT memory)
+    ∙ ap (λ (t : List ℕ). start ++ t) (sym (take-append-drop 8 (drop CONTENT_SIZE_AT memory)))
+    ∙ sym (append_assoc start number (drop 8 (drop CONTENT_SIZE_AT memory))))
+    ∙ take_at (start ++ number) (drop 8 (drop CONTENT_SIZE_AT memory)) PACKET_SIZE_AT (omega (arith, few, eight, length-append start number)) in
+    let is : committed memory ≡ start ++ (number ++ rest) = ap (λ (t : List ℕ). t ++ rest) kept ∙ append_assoc start number rest in
+    ap (λ (t : List ℕ). from_le_bytes w64 (take 8 t)) (ap (drop CONTENT_SIZE_AT) is ∙ drop_at start (number ++ rest) CONTENT_SIZE_AT few)
+    ∙ ap (from_le_bytes w64) (take_at number rest 8 eight)
+
+none_stands : (memory : List ℕ) → PACKET_HEADER ≤ length memory → content_bits_in memory ≡ 0 → NoneStands memory
+none_stands memory long none = λ q found.
+    let bits = 8 * packet_size q in
+    let back = records_text q.records ++ found.rest in
+    let text : committed memory ≡ front q.head bits bits back = found.begins.parts ∙ text_so q found.rest in
+    let size-is = content_of q.head bits bits back found.begins.packet.uuid (omega (arith, found.begins.packet.records.small)) in
+    absurd (omega (arith, none, sym (committed_size memory long) ∙ ap content_bits_in text ∙ size-is))
+
+pub begin-whole : (h : Head) (e : Entry) (memory : List ℕ) (k : ℕ) → content_bits_in memory ≡ 0
+    → IsPacket (contents (ending e.moment h) (e ∷ [])) → PACKET_HEADER + record_weight e ≤ length memory
+    → NoneStands (after_stores (take k (begin_stores h e)) memory)
+    ⊎ Stands (contents (ending e.moment h) (e ∷ [])) (after_stores (take k (begin_stores h e)) memory)
+begin-whole h e memory k none is long = by_count k
+  where
+    behind : List ℕ
+    behind = drop PACKET_HEADER memory
+
+    back : List ℕ
+    back = record_text e ++ drop (record_weight e) behind
+
+    bits : ℕ
+    bits = 8 * (PACKET_HEADER + record_weight e)
+
+    head : List ℕ
+    head = header_text h ++ context_text h 0
+
+    head_long : length head ≡ PACKET_HEADER
+    head_long =
+        omega (
+          arith,
+          is.uuid,
+          length-append (header_text h) (context_text h 0),
+          length-append h.uuid (to_le_bytes w32 0 ++ word h.stream),
+        )
+
+    one : after_store (store 0 head) memory ≡ front h 0 0 behind
+    one =
+        stored 0 [] (take PACKET_HEADER memory) behind head memory (sym (take-append-drop PACKET_HEADER memory)) refl
+        (omega (arith, long, head_long, length-take PACKET_HEADER memory))
+        ∙ append_assoc (header_text h) (context_text h 0) behind ∙ stands_so h 0 behind
+
+    parts : front h 0 0 behind ≡ head ++ (take (record_weight e) behind ++ drop (record_weight e) behind)
+    parts =
+        sym (append_assoc (header_text h) (context_text h 0) behind ∙ stands_so h 0 behind)
+        ∙ ap (λ (t : List ℕ). head ++ t) (sym (take-append-drop (record_weight e) behind))
+
+    two : after_store (store PACKET_HEADER (record_text e)) (after_store (store 0 head) memory) ≡ front h 0 0 back
+    two =
+        ap (after_store (store PACKET_HEADER (record_text e))) one
+        ∙ stored PACKET_HEADER head (take (record_weight e) behind) (drop (record_weight e) behind) (record_text e) (front h 0 0 behind) parts head_long
+        (omega (arith, long, length-take (record_weight e) behind, length-drop PACKET_HEADER memory, length-record_text e))
+        ∙ append_assoc (header_text h) (context_text h 0) back ∙ stands_so h 0 back
+
+    three : after_store (store END_AT (word e.moment)) (after_store (store PACKET_HEADER (record_text e)) (after_store (store 0 head) memory))
+        ≡ front (ending e.moment h) 0 0 back
+    three = ap (after_store (store END_AT (word e.moment))) two ∙ end_stored h 0 0 e.moment back is.uuid
+
+    four : after_store (store CONTENT_SIZE_AT (word bits)) (after_store (store END_AT (word e.moment)) (after_store (store PACKET_HEADER (record_text e))
+        (after_store (store 0 head) memory))) ≡ front (ending e.moment h) bits 0 back
+    four = ap (after_store (store CONTENT_SIZE_AT (word bits))) three ∙ content_stored (ending e.moment h) 0 0 bits back is.uuid
+
+    last : List ℕ
+    last = after_store (store PACKET_SIZE_AT (word bits)) (after_store (store CONTENT_SIZE_AT (word bits)) (after_store (store END_AT (word e.moment))
+        (after_store (store PACKET_HEADER (record_text e)) (after_store (store 0 head) memory))))
+
+    five : last ≡ front (ending e.moment h) bits bits back
+    five = ap (after_store (store PACKET_SIZE_AT (word bits))) four ∙ size_stored (ending e.moment h) bits 0 bits back is.uuid
+
+    after : (size : ℕ) (found : List ℕ) → found ≡ front (ending e.moment h) bits size back → Stands (contents (ending e.moment h) (e ∷ [])) found
+    after size found it =
+        subst (Stands (contents (ending e.moment h) (e ∷ [])))
+        (sym (it ∙ ap (λ (n : ℕ). front (ending e.moment h) n size back) (omega (arith, weight_of-push [] e))
+        ∙ ap (front (ending e.moment h) (8 * weight_of (e ∷ [])) size) (sym (records_push [] e (drop (record_weight e) behind)))))
+        (stands (ending e.moment h) (e ∷ []) size (drop (record_weight e) behind) is)
+
+    by_count : (n : ℕ) → NoneStands (after_stores (take n (begin_stores h e)) memory)
+        ⊎ Stands (contents (ending e.moment h) (e ∷ [])) (after_stores (take n (begin_stores h e)) memory)
+    by_count zero = inl (none_stands memory (omega (arith, long)) none)
+    by_count (suc zero) = inl (subst NoneStands (sym one) (none_in_front h 0 behind is.uuid))
+    by_count (suc (suc zero)) = inl (subst NoneStands (sym two) (none_in_front h 0 back is.uuid))
+    by_count (suc (suc (suc zero))) = inl (subst NoneStands (sym three) (none_in_front (ending e.moment h) 0 back is.uuid))
+    by_count (suc (suc (suc (suc zero)))) = inr (after 0 _ four)
+    by_count (suc (suc (suc (suc (suc n))))) =
+        inr (after bits (after_stores (take n []) last) (ap (λ (ss : List Store). after_stores ss last) (take_none n) ∙ five))
+
+-- ---- losses
+
+lost_stored : (h : Head) (content size lost : ℕ) (back : List ℕ) → length h.uuid ≡ 16
+    → after_store (store LOST_AT (word lost)) (front h content size back) ≡ front (losing lost h) content size back
+lost_stored h content size lost back sixteen =
+    let first = early h ++ (word h.end ++ (word content ++ (word size ++ word h.seq))) in
+    stored LOST_AT first (word h.lost) back (word lost) (front h content size back)
+    (sym (in_six (early h) (word h.end) (word content) (word size) (word h.seq) (word h.lost ++ back)) ∙ refl)
+    (omega (arith, early_long h sixteen, length-append (early h) (word h.end ++ (word content ++ (word size ++ word h.seq))))) refl
+    ∙ in_six (early h) (word h.end) (word content) (word size) (word h.seq) (word lost ++ back)
+  where
+    in_six : (a b c d s l : List ℕ) → (a ++ (b ++ (c ++ (d ++ s)))) ++ l ≡ a ++ (b ++ (c ++ (d ++ (s ++ l))))
+    in_six a b c d s l = simp append_assoc
+
+pub lost-whole : (h : Head) (es : List Entry) (lost : ℕ) (stale : List ℕ) → IsPacket (contents h es) → IsPacket (contents (losing lost h) es)
+    → Stands (contents (losing lost h) es) (after_store (store LOST_AT (to_le_bytes w64 lost)) (packet_text (contents h es) ++ stale))
+lost-whole h es lost stale is more =
+    let bits = 8 * weight_of es in
+    subst (Stands (contents (losing lost h) es))
+    (sym (ap (after_store (store LOST_AT (word lost))) (text_so (contents h es) stale) ∙ lost_stored h bits bits lost (records_text es ++ stale) is.uuid))
+    (stands (losing lost h) es bits stale more)

@@ -2,10 +2,12 @@
 use Rattle.std.specs.Prelude.{ℕ, ◌+◌, ◌*◌, List, [], ◌∷◌, ◌++◌, length, take, drop}
 use Rattle.std.specs.Int.{w64, to_le_bytes}
 use Rattle.tr_packet.specs.Decoding.{Begins, bytes_from}
-use Rattle.tr_packet.specs.Packets.{Contents}
+use Rattle.tr_packet.specs.Packets.{Contents, context_text, header_text}
+use Rattle.tr_packet.specs.declared.head.Head.{Head}
 use Rattle.tr_packet.specs.declared.layout.TheConstants.{CONTENT_SIZE_AT, END_AT, PACKET_SIZE_AT, SEQ_AT}
 use Rattle.tr_record.specs.Records.{Entry, record_text}
 use Rattle.tr_record.specs.Weight.{record_weight}
+use Rattle.tr_terms.specs.declared.limits.TheConstants.{PACKET_HEADER}
 
 -- memory whose content_size stands for its packet_size too
 abbrev pub committed : List ℕ → List ℕ
@@ -40,3 +42,7 @@ abbrev pub put_stores : ℕ → Entry → List Store
 put_stores used e =
     let size = to_le_bytes w64 (8 * (used + record_weight e)) in
     store used (record_text e) ∷ store END_AT (to_le_bytes w64 e.moment) ∷ store CONTENT_SIZE_AT size ∷ store PACKET_SIZE_AT size ∷ []
+
+-- a first record is put behind a packet's header and context, of the size 0 until the record is there
+abbrev pub begin_stores : Head → Entry → List Store
+begin_stores h e = store 0 (header_text h ++ context_text h 0) ∷ put_stores PACKET_HEADER e

@@ -19,7 +19,8 @@
 //! - The records are within the sub-buffer's size, as a packet.
 //! - The packet that the page becomes has just these records, and so has a copy of it.
 //! - What stands in memory after a call is that packet's text, or, without a record, no packet. While a call is under way it is so
-//!   too by the list of its stores (`laws`): the packet before or after, and never a part of a record.
+//!   too by the list of its stores (`laws`): the packet before or after, or none before its first record, and never a part of a
+//!   record.
 //!
 //! # What is only tested
 //!

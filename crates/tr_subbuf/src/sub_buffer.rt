@@ -154,6 +154,7 @@ impl<A: Allocator> SubBuf<A> {
         let mut bytes = Vec::with_capacity(alloc, room)?;
         let _ = bytes.resize(room, 0);
         bytes.truncate(PACKET_HEADER);
+        // (it is 0 already, which `resize` doesn't say)
         renumber(&mut bytes, CONTENT_SIZE_AT, 0);
         Ok(SubBuf {
             bytes,
@@ -250,6 +251,7 @@ impl<A: Allocator> SubBuf<A> {
         requires room { IsTrue (has_room self.old (length entry.now.payload)) }
         ensures { self.new ≡ first_record head entry.now self.old }
     {
+        // (read for the proof, which learns that an identifier has 16 bytes)
         let _ = head.uuid.into_bytes();
         write_front(&mut self.bytes, &head);
         append(&mut self.bytes, entry);
