@@ -3,7 +3,7 @@ use Rattle.std.proofs.Common.{zero, ◌<◌, drop-drop, take-append-drop, ◌≡
 use Rattle.std.proofs.lemmas.Grind.{common_steps}
 use Rattle.std.proofs.lemmas.List.{length-append, take-append-le, take_all}
 use borrow.Rule.Slice.PartMut.{put_mid, post_of}
-use Rattle.tr_folders.specs.Tree.{File, IsBroken, Opens, Reads}
+use Rattle.tr_folders.specs.Tree.{File, IsBroken, Opens, Reads, ReadsOn}
 use Rattle.tr_folders.specs.Kept.{file_of}
 
 pub take_over : {A : Type 0} (xs ys zs : List A) (n : ℕ) → n ≤ length ys → take (length xs + n) (xs ++ (ys ++ zs)) ≡ xs ++ take n ys
@@ -41,6 +41,20 @@ reads_all a k xs ys bytes rest left within is reads =
     let l : length (take a xs) ≡ a = grind (arith, common_steps) in
     take-append-le a (take a xs) (ys ++ post_of a k xs) (omega (arith, l)) ∙ take_all a (take a xs) (omega (arith, l)) ∙ sym whole
     ∙ sym (take_all (length xs) bytes (let m = ap length whole in omega (arith, l, m)))
+
+pub reads_on : (a k : ℕ) (xs ys : List ℕ) (file rest : File) (left : Option File) (Ends : Type 0) → a ≤ length xs → file.bytes ≡ take a xs ++ rest.bytes
+    → rest.breaks ≡ file.breaks → Reads rest [] left → ReadsOn file (take a (put_mid a k xs ys)) Ends left
+reads_on a k xs ys file rest left Ends within is same reads =
+    let none : reads.rest ≡ [] = (reads.end refl).0 in
+    let l : length (take a xs) ≡ a = grind (arith, common_steps) in
+    let kept : take a (put_mid a k xs ys) ≡ take a xs =
+    take-append-le a (take a xs) (ys ++ post_of a k xs) (omega (arith, l)) ∙ take_all a (take a xs) (omega (arith, l)) in
+    record {
+      rest = reads.rest;
+      is = is ∙ ap (λ (t : List ℕ). take a xs ++ t) reads.is ∙ ap (λ (t : List ℕ). t ++ reads.rest) (sym kept);
+      left_is = reads.left_is ∙ ap (λ (b : Bool). Some (file_of reads.rest b)) same;
+      end = λ ends. (none, sym same ∙ (reads.end refl).1);
+    }
 
 -- a file that was read to its end has as many bytes as were read
 pub all_read : (a : ℕ) (xs bytes : List ℕ) (rest : List ℕ) → a < length xs → bytes ≡ take a xs ++ rest → rest ≡ [] → length bytes < length xs

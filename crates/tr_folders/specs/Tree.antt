@@ -28,6 +28,13 @@ pub record Reads (before : File) (given : List ℕ) (left : Option File) : Type 
   pub left_is : left ≡ Some (record { bytes = rest; breaks = before.breaks })
   pub end : given ≡ [] → (rest ≡ []) × (before.breaks ≡ false)
 
+-- the same of several reads one after another, which go on until so many bytes are there or the file ends
+pub record ReadsOn (before : File) (given : List ℕ) (Ends : Type 0) (left : Option File) : Type 0 where
+  pub rest : List ℕ
+  pub is : before.bytes ≡ given ++ rest
+  pub left_is : left ≡ Some (record { bytes = rest; breaks = before.breaks })
+  pub end : Ends → (rest ≡ []) × (before.breaks ≡ false)
+
 -- all was given that can be read of a file, and more of it can't
 abbrev pub IsBroken : File → Type 0
 IsBroken file = (file.bytes ≡ []) × (file.breaks ≡ true)

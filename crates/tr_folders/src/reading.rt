@@ -1,9 +1,10 @@
 //! Reading the file that is open.
 
-ghost use Rattle.std.specs.Prelude.{◌≡◌, ◌<◌, ◌≤◌, Some, IfOk, IfErr, false, true, length, take};
+ghost use Rattle.std.specs.Prelude.{◌≡◌, ◌+◌, ◌<◌, ◌≤◌, Some, IfOk, IfErr, false, true, length, take};
 ghost use Rattle.tr_folders.specs.Failures.{after_reading};
-ghost use Rattle.tr_folders.specs.Tree.{File};
+ghost use Rattle.tr_folders.specs.Tree.{File, ReadsOn};
 ghost use Rattle.tr_folders.specs.declared.faults.ReadFault.TheVariants.{Unreadable};
+ghost use Rattle.tr_folders.specs.declared.folders.TheConstants.{MOST_BYTES};
 
 use crate::faults::ReadFault;
 use crate::folders::Folders;
@@ -27,6 +28,10 @@ pub fn read_front<F: Folders>(folders: &mut F, buffer: &mut [u8]) -> Result<usiz
         → take n buffer.new ≡ take (length buffer.old) file.bytes) }
     ensures whole { IfOk result (λ n. (file : File) → F.left folders.old ≡ Some file
         → length file.bytes < length buffer.old → file.breaks ≡ false) }
+    ensures left { IfOk result (λ n. (file : File) → F.left folders.old ≡ Some file
+        → ReadsOn file (take n buffer.new) (n < length buffer.new) (F.left folders.new)) }
+    ensures given { IfOk result (λ n. F.given folders.new ≡ F.given folders.old + n) }
+    ensures few { IfOk result (λ n. 0 < n → F.given folders.new < MOST_BYTES) }
     ensures broken { IfErr result (λ fault. fault ≡ Unreadable → (file : File) → F.left folders.old ≡ Some file
         → (length file.bytes < length buffer.old) × (file.breaks ≡ true)) }
     ensures len { length buffer.new ≡ length buffer.old }
