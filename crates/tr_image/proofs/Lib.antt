@@ -1,0 +1,4 @@
+pub mod KeptLemmas
+pub mod LawLemmas
+pub mod MemoryLemmas
+pub mod ScanLemmas

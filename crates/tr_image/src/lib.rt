@@ -1,0 +1,32 @@
+//! What stands in an image: in a file of rings that outlives its program, a dump of a program's memory, a copy of a disk, or any
+//! other bytes.
+//!
+//! A sub-buffer's page is its packet's text after each call, and its size is stored last (tr_subbuf). So whatever became of the
+//! program, its packets are found by their bytes alone: at each place of the image, by the decoder's rules, but that a packet is
+//! as large as its content_size says, whatever stands there as its packet_size (both can't be stored at once).
+//!
+//! # Example
+//!
+//! ```
+//! let packets = recovered_packets(alloc, &uuid, &mut folders, "app.rings")?;  // None if there is no such file
+//! ```
+//!
+//! # What is proved
+//!
+//! - Of a file that is read to its end just the packets are answered that its bytes have as an image (`recovered_from`), however it
+//!   is read, and for any image. It is gone through once, by windows of twice the largest packet.
+//! - `laws`: each of them stands in the image, as a packet of the trace; for each packet of the trace that stands there, one of
+//!   its stream and number is answered that has as many records, or more; they are in the order of streams and numbers.
+//!
+//! # What is only tested
+//!
+//! That a packet in a copy of a page's memory is what the program had offered: programs that record are killed at any moment
+//! (the C library's tests). That the memory which is taken is that of the packets which are kept, and of one window.
+#![tactic(auto)]
+
+mod image;
+mod kept;
+pub mod laws;
+mod scanning;
+
+pub use scanning::recovered_packets;
