@@ -6,17 +6,24 @@ ghost use Rattle.tr_export.specs.Content.{IsHeld, content_text};
 
 use std::alloc::Allocator;
 use tr_book::Part;
-use tr_chunk::{WriteFault, write_part};
+use tr_chunk::{WriteFault, write_part, write_texts};
 use tr_events::Event;
 use tr_metadata::metadata_text;
+use tr_packet::PacketText;
 use tr_record::{ByteSink, put_all};
 use uuid::Uuid;
 
-/// What goes into a file of an archive: the metadata text of a trace with its events, or a part's packets.
+/// What goes into a file of an archive.
 #[derive(Drop)]
-pub(crate) enum Content<'a, A: Allocator> {
+pub enum Content<'a, A: Allocator> {
+    /// The metadata text of a trace with its events.
     Metadata(&'a Uuid, &'a [Event<A>]),
+    /// A part's packets.
     Packets(&'a Part<A>),
+    /// Packets that belong to no part.
+    Texts(&'a [PacketText<A>]),
+    /// Bytes as they are.
+    Bytes(&'a [u8]),
 }
 
 /// Writes the metadata text of a trace with these events. After a refusal a prefix of it went out.
@@ -46,6 +53,8 @@ impl<A: Allocator> Content<'_, A> {
         match self {
             Content::Metadata(uuid, events) => write_metadata(alloc, sink, events, uuid),
             Content::Packets(part) => write_part(sink, part),
+            Content::Texts(texts) => write_texts(sink, texts),
+            Content::Bytes(bytes) => Ok(put_all(sink, bytes)?),
         }
     }
 }

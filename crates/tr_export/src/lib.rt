@@ -45,6 +45,7 @@ mod paths;
 mod system;
 mod writing;
 
+pub use content::Content;
 pub use counting::CountingFile;
 pub use disk::Disk;
 pub use faults::ExportFault;
@@ -54,4 +55,4 @@ pub use made::Made;
 pub use memory::MemoryDisk;
 pub use paths::{archive_folder, file_path};
 pub use system::SystemDisk;
-pub use writing::write_archives;
+pub use writing::{write_archives, write_file};

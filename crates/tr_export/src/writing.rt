@@ -20,7 +20,11 @@ use tr_session_book::Archive;
 use tr_terms::Name;
 
 /// Writes a file of this path with this content.
-fn write_file<A: Allocator, B: Allocator + Copy, D: Disk>(
+///
+/// # Errors
+///
+/// `Write` if the file can't be made or written, `NoMemory` if an allocation fails: then it is broken, or wasn't opened.
+pub fn write_file<A: Allocator, B: Allocator + Copy, D: Disk>(
     alloc: B,
     disk: &mut D,
     path: &str,

@@ -1,0 +1,95 @@
+-- The packets of each stream, apart.
+use Rattle.std.proofs.Common.{◌≡◌, ◌<◌, ◌≤◌, ◌+◌, ◌∙◌, ℕ, zero, suc, Bool, true, false, List, [], ◌∷◌, ◌++◌, ◌==◌, cond, drop, drop-cons, get_or, length, take, refl, sym, ap, arith}
+use Rattle.std.specs.List.{flat_map}
+use Rattle.std.proofs.lemmas.Bool.{false_from_ne_true}
+use Rattle.std.proofs.lemmas.Bool.Decides.{Decides-eqb}
+use Rattle.std.proofs.lemmas.List.{length-drop}
+use Rattle.tr_export.specs.Making.{Makings}
+use Rattle.tr_packet.specs.Packets.{Contents}
+use Rattle.tr_recover.specs.Archive.{lead_count, led_by, parted, stream_file, streams_made}
+
+-- ---- how many are of the first one's stream
+
+two_first : (ps : List Contents) (at : ℕ) (p q : Contents) → at + 1 < length ps → p ≡ get_or ps at p → q ≡ get_or ps (at + 1) q
+    → drop at ps ≡ p ∷ q ∷ drop (suc (suc at)) ps
+two_first ps at p q within is next =
+    let one : suc at ≡ at + 1 = omega arith in
+    drop-cons ps at p (omega (arith, within)) ∙ ap (λ (x : Contents). x ∷ drop (suc at) ps) (sym is)
+    ∙ ap (λ (xs : List Contents). p ∷ xs)
+    (drop-cons ps (suc at) q (omega (arith, within)) ∙ ap (λ (n : ℕ). get_or ps n q ∷ drop (suc (suc at)) ps) one
+    ∙ ap (λ (x : Contents). x ∷ drop (suc (suc at)) ps) (sym next))
+
+pub lead_goes_on : (ps : List Contents) (at : ℕ) (p q : Contents) → at + 1 < length ps → p ≡ get_or ps at p → q ≡ get_or ps (at + 1) q
+    → (p.head.stream == q.head.stream) ≡ true → lead_count (drop at ps) ≡ 1 + lead_count (drop (at + 1) ps)
+lead_goes_on ps at p q within is next same =
+    let one : suc at ≡ at + 1 = omega arith in
+    let both = two_first ps at p q within is next in
+    let rest : drop (at + 1) ps ≡ q ∷ drop (suc (suc at)) ps =
+    ap (λ (n : ℕ). drop n ps) (sym one) ∙ (drop-cons ps (suc at) q (omega (arith, within))
+    ∙ ap (λ (n : ℕ). get_or ps n q ∷ drop (suc (suc at)) ps) one ∙ ap (λ (x : Contents). x ∷ drop (suc (suc at)) ps) (sym next)) in
+    ap lead_count both ∙ rw same (ap suc (ap lead_count (sym rest)) ∙ omega arith)
+
+pub lead_ends : (ps : List Contents) (at : ℕ) (p q : Contents) → at + 1 < length ps → p ≡ get_or ps at p → q ≡ get_or ps (at + 1) q
+    → (p.head.stream == q.head.stream) ≡ false → lead_count (drop at ps) ≡ 1
+lead_ends ps at p q within is next other = ap lead_count (two_first ps at p q within is next) ∙ rw other refl
+
+pub lead_is_last : (ps : List Contents) (at : ℕ) → at < length ps → length ps ≤ at + 1 → lead_count (drop at ps) ≡ 1
+lead_is_last ps at within last = go (drop at ps) (omega (arith, within, last, length-drop at ps))
+  where
+    go : (xs : List Contents) → length xs ≡ 1 → lead_count xs ≡ 1
+    go (x ∷ []) e = refl
+    go [] e = absurd (omega (arith, e))
+    go (x ∷ y ∷ xs) e = absurd (omega (arith, e))
+
+pub other_stream : (one other : ℕ) → (one ≡ other → ⊥) → (one == other) ≡ false
+other_stream one other differ = false_from_ne_true (one == other) (λ e. differ ((Decides-eqb one other).0 e))
+
+-- ---- they are the first part
+
+lead_some : (p : Contents) (ps : List Contents) → 1 ≤ lead_count (p ∷ ps)
+lead_some p [] = omega arith
+lead_some p (q ∷ ps) = go (p.head.stream == q.head.stream)
+  where
+    go : (same : Bool) → 1 ≤ cond same (suc (lead_count (q ∷ ps))) 1
+    go true = omega arith
+    go false = omega arith
+
+pub some_lead : (ps : List Contents) → 1 ≤ length ps → 1 ≤ lead_count ps
+some_lead [] some = absurd (omega (arith, some))
+some_lead (p ∷ ps) some = lead_some p ps
+
+pub lead_few : (ps : List Contents) → lead_count ps ≤ length ps
+lead_few [] = omega arith
+lead_few (p ∷ []) = omega arith
+lead_few (p ∷ q ∷ ps) = go (p.head.stream == q.head.stream) (lead_few (q ∷ ps))
+  where
+    go : (same : Bool) → lead_count (q ∷ ps) ≤ length (q ∷ ps) → cond same (suc (lead_count (q ∷ ps))) 1 ≤ suc (length (q ∷ ps))
+    go true few = omega (arith, few)
+    go false few = omega arith
+
+pub parted_lead : (p : Contents) (ps : List Contents)
+    → parted (p ∷ ps) ≡ take (lead_count (p ∷ ps)) (p ∷ ps) ∷ parted (drop (lead_count (p ∷ ps)) (p ∷ ps))
+parted_lead p [] = refl
+parted_lead p (q ∷ ps) =
+    ap (led_by p) (parted_lead q ps) ∙ by_count (lead_count (q ∷ ps)) refl (lead_some q ps) (p.head.stream == q.head.stream) refl
+    (parted_lead q ps)
+  where
+    by_count : (n : ℕ) → lead_count (q ∷ ps) ≡ n → 1 ≤ n → (same : Bool) → (p.head.stream == q.head.stream) ≡ same
+        → parted (q ∷ ps) ≡ take (lead_count (q ∷ ps)) (q ∷ ps) ∷ parted (drop (lead_count (q ∷ ps)) (q ∷ ps))
+        → led_by p (take (lead_count (q ∷ ps)) (q ∷ ps) ∷ parted (drop (lead_count (q ∷ ps)) (q ∷ ps)))
+        ≡ take (lead_count (p ∷ q ∷ ps)) (p ∷ q ∷ ps) ∷ parted (drop (lead_count (p ∷ q ∷ ps)) (p ∷ q ∷ ps))
+    by_count zero e some same e' whole = absurd (omega (arith, some))
+    by_count (suc n) e some true e' whole = rw (e, e') refl
+    by_count (suc n) e some false e' whole =
+        let parts : take (suc n) (q ∷ ps) ∷ parted (drop (suc n) (q ∷ ps)) ≡ parted (q ∷ ps) = sym (rw e at whole) in
+        rw (e, e') (ap (λ (xs : List (List Contents)). (p ∷ []) ∷ xs) parts)
+
+pub streams_lead : (folder : List ℕ) (ps own rest : List Contents) (n : ℕ) → 1 ≤ length ps → n ≡ lead_count ps → own ≡ take n ps → rest ≡ drop n ps
+    → streams_made folder ps ≡ stream_file folder own ++ streams_made folder rest
+streams_lead folder [] own rest n some count one two = absurd (omega (arith, some))
+streams_lead folder (p ∷ ps) own rest n some count one two =
+    let whole = parted_lead p ps in
+    ap (λ (parts : List (List Contents)). flat_map (stream_file folder) parts) whole
+    ∙ ap (λ (k : ℕ). stream_file folder (take k (p ∷ ps)) ++ streams_made folder (drop k (p ∷ ps))) (sym count)
+    ∙ ap (λ (xs : List Contents). stream_file folder xs ++ streams_made folder (drop n (p ∷ ps))) (sym one)
+    ∙ ap (λ (xs : List Contents). stream_file folder own ++ streams_made folder xs) (sym two)
