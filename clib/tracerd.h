@@ -19,8 +19,8 @@
  * session's producers are gone then. A release waits while its archive
  * is written, and so does a write or a snapshot while another one of the session writes to the same place. No other call waits
  * for these, or for an audit. No call may be made in a signal handler, and no thread may be cancelled in one. A call takes up to
- * 32 KiB of the stack. The library has no global state, prints nothing and ends no process. It starts a thread only where
- * tracerd_drainer_start or tracerd_listen asks for one, or tracerd_keeper_start for two.
+ * 32 KiB of the stack. Sessions share nothing but the number of files for tracerd_rings_in. The library prints nothing and ends no
+ * process. It starts a thread only where tracerd_drainer_start or tracerd_listen asks for one, or tracerd_keeper_start for two.
  *
  * Waits. An offer waits only while another call holds its own stream, at a time for:
  * - a drain, also the drainer's: one step, whatever the sub-buffer's size; but a copy of it if less than a quarter of it is used;
@@ -162,7 +162,7 @@ TRACERD_API void tracerd_free(tracerd_session *);
  *
  * The file is for its owner alone (0600), and so large that its file system has its bytes when a producer is made or a stream is
  * drained: a full one is NO_MEMORY then, and no signal later. What an earlier run has left is renamed beside it, to FILE.1 or the
- * next number. tracerd_free removes the file.
+ * next number, also if the call is refused then. tracerd_free removes the file, wherever the program's present folder is by then.
  *
  * ALREADY_STARTED: a producer is there, or this was called before. WRITE: the file can't be made; errno says why (EEXIST: what has
  * the path is no file; EMFILE: 16 sessions have such files). NO_MEMORY: also if the system has no addresses for it. */

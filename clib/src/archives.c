@@ -85,7 +85,7 @@ static void end(writing *w) {
 /* Whether another call has the place that this one waits for. The desk is held. */
 static bool is_place_taken_locked(const writing *w) {
     for (const writing *it = w->session->writings; it; it = it->next) {
-        if (it->has_place && is_same_folder(&it->place, &w->place) && !strcmp(it->name, w->name))
+        if (it->has_place && is_same_file(&it->place, &w->place) && !strcmp(it->name, w->name))
             return true;
     }
     return false;
@@ -94,7 +94,7 @@ static bool is_place_taken_locked(const writing *w) {
 /* Waits until no other call of the session writes by the same name into a folder. */
 static tracerd_status take_place(writing *w, int archives) {
     tracerd_session *t = w->session;
-    folder_id place;
+    file_id place;
     if (identify(archives, &place))
         return TRACERD_WRITE;
     pthread_mutex_lock(&t->desk);

@@ -17,7 +17,7 @@ typedef struct writing {
     struct writing *next; /* the session's others: the desk guards this, and what follows */
     struct text *told;    /* of a snapshot: what is said of it, or NULL; then its folder is in one of its own */
     bool has_place;       /* no other call of the session writes by this name into this folder */
-    folder_id place;
+    file_id place;
 } writing;
 
 /* One of its files, whose bytes come in pieces. */

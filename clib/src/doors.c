@@ -4,7 +4,6 @@
 #include <fcntl.h>
 #include <poll.h>
 #include <signal.h>
-#include <stdio.h>
 #include <string.h>
 #include <sys/file.h>
 #include <sys/socket.h>
@@ -15,25 +14,6 @@ enum { WAITING = 16 };            /* clients that may wait */
 enum { TRIES = 100, PAUSE = 10 }; /* how often a folder is tried that another program holds, and for how many milliseconds */
 
 /* ---- Its name ---- */
-
-/* Opens the folder of a path, and has `name` be what comes after. */
-static int open_folder(const char *path, char name[SOCKET_PATH]) {
-    char folder[SOCKET_PATH];
-    if (strlen(path) >= SOCKET_PATH) {
-        errno = ENAMETOOLONG;
-        return -1;
-    }
-    strcpy(folder, path);
-    char *end = strrchr(folder, '/');
-    strcpy(name, end ? end + 1 : folder);
-    if (!*name) { /* an empty path would be a name that no folder has, open to all */
-        errno = ENOENT;
-        return -1;
-    }
-    if (end)
-        end[end == folder] = 0;
-    return open_again(AT_FDCWD, end ? folder : ".", O_RDONLY | O_DIRECTORY, 0);
-}
 
 /* Has no other program make or remove a socket in a folder meanwhile. */
 static int hold_folder(int folder) {
@@ -80,15 +60,6 @@ static tracerd_status make_way(const door *d, const struct sockaddr_un *address)
     return unlinkat(d->folder, d->name, 0) ? TRACERD_WRITE : TRACERD_OK;
 }
 
-/* Which file has the name. */
-static int identify_name(const door *d, folder_id *id) {
-    struct stat about;
-    if (fstatat(d->folder, d->name, &about, AT_SYMLINK_NOFOLLOW))
-        return -1;
-    *id = (folder_id){about.st_dev, about.st_ino};
-    return 0;
-}
-
 /* Gives the socket its name: from the first moment on it is the user's alone. The folder is held. */
 static tracerd_status bind_held(door *d, const struct sockaddr_un *address) {
     tracerd_status status = make_way(d, address);
@@ -98,7 +69,7 @@ static tracerd_status bind_held(door *d, const struct sockaddr_un *address) {
         return TRACERD_WRITE;
     if (bind(d->socket, (const struct sockaddr *)address, sizeof *address))
         return errno == EADDRINUSE ? TRACERD_EXISTS : TRACERD_WRITE; /* by what heeds no lock */
-    if (!listen(d->socket, WAITING) && !identify_name(d, &d->id))
+    if (!listen(d->socket, WAITING) && !identify_name(d->folder, d->name, &d->id))
         return TRACERD_OK;
     (void)unlinkat(d->folder, d->name, 0);
     return TRACERD_WRITE;
@@ -121,7 +92,11 @@ static tracerd_status open_in_folder(door *d, const char *path) {
 }
 
 tracerd_status open_door(door *d, const char *path) {
-    d->folder = open_folder(path, d->name);
+    if (strlen(path) >= SOCKET_PATH) {
+        errno = ENAMETOOLONG;
+        return TRACERD_WRITE;
+    }
+    d->folder = open_above(path, d->name, sizeof d->name); /* (an empty path would be no folder's name, and open to all) */
     if (d->folder < 0)
         return TRACERD_WRITE;
     tracerd_status status = open_in_folder(d, path);
@@ -133,9 +108,9 @@ tracerd_status open_door(door *d, const char *path) {
 void shut_door(const door *d) { (void)shutdown(d->socket, SHUT_RDWR); }
 
 void remove_door(door *d) {
-    folder_id found;
+    file_id found;
     bool is_held = !hold_folder(d->folder);
-    if (!identify_name(d, &found) && is_same_folder(&found, &d->id))
+    if (!identify_name(d->folder, d->name, &found) && is_same_file(&found, &d->id))
         (void)unlinkat(d->folder, d->name, 0);
     if (is_held)
         (void)flock(d->folder, LOCK_UN);

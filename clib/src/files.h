@@ -1,7 +1,7 @@
 /* Folders and files on disk, of which what a call says is there outlives a power cut. Nothing here knows of sessions.
  *
  * Calls answer 0, or a descriptor, which no other program gets; or -1, and errno says why. A call that a signal interrupts is
- * made again. Symbolic links are followed by `open_given` and `open_path` alone. */
+ * made again. Symbolic links are followed by `open_given`, `open_above` and `open_path` alone. */
 #ifndef FILES_H
 #define FILES_H
 #include <stdbool.h>
@@ -12,14 +12,16 @@ enum { PATH = 4096, FILE_NAME = 96 }; /* the longest path, and more than the lon
 
 /* ---- Folders (folders.c) ---- */
 
-/* What tells a folder from others. */
+/* What tells a file or a folder from others. */
 typedef struct {
     dev_t device;
     ino_t inode;
-} folder_id;
+} file_id;
 
 /* Opens the folder of this path; what is missing of it is made. ENOENT if the path is empty. */
 int open_given(const char *path);
+/* Opens the folder of a path, and has `name`, of which there is so much room, be what comes after. ENOENT if that is nothing. */
+int open_above(const char *path, char *name, size_t room);
 /* Opens a folder in one that is open, and makes it if it is missing. */
 int open_within(int above, const char *name);
 /* Opens a folder that is there. */
@@ -34,9 +36,10 @@ void let_go(int folder);
 int sync_folder(int folder);
 /* How many names a folder has. */
 int64_t count_names(int folder);
-/* Which folder is open. */
-int identify(int folder, folder_id *id);
-bool is_same_folder(const folder_id *one, const folder_id *other);
+/* Which file or folder is open, or has a name in a folder. */
+int identify(int opened, file_id *id);
+int identify_name(int folder, const char *name, file_id *id);
+bool is_same_file(const file_id *one, const file_id *other);
 
 /* ---- Files (files.c) ---- */
 

@@ -86,6 +86,24 @@ int open_given(const char *given) {
     return open_again(AT_FDCWD, path, FOLDER, 0);
 }
 
+int open_above(const char *path, char *name, size_t room) {
+    char folder[PATH];
+    const char *end = strrchr(path, '/');
+    const char *last = end ? end + 1 : path;
+    if (!*last) {
+        errno = ENOENT;
+        return -1;
+    }
+    if (strlen(path) >= PATH || strlen(last) >= room) {
+        errno = ENAMETOOLONG;
+        return -1;
+    }
+    strcpy(name, last);
+    strcpy(folder, path);
+    folder[last - path] = 0;
+    return open_again(AT_FDCWD, end ? folder : ".", FOLDER, 0);
+}
+
 /* ---- Folders below it ---- */
 
 int open_there(int above, const char *name) { return open_again(above, name, FOLDER | O_NOFOLLOW, 0); }
@@ -98,34 +116,38 @@ int open_within(int above, const char *name) {
     return open_there(above, name);
 }
 
-static folder_id id_of(const struct stat *about) { return (folder_id){about->st_dev, about->st_ino}; }
+static file_id id_of(const struct stat *about) { return (file_id){about->st_dev, about->st_ino}; }
 
-int identify(int folder, folder_id *id) {
+int identify(int opened, file_id *id) {
     struct stat about;
-    if (fstat(folder, &about))
+    if (fstat(opened, &about))
         return -1;
     *id = id_of(&about);
     return 0;
 }
 
-bool is_same_folder(const folder_id *one, const folder_id *other) {
-    return one->device == other->device && one->inode == other->inode;
+int identify_name(int folder, const char *name, file_id *id) {
+    struct stat about;
+    if (fstatat(folder, name, &about, AT_SYMLINK_NOFOLLOW))
+        return -1;
+    *id = id_of(&about);
+    return 0;
 }
 
+bool is_same_file(const file_id *one, const file_id *other) { return one->device == other->device && one->inode == other->inode; }
+
 int hold(int above, const char *name, int folder) {
-    struct stat about;
-    folder_id held;
+    file_id held, named;
     if (flock(folder, LOCK_EX | LOCK_NB) && errno == EWOULDBLOCK) /* (not every file system can hold folders) */
         return -1;
     if (identify(folder, &held))
         return -1;
-    if (fstatat(above, name, &about, AT_SYMLINK_NOFOLLOW)) {
+    if (identify_name(above, name, &named)) {
         if (errno == ENOENT) /* it was renamed or removed since it was opened */
             errno = EAGAIN;
         return -1;
     }
-    folder_id named = id_of(&about);
-    if (is_same_folder(&held, &named))
+    if (is_same_file(&held, &named))
         return 0;
     errno = EAGAIN; /* by now its name is another's */
     return -1;

@@ -1,7 +1,6 @@
 /* Listeners: a thread that answers the lines of a shell, a client at a time. */
 #include "listeners.h"
 #include <errno.h>
-#include <limits.h>
 #include <poll.h>
 #include <stdlib.h>
 #include <string.h>

@@ -12,7 +12,7 @@ typedef struct {
     int socket;
     int folder; /* in which it has this name: */
     char name[SOCKET_PATH];
-    folder_id id; /* what has the name, unless another has taken it since */
+    file_id id; /* what has the name, unless another has taken it since */
 } door;
 
 /* In pages that a child of fork finds as zeros: closed. */

@@ -3,6 +3,7 @@
  * A file is parts of PART bytes, or of one page if that is larger. The first part says where the metadata is; each other one has
  * pages of one size. A page that is free has zeros where a packet's header and context would be. */
 #include "rings.h"
+#include "files.h"
 #include <errno.h>
 #include <fcntl.h>
 #include <stdio.h>
@@ -19,12 +20,12 @@ enum {
     SIZES = 13,
     FRONT = 80,
     FILES = 16,
-    PATH_ROOM = 4096,
+    LONGEST_NAME = 256, /* with the zero at its end */
     MOST_EARLIER = 9999
 };
 
-/* The most bytes that a file may have; less if the system gives no such addresses. */
-static const size_t MOST = (size_t)1 << 38, LEAST = (size_t)1 << 28;
+/* A file may have 2^38 bytes; less if the system gives no such addresses, but 2^28. */
+enum { MOST = 38, LEAST = 28, EXPONENT = 63 };
 
 /* Pages of one size that are free: there is room for all there are. */
 typedef struct {
@@ -33,18 +34,22 @@ typedef struct {
 } stack;
 
 struct rings {
-    int file;
-    uint8_t *base;        /* the first part; addresses are reserved behind it */
-    size_t reserved;      /* how many */
+    int file, folder;     /* -1: not open */
+    int number;           /* among those that are known, or -1 */
+    uint8_t *base;        /* the first part; addresses are reserved behind it: */
+    unsigned exponent;    /* 2 to this many in all */
     uint8_t *size_of;     /* of each part, the place of its pages' size among the sizes */
     pthread_mutex_t lock; /* guards what follows */
     size_t used;          /* bytes of the file */
     stack free[SIZES];
-    char path[PATH_ROOM];
+    char name[LONGEST_NAME]; /* in its folder */
 };
 
-/* Those that there are, for blocks that are given back. A file's addresses stay reserved in a child of fork. */
-static struct rings *_Atomic there[FILES];
+/* Where those lie that are known, for blocks that are given back: the address of the first part, with the exponent in bits that are
+ * zeros there. So a thread with a block of one file reads no more than this of another file, which may go at that moment. A file's
+ * addresses stay reserved in a child of fork. */
+static _Atomic uintptr_t addresses[FILES];
+static struct rings *known[FILES];
 
 static _Thread_local struct rings *here;
 
@@ -61,13 +66,24 @@ static unsigned place_of(size_t size) {
 
 static size_t size_at(unsigned place) { return (size_t)SMALLEST << place; }
 
+static size_t reserved_by(const struct rings *r) { return (size_t)1 << r->exponent; }
+
 /* ---- Parts ---- */
+
+/* Has the file system have the file's next bytes: 0, or why it doesn't. (Before Linux 5.19 any signal interrupts tmpfs.) */
+static int allocate(const struct rings *r, size_t size) {
+    int why;
+    do {
+        why = posix_fallocate(r->file, (off_t)r->used, (off_t)size);
+    } while (why == EINTR);
+    return why;
+}
 
 /* Adds so many bytes to the file, which the file system has then. The address, or NULL. */
 static uint8_t *add_part_locked(struct rings *r, size_t size) {
-    if (r->reserved - r->used < size)
+    if (reserved_by(r) - r->used < size)
         return NULL;
-    int why = posix_fallocate(r->file, (off_t)r->used, (off_t)size);
+    int why = allocate(r, size);
     if (why) {
         errno = why;
         return NULL;
@@ -109,11 +125,13 @@ void *take_page(size_t size) {
     return page;
 }
 
+/* The one in which a block lies that isn't given back yet; NULL if it lies in none. */
 static struct rings *rings_of(const void *at) {
     for (int i = 0; i < FILES; i++) {
-        struct rings *r = atomic_load_explicit(&there[i], memory_order_acquire);
-        if (r && (const uint8_t *)at >= r->base && (const uint8_t *)at < r->base + r->reserved)
-            return r;
+        uintptr_t address = atomic_load_explicit(&addresses[i], memory_order_acquire);
+        uintptr_t offset = (uintptr_t)at - (address & ~(uintptr_t)EXPONENT);
+        if (address && offset < (uintptr_t)1 << (address & EXPONENT))
+            return known[i];
     }
     return NULL;
 }
@@ -166,19 +184,19 @@ bool keep_metadata(struct rings *r, const uint8_t *text, uint64_t size) {
 
 /* ---- Files ---- */
 
-/* Gives what has a path another name beside it: PATH.1, or the next number that is free. 0 if nothing has it. */
-static int rename_earlier(const char *path) {
+/* Gives what has the file's name another one beside it: NAME.1, or the next number that is free. 0 if nothing has it. */
+static int rename_earlier(const struct rings *r) {
     struct stat found;
-    char other[PATH_ROOM + 8];
-    if (lstat(path, &found))
+    char other[LONGEST_NAME + 8];
+    if (fstatat(r->folder, r->name, &found, AT_SYMLINK_NOFOLLOW))
         return errno == ENOENT ? 0 : -1;
     if (!S_ISREG(found.st_mode)) {
         errno = EEXIST;
         return -1;
     }
     for (int i = 1; i <= MOST_EARLIER; i++) {
-        snprintf(other, sizeof other, "%s.%d", path, i);
-        if (!renameat2(AT_FDCWD, path, AT_FDCWD, other, RENAME_NOREPLACE))
+        snprintf(other, sizeof other, "%s.%d", r->name, i);
+        if (!renameat2(r->folder, r->name, r->folder, other, RENAME_NOREPLACE))
             return 0;
         if (errno != EEXIST)
             return -1;
@@ -188,16 +206,17 @@ static int rename_earlier(const char *path) {
 
 /* Addresses for a file of the largest size that the system gives. */
 static bool reserve(struct rings *r) {
-    for (r->reserved = MOST; r->reserved >= LEAST; r->reserved /= 2) {
-        void *at = mmap(NULL, r->reserved, PROT_NONE, MAP_PRIVATE | MAP_ANONYMOUS | MAP_NORESERVE, -1, 0);
+    for (r->exponent = MOST; r->exponent >= LEAST; r->exponent--) {
+        size_t size = reserved_by(r);
+        void *at = mmap(NULL, size, PROT_NONE, MAP_PRIVATE | MAP_ANONYMOUS | MAP_NORESERVE, -1, 0);
         if (at == MAP_FAILED)
             continue;
-        (void)madvise(at, r->reserved, MADV_DONTDUMP); /* what has no memory yet */
+        (void)madvise(at, size, MADV_DONTDUMP); /* what has no memory yet */
         r->base = at;
-        r->size_of = mmap(NULL, r->reserved / PART, PROT_READ | PROT_WRITE, MAP_PRIVATE | MAP_ANONYMOUS | MAP_NORESERVE, -1, 0);
+        r->size_of = mmap(NULL, size / PART, PROT_READ | PROT_WRITE, MAP_PRIVATE | MAP_ANONYMOUS | MAP_NORESERVE, -1, 0);
         if (r->size_of != MAP_FAILED)
             return true;
-        munmap(at, r->reserved);
+        munmap(at, size);
         break;
     }
     r->base = NULL;
@@ -208,53 +227,46 @@ static bool reserve(struct rings *r) {
 /* Has blocks of its file be known. */
 static bool announce(struct rings *r) {
     for (int i = 0; i < FILES; i++) {
-        struct rings *none = NULL;
-        if (atomic_compare_exchange_strong(&there[i], &none, r))
+        uintptr_t none = 0;
+        if (atomic_compare_exchange_strong(&addresses[i], &none, (uintptr_t)r->base | r->exponent)) {
+            known[i] = r; /* nobody has a block of it yet */
+            r->number = i;
             return true;
+        }
     }
     errno = EMFILE;
     return false;
 }
 
-static void withdraw(struct rings *r) {
-    for (int i = 0; i < FILES; i++) {
-        struct rings *own = r;
-        if (atomic_compare_exchange_strong(&there[i], &own, NULL))
-            return;
-    }
-}
-
 static bool open_rings(struct rings *r, const char *path) {
-    if (strlen(path) >= PATH_ROOM) {
-        errno = ENAMETOOLONG;
+    r->folder = open_above(path, r->name, sizeof r->name);
+    if (r->folder < 0 || rename_earlier(r))
         return false;
-    }
-    strcpy(r->path, path);
-    if (rename_earlier(path))
-        return false;
-    r->file = open(path, O_RDWR | O_CREAT | O_EXCL | O_CLOEXEC | O_NOFOLLOW, 0600);
+    r->file = open_again(r->folder, r->name, O_RDWR | O_CREAT | O_EXCL | O_NOFOLLOW, 0600);
     return r->file >= 0;
 }
 
-/* Removes the file, unless its path is another's. */
+/* Removes the file, unless its name is another's, and closes it. */
 static void remove_file(const struct rings *r) {
-    struct stat own, found;
-    if (!fstat(r->file, &own) && !lstat(r->path, &found) && own.st_dev == found.st_dev && own.st_ino == found.st_ino)
-        unlink(r->path);
+    file_id own, found;
+    if (!identify(r->file, &own) && !identify_name(r->folder, r->name, &found) && is_same_file(&own, &found))
+        (void)unlinkat(r->folder, r->name, 0);
+    close_quietly(r->file);
 }
 
 void free_rings(struct rings *r) {
     if (!r)
         return;
     int why = errno;
-    withdraw(r);
-    if (r->file >= 0) {
+    if (r->number >= 0)
+        atomic_store(&addresses[r->number], 0);
+    if (r->file >= 0)
         remove_file(r);
-        close(r->file);
-    }
+    if (r->folder >= 0)
+        close_quietly(r->folder);
     if (r->base) {
-        munmap(r->base, r->reserved);
-        munmap(r->size_of, r->reserved / PART);
+        munmap(r->base, reserved_by(r));
+        munmap(r->size_of, reserved_by(r) / PART);
     }
     for (int i = 0; i < SIZES; i++)
         free(r->free[i].pages);
@@ -268,7 +280,7 @@ struct rings *make_rings(const char *path) {
         errno = ENOMEM;
         return NULL;
     }
-    r->file = -1;
+    r->file = r->folder = r->number = -1;
     make_lock(&r->lock);
     if (reserve(r) && open_rings(r, path) && add_part_locked(r, PART) && announce(r)) {
         memcpy(r->base, &EMPTY, sizeof EMPTY);

@@ -11,13 +11,16 @@ enum { PATH = 4096, ROOM = 1 << 21 };
 
 static const char *dir;
 static char path[PATH], other[PATH + 8];
-static int is_full;
+static int is_full, interruptions;
 
 int __real_posix_fallocate(int file, off_t at, off_t size);
 int __wrap_posix_fallocate(int file, off_t at, off_t size);
 
-/* A file system may be full. */
-int __wrap_posix_fallocate(int file, off_t at, off_t size) { return is_full ? ENOSPC : __real_posix_fallocate(file, at, size); }
+/* A file system may be full, and a signal may come. */
+int __wrap_posix_fallocate(int file, off_t at, off_t size) {
+    if (interruptions && interruptions--) return EINTR;
+    return is_full ? ENOSPC : __real_posix_fallocate(file, at, size);
+}
 
 static const char *file_named(const char *name) {
     snprintf(path, sizeof path, "%s/%s", dir, name);
@@ -70,6 +73,7 @@ static void offer(tracerd_producer *p, int count) {
 }
 
 static void refuse(void) {
+    char long_name[257] = "";
     tracerd_session *s;
     tracerd_producer *p;
     answers(OK, tracerd_new(&s, "s", ONE, 0, TRACERD_LOCAL));
@@ -80,6 +84,9 @@ static void refuse(void) {
     is(errno == EEXIST);
     answers(WRITE, tracerd_rings_in(s, ""));
     is(errno == ENOENT);
+    memset(long_name, 'a', sizeof long_name - 1);
+    answers(WRITE, tracerd_rings_in(s, file_named(long_name)));
+    is(errno == ENAMETOOLONG);
     is_full = 1;
     answers(WRITE, tracerd_rings_in(s, file_named("full")));
     is(errno == ENOSPC);
@@ -136,6 +143,51 @@ static void drain(void) {
     answers(OK, tracerd_release(s, archive));
     is(packets_in("rings") == 2);
     tracerd_free(s);
+    counts_as_one();
+}
+
+/* What is cleared isn't there any more, whether it was in the ring or drained. */
+static void clear(void) {
+    tracerd_producer *p;
+    uint64_t n;
+    tracerd_session *s = made("rings", TRACERD_LOCAL);
+    answers(OK, tracerd_producer_new(s, "c", &p));
+    answers(OK, tracerd_start(s, 1));
+    offer(p, 3);
+    answers(OK, tracerd_drain(s, &n));
+    offer(p, 3);
+    is(packets_in("rings") == 6);
+    answers(OK, tracerd_clear(s, &n));
+    is(n == 6 && packets_in("rings") == 0);
+    offer(p, 1);
+    is(packets_in("rings") == 1);
+    tracerd_free(s);
+    counts_as_one();
+}
+
+/* A call that a signal interrupts is made again. */
+static void interrupt(void) {
+    tracerd_producer *p;
+    interruptions = 3;
+    tracerd_session *s = made("rings", TRACERD_LOCAL);
+    is(interruptions == 0);
+    interruptions = 3;
+    answers(OK, tracerd_producer_new(s, "c", &p));
+    is(interruptions == 0);
+    tracerd_free(s);
+    counts_as_one();
+}
+
+/* The file is the one that was made, wherever the program goes. */
+static void go_elsewhere(void) {
+    char before[PATH];
+    tracerd_session *s;
+    answers(OK, tracerd_new(&s, "s", ONE, 0, TRACERD_LOCAL));
+    is(getcwd(before, sizeof before) && !chdir(dir));
+    answers(OK, tracerd_rings_in(s, "relative"));
+    is(!chdir(before) && is_there("relative"));
+    tracerd_free(s);
+    is(!is_there("relative"));
     counts_as_one();
 }
 
@@ -205,6 +257,9 @@ int main(int count, char **words) {
     refuse();
     hold();
     drain();
+    clear();
+    interrupt();
+    go_elsewhere();
     fill();
     keep();
     if (count == 2) make_many(); /* valgrind has too few addresses for them */
