@@ -2,8 +2,8 @@
  *
  *     tracerd-ask PATH LINE ..    as in: tracerd-ask /run/user/1000/app 'rotate app now' 'status app'
  *
- * Prints the answers. Exits with 0 if all was done, 1 if a line was refused, bad or not done whole, or got no answer, and 2 if nobody
- * answers at PATH, or without a line. */
+ * Prints the answers. Exits with 0 if all was done, 1 if a line was refused, bad or not done whole, or got no answer, and 2 if
+ * nobody answers at PATH, the answers can't be printed, or no line is given. */
 #define _GNU_SOURCE
 #include <errno.h>
 #include <poll.h>
@@ -124,7 +124,7 @@ static int talk(int with, const char *lines, size_t size) {
         if (at.revents & (POLLIN | POLLHUP | POLLERR))
             is_open = print_more(with, &it);
     }
-    if (fflush(stdout))
+    if (fflush(stdout) || ferror(stdout))
         return fail("standard output");
     return it.is_any && it.is_done && !it.size && !size ? 0 : 1;
 }

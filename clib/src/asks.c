@@ -109,13 +109,14 @@ static int count_words(const uint8_t *line, size_t size) {
     return count;
 }
 
-/* Copies a line, with the present moment in the place of a third word `now` that ends it: how many bytes it has then. */
-static size_t spell_moment(const tracerd_session *t, const uint8_t *line, size_t size, uint8_t *room) {
-    memcpy(room, line, size);
-    if (size < 4 || memcmp(line + size - 4, " now", 4) || count_words(line, size) != 3)
-        return size;
-    size -= 3;
-    return size + (size_t)snprintf((char *)room + size, MOMENT + 1, "%" PRIu64, tracerd_now_of(t));
+/* Copies a line of *size bytes, with the present moment in the place of a third word `now` that ends it. Whether it has one. */
+static bool spell_moment(const tracerd_session *t, const uint8_t *line, size_t *size, uint8_t *room) {
+    memcpy(room, line, *size);
+    if (*size < 4 || memcmp(line + *size - 4, " now", 4) || count_words(line, *size) != 3)
+        return false;
+    *size -= 3;
+    *size += (size_t)snprintf((char *)room + *size, MOMENT + 1, "%" PRIu64, tracerd_now_of(t));
+    return true;
 }
 
 typedef uint32_t answering(const tracerd_listener *, const trc_asked *, text *);
@@ -144,8 +145,10 @@ bool answer_line(const tracerd_listener *l, const uint8_t *line, size_t size, te
     trc_asked asked;
     if (!begin_text(a))
         return false;
-    size = spell_moment(t, line, size, spelled);
+    bool is_now = spell_moment(t, line, &size, spelled);
     uint32_t status = trc_line_parse(spelled, size, (const uint8_t *)t->name, strlen(t->name), &asked);
+    if (!status && is_now && asked.kind == TRC_ASKS_RELEASE) /* whose number is an archive's */
+        asked.kind = TRC_ASKS_BADLY;
     if (!status)
         status = answer_asked(l, &asked, a);
     if (status)

@@ -72,26 +72,36 @@ static inline uint64_t milliseconds(void) {
 
 /* ---- By the program ---- */
 
+/* Has tracerd-ask ask some lines, up to NULL, and print to a descriptor. */
+static inline pid_t starts_asking(const char *const lines[], int to) {
+    const char *words[16] = {ask_program, door()};
+    for (int i = 0; i < 13 && lines[i]; i++) words[2 + i] = lines[i];
+    pid_t it = fork();
+    if (it) return it;
+    dup2(to, 1);
+    dup2(open("/dev/null", O_WRONLY), 2);
+    execv(ask_program, (char *const *)words);
+    _exit(99);
+}
+
+/* The exit status that it comes to, or -1. */
+static inline int exits_with(pid_t it) {
+    int status = 0;
+    return it > 0 && waitpid(it, &status, 0) == it && WIFEXITED(status) ? WEXITSTATUS(status) : -1;
+}
+
 /* Asks some lines by tracerd-ask, up to NULL: its exit status, or -1. */
 static inline int asks(const char *const lines[]) {
-    const char *words[16] = {ask_program, door()};
-    int pipes[2], status = 0;
+    int pipes[2];
     size_t size = 0;
     ssize_t got;
-    for (int i = 0; i < 13 && lines[i]; i++) words[2 + i] = lines[i];
     if (pipe2(pipes, O_CLOEXEC)) return -1;
-    pid_t it = fork();
-    if (!it) {
-        dup2(pipes[1], 1);
-        dup2(open("/dev/null", O_WRONLY), 2);
-        execv(ask_program, (char *const *)words);
-        _exit(99);
-    }
+    pid_t it = starts_asking(lines, pipes[1]);
     close(pipes[1]);
     while ((got = read(pipes[0], said + size, sizeof said - 1 - size)) > 0) size += (size_t)got;
     said[size] = 0;
     close(pipes[0]);
-    return it > 0 && waitpid(it, &status, 0) == it && WIFEXITED(status) ? WEXITSTATUS(status) : -1;
+    return exits_with(it);
 }
 
 static inline void is_said(const char *line, const char *wanted, int status, const char *file, int at) {

@@ -49,6 +49,7 @@ static void answers_of_a_local_session(void) {
     says("release s 0", "released 0\n");
     refuses("release s 0", "refused S19 Released\n");
     refuses("release s 1", "refused S18 NoArchive\n");
+    refuses("release s now", "bad line\n");
     says("archives s", "0 " FIRST " packets 2 bytes 484 released\n");
     says("schedule s --every 5 --size=7", "schedule set\n");
     says("schedule s", "schedule off\n");
@@ -112,6 +113,7 @@ static void knows_a_session_called_now(void) {
     says("archives now", "none\n");
     says("start now now", "started\n");
     says("stop  now", "stopped\n");
+    refuses("release now now", "bad line\n");
     refuses("start now 1 now", "bad line\n");
     closes();
 }
@@ -126,6 +128,19 @@ static void takes_lines_however_they_come(void) {
     static const char rest[] = "p s\nstart s 1\nstop s\narchives s";
     is(sends(it, rest, strlen(rest)) && !shutdown(it, SHUT_WR));
     is(reads(it) > 0 && !strcmp(said, "refused S7 NotActive\nstarted\nstopped\nnone\n"));
+    closes();
+}
+
+/* An answer of many lines that finds the disk full, where it is printed. */
+static void fails_if_nothing_is_printed(void) {
+    const char *const lines[] = {"status s", NULL};
+    tracerd_producer *more;
+    opens(TRACERD_LOCAL);
+    for (int i = 0; i < 200; i++) answers(OK, tracerd_producer_new(session, "c", &more));
+    listens(NULL);
+    int full = open("/dev/full", O_WRONLY | O_CLOEXEC);
+    is(full >= 0 && exits_with(starts_asking(lines, full)) == 2);
+    is(!close(full) && asks(lines) == 0 && strlen(said) > 8192);
     closes();
 }
 
@@ -202,11 +217,17 @@ static void leaves_archives_to_a_keeper(void) {
 }
 
 int main(int count, char **words) {
-    void (*const tests[])(void) = {
-        answers_of_a_local_session,           answers_of_a_snapshot_session,        takes_lines_as_scripts_do,
-        knows_a_session_called_now,           takes_lines_however_they_come,        writes_nothing_without_a_folder,
-        says_what_a_rotation_has_not_written, says_what_a_snapshot_has_not_written, keeps_its_folder,
-        leaves_archives_to_a_keeper};
+    void (*const tests[])(void) = {answers_of_a_local_session,
+                                   answers_of_a_snapshot_session,
+                                   takes_lines_as_scripts_do,
+                                   knows_a_session_called_now,
+                                   takes_lines_however_they_come,
+                                   fails_if_nothing_is_printed,
+                                   writes_nothing_without_a_folder,
+                                   says_what_a_rotation_has_not_written,
+                                   says_what_a_snapshot_has_not_written,
+                                   keeps_its_folder,
+                                   leaves_archives_to_a_keeper};
     if (count != 3 && count != 4) return 2;
     dir = words[1];
     ask_program = words[2];
