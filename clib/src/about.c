@@ -29,9 +29,7 @@ tracerd_status tracerd_about_of(tracerd_session *t, tracerd_about *about) {
 /* Adds what a stream has of an archive. */
 static tracerd_status add_part(slot *s, uint64_t number, tracerd_archive *sums) {
     trc_part part;
-    pthread_mutex_lock(&s->lock);
-    tracerd_status status = trc_stream_part(&s->stream, number, &part);
-    pthread_mutex_unlock(&s->lock);
+    tracerd_status status = ask_part(s, number, &part);
     if (status)
         return status;
     sums->packets += part.packets;

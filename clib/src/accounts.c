@@ -5,6 +5,20 @@
 _Static_assert(offsetof(tracerd_counts, refused_inactive) == 48 && sizeof(tracerd_counts) == 128, "tracerd_counts");
 _Static_assert(offsetof(tracerd_fate, reserved) == 24 && sizeof(tracerd_fate) == 64, "tracerd_fate");
 
+tracerd_status ask_counts(slot *s, trc_counts *counts) {
+    pthread_mutex_lock(&s->lock);
+    tracerd_status status = trc_stream_counts(&s->stream, counts);
+    pthread_mutex_unlock(&s->lock);
+    return status;
+}
+
+tracerd_status ask_part(slot *s, uint64_t archive, trc_part *part) {
+    pthread_mutex_lock(&s->lock);
+    tracerd_status status = trc_stream_part(&s->stream, archive, part);
+    pthread_mutex_unlock(&s->lock);
+    return status;
+}
+
 /* Adds what a slot's stream counts, and what was refused. The slot is locked. */
 static tracerd_status add_counts_locked(slot *s, tracerd_counts *sum) {
     tracerd_status status = trc_stream_add_counts(&s->stream, sum);

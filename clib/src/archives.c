@@ -25,9 +25,7 @@ void wait_for_writers_locked(tracerd_session *t, uint64_t archive) {
 static tracerd_status ask_bytes_locked(tracerd_session *t, uint64_t archive) {
     for (slot *s = first_slot(t); s; s = next_slot(t, s)) {
         trc_part part;
-        pthread_mutex_lock(&s->lock);
-        tracerd_status status = trc_stream_part(&s->stream, archive, &part);
-        pthread_mutex_unlock(&s->lock);
+        tracerd_status status = ask_part(s, archive, &part);
         if (status)
             return status;
         if (part.released)

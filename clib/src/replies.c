@@ -101,9 +101,7 @@ void forget_shown(text *a) { a->size = a->begun; }
 /* The line of a slot. */
 static void say_row(text *a, slot *s) {
     trc_counts counts;
-    pthread_mutex_lock(&s->lock);
-    (void)trc_stream_counts(&s->stream, &counts); /* it is refused in a child alone, which has no listener */
-    pthread_mutex_unlock(&s->lock);
+    (void)ask_counts(s, &counts); /* it is refused in a child alone, which has no listener */
     if (has_room(a))
         grow(a, trc_reply_row(s->number, &counts, end_of(a), TRC_REPLY, &a->last));
 }
@@ -128,29 +126,18 @@ void say_status(text *a, tracerd_session *t) {
 
 /* ---- Archives ---- */
 
-/* What all streams have of an archive. */
-typedef struct {
-    uint64_t packets, bytes, streams, released;
-} sums;
-
-static void add_part(slot *s, uint64_t archive, sums *all) {
-    trc_part part = {0};
-    pthread_mutex_lock(&s->lock);
-    (void)trc_stream_part(&s->stream, archive, &part);
-    pthread_mutex_unlock(&s->lock);
-    all->packets += part.packets;
-    all->bytes += part.bytes;
-    all->streams++;
-    all->released += part.released;
-}
-
 /* The desk is held: so nothing is released meanwhile. */
 static void say_archive_locked(text *a, tracerd_session *t, uint64_t archive) {
-    sums all = {0};
-    for (slot *s = first_slot(t); s; s = next_slot(t, s))
-        add_part(s, archive, &all);
-    grow(a,
-         trc_reply_archive(&t->book, archive, all.packets, all.bytes, all.streams, all.released, end_of(a), TRC_REPLY, &a->last));
+    uint64_t packets = 0, bytes = 0, streams = 0, released = 0;
+    for (slot *s = first_slot(t); s; s = next_slot(t, s)) {
+        trc_part part = {0};
+        (void)ask_part(s, archive, &part); /* (as above) */
+        packets += part.packets;
+        bytes += part.bytes;
+        released += part.released;
+        streams++;
+    }
+    grow(a, trc_reply_archive(&t->book, archive, packets, bytes, streams, released, end_of(a), TRC_REPLY, &a->last));
 }
 
 void say_archives(text *a, tracerd_session *t) {

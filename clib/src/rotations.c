@@ -74,9 +74,7 @@ static tracerd_status ask_due_locked(tracerd_session *t, uint64_t moment, uint32
     uint64_t sizes[STREAMS], streams = 0;
     for (slot *s = first_slot(t); s; s = next_slot(t, s)) {
         trc_counts counts;
-        pthread_mutex_lock(&s->lock);
-        tracerd_status status = trc_stream_counts(&s->stream, &counts);
-        pthread_mutex_unlock(&s->lock);
+        tracerd_status status = ask_counts(s, &counts);
         if (status)
             return status;
         sizes[streams++] = counts.current_bytes;

@@ -93,6 +93,12 @@ void set_active_locked(slot *s, bool is_active);
 /* Frees a slot with its stream. */
 void free_slot(slot *s);
 
+/* ---- What a stream has (accounts.c) ---- */
+
+/* What a slot's stream counts, and what it has of an archive. */
+tracerd_status ask_counts(slot *s, trc_counts *counts);
+tracerd_status ask_part(slot *s, uint64_t archive, trc_part *part);
+
 /* ---- Declared events (declarations.c) ---- */
 
 /* Has *more be another handle of these events, or NULL of NULL. */
