@@ -131,7 +131,7 @@ static void say_archive_locked(text *a, tracerd_session *t, uint64_t archive) {
     uint64_t packets = 0, bytes = 0, streams = 0, released = 0;
     for (slot *s = first_slot(t); s; s = next_slot(t, s)) {
         trc_part part = {0};
-        (void)ask_part(s, archive, &part); /* (as above) */
+        (void)ask_part(s, archive, &part); /* refused in a child alone, as above */
         packets += part.packets;
         bytes += part.bytes;
         released += part.released;

@@ -1,32 +1,22 @@
 /* What the tests of listeners share: a session with one, and who asks there. */
 #ifndef ASKING_H
 #define ASKING_H
+#include "paths.h"
 #include "testing.h"
 #include <errno.h>
 #include <fcntl.h>
 #include <poll.h>
 #include <signal.h>
-#include <stdbool.h>
 #include <sys/socket.h>
-#include <sys/stat.h>
 #include <sys/un.h>
 #include <sys/wait.h>
 #include <time.h>
-#include <unistd.h>
 
-static const char *dir, *ask_program;
+static const char *ask_program;
 static tracerd_session *session;
 static tracerd_producer *producer;
 static tracerd_listener *listener;
 static char said[1 << 20]; /* what was answered last */
-
-static inline const char *below(const char *name) {
-    static char paths[4][4096];
-    static int next;
-    char *path = paths[next++ % 4];
-    snprintf(path, sizeof paths[0], "%s/%s", dir, name);
-    return path;
-}
 
 static inline const char *door(void) { return below("s.socket"); }
 
@@ -51,11 +41,6 @@ static inline void closes(void) {
 static inline void opens_a_door(void) {
     opens(TRACERD_LOCAL);
     listens(NULL);
-}
-
-static inline mode_t mode_of(const char *path) {
-    struct stat about;
-    return lstat(path, &about) ? 0 : about.st_mode;
 }
 
 static inline void offers(uint64_t moment, size_t size) {

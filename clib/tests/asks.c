@@ -16,8 +16,6 @@ static void offers_as_readme(void) {
     is(packets == 1);
 }
 
-static bool is_there(const char *name) { return !access(below(name), F_OK); }
-
 /* ---- Each word ---- */
 
 static void answers_of_a_local_session(void) {
@@ -33,7 +31,7 @@ static void answers_of_a_local_session(void) {
     says("status s", "session s local active channels 1 streams 1 archives 0\n" HEADS
                      "     0           6           1           0           3           2\n");
     says("rotate s 10", "archived 0 " FIRST "\n");
-    is(is_there("local/s/archives/" FIRST "/metadata") && is_there("local/s/archives/" FIRST "/c_0"));
+    is(is_below("local/s/archives/" FIRST "/metadata") && is_below("local/s/archives/" FIRST "/c_0"));
     says("archives s", "0 " FIRST " packets 2 bytes 484\n");
     says("fate s 0 3", "in chunk 0 1\n");
     says("fate s 0 4", "discarded\n");
@@ -152,7 +150,7 @@ static void writes_nothing_without_a_folder(void) {
     says("start s 0", "started\n");
     offers(1, 50);
     says("rotate s 10", "archived 0 " FIRST "\n");
-    is(!is_there("s") && !is_there("snapshot-9"));
+    is(!is_below("s") && !is_below("snapshot-9"));
     answers(OK, tracerd_write(session, 0, below("later")));
     closes();
     opens(TRACERD_SNAPSHOT);
@@ -160,7 +158,7 @@ static void writes_nothing_without_a_folder(void) {
     says("start s 0", "started\n");
     offers(1, 50);
     says("snapshot s 9", "snapshot 9\nstream 0 offered 1 packets 1 records 1\npacket 0 records 1 first 0 last 0\n");
-    is(!is_there("snapshot-9"));
+    is(!is_below("snapshot-9"));
     closes();
 }
 
@@ -196,9 +194,9 @@ static void keeps_its_folder(void) {
     is(!chdir("/"));
     says("start s 0", "started\n");
     says("rotate s 10", "archived 0 " FIRST "\n");
-    is(!chdir(here) && is_there("relative/s/archives/" FIRST "/metadata"));
+    is(!chdir(here) && is_below("relative/s/archives/" FIRST "/metadata"));
     closes();
-    is(!is_there("s.socket"));
+    is(!is_below("s.socket"));
 }
 
 /* What a keeper was quicker to write isn't written again, and is no fault. */

@@ -1,19 +1,16 @@
 /* What the tests of keepers share: a session with one, and what is on disk of it. */
 #ifndef KEEPING_H
 #define KEEPING_H
+#include "paths.h"
 #include "reading.h"
 #include <dirent.h>
 #include <errno.h>
 #include <fcntl.h>
 #include <linux/capability.h>
 #include <stdatomic.h>
-#include <stdbool.h>
-#include <sys/stat.h>
 #include <sys/syscall.h>
 #include <time.h>
-#include <unistd.h>
 
-static const char *dir;
 static tracerd_session *session;
 static tracerd_producer *producer;
 static tracerd_keeper *keeper;
@@ -21,14 +18,6 @@ static uint64_t offered;
 static char run_folder[4096];
 
 static inline void nap(void) { nanosleep(&(struct timespec){0, 1000000}, NULL); }
-
-static inline const char *below(const char *name) {
-    static char paths[4][4096];
-    static int next;
-    char *path = paths[next++ % 4];
-    snprintf(path, sizeof paths[0], "%s/%s", dir, name);
-    return path;
-}
 
 /* ---- What is on disk ---- */
 

@@ -1,16 +1,13 @@
 /* Rings that lie in a file: what is refused, what the file has at each step, and what becomes of it.
  *
  *     rings DIR [few] */
+#include "paths.h"
 #include "testing.h"
 #include <errno.h>
 #include <fcntl.h>
-#include <sys/stat.h>
-#include <unistd.h>
 
 enum { PATH = 4096, ROOM = 1 << 21 };
 
-static const char *dir;
-static char path[PATH], other[PATH + 8];
 static int is_full, interruptions;
 
 int __real_posix_fallocate(int file, off_t at, off_t size);
@@ -22,23 +19,11 @@ int __wrap_posix_fallocate(int file, off_t at, off_t size) {
     return is_full ? ENOSPC : __real_posix_fallocate(file, at, size);
 }
 
-static const char *file_named(const char *name) {
-    snprintf(path, sizeof path, "%s/%s", dir, name);
-    return path;
-}
-
-static int is_there(const char *name) { return !access(file_named(name), F_OK); }
-
-static mode_t mode_of(const char *name) {
-    struct stat found;
-    return lstat(file_named(name), &found) ? 0 : found.st_mode & 0777;
-}
-
 /* How many packets a file has: magic, identifier, and a content_size that isn't 0. */
 static int packets_in(const char *name) {
     static uint8_t image[ROOM];
     static const uint8_t magic[4] = {0xC1, 0x1F, 0xFC, 0xC1};
-    int found = 0, file = open(file_named(name), O_RDONLY);
+    int found = 0, file = open(below(name), O_RDONLY);
     ssize_t size = read(file, image, ROOM);
     close(file);
     for (ssize_t at = 0; at + 80 <= size; at++) {
@@ -51,7 +36,7 @@ static int packets_in(const char *name) {
 
 static int has_text(const char *name, const char *text) {
     static char image[ROOM];
-    int file = open(file_named(name), O_RDONLY);
+    int file = open(below(name), O_RDONLY);
     ssize_t size = read(file, image, ROOM);
     close(file);
     return size > 0 && memmem(image, (size_t)size, text, strlen(text)) != NULL;
@@ -60,7 +45,7 @@ static int has_text(const char *name, const char *text) {
 static tracerd_session *made(const char *name, tracerd_kind kind) {
     tracerd_session *s;
     answers(OK, tracerd_new(&s, "s", ONE, 0, kind));
-    answers(OK, tracerd_rings_in(s, file_named(name)));
+    answers(OK, tracerd_rings_in(s, below(name)));
     answers(OK, tracerd_channel(s, "c", 4096, 4, kind == TRACERD_LOCAL ? TRACERD_DISCARD : TRACERD_OVERWRITE));
     return s;
 }
@@ -78,28 +63,28 @@ static void refuse(void) {
     tracerd_producer *p;
     answers(OK, tracerd_new(&s, "s", ONE, 0, TRACERD_LOCAL));
     errno = 0;
-    answers(WRITE, tracerd_rings_in(s, file_named("missing/rings")));
+    answers(WRITE, tracerd_rings_in(s, below("missing/rings")));
     is(errno == ENOENT);
     answers(WRITE, tracerd_rings_in(s, dir));
     is(errno == EEXIST);
     answers(WRITE, tracerd_rings_in(s, ""));
     is(errno == ENOENT);
     memset(long_name, 'a', sizeof long_name - 1);
-    answers(WRITE, tracerd_rings_in(s, file_named(long_name)));
+    answers(WRITE, tracerd_rings_in(s, below(long_name)));
     is(errno == ENAMETOOLONG);
     is_full = 1;
-    answers(WRITE, tracerd_rings_in(s, file_named("full")));
+    answers(WRITE, tracerd_rings_in(s, below("full")));
     is(errno == ENOSPC);
     is_full = 0;
-    is(!is_there("full"));
-    answers(OK, tracerd_rings_in(s, file_named("one")));
-    answers(ALREADY_STARTED, tracerd_rings_in(s, file_named("two")));
+    is(!is_below("full"));
+    answers(OK, tracerd_rings_in(s, below("one")));
+    answers(ALREADY_STARTED, tracerd_rings_in(s, below("two")));
     tracerd_free(s);
     answers(OK, tracerd_new(&s, "s", ONE, 0, TRACERD_LOCAL));
     answers(OK, tracerd_channel(s, "c", 4096, 4, TRACERD_DISCARD));
     answers(OK, tracerd_producer_new(s, "c", &p));
-    answers(ALREADY_STARTED, tracerd_rings_in(s, file_named("late")));
-    is(!is_there("late") && !is_there("two") && !is_there("one"));
+    answers(ALREADY_STARTED, tracerd_rings_in(s, below("late")));
+    is(!is_below("late") && !is_below("two") && !is_below("one"));
     tracerd_free(s);
     counts_as_one();
 }
@@ -107,7 +92,7 @@ static void refuse(void) {
 static void hold(void) {
     tracerd_producer *p;
     tracerd_session *s = made("rings", TRACERD_SNAPSHOT);
-    is(mode_of("rings") == 0600);
+    is((mode_of(below("rings")) & 0777) == 0600);
     answers(OK, tracerd_declare(s, "told 7 worker:u32", NULL));
     answers(OK, tracerd_producer_new(s, "c", &p));
     is(packets_in("rings") == 0);
@@ -121,7 +106,7 @@ static void hold(void) {
     offer(p, 9);
     is(packets_in("rings") == 4); /* the oldest ones are overwritten */
     tracerd_free(s);
-    is(!is_there("rings"));
+    is(!is_below("rings"));
     counts_as_one();
 }
 
@@ -185,9 +170,9 @@ static void go_elsewhere(void) {
     answers(OK, tracerd_new(&s, "s", ONE, 0, TRACERD_LOCAL));
     is(getcwd(before, sizeof before) && !chdir(dir));
     answers(OK, tracerd_rings_in(s, "relative"));
-    is(!chdir(before) && is_there("relative"));
+    is(!chdir(before) && is_below("relative"));
     tracerd_free(s);
-    is(!is_there("relative"));
+    is(!is_below("relative"));
     counts_as_one();
 }
 
@@ -218,16 +203,15 @@ static void fill(void) {
 /* What is there already stays, by another name; so does what has taken the file's place. */
 static void keep(void) {
     tracerd_session *first = made("rings", TRACERD_LOCAL), *second = made("rings", TRACERD_LOCAL);
-    is(is_there("rings") && is_there("rings.1"));
-    snprintf(other, sizeof other, "%s/rings", dir);
-    is(!rename(other, file_named("mine")));
-    is(!symlink("mine", other));
+    is(is_below("rings") && is_below("rings.1"));
+    is(!rename(below("rings"), below("mine")));
+    is(!symlink("mine", below("rings")));
     tracerd_free(second);
-    is(is_there("mine"));
+    is(is_below("mine"));
     tracerd_free(first);
-    is(is_there("rings.1")); /* it has another name than it was made by */
+    is(is_below("rings.1")); /* it has another name than it was made by */
     answers(OK, tracerd_new(&first, "s", ONE, 0, TRACERD_LOCAL));
-    answers(WRITE, tracerd_rings_in(first, file_named("rings")));
+    answers(WRITE, tracerd_rings_in(first, below("rings")));
     is(errno == EEXIST); /* a link isn't followed */
     tracerd_free(first);
     counts_as_one();
@@ -242,10 +226,10 @@ static void make_many(void) {
         many[i] = made(name, TRACERD_LOCAL);
     }
     answers(OK, tracerd_new(&more, "s", ONE, 0, TRACERD_LOCAL));
-    answers(WRITE, tracerd_rings_in(more, file_named("more")));
-    is(errno == EMFILE && !is_there("more"));
+    answers(WRITE, tracerd_rings_in(more, below("more")));
+    is(errno == EMFILE && !is_below("more"));
     tracerd_free(many[0]);
-    answers(OK, tracerd_rings_in(more, file_named("more")));
+    answers(OK, tracerd_rings_in(more, below("more")));
     tracerd_free(more);
     for (int i = 1; i < FILES; i++) tracerd_free(many[i]);
     counts_as_one();

@@ -1,16 +1,10 @@
 /* What the tests of calls and of files share: a session with a channel `c` and one producer, and what is asked of these. */
 #ifndef SESSIONS_H
 #define SESSIONS_H
+#include "paths.h"
 #include "testing.h"
 
-static const char *dir;
 static char letters[70000];
-
-static inline const char *below(const char *name) {
-    static char path[4096];
-    snprintf(path, sizeof path, "%s/%s", dir, name);
-    return path;
-}
 
 static inline tracerd_session *fresh(tracerd_kind kind, tracerd_mode mode, tracerd_producer **producer) {
     tracerd_session *s;
