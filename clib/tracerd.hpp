@@ -223,7 +223,9 @@ public:
     }
     // Has a shell be answered at a socket of this path; archives are written below the folder, or nowhere.
     class listener listen(const std::string &path) { return listen_to(path, nullptr); }
-    class listener listen(const std::string &path, const std::string &folder) { return listen_to(path, text(folder, TRACERD_WRITE)); }
+    class listener listen(const std::string &path, const std::string &folder) {
+        return listen_to(path, text(folder, TRACERD_WRITE));
+    }
     tracerd_about about() const {
         tracerd_about about;
         must(tracerd_about_of(get(), &about));

@@ -11,7 +11,8 @@ enum { SILENCE = 2000 }; /* milliseconds that a client may say nothing, or take 
 
 /* ---- A client ---- */
 
-/* The next bytes that a client says: how many, 0 at their end; -1 if it says nothing for too long, is gone, or the listener ends. */
+/* The next bytes that a client says: how many, 0 at their end; -1 if it says nothing for too long, or is gone, or the listener
+ * ends. */
 static ssize_t hear(const tracerd_listener *l, int client, uint8_t *room, size_t size) {
     if (!wait_at(&l->door, client, POLLIN, SILENCE))
         return -1;

@@ -261,7 +261,6 @@ static void exits() {
     }
 }
 
-// The second word leaves out children: they find the session as zeros, which valgrind takes for memory that they lost.
 // A shell is answered as long as there is a listener; its socket goes with it.
 static void listens(const std::string &folder) {
     const std::string path = folder + "/app.socket";
@@ -274,6 +273,7 @@ static void listens(const std::string &folder) {
     is(access(path.c_str(), F_OK) != 0);
 }
 
+// The second word leaves out children: they find the session as zeros, which valgrind takes for memory that they lost.
 int main(int count, char **words) {
     if (count != 2 && count != 3) return 2;
     records(words[1]);

@@ -51,6 +51,7 @@ NOT_OFFERED, IN_RING, IN_CHUNK, WAS_DISCARDED, WAS_OVERWRITTEN, WAS_CLEARED = ra
 NEVER = 2**64 - 1
 
 _Written = TypeVar("_Written", bound=ctypes.Structure)
+_Made = TypeVar("_Made", bound="_Part")
 
 
 class Refused(Exception):
@@ -133,37 +134,49 @@ def _let_go(holders: list[c_void_p | None]) -> None:
         _free(handle)
 
 
-class Producer:
-    """One thread's right to offer. It keeps its session, and gives itself back; `with` does so at the end of its block."""
+class _Part:
+    """What a session has made, and what keeps it: a handle, which ends with this object or its block."""
 
     # what __del__ finds if __init__ wasn't reached
     _handle = c_void_p()
     _holders: list[c_void_p | None] | None = None
 
-    def __init__(self, session: Session, channel: str) -> None:
+    def __init__(self, session: Session) -> None:
         self._handle = c_void_p()
         # whatever interrupts this, no entry is let go that isn't this one's
         session._holders.append(None)
         self._holders = session._holders
+
+    def __del__(self) -> None:
+        if self._handle:
+            self._end()
+        if self._holders is not None:
+            _let_go(self._holders)
+
+    def __enter__(self: _Made) -> _Made:
+        return self
+
+    def __exit__(self, *raised: object) -> None:
+        self._end()
+
+    def _end(self) -> None:
+        raise NotImplementedError
+
+
+class Producer(_Part):
+    """One thread's right to offer. It keeps its session, and gives itself back; `with` does so at the end of its block."""
+
+    def __init__(self, session: Session, channel: str) -> None:
+        super().__init__(session)
         _must(_producer_new(session._handle, _name(channel), byref(self._handle)))
         self._active = c_uint32.from_address(self._handle.value or 0)
         session._producers.add(self)
 
-    def __del__(self) -> None:
-        if self._handle:
-            self.done()
-        if self._holders is not None:
-            _let_go(self._holders)
-
-    def __enter__(self) -> Producer:
-        return self
-
-    def __exit__(self, *raised: object) -> None:
-        self.done()
-
     def done(self) -> None:
         """Gives it back; once more changes nothing."""
         _producer_done(self._handle)
+
+    _end = done
 
     @property
     def number(self) -> int:
@@ -201,31 +214,15 @@ class Producer:
         return _written(Fate, _fate_of, self._handle, serial)
 
 
-class Listener:
-    """Has a shell be answered at a socket (`tracerd-ask`), until `stop`, or the end of its block by `with`. It keeps its session."""
-
-    # what __del__ finds if __init__ wasn't reached
-    _handle = c_void_p()
-    _holders: list[c_void_p | None] | None = None
+class Listener(_Part):
+    """Has a shell be answered at a socket (`tracerd-ask`), until `stop`, or the end of its block by `with`. It keeps its
+    session."""
 
     def __init__(self, session: Session, path: StrOrBytesPath, folder: StrOrBytesPath | None) -> None:
-        self._handle = c_void_p()
         below = None if folder is None else _path(folder, Status.WRITE)
-        session._holders.append(None)
-        self._holders = session._holders
+        super().__init__(session)
         _must(_listen(byref(self._handle), session._handle, _path(path, Status.WRITE), below), path)
         session._listeners.add(self)
-
-    def __del__(self) -> None:
-        self.stop()
-        if self._holders is not None:
-            _let_go(self._holders)
-
-    def __enter__(self) -> Listener:
-        return self
-
-    def __exit__(self, *raised: object) -> None:
-        self.stop()
 
     def stop(self) -> None:
         """Ends it, and removes its socket; once more changes nothing."""
@@ -233,10 +230,12 @@ class Listener:
         if handle:
             _listener_stop(handle)
 
+    _end = stop
+
 
 class Session:
-    """A session, which threads share. It goes when nobody has it or one of its producers or listeners. `with` closes it at the end of its
-    block."""
+    """A session, which threads share. It goes when nobody has it or one of its producers or listeners. `with` closes it at the
+    end of its block."""
 
     # what __del__ finds if __init__ wasn't reached
     _made = c_void_p()
@@ -265,8 +264,9 @@ class Session:
         return self._made
 
     def close(self) -> None:
-        """Ends it: its producers are given back, its drainer and its listener end, and any other call on it is refused (CLOSED). What wasn't
-        written is lost. Once more changes nothing. Its memory is freed when nobody has it or one of its producers."""
+        """Ends it: its producers are given back, its drainer and its listener end, and any other call on it is refused (CLOSED).
+        What wasn't written is lost. Once more changes nothing. Its memory is freed when nobody has it, a producer or a listener
+        of it."""
         self._is_closed = True
         for listener in list(self._listeners):
             listener.stop()
