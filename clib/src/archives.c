@@ -188,7 +188,11 @@ tracerd_status take_snapshot(tracerd_session *t, uint64_t moment, const char *fo
     if (status)
         return status;
     say_snapshot(told, w.moment);
-    *written = folder ? keep_below(&w, folder) : each_file(&w, -1, look_alone);
+    *written = TRACERD_OK;
+    if (folder)
+        *written = keep_below(&w, folder);
+    else
+        status = each_file(&w, -1, look_alone);
     end(&w);
-    return TRACERD_OK;
+    return status;
 }

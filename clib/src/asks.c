@@ -151,7 +151,7 @@ bool answer_line(const tracerd_listener *l, const uint8_t *line, size_t size, te
         asked.kind = TRC_ASKS_BADLY;
     if (!status)
         status = answer_asked(l, &asked, a);
-    if (status)
+    if (status && begin_text(a)) /* of a snapshot something may be said already */
         say_refused(a, status);
     return !a->is_lost;
 }

@@ -5,6 +5,7 @@
 #include "rationed.h"
 #include "asking.h"
 
+static const char shown[] = "snapshot 9\nstream 0 offered 1 packets 1 records 1\npacket 0 records 1 first 0 last 0\n";
 static const char lines[] = "archives s\nfate s 0 0\nclear s\nschedule s --every=5\nrotate --a=b\nrelease s 0\nstop s\n";
 static const char *const wanted[] = {"none\n",     "not offered\n",           "cleared 0\n", "schedule set\n",
                                      "bad line\n", "refused S18 NoArchive\n", "stopped\n"};
@@ -21,19 +22,53 @@ static void judges_answers(void) {
     is(!*at && (refused || shrunk || strlen(said) == 79));
 }
 
-static void answers_lines(long first) {
-    fails_at = -1;
-    opens(TRACERD_LOCAL);
-    answers(OK, tracerd_start(session, 0));
+static void judges_a_snapshot(void) {
+    bool is_whole = !strcmp(said, shown);
+    is(is_whole || !strcmp(said, "refused S16 NoMemory\n") || !*said);
+    is(is_whole || refused || shrunk);
+}
+
+/* Asks while the allocation of this number fails. */
+static void asks_with_little(const char *asking, long first) {
     listens(NULL);
     asked = 0;
     fails_at = first;
     int it = enters();
-    is(it >= 0 && sends(it, lines, strlen(lines)) && !shutdown(it, SHUT_WR) && reads(it) >= 0);
+    is(it >= 0 && sends(it, asking, strlen(asking)) && !shutdown(it, SHUT_WR) && reads(it) >= 0);
     fails_at = -1;
+}
+
+static void answers_lines(long first) {
+    opens(TRACERD_LOCAL);
+    answers(OK, tracerd_start(session, 0));
+    asks_with_little(lines, first);
     judges_answers();
     closes();
-    is(held == 0);
+}
+
+static void answers_a_snapshot(long first) {
+    opens(TRACERD_SNAPSHOT);
+    answers(OK, tracerd_start(session, 0));
+    offers(1, 50);
+    asks_with_little("snapshot s 9\n", first);
+    judges_a_snapshot();
+    closes();
+}
+
+/* Has each allocation of this fail in turn, alone or with all after it. */
+static void fails_each(void (*does)(long), long least) {
+    for (int lasting = 0; lasting < 2; lasting++) {
+        long first = 0;
+        do {
+            refused = shrunk = 0;
+            is_lasting = lasting;
+            does(first++);
+            is(held == 0);
+            counts_as_one();
+        } while ((refused || shrunk) && !failed);
+        is(first > least && !half_apart && !done_without);
+        counts_as_one();
+    }
 }
 
 /* A listener without its thread is none, and another one may be started. */
@@ -53,15 +88,7 @@ int main(int count, char **words) {
     dir = words[1];
     listens_with_a_thread();
     counts_as_one();
-    for (int lasting = 0; lasting < 2; lasting++) {
-        long first = 0;
-        do {
-            refused = shrunk = 0;
-            is_lasting = lasting;
-            answers_lines(first++);
-            counts_as_one();
-        } while ((refused || shrunk) && !failed);
-        is(first > 100 && !half_apart && !done_without);
-    }
+    fails_each(answers_lines, 100);
+    fails_each(answers_a_snapshot, 5);
     return closing();
 }

@@ -50,7 +50,7 @@ static tracerd_session *made(const char *name, tracerd_kind kind) {
     return s;
 }
 
-/* Offers so many records of 2,000 bytes, of which a sub-buffer has two less one: so each begins one after the first. */
+/* Offers so many records, of which a sub-buffer has room for one. */
 static void offer(tracerd_producer *p, int count) {
     static const uint8_t payload[2100];
     tracerd_offered offered;
