@@ -490,11 +490,16 @@ tracerd_status tracerd_listener_stop(tracerd_listener *);
 
 /* offered = discarded + overwritten + cleared + in_ring + in_chunks, where in_chunks counts released archives' records too. What
  * was refused is none of these, and is counted by why. What TRACERD_TRACE passes over while the session is off isn't counted, nor
- * what is offered by a producer that was given back. */
+ * what is offered by a producer that was given back.
+ *
+ * `shared` is how many of the offered ones were made while a pool had lent their producer to several threads, which may wait for
+ * each other then; what threads say of themselves is among them. If it grows, a larger pool helps. After a thread had a producer
+ * that it couldn't keep for want of memory, all offers by that one are shared. Those of tracerd_cpu_pool_new are lent to nobody. */
 typedef struct tracerd_counts {
     uint64_t offered, discarded, overwritten, cleared, in_ring, in_chunks;
     uint64_t refused_inactive, refused_too_big, refused_bad_moment, refused_spent, refused_other_layout;
-    uint64_t reserved[5];
+    uint64_t shared;
+    uint64_t reserved[4];
 } tracerd_counts;
 
 /* Of one producer: as of one moment. */

@@ -2,7 +2,8 @@
 #include "session.h"
 
 /* The cells write the first fields of these, and know no others. */
-_Static_assert(offsetof(tracerd_counts, refused_inactive) == 48 && sizeof(tracerd_counts) == 128, "tracerd_counts");
+_Static_assert(offsetof(tracerd_counts, refused_inactive) == 48 && offsetof(tracerd_counts, shared) == 88, "tracerd_counts");
+_Static_assert(sizeof(tracerd_counts) == 128, "results keep their size");
 _Static_assert(offsetof(tracerd_fate, reserved) == 24 && sizeof(tracerd_fate) == 64, "tracerd_fate");
 
 tracerd_status ask_counts(slot *s, trc_counts *counts) {
@@ -19,7 +20,7 @@ tracerd_status ask_part(slot *s, uint64_t archive, trc_part *part) {
     return status;
 }
 
-/* Adds what a slot's stream counts, and what was refused. The slot is locked. */
+/* Adds what a slot's stream counts, what was refused, and what was shared. The slot is locked. */
 static tracerd_status add_counts_locked(slot *s, tracerd_counts *sum) {
     tracerd_status status = trc_stream_add_counts(&s->stream, sum);
     if (status)
@@ -29,6 +30,7 @@ static tracerd_status add_counts_locked(slot *s, tracerd_counts *sum) {
     sum->refused_bad_moment += s->refused.bad_moment;
     sum->refused_spent += s->refused.spent;
     sum->refused_other_layout += s->refused.other_layout;
+    sum->shared += s->shared;
     return TRACERD_OK;
 }
 

@@ -10,7 +10,7 @@ static bool say_locked(slot *s, uint32_t id, const uint8_t *about, uint32_t size
     if (!s->front.active)
         return false;
     uint64_t moment = now_by(CLOCK_MONOTONIC) + s->ahead;
-    return !trc_stream_offer(&s->stream, moment, id, about, size, &offered) && offered.outcome != TRACERD_DISCARDED;
+    return !offer_locked(s, moment, id, about, size, &offered) && offered.outcome != TRACERD_DISCARDED;
 }
 
 void say_first_locked(slot *s) {
@@ -28,16 +28,18 @@ static void say_first(slot *s) {
 /* From now on the calling thread has a producer for itself. */
 static void begin_own(slot *s) {
     pthread_mutex_lock(&s->lock);
+    s->holders++;
     atomic_store(&s->unsaid, about_thread(s->first));
     say_first_locked(s);
     pthread_mutex_unlock(&s->lock);
 }
 
-/* Has the calling thread say that it shares a producer. Whether that is stored. */
-static bool say_shared(slot *s) {
+/* Has the calling thread say that it shares a producer, which so many threads more have from now on. Whether that is stored. */
+static bool say_shared(slot *s, uint64_t more) {
     uint8_t about[ABOUT_THREAD];
     uint32_t size = about_thread(about);
     pthread_mutex_lock(&s->lock);
+    s->holders += more;
     bool is_said = say_locked(s, TRACERD_THREAD_SHARED, about, size);
     pthread_mutex_unlock(&s->lock);
     return is_said;
@@ -48,7 +50,7 @@ static bool has_said(const lend *it) {
     return it->manner == SHARED || (it->manner == OWN && !atomic_load_explicit(&it->slot->unsaid, memory_order_relaxed));
 }
 
-/* Has the calling thread say its end, if its beginning was stored. */
+/* Has the calling thread say its end, if its beginning was stored; then it has the producer no more. */
 static void say_end(const lend *it) {
     slot *s = it->slot;
     uint32_t tid = number_of_thread();
@@ -57,6 +59,7 @@ static void say_end(const lend *it) {
         (void)say_locked(s, TRACERD_THREAD_END, (const uint8_t *)&tid, sizeof tid);
     if (it->manner == OWN)
         atomic_store(&s->unsaid, 0);
+    s->holders--;
     pthread_mutex_unlock(&s->lock);
 }
 
@@ -84,17 +87,20 @@ static lend *lend_locked(tracerd_pool *p) {
     return it;
 }
 
-/* Has the calling thread say that it shares one; if that isn't stored it does so again. */
-static void share(tracerd_pool *p, const lend *unsaid) {
-    if (say_shared(unsaid->slot))
+/* Has the calling thread say that it shares one, which so many threads more have; if that isn't stored it does so again. */
+static void share(tracerd_pool *p, const lend *unsaid, uint64_t more) {
+    if (say_shared(unsaid->slot, more))
         (void)pthread_setspecific(p->key, unsaid->said); /* which takes no memory any more */
 }
 
-/* What a thread has without memory to keep one: it says that it shares one, but not twice in turn. */
+/* What a thread has without memory to keep one: it says that it shares one, but not twice in turn. As nothing tells when it ends, the
+ * producer has several holders from then on. */
 static slot *share_unkept(tracerd_pool *p) {
     uint32_t tid = number_of_thread();
     lend *it = lend_of(p, UNSAID, tid % p->count);
-    if (atomic_load(&it->told) != tid && say_shared(it->slot))
+    if (atomic_load(&it->told) == tid)
+        return it->slot;
+    if (say_shared(it->slot, 2))
         atomic_store(&it->told, tid);
     return it->slot;
 }
@@ -109,7 +115,7 @@ static slot *lend_one(tracerd_pool *p) {
     if (it->manner == OWN)
         begin_own(it->slot);
     else
-        share(p, it);
+        share(p, it, 1);
     return it->slot;
 }
 
@@ -118,7 +124,7 @@ static slot *say_again(tracerd_pool *p, const lend *it) {
     if (it->slot->front.active && it->manner == OWN)
         say_first(it->slot);
     else if (it->slot->front.active)
-        share(p, it);
+        share(p, it, 0);
     return it->slot;
 }
 

@@ -109,7 +109,7 @@ tracerd_status tracerd_offer(tracerd_producer *producer, uint64_t moment, uint32
     if (s->is_out)
         status = judge_layout_locked(s, id, payload, size);
     if (!status)
-        status = trc_stream_offer(&s->stream, moment, id, payload, size, offered);
+        status = offer_locked(s, moment, id, payload, size, offered);
     if (__builtin_expect(status != TRACERD_OK, 0))
         count_refusal_locked(s, status);
     pthread_mutex_unlock(&s->lock);

@@ -27,6 +27,8 @@ typedef struct slot {
     struct {
         uint64_t inactive, too_big, bad_moment, spent, other_layout;
     } refused;          /* offers, by why */
+    uint64_t holders;   /* threads to which a pool has lent it */
+    uint64_t shared;    /* offers that were accepted while these were several */
     bool is_out;        /* not given back */
     trc_events *events; /* those that are declared, or NULL */
     trc_events *coming; /* while events are declared: those that it will have; the desk guards it */
@@ -68,6 +70,14 @@ static inline slot *slot_of(tracerd_producer *producer) { return (slot *)produce
 /* The slots are gone through from the first to before NULL. One that is added meanwhile may be met or not. */
 static inline slot *first_slot(tracerd_session *t) { return atomic_load(&t->slots[0]); }
 static inline slot *next_slot(tracerd_session *t, const slot *s) { return atomic_load(&t->slots[s->number + 1]); }
+
+/* Offers a record. The slot is locked. */
+static inline tracerd_status offer_locked(slot *s, uint64_t moment, uint32_t id, const void *payload, size_t size,
+                                          tracerd_offered *offered) {
+    tracerd_status status = trc_stream_offer(&s->stream, moment, id, payload, size, offered);
+    s->shared += !status && s->holders > 1;
+    return status;
+}
 
 static inline uint64_t now_by(clockid_t clock) {
     struct timespec now;

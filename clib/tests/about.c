@@ -16,7 +16,7 @@ static void reserves(tracerd_session *s, tracerd_producer *p) {
     memset(&f, 255, sizeof f);
     memset(&a, 255, sizeof a);
     answers(MISSING, tracerd_settle(s, &c[2], &n));
-    is(c[2].offered == UINT64_MAX && c[2].reserved[4] == UINT64_MAX);
+    is(c[2].offered == UINT64_MAX && c[2].reserved[3] == UINT64_MAX);
     answers(OK, tracerd_start(s, 0));
     is_stored(p, 0, 27, 0, 0);
     answers(OK, tracerd_rotate(s, 0, &n));
@@ -25,7 +25,7 @@ static void reserves(tracerd_session *s, tracerd_producer *p) {
     answers(OK, tracerd_counts_sum(s, &c[1]));
     answers(OK, tracerd_producer_done(p));
     answers(OK, tracerd_settle(s, &c[2], &n));
-    for (int i = 0; i < 3; i++) is(c[i].offered == 1 && !memcmp(c[i].reserved, zeros, sizeof c[i].reserved));
+    for (int i = 0; i < 3; i++) is(c[i].offered == 1 && !c[i].shared && !memcmp(c[i].reserved, zeros, sizeof c[i].reserved));
     answers(OK, tracerd_fate_of(p, 0, &f));
     is(f.place == TRACERD_IN_CHUNK && !memcmp(f.reserved, zeros, sizeof f.reserved));
     answers(OK, tracerd_audit(below("reserved"), "s", "c", 0, ONE, &a));

@@ -89,7 +89,7 @@ static void free_pool(tracerd_pool *it) {
 typedef struct {
     uint32_t lent, sharing[MOST];
     int sharers, said, shared;
-    uint64_t serials;
+    uint64_t serials, together; /* records, and those of them that were made while several had the stream */
 } holders;
 
 static int place_of(const holders *h, uint32_t tid) {
@@ -108,11 +108,14 @@ static void ends(holders *h, uint32_t tid) {
     if (place >= 0) h->sharing[place] = h->sharing[--h->sharers];
 }
 
+static void count_together(holders *h) { h->together += h->sharers + (h->lent != 0) > 1; }
+
 static void is_of_a_holder(holders *h, const record *it) {
     uint32_t number = (uint32_t)number_at(it->payload, 4), k = (uint32_t)number_at(it->payload + 4, 4);
     is(it->id == 1 && it->size == 8 && number < (uint32_t)threads && k == seen[number]);
     if (wrong) return;
     is(h->lent == tids[number] || place_of(h, tids[number]) >= 0);
+    count_together(h);
     seen[number]++;
 }
 
@@ -123,19 +126,22 @@ static void follow(void *with, const record *it) {
     if (it->id == TRACERD_THREAD_BEGIN) {
         is(!h->lent && h->said++ >= 0);
         h->lent = tid;
+        count_together(h);
     } else if (it->id == TRACERD_THREAD_SHARED) {
         is(h->sharers < MOST && h->said++ >= 0 && h->shared++ >= 0);
         h->sharing[h->sharers++] = tid;
+        count_together(h);
     } else if (it->id == TRACERD_THREAD_END) {
+        count_together(h);
         ends(h, tid);
     } else {
         is_of_a_holder(h, it);
     }
 }
 
-static void read_back(uint64_t archives) {
+static void read_back(uint64_t archives, uint64_t counted) {
     int said = 0, shared = 0;
-    uint64_t read = 0;
+    uint64_t read = 0, together = 0;
     for (uint64_t k = 0; k < PRODUCERS; k++) {
         holders *h = calloc(1, sizeof *h);
         for (uint64_t archive = 0; archive < archives && !wrong; archive++)
@@ -144,9 +150,10 @@ static void read_back(uint64_t archives) {
         said += h->said;
         shared += h->shared;
         read += h->serials;
+        together += h->together;
         free(h);
     }
-    is(said == threads && shared && read == (uint64_t)threads * (EACH + 2));
+    is(said == threads && shared && read == (uint64_t)threads * (EACH + 2) && together && together == counted);
     for (int k = 0; k < threads; k++) is(seen[k] == EACH);
     fprintf(stderr, "crowds: %d threads, %d of them sharing, ", threads, shared);
     fprintf(stderr, "%" PRIu64 " records in %" PRIu64 " archives\n", read, archives);
@@ -182,7 +189,7 @@ int main(int count, char **words) {
     uint64_t last = rotate_and_write();
     answers(OK, tracerd_settle(local, &c, &stream));
     is(!c.discarded && c.offered == c.in_chunks && c.offered == (uint64_t)threads * (EACH + 2));
-    read_back(last + 1);
+    read_back(last + 1, c.shared);
     tracerd_free(local);
     tracerd_free(shown);
     counts_as_one();

@@ -13,6 +13,13 @@ int __wrap_pthread_setspecific(pthread_key_t key, const void *value) {
     return fails_to_keep ? ENOMEM : __real_pthread_setspecific(key, value);
 }
 
+/* How many offers a producer, or the session of NULL, counts as shared. */
+static uint64_t count_shared(tracerd_producer *p) {
+    tracerd_counts c = {0};
+    answers(OK, p ? tracerd_counts_of(p, &c) : tracerd_counts_sum(session, &c));
+    return c.shared;
+}
+
 /* What a thread has is its own until it ends. Then it is lent again, once those were that were free before. */
 static void lends_the_longest_free(void) {
     opens(4096, 3);
@@ -29,23 +36,29 @@ static void lends_the_longest_free(void) {
     is(records(e, 6) == 1); /* they are free since b, c and d ended, in this order */
     uint32_t te = dismissed(e);
     is_said("| begin e %u; 6; end %u; | ", te, te);
+    is(count_shared(NULL) == 0);
     closes();
 }
 
-/* A thread that finds none free shares one, in turn, until it ends, whoever has it meanwhile. */
+/* A thread that finds none free shares one, in turn, until it ends, whoever has it meanwhile. Shared are the offers between the
+ * moments at which a second thread has the producer and at which one is left: of the first stream `shared c` to `end a`, which are
+ * four, and `begin e` to `end c`, three; of the second one `shared d` to `end b`, three. */
 static void shares_in_turn(void) {
     opens(4096, 2);
     starts();
     worker *a = hired("a"), *b = hired("b"), *c = hired("c"), *d = hired("d");
     is(records(a, 1) == 0 && records(b, 2) == 1 && records(c, 3) == 0 && records(d, 4) == 1 && records(c, 5) == 0);
+    tracerd_producer *first = a->producer, *second = b->producer;
+    is(count_shared(first) == 3 && count_shared(second) == 2 && count_shared(NULL) == 5);
     uint32_t ta = dismissed(a);
-    is(records(c, 6) == 0);
+    is(count_shared(first) == 4 && records(c, 6) == 0 && count_shared(first) == 4);
     worker *e = hired("e");
     is(records(e, 7) == 0);
     uint32_t tc = dismissed(c), te = dismissed(e), tb = dismissed(b), td = dismissed(d);
     is_said("begin a %u; 1; shared c %u; 3; 5; end %u; 6; begin e %u; 7; end %u; end %u; | "
             "begin b %u; 2; shared d %u; 4; end %u; end %u; ",
             ta, tc, ta, te, tc, te, tb, td, tb, td);
+    is(count_shared(first) == 7 && count_shared(second) == 3 && count_shared(NULL) == 10);
     closes();
 }
 
@@ -72,6 +85,7 @@ static void says_it_at_the_start(void) {
     records(b, 7);
     uint32_t tl = dismissed(late), tb = dismissed(b);
     is_said("begin a %u; shared b %u; 4; 5; begin late %u; 7; end %u; end %u; ", ta, tb, tl, tl, tb);
+    is(count_shared(NULL) == 7); /* of all eight `end b` alone isn't, and what was refused is none */
     closes();
 }
 
@@ -158,6 +172,7 @@ static void shares_without_memory(void) {
         is_said("begin a %u; 3; 4; end %u; | shared a %u; 1; 2; ", ta, ta, ta);
     else
         is_said("shared a %u; 1; 2; begin a %u; 3; 4; end %u; | ", ta, ta, ta);
+    is(count_shared(NULL) == (stream ? 3 : 7)); /* nothing tells when such a thread ends */
     closes();
 }
 

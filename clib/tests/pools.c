@@ -187,7 +187,7 @@ static void gives_a_processors(void) {
     is(!sched_setaffinity(0, sizeof all, &all) && seen);
     tracerd_counts c;
     answers(OK, tracerd_counts_sum(session, &c));
-    is(c.offered == seen);
+    is(c.offered == seen && c.shared == 0); /* nothing is lent */
     closes();
 }
 

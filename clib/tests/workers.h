@@ -18,16 +18,17 @@ typedef struct worker {
     const char *name;
     uint32_t id; /* of what it records next; 0: it ends */
     uint32_t tid;
-    uint64_t number; /* of the producer that it had then */
+    tracerd_producer *producer; /* that it had then, */
+    uint64_t number;            /* and the number of this */
     tracerd_status status;
 } worker;
 
 static inline uint32_t own_tid(void) { return (uint32_t)syscall(SYS_gettid); }
 
 static inline void record_here(worker *it) {
-    tracerd_producer *p = tracerd_here(pool);
-    it->number = tracerd_producer_number(p);
-    it->status = tracerd_trace(p, it->id, NULL, 0);
+    it->producer = tracerd_here(pool);
+    it->number = tracerd_producer_number(it->producer);
+    it->status = tracerd_trace(it->producer, it->id, NULL, 0);
 }
 
 static inline void *work(void *given) {

@@ -91,7 +91,8 @@ def knows_its_library():
     shown = repr(producer.counts())
     assert shown == (
         "Counts(offered=1, discarded=0, overwritten=0, cleared=0, in_ring=1, in_chunks=0, "
-        "refused_inactive=0, refused_too_big=0, refused_bad_moment=0, refused_spent=0, refused_other_layout=0)"
+        "refused_inactive=0, refused_too_big=0, refused_bad_moment=0, refused_spent=0, refused_other_layout=0, "
+        "shared=0)"
     ), shown
     assert not any(producer.counts()._reserved) and not any(session.counts()._reserved)
     assert not any(producer.fate(0)._reserved)

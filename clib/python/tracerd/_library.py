@@ -107,7 +107,8 @@ class Fate(_Struct):
 
 
 class Counts(_Struct):
-    """`offered` is the sum of those that come next; what was refused is none of them."""
+    """`offered` is the sum of those that come next; what was refused is none of them. `shared` is how many of the offered
+    ones were made while a pool had lent their producer to several threads."""
 
     offered: int
     discarded: int
@@ -120,10 +121,12 @@ class Counts(_Struct):
     refused_bad_moment: int
     refused_spent: int
     refused_other_layout: int
+    shared: int
     _fields_ = [
         *_numbers("offered", "discarded", "overwritten", "cleared", "in_ring", "in_chunks"),
         *_numbers("refused_inactive", "refused_too_big", "refused_bad_moment", "refused_spent", "refused_other_layout"),
-        ("_reserved", c_uint64 * 5),
+        *_numbers("shared"),
+        ("_reserved", c_uint64 * 4),
     ]
 
 

@@ -36,7 +36,8 @@ pub struct RawFate {
     reserved: [u64; 5],
 }
 
-/// `offered` is the sum of those that come next; what was refused is none of them.
+/// `offered` is the sum of those that come next; what was refused is none of them. `shared` is how many of the offered
+/// ones were made while a pool had lent their producer to several threads.
 #[repr(C)]
 #[derive(Clone, Copy, Debug, Default, PartialEq, Eq)]
 pub struct Counts {
@@ -51,7 +52,8 @@ pub struct Counts {
     pub refused_bad_moment: u64,
     pub refused_spent: u64,
     pub refused_other_layout: u64,
-    reserved: [u64; 5],
+    pub shared: u64,
+    reserved: [u64; 4],
 }
 
 /// What a session is.
