@@ -176,7 +176,8 @@ class Producer(_Part):
         """Gives it back; once more changes nothing."""
         _producer_done(self._handle)
 
-    _end = done
+    def _end(self) -> None:
+        self.done()
 
     @property
     def number(self) -> int:
@@ -230,7 +231,8 @@ class Listener(_Part):
         if handle:
             _listener_stop(handle)
 
-    _end = stop
+    def _end(self) -> None:
+        self.stop()
 
 
 class Session:
