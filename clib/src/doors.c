@@ -130,7 +130,7 @@ bool wait_at(const door *d, int descriptor, short what, int milliseconds) {
 }
 
 /* Whether a client is of the program's own user, or the superuser. */
-static bool is_own(int client) {
+static bool is_of_own_user(int client) {
     struct ucred who;
     socklen_t size = sizeof who;
     return !getsockopt(client, SOL_SOCKET, SO_PEERCRED, &who, &size) && (who.uid == geteuid() || who.uid == 0);
@@ -140,7 +140,7 @@ int let_in(const door *d) {
     int client = accept4(d->socket, NULL, NULL, SOCK_NONBLOCK | SOCK_CLOEXEC);
     if (client < 0)
         (void)poll(NULL, 0, PAUSE); /* descriptors may be lacking for a while */
-    if (client < 0 || is_own(client))
+    if (client < 0 || is_of_own_user(client))
         return client;
     hang_up(client);
     return -1;
