@@ -50,7 +50,7 @@ static bool has_said(const lend *it) {
     return it->manner == SHARED || (it->manner == OWN && !atomic_load_explicit(&it->slot->unsaid, memory_order_relaxed));
 }
 
-/* Has the calling thread say its end, if its beginning was stored; then it has the producer no more. */
+/* Has the calling thread say its end, if its beginning was stored. It has the producer no more then. */
 static void say_end(const lend *it) {
     slot *s = it->slot;
     uint32_t tid = number_of_thread();
@@ -87,14 +87,15 @@ static lend *lend_locked(tracerd_pool *p) {
     return it;
 }
 
-/* Has the calling thread say that it shares one, which so many threads more have; if that isn't stored it does so again. */
+/* Has the calling thread say that it shares one, which so many threads more have from now on; if that isn't stored it says so
+ * again. */
 static void share(tracerd_pool *p, const lend *unsaid, uint64_t more) {
     if (say_shared(unsaid->slot, more))
         (void)pthread_setspecific(p->key, unsaid->said); /* which takes no memory any more */
 }
 
-/* What a thread has without memory to keep one: it says that it shares one, but not twice in turn. As nothing tells when it ends, the
- * producer has several holders from then on. */
+/* What a thread has without memory to keep one: it says that it shares one, but not twice in turn. Since nothing tells when the
+ * thread ends, the producer has several holders from then on. */
 static slot *share_unkept(tracerd_pool *p) {
     uint32_t tid = number_of_thread();
     lend *it = lend_of(p, UNSAID, tid % p->count);

@@ -24,8 +24,10 @@ enum {
     MOST_EARLIER = 9999
 };
 
-/* A file may have 2^38 bytes; less if the system gives no such addresses, but 2^28. */
-enum { MOST = 38, LEAST = 28, EXPONENT = 63 };
+/* For a file 2^MOST addresses are reserved; if the system doesn't give so many fewer, but 2^LEAST. */
+enum { MOST = 38, LEAST = 28 };
+/* The bits of a page's address that are zeros, in which an exponent has room. */
+enum { EXPONENT = 63 };
 
 /* Pages of one size that are free: there is room for all there are. */
 typedef struct {
@@ -36,8 +38,8 @@ typedef struct {
 struct rings {
     int file, folder;     /* -1: not open */
     int number;           /* among those that are known, or -1 */
-    uint8_t *base;        /* the first part; addresses are reserved behind it: */
-    unsigned exponent;    /* 2 to this many in all */
+    uint8_t *base;        /* the first part; addresses are reserved behind it, */
+    unsigned exponent;    /* 2^exponent in all */
     uint8_t *size_of;     /* of each part, the place of its pages' size among the sizes */
     pthread_mutex_t lock; /* guards what follows */
     size_t used;          /* bytes of the file */
@@ -45,9 +47,9 @@ struct rings {
     char name[LONGEST_NAME]; /* in its folder */
 };
 
-/* Where those lie that are known, for blocks that are given back: the address of the first part, with the exponent in bits that are
- * zeros there. So a thread with a block of one file reads no more than this of another file, which may go at that moment. A file's
- * addresses stay reserved in a child of fork. */
+/* Where the files lie, for blocks that are given back: of each the address of its first part, with the exponent. So a thread that has
+ * a block of one file reads no more than this of another one, which may go at that moment. A file's addresses stay reserved in a
+ * child of fork. */
 static _Atomic uintptr_t addresses[FILES];
 static struct rings *known[FILES];
 

@@ -193,7 +193,7 @@ fn traces() {
     trace!(producer, 7, payload());
     assert_eq!(evaluated, 1);
     let counts = producer.counts().unwrap();
-    assert_eq!((counts.offered, counts.refused_inactive, counts.refused_too_big), (1, 1, 2));
+    assert_eq!((counts.offered, counts.refused_inactive, counts.refused_too_big, counts.shared), (1, 1, 2, 0));
 
     session.write(session.rotate(session.now()).unwrap(), &folder.0).unwrap();
     let archive = fs::read_dir(folder.0.join("s/archives")).unwrap().next().unwrap().unwrap().path();
