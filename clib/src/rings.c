@@ -53,7 +53,8 @@ struct rings {
 static _Atomic uintptr_t addresses[FILES];
 static struct rings *known[FILES];
 
-static _Thread_local struct rings *here;
+/* (Of the model that takes no memory at a thread's first use, and asks for no other library than the C library.) */
+static _Thread_local __attribute__((tls_model("initial-exec"))) struct rings *here;
 
 void pages_in(struct rings *r) { here = r; }
 

@@ -120,6 +120,12 @@ static void refuses_what_is_no_path(void) {
 
 /* ---- Who is let in ---- */
 
+/* Has a child be another user's, in the folder, since that user may not find it from above. */
+static void becomes_nobody(void) {
+    if (chdir(dir) || setgid(NOBODY) || setuid(NOBODY)) _exit(9);
+    dir = ".";
+}
+
 static void hangs_up_on_others(void) {
     int status = 0;
     if (getuid()) {
@@ -131,7 +137,7 @@ static void hangs_up_on_others(void) {
     fflush(stdout);
     pid_t it = fork();
     if (!it) {
-        if (setgid(NOBODY) || setuid(NOBODY)) _exit(9);
+        becomes_nobody();
         int by = enters();
         (void)sends(by, "status s\n", 9);
         _exit(by < 0 ? 8 : reads(by) != 0 ? 7 : 0);
@@ -140,7 +146,10 @@ static void hangs_up_on_others(void) {
     is(!chmod(door(), 0600));
     fflush(stdout);
     it = fork();
-    if (!it) _exit(setgid(NOBODY) || setuid(NOBODY) || enters() >= 0 || errno != EACCES);
+    if (!it) {
+        becomes_nobody();
+        _exit(enters() >= 0 || errno != EACCES);
+    }
     is(it > 0 && waitpid(it, &status, 0) == it && status == 0);
     says("archives s", "none\n");
     closes();
