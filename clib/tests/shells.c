@@ -86,9 +86,10 @@ static void does_not_grow(void) {
 }
 
 static void is_closed_in_a_child(void) {
-    int status = 99;
+    int status = 99, found = 99, pipes[2];
     opens_a_door();
     int client = enters();
+    is(!pipe(pipes));
     is(sends(client, "archives s\n", 11));
     nanosleep(&(struct timespec){0, 100000000}, NULL); /* it is let in */
     fflush(stdout);
@@ -100,9 +101,11 @@ static void is_closed_in_a_child(void) {
         answers(CLOSED, tracerd_listen(&listener, session, below("child.socket"), NULL));
         tracerd_free(session);
         fflush(stdout);
-        if (wrong) _exit(1);
+        (void)!write(pipes[1], &wrong, sizeof wrong);
         for (;;) pause();
     }
+    close(pipes[1]);
+    is(read(pipes[0], &found, sizeof found) == sizeof found && !found && !close(pipes[0]));
     /* the child's copies keep neither a client nor the path */
     is(!shutdown(client, SHUT_WR) && reads(client) == 5 && !strcmp(said, "none\n"));
     answers(OK, tracerd_listener_stop(listener));
