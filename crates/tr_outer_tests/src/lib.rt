@@ -1,6 +1,7 @@
 //! The tests of what goes into sessions and out of them: the command language, with what each line asks for and runs of scripts
 //! in which reading, writing or memory fails (tr_command, tr_console); archives in memory, disks that fail, and surveys of
-//! folders in memory (tr_folders, tr_export, tr_survey). Whole scripts, and archives in the file system, are in `examples`.
+//! folders in memory (tr_folders, tr_export, tr_survey); what is recovered of images (tr_image). Whole scripts, and archives in
+//! the file system, are in `examples`.
 #![tactic(auto)]
 
 #[cfg(test)]
@@ -13,6 +14,8 @@ mod command_lines;
 mod declarations;
 #[cfg(test)]
 mod descriptions;
+#[cfg(test)]
+mod images;
 #[cfg(test)]
 mod scripts;
 #[cfg(test)]
