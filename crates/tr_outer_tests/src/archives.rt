@@ -3,6 +3,7 @@
 mod failing;
 mod flushes;
 mod full;
+mod recovered;
 
 use crate::asserting::assert_same;
 use std::alloc::Global;

@@ -1,7 +1,7 @@
 //! What is recovered of images: files of rings, dumps of memory, any bytes.
 
 mod damage;
-mod laying;
+pub(crate) mod laying;
 mod reading;
 mod windows;
 
