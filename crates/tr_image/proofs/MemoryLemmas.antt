@@ -18,7 +18,7 @@ use Rattle.tr_packet.proofs.DecodingLemmas.{Decoded, IsRead, Passes, front_passe
 use Rattle.tr_packet.proofs.TextLemmas.{length-packet_text}
 use Rattle.tr_record.proofs.Fields.{AreBytes-drop, AreBytes-take, numeral_64}
 use Rattle.tr_record.specs.Whole.{AreBytes, AreWhole, entries_at, entries_of}
-use Rattle.tr_image.specs.Image.{packet_at, packet_is}
+use Rattle.tr_image.specs.Image.{packet_at, packet_of}
 use Rattle.tr_subbuf.specs.Stores.{NoneStands, Stands, committed}
 use Rattle.tr_terms.specs.declared.limits.TheConstants.{LARGEST_PACKET, PACKET_HEADER}
 
@@ -189,16 +189,16 @@ among p rest memory n low there begins = record {
 
 -- ---- the packet that is answered
 
-pub other_fault : (uuid bytes : List ℕ) (f : PacketFault) → first_fault bytes ≡ Some f → packet_is uuid bytes ≡ None
+pub other_fault : (uuid bytes : List ℕ) (f : PacketFault) → first_fault bytes ≡ Some f → packet_of uuid bytes ≡ None
 other_fault uuid bytes f e = rw e refl
 
 pub same_trace : (uuid bytes : List ℕ) (p : Contents) → first_fault bytes ≡ None → contents_in bytes ≡ p → bytes_eq p.head.uuid uuid ≡ true
-    → packet_is uuid bytes ≡ Some p
+    → packet_of uuid bytes ≡ Some p
 same_trace uuid bytes p none is same =
     let test : bytes_eq (contents_in bytes).head.uuid uuid ≡ true = ap (λ (q : Contents). bytes_eq q.head.uuid uuid) is ∙ same in
     rw (none, test) (ap Some is)
 
-pub other_trace : (uuid bytes : List ℕ) (p : Contents) → contents_in bytes ≡ p → bytes_eq p.head.uuid uuid ≡ false → packet_is uuid bytes ≡ None
+pub other_trace : (uuid bytes : List ℕ) (p : Contents) → contents_in bytes ≡ p → bytes_eq p.head.uuid uuid ≡ false → packet_of uuid bytes ≡ None
 other_trace uuid bytes p is other =
     let test : bytes_eq (contents_in bytes).head.uuid uuid ≡ false = ap (λ (q : Contents). bytes_eq q.head.uuid uuid) is ∙ other in
     go (is_none (first_fault bytes)) (bytes_eq (contents_in bytes).head.uuid uuid) (contents_in bytes) test
@@ -227,26 +227,26 @@ nothing_stands uuid memory small none = go (first_fault (committed memory)) refl
 
 -- the bytes of content_size tell it
 pub told_alone : (uuid memory : List ℕ) (n : ℕ) → AreBytes memory → n ≡ content_bits_in memory / 8 → PACKET_HEADER ≤ n → n ≤ length memory
-    → packet_is uuid (committed (take n memory)) ≡ packet_at uuid memory
+    → packet_of uuid (committed (take n memory)) ≡ packet_at uuid memory
 told_alone uuid memory n small size low there = go (first_fault (committed (take n memory))) refl (first_fault (committed memory)) refl
   where
     few : List ℕ
     few = committed (take n memory)
 
-    both : (p : Contents) (first second : List ℕ) → Begins p first few → Begins p second (committed memory) → packet_is uuid few ≡ packet_at uuid memory
+    both : (p : Contents) (first second : List ℕ) → Begins p first few → Begins p second (committed memory) → packet_of uuid few ≡ packet_at uuid memory
     both p first second one two =
         let a = begun p first few one in
         let b = begun p second (committed memory) two in
         by_trace (bytes_eq p.head.uuid uuid) refl a b
       where
         by_trace : (t : Bool) → bytes_eq p.head.uuid uuid ≡ t → ((first_fault few ≡ None) × (contents_in few ≡ p))
-            → ((first_fault (committed memory) ≡ None) × (contents_in (committed memory) ≡ p)) → packet_is uuid few ≡ packet_at uuid memory
+            → ((first_fault (committed memory) ≡ None) × (contents_in (committed memory) ≡ p)) → packet_of uuid few ≡ packet_at uuid memory
         by_trace true e a b =
             same_trace uuid few p a.0 a.1 e ∙ sym (same_trace uuid (committed memory) p b.0 b.1 e)
         by_trace false e a b = other_trace uuid few p a.1 e ∙ sym (other_trace uuid (committed memory) p b.1 e)
 
     go : (one : Option PacketFault) → first_fault few ≡ one → (two : Option PacketFault) → first_fault (committed memory) ≡ two
-        → packet_is uuid few ≡ packet_at uuid memory
+        → packet_of uuid few ≡ packet_at uuid memory
     go None e two e' =
         let begins = decoded few (AreBytes-committed (take n memory) (AreBytes-take n memory small)) e in
         let stands = among (contents_in few) (drop (packet_bits_in few / 8) few) memory n (omega (arith, low)) there begins in
@@ -285,7 +285,7 @@ committed_size bits bytes new long small is size written =
 -- so the bytes of a content are enough
 pub content_told : (uuid memory copy new : List ℕ) (bits : ℕ) → AreBytes memory → bits ≡ content_bits_in memory → PACKET_HEADER ≤ bits / 8
     → bits / 8 ≤ length memory → copy ≡ take (bits / 8) memory → new ≡ with_number PACKET_SIZE_AT bits copy
-    → (packet_bits_in new / 8 ≡ length new) × AreBytes new × (packet_is uuid new ≡ packet_at uuid memory)
+    → (packet_bits_in new / 8 ≡ length new) × AreBytes new × (packet_of uuid new ≡ packet_at uuid memory)
 content_told uuid memory copy new bits small is low there copied written =
     let n = bits / 8 in
     let few : length (take n memory) ≡ n = omega (arith, there, length-take n memory) in
@@ -294,7 +294,7 @@ content_told uuid memory copy new bits small is low there copied written =
     (sym few) (written ∙ ap (with_number PACKET_SIZE_AT bits) copied) in (
       size.1,
       subst AreBytes (sym size.0) (AreBytes-committed (take n memory) (AreBytes-take n memory small)),
-      ap (packet_is uuid) size.0 ∙ told_alone uuid memory n small (ap (λ (k : ℕ). k / 8) is) low there,
+      ap (packet_of uuid) size.0 ∙ told_alone uuid memory n small (ap (λ (k : ℕ). k / 8) is) low there,
     )
 
 -- ---- a text of which nothing is left over
@@ -366,7 +366,7 @@ enough uuid memory more small rest long = by_size (cases_lt n PACKET_HEADER) (ca
         ∙ sym (nothing_stands uuid memory small (none_if_high memory many))
     by_size (inr low) (inr high) =
         sym (told_alone uuid (memory ++ more) n all (sym same) low (omega (arith, high, long, length-append memory more)))
-        ∙ ap (λ (t : List ℕ). packet_is uuid (committed t)) (take-append-le n memory more (omega (arith, high, long)))
+        ∙ ap (λ (t : List ℕ). packet_of uuid (committed t)) (take-append-le n memory more (omega (arith, high, long)))
         ∙ told_alone uuid memory n small refl low (omega (arith, high, long))
 
 -- ---- what is answered stands there, and what stands there is answered

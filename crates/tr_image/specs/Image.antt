@@ -6,12 +6,12 @@ use Rattle.tr_packet.specs.Packets.{Contents}
 use Rattle.tr_subbuf.specs.Stores.{Stands, committed}
 
 -- the packet at the front of bytes, if one of this trace is
-abbrev pub packet_is : List ℕ → List ℕ → Option Contents
-packet_is uuid bytes = if is_none (first_fault bytes) && bytes_eq (contents_in bytes).head.uuid uuid then Some (contents_in bytes) else None
+abbrev pub packet_of : List ℕ → List ℕ → Option Contents
+packet_of uuid bytes = if is_none (first_fault bytes) && bytes_eq (contents_in bytes).head.uuid uuid then Some (contents_in bytes) else None
 
 -- that which stands at the front of memory, as large as its content says
 abbrev pub packet_at : List ℕ → List ℕ → Option Contents
-packet_at uuid memory = packet_is uuid (committed memory)
+packet_at uuid memory = packet_of uuid (committed memory)
 
 abbrev pub if_any : Option Contents → List Contents
 if_any None = []

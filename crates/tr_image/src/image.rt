@@ -5,7 +5,7 @@ ghost use Rattle.tr_packet.specs.Decoding.{content_bits_in, packet_bits_in};
 ghost use Rattle.tr_packet.specs.Stores.{with_number};
 ghost use Rattle.tr_packet.specs.declared.layout.TheConstants.{PACKET_SIZE_AT};
 ghost use Rattle.tr_record.specs.Whole.{AreBytes};
-ghost use Rattle.tr_image.specs.Image.{packet_at, packet_is};
+ghost use Rattle.tr_image.specs.Image.{packet_at, packet_of};
 ghost use Rattle.tr_subbuf.specs.Stores.{NoneStands};
 ghost use Rattle.tr_terms.specs.declared.limits.TheConstants.{LARGEST_PACKET, PACKET_HEADER};
 
@@ -32,7 +32,7 @@ fn content_bits(memory: &[u8]) -> u64
 }
 
 /// The number that stands in memory as a packet's content_size, if memory begins as a packet does, and a packet of that size may
-/// stand there.
+/// stand there; the decoder judges the rest.
 fn content_at(memory: &[u8]) -> Option<u64>
     ensures bits { IfSome result (λ bits. bits ≡ content_bits_in memory.now) }
     ensures whole { IfSome result (λ bits. bits % 8 ≡ 0) }
@@ -66,7 +66,7 @@ fn commit(bytes: &mut Vec<u8>, bits: u64)
 fn packet_of(uuid: &Uuid, bytes: Vec<u8>) -> Option<PacketText>
     requires size { packet_bits_in bytes.items / 8 ≡ length bytes.items }
     requires small { AreBytes bytes.items }
-    ensures { result ≡ packet_is uuid.now bytes.items }
+    ensures { result ≡ packet_of uuid.now bytes.items }
 {
     let (head, count) = match decode_packet(&bytes) {
         Ok((packet, _)) => (packet.head(), packet.count()),

@@ -15,7 +15,7 @@ pub fn what_is_recovered_stands_there()
 {}
 
 /// For each packet of the trace that stands in the image, one of its stream and number is recovered that has as many records, or
-/// more.
+/// more. It may be another packet: in a damaged image a number may be one that another packet had.
 pub fn what_stands_there_is_recovered()
     ensures { (uuid image : List ℕ) (p : Contents) (place : ℕ) → place < length image → Stands p (drop place image)
         → p.head.uuid ≡ uuid → OneOf (StandsFor p) (recovered_from uuid image) }

@@ -1,8 +1,9 @@
 //! An image, read by windows.
 
-ghost use Rattle.std.specs.Prelude.{◌≡◌, ◌+◌, ◌-◌, ◌<◌, ◌≤◌, ◌++◌, ℕ, List, Some, None, Option, [], IfOk, IfErr, OnOk, false, drop, length, take, MatchOption};
+ghost use Rattle.std.specs.Prelude.{◌≡◌, ◌≤◌, Some, None, IfErr, IfOk, OnOk, MatchOption, false, true, length};
 ghost use Rattle.tr_folders.specs.Failures.{after_reading};
 ghost use Rattle.tr_folders.specs.Tree.{File, Tree};
+ghost use Rattle.tr_folders.specs.declared.faults.ReadFault.TheVariants.{Unreadable};
 ghost use Rattle.tr_record.specs.Whole.{AreBytes};
 ghost use Rattle.tr_image.specs.Image.{packets_before};
 ghost use Rattle.tr_image.specs.Kept.{gathered, recovered_from};
@@ -48,6 +49,8 @@ fn gather_all<F: Folders>(
     requires { length window.old ≡ WINDOW }
     ensures found { IfOk result (λ kept. (file : File) → F.left folders.old ≡ Some file → AreBytes file.bytes
         → (kept.items ≡ recovered_from uuid.now file.bytes) × (file.breaks ≡ false)) }
+    ensures broken { IfErr result (λ fault. fault ≡ Unreadable → (file : File) → F.left folders.old ≡ Some file
+        → file.breaks ≡ true) }
     ensures tree { F.tree folders.new ≡ F.tree folders.old }
     ensures failures { F.failures folders.new ≡ after_reading result (F.failures folders.old) }
 {
@@ -68,7 +71,8 @@ fn gather_all<F: Folders>(
 }
 
 /// The packets of a trace that stand in an image, the file of this path: of each stream and number the one with the most records,
-/// in the order of streams and numbers. `None` if there is no file.
+/// in the order of streams and numbers. `None` if there is no file. They are copies, so an image that is all packets takes as much
+/// memory.
 ///
 /// # Errors
 ///
@@ -82,6 +86,8 @@ pub fn recovered_packets<F: Folders>(
     ensures found { IfOk result (λ found. (t : Tree) → F.tree folders.old ≡ Some t
         → MatchOption found (t.file path.now ≡ None) (λ packets. MatchOption (t.file path.now) ⊥
         (λ file. AreBytes file.bytes → (packets.items ≡ recovered_from uuid.now file.bytes) × (file.breaks ≡ false)))) }
+    ensures broken { IfErr result (λ fault. fault ≡ Unreadable → (t : Tree) → F.tree folders.old ≡ Some t
+        → MatchOption (t.file path.now) ⊥ (λ file. file.breaks ≡ true)) }
     ensures tree { F.tree folders.new ≡ F.tree folders.old }
     ensures failures { F.failures folders.new ≡ after_reading result (F.failures folders.old) }
 {

@@ -1,4 +1,5 @@
 use Rattle.std.proofs.Common.{◌≡◌, ◌∙◌, ◌++◌, ap, arith, length-append, refl, sym}
+use Rattle.std.proofs.lemmas.Result.{err_from_is_err_and}
 use Rattle.tr_folders.specs.Kept.{file_of}
 use Rattle.tr_packet.specs.Packets.{Contents}
 use Rattle.std.proofs.Common.{List}
@@ -14,6 +15,7 @@ loop-kept-init g c = record {
   small = λ i. omega (arith, c.type_inv.window i);
   tree = refl;
   failures = refl;
+  left = λ file e. (file.bytes, e);
   found = λ file e small.
       (file.bytes, e, small, ap (λ (ps : List Contents). gathered ps (packets_in c.args.uuid.now file.bytes)) (sym c.new-kept.ensures.items));
 }
@@ -56,6 +58,9 @@ loop-kept-preserved g c = record {
   small = λ i. omega (arith, c.type_inv.window i);
   tree = c.read_front.ensures.tree ∙ c.loop-kept.invariant.tree;
   failures = c.in_ok-len.ensures.failures ∙ c.loop-kept.invariant.failures;
+  left = λ file e.
+      let before = c.loop-kept.invariant.left file e in
+      let reads = c.in_ok-len.ensures.left (file_of before.0 file.breaks) before.1 in (reads.rest, reads.left_is);
   found = λ file e small.
       let before = c.loop-kept.invariant.found file e small in
       let reads = c.in_ok-len.ensures.left (file_of before.0 file.breaks) before.1 in
@@ -67,3 +72,10 @@ loop-kept-preserved g c = record {
       c.in_ok-len.ensures.count c.if-len-lt-WINDOW.false c.loop-kept.invariant.low reads.is c.copy_within.ensures.after c.in_ok-gather-2.ensures before.3 in
       (reads.rest, reads.left_is, next.1, next.2);
 }
+
+pub returns-in_err-len-clause-broken : goal.returns-in_err-len-clause-broken
+returns-in_err-len-clause-broken g c =
+    let p = err_from_is_err_and c.from_residual.result c.from_residual.ensures.1 in
+    rw (p.1, p.2) (λ is file e.
+    let before = c.loop-kept.invariant.left file e in
+    (c.in_err-len.ensures.broken is (file_of before.0 file.breaks) before.1).1)

@@ -15,6 +15,8 @@ invariant-loop-kept g l = record {
   small : AreBytes l.window;
   tree : g.F.Folders.tree l.folders ≡ g.F.Folders.tree l.initial.folders;
   failures : g.F.Folders.failures l.folders ≡ g.F.Folders.failures l.initial.folders;
+  left : (file : File) → g.F.Folders.left l.initial.folders ≡ Some file
+      → (rest : List ℕ) × (g.F.Folders.left l.folders ≡ Some (file_of rest file.breaks));
   found : (file : File) → g.F.Folders.left l.initial.folders ≡ Some file → AreBytes file.bytes
       → (rest : List ℕ) × (g.F.Folders.left l.folders ≡ Some (file_of rest file.breaks)) × AreBytes rest
       × (recovered_from l.uuid file.bytes ≡ gathered l.kept.items (packets_in l.uuid (take l.len l.window ++ rest)));
