@@ -21,7 +21,8 @@
 //! # What is only tested
 //!
 //! That a packet in a copy of a page's memory is what the program had offered: programs that record are killed at any moment
-//! (the C library's tests). That the memory which is taken is that of the packets which are kept, and of one window.
+//! (the C library's tests). That packets are answered if memory is there: a call that always answered `NoMemory` would be proved
+//! too. That the memory which is taken is that of the packets which are kept, and of one window.
 #![tactic(auto)]
 
 mod image;

@@ -18,7 +18,8 @@
 //!
 //! # What is only tested
 //!
-//! Nothing beside the proofs. The program has no command for it yet.
+//! That there is an archive if memory is there: a call that always answered `NoMemory`, and made nothing, would be proved too.
+//! The program has no command for it yet.
 #![tactic(auto)]
 
 mod parting;
