@@ -24,6 +24,8 @@ pub data Task : Type 0 where
   Load : (threads records workers : ℕ) (watch : Bool) (out : Folder) → Task
   Audit : (dir : Text) (archives : Bool) → Task
   Describe : (events dir : Text) → Task
+  Picture : (dir : Text) → Task
+  Recover : (uuid : Option Text) (image dir : Text) → Task
 
 -- a folder or a file by its text
 abbrev pub folder_named : Option (Bor Text) → Folder
@@ -34,6 +36,8 @@ task_of (job.Script events out) = Script (folder_named events) (folder_named out
 task_of (job.Load threads records workers watch out) = Load threads records workers watch (folder_named out)
 task_of (job.Audit dir archives) = Audit dir.now archives
 task_of (job.Describe events dir) = Describe events.now dir.now
+task_of (job.Picture dir) = Picture dir.now
+task_of (job.Recover uuid image dir) = Recover (folder_named uuid) image.now dir.now
 
 -- the numbers of a load lie within their limits
 abbrev pub IsWithinLimits : Job → Type 0
@@ -42,6 +46,8 @@ IsWithinLimits (job.Load threads records workers watch out) =
     ((1 ≤ threads) × (threads ≤ MOST_FEEDERS)) × (records ≤ MOST_RECORDS) × ((1 ≤ workers) × (workers ≤ MOST_WORKERS))
 IsWithinLimits (job.Audit dir archives) = Unit
 IsWithinLimits (job.Describe events dir) = Unit
+IsWithinLimits (job.Picture dir) = Unit
+IsWithinLimits (job.Recover uuid image dir) = Unit
 
 -- `script [--events FILE] [--out DIR]`
 abbrev pub script_run_app : App
@@ -60,13 +66,25 @@ audit_app = line_app (codes "audit") (flag (codes "archives") ∷ place (codes "
 abbrev pub describe_app : App
 describe_app = line_app (codes "describe") (option (codes "events") ∷ place (codes "dir") ∷ [])
 
+-- `picture DIR`
+abbrev pub picture_app : App
+picture_app = line_app (codes "picture") (place (codes "dir") ∷ [])
+
+-- `recover [--uuid UUID] IMAGE DIR`
+abbrev pub recover_app : App
+recover_app = line_app (codes "recover") (option (codes "uuid") ∷ place (codes "image") ∷ place (codes "dir") ∷ [])
+
 -- `tracerd script ..` and `tracerd load ..`
 abbrev pub recording_app : App
 recording_app = with_subcommand (with_subcommand (new_app (codes "tracerd")) script_run_app.top) load_app.top
 
 -- the same, `tracerd audit ..` and `tracerd describe ..`
+abbrev pub reading_app : App
+reading_app = with_subcommand (with_subcommand recording_app audit_app.top) describe_app.top
+
+-- the same, `tracerd picture ..` and `tracerd recover ..`
 abbrev pub program_app : App
-program_app = with_subcommand (with_subcommand recording_app audit_app.top) describe_app.top
+program_app = with_subcommand (with_subcommand reading_app picture_app.top) recover_app.top
 
 -- a named folder or file has a name that isn't empty
 abbrev pub folder_given : Option Text → Option Folder
@@ -105,16 +123,30 @@ describe_given rows =
     and_then (folder_given (first_of (codes "events") rows)) (λ file. and_then file (λ events.
     and_then (folder_given (first_of (codes "dir") rows)) (λ named. and_last named (λ dir. Describe events dir))))
 
+-- the folder of which a picture is drawn
+abbrev pub picture_given : List Row → Option Task
+picture_given rows =
+    and_then (folder_given (first_of (codes "dir") rows)) (λ named. and_last named (λ dir. Picture dir))
+
+-- the trace's identifier, if one is named, the image, and the folder for the archive
+abbrev pub recover_given : List Row → Option Task
+recover_given rows =
+    and_then (folder_given (first_of (codes "uuid") rows)) (λ uuid.
+    and_then (folder_given (first_of (codes "image") rows)) (λ file. and_then file (λ image.
+    and_then (folder_given (first_of (codes "dir") rows)) (λ named. and_last named (λ dir. Recover uuid image dir)))))
+
 -- what the command that was entered asks for
 abbrev pub job_named : Text → List Row → Option Task
 job_named name rows =
     if bytes_eq name (codes "script") then script_given rows else
     (if bytes_eq name (codes "load") then load_given rows else
     (if bytes_eq name (codes "audit") then audit_given rows else
-    (if bytes_eq name (codes "describe") then describe_given rows else None)))
+    (if bytes_eq name (codes "describe") then describe_given rows else
+    (if bytes_eq name (codes "picture") then picture_given rows else
+    (if bytes_eq name (codes "recover") then recover_given rows else None)))))
 
--- what these words ask for, the program's name before them: a run of a script, a load, an audit, or typed metadata for archives;
--- none is a bad command line
+-- what these words ask for, the program's name before them: a run of a script, a load, an audit, typed metadata for archives, a
+-- picture, or the archive of an image; none is a bad command line
 unfoldable pub job_of : List Text → Option Task
 job_of words = option_and_then (λ entered. job_named entered.0 entered.1) (entered_by program_app words)
 

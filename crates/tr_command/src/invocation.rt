@@ -4,7 +4,7 @@ ghost use Rattle.std.specs.Prelude.{◌≡◌, ◌≤◌, ◌∷◌, IfOk, IfSom
 ghost use Rattle.std.specs.Vec.Iter.{into_iter_items};
 ghost use Rattle.clap.specs.Words.{app_of, first_of};
 ghost use Rattle.tr_command.specs.Ordinary.{rows_in};
-ghost use Rattle.tr_command.specs.Invocation.{IsWithinLimits, audit_given, count_given, describe_given, folder_given, folder_named, job_named, job_of, load_given, program_app, recording_app, script_given, task_of, words_of};
+ghost use Rattle.tr_command.specs.Invocation.{IsWithinLimits, audit_given, count_given, describe_given, folder_given, folder_named, job_named, job_of, load_given, picture_given, program_app, reading_app, recording_app, recover_given, script_given, task_of, words_of};
 
 use crate::arguments::Argument::{self, Flag, Named, Placed};
 use crate::command_lines::{command_of, joined};
@@ -53,6 +53,20 @@ pub enum Job<'a> {
         /// The folder.
         dir: &'a str,
     },
+    /// Draws what the archives of the sessions below a folder hold and lack.
+    Picture {
+        /// The folder.
+        dir: &'a str,
+    },
+    /// Finds the packets of a trace in an image, and writes their archive below a folder.
+    Recover {
+        /// The identifier of the trace as a text, whatever that is, if one is named.
+        uuid: Option<&'a str>,
+        /// The file that is an image.
+        image: &'a str,
+        /// The folder.
+        dir: &'a str,
+    },
 }
 
 /// `script [--events FILE] [--out DIR]`.
@@ -73,6 +87,12 @@ static AUDIT: [Argument; 2] = [Flag("archives"), Placed("dir")];
 /// `describe --events FILE DIR`.
 static DESCRIBE: [Argument; 2] = [Named("events"), Placed("dir")];
 
+/// `picture DIR`.
+static PICTURE: [Argument; 1] = [Placed("dir")];
+
+/// `recover [--uuid UUID] IMAGE DIR`.
+static RECOVER: [Argument; 3] = [Named("uuid"), Placed("image"), Placed("dir")];
+
 /// The commands that record: `tracerd script ..` and `tracerd load ..`.
 fn recording_line<'a>(alloc: Global) -> Result<Command<'a>, AllocError>
     ensures { IfOk result (λ c. app_of c ≡ recording_app) }
@@ -84,12 +104,20 @@ fn recording_line<'a>(alloc: Global) -> Result<Command<'a>, AllocError>
     joined(command, command_of(alloc, "load", &LOAD))
 }
 
-/// The whole command line: these, `tracerd audit ..` and `tracerd describe ..`.
-fn command_line<'a>(alloc: Global) -> Result<Command<'a>, AllocError>
-    ensures { IfOk result (λ c. app_of c ≡ program_app) }
+/// These, and those that read what was recorded: `tracerd audit ..` and `tracerd describe ..`.
+fn reading_line<'a>(alloc: Global) -> Result<Command<'a>, AllocError>
+    ensures { IfOk result (λ c. app_of c ≡ reading_app) }
 {
     let command = joined(recording_line(alloc), command_of(alloc, "audit", &AUDIT));
     joined(command, command_of(alloc, "describe", &DESCRIBE))
+}
+
+/// The whole command line: these, `tracerd picture ..` and `tracerd recover ..`.
+fn command_line<'a>(alloc: Global) -> Result<Command<'a>, AllocError>
+    ensures { IfOk result (λ c. app_of c ≡ program_app) }
+{
+    let command = joined(reading_line(alloc), command_of(alloc, "picture", &PICTURE));
+    joined(command, command_of(alloc, "recover", &RECOVER))
 }
 
 /// The arguments as a list.
@@ -160,6 +188,8 @@ fn job_named<'a>(name: &str, values: &Values<'_, 'a>) -> Option<Job<'a>>
         "load" => load_given(values),
         "audit" => audit_given(values),
         "describe" => describe_given(values),
+        "picture" => picture_given(values),
+        "recover" => recover_given(values),
         _ => None,
     }
 }
@@ -212,6 +242,26 @@ fn describe_given<'a>(values: &Values<'_, 'a>) -> Option<Job<'a>>
     let events = folder_given(values, "events")??;
     let dir = folder_given(values, "dir")??;
     Some(Job::Describe { events, dir })
+}
+
+/// The folder of which a picture is drawn. None if its name is empty.
+fn picture_given<'a>(values: &Values<'_, 'a>) -> Option<Job<'a>>
+    ensures value { option_map task_of result ≡ picture_given (rows_in values.now) }
+    ensures within { IfSome result IsWithinLimits }
+{
+    let dir = folder_given(values, "dir")??;
+    Some(Job::Picture { dir })
+}
+
+/// The image, the folder for the archive, and the trace's identifier, if one is named. None if one of them is empty.
+fn recover_given<'a>(values: &Values<'_, 'a>) -> Option<Job<'a>>
+    ensures value { option_map task_of result ≡ recover_given (rows_in values.now) }
+    ensures within { IfSome result IsWithinLimits }
+{
+    let uuid = folder_given(values, "uuid")?;
+    let image = folder_given(values, "image")??;
+    let dir = folder_given(values, "dir")??;
+    Some(Job::Recover { uuid, image, dir })
 }
 
 /// The number of an option, if one is given and lies within these limits.

@@ -15,8 +15,8 @@
 //! - What the words of a line ask for is decided by clap's own definition, also of an ordinary line, which is read without
 //!   clap.
 //! - So is what the program's words ask for, by clap's definition of `script [--events FILE] [--out DIR]`, `load --threads T
-//!   --records R --workers W [--out DIR] [--watch]`, `audit [--archives] DIR` and `describe --events FILE DIR`. The numbers of
-//!   a load are within its limits.
+//!   --records R --workers W [--out DIR] [--watch]`, `audit [--archives] DIR`, `describe --events FILE DIR`, `picture DIR` and
+//!   `recover [--uuid UUID] IMAGE DIR`. The numbers of a load are within its limits.
 //! - What a terminal shows before a long load is its definition's text.
 //!
 //! Each is said of an answer; a failed allocation is answered as itself.
