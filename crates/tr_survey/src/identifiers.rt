@@ -21,7 +21,7 @@ use uuid::Uuid;
 
 /// A session's identifier, and what it is known by.
 #[derive(Clone, Copy, Debug, PartialEq, Eq)]
-pub(crate) enum Identity {
+pub enum Identity {
     /// Nothing names one.
     Unknown,
     /// More metadata name this one than any other.
@@ -42,7 +42,7 @@ impl Identity {
     }
 
     /// The one that packets are judged by.
-    pub(crate) fn judged_by(&self) -> Uuid
+    pub fn judged_by(&self) -> Uuid
         ensures { result ≡ judged_by self.now }
     {
         match self {

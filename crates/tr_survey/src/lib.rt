@@ -15,6 +15,8 @@
 //! - `Identifiers` says which identifier is the session's: the one that most archives' metadata name, or, if none names one,
 //!   the one that most files of streams begin with. A packet of another one is at fault.
 //! - `Sums` says, if that is asked for, what the files of each archive add to the counts of their streams.
+//! - What it judges of a packet (`Tally`, `cause_of`, `discarded`, `unplaced`) is public, so that another reading of the files, as
+//!   a picture, judges by the same rules.
 //! - Of metadata the first `LONGEST_METADATA` bytes are looked at. A folder `archives` without an archive is a session with
 //!   `uuid none archives 0`, and no fault. If two channels have a stream of the same number, each is a stream.
 //!
@@ -74,13 +76,18 @@ mod tally;
 mod writing;
 
 pub use faults::{SurveyFault, Surveyed};
+pub use identifiers::Identity;
 pub use laws::{
     a_file_is_named_for_its_stream, a_recorded_session_is_whole, a_recorded_stream_has_no_fault,
     an_archive_is_named_for_its_number, metadata_name_their_trace,
 };
 pub use listing::{Listing, archives_among, listing_at, names_in_order, streams_among};
+pub use losses::{Kept, Taken, taken_after, taken_with, unplaced};
 pub use names::{Numbered, archive_number};
-pub use naming::Naming;
+pub use naming::{Naming, naming_by};
 pub use paths::{archives_path, file_path, stream_path};
-pub use sessions::naming_of;
+pub use sessions::{identity_of, naming_of, namings_of};
 pub use surveying::{has_archives, survey};
+pub use tally::{
+    Last, Tally, absent_before, cause_of, discarded, falls, lost_by, next_number, taken_before,
+};

@@ -11,16 +11,16 @@ use tr_record::RecView;
 
 /// A record that is there: the number of its archive, and its moment.
 #[derive(Clone, Copy, Debug, PartialEq, Eq)]
-pub(crate) struct Kept {
-    pub(crate) archive: u64,
-    pub(crate) moment: u64,
+pub struct Kept {
+    pub archive: u64,
+    pub moment: u64,
 }
 
 /// The serials that a stream's offers took: those below the next one; and the last record that is there.
 #[derive(Clone, Copy, Debug, PartialEq, Eq)]
-pub(crate) struct Taken {
-    pub(crate) next: u64,
-    pub(crate) last: Option<Kept>,
+pub struct Taken {
+    pub next: u64,
+    pub last: Option<Kept>,
 }
 
 impl Taken {
@@ -55,8 +55,8 @@ fn kept_in(archive: u64, event: &RecView<'_>) -> Kept
     }
 }
 
-/// The serials up to this record's.
-fn taken_with(archive: u64, event: &RecView<'_>) -> Taken
+/// The serials up to this record's, which is in an archive of this number.
+pub fn taken_with(archive: u64, event: &RecView<'_>) -> Taken
     ensures { result ≡ taken_with archive event.now }
 {
     Taken {
@@ -65,8 +65,8 @@ fn taken_with(archive: u64, event: &RecView<'_>) -> Taken
     }
 }
 
-/// The serials up to the last record's of a packet.
-pub(crate) fn taken_after(archive: u64, before: Taken, packet: &PacketView<'_>) -> Taken
+/// The serials up to the last record's of a packet in an archive of this number, after these.
+pub fn taken_after(archive: u64, before: Taken, packet: &PacketView<'_>) -> Taken
     ensures { result ≡ taken_after archive before packet.now.records }
 {
     let mut taken = before;
@@ -88,7 +88,7 @@ fn starts_from(next: u64, packet: &PacketView<'_>) -> bool
 
 /// Of so many discarded records, how many took none of the serials from the next one on that are missing before and among a
 /// packet's records. None if these don't fit.
-pub(crate) fn unplaced(count: u64, next: u64, packet: &PacketView<'_>) -> Option<u64>
+pub fn unplaced(count: u64, next: u64, packet: &PacketView<'_>) -> Option<u64>
     ensures { result ≡ unplaced count next packet.now.records }
 {
     if !starts_from(next, packet) {
@@ -154,7 +154,7 @@ fn places_told(
     ensures { IfOk result (λ s. string_bytes s ≡ places_told stream archive before packet.now.records) }
 {
     let mut lines = String::new(alloc);
-    let mut taken = before;
+    let mut taken: Taken = before;
     for event in packet.records() {
         let count = event.serial().saturating_sub(taken.next);
         let moment = event.moment().get();

@@ -83,8 +83,8 @@ fn uuid_in(bytes: &[u8]) -> Option<Uuid>
     uuid_in_line(rest)
 }
 
-/// What these first bytes of metadata name.
-fn naming_by(alloc: Global, bytes: &[u8]) -> Result<Naming, AllocError>
+/// What these first bytes of metadata name. Fails if an allocation fails.
+pub fn naming_by(alloc: Global, bytes: &[u8]) -> Result<Naming, AllocError>
     ensures { IfOk result (λ naming. naming ≡ naming_by bytes.now) }
 {
     if bytes.is_empty() {

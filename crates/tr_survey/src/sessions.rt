@@ -51,7 +51,7 @@ pub fn naming_of<F: Folders>(
 }
 
 /// What the metadata of each archive of a folder name.
-fn namings_of<F: Folders>(
+pub fn namings_of<F: Folders>(
     alloc: Global,
     folders: &mut F,
     folder: &str,
@@ -139,7 +139,7 @@ fn tell_streams_and_sums<F: Folders, K: ByteSink>(
 }
 
 /// The identifier of a session that has these archives and streams in a folder, whose metadata name these.
-fn identity_of<F: Folders>(
+pub fn identity_of<F: Folders>(
     alloc: Global,
     folders: &mut F,
     folder: &str,

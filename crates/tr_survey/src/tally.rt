@@ -16,40 +16,40 @@ use uuid::Uuid;
 /// A packet, by what the next one is judged by: its archive's number, its number, its last serial, when it ended, and of its
 /// stream by then how many records were discarded and, if that is known, which serials were taken.
 #[derive(Clone, Copy, Debug, PartialEq, Eq)]
-pub(crate) struct Last {
-    pub(crate) archive: u64,
-    pub(crate) seq: u64,
-    pub(crate) serial: u64,
-    pub(crate) end: u64,
-    pub(crate) lost: u64,
-    pub(crate) taken: Option<Taken>,
+pub struct Last {
+    pub archive: u64,
+    pub seq: u64,
+    pub serial: u64,
+    pub end: u64,
+    pub lost: u64,
+    pub taken: Option<Taken>,
 }
 
 /// The counts of a stream so far, each up to the greatest u64.
 #[derive(Clone, Copy, Debug, PartialEq, Eq)]
-pub(crate) struct Tally {
+pub struct Tally {
     /// Its packets, but for those at fault.
-    pub(crate) packets: u64,
+    pub packets: u64,
     /// Their records.
-    pub(crate) records: u64,
+    pub records: u64,
     /// Their bytes.
-    pub(crate) bytes: u64,
+    pub bytes: u64,
     /// The numbers that no packet has, as far as this is known.
-    pub(crate) absent: u64,
+    pub absent: u64,
     /// Those of them that are below the first packet.
-    pub(crate) below: u64,
+    pub below: u64,
     /// When the first packet began.
-    pub(crate) first: Option<u64>,
+    pub first: Option<u64>,
     /// The last packet.
-    pub(crate) last: Option<Last>,
+    pub last: Option<Last>,
     /// A fault came after it: what lies between it and the next packet isn't known.
-    pub(crate) is_broken: bool,
+    pub is_broken: bool,
     /// The faults of the survey.
-    pub(crate) faults: u64,
+    pub faults: u64,
 }
 
 /// The first number after a packet.
-pub(crate) fn next_number(last: Option<Last>) -> u64
+pub fn next_number(last: Option<Last>) -> u64
     ensures { result ≡ next_number last }
 {
     match last {
@@ -59,14 +59,14 @@ pub(crate) fn next_number(last: Option<Last>) -> u64
 }
 
 /// How many numbers are absent right before one.
-pub(crate) fn absent_before(last: Option<Last>, seq: u64) -> u64
+pub fn absent_before(last: Option<Last>, seq: u64) -> u64
     ensures { result ≡ absent_before last seq }
 {
     seq.saturating_sub(next_number(last))
 }
 
 /// How many records were discarded by the end of a packet.
-pub(crate) fn lost_by(last: Option<Last>) -> u64
+pub fn lost_by(last: Option<Last>) -> u64
     ensures { result ≡ lost_by last }
 {
     match last {
@@ -76,7 +76,7 @@ pub(crate) fn lost_by(last: Option<Last>) -> u64
 }
 
 /// How many records were discarded since the packet before.
-pub(crate) fn discarded(last: Option<Last>, packet: &PacketView<'_>) -> u64
+pub fn discarded(last: Option<Last>, packet: &PacketView<'_>) -> u64
     ensures { result ≡ discarded last packet.now }
 {
     packet.head().lost.saturating_sub(lost_by(last))
@@ -93,7 +93,7 @@ fn taken_by(last: Option<Last>) -> Option<Taken>
 }
 
 /// The same, if no number is absent right before the next packet.
-pub(crate) fn taken_before(last: Option<Last>, packet: &PacketView<'_>) -> Option<Taken>
+pub fn taken_before(last: Option<Last>, packet: &PacketView<'_>) -> Option<Taken>
     ensures { result ≡ taken_before last packet.now }
 {
     if absent_before(last, packet.head().seq) == 0 {
@@ -117,7 +117,7 @@ fn taken_at(archive: u64, last: Option<Last>, packet: &PacketView<'_>) -> Option
 }
 
 /// Whether a packet says that fewer records were discarded than the one before says.
-pub(crate) fn falls(last: Option<Last>, packet: &PacketView<'_>) -> bool
+pub fn falls(last: Option<Last>, packet: &PacketView<'_>) -> bool
     ensures { result ≡ falls last packet.now }
 {
     packet.head().lost < lost_by(last)
@@ -152,7 +152,7 @@ fn serial_of(last: Option<Last>) -> Option<u64>
 }
 
 /// What is wrong with a packet of this trace and stream after another one, if anything.
-pub(crate) fn cause_of(
+pub fn cause_of(
     uuid: &Uuid,
     stream: u64,
     last: Option<Last>,
@@ -201,7 +201,7 @@ fn last_of(archive: u64, taken: Option<Taken>, packet: &PacketView<'_>) -> Last
 
 impl Tally {
     /// Before the first file, after this number of faults.
-    pub(crate) fn new(faults: u64) -> Tally
+    pub fn new(faults: u64) -> Tally
         ensures { result ≡ no_tally faults }
     {
         Tally {
@@ -218,14 +218,14 @@ impl Tally {
     }
 
     /// The packet right before the next one, if it is known.
-    pub(crate) fn before(&self) -> Option<Last>
+    pub fn before(&self) -> Option<Last>
         ensures { result ≡ before self.now }
     {
         if self.is_broken { None } else { self.last }
     }
 
     /// After a fault.
-    pub(crate) fn broken(&self) -> Tally
+    pub fn broken(&self) -> Tally
         ensures { result ≡ broken self.now }
     {
         Tally {
@@ -269,7 +269,7 @@ impl Tally {
     }
 
     /// The counts after a packet of an archive, which has `size` bytes.
-    pub(crate) fn after(&self, archive: &Numbered, packet: &PacketView<'_>, size: usize) -> Tally
+    pub fn after(&self, archive: &Numbered, packet: &PacketView<'_>, size: usize) -> Tally
         requires { size ≡ packet_size packet.now }
         ensures { (uuid : List ℕ) (stream : ℕ) → result ≡ tally_after (place uuid stream (key_of archive.now)) self.now packet.now }
     {
