@@ -1,14 +1,14 @@
 -- What is recovered of an image, seen as a whole.
-use Rattle.std.proofs.Common.{◌≡◌, ◌<◌, ◌≤◌, ◌+◌, ◌∙◌, ◌⊎◌, ◌&&◌, ◌||◌, ◌==◌, inl, inr, ℕ, zero, suc, Bool, true, false, List, [], ◌∷◌, ◌++◌, Option, Some, None, length, drop, nat_lt, refl, sym, ap, subst, arith, cond, drop-cons, get_or}
+use Rattle.std.proofs.Common.{◌≡◌, ◌<◌, ◌∙◌, ◌⊎◌, ◌&&◌, ◌||◌, ◌==◌, inl, inr, ℕ, zero, suc, Bool, true, false, List, [], ◌∷◌, ◌++◌, Option, Some, None, length, drop, nat_lt, refl, sym, ap, subst, arith, cond, drop-cons, get_or}
 use Rattle.std.specs.List.{AllByRecursion}
 use Rattle.std.proofs.lemmas.Bool.{ltb-false, ltb-true}
 use Rattle.std.proofs.lemmas.Grind.{common_steps}
-use Rattle.std.proofs.lemmas.List.{drop-drop, length-drop}
+use Rattle.std.proofs.lemmas.List.{length-drop}
 use Rattle.tr_packet.specs.Packets.{Contents}
 use Rattle.tr_record.specs.Whole.{AreBytes}
 use Rattle.tr_subbuf.specs.Stores.{Stands}
 use Rattle.tr_image.specs.Image.{StandsIn, if_any, packet_at, packets_in}
-use Rattle.tr_image.specs.Kept.{AreInOrder, OneOf, StandsFor, comes_before, fuller, gathered, placed, recovered_from}
+use Rattle.tr_image.specs.Kept.{AreInOrder, OneOf, StandsFor, comes_before, gathered, placed, recovered_from}
 use Rattle.tr_image.proofs.MemoryLemmas.{found_stands, stands_found}
 
 -- ---- numbers in order

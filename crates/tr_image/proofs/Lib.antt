@@ -2,3 +2,5 @@ pub mod KeptLemmas
 pub mod LawLemmas
 pub mod MemoryLemmas
 pub mod ScanLemmas
+pub mod TraceLemmas
+pub mod WindowLemmas

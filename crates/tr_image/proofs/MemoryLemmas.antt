@@ -1,7 +1,7 @@
 -- What stands in memory: content_size in the place of packet_size.
-use Rattle.std.proofs.Common.{◌≡◌, ◌<◌, ◌≤◌, ◌⊎◌, inl, inr, ◌*◌, ◌/◌, ◌%◌, ◌∙◌, ◌&&◌, ℕ, Bool, true, false, not, cond, zero, suc, List, [], ◌∷◌, ◌++◌, Option, Some, None, length, take, drop, refl, sym, ap, subst, arith, append-nil, append_assoc, length-append, nat_eq, take_all}
+use Rattle.std.proofs.Common.{◌≡◌, ◌<◌, ◌≤◌, ◌⊎◌, inl, inr, ◌/◌, ◌%◌, ◌∙◌, ◌&&◌, ℕ, Bool, true, false, not, cond, zero, suc, List, [], ◌∷◌, ◌++◌, Option, Some, None, length, take, drop, refl, sym, ap, subst, arith, append-nil, append_assoc, length-append, nat_eq, take_all}
 use Rattle.std.specs.Prelude.{is_none}
-use Rattle.std.specs.Int.{w64, from_le_bytes, to_le_bytes}
+use Rattle.std.specs.Int.{w64, from_le_bytes}
 use Rattle.std.specs.List.{starts_with}
 use Rattle.std.specs.Option.{option_or}
 use Rattle.std.specs.Str.{bytes_eq}
@@ -14,7 +14,7 @@ use Rattle.tr_packet.specs.Stores.{with_number}
 use Rattle.tr_packet.specs.Texts.{body_of}
 use Rattle.tr_packet.specs.declared.faults.PacketFault.{PacketFault}
 use Rattle.tr_packet.specs.declared.layout.TheConstants.{CONTENT_SIZE_AT, PACKET_SIZE_AT, SEQ_AT}
-use Rattle.tr_packet.proofs.DecodingLemmas.{Decoded, IsRead, Passes, front_passes, packet_decoded, packet_read}
+use Rattle.tr_packet.proofs.DecodingLemmas.{Passes, front_passes, packet_decoded, packet_read}
 use Rattle.tr_packet.proofs.TextLemmas.{length-packet_text}
 use Rattle.tr_record.proofs.Fields.{AreBytes-drop, AreBytes-take, numeral_64}
 use Rattle.tr_record.specs.Whole.{AreBytes, AreWhole, entries_at, entries_of}

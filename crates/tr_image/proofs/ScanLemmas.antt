@@ -1,16 +1,15 @@
 -- How an image is gone through, place by place and window by window.
-use Rattle.std.proofs.Common.{◌≡◌, ◌<◌, ◌≤◌, ◌+◌, ◌∙◌, ℕ, zero, suc, List, [], ◌∷◌, ◌++◌, Option, Some, None, length, take, drop, refl, sym, ap, arith, append_assoc, append-nil, length-append, subst, take_all, ◌*◌, ◌-◌}
-use Rattle.std.proofs.Math.Seq.{take-append-add}
-use Rattle.std.proofs.lemmas.List.{drop_at, length-drop, length-take, take_at}
-use Rattle.std.proofs.lemmas.List.Edits.{length-paste, take-paste}
+use Rattle.std.proofs.Common.{◌≡◌, ◌<◌, ◌≤◌, ◌+◌, ◌∙◌, ℕ, zero, suc, List, [], ◌∷◌, ◌++◌, Option, length, take, drop, refl, sym, ap, arith, append_assoc, append-nil, length-append, subst, take_all, ◌*◌, ◌-◌}
+use Rattle.std.proofs.lemmas.List.{drop_at, length-take, take_at}
 use Rattle.std.specs.List.{copy_within}
 use Rattle.tr_packet.specs.Packets.{Contents}
 use Rattle.tr_record.proofs.Fields.{AreBytes-drop, AreBytes-take}
 use Rattle.tr_record.specs.Whole.{AreBytes}
 use Rattle.tr_image.specs.Image.{if_any, packet_at, packets_before, packets_in}
-use Rattle.tr_image.specs.Kept.{gathered, placed}
+use Rattle.tr_image.specs.Kept.{gathered}
 use Rattle.tr_image.proofs.KeptLemmas.{gathered-append}
 use Rattle.tr_image.proofs.MemoryLemmas.{AreBytes-append, enough}
+use Rattle.tr_image.proofs.WindowLemmas.{joined, moved}
 use Rattle.tr_terms.specs.declared.limits.TheConstants.{LARGEST_PACKET}
 
 -- ---- place by place
@@ -77,16 +76,6 @@ gathers_all uuid window rest until kept new none all is =
 
 -- ---- what is read joins what was there
 
--- the window's first bytes, in front, and n more of what was left
-joined : (window front room rest more : List ℕ) (len n : ℕ) → front ≡ take len window → len ≤ length window → n ≤ length room → rest ≡ take n room ++ more
-    → take len window ++ rest ≡ take (len + n) (front ++ room) ++ more
-joined window front room rest more len n is within there split =
-    let few : length front ≡ len = omega (arith, within, ap (λ (t : List ℕ). length t) is, length-take len window) in
-    let all : take (len + n) (front ++ room) ≡ front ++ take n room =
-    ap (λ (k : ℕ). take (k + n) (front ++ room)) (sym few) ∙ take-append-add front room n in
-    ap (λ (t : List ℕ). t ++ rest) (sym is) ∙ ap (λ (t : List ℕ). front ++ t) split ∙ sym (append_assoc front (take n room) more)
-    ∙ ap (λ (t : List ℕ). t ++ more) (sym all)
-
 -- a file ended
 pub last_window : (uuid window front room rest more bytes : List ℕ) (len n : ℕ) (kept new all : List Contents) → front ≡ take len window
     → len ≤ length window → n ≤ length room → rest ≡ take n room ++ more → more ≡ [] → bytes ≡ take (len + n) (front ++ room)
@@ -99,17 +88,6 @@ last_window uuid window front room rest more bytes len n kept new all is within 
     sym
     (so_far ∙ ap (λ (t : List ℕ). gathered kept (packets_in uuid t)) (joins ∙ ap (λ (t : List ℕ). t ++ more) (sym taken))
     ∙ gathers_all uuid bytes more (len + n) kept new end count gathers)
-
--- the second half of a window comes first in the next one
-pub moved : (bytes next : List ℕ) → length bytes ≡ 2 * LARGEST_PACKET → next ≡ copy_within bytes LARGEST_PACKET (2 * LARGEST_PACKET) 0
-    → (take LARGEST_PACKET next ≡ drop LARGEST_PACKET bytes) × (length next ≡ 2 * LARGEST_PACKET)
-moved bytes next long is =
-    let half = drop LARGEST_PACKET bytes in
-    let count : length half ≡ LARGEST_PACKET = omega (arith, long, length-drop LARGEST_PACKET bytes) in (
-      ap (take LARGEST_PACKET) is ∙ take-paste bytes 0 half LARGEST_PACKET (omega arith) (omega (arith, count))
-          ∙ take_all LARGEST_PACKET half (omega (arith, count)),
-      ap (λ (t : List ℕ). length t) is ∙ length-paste bytes 0 half LARGEST_PACKET (omega (arith, long)) (omega (arith, count)) ∙ long,
-    )
 
 AreBytes-front : (xs ys : List ℕ) → AreBytes (xs ++ ys) → AreBytes xs
 AreBytes-front xs ys small = subst AreBytes (take_at xs ys (length xs) refl) (AreBytes-take (length xs) (xs ++ ys) small)
@@ -135,7 +113,7 @@ next_window uuid window front room rest more next len n kept new all small unrea
     let later : AreBytes more = AreBytes-behind room more parts in
     let bytes : AreBytes (front ++ room) =
     AreBytes-append front room (subst AreBytes (sym is) (AreBytes-take len window small)) (AreBytes-front room more parts) in
-    let move = moved (front ++ room) next size copied in (
+    let move = moved LARGEST_PACKET (front ++ room) next size copied in (
       move.1,
       later,
       so_far ∙ ap (λ (t : List ℕ). gathered kept (packets_in uuid t)) (joins ∙ ap (λ (t : List ℕ). t ++ more) whole)

@@ -8,6 +8,7 @@
 //! # Example
 //!
 //! ```
+//! let trace = named_trace(alloc, None, &mut folders, "app.rings")?;  // None if the image names no trace
 //! let packets = recovered_packets(alloc, &uuid, &mut folders, "app.rings")?;  // None if there is no such file
 //! ```
 //!
@@ -17,6 +18,9 @@
 //!   is read, and for any image. It is gone through once, by windows of twice the largest packet.
 //! - `laws`: each of them stands in the image, as a packet of the trace; for each packet of the trace that stands there, one of
 //!   its stream and number is answered that has as many records, or more; they are in the order of streams and numbers.
+//! - `named_trace` answers the first trace that the image names (`trace_in`), or the first of an identifier: where a file of rings
+//!   begins (`tracerd rings 1`, a zero byte, and how far from there its metadata is, and how many bytes it has), and that is the
+//!   recorder's metadata of the identifier that it names.
 //!
 //! # What is only tested
 //!
@@ -29,5 +33,7 @@ mod image;
 mod kept;
 pub mod laws;
 mod scanning;
+mod traces;
 
 pub use scanning::recovered_packets;
+pub use traces::{Trace, named_trace};

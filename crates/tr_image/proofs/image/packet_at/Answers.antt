@@ -1,4 +1,4 @@
-use Rattle.std.proofs.Common.{◌≡◌, ◌∙◌, arith, length, sym}
+use Rattle.std.proofs.Common.{◌∙◌, arith, sym}
 use Rattle.tr_image.proofs.MemoryLemmas.{content_told, nothing_stands}
 use Rattle.tr_image.proofs.image.packet_at.Goals as goal
 

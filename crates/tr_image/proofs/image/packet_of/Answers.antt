@@ -1,7 +1,7 @@
-use Rattle.std.proofs.Common.{◌≡◌, ◌∙◌, Bool, true, false, not, List, ℕ, Some, None, ap, arith, length, refl, sym, subst}
+use Rattle.std.proofs.Common.{◌∙◌, true, false, Some, ap, length, sym, subst}
 use Rattle.std.specs.Str.{bytes_eq}
 use Rattle.tr_packet.specs.Decoding.{first_fault}
-use Rattle.tr_packet.specs.Packets.{Contents, IsPacket, contents}
+use Rattle.tr_packet.specs.Packets.{IsPacket, contents}
 use Rattle.tr_packet.specs.declared.head.Head.{Head}
 use Rattle.tr_record.specs.Whole.{entries_of}
 use Rattle.tr_packet.specs.Texts.{body_of}

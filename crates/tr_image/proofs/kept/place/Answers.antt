@@ -1,4 +1,4 @@
-use Rattle.std.proofs.Common.{◌≡◌, ◌∙◌, ◌<◌, ◌++◌, ◌∷◌, ap, arith, drop, length, refl, suc, sym, take}
+use Rattle.std.proofs.Common.{◌∙◌, ◌<◌, ◌++◌, ◌∷◌, ap, arith, drop, length, refl, suc, sym, take}
 use Rattle.tr_packet.specs.Packets.{Contents}
 use Rattle.tr_image.proofs.KeptLemmas.{is_set, more_records, no_more_records, same_place}
 use Rattle.tr_image.proofs.kept.place.Goals as goal

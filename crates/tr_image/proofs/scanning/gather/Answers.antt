@@ -1,7 +1,7 @@
-use Rattle.std.proofs.Common.{◌≡◌, ◌<◌, ◌∙◌, [], ◌∷◌, ℕ, List, None, Some, Vec, ap, arith, length, sym}
+use Rattle.std.proofs.Common.{◌≡◌, ◌<◌, ◌∙◌, [], ◌∷◌, ℕ, List, None, Some, ap, arith, length, sym}
 use Rattle.tr_packet.specs.Packets.{Contents}
 use Rattle.tr_image.specs.Image.{packet_at, packets_before}
-use Rattle.tr_image.specs.Kept.{gathered, placed}
+use Rattle.tr_image.specs.Kept.{gathered}
 use Rattle.tr_image.proofs.ScanLemmas.{none_before, one_more}
 use Rattle.tr_image.proofs.scanning.gather.Goals as goal
 use Rattle.tr_image.proofs.scanning.gather.Goals.{in-Some+in_ok-place, in_default}

@@ -1,4 +1,4 @@
-use Rattle.std.proofs.Common.{◌≡◌, ◌≤◌, length}
+use Rattle.std.proofs.Common.{◌≡◌}
 use Rattle.tr_image.specs.Image.{packets_before}
 use Rattle.tr_image.specs.Kept.{gathered}
 use Rattle.tr_image.proofs.scanning.gather.Given as goal

@@ -1,11 +1,13 @@
-use Rattle.std.proofs.Common.{◌≡◌, ◌∙◌, ◌++◌, ap, arith, length-append, refl, sym}
+use Rattle.std.proofs.Common.{◌∙◌, ◌++◌, ap, arith, length-append, refl, sym}
 use Rattle.std.proofs.lemmas.Result.{err_from_is_err_and}
 use Rattle.tr_folders.specs.Kept.{file_of}
 use Rattle.tr_packet.specs.Packets.{Contents}
 use Rattle.std.proofs.Common.{List}
 use Rattle.tr_image.specs.Image.{packets_in}
 use Rattle.tr_image.specs.Kept.{gathered}
-use Rattle.tr_image.proofs.ScanLemmas.{last_window, moved, next_window}
+use Rattle.tr_image.proofs.ScanLemmas.{last_window, next_window}
+use Rattle.tr_image.proofs.WindowLemmas.{moved}
+use Rattle.tr_terms.specs.declared.limits.TheConstants.{LARGEST_PACKET}
 use Rattle.tr_image.proofs.scanning.gather_all.Goals as goal
 
 pub loop-kept-init : goal.loop-kept-init
@@ -44,7 +46,7 @@ pub loop-kept-preserved : goal.loop-kept-preserved
 loop-kept-preserved g c = record {
   low = omega arith;
   long =
-      (moved (c.split_at_mut-room.result.0.now ++ c.read_front.new.buffer) c.copy_within.new.self
+      (moved LARGEST_PACKET (c.split_at_mut-room.result.0.now ++ c.read_front.new.buffer) c.copy_within.new.self
       (omega (
         arith,
         c.read_front.ensures.len,

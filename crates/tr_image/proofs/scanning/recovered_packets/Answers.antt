@@ -1,9 +1,8 @@
-use Rattle.std.proofs.Common.{◌≡◌, List, Option, sym, subst, false, true}
+use Rattle.std.proofs.Common.{◌≡◌, Option, sym, subst, false, true}
 use Rattle.std.proofs.lemmas.Result.{err_from_is_err_and}
 use Rattle.std.specs.Prelude.{MatchOption}
 use Rattle.tr_folders.proofs.ReadLemmas.{closed, opened}
 use Rattle.tr_folders.specs.Tree.{File}
-use Rattle.tr_packet.specs.Packets.{Contents}
 use Rattle.tr_record.specs.Whole.{AreBytes}
 use Rattle.tr_image.specs.Kept.{recovered_from}
 use Rattle.tr_image.proofs.scanning.recovered_packets.Goals as goal
