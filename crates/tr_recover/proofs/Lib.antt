@@ -1,3 +1,4 @@
+pub mod LineLemmas
 pub mod MadeLemmas
 pub mod PartLemmas
 pub mod SpanLemmas

@@ -4,7 +4,6 @@ use Rattle.std.specs.List.{flat_map}
 use Rattle.std.proofs.lemmas.Bool.{false_from_ne_true}
 use Rattle.std.proofs.lemmas.Bool.Decides.{Decides-eqb}
 use Rattle.std.proofs.lemmas.List.{length-drop}
-use Rattle.tr_export.specs.Making.{Makings}
 use Rattle.tr_packet.specs.Packets.{Contents}
 use Rattle.tr_recover.specs.Archive.{lead_count, led_by, parted, stream_file, streams_made}
 
@@ -84,12 +83,16 @@ parted_lead p (q ∷ ps) =
         let parts : take (suc n) (q ∷ ps) ∷ parted (drop (suc n) (q ∷ ps)) ≡ parted (q ∷ ps) = sym (rw e at whole) in
         rw (e, e') (ap (λ (xs : List (List Contents)). (p ∷ []) ∷ xs) parts)
 
+pub parts_lead : {X : Type 0} (made : List Contents → List X) (ps own rest : List Contents) (n : ℕ) → 1 ≤ length ps → n ≡ lead_count ps
+    → own ≡ take n ps → rest ≡ drop n ps → flat_map made (parted ps) ≡ made own ++ flat_map made (parted rest)
+parts_lead made [] own rest n some count one two = absurd (omega (arith, some))
+parts_lead made (p ∷ ps) own rest n some count one two =
+    let whole = parted_lead p ps in
+    ap (λ (parts : List (List Contents)). flat_map made parts) whole
+    ∙ ap (λ (k : ℕ). made (take k (p ∷ ps)) ++ flat_map made (parted (drop k (p ∷ ps)))) (sym count)
+    ∙ ap (λ (xs : List Contents). made xs ++ flat_map made (parted (drop n (p ∷ ps)))) (sym one)
+    ∙ ap (λ (xs : List Contents). made own ++ flat_map made (parted xs)) (sym two)
+
 pub streams_lead : (folder : List ℕ) (ps own rest : List Contents) (n : ℕ) → 1 ≤ length ps → n ≡ lead_count ps → own ≡ take n ps → rest ≡ drop n ps
     → streams_made folder ps ≡ stream_file folder own ++ streams_made folder rest
-streams_lead folder [] own rest n some count one two = absurd (omega (arith, some))
-streams_lead folder (p ∷ ps) own rest n some count one two =
-    let whole = parted_lead p ps in
-    ap (λ (parts : List (List Contents)). flat_map (stream_file folder) parts) whole
-    ∙ ap (λ (k : ℕ). stream_file folder (take k (p ∷ ps)) ++ streams_made folder (drop k (p ∷ ps))) (sym count)
-    ∙ ap (λ (xs : List Contents). stream_file folder xs ++ streams_made folder (drop n (p ∷ ps))) (sym one)
-    ∙ ap (λ (xs : List Contents). stream_file folder own ++ streams_made folder xs) (sym two)
+streams_lead folder = parts_lead (stream_file folder)

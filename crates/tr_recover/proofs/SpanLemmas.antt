@@ -1,10 +1,10 @@
 -- When packets begin and end, one after another.
-use Rattle.std.proofs.Common.{◌≡◌, ◌<◌, ◌≤◌, ◌+◌, ◌∙◌, ℕ, Bool, suc, List, [], ◌∷◌, cond, drop, drop-cons, get_or, length, nat_lt, refl, sym, ap, arith}
+use Rattle.std.proofs.Common.{◌≡◌, ◌<◌, ◌≤◌, ◌+◌, ◌∙◌, ℕ, Bool, suc, List, ◌∷◌, cond, drop, drop-cons, get_or, length, sym, ap, arith}
 use Rattle.std.proofs.lemmas.Bool.{le-ltb, lt-ltb}
 use Rattle.tr_packet.specs.Packets.{Contents}
 use Rattle.tr_recover.specs.Archive.{earliest, latest}
 
-first_of : (ps : List Contents) (i : ℕ) (p : Contents) → i < length ps → p ≡ get_or ps i p → drop i ps ≡ p ∷ drop (i + 1) ps
+pub first_of : (ps : List Contents) (i : ℕ) (p : Contents) → i < length ps → p ≡ get_or ps i p → drop i ps ≡ p ∷ drop (i + 1) ps
 first_of ps i p within is =
     let one : suc i ≡ i + 1 = omega arith in
     drop-cons ps i p within ∙ ap (λ (x : Contents). x ∷ drop (suc i) ps) (sym is) ∙ ap (λ (n : ℕ). p ∷ drop n ps) one

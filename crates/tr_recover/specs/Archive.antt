@@ -1,5 +1,5 @@
 -- What an archive of packets is on a disk, where nothing is known of their session.
-use Rattle.std.specs.Prelude.{ℕ, zero, suc, List, [], ◌∷◌, ◌++◌, ◌==◌, codes, nat_lt, pos, if◌then◌else◌}
+use Rattle.std.specs.Prelude.{ℕ, suc, List, [], ◌∷◌, ◌++◌, ◌==◌, codes, nat_lt, pos, if◌then◌else◌}
 use Rattle.std.specs.List.{flat_map}
 use Rattle.tr_chunk.specs.ArchiveName.{archive_name_text}
 use Rattle.tr_chunk.specs.Files.{file_name, packets_text}

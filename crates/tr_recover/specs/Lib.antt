@@ -1,1 +1,3 @@
 pub mod Archive
+pub mod Lines
+pub mod Recovering

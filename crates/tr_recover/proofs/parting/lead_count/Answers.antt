@@ -1,4 +1,4 @@
-use Rattle.std.proofs.Common.{◌≡◌, ◌∙◌, ap, arith, sym}
+use Rattle.std.proofs.Common.{◌∙◌, ap, arith, sym}
 use Rattle.tr_packet.specs.declared.head.Head.{Head}
 use Rattle.tr_recover.proofs.PartLemmas.{lead_ends, lead_is_last, other_stream}
 use Rattle.tr_recover.proofs.parting.lead_count.Goals as goal

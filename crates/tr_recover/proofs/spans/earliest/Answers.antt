@@ -1,4 +1,4 @@
-use Rattle.std.proofs.Common.{◌≡◌, ◌+◌, ◌∙◌, List, arith, ap, drop, refl, sym}
+use Rattle.std.proofs.Common.{◌+◌, ◌∙◌, List, arith, ap, drop, refl, sym}
 use Rattle.std.proofs.lemmas.List.{drop_all}
 use Rattle.tr_packet.specs.Packets.{Contents}
 use Rattle.tr_packet.specs.declared.head.Head.{Head}

@@ -1,10 +1,10 @@
-use Rattle.std.proofs.Common.{◌≡◌, ◌≤◌, ◌+◌, ◌∙◌, ◌++◌, ap, arith, drop, length, refl, sym}
+use Rattle.std.proofs.Common.{◌≡◌, ◌+◌, ◌∙◌, ◌++◌, ap, arith, drop, length, refl, sym}
 use Rattle.std.proofs.lemmas.List.{drop-drop}
-use Rattle.tr_export.proofs.MakingLemmas.{OnErr-always, failed_since, front_after, front_before, made_after}
+use Rattle.tr_export.proofs.MakingLemmas.{OnErr-always, front_after, front_before, made_after}
 use Rattle.tr_packet.specs.Packets.{Contents}
 use Rattle.std.proofs.Common.{List, append_assoc}
 use Rattle.tr_export.specs.Making.{Makings}
-use Rattle.tr_recover.specs.Archive.{lead_count, stream_file, streams_made}
+use Rattle.tr_recover.specs.Archive.{stream_file, streams_made}
 use Rattle.tr_recover.proofs.PartLemmas.{lead_few, some_lead, streams_lead}
 use Rattle.tr_recover.proofs.writing.write_streams.Goals as goal
 
