@@ -1,0 +1,5 @@
+mod EscapeLemmas
+mod LineLemmas
+mod PageLemmas
+mod PictureLemmas
+mod RowLemmas

@@ -1,0 +1,8 @@
+use Rattle.std.proofs.Common.{◌≡◌, ◌++◌, drop, map}
+use Rattle.tr_picture.specs.Drawing.{labels_text}
+use Rattle.tr_picture.specs.Sessions.{seen}
+use Rattle.tr_picture.proofs.drawing.push_labels.Given as goal
+
+abbrev pub invariant-loop-line : goal.invariant-loop-line
+invariant-loop-line l =
+    l.page.items ++ labels_text l.y (map seen (drop l.line-index l.lines)) ≡ l.fn.page.items ++ labels_text l.top (map seen l.lines)

@@ -1,0 +1,10 @@
+pub mod Bars
+pub mod Drawing
+pub mod Escape
+pub mod Frame
+pub mod Lanes
+pub mod Losses
+pub mod Picture
+pub mod Rows
+pub mod Sessions
+pub mod Steps
