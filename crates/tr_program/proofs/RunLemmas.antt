@@ -1,8 +1,9 @@
 -- How runs end that read and wrote nothing, and audits that found no session.
-use Rattle.std.proofs.Common.{◌≡◌, ◌⊎◌, ◌∙◌, ℕ, Bool, zero, suc, refl, sym, ap, subst, inl, inr, List, [], ◌∷◌, append-nil, Option, Some, None, Result, Ok, Err}
+use Rattle.std.proofs.Common.{◌≡◌, ◌⊎◌, ◌∙◌, ℕ, Bool, false, zero, suc, refl, sym, ap, subst, inl, inr, List, [], ◌∷◌, append-nil, Option, Some, None, Result, Ok, Err}
 use Rattle.tr_folders.specs.Tree.{Tree}
 use Rattle.tr_load.specs.declared.loaded.LoadFault.TheVariants as load
 use Rattle.tr_chunk.specs.Files.{Sunk}
+use Rattle.tr_picture.specs.Picture.{picture_of, pictured}
 use Rattle.tr_record.specs.Bytes.{once_more}
 use Rattle.tr_survey.proofs.PrefixLemmas.{front_nothing}
 use Rattle.tr_survey.proofs.SurveyLemmas.{said_no_session, said_unlisted}
@@ -12,7 +13,7 @@ use Rattle.tr_survey.specs.declared.faults.SurveyFault.{SurveyFault}
 use Rattle.tr_survey.specs.declared.faults.SurveyFault.TheVariants as survey
 use Rattle.tr_survey.specs.declared.faults.Surveyed.{Surveyed}
 use Rattle.tr_survey.specs.declared.faults.Surveyed.TheVariants as surveyed
-use Rattle.tr_command.specs.Invocation.{Script, Load, Audit, Describe, Task}
+use Rattle.tr_command.specs.Invocation.{Script, Load, Audit, Describe, Picture, Recover, Task}
 use Rattle.tr_describe.specs.Answers.{described_of}
 use Rattle.tr_describe.specs.Failures as failing
 use Rattle.tr_describe.specs.Files.{declaring}
@@ -23,7 +24,8 @@ use Rattle.tr_describe.specs.declared.faults.DescribeFault.TheVariants as descri
 use Rattle.tr_describe.specs.declared.telling.Outcome.{Outcome}
 use Rattle.tr_describe.specs.declared.telling.Outcome.TheVariants as outcome
 use Rattle.tr_program.specs.Endings.{ending_of_describe, ending_of_survey}
-use Rattle.tr_program.specs.Runs.{CannotBeRead, EndsSo, FoldersState, HasAudited, HasCause, HasNoSession, Host, Outside, TellsAudit}
+use Rattle.tr_program.proofs.RecoverLemmas.{wanted_without_memory}
+use Rattle.tr_program.specs.Runs.{CannotBeRead, EndsSo, FoldersState, HasAudited, HasCause, HasNoSession, HasPictured, Host, Outside, TellsAudit, TellsPicture, wanted_by}
 use Rattle.tr_program.specs.declared.ending.Ending.{Ending}
 use Rattle.tr_program.specs.declared.ending.Ending.TheVariants.{NoSession, NoMemory, ReadOrWrite}
 
@@ -60,6 +62,14 @@ ends_without_memory (Some (Describe file dir)) o = record {
   inputs = refl;
   disks = refl;
 }
+ends_without_memory (Some (Picture dir)) o = record {
+  pictured = record { result = Err survey.NoMemory; ends = refl; tells = λ t known. front_nothing (picture_of t dir).text o.host.taken; reads = refl; writes = refl };
+  given = refl;
+  made = refl;
+  inputs = refl;
+  disks = refl;
+}
+ends_without_memory (Some (Recover uuid image dir)) o = wanted_without_memory (wanted_by uuid) image dir o.host o.folders
 
 -- what failed after a file of declarations was read
 pub cause_after : (old new : Host) (taken : Option (List ℕ)) (failures : ℕ) → taken ≡ old.taken → failures ≡ old.output_failures
@@ -105,3 +115,44 @@ pub audit_fault : (dir : List ℕ) (archives : Bool) (folders folders_now : Fold
     → HasAudited dir archives folders folders_now out out_now ending → ending ≡ ReadOrWrite → Why dir folders folders_now out out_now
 audit_fault dir archives folders folders_now out out_now ending audited is =
     why dir archives folders folders_now out out_now audited.result (rw is at audited.ends) audited.tells audited.reads audited.writes
+
+-- ---- pictures: what one says is what the survey says
+
+said_as_surveyed : (t : Tree) (dir : List ℕ) (said : Surveyed) → (pictured t dir said).state ≡ said
+said_as_surveyed t dir surveyed.Unlisted = refl
+said_as_surveyed t dir surveyed.NoSession = refl
+said_as_surveyed t dir (surveyed.Faults n) = refl
+
+none_pictured : (t : Tree) (dir : List ℕ) (result : Result Surveyed SurveyFault) (before now : Option (List ℕ)) → NoSession ≡ ending_of_survey result
+    → TellsPicture t dir result before now → sessions_of t dir ≡ []
+none_pictured t dir (Ok surveyed.Unlisted) before now e tells = absurd cc
+none_pictured t dir (Ok surveyed.NoSession) before now e tells =
+    said_no_session false t dir (tells.state_is ∙ said_as_surveyed t dir (survey_of false t dir).state)
+none_pictured t dir (Ok (surveyed.Faults zero)) before now e tells = absurd cc
+none_pictured t dir (Ok (surveyed.Faults (suc n))) before now e tells = absurd cc
+none_pictured t dir (Err survey.TooMuch) before now e tells = absurd cc
+none_pictured t dir (Err survey.Write) before now e tells = absurd cc
+none_pictured t dir (Err survey.NoMemory) before now e tells = absurd cc
+
+pub nothing_pictured : (dir : List ℕ) (folders folders_now : FoldersState) (out out_now : Sunk) (ending : Ending)
+    → HasPictured dir folders folders_now out out_now ending → ending ≡ NoSession → HasNoSession dir folders.tree
+nothing_pictured dir folders folders_now out out_now ending has is t known =
+    none_pictured t dir has.result out.taken out_now.taken (rw is at has.ends) (has.tells t known)
+
+why_not_drawn : (dir : List ℕ) (folders folders_now : FoldersState) (out out_now : Sunk) (result : Result Surveyed SurveyFault) → ReadOrWrite ≡ ending_of_survey result
+    → ((t : Tree) → folders.tree ≡ Some t → TellsPicture t dir result out.taken out_now.taken)
+    → folders_now.failures ≡ reads_after result folders.failures → out_now.failures ≡ writes_after result out.failures
+    → Why dir folders folders_now out out_now
+why_not_drawn dir folders folders_now out out_now (Ok surveyed.Unlisted) e tells reads writes =
+    inr (inr (λ t known. said_unlisted false t dir ((tells t known).state_is ∙ said_as_surveyed t dir (survey_of false t dir).state)))
+why_not_drawn dir folders folders_now out out_now (Ok surveyed.NoSession) e tells reads writes = absurd cc
+why_not_drawn dir folders folders_now out out_now (Ok (surveyed.Faults zero)) e tells reads writes = absurd cc
+why_not_drawn dir folders folders_now out out_now (Ok (surveyed.Faults (suc n))) e tells reads writes = absurd cc
+why_not_drawn dir folders folders_now out out_now (Err survey.TooMuch) e tells reads writes = inr (inl reads)
+why_not_drawn dir folders folders_now out out_now (Err survey.Write) e tells reads writes = inl writes
+why_not_drawn dir folders folders_now out out_now (Err survey.NoMemory) e tells reads writes = absurd cc
+
+pub picture_fault : (dir : List ℕ) (folders folders_now : FoldersState) (out out_now : Sunk) (ending : Ending)
+    → HasPictured dir folders folders_now out out_now ending → ending ≡ ReadOrWrite → Why dir folders folders_now out out_now
+picture_fault dir folders folders_now out out_now ending has is =
+    why_not_drawn dir folders folders_now out out_now has.result (rw is at has.ends) has.tells has.reads has.writes

@@ -14,6 +14,10 @@ use Rattle.tr_load.specs.declared.loaded.LoadFault.{LoadFault}
 use Rattle.tr_load.specs.declared.loaded.LoadFault.TheVariants as load
 use Rattle.tr_pool.specs.declared.report.Mismatch.{Mismatch}
 use Rattle.tr_pool.specs.declared.report.Report.{Report}
+use Rattle.tr_recover.specs.declared.faults.RecoverFault.{RecoverFault}
+use Rattle.tr_recover.specs.declared.faults.RecoverFault.TheVariants as recover
+use Rattle.tr_recover.specs.declared.faults.Recovered.{Recovered}
+use Rattle.tr_recover.specs.declared.faults.Recovered.TheVariants as recovered
 use Rattle.tr_survey.specs.declared.faults.SurveyFault.{SurveyFault}
 use Rattle.tr_survey.specs.declared.faults.SurveyFault.TheVariants as survey
 use Rattle.tr_survey.specs.declared.faults.Surveyed.{Surveyed}
@@ -100,3 +104,15 @@ ending_of_describe (Ok said) = ending_of_described said
 ending_of_describe (Err describe.TooMuch) = ReadOrWrite
 ending_of_describe (Err describe.Write) = ReadOrWrite
 ending_of_describe (Err describe.NoMemory) = NoMemory
+
+-- an image whose packets were to be recovered: what that came to, or why it isn't known
+abbrev pub ending_of_recovered : Recovered → Ending
+ending_of_recovered recovered.Unreadable = ReadOrWrite
+ending_of_recovered recovered.Nothing = NoSession
+ending_of_recovered recovered.Done = Done
+
+abbrev pub ending_of_recover : Result Recovered RecoverFault → Ending
+ending_of_recover (Ok said) = ending_of_recovered said
+ending_of_recover (Err recover.TooMuch) = ReadOrWrite
+ending_of_recover (Err recover.Write) = ReadOrWrite
+ending_of_recover (Err recover.NoMemory) = NoMemory

@@ -1,5 +1,5 @@
 -- What a run of the program does.
-use Rattle.std.specs.Prelude.{◌≡◌, ◌⊎◌, ℕ, Bool, is_some, [], List, Option, Some, None, true, Result, Ok, Err}
+use Rattle.std.specs.Prelude.{◌≡◌, ◌⊎◌, ℕ, Bool, is_some, [], List, Option, Some, None, true, option_map, Result, Ok, Err}
 use Rattle.tr_console.specs.World.{World}
 use Rattle.tr_chunk.specs.Files.{Sunk, WentOut}
 use Rattle.tr_console.specs.Runs.{AnsweredSome, BrokeOff, Ran, WentTooFar, WroteSome}
@@ -16,25 +16,31 @@ use Rattle.tr_export.specs.Failures.{HasFailed, HasNotFailed}
 use Rattle.tr_export.specs.Making.{MadePrefix, Makings}
 use Rattle.tr_export.specs.declared.disk.Disk as Disk
 use Rattle.tr_export.specs.declared.faults.ExportFault.{ExportFault}
-use Rattle.tr_folders.specs.Tree.{Tree}
+use Rattle.tr_folders.specs.Tree.{File, Tree}
 use Rattle.tr_folders.specs.declared.folders.Folders as Folders
 use Rattle.tr_load.specs.Loads.{IsLoaded}
 use Rattle.tr_load.specs.Telling.{DiskState, TellsLoad}
 use Rattle.tr_load.specs.declared.loaded.LoadFault.{LoadFault}
 use Rattle.tr_pool.specs.declared.report.Mismatch.{Mismatch}
 use Rattle.tr_pool.specs.declared.report.Report.{Report}
+use Rattle.tr_picture.specs.Picture.{picture_of}
 use Rattle.tr_record.specs.Bytes.{and_then_bytes, once_more}
 use Rattle.tr_record.specs.declared.bytes.ByteSink as Sink
 use Rattle.tr_record.specs.declared.bytes.ByteSource as Source
+use Rattle.tr_recover.specs.Recovering as recovering
+use Rattle.tr_recover.specs.Recovering.{FailedSo as FailsSo, HasBytes, Recovers, found_at}
+use Rattle.tr_recover.specs.declared.faults.RecoverFault.{RecoverFault}
+use Rattle.tr_recover.specs.declared.faults.Recovered.{Recovered}
 use Rattle.tr_session.specs.Session.{SessionOf}
 use Rattle.tr_stream.specs.State.{StreamState}
 use Rattle.tr_survey.specs.Failures.{reads_after, writes_after}
-use Rattle.tr_survey.specs.Prefix.{IsPrefixOut}
+use Rattle.tr_survey.specs.Prefix.{IsPrefixOut, IsTold as IsReported}
 use Rattle.tr_survey.specs.Sessions.{HasToldPrefix, TellsFolder, sessions_of}
 use Rattle.tr_survey.specs.declared.faults.SurveyFault.{SurveyFault}
 use Rattle.tr_survey.specs.declared.faults.Surveyed.{Surveyed}
-use Rattle.tr_command.specs.Invocation.{Folder, Script, Load, Audit, Describe, Task}
-use Rattle.tr_program.specs.Endings.{ending_of_describe, ending_of_load, ending_of_refused, ending_of_survey, ending_of_told, message_of, status_of}
+use Rattle.uuid.specs.Text.{parsed}
+use Rattle.tr_command.specs.Invocation.{Folder, Script, Load, Audit, Describe, Picture, Recover, Task}
+use Rattle.tr_program.specs.Endings.{ending_of_describe, ending_of_load, ending_of_recover, ending_of_refused, ending_of_survey, ending_of_told, message_of, status_of}
 use Rattle.tr_program.specs.Exports.{IsMadeBelow, all_made}
 use Rattle.tr_program.specs.declared.ending.Ending.{Ending}
 use Rattle.tr_program.specs.declared.ending.Ending.TheVariants.{Done, Refused, Faulty, BadCommandLine, ReadOrWrite, NoSession, NoMemory}
@@ -111,6 +117,20 @@ pub record HasAudited (dir : List ℕ) (archives : Bool) (folders folders_now : 
   pub reads : folders_now.failures ≡ reads_after result folders.failures
   pub writes : out_now.failures ≡ writes_after result out.failures
 
+-- what a picture with this result shows of a folder: this was out before it, and that is out after it
+abbrev pub TellsPicture : Tree → List ℕ → Result Surveyed SurveyFault → Option (List ℕ) → Option (List ℕ) → Type 0
+TellsPicture t dir (Ok said) before now = IsReported (picture_of t dir) before now said
+TellsPicture t dir (Err fault) before now = IsPrefixOut (picture_of t dir).text before now
+
+-- what is in a folder was drawn to an output, or a front of that went out; and the ending says how many faults there are, or why that
+-- isn't known
+pub record HasPictured (dir : List ℕ) (folders folders_now : FoldersState) (out out_now : Sunk) (ending : Ending) : Type 0 where
+  pub result : Result Surveyed SurveyFault
+  pub ends : ending ≡ ending_of_survey result
+  pub tells : (t : Tree) → folders.tree ≡ Some t → TellsPicture t dir result out.taken out_now.taken
+  pub reads : folders_now.failures ≡ reads_after result folders.failures
+  pub writes : out_now.failures ≡ writes_after result out.failures
+
 -- the archives below a folder were to be described by a file of declarations: what was put and what went out is what that comes to,
 -- or a front of it, and the ending says how it went
 pub record HasDescribed (file dir : List ℕ) (folders folders_now : FoldersState) (texts texts_now : TextsState) (out out_now : Sunk) (ending : Ending) : Type 0 where
@@ -119,6 +139,22 @@ pub record HasDescribed (file dir : List ℕ) (folders folders_now : FoldersStat
   pub tells : (t : Tree) → folders.tree ≡ Some t → TellsTree t file dir result texts.written texts_now.written out.taken out_now.taken
   pub reads : folders_now.failures ≡ describe.reads_after result folders.failures
   pub failures : FailedSo result texts.failures texts_now.failures out.failures out_now.failures
+
+-- what stands in an image was to be written as an archive below a folder: what went out and what was made is what that comes to, or
+-- a front of it, and the ending says how it went
+pub record HasRecovered (wanted : Option (List ℕ)) (image dir : List ℕ) (folders folders_now : FoldersState) (out out_now : Sunk)
+    (disk disk_now : DiskState) (ending : Ending) : Type 0 where
+  pub result : Result Recovered RecoverFault
+  pub ends : ending ≡ ending_of_recover result
+  pub recovers : (t : Tree) → folders.tree ≡ Some t → HasBytes (t.file image)
+      → Recovers wanted dir (t.file image) result out.taken out_now.taken disk.made disk_now.made
+  pub reads : folders_now.failures ≡ recovering.reads_after result folders.failures
+  pub failures : FailsSo result out.failures out_now.failures disk.failures disk_now.failures
+
+-- the trace that is wanted, if one is named; none: what is named is no identifier
+abbrev pub wanted_by : Option (List ℕ) → Option (Option (List ℕ))
+wanted_by None = Some None
+wanted_by (Some text) = option_map Some (parsed text)
 
 -- a file of declarations can't be read, as far as is known
 abbrev pub CannotDeclare : List ℕ → Option Tree → Type 0
@@ -271,9 +307,28 @@ module _ (old new : Host) where
     pub inputs : new.input_failures ≡ old.input_failures
     pub disks : new.disk_failures ≡ old.disk_failures
 
+  -- a picture of a folder; it reads no input and makes nothing, so neither fails
+  pub record EndsPicture (dir : List ℕ) (folders folders_now : FoldersState) (ending : Ending) : Type 0 where
+    pub pictured : HasPictured dir folders folders_now (output_of old) (output_of new) ending
+    pub given : new.given ≡ old.given
+    pub made : new.made ≡ old.made
+    pub inputs : new.input_failures ≡ old.input_failures
+    pub disks : new.disk_failures ≡ old.disk_failures
+
+  -- an archive of what stands in an image; it reads no input, so that doesn't fail
+  pub record EndsRecover (wanted : Option (List ℕ)) (image dir : List ℕ) (folders folders_now : FoldersState) (ending : Ending) : Type 0 where
+    pub recovered : HasRecovered wanted image dir folders folders_now (output_of old) (output_of new) (disk_in old) (disk_in new) ending
+    pub given : new.given ≡ old.given
+    pub inputs : new.input_failures ≡ old.input_failures
+
   -- nothing that the program does is asked for
   abbrev pub IsNoRun : Ending → Type 0
   IsNoRun ending = ((ending ≡ BadCommandLine) ⊎ (ending ≡ NoMemory)) × IsUntouched
+
+  -- the same, of the trace that is wanted; what is no identifier is a bad command line
+  abbrev pub EndsWanted : Option (Option (List ℕ)) → (image dir : List ℕ) → FoldersState → FoldersState → Ending → Type 0
+  EndsWanted None image dir folders folders_now ending = IsNoRun ending
+  EndsWanted (Some wanted) image dir folders folders_now ending = EndsRecover wanted image dir folders folders_now ending
 
   -- the input, the output or the disk failed, or the script was too long
   abbrev pub HasCause : Type 0
@@ -304,6 +359,9 @@ EndsSo old new (Some (Script file dir)) ending = EndsScript old.host new.host fi
 EndsSo old new (Some (Load threads records workers watch dir)) ending = EndsLoad old.host new.host threads records watch dir ending
 EndsSo old new (Some (Audit dir archives)) ending = EndsAudit old.host new.host dir archives old.folders new.folders ending
 EndsSo old new (Some (Describe file dir)) ending = EndsDescribe old.host new.host file dir old.folders new.folders old.texts new.texts ending
+EndsSo old new (Some (Picture dir)) ending = EndsPicture old.host new.host dir old.folders new.folders ending
+EndsSo old new (Some (Recover uuid image dir)) ending =
+    EndsWanted old.host new.host (wanted_by uuid) image dir old.folders new.folders ending
 
 -- the same: its status and its line say how
 pub record HasEnded (asked : Option Task) (old new : Outside) (told told_now : Sunk) (status : ℕ) : Type 0 where
@@ -316,13 +374,34 @@ pub record HasEnded (asked : Option Task) (old new : Outside) (told told_now : S
 abbrev pub LacksFolder : List ℕ → FoldersState → FoldersState → Type 0
 LacksFolder dir old new = (new.failures ≡ once_more old.failures) ⊎ (CannotBeRead dir old.tree ⊎ HasNoSession dir old.tree)
 
--- archives or declarations are to be read, and that isn't so
+-- an image can't be read, as far as is known, or isn't there
+abbrev pub IsUnreadable : Option File → Type 0
+IsUnreadable None = Unit {0}
+IsUnreadable (Some file) = file.breaks ≡ true
+
+abbrev pub CannotSee : List ℕ → Option Tree → Type 0
+CannotSee image tree = (t : Tree) → tree ≡ Some t → HasBytes (t.file image) → IsUnreadable (t.file image)
+
+-- it has no packet of the trace, or names none
+abbrev pub HasNoPacket : Option (Option (List ℕ)) → List ℕ → Option Tree → Type 0
+HasNoPacket None image tree = ⊥
+HasNoPacket (Some wanted) image tree =
+    (t : Tree) → tree ≡ Some t → HasBytes (t.file image) → (found_at wanted (t.file image)).packets ≡ []
+
+-- reading failed, or one of these
+abbrev pub LacksImage : Option (List ℕ) → List ℕ → FoldersState → FoldersState → Type 0
+LacksImage uuid image old new =
+    (new.failures ≡ once_more old.failures) ⊎ (CannotSee image old.tree ⊎ HasNoPacket (wanted_by uuid) image old.tree)
+
+-- archives, declarations or an image are to be read, and that isn't so
 abbrev pub LacksArchives : Option Task → FoldersState → FoldersState → Type 0
 LacksArchives None old new = ⊥
 LacksArchives (Some (Script file dir)) old new = LacksDeclarations file old new
 LacksArchives (Some (Load threads records workers watch dir)) old new = ⊥
 LacksArchives (Some (Audit dir archives)) old new = LacksFolder dir old new
 LacksArchives (Some (Describe file dir)) old new = LacksFolder dir old new ⊎ CannotDeclare file old.tree
+LacksArchives (Some (Picture dir)) old new = LacksFolder dir old new
+LacksArchives (Some (Recover uuid image dir)) old new = LacksImage uuid image old new
 
 -- what a status of 3 says
 abbrev pub HasFault : Option Task → Outside → Outside → Type 0

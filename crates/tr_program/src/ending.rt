@@ -1,7 +1,7 @@
 //! How a run of the program ends.
 
 ghost use Rattle.std.specs.Prelude.{◌≡◌, option_map};
-ghost use Rattle.tr_program.specs.Endings.{ending_of_script, ending_of_arguments, ending_of_describe, ending_of_export, ending_of_load, ending_of_outcome, ending_of_refused, ending_of_survey, message_of, status_of};
+ghost use Rattle.tr_program.specs.Endings.{ending_of_script, ending_of_arguments, ending_of_describe, ending_of_export, ending_of_load, ending_of_outcome, ending_of_recover, ending_of_refused, ending_of_survey, message_of, status_of};
 
 use std::io::ErrorKind;
 use tr_console::ScriptFault;
@@ -9,6 +9,7 @@ use tr_describe::{DescribeFault, Outcome};
 use tr_export::ExportFault;
 use tr_load::LoadFault;
 use tr_pool::{Mismatch, Report};
+use tr_recover::{RecoverFault, Recovered};
 use tr_survey::{SurveyFault, Surveyed};
 
 /// How a run of the program ends.
@@ -26,7 +27,7 @@ pub enum Ending {
     /// The input, a folder or a file couldn't be read, or the input was too long, or the output or an archive couldn't be
     /// written.
     ReadOrWrite,
-    /// There was no session to audit or to describe.
+    /// There was no session to audit or to describe, or an image has no packet of the trace, or names none.
     NoSession,
     /// An allocation failed, or a thread of a load couldn't be made.
     NoMemory,
@@ -148,6 +149,20 @@ impl Ending {
                 Ending::ReadOrWrite
             }
             Err(DescribeFault::NoMemory) => Ending::NoMemory,
+        }
+    }
+
+    /// How an image whose packets were to be recovered ends the program.
+    pub fn of_recover(recovered: Result<Recovered, RecoverFault>) -> Ending
+        ensures { result ≡ ending_of_recover recovered }
+    {
+        match recovered {
+            Ok(Recovered::Nothing) => Ending::NoSession,
+            Ok(Recovered::Done) => Ending::Done,
+            Ok(Recovered::Unreadable) | Err(RecoverFault::TooMuch | RecoverFault::Write) => {
+                Ending::ReadOrWrite
+            }
+            Err(RecoverFault::NoMemory) => Ending::NoMemory,
         }
     }
 }

@@ -9,7 +9,7 @@
 //! For any arguments, input, output, disk and folders:
 //!
 //! - The words ask for a run of a script or for a load, with the folder for the archives if one is named, or for the audit of
-//!   a folder, or they are a bad command line, by clap's definition.
+//!   a folder, types for its archives, a picture of them, or the archive of an image, or they are a bad command line, by clap's definition.
 //! - The run ends as what the words ask for does. Its exit status and the one line that standard error gets agree.
 //! - A script at 0 and 1: the input was read to its end and answered whole, its sessions with the events that a file declares, if
 //!   one is named, and the archives of every session were made below the folder, if one is named. Of these two, the status is 1
@@ -31,6 +31,11 @@
 //! - An audit at 0 and 1: the folder was surveyed whole, and the status is 0 if and only if nothing is wrong. At 3 it has no
 //!   session, or reading or writing failed, and at 3 and 4 a prefix of a survey went out. An audit reads no input and makes
 //!   nothing.
+//! - A picture at 0 and 1: what a survey of the folder reports was drawn whole, and the status is 0 if and only if nothing is wrong.
+//!   At 3 and 4 as an audit, with a prefix of the drawing.
+//! - An image at 0: its packets of the trace that is wanted, or that it names, were said, stream by stream, and then their archive
+//!   was made. At 3 it can't be read, or has no such packet, and nothing was put out or made; or the output failed, and nothing was
+//!   made; or the disk failed after all was said. At 4 a prefix of both came. No input is read.
 //! - A script at 4: nothing was read, answered or made; or some of the lines that were read are answered, and nothing was
 //!   made; or all was read and answered, and a prefix of the archives was made.
 //!

@@ -11,7 +11,7 @@ ghost use Rattle.tr_command.specs.Invocation.{job_asked, words_of};
 ghost use Rattle.tr_load.specs.Telling.{disk_of};
 ghost use Rattle.tr_program.specs.Endings.{ending_of_arguments, status_of};
 ghost use Rattle.tr_program.specs.Exports.{all_made};
-ghost use Rattle.tr_program.specs.Runs.{Declares, EndsAs, EndsSo, EndsUndeclared, LacksDeclarations, EndsTold, FailedNowhere, HasAudited, HasCause, HasDescribed, HasEnded, HasFault, HasNoFault, IsTold, folders_of, host_of, outside_of, texts_state};
+ghost use Rattle.tr_program.specs.Runs.{Declares, EndsAs, EndsSo, EndsUndeclared, LacksDeclarations, EndsTold, FailedNowhere, HasAudited, HasCause, HasDescribed, HasEnded, HasFault, HasNoFault, HasPictured, HasRecovered, IsTold, folders_of, host_of, outside_of, texts_state, wanted_by};
 ghost use Rattle.tr_record.specs.Bytes.{once_more};
 
 use crate::ending::Ending;
@@ -28,8 +28,11 @@ use tr_events::Events;
 use tr_export::{Disk, ExportFault, write_archives};
 use tr_folders::Folders;
 use tr_load::{Loaded, Progress, load, tell_load};
+use tr_picture::picture;
 use tr_record::{ByteSink, ByteSource, put_all};
+use tr_recover::recover;
 use tr_survey::survey;
+use uuid::Uuid;
 
 /// Writes the archives of every session below a folder, in order of creation.
 fn write_all<D: Disk>(
@@ -165,6 +168,49 @@ fn end_describe<K: ByteSink, F: Folders, T: Texts>(
     Ending::of_describe(describe_by(alloc, folders, texts, out, file, dir))
 }
 
+/// Draws what the archives below a folder hold and lack.
+fn end_picture<K: ByteSink, F: Folders>(
+    alloc: Global,
+    out: &mut K,
+    folders: &mut F,
+    dir: &str,
+) -> Ending
+    ensures { HasPictured dir.now (folders_of F.Folders folders.old) (folders_of F.Folders folders.new)
+        (sunk_of K.ByteSink out.old) (sunk_of K.ByteSink out.new) result }
+{
+    Ending::of_survey(picture(alloc, folders, out, dir))
+}
+
+/// The trace that is wanted, if one is named; or that what is named is no identifier.
+fn wanted_by(uuid: Option<&str>) -> Option<Option<Uuid>>
+    ensures { result ≡ wanted_by (option_map (λ u. u.now) uuid.entry) }
+{
+    let Some(text) = uuid else {
+        return Some(None);
+    };
+    match Uuid::parse_str(text) {
+        Ok(uuid) => Some(Some(uuid)),
+        Err(_) => None,
+    }
+}
+
+/// Writes what stands in an image as an archive below a folder.
+fn end_recover<K: ByteSink, D: Disk, F: Folders>(
+    alloc: Global,
+    out: &mut K,
+    disk: &mut D,
+    folders: &mut F,
+    wanted: Option<&Uuid>,
+    image: &str,
+    dir: &str,
+) -> Ending
+    ensures { HasRecovered (option_map (λ u. u.now) wanted.entry) image.now dir.now (folders_of F.Folders folders.old)
+        (folders_of F.Folders folders.new) (sunk_of K.ByteSink out.old) (sunk_of K.ByteSink out.new) (disk_of D.Disk disk.old)
+        (disk_of D.Disk disk.new) result }
+{
+    Ending::of_recover(recover(alloc, folders, disk, out, wanted, image, dir))
+}
+
 /// Does what the words ask for.
 fn end<
     R: Threads + Wait + Clock + Sync,
@@ -235,6 +281,11 @@ fn end<
         Ok(Some(Job::Describe { events, dir })) => {
             end_describe(alloc, out, folders, texts, events, dir)
         }
+        Ok(Some(Job::Picture { dir })) => end_picture(alloc, out, folders, dir),
+        Ok(Some(Job::Recover { uuid, image, dir })) => match wanted_by(uuid) {
+            Some(wanted) => end_recover(alloc, out, disk, folders, wanted.as_ref(), image, dir),
+            None => Ending::BadCommandLine,
+        },
         Ok(None) => Ending::BadCommandLine,
         Err(_) => Ending::NoMemory,
     }
@@ -255,8 +306,8 @@ fn tell<E: ByteSink>(ending: Ending, err: &mut E) -> u8
 /// Runs the program with the words after its name. The answer is the exit status: 0 if all was done, 1 if a line was
 /// refused, or a line of declarations, or if a load's logs don't agree with its session or one of its calls was refused, or if an
 /// audit found something wrong, or if archives can't be described because of what is there, 2 for a bad command line, 3 for a fault
-/// of input, output, a folder or a file, a script that is too long, or no session to audit or to describe, 4 for a failed
-/// allocation or a thread that can't be made. From 2 on `err` gets one line. Archives are made only once the input was read to its
+/// of input, output, a folder or a file, a script that is too long, no session to audit or to describe, or an image without a packet
+/// of the trace, 4 for a failed allocation or a thread that can't be made. From 2 on `err` gets one line. Archives are made only once the input was read to its
 /// end and answered whole, or a load was reported whole; if one can't be made, those before it stay, and a prefix of its own folder
 /// and files.
 ///
