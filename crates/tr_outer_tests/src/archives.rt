@@ -4,6 +4,7 @@ mod failing;
 mod flushes;
 mod full;
 mod recovered;
+mod recovering;
 
 use crate::asserting::assert_same;
 use std::alloc::Global;

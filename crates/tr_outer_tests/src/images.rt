@@ -2,6 +2,7 @@
 
 mod damage;
 pub(crate) mod laying;
+mod names;
 mod reading;
 mod windows;
 

@@ -13,7 +13,7 @@ use tr_session::Session;
 
 /// A file that takes `room` more bytes, and then fails.
 #[derive(Drop)]
-struct ShortFile {
+pub(super) struct ShortFile {
     room: usize,
     failures: u64,
 }
@@ -38,7 +38,7 @@ impl ByteSink for ShortFile {
 
 /// Fails after `calls` calls. Its first file has room for `first` bytes, and each later one for `later`.
 #[derive(Drop)]
-struct FailingDisk {
+pub(super) struct FailingDisk {
     calls: usize,
     first: usize,
     later: usize,
@@ -46,6 +46,19 @@ struct FailingDisk {
 }
 
 impl FailingDisk {
+    pub(super) fn new(calls: usize, first: usize, later: usize) -> Self {
+        FailingDisk {
+            calls,
+            first,
+            later,
+            failures: Some(0),
+        }
+    }
+
+    pub(super) fn failures(&self) -> Option<u64> {
+        self.failures
+    }
+
     /// Counts one call, which fails if it is one too many.
     fn spend(&mut self) -> Result<(), Failed>
         ensures ok { OnOk result (self.new.failures ≡ self.old.failures) }
@@ -101,12 +114,7 @@ fn assert_told(
     (calls, first, later): (usize, usize, usize),
     fails: bool,
 ) {
-    let mut disk = FailingDisk {
-        calls,
-        first,
-        later,
-        failures: Some(0),
-    };
+    let mut disk = FailingDisk::new(calls, first, later);
     let wanted = if fails {
         Err(ExportFault::Write)
     } else {

@@ -6,7 +6,7 @@ use std::alloc::Global;
 use std::process::Abort;
 use tr_folders::{MemoryFolders, ReadFault};
 use tr_image::recovered_packets;
-use tr_packet::{Head, Packet, PacketText, encode_packet};
+use tr_packet::{Head, Packet, PacketText, encode_packet, metadata_text};
 use tr_record::Rec;
 use tr_terms::limits::LARGEST_PACKET;
 use tr_testing::moment;
@@ -131,4 +131,38 @@ fn assert_packet(rt: &impl Abort, alloc: Global, text: &PacketText, row: &Row) {
 /// The same, of an image that is given in large pieces.
 pub(crate) fn assert_found(rt: &impl Abort, alloc: Global, image: &[u8], rows: &[Row]) {
     assert_in_pieces(rt, alloc, image, 1_000_000, rows);
+}
+
+/// What a file of rings begins with, before the place and the size of its metadata.
+pub(crate) static OPENING: [u8; 16] = *b"tracerd rings 1\0";
+
+/// The metadata of a trace of which nothing is declared.
+pub(crate) fn metadata(rt: &impl Abort, alloc: Global, trace: u8) -> String {
+    metadata_text(alloc, &uuid(trace)).expect(rt, "memory")
+}
+
+/// Lays what a file of rings begins with at a place of an image, with the metadata of a trace `behind` bytes farther.
+pub(crate) fn open_at(
+    rt: &impl Abort,
+    alloc: Global,
+    image: &mut [u8],
+    place: usize,
+    behind: usize,
+    trace: u8,
+) {
+    let text = metadata(rt, alloc, trace);
+    lay(rt, image, place, &OPENING);
+    lay(
+        rt,
+        image,
+        place.wrapping_add(16),
+        &(behind as u64).to_le_bytes(),
+    );
+    lay(
+        rt,
+        image,
+        place.wrapping_add(24),
+        &(text.len() as u64).to_le_bytes(),
+    );
+    lay(rt, image, place.wrapping_add(behind), text.as_bytes());
 }

@@ -100,10 +100,29 @@ impl Folders for FailingFolders {
 
 /// A sink that has room for `room` more bytes, and then fails.
 #[derive(Drop)]
-struct ShortSink {
+pub(crate) struct ShortSink {
     sink: MemorySink,
     room: usize,
     failures: u64,
+}
+
+impl ShortSink {
+    pub(crate) fn new(alloc: Global, room: usize) -> Self {
+        ShortSink {
+            sink: MemorySink::new(alloc, 7),
+            room,
+            failures: 0,
+        }
+    }
+
+    pub(crate) fn failures(&self) -> u64 {
+        self.failures
+    }
+
+    /// The bytes that it took.
+    pub(crate) fn into_bytes(self) -> Vec<u8> {
+        self.sink.into_bytes()
+    }
 }
 
 impl ByteSink for ShortSink {
@@ -189,14 +208,10 @@ fn failing_sinks(rt: HostRuntime) {
     let alloc = rt.alloc();
     for room in 0..WORKED.len() {
         let mut folders = worked(&rt, alloc).kept(70_000);
-        let mut sink = ShortSink {
-            sink: MemorySink::new(alloc, 7),
-            room,
-            failures: 0,
-        };
+        let mut sink = ShortSink::new(alloc, room);
         let answer = survey(alloc, &mut folders, &mut sink, "d", false);
-        assert_same(&rt, (answer, sink.failures), (Err(SurveyFault::Write), 1));
-        let out = sink.sink.into_bytes();
+        assert_same(&rt, (answer, sink.failures()), (Err(SurveyFault::Write), 1));
+        let out = sink.into_bytes();
         assert_same(&rt, out.len(), room);
         assert_front(&rt, &out);
     }

@@ -1,5 +1,5 @@
-//! Files of declarations in memory: descriptions of archives, and scripts whose sessions are created with declared events. What these
-//! come to with real archives is shown by `examples/events`.
+//! Files in memory: declarations, of descriptions of archives and of scripts whose sessions are created with declared events, and
+//! images. What these come to with real archives is shown by `examples/events`, and with packets by `examples/recover`.
 
 use super::assert_same;
 use std::alloc::{AllocError, Global};
@@ -113,6 +113,26 @@ fn a_script_has_the_events_of_its_file(rt: HostRuntime) {
     ] {
         let words = ["script", "--events", file];
         let found = ran(&rt, rt.alloc(), &words, text, out, err);
+        assert_same(&rt, found, (status, true, true));
+    }
+}
+
+#[test]
+fn an_image_without_a_packet_is_told(rt: HostRuntime) {
+    let uuid = "00000000-0000-0000-0000-000000000001";
+    for (words, status, line) in [
+        (&["recover", "e", "d"], 3, "tracerd: no session\n"),
+        (&["recover", "f", "d"], 3, "tracerd: read or write fault\n"),
+    ] {
+        let found = ran(&rt, rt.alloc(), words, "no rings", "", line);
+        assert_same(&rt, found, (status, true, true));
+    }
+    for (text, status, line) in [
+        (uuid, 3, "tracerd: no session\n"),
+        ("1", 2, "tracerd: bad command line\n"),
+    ] {
+        let words = ["recover", "--uuid", text, "e", "d"];
+        let found = ran(&rt, rt.alloc(), &words, "no rings", "", line);
         assert_same(&rt, found, (status, true, true));
     }
 }

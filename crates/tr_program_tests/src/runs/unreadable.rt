@@ -1,4 +1,4 @@
-//! Folders that can't be read: what an audit and a description come to.
+//! Folders that can't be read: what an audit, a description and the recovery of an image come to.
 
 ghost use Rattle.std.specs.Prelude.{◌≡◌};
 ghost use Rattle.tr_folders.specs.Failures.{read_failures};
@@ -109,6 +109,8 @@ fn folders_that_cannot_be_read_are_told(rt: HostRuntime) {
             fault,
             line,
         );
+        assert_same(&rt, found, (status, true, true));
+        let found = read(&rt, rt.alloc(), &["recover", "e", "d"], fault, line);
         assert_same(&rt, found, (status, true, true));
     }
 }
