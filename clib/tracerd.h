@@ -155,10 +155,10 @@ TRACERD_API void tracerd_free(tracerd_session *);
  * first producer, once.
  *
  * Whenever no offer is under way each sub-buffer that has a record is, in the file, the text of a packet; while one is, it is that
- * of the records before it, or of all. The metadata is near the beginning. A packet stays there until its archive is released, but
- * for those that a rotation closes with less than a quarter of their sub-buffer: these are in memory of their own, and so is what
- * a snapshot copies. To lose nothing, keep archives on disk (tracerd_keeper_start), or have a snapshot session. What the machine
- * itself loses by a crash or a power cut isn't in the file.
+ * of the records before it, or of all. `tracerd recover FILE DIR` makes an archive of them, with the metadata that is in the file.
+ * A packet stays there until its archive is released, but for those that a rotation closes with less than a quarter of their
+ * sub-buffer: these are in memory of their own, and so is what a snapshot copies. To lose nothing, keep archives on disk
+ * (tracerd_keeper_start), or have a snapshot session. What the machine itself loses by a crash or a power cut isn't in the file.
  *
  * The file is for its owner alone (0600), and so large that its file system has its bytes when a producer is made or a stream is
  * drained: a full one is NO_MEMORY then, and no signal later. What an earlier run has left is renamed beside it, to FILE.1 or the

@@ -167,20 +167,23 @@ typedef struct {
 
 static const opening EMPTY = {"tracerd rings 1", 0, 0};
 
+/* A text that is too long for the first part has a part of its own, with an opening in front of it, so that it is found by that. */
 bool keep_metadata(struct rings *r, const uint8_t *text, uint64_t size) {
     opening *o = (opening *)(void *)r->base;
-    uint8_t *at = r->base + sizeof *o;
+    uint8_t *part = r->base;
     if (o->size == size && !memcmp(r->base + o->at, text, size))
         return true;
     if (size > PART - sizeof *o) {
         pthread_mutex_lock(&r->lock);
-        at = add_part_locked(r, (size + PART - 1) / PART * PART);
+        part = add_part_locked(r, (sizeof *o + size + PART - 1) / PART * PART);
         pthread_mutex_unlock(&r->lock);
     }
-    if (!at)
+    if (!part)
         return false;
-    memcpy(at, text, size);
-    o->at = (uint64_t)(at - r->base);
+    memcpy(part + sizeof *o, text, size);
+    opening own = {"tracerd rings 1", sizeof own, size};
+    memcpy(part, &own, sizeof own);
+    o->at = (uint64_t)(part - r->base) + sizeof *o;
     o->size = size;
     return true;
 }

@@ -19,13 +19,21 @@ int __wrap_posix_fallocate(int file, off_t at, off_t size) {
     return is_full ? ENOSPC : __real_posix_fallocate(file, at, size);
 }
 
-/* How many packets a file has: magic, identifier, and a content_size that isn't 0. */
-static int packets_in(const char *name) {
-    static uint8_t image[ROOM];
-    static const uint8_t magic[4] = {0xC1, 0x1F, 0xFC, 0xC1};
-    int found = 0, file = open(below(name), O_RDONLY);
+static char image[ROOM];
+
+/* Reads a file into the image. Its size. */
+static ssize_t read_image(const char *name) {
+    int file = open(below(name), O_RDONLY);
     ssize_t size = read(file, image, ROOM);
     close(file);
+    return size;
+}
+
+/* How many packets a file has: magic, identifier, and a content_size that isn't 0. */
+static int packets_in(const char *name) {
+    static const uint8_t magic[4] = {0xC1, 0x1F, 0xFC, 0xC1};
+    int found = 0;
+    ssize_t size = read_image(name);
     for (ssize_t at = 0; at + 80 <= size; at++) {
         uint64_t content;
         memcpy(&content, image + at + 48, sizeof content);
@@ -35,10 +43,7 @@ static int packets_in(const char *name) {
 }
 
 static int has_text(const char *name, const char *text) {
-    static char image[ROOM];
-    int file = open(below(name), O_RDONLY);
-    ssize_t size = read(file, image, ROOM);
-    close(file);
+    ssize_t size = read_image(name);
     return size > 0 && memmem(image, (size_t)size, text, strlen(text)) != NULL;
 }
 
@@ -85,6 +90,39 @@ static void refuse(void) {
     answers(OK, tracerd_producer_new(s, "c", &p));
     answers(ALREADY_STARTED, tracerd_rings_in(s, below("late")));
     is(!is_below("late") && !is_below("two") && !is_below("one"));
+    tracerd_free(s);
+    counts_as_one();
+}
+
+/* How many openings have a metadata right behind them. */
+static int openings_in(const char *name) {
+    static const char *text = "/* CTF 1.8 */";
+    int found = 0;
+    ssize_t size = read_image(name);
+    for (ssize_t at = 0; at + 64 <= size; at++) {
+        uint64_t place;
+        memcpy(&place, image + at + 16, sizeof place);
+        found += !strcmp(image + at, "tracerd rings 1") && place == 32 && !memcmp(image + at + 32, text, strlen(text));
+    }
+    return found;
+}
+
+/* A metadata that is longer than the file's first part has an opening of its own in front of it. */
+static void describe_many(void) {
+    enum { EVENTS = 700 };
+    static char lines[1 << 17];
+    size_t size = 0;
+    tracerd_session *s = made("rings", TRACERD_SNAPSHOT);
+    for (int i = 1; i <= EVENTS; i++)
+        size += (size_t)snprintf(lines + size, sizeof lines - size,
+                                 "an_event_with_a_name_that_is_long_%d %d a_field_with_a_long_name:u32\n", i, i);
+    answers(OK, tracerd_declare(s, lines, NULL));
+    answers(OK, tracerd_start(s, 1));
+    is(openings_in("rings") == 1 && has_text("rings", "an_event_with_a_name_that_is_long_700"));
+    tracerd_free(s);
+    s = made("rings", TRACERD_SNAPSHOT);
+    answers(OK, tracerd_start(s, 1));
+    is(openings_in("rings") == 1);
     tracerd_free(s);
     counts_as_one();
 }
@@ -240,6 +278,7 @@ int main(int count, char **words) {
     dir = words[1];
     refuse();
     hold();
+    describe_many();
     drain();
     clear();
     interrupt();
