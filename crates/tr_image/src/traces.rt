@@ -6,7 +6,6 @@ ghost use Rattle.tr_folders.specs.Failures.{after_reading};
 ghost use Rattle.tr_folders.specs.Tree.{File, Tree};
 ghost use Rattle.tr_folders.specs.declared.faults.ReadFault.TheVariants.{Unreadable};
 ghost use Rattle.tr_image.specs.Traces.{is_wanted, opened, part_at, trace_at, trace_before, trace_in, trace_of};
-ghost use Rattle.tr_record.specs.Whole.{AreBytes};
 
 use std::alloc::{AllocError, Global};
 use std::marker::Model;

@@ -76,8 +76,8 @@ abbrev pub HasBytes : Option File → Type 0
 HasBytes None = Unit {0}
 HasBytes (Some file) = AreBytes file.bytes
 
--- the lines of what was found go out, and then its archive is made; or a front of the lines goes out, or all of them and then what
--- MadePrefix says
+-- the lines of what was found go out, and then its archive is made; or a front of the lines goes out, or all of them and a prefix of
+-- the archive is made
 abbrev pub Tells : List ℕ → FoundState → Result (Unit {0}) RecoverFault → (out out_now : Option (List ℕ)) → (made made_now : Option Makings) → Type 0
 Tells dir found (Ok done) out out_now made made_now =
     (out_now ≡ and_then_bytes out (recovered_text found.packets)) × (made_now ≡ and_then_made made (recovered_made dir found.metadata found.packets))
