@@ -119,20 +119,20 @@ all-then : (ls : List Leaf) (l : Leaf) → AllByRecursion (λ (x : Leaf). HasNoS
 all-then [] l are is = (is, tt)
 all-then (x ∷ ls) l are is = (are.0, all-then ls l are.1 is)
 
-differ : (name other : List ℕ) → (name ≡ other → ⊥) → pointwise eqb name other ≡ false
+pub differ : (name other : List ℕ) → (name ≡ other → ⊥) → pointwise eqb name other ≡ false
 differ name other apart = go (pointwise eqb name other) refl
   where
     go : (b : Bool) → pointwise eqb name other ≡ b → b ≡ false
     go false e = refl
     go true e = absurd (apart ((bytes_decides name other).0 e))
 
-number-is : (a b : Numbered) → Some a ≡ Some b → a.number ≡ b.number
+pub number-is : (a b : Numbered) → Some a ≡ Some b → a.number ≡ b.number
 number-is a b e = let same : a ≡ b = cc in ap (λ (n : Numbered). n.number) same
 
-none-some : (a : Numbered) → None ≡ Some a → ⊥
+pub none-some : (a : Numbered) → None ≡ Some a → ⊥
 none-some a e = absurd cc
 
-leaves-append : (name : List ℕ) (xs ys : List Leaf) → leaf_file name (xs ++ ys) ≡ option_or (leaf_file name ys) (leaf_file name xs)
+pub leaves-append : (name : List ℕ) (xs ys : List Leaf) → leaf_file name (xs ++ ys) ≡ option_or (leaf_file name ys) (leaf_file name xs)
 leaves-append name [] ys = sym (or-none (leaf_file name ys))
 leaves-append name (l ∷ xs) ys =
     ap (λ (o : Option File). option_or o (cond (pointwise eqb name l.0) (Some (file_of l.1 false)) None)) (leaves-append name xs ys)

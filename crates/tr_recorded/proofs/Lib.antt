@@ -1,6 +1,7 @@
 pub mod BelowLemmas
 pub mod BoxLemmas
 pub mod FolderLemmas
+pub mod FoundLemmas
 pub mod HeldLemmas
 pub mod LeafLemmas
 pub mod ListedLemmas

@@ -1,22 +1,27 @@
 //! What the parts of every stream hold, and where they are written.
 
-ghost use Rattle.std.specs.Prelude.{◌≡◌, ◌≢◌, ◌<◌, ◌≤◌, ℕ, Bool, IsTrue, List, [], length};
+ghost use Rattle.std.specs.Prelude.{◌≡◌, ◌≢◌, ◌<◌, ◌≤◌, ℕ, Bool, IsTrue, false, List, [], ◌∷◌, Some, length};
 ghost use Rattle.std.specs.List.{All, AllByRecursion};
 ghost use Rattle.tr_export.specs.Archives.{archives_made};
 ghost use Rattle.tr_export.specs.Making.{Makings};
 ghost use Rattle.tr_export.specs.Paths as export;
+ghost use Rattle.tr_folders.specs.Kept.{file_of};
 ghost use Rattle.tr_folders.specs.Tree.{Tree};
+ghost use Rattle.tr_packet.specs.Packets.{Contents};
+ghost use Rattle.tr_recorded.specs.Found.{AreOfTrace, found_recorded_text};
 ghost use Rattle.tr_recorded.specs.Made.{Shows, tree_made};
 ghost use Rattle.tr_recorded.specs.Recorded.{HasItsArchives, NoneReleased, recorded_of, session_recorded_text};
+ghost use Rattle.tr_recover.specs.Archive.{recovered_made};
 ghost use Rattle.tr_session.specs.Sizes.{HoldsItsParts};
 ghost use Rattle.tr_stream.specs.Fates.{all_parts};
-ghost use Rattle.tr_survey.specs.Metadata.{IsShort};
+ghost use Rattle.tr_survey.specs.Metadata.{IsShort, naming_in};
 ghost use Rattle.tr_survey.specs.Order.{Numbered};
 ghost use Rattle.tr_survey.specs.Paths.{archives_folder, file_path, path_of};
 ghost use Rattle.tr_survey.specs.Sessions.{survey_of};
 ghost use Rattle.tr_survey.specs.Told.{told};
 ghost use Rattle.tr_survey.specs.Whole.{AreRecorded};
 ghost use Rattle.tr_survey.specs.declared.faults.Surveyed.TheVariants.{Faults, NoSession};
+ghost use Rattle.tr_survey.specs.declared.naming.Naming.TheVariants.{Named};
 ghost use Rattle.tr_terms.specs.Names.{is_name};
 
 use std::alloc::Allocator;
@@ -74,3 +79,12 @@ pub fn what_is_written_is_whole<A: Allocator>(session: &Session<A>)
         }
     }
 }
+
+/// What is made of packets that were found in an image, in a folder that was empty, is whole to a survey: if they are of streams
+/// that a session can have, each stream's are what its audit passes, as those of one ring are, and the metadata name their trace.
+/// The survey says just that archive, its streams, and what each of them lost. Does nothing.
+pub fn what_is_recovered_is_whole()
+    ensures { (asked : Bool) (t : Tree) (dir metadata uuid : List ℕ) (p : Contents) (ps : List Contents) → AreOfTrace uuid (p ∷ ps)
+        → naming_in (Some (file_of metadata false)) ≡ Named uuid → Shows t dir (recovered_made dir metadata (p ∷ ps))
+        → survey_of asked t dir ≡ told (found_recorded_text asked uuid p ps) (Faults 0) }
+{}

@@ -24,5 +24,5 @@ mod laws;
 
 pub use laws::{
     a_tree_shows_what_was_made, archives_are_read_where_they_are_written, every_stream_is_recorded,
-    what_is_written_is_whole,
+    what_is_recovered_is_whole, what_is_written_is_whole,
 };

@@ -1,11 +1,14 @@
 -- The packets of each stream, apart.
-use Rattle.std.proofs.Common.{◌≡◌, ◌<◌, ◌≤◌, ◌+◌, ◌∙◌, ℕ, zero, suc, Bool, true, false, List, [], ◌∷◌, ◌++◌, ◌==◌, cond, drop, drop-cons, get_or, length, take, refl, sym, ap, arith}
+use Rattle.std.proofs.Common.{◌≡◌, ◌<◌, ◌≤◌, ◌+◌, ◌-◌, ◌∙◌, ℕ, zero, suc, Bool, true, false, List, [], ◌∷◌, ◌++◌, ◌==◌, Option, None, Some, append_assoc, cond, drop, drop-cons, get_or, length, lt-ltb, take, refl, sym, ap, arith}
 use Rattle.std.specs.List.{flat_map}
 use Rattle.std.proofs.lemmas.Bool.{false_from_ne_true}
 use Rattle.std.proofs.lemmas.Bool.Decides.{Decides-eqb}
-use Rattle.std.proofs.lemmas.List.{length-drop}
+use Rattle.std.proofs.lemmas.List.{append-nil, length-drop, map-append}
 use Rattle.tr_packet.specs.Packets.{Contents}
-use Rattle.tr_recover.specs.Archive.{lead_count, led_by, parted, stream_file, streams_made}
+use Rattle.tr_chunk.specs.Files.{packets_text}
+use Rattle.tr_export.specs.Making.{Makings, and_then_made}
+use Rattle.tr_recover.specs.Archive.{StreamPackets, empty_streams, files_made, lead_count, led_by, next_stream, part_streams, parted, parts_streams, stream_file, streams_below}
+use Rattle.tr_terms.specs.declared.limits.TheConstants.{MOST_STREAMS}
 
 -- ---- how many are of the first one's stream
 
@@ -93,6 +96,66 @@ parts_lead made (p ∷ ps) own rest n some count one two =
     ∙ ap (λ (xs : List Contents). made xs ++ flat_map made (parted (drop n (p ∷ ps)))) (sym one)
     ∙ ap (λ (xs : List Contents). made own ++ flat_map made (parted xs)) (sym two)
 
-pub streams_lead : (folder : List ℕ) (ps own rest : List Contents) (n : ℕ) → 1 ≤ length ps → n ≡ lead_count ps → own ≡ take n ps → rest ≡ drop n ps
-    → streams_made folder ps ≡ stream_file folder own ++ streams_made folder rest
-streams_lead folder = parts_lead (stream_file folder)
+-- the first part's streams, and those of the others
+pub streams_lead : (next : ℕ) (ps own rest : List Contents) (n : ℕ) → 1 ≤ length ps → n ≡ lead_count ps → own ≡ take n ps → rest ≡ drop n ps
+    → parts_streams next (parted ps) ≡ part_streams next own ++ parts_streams (next_stream next own) (parted rest)
+streams_lead next [] own rest n some count one two = absurd (omega (arith, some))
+streams_lead next (p ∷ ps) own rest n some count one two =
+    let streams = λ (xs : List Contents) (ys : List Contents). part_streams next xs ++ parts_streams (next_stream next xs) (parted ys) in
+    ap (parts_streams next) (parted_lead p ps)
+    ∙ ap (λ (k : ℕ). streams (take k (p ∷ ps)) (drop k (p ∷ ps))) (sym count)
+    ∙ ap (λ (xs : List Contents). streams xs (drop n (p ∷ ps))) (sym one)
+    ∙ ap (λ (ys : List Contents). streams own ys) (sym two)
+
+-- ---- their files
+
+pub files_append : (folder : List ℕ) (xs ys : List StreamPackets) → files_made folder (xs ++ ys) ≡ files_made folder xs ++ files_made folder ys
+files_append folder xs ys = map-append (λ (s : StreamPackets). stream_file folder s.0 (packets_text s.1)) xs ys
+
+pub files_lead : (folder : List ℕ) (next : ℕ) (ps own rest : List Contents) (n : ℕ) → 1 ≤ length ps → n ≡ lead_count ps → own ≡ take n ps
+    → rest ≡ drop n ps
+    → files_made folder (parts_streams next (parted ps))
+    ≡ files_made folder (part_streams next own) ++ files_made folder (parts_streams (next_stream next own) (parted rest))
+files_lead folder next ps own rest n some count one two =
+    ap (files_made folder) (streams_lead next ps own rest n some count one two)
+    ∙ files_append folder (part_streams next own) (parts_streams (next_stream next own) (parted rest))
+
+-- what is made of the packets of one stream
+pub part_is : (folder : List ℕ) (next stream : ℕ) (ps others : List Contents) (p : Contents) → ps ≡ p ∷ others → stream ≡ p.head.stream
+    → files_made folder (part_streams next ps) ≡ files_made folder (streams_below next stream) ++ stream_file folder stream (packets_text ps) ∷ []
+part_is folder next stream ps others p are same =
+    let made = λ (n : ℕ) (xs : List Contents). files_made folder (streams_below next n) ++ stream_file folder n (packets_text xs) ∷ [] in
+    ap (λ (xs : List Contents). files_made folder (part_streams next xs)) are
+    ∙ files_append folder (streams_below next p.head.stream) ((p.head.stream, p ∷ others) ∷ [])
+    ∙ ap (made p.head.stream) (sym are) ∙ ap (λ (n : ℕ). made n ps) (sym same)
+
+-- ---- streams without packets
+
+pub none_made : (known : Option Makings) → known ≡ and_then_made known []
+none_made None = refl
+none_made (Some before) = ap Some (sym (append-nil before))
+
+-- the files of so many of them
+abbrev pub empty_files : List ℕ → ℕ → ℕ → Makings
+empty_files folder next n = files_made folder (empty_streams next n)
+
+one_empty : (folder : List ℕ) (next n : ℕ) → 1 ≤ n → empty_files folder next n ≡ stream_file folder next [] ∷ empty_files folder (next + 1) (n - 1)
+one_empty folder next zero some = absurd (omega (arith, some))
+one_empty folder next (suc n) some =
+    let same : suc n - 1 ≡ n = omega arith in
+    ap (λ (k : ℕ). stream_file folder next [] ∷ empty_files folder (next + 1) k) (sym same)
+
+-- the next one, and those after it, where some were made
+pub empty_more : (folder : List ℕ) (first stream number : ℕ) (done : Makings) → number < stream
+    → empty_files folder first (stream - first) ≡ done ++ empty_files folder number (stream - number)
+    → empty_files folder first (stream - first) ≡ (done ++ stream_file folder number [] ∷ []) ++ empty_files folder (number + 1) (stream - (number + 1))
+empty_more folder first stream number done lt before =
+    let less : stream - number - 1 ≡ stream - (number + 1) = omega (arith, lt) in
+    before ∙ ap (λ (ms : Makings). done ++ ms) (one_empty folder number (stream - number) (omega (arith, lt)))
+    ∙ ap (λ (k : ℕ). done ++ stream_file folder number [] ∷ empty_files folder (number + 1) k) less
+    ∙ sym (append_assoc done (stream_file folder number [] ∷ []) (empty_files folder (number + 1) (stream - (number + 1))))
+
+pub files_within : (folder : List ℕ) (next stream : ℕ) → stream < MOST_STREAMS
+    → files_made folder (streams_below next stream) ≡ empty_files folder next (stream - next)
+files_within folder next stream lt =
+    ap (λ (b : Bool). files_made folder (cond b (empty_streams next (stream - next)) [])) (lt-ltb stream MOST_STREAMS lt)

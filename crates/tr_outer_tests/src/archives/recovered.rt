@@ -14,9 +14,10 @@ use tr_testing::moment;
 /// A packet of one record, of 105 bytes: its stream, its number, and the seconds at which it begins and ends.
 type Row = (u64, u64, u64, u64);
 
-static ROWS: [Row; 3] = [(7, 0, 1, 2), (0, 5, 3, 60), (0, 4, 2, 3)];
+static ROWS: [Row; 3] = [(2, 0, 1, 2), (0, 5, 3, 60), (0, 4, 2, 3)];
 
-static MADE: [Item<'static>; 4] = [
+/// What is made of them: stream 1 has no packets.
+static MADE: [Item<'static>; 5] = [
     (
         "folder",
         0,
@@ -29,8 +30,13 @@ static MADE: [Item<'static>; 4] = [
     ),
     (
         "file",
+        0,
+        "d/recovered/archives/19700101T000001+0000-19700101T000100+0000-0/ring_1",
+    ),
+    (
+        "file",
         105,
-        "d/recovered/archives/19700101T000001+0000-19700101T000100+0000-0/ring_7",
+        "d/recovered/archives/19700101T000001+0000-19700101T000100+0000-0/ring_2",
     ),
     (
         "file",
@@ -81,7 +87,42 @@ fn packets_of_an_image_are_an_archive(rt: HostRuntime) {
     );
     assert_same(&rt, bytes_at(&disk, 1).get(..105), Some(first.as_slice()));
     assert_same(&rt, bytes_at(&disk, 1).get(105..), Some(second.as_slice()));
-    assert_same(&rt, bytes_at(&disk, 3), b"text\n".as_slice());
+    assert_same(&rt, bytes_at(&disk, 4), b"text\n".as_slice());
+}
+
+/// Of a stream that no session can have it isn't known that there were others below it.
+#[test]
+fn a_stream_that_no_session_has(rt: HostRuntime) {
+    let alloc = rt.alloc();
+    let mut image = zeros(&rt, alloc, 300);
+    lay(&rt, &mut image, 5, &written(&rt, alloc, &(1_024, 0, 1, 2)));
+    let Ok(Some(packets)) = recovered(alloc, 1, &mut kept(&rt, alloc, &image, 64)) else {
+        panic!(&rt; "it isn't read")
+    };
+    let mut disk = MemoryDisk::new(alloc, 64);
+    let answer = write_recovered(alloc, &mut disk, "d", b"text\n", &packets);
+    assert_same(&rt, answer, Ok(()));
+    assert_made(
+        &rt,
+        &disk,
+        &[
+            (
+                "folder",
+                0,
+                "d/recovered/archives/19700101T000001+0000-19700101T000002+0000-0",
+            ),
+            (
+                "file",
+                105,
+                "d/recovered/archives/19700101T000001+0000-19700101T000002+0000-0/ring_1024",
+            ),
+            (
+                "file",
+                5,
+                "d/recovered/archives/19700101T000001+0000-19700101T000002+0000-0/metadata",
+            ),
+        ],
+    );
 }
 
 #[test]

@@ -27,8 +27,8 @@ stream 0 packets 2 records 3 absent 4 lost 4
 stream 3 packets 1 records 1 absent 0 lost 0
 ";
 
-/// What is made of them. The first packet of stream 0 has 105 bytes, the second one 146.
-fn made(size: usize) -> [Item<'static>; 4] {
+/// What is made of them. The first packet of stream 0 has 105 bytes, the second one 146; streams 1 and 2 have none.
+fn made(size: usize) -> [Item<'static>; 6] {
     [
         (
             "folder",
@@ -39,6 +39,16 @@ fn made(size: usize) -> [Item<'static>; 4] {
             "file",
             251,
             "d/recovered/archives/19700101T000000+0000-19700101T000000+0000-0/ring_0",
+        ),
+        (
+            "file",
+            0,
+            "d/recovered/archives/19700101T000000+0000-19700101T000000+0000-0/ring_1",
+        ),
+        (
+            "file",
+            0,
+            "d/recovered/archives/19700101T000000+0000-19700101T000000+0000-0/ring_2",
         ),
         (
             "file",
@@ -90,7 +100,7 @@ fn assert_recovered(
         let text = metadata(rt, alloc, 1);
         assert_same(rt, said.as_slice(), SAID.as_bytes());
         assert_made(rt, &disk, &made(text.len()));
-        assert_same(rt, bytes_at(&disk, 3), text.as_bytes());
+        assert_same(rt, bytes_at(&disk, 5), text.as_bytes());
     } else {
         assert_same(rt, said.as_slice(), b"".as_slice());
         assert_made(rt, &disk, &[]);
@@ -146,16 +156,16 @@ fn an_output_that_fails(rt: HostRuntime) {
     }
 }
 
-/// There are seven calls of a disk: a folder, and the beginning and the end of three files. Whichever fails, all was said before.
+/// There are eleven calls of a disk: a folder, and the beginning and the end of five files. Whichever fails, all was said before.
 #[test]
 fn a_disk_that_fails(rt: HostRuntime) {
     let alloc = rt.alloc();
-    for calls in 0..8 {
+    for calls in 0..12 {
         let mut folders = rings(&rt, alloc, true);
         let mut disk = FailingDisk::new(calls, 4_096, 4_096);
         let mut out = MemorySink::new(alloc, 7);
         let answer = recover(alloc, &mut folders, &mut disk, &mut out, None, "ring", "d");
-        let (wanted, failures) = if calls < 7 {
+        let (wanted, failures) = if calls < 11 {
             (Err(RecoverFault::Write), 1)
         } else {
             (Ok(Recovered::Done), 0)
