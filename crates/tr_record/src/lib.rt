@@ -11,8 +11,17 @@
 //!
 //! # What is proved
 //!
-//! - A record's bytes are exactly its text. A record is read if and only if the input begins with such a text.
-//! - `put_all` gives all bytes to a sink, which didn't fail then, or a prefix of them to a sink that failed in that call.
+//! - A record's bytes are exactly its text. A record is read if and only if the input begins with such a text; by `read_raw`
+//!   whatever its moment (`put_rec`, `put_bytes`: `items`; `read_rec`: `found`, `only`; `read_raw`: `found`, `only`, `exact`).
+//! - Bytes are read as records exactly if they are these records' texts, end to end (`Records::new`, `has`; `checked`: `exact`,
+//!   `value`; `text`: `text`, `whole`, `records`; `whole_records_are_read`: `found`, `only`).
+//! - A record has what it was made of, and fits (`Rec::new`, `copy_of`, `view`, `serial`, `moment`, `id`, `payload`, `size`:
+//!   `value`, `fits`; `RecView::new`, `serial`, `moment`, `id`, `payload`, `size`: `value`, `fits`).
+//! - Sources and sinks give what was read and take what is written, if the standard library knows the bytes; in memory in
+//!   pieces of a size (`ReaderSource::new`: `reader`, `failures`; `get`: `read`; `WriterSink::new`: `writer`, `failures`;
+//!   `put`: `written`; `flush`: `kept`; `MemorySource::new`, `get`: `piece`; `MemorySink::new`, `put`: `piece`).
+//! - `put_all` gives all bytes to a sink, which didn't fail then, or a prefix of them to a sink that failed in that call
+//!   (`put_all`: `ok`, `err`, `failed`, `no_failure`).
 //!
 //! # What is only tested
 //!
