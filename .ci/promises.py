@@ -286,12 +286,17 @@ def promises_of(name, function):
     return [clause for it in (function, *of_traits(name, function)) for clause in it.ensures]
 
 
-def has_said(crate, name, what):
-    """Whether this type of the crate has an invariant, or keeps a rule."""
+SAID = {"invariant": "ghost invariant = ", "rule": "ghost holds = "}
+
+
+def lacks(crate, name, what, cited):
+    """What isn't there of an invariant, or a rule, of this type of the crate, that names these definitions."""
     home = [text for path, text in sources().items() if path.startswith(f"{crate.folder}/")]
-    if what == "rule":
-        return any(re.search(r"^ *ghost holds = ", text, re.M) for text in home)
-    return any(re.search(rf" for {name}\b[^{{]*{{(?:(?!^}}).)*ghost invariant = ", text, re.M | re.S) for text in home)
+    impls = [it for text in home for it in re.findall(rf"^impl\b[^{{]* for {name}\b[^{{]*{{.*?^}}", text, re.M | re.S)]
+    said = next((it for it in impls if SAID[what] in it), "")
+    if not said:
+        yield f"{name} has no {what}"
+    yield from (f"no {it} there" for it in re.findall(r"`(\w+)", cited) if not re.search(rf"\b{it}\b", said))
 
 
 def wrong_calls(crate, calls, clauses, is_within, owner):
@@ -301,7 +306,7 @@ def wrong_calls(crate, calls, clauses, is_within, owner):
     for name, cited, _ in calls:
         yield from wrong_definitions(cited)
         if is_type and name in types() and not called(name, ""):
-            yield from (f"{name} has no {it[0]}" for it in is_type if not has_said(crate, name, it[0]))
+            yield from (lack for it in is_type for lack in lacks(crate, name, it[0], it[1]))
             continue
         last, found, owner = found_as(crate, name, owner)
         if not found:

@@ -9,16 +9,20 @@
 //!
 //! # What is proved
 //!
-//! - What each feeder is to offer is its definition's, item for item.
+//! - A load's plan, and what each feeder is to offer, is its definition's, item for item (`load_plan`: `session`, `books`,
+//!   `watched`; `load_work`).
 //! - A load that was settled is judged by its feeders' logs, each of which is that feeder's whole work, since its stream
 //!   accepted every offer. They agree, the report has the sums over the streams, and as many records were offered as the load
-//!   was asked for.
-//! - Its session is stopped, and was rotated once, at the moment that is the number of records. No clause says which of the
-//!   two came first.
-//! - If it is watched, a watcher learned of as many records as were offered. Within the crate, what it reads of all streams
-//!   meanwhile is the sum of its answers.
+//!   was asked for (`load`: `loaded` (`IsLoaded.are_logs`, `IsLoaded.judged`, `IsLoaded.agree`, `IsLoaded.offered`,
+//!   `IsLoaded.own`)).
+//! - Its session is stopped, was rotated once, at the moment that is the number of records, and nothing of it was cleared. No
+//!   clause says whether it was rotated or stopped first (`load`: `loaded` (`IsLoaded.ended`, `IsLoaded.uncleared`)).
+//! - If it is watched, a watcher learned of as many records as were offered (`load`: `watched`, `loaded` (`IsLoaded.learned`)).
 //! - The report is exactly the text that its definition gives. Put to an output, it is written first; the archives of the
-//!   session follow even if the logs don't agree.
+//!   session, or a prefix of them, follow even if the logs don't agree; or it failed, and nothing was made (`outcome_text`,
+//!   `tell_load`).
+//! - A gate ends a worker only between rounds, not before the first (within the crate `Rounds::before` (`IsLet`),
+//!   `Paced::take_at` (`IsTaken`)).
 //!
 //! # What is only tested
 //!

@@ -20,35 +20,65 @@
 //!
 //! - What a producer offered is what its stream has: an offer adds just itself, with its answer, to the producer's list. Once
 //!   settled, the stream represents a history whose offers are that list, each answered as it was, and each record that it
-//!   holds has the id and the payload that were offered at its serial, and no lesser moment.
+//!   holds has the id and the payload that were offered at its serial, and no lesser moment
+//!   (`Producer::offer` (`IsOfferTo.seats`); `Shared::settle`, `settle_with`: `accounts` (`AreAccountsOf`), `own`).
 //! - What a drainer took is what the streams have: a take adds just its packet's number, count and chunk to the drainer's list
 //!   of that stream. Once settled, these are takes of a history that the stream represents, and each packet is kept in that
-//!   chunk or was cleared since.
+//!   chunk or was cleared since
+//!   (`Drainer::take` (`IsTakeFrom.seats`); `Shared::settle`, `settle_with`: `packets` (`ArePacketsOf`, `IsTakenFrom`)).
 //! - Once settled, one history of each stream has the offers of its producer and the takes of all drainers, and no others: each
-//!   take is one drainer's, and none is missing.
+//!   take is one drainer's, and none is missing
+//!   (`Shared::settle`, `settle_with`: `histories` (`HaveHistories`, `IsHistoryOf`)).
 //! - What an operator did is what the desk has: a call in its name adds just its steps to its list, each at the moment that was
 //!   given and with its answer. A start or a stop that succeeds has switched every stream, a rotation has begun at its moment,
 //!   cut streams and ended one with the archive that is answered, a clear has cleared every stream, and a snapshot shows the
 //!   moment that was stored.
 //!   If the operator is lent to settling, the settled session's book is what its steps, among others', lead to, and all that was
-//!   done to each stream but offers and takes is what those steps did, each cut at the end of its rotation (`settle_with`).
+//!   done to each stream but offers and takes is what those steps did, each cut at the end of its rotation (`settle_with`)
+//!   (`Shared::operator`; `start_by`, `stop_by`, `set_schedule_by`, `rotate_begin_by`, `rotate_next_by`, `rotate_finish_by`,
+//!   `rotate_by`, `tick_by`, `clear_by`, `snapshot_by`: `steps`; `settle_with`: `same`, `operator` (`IsOperatorOf`), `streams`
+//!   (`HasOperated`)).
 //! - An offer moves its producer's seats by what was answered, and a take the drainer's seat of that stream, whatever other
-//!   threads do meanwhile.
+//!   threads do meanwhile
+//!   (`Producer::offer` (`IsOfferTo.seats`, `IsOfferTo.serial`, `IsOfferTo.too_big`, `IsOfferTo.spent`), `Drainer::take`
+//!   (`IsTakeFrom.seats`, `IsTakeFrom.some`)).
 //! - When an offer returns, its producer has published how many of its offers were accepted, also if this one was refused.
 //!   Watchers, if any were planned, read that while producers offer: a count that was published, and never less than before;
-//!   no less than a note's once they learned of it. They wait for no lock, and outlive the session.
+//!   no less than a note's once they learned of it. They wait for no lock, and outlive the session
+//!   (`Producer::offer` (`IsOfferTo.seats`); `tr_tally::Watcher::read`: `rises`, `kept`; `tr_tally::Watcher::learn`: `noted`).
+//! - Just an offer that doesn't fit as declared is refused for its layout (`Producer::offer` (`IsOfferTo.other`,
+//!   `IsOfferTo.fits`)).
 //! - An operator starts, stops, schedules, rotates, clears and ticks the session while its threads run, one hold of the
-//!   desk's lock after another. Each call is refused only by the codes that it names.
+//!   desk's lock after another. Each call is refused only by the codes that it names
+//!   (`Shared::start`, `stop`; `set_schedule`: `answer`, `refused`; `clear`, `rotate`, `rotate_begin`, `rotate_finish`, `tick`:
+//!   `refused`; `rotate_next`: `refused`, `cut`; `start_by`, `stop_by`, `set_schedule_by`, `clear_by`, `rotate_by`,
+//!   `rotate_begin_by`, `rotate_next_by`, `rotate_finish_by`, `tick_by`, `snapshot_by`: `refused`).
 //! - A snapshot shows at the place of each number what some sound stream of the plan has at the snapshot's own moment:
 //!   serials that follow each other up to the last offered one. Of a producer that is lent to it, it shows a stream with just
-//!   that producer's counts, and each record as it was offered.
+//!   that producer's counts, and each record as it was offered
+//!   (`Shared::snapshot`, `snapshot_by`, `snapshot_with`: `moment`, `all`, `shown` (`IsShown`, `IsLookAt`), `refused`;
+//!   `snapshot_with`: `own` (`IsShownWith.records`), `there`, `same`).
 //! - For its mode a snapshot session refuses schedules, clears, rotations and the beginning of one, and a local one
 //!   snapshots; neither is so refused in the other kind of session. In a snapshot session, too, a tick is idle, no rotation
-//!   goes on or ends, and nothing is taken.
+//!   goes on or ends, and nothing is taken
+//!   (`Shared::set_schedule`: `answer`; `clear`, `rotate`, `rotate_begin`, `rotate_next`, `rotate_finish`, `tick`, `snapshot`,
+//!   `snapshot_with`: `mode`; `Drainer::take` (`IsTakeFrom.mode`)).
 //! - Only its sole owner can settle it, and no lock is taken. It is refused for a missing producer if and only if there isn't
 //!   one for each stream. Each stream has just what its producer offered, and at least what the drainers took of it, and holds
-//!   all packets of its chunks: none was released. The totals are the sums over its streams.
-//! - If it isn't settled, producers and drainers come back as they were, and the session is shared again.
+//!   all packets of its chunks: none was released. The totals are the sums over its streams
+//!   (`Shared::settle`, `settle_with`: `missing` (`IsOneEach`), `all`, `planned` (`IsSessionOf.held`), `totals`, `seats`,
+//!   `taken`, `places` (`AddUp`), `consumed` (`WereConsumed`), `snapshot_session`).
+//! - If it isn't settled, producers and drainers come back as they were, and the session is shared again
+//!   (`Shared::settle`, `settle_with`: `back`).
+//! - Built, it has one producer for each stream, with nothing offered or published, and the planned watchers. It is refused
+//!   only out of memory (`Shared::build`: `producers`, `memory`; `build_watched`: `producers`, `watchers`, `tally`, `memory`;
+//!   `streams`).
+//! - A new drainer has taken nothing (`Shared::drainer`: `new`, `refused`).
+//! - A pool's takes and offers move seats as they answer. A feeder's producer offered, and published, as many records more as
+//!   its log has; a new one's log is just its accepted offers (`Shared::offer_with` (`IsOffered`), `take_at` (`IsTaken`);
+//!   `every_feed`: `offers` (`HasOffered`), `logs` (`IsLogOf`)).
+//! - A rotation's cuts, with nothing between them, are those of a session of one thread, if each stream is in its place and
+//!   local (`every_rotation` (`AreLocal`)).
 //!
 //! Within the crate the same is proved of what is lent to operators: which stream the pending rotation cuts next, its cut, a
 //! rotation that begins if it is due, and the beginning of a snapshot are each equal to a definition (`next_of`, `cut_next`,

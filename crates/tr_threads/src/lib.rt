@@ -12,15 +12,17 @@
 //!
 //! # What is proved
 //!
-//! - Each worker takes from its streams in rounds, each time after a gate let it, and ends when the gate doesn't. All seats
-//!   come back, in order, also if a thread or memory is missing.
-//! - Each feeder offers its work in order, every item with its moment, its id and its payload; its log has the items that
-//!   were accepted, and no others. All producers come back, in order, also if a thread or memory is missing.
-//! - The same holds of each if both are side by side in one pool, as in a load.
+//! - Each worker takes from its streams in rounds, each time after a gate let it, and ends when the gate doesn't, or after 2^62
+//!   rounds. All seats come back, in order (`drain_all`, `feed_and_drain`: `worked`).
+//! - Each feeder offers its work in order, every item with its moment, its id and its payload; its log has the items that were
+//!   accepted, and no others. All producers come back, in order (`feed`, `feed_and_drain`: `len`, `fed`;
+//!   `LoggedProducer::into_items`: `producer`, `items`).
+//! - If a thread or memory is missing, all seats come back too, in order: each as it was, or with its own work done; if an
+//!   allocation failed, as it was (`drain_all`, `feed`: `came`, `memory`; `feed_and_drain`: `drainers`, `producers`, `memory`).
 //!
-//! All this is proved for everything that can be taken from and offered to (`Target`, `Intake`), of which a shared session is
-//! one instance. Their relations are known to none of these calls, so an answer can only be that of a call that was made with
-//! these values.
+//! The same holds of workers and feeders side by side in one pool, as in a load. All this is proved for everything that can be
+//! taken from and offered to (`Target`, `Intake`), of which a shared session is one instance. Their relations are known to none
+//! of these calls, so an answer can only be that of a call that was made with these values.
 //!
 //! # What is only tested
 //!
