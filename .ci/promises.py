@@ -365,12 +365,11 @@ def wrong_front_page(crate):
     bullets = bullets_of(crate)
     for bullet in bullets:
         yield from (f"{what}: {bullet[:60]} .." for what in wrong_bullet(crate, bullet))
-    wanted = names.public_functions(crate) - {name for bullet in bullets for name in names_in(crate, bullet)}
+    named = {name for bullet in bullets for name in names_in(crate, bullet)}
     for last, found in functions().items():
-        for it in (it for it in found if it.crate == crate.name and any(it.ensures)):
-            name = names.called(crate, f"{it.place}::{last}")
-            if name in wanted:
-                yield f"{name} isn't named"
+        wanted = [it for it in found if it.crate == crate.name and it.is_public and any(it.ensures)]
+        missing = {names.called(crate, f"{it.place}::{last}") for it in wanted} - named
+        yield from (f"{it} isn't named" for it in sorted(missing))
 
 
 def wrong_front_pages():

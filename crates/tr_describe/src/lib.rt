@@ -26,16 +26,22 @@
 //!
 //! For all folders that report what is in them, and all texts that report what was put:
 //!
-//! - The answer is a function of what is in the folder and of the events (`described_of`), and so is what is put: after `Done`
-//!   the metadata of each archive, in order, and else nothing.
+//! - The answer is a function of what is in the folder and of the events, and so is what is put: after `Done` the metadata of
+//!   each archive, in order, and else nothing (`describe`: `said` (`described_of`), `put` (`texts_of`), `tree`).
 //! - What is wrong with a file is said by lists: of the packets that its bytes start with, end to end, the first record that
-//!   doesn't fit; or else, whether they are all of its bytes. The code holds a piece of the file and one packet.
-//! - If it fails, the metadata of some archives are put, from the first one on. `TooMuch` comes before any is.
+//!   doesn't fit; or else, whether they are all of its bytes, or it breaks off. The code holds a piece of the file and one
+//!   packet (`describe`: `said` (`file_flaw`, `packets_of`, `first_unfit`)).
+//! - If it fails, the metadata of some archives are put, from the first one on. `TooMuch` comes before any is (`describe`:
+//!   `err` (`IsFrontPut`), `too_much`).
+//! - The same holds by a file of declarations, of which the first line that declares nothing is named, and a line says what it
+//!   came to (`describe_by`: `tells` (`TellsTree`), `reads`, `failures`; `declarations_told`: `declares`, `tells`, `fails`,
+//!   `writes`).
 //!
 //! And for all folders and texts:
 //!
-//! - Nothing is put unless the answer is `Done` or a call failed.
-//! - It answers `TooMuch` if and only if the folders failed, and `Write` if and only if a text couldn't be put.
+//! - Nothing is put unless the answer is `Done` or a call failed (`describe`: `done`).
+//! - It answers `TooMuch` if and only if the folders failed, and `Write` if and only if a text couldn't be put (`describe`:
+//!   `reads`, `writes`; `MemoryTexts::new`: `written`, `failures`; `Texts::put`: `ok`, `err`, `failures`).
 //!
 //! # What is only tested
 //!

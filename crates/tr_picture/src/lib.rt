@@ -27,9 +27,14 @@
 //!
 //! - What goes out is a function of what is in the folder (`picture_of`), which short definitions give, or a front of it if a call
 //!   fails. The answer is the survey's: that the folder can't be read, that there is no session (then nothing goes out), or how
-//!   many faults there are.
-//! - Counts and moments are exact. A moment's column is its part of the span, rounded down.
-//! - Of a name nothing leaves its text: as XML has it, it is printable ASCII without a mark of XML, and entities.
+//!   many faults there are
+//!   (`picture`: `ok` (`picture_of`, `lines_of`), `err`, `tree`).
+//! - It answers `TooMuch` if and only if the folders failed, and `Write` if and only if the output did (`picture`: `reads`,
+//!   `writes`).
+//! - Counts and moments are exact. A moment's column is its part of the span, rounded down
+//!   (`picture`: `ok` (`drawing`)).
+//! - Of a name nothing leaves its text: as XML has it, it is printable ASCII without a mark of XML, and entities
+//!   (`an_escaped_name_stays_in_its_text` (`IsPart`)).
 //!
 //! # What is only tested
 //!

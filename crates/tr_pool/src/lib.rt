@@ -17,7 +17,7 @@
 //!   first stream at fault is named: its log's length, or else the least wrong serial. The report has the streams' sums. It
 //!   takes no memory (`reconcile`: `agree` (`AgreeBelow`), `wrong` (`IsFirstWrong`), `report` (`report_of`)).
 //! - The logs of producers that were fed agree with the session that these settle (`every_reconciling`: `agree`,
-//!   `nothing_wrong`).
+//!   `nothing_wrong`; `Logged::into_parts`: `producer`, `stream`, `items`).
 //!
 //! That a producer of a shared session has offered as many records more as its feeder's log has items is `every_feed` of
 //! tr_shared.

@@ -17,9 +17,11 @@
 //!   `value`; `text`: `text`, `whole`, `records`; `whole_records_are_read`: `found`, `only`).
 //! - A record has what it was made of, and fits (`Rec::new`, `copy_of`, `view`, `serial`, `moment`, `id`, `payload`, `size`:
 //!   `value`, `fits`; `RecView::new`, `serial`, `moment`, `id`, `payload`, `size`: `value`, `fits`).
-//! - Sources and sinks give what was read and take what is written, if the standard library knows the bytes; in memory in
-//!   pieces of a size (`ReaderSource::new`: `reader`, `failures`; `get`: `read`; `WriterSink::new`: `writer`, `failures`;
-//!   `put`: `written`; `flush`: `kept`; `MemorySource::new`, `get`: `piece`; `MemorySink::new`, `put`: `piece`).
+//! - Sources and sinks say what they gave and took. They give what was read and take what is written, if the standard library
+//!   knows the bytes; in memory in pieces of a size (`ByteSource::get`: `given`, `content`, `count`, `end`, `ok`, `err`,
+//!   `failed`; `ByteSink::put`: `taken`, `some`, `count`, `ok`, `err`, `failed`; `ReaderSource::new`: `reader`, `failures`;
+//!   `get`: `read`; `WriterSink::new`: `writer`, `failures`; `put`: `written`; `flush`: `kept`; `MemorySource::new`, `get`:
+//!   `piece`; `MemorySink::new`, `put`: `piece`).
 //! - `put_all` gives all bytes to a sink, which didn't fail then, or a prefix of them to a sink that failed in that call
 //!   (`put_all`: `ok`, `err`, `failed`, `no_failure`).
 //!

@@ -31,15 +31,26 @@
 //! For all folders that report what is in them:
 //!
 //! - What goes out is a function of what is in the folder, which short definitions give line by line, and so is the answer:
-//!   how many faults were reported, that there is no session, or that the folder can't be read; then nothing went out.
+//!   how many faults were reported, that there is no session, or that the folder can't be read; then nothing went out
+//!   (`survey`: `tells` (`TellsFolder`, `survey_of`, `identity_of`, `head_told`, `streams_told`, `file_told`, `bytes_told`,
+//!   `sums_of`), `tree`).
 //! - If it fails, a prefix of just that text went out. What can't be read below the folder is no failure: it is reported as a
-//!   fault, and the survey goes on.
-//! - It answers `TooMuch` if and only if the folders failed, and `Write` if and only if the output did.
+//!   fault, and the survey goes on
+//!   (`survey`: `err` (`HasToldPrefix`), `tells`).
+//! - It answers `TooMuch` if and only if the folders failed, and `Write` if and only if the output did
+//!   (`survey`: `reads`, `writes`).
 //! - The names that the recorder gives to archives and files are read as what they say, and so is the identifier in the
-//!   metadata that it writes, if that isn't longer than what is looked at (`IsShort`: it isn't without declared events).
+//!   metadata that it writes, if that isn't longer than what is looked at (`IsShort`: it isn't without declared events)
+//!   (`laws::a_file_is_named_for_its_stream`, `an_archive_is_named_for_its_number`; `metadata_name_their_trace`: `plain`,
+//!   `typed`).
 //! - Of a stream whose files hold packets which its audit passes, with counts of discarded records that don't fall, no fault is
 //!   reported, but just where numbers are absent, what was lost, and its counts. A session that is below the folder as the
-//!   recorder writes it, with nothing missing and nothing beside it (`StandsAlone`), is `whole`.
+//!   recorder writes it, with nothing missing and nothing beside it (`StandsAlone`), is `whole`
+//!   (`a_recorded_stream_has_no_fault`: `told`, `none`; `a_recorded_session_is_whole` (`StandsAlone`)).
+//! - What another reading of the files asks for is as the survey has it: the sessions, archives and streams of a folder, and
+//!   the identifier of each session (`has_archives`: `is`, `tree`, `failures`, `writes`; `archives_among`: `archives`;
+//!   `streams_among`: `streams`; `listing_at`: `is`; `naming_of`: `naming`; `namings_of`: `namings`; `identity_of`:
+//!   `identity`).
 //!
 //! # What is only tested
 //!
