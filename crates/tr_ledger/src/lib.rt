@@ -15,8 +15,8 @@
 //!   (`Ledger::raise`, `raise_by_one`, `join`, `audit`: `share` (`IsSeatOf`); `audit`: `same`; `AddsUp`: rule (`AreCounted`)).
 //! - Only with the ledger at hand can a seat be changed: a raise moves its amount and the total alike, and a join or a new seat
 //!   leaves the total as it is (`Ledger::raise`, `raise_by_one`, `split`, `join`: `ledger`, `seat`).
-//! - A new ledger has total 0 and one whole seat. Only this takes memory. Each call asks for a seat of its own ledger, so a
-//!   caller that can't show it isn't proved (`Ledger::open`).
+//! - A new ledger has total 0 and one whole seat. Only this takes memory. Each call asks for a seat of its own ledger, and that
+//!   a count fits, so a caller that can't show it isn't proved (`Ledger::open`).
 #![tactic(auto)]
 
 mod ledger;

@@ -17,7 +17,7 @@
 //!   finds, with the metadata that the image has of it. Each absent number, and how many packets and records a stream has, go
 //!   out before anything is made. If it fails, a prefix of the text went out and nothing was made, or all of the text and a
 //!   prefix of the archive. It answers `Unreadable` if and only if there is no image or it can't be read to its end (`recover`:
-//!   `recovers` (`Recovers`, `recovered_text`), `tree`).
+//!   `recovers` (`Recovers`, `found_in`, `recovered_text`), `tree`).
 //! - It answers `TooMuch` if and only if the folders failed, and `Write` if and only if the output or the disk did (`recover`:
 //!   `reads`, `failures`).
 //! - For every disk that reports what it makes: just the archive's folder is made, in it a file for each stream, with exactly

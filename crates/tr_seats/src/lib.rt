@@ -45,7 +45,7 @@
 //!   through as the stream does, if no allocation failed (`IsOperatorOf`). A stream is switched to what the book is
 //!   (`Desk::operator`: `new`, `same`; `start_by`, `stop_by`, `set_schedule_by`, `snapshot_begin_by`, `rotate_begin_by`,
 //!   `rotate_finish_by`, `cut_by`, `clear_by`: `steps`; `switch_by`: `answer`, `slot`, `same`, `steps`; `audit_operator`:
-//!   `own`, `same`).
+//!   `own`, `same`; `NotedBook`: invariant (`IsDeskJournal`)).
 //! - What is done to a stream at the desk is noted in the stream's journal too. So all that was done to it but offers and takes
 //!   is what the desk's steps did: its switches, its clears, and its cuts, each at the end of its rotation (`HasOperated`)
 //!   (`Opened::audit_operator`: `streams`, `own`, `same`).

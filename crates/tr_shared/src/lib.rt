@@ -68,8 +68,8 @@
 //!   all packets of its chunks: none was released. The totals are the sums over its streams
 //!   (`Shared::settle`, `settle_with`: `missing` (`IsOneEach`), `all`, `planned` (`IsSessionOf.held`), `totals`, `seats`,
 //!   `taken`, `places` (`AddUp`), `consumed` (`WereConsumed`), `snapshot_session`).
-//! - If it isn't settled, producers and drainers come back as they were, and the session is shared again
-//!   (`Shared::settle`, `settle_with`: `back`).
+//! - If it isn't settled, producers and drainers come back as they were, and the session is shared again,
+//!   as `SettleFault` has it by its type (`Shared::settle`, `settle_with`: `back`).
 //! - Built, it has one producer for each stream, with nothing offered or published, and the planned watchers. It is refused
 //!   only out of memory (`Shared::build`: `producers`, `memory`; `build_watched`: `producers`, `watchers`, `tally`, `memory`;
 //!   `streams`).

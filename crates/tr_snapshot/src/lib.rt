@@ -10,8 +10,8 @@
 //!
 //! # What is proved
 //!
-//! - A look says which record is the oldest that it shows, and how many records it shows (`Snapshot::new`, `oldest_serial`;
-//!   `count`: `shown`, `counted`).
+//! - A look says which record is the oldest that it shows, and how many records it shows (`Snapshot::new`, `oldest_serial`
+//!   (`oldest_in`); `count`: `shown`, `counted`).
 //! - It is written as exactly the texts of its packets, without memory. If the sink fails (W1, and nothing else), what is
 //!   written is a prefix of them (`write_snap`).
 //!
