@@ -24,7 +24,7 @@
 //!
 //! # What is only tested
 //!
-//! Nothing. That whoever makes a call notes it is what the type's invariant of a layer above says, not this crate.
+//! Nothing. That whoever makes a call notes it is what the type's invariant of a layer above says.
 #![tactic(auto)]
 
 mod laws;

@@ -32,7 +32,7 @@
 //!
 //! # What is only tested
 //!
-//! Nothing beside the proofs.
+//! Nothing.
 #![tactic(auto)]
 
 pub mod asks;

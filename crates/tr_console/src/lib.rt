@@ -34,10 +34,9 @@
 //!
 //! # What is only tested
 //!
-//! That all lines that came are answered before more is asked for: each line is taken so (`asked` and `read` of `next_line`),
-//! but a run's source and sink are two values, and no clause says what one had when the other was called. Tests give a line
-//! at a time, and other pieces. Of real standard input and output nothing is known: what a terminal or a file gives or holds
-//! isn't claimed.
+//! That all lines that came are answered before more is asked for: each line is taken so, but a run's source and sink are two
+//! values, and no clause says what one had when the other was called. Tests give a line at a time, and other pieces. What real
+//! standard input and output give or hold isn't claimed.
 #![tactic(auto)]
 
 mod commands;

@@ -5,10 +5,10 @@
 //! stream's file its records in order. The first thing that is wrong is the answer, and then nothing is written:
 //!
 //! - `Closed`: the folder of a session's archives can't be read.
-//! - `Foreign`: an archive's metadata aren't the recorder's. Its folder can't be read, the file is missing, empty or can't be
+//! - `Foreign`: an archive's metadata aren't the recorder's: its folder can't be read, the file is missing, empty or can't be
 //!   read, it names no identifier, or it has another text. Archives of one session may have identifiers of their own.
 //! - `Unsound`: the file of a stream isn't there, can't be read, or isn't packets of that stream and of the archive's
-//!   identifier, end to end. Whether their numbers and serials rise from packet to packet is no matter here.
+//!   identifier, end to end. Whether their numbers and serials rise is no matter here.
 //! - `Unfit`: a record in such a file has a declared id, and its payload doesn't fit.
 //!
 //! Else each archive gets metadata by which readers show the fields of its records, with its own identifier, in that order.
@@ -50,8 +50,8 @@
 //! file's place at once is the file system's rename. A link to metadata becomes a file, and a file's permissions are those of a
 //! new one.
 //!
-//! Calls of `MemoryTexts` that fail would pass too, since `Texts` says what a failure leaves and not when there is one. Not
-//! promised are that memory is there, and that a call which answers `NoMemory` had to.
+//! Calls of `MemoryTexts` that fail would pass too. Not promised are that memory is there, and that a call which answers
+//! `NoMemory` had to.
 #![tactic(auto)]
 
 mod archives;

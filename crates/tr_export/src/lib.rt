@@ -31,11 +31,10 @@
 //!
 //! # What is only tested
 //!
-//! The three lines that reach the real file system (`HostFiles`): another path, a missing folder or a missing flush there
-//! would pass. Runs of the program show paths and folders (`examples/exports`, `.ci/under-fire`). None can show a flush: std's
-//! files keep nothing back, and to flush one does nothing.
-//!
-//! Another piece size of `MemoryDisk::new` would pass too: how bytes are cut is no part of the meaning.
+//! The three lines that reach the real file system (`HostFiles`): another path, a missing folder or a missing flush there would
+//! pass. Runs of the program show paths and folders (`examples/exports`, `.ci/under-fire`). None can show a flush, since std's
+//! files keep nothing back. Another piece size of `MemoryDisk::new` would pass too: how bytes are cut is no part of the
+//! meaning.
 #![tactic(auto)]
 
 mod content;

@@ -23,7 +23,7 @@
 //! Of the runtime's file system (`HostFolders`) nothing is known: another path, another of its answers, or calls that find or
 //! give nothing would pass. Runs of the program show its names, files, links, a file that fails as it is read, and what is
 //! neither folder nor file (`examples/audit/run`, `.ci/under-fire`). Calls of `MemoryFolders` that fail would pass too, since
-//! `Folders` says what an answer means and not when there is one, and so would another piece size.
+//! `Folders` says what an answer means and not when there is one.
 #![tactic(auto)]
 
 mod faults;

@@ -1,9 +1,9 @@
-//! What stands in an image: in a file of rings that outlives its program, a dump of a program's memory, a copy of a disk, or any
+//! What is in an image: in a file of rings that outlives its program, a dump of a program's memory, a copy of a disk, or any
 //! other bytes.
 //!
 //! A sub-buffer's page is its packet's text after each call, and its size is stored last (tr_subbuf). So whatever became of the
-//! program, its packets are found by their bytes alone: at each place of the image, by the decoder's rules, but that a packet is
-//! as large as its content_size says, whatever stands there as its packet_size (both can't be stored at once).
+//! program, its packets are found by their bytes alone: at each place of the image, by the decoder's rules, but that a packet
+//! is as large as its content_size says, whatever is there as its packet_size (both can't be stored at once).
 //!
 //! # Example
 //!
@@ -27,8 +27,8 @@
 //! # What is only tested
 //!
 //! That a packet in a copy of a page's memory is what the program had offered: programs that record are killed at any moment
-//! (the C library's tests). That packets are answered if memory is there: a call that always answered `NoMemory` would be proved
-//! too. That the memory which is taken is that of the packets which are kept, and of one window.
+//! (the C library's tests). That packets are answered if memory is there: a call that always answered `NoMemory` would be
+//! proved too. That the memory which is taken is that of the packets which are kept, and of one window.
 #![tactic(auto)]
 
 mod image;

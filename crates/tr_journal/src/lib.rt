@@ -20,7 +20,7 @@
 //!
 //! # What is only tested
 //!
-//! Nothing beside the proofs. That a note costs three plain loads is in no clause.
+//! Nothing. That a note costs three plain loads is in no clause.
 #![tactic(auto)]
 
 mod journal;

@@ -26,19 +26,17 @@
 //!
 //! # What is only tested
 //!
-//! That threads run at once, and that a load's workers take anything. That a load ends isn't claimed, since it waits for
-//! locks. Not promised by `load` are how many workers there are, when they end, how fast they go, and that anything was taken
-//! before the rotation; that the session was stopped before it was rotated; that a watcher says anything meanwhile; and which
-//! fault it answers. So these bodies pass:
-//! `load` or `load_plan` that always answers a fault; a load that is rotated and then stopped; within the crate, a gate that
-//! never ends a worker, and a take that isn't made and answers that nothing waits.
+//! That threads run at once, and that a load's workers take anything. That a load ends isn't claimed, since it waits for locks.
+//! Not promised by `load` are how many workers there are, when they end, how fast they go, and that anything was taken before
+//! the rotation; whether the session was stopped before it was rotated; that a watcher says anything meanwhile; and which fault
+//! it answers. So a `load` or a `load_plan` that always answers a fault would pass, and, within the crate, a gate that never
+//! ends a worker, and a take that isn't made and answers that nothing waits.
 //!
 //! Examples show loads whose records all fit and are in chunks as a whole, with the whole text, with fewer and with more
-//! workers than streams, and with 256 streams; one without records; and the files of a load's archive. Tests show one
-//! feeder that offers 100,000 records: more of them are in chunks than the last rotation and one round of the worker put there,
-//! so the worker goes on taking while they are offered, and the load agrees; a load that shows meanwhile how many records two
-//! feeders offered, up to the last one, and whose watcher ends with it; the texts of both mismatches; a load that is
-//! reported and archived, and an output that fails, after which nothing is made.
+//! workers than streams, with 256 streams, without records, and the files of a load's archive. Tests show 100,000 records of
+//! one feeder, of which more are in chunks than the last rotation and one round of the worker put there; a load that shows
+//! meanwhile how many records two feeders offered, up to the last one, and whose watcher ends with it; the texts of both
+//! mismatches; a load that is reported and archived, and an output that fails, after which nothing is made.
 #![tactic(auto)]
 
 mod ending;

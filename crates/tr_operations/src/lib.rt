@@ -18,7 +18,7 @@
 //!
 //! # What is only tested
 //!
-//! Nothing. That whoever makes a step notes it is what the type's invariant of a layer above says, not this crate.
+//! Nothing. That whoever makes a step notes it is what the type's invariant of a layer above says.
 #![tactic(auto)]
 
 mod laws;

@@ -26,8 +26,8 @@
 //!
 //! # What is only tested
 //!
-//! Nothing beside the proofs. Tests add the 105 bytes of a worked packet, a damaged byte at each place of a packet of two
-//! records, and each fault before the later ones. The gate compares an archive's metadata with the text of `docs/FORMATS.md`.
+//! Nothing. Tests add the 105 bytes of a worked packet, a damaged byte at each place of a packet of two records, and each fault
+//! before the later ones. The gate compares an archive's metadata with `docs/FORMATS.md`.
 #![tactic(auto)]
 
 mod decoding;

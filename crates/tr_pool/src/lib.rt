@@ -24,7 +24,7 @@
 //!
 //! # What is only tested
 //!
-//! Nothing beside the proofs. Tests add a log that agrees, one with another id, a shorter one, and no log.
+//! Nothing. Tests add a log that agrees, one with another id, a shorter one, and no log.
 #![tactic(auto)]
 
 mod judging;

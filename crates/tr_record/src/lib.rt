@@ -27,11 +27,10 @@
 //!
 //! # What is only tested
 //!
-//! That a read or a write that is interrupted is a failure and isn't tried again, and that no failure is made up: the
-//! standard library's readers and writers report none, so a `get` or `put` that tries again, or fails without having asked,
-//! meets its contract. So does a `flush` that does nothing or passes over a failure, and a `MemorySink::put` that fails
-//! though memory is there. A test counts the flushes, and tests show each of these. Of real files and terminals nothing is
-//! known.
+//! That a read or a write that is interrupted is a failure and isn't tried again, and that no failure is made up: the standard
+//! library's readers and writers report none, so a `get` or `put` that tries again, or fails without having asked, meets its
+//! contract. So does a `flush` that does nothing or passes over a failure, and a `MemorySink::put` that fails though memory is
+//! there. Tests show each of these. Of real files and terminals nothing is known.
 #![tactic(auto)]
 
 mod bytes;

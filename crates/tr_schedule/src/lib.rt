@@ -16,8 +16,8 @@
 //!
 //! # What is only tested
 //!
-//! Nothing beside the proofs. Tests add a period and a limit one below and at their numbers, a moment before the chunk's
-//! beginning, and sums beyond the greatest number.
+//! Nothing. Tests add a period and a limit one below and at their numbers, a moment before the chunk's beginning, and sums
+//! beyond the greatest number.
 #![tactic(auto)]
 
 mod cause;

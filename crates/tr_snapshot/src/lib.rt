@@ -17,8 +17,8 @@
 //!
 //! # What is only tested
 //!
-//! Nothing beside the proofs. Tests add the 512 bytes of a look with two packets, which are read again, a look without
-//! packets, and a sink that fails after N bytes.
+//! Nothing. Tests add the 512 bytes of a look with two packets, which are read again, a look without packets, and a sink that
+//! fails after N bytes.
 #![tactic(auto)]
 
 mod shown;

@@ -55,9 +55,9 @@
 //!
 //! # What is only tested
 //!
-//! That a list of calls ends with "out of memory" only if an allocation failed. Tests add worked examples of each call, a
-//! look's packets that are read again, and 100,000 offers in each mode with no byte of memory left: none is refused or moves
-//! a byte of the heap, and a take after them is out of memory.
+//! That a list of calls ends with "out of memory" only if an allocation failed. Tests add worked examples of each call, and
+//! 100,000 offers in each mode with no byte of memory left: none is refused or moves a byte of the heap, and a take after them
+//! is out of memory.
 #![tactic(auto)]
 
 mod answers;

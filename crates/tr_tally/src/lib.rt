@@ -22,9 +22,9 @@
 //!
 //! # What is only tested
 //!
-//! That a watcher reads what was published last: a watcher that keeps a copy of its last answers and gives these for ever
-//! meets the clauses of `read`. Tests show it alone and in threads, until each watcher has seen the last counts. No clause
-//! says how far apart words lie in memory, or that nothing is stored where nobody watches or the count is the last one again.
+//! That a watcher reads what was published last: one that keeps a copy of its last answers and gives these for ever meets the
+//! clauses of `read`. Tests show it alone and in threads, until each watcher has seen the last counts. No clause says how far
+//! apart words lie in memory, or that nothing is stored where nobody watches or the count is the last one again.
 #![tactic(auto)]
 
 mod note;

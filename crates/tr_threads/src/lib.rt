@@ -34,19 +34,13 @@
 //!   gate;
 //! - that an offer or a take is accepted.
 //!
-//! Tests (tr_shared_tests: `feeding.rt`, `gates.rt`, `intakes.rt`) show:
-//!
-//! - records of all lengths come through, with their moments, ids and payloads, all in one packet, and all were offered;
-//! - an intake that refuses some of two feeders' items was offered all of them, and the logs have the others;
-//! - two workers that wait for each other at their first turn both take;
-//! - three workers of two streams, one of two, and none: each asks its gate before a turn, takes, and reports the same turn
-//!   to the gate after it, in order, until the gate ends it; the one without a stream asks nothing; where there are none,
-//!   none come back, and nothing is missing;
-//! - a worker and two feeders wait for each other: the offers until the gate was asked, and the gate until both feeders are
-//!   at their first offer. Two feeders are counted as at work then, and once none is, all their work is offered.
-//!
-//! In no test does an allocation of a pool fail, since it takes its memory from the C library alone. What comes back then is
-//! proved (`memory`), and runs of the program with too little memory end as stated (`.ci/under-fire`).
+//! Tests (tr_shared_tests: `feeding.rt`, `gates.rt`, `intakes.rt`) show records of all lengths, with their moments, ids and
+//! payloads, all in one packet; an intake that refuses some of two feeders' items, of which the logs have the others; two
+//! workers that wait for each other at their first turn; three workers of two streams, one of two, and none, each of which asks
+//! its gate before a turn, takes, and reports the same turn after it, until the gate ends it; a worker and two feeders that
+//! wait for each other, of which two are counted as at work then, and once none is, all their work is offered. In no test does
+//! an allocation of a pool fail, since it takes its memory from the C library alone: what comes back then is proved (`memory`),
+//! and `.ci/under-fire` runs the program with too little.
 #![tactic(auto)]
 
 mod draining;
