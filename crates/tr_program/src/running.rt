@@ -194,7 +194,7 @@ fn wanted_by(uuid: Option<&str>) -> Option<Option<Uuid>>
     }
 }
 
-/// Writes what stands in an image as an archive below a folder.
+/// Writes what is in an image as an archive below a folder.
 fn end_recover<K: ByteSink, D: Disk, F: Folders>(
     alloc: Global,
     out: &mut K,

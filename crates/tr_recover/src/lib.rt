@@ -1,4 +1,4 @@
-//! What stands in an image (tr_image), as an archive, so that readers read it and an audit says what is absent.
+//! What is in an image (tr_image), as an archive, so that readers read it and an audit says what is absent.
 //!
 //! Of their session nothing is known but what the packets say: the archive is `DIR/recovered/archives/BEGIN-END-0`, by when the
 //! first of them began and the last one ended, in UTC. Each stream has the file `ring_NUMBER`.

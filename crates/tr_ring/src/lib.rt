@@ -18,7 +18,7 @@
 //!   `take_current`: `page`, `after`; `Ring`: invariant (`ArePages`)).
 //! - After each call every page that has a record is, in memory, the text of the packet that it becomes, with its number and
 //!   what was discarded, the current one's ending with its last record: so who finds the memory of a program that was killed
-//!   finds its packets. In a free page no packet stands (`Ring::image`: `waiting`, `current`; `size`: `value`, `sound`;
+//!   finds its packets. In a free page there is no packet (`Ring::image`: `waiting`, `current`; `size`: `value`, `sound`;
 //!   `waiting`: `count`, `sound`).
 //! - The oldest goes, the current one is closed, all is cleared, a page's copy is handed out, and a record is found by its
 //!   place, oldest first, or its packet by its serial, each as defined (`Ring::drop_front`, `close_current`, `clear`, `record`,
