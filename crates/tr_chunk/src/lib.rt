@@ -28,9 +28,8 @@
 //!
 //! # What is only tested
 //!
-//! Nothing. Tests add a file of two packets, whole, cut to each of the 484 shorter lengths and with each of its 484 bytes
-//! inverted, each read whole and in feeds of 1, 7 and 1,000 bytes; a header that is judged at its last byte, a piece that ends
-//! within a packet, pieces in another order, and a sink that fails after N bytes.
+//! Nothing. Tests add a file of two packets, cut to each shorter length and with each byte inverted, read whole and in feeds of
+//! three sizes, and a sink that fails after N bytes.
 #![tactic(auto)]
 
 mod archive_names;

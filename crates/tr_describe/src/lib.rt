@@ -1,18 +1,17 @@
-//! The metadata of declared events, for archives that are there already.
+//! The metadata of declared events, for archives that are there already, written by any program.
 //!
-//! Below a folder lies `SESSION/archives/ARCHIVE/FILE`, as a survey reads it, written by any program. What is there is judged
-//! first: sessions in order, of each its archives in order, of each archive its metadata and then its streams in order, of each
-//! stream's file its records in order. The first thing that is wrong is the answer, and then nothing is written:
+//! What is there is judged first, as `docs/FORMATS.md` says: sessions in order, of each its archives in order, of each archive
+//! its metadata and then its streams in order, of each stream's file its records in order. The first thing that is wrong is the
+//! answer, and then nothing is written:
 //!
 //! - `Closed`: the folder of a session's archives can't be read.
-//! - `Foreign`: an archive's metadata aren't the recorder's: its folder can't be read, the file is missing, empty or can't be
-//!   read, it names no identifier, or it has another text. Archives of one session may have identifiers of their own.
-//! - `Unsound`: the file of a stream isn't there, can't be read, or isn't packets of that stream and of the archive's
-//!   identifier, end to end. Whether their numbers and serials rise is no matter here.
+//! - `Foreign`: an archive's metadata aren't the recorder's, or missing. Archives of one session may have identifiers of their
+//!   own.
+//! - `Unsound`: a stream's file isn't there, can't be read, or isn't packets of that stream and of the archive's identifier,
+//!   end to end. Whether their numbers and serials rise is no matter here.
 //! - `Unfit`: a record in such a file has a declared id, and its payload doesn't fit.
 //!
-//! Else each archive gets metadata by which readers show the fields of its records, with its own identifier, in that order.
-//! What isn't named as a session, an archive or a stream's file is passed over.
+//! Else each archive gets metadata by which readers show the fields of its records, with its own identifier.
 //!
 //! # Example
 //!

@@ -32,10 +32,8 @@
 //! it answers. So a `load` or a `load_plan` that always answers a fault would pass, and, within the crate, a gate that never
 //! ends a worker, and a take that isn't made and answers that nothing waits.
 //!
-//! Examples show loads whose records all fit and are in chunks as a whole, with the whole text, with fewer and with more
-//! workers than streams, with 256 streams, without records, and the files of a load's archive. Tests show 100,000 records of
-//! one feeder, of which more are in chunks than the last rotation and one round of the worker put there; a load that shows
-//! meanwhile how many records two feeders offered, up to the last one, and whose watcher ends with it; the texts of both
+//! Examples show loads with their whole text, and an archive's files. Tests show 100,000 records of one feeder, of which the
+//! worker takes more than the last rotation has; what a load shows meanwhile, up to the last record; the texts of both
 //! mismatches; a load that is reported and archived, and an output that fails, after which nothing is made.
 #![tactic(auto)]
 

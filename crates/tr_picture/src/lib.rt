@@ -1,19 +1,9 @@
-//! A picture of what the archives below a folder hold, and what is lost: one SVG, which any browser opens.
+//! A picture of what the archives below a folder hold, and what is lost: one SVG, which any browser opens. `docs/FORMATS.md`
+//! says how it is drawn.
 //!
-//! It has a row for each stream of each session, and time goes to the right:
-//!
-//! - Each packet is a bar from its begin to its end, in the colour of its archive, as high as its bytes (`Bars`).
-//! - Numbers that are absent are red, between the packets before and after (`Rows`).
-//! - Records that were discarded are orange, below packets, between the two records where the serials place them, or else
-//!   between the ends of the packets (`Losses`).
-//! - A fault of the survey in a stream is a line through the row, at the end of the packet before it. An archive that begins is
-//!   a thin line.
-//! - A pointer shows what each bar says: numbers, records, counts, archives and moments.
-//! - Neighbours that share a column are one bar, which says how many they are (`Lanes`). A column is a pixel, or with many marks
-//!   so wide that the text stays small (`Frame`).
-//!
-//! What is judged of packets is what the survey judges of them (tr_survey), and what is said at the end is what it says. What has
-//! no place in a stream's time, as a missing archive, is in that answer alone.
+//! By the definitions: `Bars` of packets, `Rows` of absent numbers, `Losses` of discarded records, `Lanes` of what shares a
+//! column, `Frame` of columns. What is judged of packets is what the survey judges of them (tr_survey), and what is said at the
+//! end is what it says. What has no place in a stream's time, as a missing archive, is in that answer alone.
 //!
 //! # Example
 //!

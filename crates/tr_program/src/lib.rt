@@ -53,12 +53,10 @@
 //!
 //! # What is only tested
 //!
-//! Tests show each way to end at status 3, with its line, with no call of the disk after a script that broke off, and with 3
-//! before 1; a load whose output fails after none, some or all but one of its bytes, and one whose disk fails at its first or
-//! its last call. Of status 4 they show only the arguments, since `run` takes its memory from `Global`. Runs of the program
-//! show which words are a bad command line, a load's numbers beyond their limits, with a sign, missing or given twice among
-//! them (`examples/command-lines`); archives' files (`examples/exports`); a load with its whole text (`examples/load*`), and
-//! what it says at a terminal; and how the program ends where its surroundings fail it (`.ci/under-fire`).
+//! Tests show each way to end at status 3, with its line, and with no call of the disk after a script that broke off. Of status
+//! 4 they show only the arguments, since `run` takes its memory from `Global`. Runs of the program show which words are a bad
+//! command line (`examples/command-lines`), archives' files (`examples/exports`), loads (`examples/load*`), and how the program
+//! ends where its surroundings fail it (`.ci/under-fire`).
 //!
 //! Not promised is what `load` doesn't promise: a load that is always refused, at status 1, meets the contract; tests show that
 //! it isn't. `main` has no clause: that standard input, output and error are each in their place, and that the status is

@@ -88,77 +88,43 @@
 //!
 //! # What is only tested
 //!
-//! Contracts can't name a value under a lock: what a call did there shows in its caller's seats alone. A call that is lent no
-//! `Operator` makes the `_by` call with one of its own; only tests show that it does, and that no call adds refusals. Which
-//! locks a call holds, and from when to when, can be read in its few lines of code, and is in no contract: an offer and a take
-//! hold one stream's lock and no other; an operator holds the desk's, and then one stream's at most. Not promised by a call
-//! that takes a lock are:
-//!
-//! - when a take has `Nothing`;
-//! - that nothing is `Misplaced`;
-//! - that a start, a stop, a schedule, a clear or a step of a rotation does anything if no operator is lent;
-//! - when a tick of a local session rotates, and why; how many streams a rotation cuts itself, since another operator may have
-//!   cut some of them;
-//! - how much later than the moment given a snapshot's is;
-//! - that the other streams of a snapshot are shown with all their records, and their ids and payloads;
-//! - in which order the streams of a session lie that isn't settled, and which stream `hold_stream` holds;
-//! - which lock is held from when to when, and that a wait ends.
-//!
+//! Contracts can't name a value under a lock: what a call did there shows in its caller's seats alone. Which locks a call
+//! holds, and from when to when, can be read in its few lines of code, and is in no contract: an offer and a take hold one
+//! stream's lock and no other; an operator holds the desk's, and then one stream's at most. Only tests show that a call that is
+//! lent no `Operator` makes the `_by` call with one of its own, and that no call adds refusals. That a wait ends isn't claimed.
 //! So these bodies meet the contracts:
 //!
-//! - an offer that is always `Misplaced`, and a take that is always refused;
-//! - if no operator is lent: a start, a stop, a schedule, a clear or a rotation that only answers, and a start at another moment;
+//! - an offer that is always `Misplaced`, and a take that is always refused: when a take has `Nothing`, and that nothing is
+//!   `Misplaced`, isn't promised;
+//! - if no operator is lent: a start, a stop, a schedule, a clear or a step of a rotation that only answers, and a start at
+//!   another moment;
 //! - any call that does something more at the desk in another operator's name, or takes in another drainer's;
 //! - a `rotate_next_by` that answers `AllCut` without looking, or is always refused as `NotPending`, and so a `rotate_by` that
 //!   begins and is refused then; a `tick_by` or a `clear_by` that is always refused by one of its codes;
 //! - a drainer, a `build` or a snapshot that is always refused, or a call with an operator that is refused for a stream that
 //!   isn't in its place or out of memory;
-//! - a tick that is always idle, and a snapshot without packets (except of its producer's stream), or whose moment isn't stored
-//!   if no operator is lent;
-//! - a `hold_stream` that holds nothing, or the desk too;
-//! - a `settle` that is always refused by E2 or E3 once all producers are there;
-//! - a `build` or a `settle` that does something more at the desk or to the slots, as to set a schedule or to stop the
-//!   session.
+//! - a tick that is always idle: when a local session's rotates, and why, isn't promised, nor how many streams a rotation cuts
+//!   itself, since another operator may have cut some of them;
+//! - a snapshot that shows of other streams than its producer's no packets, or others' ids and payloads, or whose moment is
+//!   much later than the one given, or isn't stored if no operator is lent;
+//! - a `hold_stream` that holds nothing, another stream, or the desk too;
+//! - a `settle` that is always refused by E2 or E3 once all producers are there, and gives the streams back in any order;
+//! - a `build` or a `settle` that does something more at the desk or to the slots, as to set a schedule or to stop the session.
 //!
-//! For these, tests (tr_shared_tests) show:
+//! Tests (tr_shared_tests) show for these: a session's offers, and what is refused, from start to stop; that a start and a stop
+//! which are refused switch no stream; the records of a ring after settling; the most drainers, and one more; a session that
+//! isn't settled without a producer and without a drainer, and is then; watchers beside offers, beside a held lock, and after
+//! settling; four producers' threads, two drainers' and two operators', in both modes, settled with what the threads counted,
+//! each archive once and each file's gaps just the overwritten packets; rotations and ticks with the answers of the same
+//! script; and snapshots of three streams, packet by packet, with a producer and without one, whose open packets end at the
+//! moment that is stored, or at their stream's last if that is later.
 //!
-//! - a session's offers between start and stop, and what is refused, a payload that is too long for a session that isn't
-//!   started as one that takes no offers;
-//! - that a start and a stop which are refused switch no stream, and that the first archive begins at the first start;
-//! - the moments, ids and payloads of a ring's records after settling, the longest payload among them;
-//! - as many drainers as there may be, and one more;
-//! - a session that isn't settled without a producer and without a drainer, goes on after that, and is settled with all;
-//! - a watcher that reads while two producers' threads offer, one that reads a stream whose lock another thread holds, and one
-//!   that reads and learns after the session is settled;
-//! - four producers' threads and two drainers' on four streams, in both modes, settled with what the threads counted;
-//! - a rotation between whose cuts records are offered and taken, one of a stopped session, and ticks by period and by size,
-//!   each with the answers of the same script; snapshots of three streams, and those of `examples/snapshot.script`, with the
-//!   producer and without it;
-//! - four producers' threads, two drainers' and two operators', which rotate and tick, in both modes: the archives are
-//!   numbered one after another and hold all that was consumed, and each stream's files pass an audit whose gaps are the
-//!   overwritten packets;
-//! - that a snapshot shows all streams, with the producer of any of them or without one (`snapshots.rt`): of three streams,
-//!   of which one has overwritten packets, each packet with its number, its beginning, its end and its records; an open
-//!   packet ends at the moment that is stored, even if the snapshot was asked for at an earlier one, or at its stream's last
-//!   moment if that is later.
-//!
-//! And of threads that meet at one session of four streams, each test failing by a name of its own and bounded in turns
-//! (`contention`):
-//!
-//! - two operators rotate 100 times each while four producers offer and a drainer takes: each answer is an archive or S4, and
-//!   the archives of both together are those of the settled book, each once;
-//! - in each of 100 rotations two operators cut until all is cut: together they cut streams 0 to 3, once each;
-//! - while the last stream is held, two threads start the session, and later two stop it: none is answered before the hold
-//!   ends, and then one is refused, as after the other;
-//! - while stream 0 is held, a rotation and a take from it are begun, and 100 offers and 100 takes of stream 1 are answered
-//!   before the hold ends, and that take isn't;
-//! - a session isn't settled without a producer (E1), without a producer and a drainer (E1), or without a drainer (E2), and
-//!   is settled with what came back.
-//!
-//! Nothing but these tests shows that a hold of a stream leaves the other streams and the desk free, and that a start and a
-//! stop hold the desk until the last stream is switched. No test can show that a snapshot holds the desk until all streams
-//! are shown, that a tick asks and begins under one hold, or that a whole rotation lets it go between its steps: the one that
-//! waits can't be told from one that isn't there yet.
+//! Threads that meet at one session (`contention`): two operators rotate 100 times each, and each archive is there once; two
+//! cut each rotation's streams, once each; while the last stream is held, a start and a stop aren't answered; while stream 0 is
+//! held, 100 offers and takes of stream 1 are. Nothing but these tests shows that a hold of a stream leaves the other streams
+//! and the desk free, and that a start and a stop hold the desk until the last stream is switched. No test can show that a
+//! snapshot holds the desk until all streams are shown, that a tick asks and begins under one hold, or that a whole rotation
+//! lets it go between its steps: one that waits looks like one that isn't there yet.
 #![tactic(auto)]
 
 mod clearing;

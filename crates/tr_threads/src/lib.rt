@@ -34,13 +34,10 @@
 //!   gate;
 //! - that an offer or a take is accepted.
 //!
-//! Tests (tr_shared_tests: `feeding.rt`, `gates.rt`, `intakes.rt`) show records of all lengths, with their moments, ids and
-//! payloads, all in one packet; an intake that refuses some of two feeders' items, of which the logs have the others; two
-//! workers that wait for each other at their first turn; three workers of two streams, one of two, and none, each of which asks
-//! its gate before a turn, takes, and reports the same turn after it, until the gate ends it; a worker and two feeders that
-//! wait for each other, of which two are counted as at work then, and once none is, all their work is offered. In no test does
-//! an allocation of a pool fail, since it takes its memory from the C library alone: what comes back then is proved (`memory`),
-//! and `.ci/under-fire` runs the program with too little.
+//! Tests (tr_shared_tests: `feeding.rt`, `gates.rt`, `intakes.rt`) show records of all lengths, an intake that refuses some,
+//! workers that wait for each other, each turn asked of its gate and reported to it, and feeders that are counted as at work.
+//! In no test does an allocation of a pool fail, since it takes its memory from the C library alone: what comes back then is
+//! proved (`memory`), and `.ci/under-fire` runs the program with too little.
 #![tactic(auto)]
 
 mod draining;
