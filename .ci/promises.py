@@ -74,6 +74,11 @@ class Function:
         return self.place.rpartition("::")[2]
 
 
+def has_page(crate):
+    """Whether the crate is a library: a program's calls are nobody else's."""
+    return os.path.exists(f"{crate.folder}/src/lib.rt")
+
+
 def can_be_called(crate, public, function, piece, trait):
     """Whether other crates, or C, can call this function: one of a trait if they can name the type, or the trait."""
     name = names.called(crate, function)
@@ -100,7 +105,7 @@ def functions():
                 contract = re.split(r"^ *\{\}?$|\A.* \{$", piece, maxsplit=1, flags=re.M)[0]
                 cites = set(re.findall(r"\b[A-Z]\w+", contract))
                 ensures = [it.strip() for it in ENSURES.findall(contract)]
-                is_public = bool(name) and os.path.exists(f"{crate.folder}/src/lib.rt") and can_be_called(crate, public, name, piece, trait)
+                is_public = bool(name) and has_page(crate) and can_be_called(crate, public, name, piece, trait)
                 found[last].append(Function(place, trait, set(CLAUSE.findall(contract)), cites, ensures, is_public))
                 # (what is in a trait is called by its module)
                 trait = [trait, *re.findall(r"^(?:(?:pub )?(?:unsafe )?trait (\w+)|\}$)", piece, re.M)][-1]
@@ -374,5 +379,5 @@ def wrong_front_page(crate):
 
 def wrong_front_pages():
     for crate in edits.all_crates().values():
-        if os.path.exists(f"{crate.folder}/src/lib.rt"):
+        if has_page(crate):
             yield from (f"crates/{crate.name}/src/lib.rt: {it}" for it in wrong_front_page(crate))

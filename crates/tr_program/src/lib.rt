@@ -6,8 +6,8 @@
 //!
 //! # What is proved
 //!
-//! For any arguments, input, output, disk and folders, each of which reports what was read, answered and made (standard input,
-//! standard output and a real folder don't):
+//! For any arguments, input, output, disk and folders (what was read, answered and made is said of those that report it, which
+//! standard input, standard output and a real folder don't):
 //!
 //! - What the words ask for is decided by clap's definition: a run of a script or of a load, each with the folder for its
 //!   archives if one is named; the audit of a folder, types for its archives, a picture of them; the archive of an image; or

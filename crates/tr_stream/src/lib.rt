@@ -48,8 +48,10 @@
 //! - In discard mode, each packet's `events_discarded` is exactly the number of serials that are absent until the next packet.
 //!   In overwrite mode, serials are absent exactly where packet numbers are. The counts add up (`Stream::counts`: `consistent`,
 //!   `total`, `consumed`, `withdrawn`).
-//! - In every run each accepted offer is in exactly one place, and a trace chunk has what was consumed between its cuts and not
-//!   cleared since (`every_run`: `well_formed`, `one_place`, `kept`, `settled`, `chunks`, `cuts`, `uncleared`).
+//! - In every run the history is well-formed, and each accepted offer in exactly one place; numbers and serials of what is kept
+//!   rise, and each block before a kept one is kept, overwritten or cleared; a trace chunk has, in order, what was consumed
+//!   between its cuts and not cleared since; without a clear nothing is cleared (`every_run`: `well_formed`, `one_place`,
+//!   `kept`, `settled`, `chunks`, `cuts`, `uncleared`).
 //! - In a snapshot session nothing is ever consumed, cut or cleared: each is refused (`Stream::counts`, `every_run`:
 //!   `snapshot_session`; `Stream::config`: `kept` (`IsSound.unconsumed`)).
 //!
