@@ -18,7 +18,8 @@
 //!   (`parse`: `asked`, `moment`, `offset`; `parse_by_clap`).
 //! - So is what the program's words ask for, by clap's definition of `script [--events FILE] [--out DIR]`, `load --threads T
 //!   --records R --workers W [--out DIR] [--watch]`, `audit [--archives] DIR`, `describe --events FILE DIR`, `picture DIR` and
-//!   `recover [--uuid UUID] IMAGE DIR`. The numbers of a load are within its limits (`job_of`, `number`: `value`, `within`).
+//!   `recover [--uuid UUID] IMAGE DIR`. The numbers of a load are within its limits (`job_of`: `value`, `within`).
+//! - A number is one or more digits and no more, and at most what is asked (`number`: `value`, `within`).
 //! - The program's words come as a list, after its name (`collected`, `words_after`, `with_program`).
 //! - What a terminal shows before a long load is its definition's text (`notice_given`).
 #![tactic(auto)]

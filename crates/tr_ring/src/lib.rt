@@ -18,11 +18,11 @@
 //!   `take_current`: `page`, `after`; `Ring`: invariant (`ArePages`)).
 //! - After each call every page that has a record is, in memory, the text of the packet that it becomes, with its number and
 //!   what was discarded, the current one's ending with its last record: so who finds the memory of a program that was killed
-//!   finds its packets. In a free page there is no packet (`Ring::image`: `waiting`, `current`; `size`: `value`, `sound`;
-//!   `waiting`: `count`, `sound`).
+//!   finds its packets. In a free page there is no packet (`Ring::image`: `waiting`, `current`).
 //! - The oldest goes, the current one is closed, all is cleared, a page's copy is handed out, and a record is found by its
-//!   place, oldest first, or its packet by its serial, each as defined (`Ring::drop_front`, `close_current`, `clear`, `record`,
-//!   `seq_of`; `copied_out`, `current_copied_out`: `packet`, `same`).
+//!   place, oldest first, or its packet by its serial, each as defined; so is how many wait, and of how many bytes each is
+//!   (`Ring::size`: `value`, `sound`; `waiting`: `count`, `sound`; `drop_front`, `close_current`, `clear`, `record`, `seq_of`;
+//!   `copied_out`, `current_copied_out`: `packet`, `same`).
 #![tactic(auto)]
 
 mod closed;

@@ -26,8 +26,9 @@
 //!   record, and never a part of a record, whatever bytes follow (`laws::a_first_record_is_whole_at_each_store`
 //!   (`begin_stores`), `a_put_is_whole_at_each_store` (`put_stores`, `Stands`), `an_end_is_one_store`,
 //!   `a_loss_is_noted_by_one_store`, `an_empty_page_shows_nothing`).
-//! - A copy that was begun has the page's first records, whatever is added meanwhile, and there is no packet in it; with the rest
-//!   it is the packet (`SubBuf::begin_copy`, `copy_more`; `copied_out`: `packet`, `same`; `SubBuf`: invariant (`IsBegun`)).
+//! - A copy that was begun has the page's first records, whatever is added meanwhile, and there is no packet in it; with the
+//!   rest it is the packet (`SubBuf::begin_copy`, `copy_more`; `copied_out`: `packet`, `same`; `SubBuf`: invariant
+//!   (`IsBegun`)).
 //!
 //! # What is only tested
 //!

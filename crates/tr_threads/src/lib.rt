@@ -13,7 +13,7 @@
 //! # What is proved
 //!
 //! - Each worker takes from its streams in rounds, each time after a gate let it, and ends when the gate doesn't, or after 2^62
-//!   rounds. All seats come back, in order (`drain_all`, `feed_and_drain`: `worked`).
+//!   turns. All seats come back, in order (`drain_all`, `feed_and_drain`: `worked`).
 //! - Each feeder offers its work in order, every item with its moment, its id and its payload; its log has the items that were
 //!   accepted, and no others. All producers come back, in order (`feed`, `feed_and_drain`: `len`, `fed`;
 //!   `LoggedProducer::into_items`: `producer`, `items`).
