@@ -13,7 +13,8 @@ keep its promise, and their clauses:
 - A type is in place of a call if what is said is its 'invariant', or the 'rule' of a table that it keeps.
 - What is in parentheses after a call, a clause, 'invariant' or 'rule' is definitions of specs/, or parts of them.
 
-Each public function that has a clause with a name is named in its crate's front page."""
+Each public function that has a clause with a name, that changes what it is lent, or whose body is empty, so that its contract
+is a law, is named in its crate's front page."""
 import collections
 import dataclasses
 import functools
@@ -56,7 +57,8 @@ edits = names.edits
 @dataclasses.dataclass
 class Function:
     """A function by all that it stands in, as a check prints it, with its trait if it stands in one; the names of its
-    clauses, the names in its contract, those of its `ensures` ('' for one without), and whether other crates can call it."""
+    clauses, the names in its contract, those of its `ensures` ('' for one without), whether other crates can call it, and
+    whether it makes a promise that its crate's front page has to have."""
 
     place: str
     trait: str
@@ -64,6 +66,7 @@ class Function:
     cites: set
     ensures: list
     is_public: bool
+    is_promise: bool
 
     @property
     def crate(self):
@@ -72,6 +75,12 @@ class Function:
     @property
     def owner(self):
         return self.place.rpartition("::")[2]
+
+
+def is_promise(piece, ensures):
+    """Whether a function has a clause with a name, changes what it is lent, or is a law: its body is empty."""
+    head = re.split(r"\n *(?:requires|ensures)\*? ", piece, maxsplit=1)[0]
+    return any(ensures) or bool(ensures) and bool(re.search(r"&(?:'\w+ )?mut ", head) or re.search(r"^ *\{\}$", piece, re.M))
 
 
 def has_page(crate):
@@ -106,7 +115,8 @@ def functions():
                 cites = set(re.findall(r"\b[A-Z]\w+", contract))
                 ensures = [it.strip() for it in ENSURES.findall(contract)]
                 is_public = bool(name) and has_page(crate) and can_be_called(crate, public, name, piece, trait)
-                found[last].append(Function(place, trait, set(CLAUSE.findall(contract)), cites, ensures, is_public))
+                clauses, says = set(CLAUSE.findall(contract)), is_promise(piece, ensures)
+                found[last].append(Function(place, trait, clauses, cites, ensures, is_public, says))
                 # (what is in a trait is called by its module)
                 trait = [trait, *re.findall(r"^(?:(?:pub )?(?:unsafe )?trait (\w+)|\}$)", piece, re.M)][-1]
     return found
@@ -366,13 +376,15 @@ def names_in(crate, bullet):
 
 
 def wrong_front_page(crate):
-    """What isn't there of what a crate's front page names, and which public functions with a named clause it doesn't name."""
+    """What isn't there of what a crate's front page names, and what it doesn't name of what it has to."""
     bullets = bullets_of(crate)
     for bullet in bullets:
         yield from (f"{what}: {bullet[:60]} .." for what in wrong_bullet(crate, bullet))
+    if not bullets and names.LEFT_OUT.fullmatch(crate.name):
+        return
     named = {name for bullet in bullets for name in names_in(crate, bullet)}
     for last, found in functions().items():
-        wanted = [it for it in found if it.crate == crate.name and it.is_public and any(it.ensures)]
+        wanted = [it for it in found if it.crate == crate.name and it.is_public and it.is_promise]
         missing = {names.called(crate, f"{it.place}::{last}") for it in wanted} - named
         yield from (f"{it} isn't named" for it in sorted(missing))
 

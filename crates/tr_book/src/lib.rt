@@ -20,12 +20,14 @@
 //!   `Part::bytes`: `value`, `small`).
 //! - A packet's runs are as long as they can be and in order, and none goes over two packets. Of a packet that says no more was
 //!   lost than the one before it, they are known by its first record and its count (`Runs::push_records`, `push_packets`;
-//!   `append`: `ok`, `err`; `of_packets`, `of_packets_by_lost`: `value`, `memory`).
+//!   `push_known`, `push_by_lost`; `append`: `ok`, `err`; `of_packets`, `of_packets_by_lost`: `value`, `memory`).
 //! - By runs and parts it is known where a serial's record is or was, and which part was current at its offer (`Part::seq_of`,
 //!   `Run::has`, `Runs::seq_of`, `search` (`RunsRise`), `Parts::seq_cleared`, `place_of`).
 //! - A call for which an allocation fails, of a release only if the part has packets, leaves the parts as they were. Once parts
 //!   are ready (`ReadyParts`), adding packets and closing the current part take no memory; nor does adding one to a part that
 //!   was taken out for it (`Parts::ready`: `ok`, `err`; `take_current`: `part`, `ok`, `err`).
+//! - The counters note what is offered, overwritten, consumed and cleared, and its moment (`Book::note_offer`,
+//!   `note_overwritten`, `note_consumed`, `note_moment`, `note_cleared`).
 //! - What a stream is seen to have has its packets, fewer than 2^64 records (`StreamSnap::new`; `packets`: `value`, `few`).
 #![tactic(auto)]
 

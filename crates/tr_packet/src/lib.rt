@@ -22,6 +22,8 @@
 //!   `value`, `packet`).
 //! - No packet's text begins another, so bytes begin with one packet at most (`laws::texts_are_prefix_free`: `prefix_free`,
 //!   `one_packet`).
+//! - A packet's header and context, a number, and its end with its size are written over bytes at their places (`write_head`,
+//!   `write_number`, `write_extent`).
 //! - The metadata text is byte for byte the documented one (`metadata_text`).
 //!
 //! # What is only tested

@@ -23,6 +23,7 @@
 //!   place, oldest first, or its packet by its serial, each as defined; so is how many wait, and of how many bytes each is
 //!   (`Ring::size`: `value`, `sound`; `waiting`: `count`, `sound`; `drop_front`, `close_current`, `clear`, `record`, `seq_of`;
 //!   `copied_out`, `current_copied_out`: `packet`, `same`).
+//! - A copy that is begun, or goes on, changes nothing that contracts see (`Ring::begin_copy`, `copy_more`).
 #![tactic(auto)]
 
 mod closed;

@@ -35,6 +35,8 @@
 //! - A look and a switch are the stream's, also a look at what was copied ahead, and so are its counts (`Slot::peek`: `value`,
 //!   `memory`; `peek_out`: `value`, `same`, `memory`; `set_active`: `value`, `same`; `counts`: `value`, `total`, `consumed`,
 //!   `withdrawn`, `snapshot_session`).
+//! - Pages in reserve, what is copied ahead, and what is taken away of a clear change nothing that a slot shows
+//!   (`Slot::keep_spares`, `begin_copies`, `copy_more`, `take_removed`).
 //! - A new seat is empty, and counted, up to `MOST_DRAINERS`. A drainer, counted when it is begun, gets one of each stream
 //!   (`Slot::split`: `answer`, `after`; `Desk::begin_drainer`: `value`, `no_memory`, `memory`; `DrainerBegun::with`: `ok`,
 //!   `refused`, `slot`; `finish`).

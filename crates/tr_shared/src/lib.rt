@@ -40,8 +40,8 @@
 //!   (`HasOperated`)).
 //! - An offer moves its producer's seats by what was answered, and a take the drainer's seat of that stream, whatever other
 //!   threads do meanwhile
-//!   (`Producer::offer` (`IsOfferTo.seats`, `IsOfferTo.serial`, `IsOfferTo.too_big`, `IsOfferTo.spent`), `Drainer::take`
-//!   (`IsTakeFrom.seats`, `IsTakeFrom.some`)).
+//!   (`Offers::offer`, `Producer::offer` (`IsOfferTo.seats`, `IsOfferTo.serial`, `IsOfferTo.too_big`, `IsOfferTo.spent`),
+//!   `Takes::take`, `Drainer::take` (`IsTakeFrom.seats`, `IsTakeFrom.some`)).
 //! - When an offer returns, its producer has published how many of its offers were accepted, also if this one was refused.
 //!   Watchers, if any were planned, read that while producers offer: a count that was published, and never less than before;
 //!   no less than a note's once they learned of it. They wait for no lock, and outlive the session

@@ -38,6 +38,8 @@
 //!   length, and how many offers were accepted before, fewer than 2^62 (`Stream::offer`: `value`, `step`).
 //! - The same holds of every list of calls (`run_stream`: `config`, `stream`, `answers`; within the crate `step`: `config`,
 //!   `memory`).
+//! - Pages in reserve, and what is copied ahead, change nothing that it shows (`Stream::keep_spares`, `begin_copies`,
+//!   `copy_more`).
 //! - In the memory of its ring are the packets that a snapshot shows, the current sub-buffer's ending with its last record
 //!   (`Stream::image`: `packet`, `none` (`packets_standing`)).
 //!

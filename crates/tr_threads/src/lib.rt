@@ -19,10 +19,12 @@
 //!   `LoggedProducer::into_items`: `producer`, `items`).
 //! - If a thread or memory is missing, all seats come back too, in order: each as it was, or with its own work done; if an
 //!   allocation failed, as it was (`drain_all`, `feed`: `came`, `memory`; `feed_and_drain`: `drainers`, `producers`, `memory`).
+//! - An answer of what is taken from, or offered to, is by a relation of its own, which none of these calls knows
+//!   (`Target::take_at`, `Intake::offer_with`).
 //!
 //! The same holds of workers and feeders side by side in one pool, as in a load. All this is proved for everything that can be
-//! taken from and offered to (`Target`, `Intake`), of which a shared session is one instance. Their relations are known to none
-//! of these calls, so an answer can only be that of a call that was made with these values.
+//! taken from and offered to (`Target`, `Intake`), of which a shared session is one instance. So an answer can only be that of
+//! a call that was made with these values.
 //!
 //! # What is only tested
 //!
