@@ -14,8 +14,9 @@
 //! # What is proved
 //!
 //! - Whenever a slot is at rest, its stream is sound and is the one that was planned for its number, none of its parts was
-//!   released, and the totals of its seven ledgers are what the stream counts. This is shown of four of them with the producer at hand, of the consumed and
-//!   the cleared records of each stream once the session is settled, and of the cuts with the desk at hand
+//!   released, and the totals of its seven ledgers are what the stream counts. This is shown of four of them with the producer
+//!   at hand, of the consumed and the cleared records of each stream once the session is settled, and of the cuts with the
+//!   desk at hand
 //!   (`Slot::stream`: `value`, `planned`, `held`; `shows_planned`: `kept`, `consistent`, `planned`; `Slot`: invariant
 //!   (`AreBooksOf`, `IsPlanned`); `Slot::audit`: `own`; `Desk::audit`: `operator`; `Opened::settle`: `taken`, `cleared`).
 //! - For any history that a stream represents, a call on its slot or the desk answers what the history's step answers, and

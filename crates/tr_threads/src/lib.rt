@@ -19,7 +19,7 @@
 //!   `LoggedProducer::into_items`: `producer`, `items`).
 //! - If a thread or memory is missing, all seats come back too, in order: each as it was, or with its own work done; if an
 //!   allocation failed, as it was (`drain_all`, `feed`: `came`, `memory`; `feed_and_drain`: `drainers`, `producers`, `memory`).
-//! - An answer of what is taken from, or offered to, is by a relation of its own, which none of these calls knows
+//! - What a target or an intake may answer is a relation of its own, which none of these calls knows
 //!   (`Target::take_at`, `Intake::offer_with`).
 //!
 //! The same holds of workers and feeders side by side in one pool, as in a load. All this is proved for everything that can be
