@@ -111,7 +111,7 @@ uint32_t trc_stream_fate(trc_stream *, uint64_t serial, tracerd_fate *);
 /* How much the stream added to a trace chunk. CLOSED, NO_PART. */
 uint32_t trc_stream_part(trc_stream *, uint64_t chunk, trc_part *);
 /* Copies bytes of the packets that the stream added to a trace chunk, from a place on, as many as there are and as fit: 0 at the
- * end, and for a released part. The place is then behind them. The rest of the room is as it was. The call takes as long as the
+ * end, and for a released part. The place is then past them. The rest of the room is as it was. The call takes as long as the
  * bytes that it copies. CLOSED, NO_PART. */
 uint32_t trc_stream_text(trc_stream *, uint64_t chunk, trc_place *, uint8_t *room, size_t room_len, uint64_t *copied);
 /* Lets the stream go. */

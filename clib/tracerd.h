@@ -48,7 +48,7 @@
 #define TRACERD_VERSION "0.9.0"
 #define TRACERD_VERSION_NUMBER 900
 
-/* What gcc and clang are told of a call: it is the library's; an answer that nobody looks at hides a loss, or a result that
+/* What gcc and clang learn of a call: it is the library's; an answer that nobody looks at hides a loss, or a result that
  * wasn't written; this pointer, or each one, isn't NULL. */
 #if defined(__GNUC__)
 #define TRACERD_API __attribute__((visibility("default")))
@@ -143,7 +143,7 @@ typedef enum tracerd_mode { TRACERD_DISCARD = 0, TRACERD_OVERWRITE = 1 } tracerd
 TRACERD_API TRACERD_CHECKED TRACERD_POINTER(1) TRACERD_POINTER(2)
 tracerd_status tracerd_new(tracerd_session **session, const char *name, const uint8_t uuid[16], int32_t east, tracerd_kind);
 /* The moment by the session's clock, for offers and calls on it: the wall clock's when the session was made, and since then as
- * much later as CLOCK_MONOTONIC is. So it never goes back, whatever the wall clock is set to; it stands while the machine
+ * much later as CLOCK_MONOTONIC is. So it never goes back, whatever the wall clock is set to; it stops while the machine
  * sleeps. */
 TRACERD_API TRACERD_POINTERS
 uint64_t tracerd_now_of(const tracerd_session *);

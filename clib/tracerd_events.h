@@ -178,7 +178,7 @@ static inline uint8_t *tracerd_put_sequence(uint8_t *at, const void *values, siz
 
 /* ---- Of the language ---- */
 
-/* Whether an id is in its range, and written in decimal: then a digit behind it makes ten times as much. */
+/* Whether an id is in its range, and written in decimal: then a digit after it makes ten times as much. */
 #define TRACERD_IS_ID(id) TRACERD_IS_ID_OF(id)
 #define TRACERD_IS_ID_OF(id) ((id) > 0 && (id) <= 4294967295 && id##0ULL == (id) * 10ULL)
 #define TRACERD_TEXT_OF(word) TRACERD_TEXT_OF_WORD(word)
@@ -205,7 +205,7 @@ static inline uint8_t *tracerd_put_sequence(uint8_t *at, const void *values, siz
 #define TRACERD_ONE(first, replaced) first
 #define TRACERD_MANY(first, replaced, ...) first, __VA_ARGS__
 
-/* what(field) of each field. After the id, each (type, name, ..) stands in parentheses, as arguments do. */
+/* what(field) of each field. After the id, each (type, name, ..) is in parentheses, as arguments do. */
 #define TRACERD_EACH(what, ...)                                                                                           \
     TRACERD_34TH(__VA_ARGS__, TRACERD_EACH32, TRACERD_EACH31, TRACERD_EACH30, TRACERD_EACH29, TRACERD_EACH28,             \
                  TRACERD_EACH27, TRACERD_EACH26, TRACERD_EACH25, TRACERD_EACH24, TRACERD_EACH23, TRACERD_EACH22,          \

@@ -22,7 +22,7 @@
 //! recorded later: so it says all that it has to, also where a ring has overwritten the entry before. A span that is never
 //! entered isn't recorded, nor what follows from what. Its number is used again once it is closed.
 //!
-//! **Fields** stand as `name=value` with spaces between, as `Debug` shows the values. A text ends at a zero byte. Where there
+//! **Fields** are written as `name=value` with spaces between, as `Debug` shows the values. A text ends at a zero byte. Where there
 //! is none it is `-`: of an empty text babeltrace2 2.0.4 shows that of an earlier record.
 //!
 //! **Threads.** A layer has as many producers as it was made with. A thread is lent one at its first record, which follows a
@@ -139,7 +139,7 @@ impl Visit for Said {
     }
 }
 
-/// A text, or what stands for none.
+/// A text, or what is written for none.
 fn or_none(text: &str) -> &str {
     if text.is_empty() {
         "-"

@@ -55,13 +55,13 @@ pub trait Field {
     type Given<'a>: Copy;
     /// How many bytes of it are to need no memory from the heap.
     const ROOM: usize;
-    /// Puts its bytes behind those that are there.
+    /// Puts its bytes after those that are there.
     fn put<const ROOM: usize>(given: Self::Given<'_>, payload: &mut Payload<ROOM>);
 }
 
-/// A number: its bytes stand lowest first.
+/// A number, lowest byte first.
 pub trait Number: Copy {
-    /// Puts its bytes behind those that are there.
+    /// Puts its bytes after those that are there.
     fn put_number<const ROOM: usize>(self, payload: &mut Payload<ROOM>);
 }
 
@@ -167,7 +167,7 @@ pub mod types {
 ///
 /// A field has a type of `docs/FORMATS.md`: `u8` to `u64`, `i8` to `i64`, `x8` to `x64`, `f32`, `f64`, `flag` (a `bool`), `str`
 /// (up to a zero byte), and as the only field `text` or `bytes`; an array is `[u16; 4]`, as many as there are `[u16]`, and
-/// names of a whole number's values stand after its type. An id or an event twice, the id 0, a field twice, or another type
+/// names of a whole number's values follow its type. An id or an event twice, the id 0, a field twice, or another type
 /// doesn't compile. What else declares no event is said by [`Session::declare`].
 ///
 /// A payload is packed on the stack, unless a text in it is long, and copied once from there.

@@ -23,7 +23,7 @@ ghost use Rattle.tr_stream.specs.declared.answers.OfferFault.{OfferFault};
 ghost use Rattle.tr_stream.specs.declared.answers.Offered.{Offered};
 
 /// If each call of a stream is noted in its journal, with its answer, by a seat whose call it is, the journal stays the
-/// stream's: the stream stands for the history of just these calls, each answered as in that history, and it holds what was
+/// stream's: the stream represents the history of just these calls, each answered as in that history, and it holds what was
 /// offered and nothing else. A release keeps this too, though no journal has a line for it. Does nothing.
 pub fn every_call()
     ensures new { (s : StreamState) → StandsFor s new_history → IsJournalOf [] s }

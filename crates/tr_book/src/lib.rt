@@ -13,11 +13,22 @@
 //!
 //! # What is proved
 //!
-//! - Parts are lists of packets with their sums. A released part has no packets, and the sums that it had.
+//! - Parts are lists of packets with their sums. A clear keeps the closed parts, and runs of the current part's packets, and is
+//!   counted. A released part has no packets, and the runs and sums that it had (`Parts::put_back`, `ReadyParts::push`, `cut`,
+//!   `into_parts`, `OpenPart::push`, `Book::note_cleared`; `Parts::clear`: `ok`, `err`; `clear_out`: `packets`, `ok`, `err`;
+//!   `release`: `ok`, `err`, `memory`; `release_out`: `packets`, `ok`, `err`, `memory`; `current`, `cuts`: `value`, `numbered`;
+//!   `Part::bytes`: `value`, `small`).
 //! - A packet's runs are as long as they can be and in order, and none goes over two packets. Of a packet that says no more was
-//!   lost than the one before it, they are known by its first record and its count.
-//! - A call for which an allocation fails leaves the parts as they were. Once parts are ready (`ReadyParts`), adding packets and
-//!   closing the current part take no memory; nor does adding one to a part that was taken out for it (`OpenPart`).
+//!   lost than the one before it, they are known by its first record and its count (`Runs::push_records`, `push_packets`;
+//!   `push_known`, `push_by_lost`; `append`: `ok`, `err`; `of_packets`, `of_packets_by_lost`: `value`, `memory`).
+//! - By runs and parts it is known where a serial's record is or was, and which part was current at its offer (`Part::seq_of`,
+//!   `Run::has`, `Runs::seq_of`, `search` (`RunsRise`), `Parts::seq_cleared`, `place_of`).
+//! - A call for which an allocation fails, of a release only if the part has packets, leaves the parts as they were. Once parts
+//!   are ready (`ReadyParts`), adding packets and closing the current part take no memory; nor does adding one to a part that
+//!   was taken out for it (`Parts::ready`: `ok`, `err`; `take_current`: `part`, `ok`, `err`).
+//! - The counters note what is offered, overwritten, consumed and cleared, and its moment (`Book::note_offer`,
+//!   `note_overwritten`, `note_consumed`, `note_moment`, `note_cleared`).
+//! - What a stream is seen to have has its packets, fewer than 2^64 records (`StreamSnap::new`; `packets`: `value`, `few`).
 #![tactic(auto)]
 
 mod book;

@@ -42,7 +42,7 @@ pub struct Place {
     pub at: u64,
 }
 
-/// Copies bytes of the texts of packets from a place on, as many as there are and as fit, and moves the place behind them. No
+/// Copies bytes of the texts of packets from a place on, as many as there are and as fit, and moves the place past them. No
 /// packet before it is looked at, and none after the last byte. How many bytes these are.
 pub fn copy_on(texts: &[PacketText<Global>], place: &mut Place, room: &mut [u8]) -> u64
     ensures { CopiesOn texts.now place.old place.new result room.old room.new }

@@ -109,7 +109,7 @@ pub extern "C" fn trc_snap_about(alloc: Global, handle: &mut SnapCell, out: &mut
     DONE
 }
 
-/// Copies bytes of the shown packets from a place on, and moves the place behind them.
+/// Copies bytes of the shown packets from a place on, and moves the place past them.
 #[unsafe(no_mangle)]
 pub extern "C" fn trc_snap_text(
     alloc: Global,

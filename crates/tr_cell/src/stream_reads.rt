@@ -104,7 +104,7 @@ pub extern "C" fn trc_stream_part(
     code
 }
 
-/// Copies bytes of the packets that the stream added to a trace chunk, from a place on, and moves the place behind them.
+/// Copies bytes of the packets that the stream added to a trace chunk, from a place on, and moves the place past them.
 #[unsafe(no_mangle)]
 pub extern "C" fn trc_stream_text(
     alloc: Global,

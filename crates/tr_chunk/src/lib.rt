@@ -10,20 +10,26 @@
 //! # What is proved
 //!
 //! - A stream's file is the texts of a part's packets; a part that was released isn't written. Writing it takes no memory. If
-//!   the sink fails, what is written is a prefix of them.
-//! - An archive's name has the civil date and time of its moments, at the session's offset.
+//!   the sink fails (W1), what is written is a prefix of them (`write_part`, `write_texts`).
+//! - So is the metadata written, and if an allocation fails (W2) nothing is (`write_metadata`).
+//! - An archive's name has the civil date and time of its moments, at the session's offset, and a stream's file its channel's
+//!   name and its number (`archive_name`, `stream_file_name`).
 //! - An audit of anyone's bytes succeeds if and only if they are whole packets of the stream with rising numbers and serials,
-//!   and no allocation fails. Otherwise it names the first packet at fault.
-//! - The same holds if the bytes come in feeds of any sizes (`AuditReader`). Then the audit holds one packet's bytes at most,
-//!   and an allocation may fail only where numbers are absent or at a packet of more than 65,536 bytes. A bad header is
-//!   reported once its 80 bytes are there, and all else once the packet is whole.
+//!   and no allocation fails. Otherwise it names the first packet at fault and its first cause, A5 last and only after absent
+//!   numbers (`audit_stream`: `found`, `only`, `fault`).
+//! - The same holds if the bytes come in feeds of any sizes. Then a bad header is reported once its 80 bytes are there, and all
+//!   else once the packet is whole; each later call answers a fault again, and changes nothing. An allocation may fail only
+//!   where numbers are absent or at a packet of more than 65,536 bytes (`FIRST_ROOM`) (`AuditReader::new`: `read` (`HasRead`),
+//!   `counts`; `feed`, `next_piece`: `read`, `answer`, `again`, `counts`; `finish`: `found`, `only`, `fault`, `again`;
+//!   `audit_feeds`: `found`, `only`, `fault`).
+//! - It holds less than a packet, with room for `FIRST_ROOM` bytes (`AuditReader`: invariant (`Keeps`)).
+//! - Gaps are exactly the absent numbers below the last one, in longest runs (`laws::gaps_are_the_absent_numbers`: `absent`,
+//!   `longest`).
 //!
 //! # What is only tested
 //!
-//! Nothing beside the proofs. Tests add a file of two packets, whole, cut to each of the 484 shorter lengths and with each of
-//! its 484 bytes inverted: 968 files, each read whole and in feeds of 1, 7 and 1,000 bytes, with its whole audit or its first
-//! fault. They also add a header that is judged at its last byte, a piece that ends within a packet, pieces in another order,
-//! and a sink that fails after N bytes.
+//! Nothing. Tests add a file of two packets, cut to each shorter length and with each byte inverted, read whole and in feeds of
+//! three sizes, and a sink that fails after N bytes.
 #![tactic(auto)]
 
 mod archive_names;

@@ -12,14 +12,16 @@
 //!
 //! # What is proved
 //!
-//! - What the words of a line ask for is decided by clap's own definition, also of an ordinary line, which is read without
-//!   clap.
+//! Each is said of an answer; a failed allocation is answered as itself.
+//!
+//! - What the words of a line ask for is decided by clap's own definition, also of an ordinary line, which is read without clap
+//!   (`parse`: `asked`, `moment`, `offset`; `parse_by_clap`).
 //! - So is what the program's words ask for, by clap's definition of `script [--events FILE] [--out DIR]`, `load --threads T
 //!   --records R --workers W [--out DIR] [--watch]`, `audit [--archives] DIR`, `describe --events FILE DIR`, `picture DIR` and
-//!   `recover [--uuid UUID] IMAGE DIR`. The numbers of a load are within its limits.
-//! - What a terminal shows before a long load is its definition's text.
-//!
-//! Each is said of an answer; a failed allocation is answered as itself.
+//!   `recover [--uuid UUID] IMAGE DIR`. The numbers of a load are within its limits (`job_of`: `value`, `within`).
+//! - A number is one or more digits and no more, and at most what is asked (`number`: `value`, `within`).
+//! - The program's words come as a list, after its name (`collected`, `words_after`, `with_program`).
+//! - What a terminal shows before a long load is its definition's text (`notice_given`).
 #![tactic(auto)]
 
 mod arguments;

@@ -1,18 +1,17 @@
-//! The metadata of declared events, for archives that are there already.
+//! The metadata of declared events, for archives that are there already, written by any program.
 //!
-//! Below a folder lies `SESSION/archives/ARCHIVE/FILE`, as a survey reads it, written by any program. What is there is judged
-//! first: sessions in order, of each its archives in order, of each archive its metadata and then its streams in order, of each
-//! stream's file its records in order. The first thing that is wrong is the answer, and then nothing is written:
+//! What is there is judged first, as `docs/FORMATS.md` says: sessions in order, of each its archives in order, of each archive
+//! its metadata and then its streams in order, of each stream's file its records in order. The first thing that is wrong is the
+//! answer, and then nothing is written:
 //!
 //! - `Closed`: the folder of a session's archives can't be read.
-//! - `Foreign`: an archive's metadata aren't the recorder's. Its folder can't be read, the file is missing, empty or can't be
-//!   read, it names no identifier, or it has another text. Archives of one session may have identifiers of their own.
-//! - `Unsound`: the file of a stream isn't there, can't be read, or isn't packets of that stream and of the archive's
-//!   identifier, end to end. Whether their numbers and serials rise from packet to packet is no matter here.
+//! - `Foreign`: an archive's metadata aren't the recorder's, or missing. Archives of one session may have identifiers of their
+//!   own.
+//! - `Unsound`: a stream's file isn't there, can't be read, or isn't packets of that stream and of the archive's identifier,
+//!   end to end. Whether their numbers and serials rise is no matter here.
 //! - `Unfit`: a record in such a file has a declared id, and its payload doesn't fit.
 //!
-//! Else each archive gets metadata by which readers show the fields of its records, with its own identifier, in that order.
-//! What isn't named as a session, an archive or a stream's file is passed over.
+//! Else each archive gets metadata by which readers show the fields of its records, with its own identifier.
 //!
 //! # Example
 //!
@@ -26,16 +25,22 @@
 //!
 //! For all folders that report what is in them, and all texts that report what was put:
 //!
-//! - The answer is a function of what is in the folder and of the events (`described_of`), and so is what is put: after `Done`
-//!   the metadata of each archive, in order, and else nothing.
+//! - The answer is a function of what is in the folder and of the events, and so is what is put: after `Done` the metadata of
+//!   each archive, in order, and else nothing (`describe`: `said` (`described_of`), `put` (`texts_of`), `tree`).
 //! - What is wrong with a file is said by lists: of the packets that its bytes start with, end to end, the first record that
-//!   doesn't fit; or else, whether they are all of its bytes. The code holds a piece of the file and one packet.
-//! - If it fails, the metadata of some archives are put, from the first one on. `TooMuch` comes before any is.
+//!   doesn't fit; or else, whether they are all of its bytes, or it breaks off. The code holds a piece of the file and one
+//!   packet (`describe`: `said` (`file_flaw`, `packets_of`, `first_unfit`)).
+//! - If it fails, the metadata of some archives are put, from the first one on. `TooMuch` comes before any is (`describe`:
+//!   `err` (`IsFrontPut`), `too_much`).
+//! - The same holds by a file of declarations, of which the first line that declares nothing is named, and a line says what it
+//!   came to (`describe_by`: `tells` (`TellsTree`), `reads`, `failures`; `declarations_told`: `declares`, `tells`, `fails`,
+//!   `writes`).
 //!
 //! And for all folders and texts:
 //!
-//! - Nothing is put unless the answer is `Done` or a call failed.
-//! - It answers `TooMuch` if and only if the folders failed, and `Write` if and only if a text couldn't be put.
+//! - Nothing is put unless the answer is `Done` or a call failed (`describe`: `done`).
+//! - It answers `TooMuch` if and only if the folders failed, and `Write` if and only if a text couldn't be put (`describe`:
+//!   `reads`, `writes`; `MemoryTexts::new`: `written`, `failures`; `Texts::put`: `ok`, `err`, `failures`).
 //!
 //! # What is only tested
 //!
@@ -44,8 +49,8 @@
 //! file's place at once is the file system's rename. A link to metadata becomes a file, and a file's permissions are those of a
 //! new one.
 //!
-//! Calls of `MemoryTexts` that fail would pass too, since `Texts` says what a failure leaves and not when there is one. Not
-//! promised are that memory is there, and that a call which answers `NoMemory` had to.
+//! Calls of `MemoryTexts` that fail would pass too. Not promised are that memory is there, and that a call which answers
+//! `NoMemory` had to.
 #![tactic(auto)]
 
 mod archives;

@@ -10,9 +10,13 @@
 //!
 //! # What is proved
 //!
-//! - What was packed is what the values of a payload are, and these pack to the payload.
-//! - `fits` says whether a payload has values, by what is known of its id if that is enough.
-//! - A copy has the same events.
+//! - What is read is the events that a text declares, in the order of ids, or the first line that declares none, and why
+//!   (`Events::parse`: `events`, `fault` (`declared`); `of_lines`).
+//! - Each id and each name is there once, and each event can be declared (`Events::list`: `value`, `stand` (`AreDeclared`)).
+//! - What was packed is what the values of a payload are, and these pack to the payload (`packed_values`, `values_packed`).
+//! - `fits` says whether a payload has values, by what is known of its id if that is enough (`Events::fits`, `Event::fits`).
+//! - A copy, in memory of any allocator, has the same events (`Events::copy`, `none`).
+//! - What is written of declared events declares them again (`declared_again`, `push_event_lines`).
 #![tactic(auto)]
 
 mod event;

@@ -2,9 +2,11 @@
 //!
 //! # What is proved
 //!
-//! - For each script in `examples/` itself the definitions give the answer that was worked out by hand. Those in its
-//!   subfolders are only run.
-//! - They do the same for a packet's bytes, for archives' names, and for two files with their audits.
+//! - For each script in `examples/` itself the definitions give the answer that was worked out by hand. Those in its subfolders
+//!   are only run (`every_example`: `tour`, `archives`, `first_run`, `gaps`, `moments`, `nobody`, `overwriting`, `pending`,
+//!   `rotation`, `schedule`, `sizes`, `snapshot`, `stopped`, `empty`).
+//! - They do the same for a packet's bytes, for archives' names, and for two files with their audits (`every_file`: `packet`,
+//!   `size`, `west`, `before`, `archived`, `file`, `audit`, `gaps`, `nothing`, `whole`, `second`, `short`, `magic`, `twice`).
 #![tactic(auto)]
 
 ghost use Rattle.std.specs.Prelude.{◌≡◌, ◌∷◌, [], Some, None, codes, drop, length, map, neg_ℤ, option_map, pos, slice_get, take};

@@ -9,15 +9,21 @@
 //!
 //! # What is proved
 //!
-//! Folders in memory report what is in them, and reading changes none of it. A failure is counted, and a failed allocation
-//! isn't one.
+//! - Folders that report what is in them give its names, files and bytes, and say what can't be read; reading changes none of
+//!   it. A failure is counted, and a failed allocation, or what can't be read, isn't one (`Folders::names_in`: `names`, `seen`,
+//!   `hidden`, `tree`, `failures`; `open`: `opens`, `known`, `tree`, `failures`; `read`: `reads`, `broken`, `tree`,
+//!   `failures`).
+//! - A file is read until the buffer is full or it ends (`read_front`: `front`, `left`, `given`, `count`, `whole`, `broken`,
+//!   `tree`, `failures`).
+//! - Folders in memory have the first folder and file of each path, and what can't be read of them (`MemoryFolders::new`,
+//!   `with_hidden`: `tree`, `left`, `given`, `failures`; `HostFolders::new`: `given`, `failures`).
 //!
 //! # What is only tested
 //!
 //! Of the runtime's file system (`HostFolders`) nothing is known: another path, another of its answers, or calls that find or
 //! give nothing would pass. Runs of the program show its names, files, links, a file that fails as it is read, and what is
 //! neither folder nor file (`examples/audit/run`, `.ci/under-fire`). Calls of `MemoryFolders` that fail would pass too, since
-//! `Folders` says what an answer means and not when there is one, and so would another piece size.
+//! `Folders` says what an answer means and not when there is one.
 #![tactic(auto)]
 
 mod faults;

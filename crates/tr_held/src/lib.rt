@@ -16,10 +16,14 @@
 //!
 //! # What is proved
 //!
-//! - What is taken out of a handle is what was put in, and the handle has nothing then. Its memory is freed with it.
+//! - What is taken out of a handle is what was put in, and the handle has nothing then. Its memory is freed with it
+//!   (`StreamCell::put`, `BookCell::put`, `SnapCell::put`, `AuditCell::put`, `SparesCell::put`, `RemovedCell::put`,
+//!   `EventsCell::put`; `StreamCell::take`, `BookCell::take`, `SnapCell::take`, `AuditCell::take`, `SparesCell::take`,
+//!   `RemovedCell::take`, `EventsCell::take`: `value`, `closed`).
 //! - `Held` is the same of any value and any heap. It is taken apart and put together in one place, and a handle is its three
-//!   fields: no struct of C's may have a type parameter.
-//! - Each handle may pass between threads: what it owns names no thread.
+//!   fields: no struct of C's may have a type parameter (`Held::nothing`, `of`, `into_box`).
+//!
+//! Each handle may pass between threads, since what it owns names no thread: its type is `Send`.
 //!
 //! # What the caller owes
 //!

@@ -19,7 +19,7 @@ use uuid::Uuid;
 /// The number 0xC1FC1FC1, lowest byte first, with which a packet begins.
 const MAGIC: [u8; 4] = [0xC1, 0x1F, 0xFC, 0xC1];
 
-/// The number that stands in memory as a packet's content_size.
+/// The number that is in memory as a packet's content_size.
 fn content_bits(memory: &[u8]) -> u64
     requires { PACKET_HEADER ≤ length memory.now }
     ensures { result ≡ content_bits_in memory.now }
@@ -31,8 +31,8 @@ fn content_bits(memory: &[u8]) -> u64
     }
 }
 
-/// The number that stands in memory as a packet's content_size, if memory begins as a packet does, and a packet of that size may
-/// stand there; the decoder judges the rest.
+/// The number that is in memory as a packet's content_size, if memory begins as a packet does, and a packet of that size may
+/// be there; the decoder judges the rest.
 fn content_at(memory: &[u8]) -> Option<u64>
     ensures bits { IfSome result (λ bits. bits ≡ content_bits_in memory.now) }
     ensures whole { IfSome result (λ bits. bits % 8 ≡ 0) }
@@ -78,8 +78,8 @@ fn packet_of(uuid: &Uuid, bytes: Vec<u8>) -> Option<PacketText>
     Some(PacketText::seal(head, count, bytes))
 }
 
-/// A copy of the packet of this trace that stands at the front of memory, if one does: it is as large as its content says,
-/// whatever stands there as its packet_size, and whatever follows.
+/// A copy of the packet of this trace that is at the front of memory, if one is: it is as large as its content says,
+/// whatever is there as its packet_size, and whatever follows.
 pub(crate) fn packet_at(
     alloc: Global,
     uuid: &Uuid,

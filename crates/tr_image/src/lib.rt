@@ -1,9 +1,9 @@
-//! What stands in an image: in a file of rings that outlives its program, a dump of a program's memory, a copy of a disk, or any
+//! What is in an image: in a file of rings that outlives its program, a dump of a program's memory, a copy of a disk, or any
 //! other bytes.
 //!
 //! A sub-buffer's page is its packet's text after each call, and its size is stored last (tr_subbuf). So whatever became of the
-//! program, its packets are found by their bytes alone: at each place of the image, by the decoder's rules, but that a packet is
-//! as large as its content_size says, whatever stands there as its packet_size (both can't be stored at once).
+//! program, its packets are found by their bytes alone: at each place of the image, by the decoder's rules, but that a packet
+//! is as large as its content_size says, whatever is there as its packet_size (both can't be stored at once).
 //!
 //! # Example
 //!
@@ -14,19 +14,21 @@
 //!
 //! # What is proved
 //!
-//! - Of a file that is read to its end just the packets are answered that its bytes have as an image (`recovered_from`), however it
-//!   is read, and for any image. It is gone through once, by windows of twice the largest packet.
-//! - `laws`: each of them stands in the image, as a packet of the trace; for each packet of the trace that stands there, one of
-//!   its stream and number is answered that has as many records, or more; they are in the order of streams and numbers.
-//! - `named_trace` answers the first trace that the image names (`trace_in`), or the first of an identifier: where a file of rings
-//!   begins (`tracerd rings 1`, a zero byte, and how far from there its metadata is, and how many bytes it has), and that is the
-//!   recorder's metadata of the identifier that it names.
+//! - Of a file that is read to its end just the packets of a trace are answered that its bytes have as an image, however it is
+//!   read, and for any image; of each stream and number the one with the most records. It is gone through once, by windows of
+//!   twice the largest packet (`recovered_packets`: `found` (`recovered_from`), `broken`, `tree`, `failures`).
+//! - Each of them is in the image, as a packet of the trace; for each packet of the trace that is there, one of its stream and
+//!   number is answered that has as many records, or more; they are in the order of streams and numbers
+//!   (`laws::what_is_recovered_stands_there`, `what_stands_there_is_recovered`, `what_is_recovered_is_in_order`).
+//! - The first trace that the image names is answered, or the first of an identifier: where a file of rings begins (`tracerd
+//!   rings 1`, a zero byte, and how far from there its metadata is, and how many bytes it has), and that is the recorder's
+//!   metadata of the identifier that it names (`named_trace`: `found` (`trace_in`), `broken`, `tree`, `failures`).
 //!
 //! # What is only tested
 //!
 //! That a packet in a copy of a page's memory is what the program had offered: programs that record are killed at any moment
-//! (the C library's tests). That packets are answered if memory is there: a call that always answered `NoMemory` would be proved
-//! too. That the memory which is taken is that of the packets which are kept, and of one window.
+//! (the C library's tests). That packets are answered if memory is there: a call that always answered `NoMemory` would be
+//! proved too. That the memory which is taken is that of the packets which are kept, and of one window.
 #![tactic(auto)]
 
 mod image;

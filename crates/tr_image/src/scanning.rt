@@ -19,7 +19,7 @@ use uuid::Uuid;
 /// How many bytes of an image are looked at together: a packet that begins in the first half of them ends among them.
 const WINDOW: usize = 2 * LARGEST_PACKET;
 
-/// Keeps the packets of a trace that stand at the first `until` places of these bytes.
+/// Keeps the packets of a trace that are at the first `until` places of these bytes.
 fn gather(
     alloc: Global,
     uuid: &Uuid,
@@ -39,7 +39,7 @@ fn gather(
     Ok(())
 }
 
-/// The packets of a trace that stand in the open file, which is read through the window.
+/// The packets of a trace that are in the open file, which is read through the window.
 fn gather_all<F: Folders>(
     alloc: Global,
     uuid: &Uuid,
@@ -70,7 +70,7 @@ fn gather_all<F: Folders>(
     }
 }
 
-/// The packets of a trace that stand in an image, the file of this path: of each stream and number the one with the most records,
+/// The packets of a trace that are in an image, the file of this path: of each stream and number the one with the most records,
 /// in the order of streams and numbers. `None` if there is no file. They are copies, so an image that is all packets takes as much
 /// memory.
 ///

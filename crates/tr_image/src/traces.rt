@@ -16,7 +16,7 @@ use tr_record::u64_at;
 use tr_survey::{Naming, naming_by};
 use uuid::Uuid;
 
-/// What a file of rings begins with. Two numbers follow: how far behind its beginning the metadata is, and its size.
+/// What a file of rings begins with. Two numbers follow: how far from its beginning the metadata is, and its size.
 const OPENING: &[u8] = b"tracerd rings 1\0";
 
 /// How many bytes an opening has, with the numbers.

@@ -1,6 +1,5 @@
-//! The tests of what is inside a session of one thread. A module for each of the crates below streams, and of others that
-//! are cheap to prove, in `layers` (names, records, sub-buffers, rings, parts of streams, schedules, snapshots, books of
-//! sessions, ledgers, and lines); packets, the metadata, and the files of trace chunks; worked examples of a stream's calls, and
+//! The tests of what is inside a session of one thread: a module for each of the crates below streams, and of others that are
+//! cheap to prove, in `layers`; packets, the metadata, and the files of trace chunks; worked examples of a stream's calls, and
 //! of sessions, their rotations, snapshots, ticks, runs and audits.
 #![tactic(auto)]
 

@@ -11,14 +11,16 @@
 //!
 //! # What is proved
 //!
-//! - A note adds one line to the journal, with the seat's number, and its entry to the seat's own list, and nothing else.
+//! - A note adds one line to the journal, with the seat's number, and its entry to the seat's own list, and nothing else. New
+//!   seats are numbered on, and a joined one brings its lists (`Journal::note`, `split`, `join`: `journal`, `seat`).
 //! - A seat's list is all that the journal has of its number. If all seats are joined in one, each line is in one of their
-//!   lists, and in one alone.
-//! - Only `open` takes memory.
+//!   lists, and in one alone; what only one seat notes is all in its list, in order (`Journal::note`, `join`, `audit`: `own`
+//!   (`IsSeatOf`); `audit`: `same`; `every_journal`: `whole`, `among` (`AreAllOf`), `alone`; `Agrees`: rule (`AreOne`)).
+//! - A new journal has no line, and seat 0. Only this takes memory (`Journal::open`).
 //!
 //! # What is only tested
 //!
-//! Nothing beside the proofs. That a note costs three plain loads is in no clause.
+//! Nothing. That a note costs three plain loads is in no clause.
 #![tactic(auto)]
 
 mod journal;

@@ -11,10 +11,12 @@
 //!
 //! # What is proved
 //!
-//! - A seat's amount is at most the total. If all seats of a ledger are joined in one, its amount is the total.
-//! - Only with the ledger at hand can a seat be changed: a raise moves its amount and the total alike, and a join or a new
-//!   seat leaves the total as it is.
-//! - Only `open` takes memory. Each call asks for a seat of its own ledger, so a caller that can't show it isn't proved.
+//! - A seat's amount is at most the total. If all seats of a ledger are joined in one, its amount is the total
+//!   (`Ledger::raise`, `raise_by_one`, `join`, `audit`: `share` (`IsSeatOf`); `audit`: `same`; `AddsUp`: rule (`AreCounted`)).
+//! - Only with the ledger at hand can a seat be changed: a raise moves its amount and the total alike, and a join or a new seat
+//!   leaves the total as it is (`Ledger::raise`, `raise_by_one`, `split`, `join`: `ledger`, `seat`).
+//! - A new ledger has total 0 and one whole seat. Only this takes memory. Each call asks for a seat of its own ledger, and that
+//!   a count fits, so a caller that can't show it isn't proved (`Ledger::open`).
 #![tactic(auto)]
 
 mod ledger;

@@ -11,10 +11,13 @@
 //!
 //! # What is proved
 //!
-//! Lines are read whole, however the source cuts them. A script that is too long is refused, so reading ends over every
-//! source. `take_line` asks no source, so whoever reads can answer all that came before more is asked for. The words of a line
-//! are the parts between spaces that aren't empty.
-//! `text_of_line` has the text of a line that is there as a whole, by the same rule.
+//! - Lines are read whole, however the source cuts them. A script that is too long is refused, so reading ends over every
+//!   source. `take_line` asks no source, so whoever reads can answer all that came before more is asked for
+//!   (`LineReader::take_line`: `whole`, `shrinks`, `begun`, `held`, `err`; `read_on`: `whole`, `shrinks`, `last`, `content`,
+//!   `read`, `too_long`, `memory`, `no_failure`, `held`).
+//! - The words of a line are the parts between spaces that aren't empty; a line that is empty or a comment is skipped; the text
+//!   of a line that is there as a whole is found by the same rule (`push_words`: `ok`, `err`; `is_skipped_line`,
+//!   `text_of_line`).
 #![tactic(auto)]
 
 mod line;

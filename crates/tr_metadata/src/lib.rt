@@ -9,8 +9,12 @@
 //! # What is proved
 //!
 //! - By typed metadata a short model of a reader of CTF reads every packet as exactly its records, in order, each with its
-//!   values; records of undeclared ids with all their bytes.
-//! - The metadata text is byte for byte the defined one, and without declared events the one of records alone.
+//!   values; records of undeclared ids with all their bytes
+//!   (`packets_are_read`, `files_are_read`).
+//! - The metadata text is byte for byte the defined one, and without declared events the one of records alone
+//!   (`metadata_text`, `nothing_declared`).
+//! - The events that a metadata text declares are those that it was made of, and a text is known to be of its own events, or
+//!   not (`declared_in`, `declarations_stand`, `is_text_of`).
 //!
 //! # What is only tested
 //!

@@ -10,14 +10,15 @@
 //!
 //! # What is proved
 //!
-//! - What is noted is the step that is given, once.
+//! - What is noted is the step that is given, once (`note`: `journal`, `seat`, `own`).
 //! - If each step at a desk is noted, the noted steps lead from the book that was planned to the session's book, each answered
-//!   there as the book answers it, or a cut or a clear that it lets through by the stream, if no allocation failed (`LeadsTo`,
-//!   `IsStepOf`). What an operator's seat has is then just what its holder did of it.
+//!   there as the book answers it, or a cut or a clear that it lets through by the stream, if no allocation failed. What an
+//!   operator's seat has is then just what its holder did of it (`every_operation`: `new`, `step` (`LeadsTo`, `IsStepOf`),
+//!   `operator` (`IsOperatorOf`)).
 //!
 //! # What is only tested
 //!
-//! Nothing. That whoever makes a step notes it is what the type's invariant of a layer above says, not this crate.
+//! Nothing. That whoever makes a step notes it is what the type's invariant of a layer above says.
 #![tactic(auto)]
 
 mod laws;

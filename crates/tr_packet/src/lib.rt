@@ -12,15 +12,24 @@
 //! # What is proved
 //!
 //! - A packet's bytes are exactly its text. A packet is read if and only if the input begins with such a text, whatever
-//!   follows. Otherwise the first fault of a fixed order is named.
-//! - A page of records, with room before them, becomes the text of their packet, and nothing is copied (`PacketText::seal`).
-//! - No packet's text begins another, so bytes begin with one packet at most.
-//! - The metadata text is byte for byte the documented one.
+//!   follows, and is shown as what it is. Otherwise the first fault of a fixed order is named (`encode_packet`: `text`;
+//!   `decode_packet`: `found`, `only`, `fault`; `size_by_fields`: `size`, `fault`; `PacketView::head`, `count`, `last_serial`,
+//!   `records`: `value`, `packet`).
+//! - A page of records, with room before them, becomes the text of their packet, and nothing is copied; or a packet's text is
+//!   copied, or shown (`PacketText::seal`, `copy_of`; `text`: `text`, `size`; `view`, `count`, `head`: `value`, `packet`;
+//!   `Packets::new`; `PacketText`: invariant (`IsTextOf`)).
+//! - A packet is made exactly if its records make one (`Packet::checked`: `exact`, `value`; `new`, `size`, `head`, `records`:
+//!   `value`, `packet`).
+//! - No packet's text begins another, so bytes begin with one packet at most (`laws::texts_are_prefix_free`: `prefix_free`,
+//!   `one_packet`).
+//! - A packet's header and context, a number, and its end with its size are written over bytes at their places (`write_head`,
+//!   `write_number`, `write_extent`).
+//! - The metadata text is byte for byte the documented one (`metadata_text`).
 //!
 //! # What is only tested
 //!
-//! Nothing beside the proofs. Tests add the 105 bytes of a worked packet, a damaged byte at each place of a packet of two
-//! records, and each fault before the later ones. The gate compares an archive's metadata with the text of `docs/FORMATS.md`.
+//! Nothing. Tests add the 105 bytes of a worked packet, a damaged byte at each place of a packet of two records, and each fault
+//! before the later ones. The gate compares an archive's metadata with `docs/FORMATS.md`.
 #![tactic(auto)]
 
 mod decoding;

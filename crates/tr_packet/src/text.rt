@@ -35,7 +35,7 @@ impl<A: Allocator> Model for PacketText<A> {
 }
 
 impl<A: Allocator> PacketText<A> {
-    /// The packet of this head and these `count` records, whose texts stand in these bytes behind the room for a packet's header
+    /// The packet of this head and these `count` records, whose texts are in these bytes after the room for a packet's header
     /// and context. These are written into that room, and nothing is copied.
     pub fn seal(head: Head, count: usize, mut bytes: Vec<u8, A>) -> PacketText<A>
         requires room { PACKET_HEADER ≤ length bytes.items }

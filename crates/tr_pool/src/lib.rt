@@ -12,17 +12,19 @@
 //!
 //! # What is proved
 //!
-//! - A producer of a shared session has offered as many records more as its feeder's log has items (`every_feed` of
-//!   tr_shared).
 //! - A settled session and the logs agree if and only if each stream's first log has an item for each of its offers, and each
 //!   record that the stream holds has the id and the payload of the item at its serial, and no lesser moment. Otherwise the
-//!   first stream at fault is named.
-//! - The logs of producers that were fed agree with the session that these settle (`every_reconciling`).
-//! - `reconcile` takes no memory.
+//!   first stream at fault is named: its log's length, or else the least wrong serial. The report has the streams' sums. It
+//!   takes no memory (`reconcile`: `agree` (`AgreeBelow`), `wrong` (`IsFirstWrong`), `report` (`report_of`)).
+//! - The logs of producers that were fed agree with the session that these settle (`every_reconciling`: `agree`,
+//!   `nothing_wrong`; `Logged::into_parts`: `producer`, `stream`, `items`).
+//!
+//! That a producer of a shared session has offered as many records more as its feeder's log has items is `every_feed` of
+//! tr_shared.
 //!
 //! # What is only tested
 //!
-//! Nothing beside the proofs. Tests add a log that agrees, one with another id, a shorter one, and no log.
+//! Nothing. Tests add a log that agrees, one with another id, a shorter one, and no log.
 #![tactic(auto)]
 
 mod judging;

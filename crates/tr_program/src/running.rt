@@ -194,7 +194,7 @@ fn wanted_by(uuid: Option<&str>) -> Option<Option<Uuid>>
     }
 }
 
-/// Writes what stands in an image as an archive below a folder.
+/// Writes what is in an image as an archive below a folder.
 fn end_recover<K: ByteSink, D: Disk, F: Folders>(
     alloc: Global,
     out: &mut K,
@@ -303,13 +303,18 @@ fn tell<E: ByteSink>(ending: Ending, err: &mut E) -> u8
     ending.status()
 }
 
-/// Runs the program with the words after its name. The answer is the exit status: 0 if all was done, 1 if a line was
-/// refused, or a line of declarations, or if a load's logs don't agree with its session or one of its calls was refused, or if an
-/// audit found something wrong, or if archives can't be described because of what is there, 2 for a bad command line, 3 for a fault
-/// of input, output, a folder or a file, a script that is too long, no session to audit or to describe, or an image without a packet
-/// of the trace, 4 for a failed allocation or a thread that can't be made. From 2 on `err` gets one line. Archives are made only once the input was read to its
-/// end and answered whole, or a load was reported whole; if one can't be made, those before it stay, and a prefix of its own folder
-/// and files.
+/// Runs the program with the words after its name, and answers the exit status:
+///
+/// - 0: all was done;
+/// - 1: a line was refused, or a line of declarations; a load's logs don't agree with its session, or one of its calls was
+///   refused; an audit found something wrong; archives can't be described because of what is there;
+/// - 2: a bad command line;
+/// - 3: a fault of input, output, a folder or a file; a script that is too long; no session to audit or to describe; an image
+///   without a packet of the trace;
+/// - 4: a failed allocation, or a thread that can't be made.
+///
+/// From 2 on `err` gets one line. Archives are made only once the input was read to its end and answered whole, or a load was
+/// reported whole; if one can't be made, those before it stay, and a prefix of its own folder and files.
 ///
 /// Only a load starts threads and waits for them. If it is watched, it says by `progress` how far it is.
 pub fn run<

@@ -11,16 +11,26 @@
 //!
 //! # What is proved
 //!
-//! - A record's bytes are exactly its text. A record is read if and only if the input begins with such a text.
-//! - `put_all` gives all bytes to a sink, which didn't fail then, or a prefix of them to a sink that failed in that call.
+//! - A record's bytes are exactly its text. A record is read if and only if the input begins with such a text; by `read_raw`
+//!   whatever its moment (`put_rec`, `put_bytes`: `items`; `read_rec`: `found`, `only`; `read_raw`: `found`, `only`, `exact`).
+//! - Bytes are read as records exactly if they are these records' texts, end to end (`Records::new`, `has`; `checked`: `exact`,
+//!   `value`; `text`: `text`, `whole`, `records`; `whole_records_are_read`: `found`, `only`).
+//! - A record has what it was made of, and fits (`Rec::new`, `copy_of`, `view`, `serial`, `moment`, `id`, `payload`, `size`:
+//!   `value`, `fits`; `RecView::new`, `serial`, `moment`, `id`, `payload`, `size`: `value`, `fits`).
+//! - Sources and sinks say what they gave and took. They give what was read and take what is written, if the standard library
+//!   knows the bytes; in memory in pieces of a size (`ByteSource::get`: `given`, `content`, `count`, `end`, `ok`, `err`,
+//!   `failed`; `ByteSink::put`: `taken`, `some`, `count`, `ok`, `err`, `failed`; `ReaderSource::new`: `reader`, `failures`;
+//!   `get`: `read`; `WriterSink::new`: `writer`, `failures`; `put`: `written`; `flush`: `kept`; `MemorySource::new`, `get`:
+//!   `piece`; `MemorySink::new`, `put`: `piece`).
+//! - `put_all` gives all bytes to a sink, which didn't fail then, or a prefix of them to a sink that failed in that call
+//!   (`put_all`: `ok`, `err`, `failed`, `no_failure`).
 //!
 //! # What is only tested
 //!
-//! That a read or a write that is interrupted is a failure and isn't tried again, and that no failure is made up: the
-//! standard library's readers and writers report none, so a `get` or `put` that tries again, or fails without having asked,
-//! meets its contract. So does a `flush` that does nothing or passes over a failure, and a `MemorySink::put` that fails
-//! though memory is there. A test counts the flushes, and tests show each of these. Of real files and terminals nothing is
-//! known.
+//! That a read or a write that is interrupted is a failure and isn't tried again, and that no failure is made up: the standard
+//! library's readers and writers report none, so a `get` or `put` that tries again, or fails without having asked, meets its
+//! contract. So does a `flush` that does nothing or passes over a failure, and a `MemorySink::put` that fails though memory is
+//! there. Tests show each of these. Of real files and terminals nothing is known.
 #![tactic(auto)]
 
 mod bytes;

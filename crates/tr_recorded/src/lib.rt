@@ -5,15 +5,18 @@
 //!
 //! # What is proved
 //!
-//! - What tr_export makes of a session in a folder that was empty is `whole` to a survey (`what_is_written_is_whole`), if the
-//!   session has an archive, no part of its archives was released (as in every session that was shared), its name is one, and, if
-//!   events are declared, its metadata isn't longer than what a survey looks at (`IsShort`). The survey says just its archives,
-//!   its streams, and what each of them lost, as a definition over the session says it (`session_recorded_text`). This holds
-//!   of all folders that list what was made in them, in any order, and nothing else (`Shows`).
-//! - The packets of a stream's parts, none of which was released, are what tr_survey finds no fault in (`AreRecorded`), one
-//!   archive after another: packets of this trace and stream, whose numbers and serials rise, and whose counts of discarded
-//!   records don't fall.
-//! - The folders and files of archives have the paths at which they are read.
+//! - What tr_export makes of a session in a folder that was empty is `whole` to a survey, if the session has an archive, no
+//!   part of its archives was released (as in every session that was shared), its name is one, and, if events are declared, its
+//!   metadata isn't longer than what a survey looks at (`IsShort`). The survey says just its archives, its streams, and what
+//!   each of them lost, as a definition over the session says it; without an archive there is no session. This holds of all
+//!   folders that list what was made in them, in any order, and nothing else (`what_is_written_is_whole`: `whole` (`Shows`,
+//!   `session_recorded_text`), `held`, `none`; `tr_survey::a_recorded_session_is_whole` (`StandsAlone`);
+//!   `a_tree_shows_what_was_made`).
+//! - The packets of a stream's parts, none of which was released, are what tr_survey finds no fault in, one archive after
+//!   another: packets of this trace and stream, whose numbers and serials rise, and whose counts of discarded records don't
+//!   fall (`every_stream_is_recorded` (`AreRecorded`)).
+//! - The folders and files of archives have the paths at which they are read (`archives_are_read_where_they_are_written`:
+//!   `folders`, `files`).
 //!
 //! # What is only tested
 //!

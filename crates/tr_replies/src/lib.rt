@@ -9,8 +9,11 @@
 //!
 //! # What is proved
 //!
-//! Each text is its definition's, byte for byte: of a refusal, of what a rotation, a clear and a release did, of a fate, and the
-//! lines of a status, of archives and of a snapshot. Each is said of an answer; a failed allocation is answered as itself.
+//! Each is said of an answer; a failed allocation is answered as itself.
+//!
+//! - Each text is its definition's, byte for byte: of a refusal, of what a rotation, a clear and a release did, of a fate, and
+//!   the lines of a status, of archives and of a snapshot (`refusal_line`, `archived_line`, `cleared_line`, `released_line`,
+//!   `fate_line`, `status_begun`, `push_row`, `push_archive`, `snapshot_begun`, `push_stream`).
 #![tactic(auto)]
 
 mod archives;

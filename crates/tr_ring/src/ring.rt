@@ -306,7 +306,7 @@ impl<A: Allocator> Ring<A> {
         }
     }
 
-    /// What stands in the memory of the sub-buffer number `i` of those that wait, the oldest first, or of the current one after
+    /// What is in the memory of the sub-buffer number `i` of those that wait, the oldest first, or of the current one after
     /// them: once it has a record, the text of the packet that it becomes. The current one's ends with its last record.
     pub fn image(&self, i: usize) -> &[u8]
         ensures waiting { (b : ClosedBuffer) → slice_get self.now.waiting i ≡ Some b

@@ -63,7 +63,7 @@ impl<A: Allocator> Sealed<A> {
         self.buffer.has(serial)
     }
 
-    /// What stands in its memory.
+    /// What is in its memory.
     pub fn image(&self) -> &[u8]
         ensures { IsShownBy self.now.head self.now.closed.records result.now }
     {

@@ -10,13 +10,14 @@
 //! # What is proved
 //!
 //! - A rotation is due by the timer if the chunk is as old as the period or older; else by size if the sum of the sizes is at
-//!   the limit or above; else it isn't due. The sum stops at the greatest 64-bit number.
-//! - A period or a limit of zero is refused.
+//!   the limit or above; else it isn't due. The sum stops at the greatest 64-bit number (`Schedule::due` (`due_cause`)).
+//! - A period of zero is refused (D1), or else a limit of zero (D2) (`Schedule::new` (`schedule_of`); `every`, `size`: `value`,
+//!   `positive`).
 //!
 //! # What is only tested
 //!
-//! Nothing beside the proofs. Tests add a period and a limit one below and at their numbers, a moment before the chunk's
-//! beginning, and sums beyond the greatest number.
+//! Nothing. Tests add a period and a limit one below and at their numbers, a moment before the chunk's beginning, and sums
+//! beyond the greatest number.
 #![tactic(auto)]
 
 mod cause;

@@ -45,9 +45,8 @@ pub fn every_clear()
         ≡ session_after_clear by_state i (session_of desk.book streams) }
 {}
 
-/// The calls on a stream under its lock are its history's steps: whatever history a stream stands for, what a `Slot` or a
-/// `Desk` answers of it is what that history answers, and what they leave stands for the history after that step. Does
-/// nothing.
+/// For any history that a stream represents, a call of a `Slot` or a `Desk` answers as that history's step does, and the stream
+/// then represents the next. Does nothing.
 pub fn every_step()
     ensures offer { (s : StreamState) (h : History) (moment id : ℕ) (payload : List ℕ) → IsKept s → StandsFor s h
         → (state_offer_answer moment id payload s ≡ history_offer_answer s.config payload h)

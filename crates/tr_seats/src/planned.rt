@@ -21,8 +21,8 @@ use tr_session_book::{SessionBook, SessionFault};
 use tr_stream::Stream;
 use tr_tally::{Tally, Teller, Watcher};
 
-/// A stream on which nothing was done, with its books and their whole seats, which nothing names yet, with its account and the
-/// seats there of its producer and of the desk, and with its teller.
+/// A new stream with its ledgers and their whole seats, before the plan names them, with its account, the seats there of its
+/// producer and of the desk, and its teller.
 /// Contracts see a `PlannedState`.
 #[derive(Drop)]
 pub(crate) struct PlannedStream<A: Allocator = Global> {

@@ -20,35 +20,65 @@
 //!
 //! - What a producer offered is what its stream has: an offer adds just itself, with its answer, to the producer's list. Once
 //!   settled, the stream represents a history whose offers are that list, each answered as it was, and each record that it
-//!   holds has the id and the payload that were offered at its serial, and no lesser moment.
+//!   holds has the id and the payload that were offered at its serial, and no lesser moment
+//!   (`Producer::offer` (`IsOfferTo.seats`); `Shared::settle`, `settle_with`: `accounts` (`AreAccountsOf`), `own`).
 //! - What a drainer took is what the streams have: a take adds just its packet's number, count and chunk to the drainer's list
 //!   of that stream. Once settled, these are takes of a history that the stream represents, and each packet is kept in that
-//!   chunk or was cleared since.
+//!   chunk or was cleared since
+//!   (`Drainer::take` (`IsTakeFrom.seats`); `Shared::settle`, `settle_with`: `packets` (`ArePacketsOf`, `IsTakenFrom`)).
 //! - Once settled, one history of each stream has the offers of its producer and the takes of all drainers, and no others: each
-//!   take is one drainer's, and none is missing.
+//!   take is one drainer's, and none is missing
+//!   (`Shared::settle`, `settle_with`: `histories` (`HaveHistories`, `IsHistoryOf`)).
 //! - What an operator did is what the desk has: a call in its name adds just its steps to its list, each at the moment that was
 //!   given and with its answer. A start or a stop that succeeds has switched every stream, a rotation has begun at its moment,
 //!   cut streams and ended one with the archive that is answered, a clear has cleared every stream, and a snapshot shows the
 //!   moment that was stored.
 //!   If the operator is lent to settling, the settled session's book is what its steps, among others', lead to, and all that was
-//!   done to each stream but offers and takes is what those steps did, each cut at the end of its rotation (`settle_with`).
+//!   done to each stream but offers and takes is what those steps did, each cut at the end of its rotation (`settle_with`)
+//!   (`Shared::operator`; `start_by`, `stop_by`, `set_schedule_by`, `rotate_begin_by`, `rotate_next_by`, `rotate_finish_by`,
+//!   `rotate_by`, `tick_by`, `clear_by`, `snapshot_by`: `steps`; `settle_with`: `same`, `operator` (`IsOperatorOf`), `streams`
+//!   (`HasOperated`)).
 //! - An offer moves its producer's seats by what was answered, and a take the drainer's seat of that stream, whatever other
-//!   threads do meanwhile.
+//!   threads do meanwhile
+//!   (`Offers::offer`, `Producer::offer` (`IsOfferTo.seats`, `IsOfferTo.serial`, `IsOfferTo.too_big`, `IsOfferTo.spent`),
+//!   `Takes::take`, `Drainer::take` (`IsTakeFrom.seats`, `IsTakeFrom.some`)).
 //! - When an offer returns, its producer has published how many of its offers were accepted, also if this one was refused.
 //!   Watchers, if any were planned, read that while producers offer: a count that was published, and never less than before;
-//!   no less than a note's once they learned of it. They wait for no lock, and outlive the session.
+//!   no less than a note's once they learned of it. They wait for no lock, and outlive the session
+//!   (`Producer::offer` (`IsOfferTo.seats`); `tr_tally::Watcher::read`: `rises`, `kept`; `tr_tally::Watcher::learn`: `noted`).
+//! - Just an offer that doesn't fit as declared is refused for its layout (`Producer::offer` (`IsOfferTo.other`,
+//!   `IsOfferTo.fits`)).
 //! - An operator starts, stops, schedules, rotates, clears and ticks the session while its threads run, one hold of the
-//!   desk's lock after another. Each call is refused only by the codes that it names.
+//!   desk's lock after another. Each call is refused only by the codes that it names
+//!   (`Shared::start`, `stop`; `set_schedule`: `answer`, `refused`; `clear`, `rotate`, `rotate_begin`, `rotate_finish`, `tick`:
+//!   `refused`; `rotate_next`: `refused`, `cut`; `start_by`, `stop_by`, `set_schedule_by`, `clear_by`, `rotate_by`,
+//!   `rotate_begin_by`, `rotate_next_by`, `rotate_finish_by`, `tick_by`, `snapshot_by`: `refused`).
 //! - A snapshot shows at the place of each number what some sound stream of the plan has at the snapshot's own moment:
 //!   serials that follow each other up to the last offered one. Of a producer that is lent to it, it shows a stream with just
-//!   that producer's counts, and each record as it was offered.
+//!   that producer's counts, and each record as it was offered
+//!   (`Shared::snapshot`, `snapshot_by`, `snapshot_with`: `moment`, `all`, `shown` (`IsShown`, `IsLookAt`), `refused`;
+//!   `snapshot_with`: `own` (`IsShownWith.records`), `there`, `same`).
 //! - For its mode a snapshot session refuses schedules, clears, rotations and the beginning of one, and a local one
 //!   snapshots; neither is so refused in the other kind of session. In a snapshot session, too, a tick is idle, no rotation
-//!   goes on or ends, and nothing is taken.
+//!   goes on or ends, and nothing is taken
+//!   (`Shared::set_schedule`: `answer`; `clear`, `rotate`, `rotate_begin`, `rotate_next`, `rotate_finish`, `tick`, `snapshot`,
+//!   `snapshot_with`: `mode`; `Drainer::take` (`IsTakeFrom.mode`)).
 //! - Only its sole owner can settle it, and no lock is taken. It is refused for a missing producer if and only if there isn't
 //!   one for each stream. Each stream has just what its producer offered, and at least what the drainers took of it, and holds
-//!   all packets of its chunks: none was released. The totals are the sums over its streams.
-//! - If it isn't settled, producers and drainers come back as they were, and the session is shared again.
+//!   all packets of its chunks: none was released. The totals are the sums over its streams
+//!   (`Shared::settle`, `settle_with`: `missing` (`IsOneEach`), `all`, `planned` (`IsSessionOf.held`), `totals`, `seats`,
+//!   `taken`, `places` (`AddUp`), `consumed` (`WereConsumed`), `snapshot_session`).
+//! - If it isn't settled, producers and drainers come back as they were, and the session is shared again,
+//!   as `SettleFault` has it by its type (`Shared::settle`, `settle_with`: `back`).
+//! - Built, it has one producer for each stream, with nothing offered or published, and the planned watchers. It is refused
+//!   only out of memory (`Shared::build`: `producers`, `memory`; `build_watched`: `producers`, `watchers`, `tally`, `memory`;
+//!   `streams`).
+//! - A new drainer has taken nothing (`Shared::drainer`: `new`, `refused`).
+//! - A pool's takes and offers move seats as they answer. A feeder's producer offered, and published, as many records more as
+//!   its log has; a new one's log is just its accepted offers (`Shared::offer_with` (`IsOffered`), `take_at` (`IsTaken`);
+//!   `every_feed`: `offers` (`HasOffered`), `logs` (`IsLogOf`)).
+//! - A rotation's cuts, with nothing between them, are those of a session of one thread, if each stream is in its place and
+//!   local (`every_rotation` (`AreLocal`)).
 //!
 //! Within the crate the same is proved of what is lent to operators: which stream the pending rotation cuts next, its cut, a
 //! rotation that begins if it is due, and the beginning of a snapshot are each equal to a definition (`next_of`, `cut_next`,
@@ -58,77 +88,43 @@
 //!
 //! # What is only tested
 //!
-//! Contracts can't name a value under a lock: what a call did there shows in its caller's seats alone. A call that is lent no
-//! `Operator` makes the `_by` call with one of its own; only tests show that it does, and that no call adds refusals. Which
-//! locks a call holds, and from when to when, can be read in its few lines of code, and is in no contract: an offer and a take
-//! hold one stream's lock and no other; an operator holds the desk's, and then one stream's at most. Not promised by a call
-//! that takes a lock are:
-//!
-//! - when a take has `Nothing`;
-//! - that nothing is `Misplaced`;
-//! - that a start, a stop, a schedule, a clear or a step of a rotation does anything if no operator is lent;
-//! - when a tick of a local session rotates, and why; how many streams a rotation cuts itself, since another operator may have
-//!   cut some of them;
-//! - how much later than the moment given a snapshot's is;
-//! - that the other streams of a snapshot are shown with all their records, and their ids and payloads;
-//! - in which order the streams of a session lie that isn't settled, and which stream `hold_stream` holds;
-//! - which lock is held from when to when, and that a wait ends.
-//!
+//! Contracts can't name a value under a lock: what a call did there shows in its caller's seats alone. Which locks a call
+//! holds, and from when to when, can be read in its few lines of code, and is in no contract: an offer and a take hold one
+//! stream's lock and no other; an operator holds the desk's, and then one stream's at most. Only tests show that a call that is
+//! lent no `Operator` makes the `_by` call with one of its own, and that no call adds refusals. That a wait ends isn't claimed.
 //! So these bodies meet the contracts:
 //!
-//! - an offer that is always `Misplaced`, and a take that is always refused;
-//! - if no operator is lent: a start, a stop, a schedule, a clear or a rotation that only answers, and a start at another moment;
+//! - an offer that is always `Misplaced`, and a take that is always refused: when a take has `Nothing`, and that nothing is
+//!   `Misplaced`, isn't promised;
+//! - if no operator is lent: a start, a stop, a schedule, a clear or a step of a rotation that only answers, and a start at
+//!   another moment;
 //! - any call that does something more at the desk in another operator's name, or takes in another drainer's;
 //! - a `rotate_next_by` that answers `AllCut` without looking, or is always refused as `NotPending`, and so a `rotate_by` that
 //!   begins and is refused then; a `tick_by` or a `clear_by` that is always refused by one of its codes;
 //! - a drainer, a `build` or a snapshot that is always refused, or a call with an operator that is refused for a stream that
 //!   isn't in its place or out of memory;
-//! - a tick that is always idle, and a snapshot without packets (except of its producer's stream), or whose moment isn't stored
-//!   if no operator is lent;
-//! - a `hold_stream` that holds nothing, or the desk too;
-//! - a `settle` that is always refused by E2 or E3 once all producers are there;
-//! - a `build` or a `settle` that does something more at the desk or to the slots, as to set a schedule or to stop the
-//!   session.
+//! - a tick that is always idle: when a local session's rotates, and why, isn't promised, nor how many streams a rotation cuts
+//!   itself, since another operator may have cut some of them;
+//! - a snapshot that shows of other streams than its producer's no packets, or others' ids and payloads, or whose moment is
+//!   much later than the one given, or isn't stored if no operator is lent;
+//! - a `hold_stream` that holds nothing, another stream, or the desk too;
+//! - a `settle` that is always refused by E2 or E3 once all producers are there, and gives the streams back in any order;
+//! - a `build` or a `settle` that does something more at the desk or to the slots, as to set a schedule or to stop the session.
 //!
-//! For these, tests (tr_shared_tests) show:
+//! Tests (tr_shared_tests) show for these: a session's offers, and what is refused, from start to stop; that a start and a stop
+//! which are refused switch no stream; the records of a ring after settling; the most drainers, and one more; a session that
+//! isn't settled without a producer and without a drainer, and is then; watchers beside offers, beside a held lock, and after
+//! settling; four producers' threads, two drainers' and two operators', in both modes, settled with what the threads counted,
+//! each archive once and each file's gaps just the overwritten packets; rotations and ticks with the answers of the same
+//! script; and snapshots of three streams, packet by packet, with a producer and without one, whose open packets end at the
+//! moment that is stored, or at their stream's last if that is later.
 //!
-//! - a session's offers between start and stop, and what is refused, a payload that is too long for a session that isn't
-//!   started as one that takes no offers;
-//! - that a start and a stop which are refused switch no stream, and that the first archive begins at the first start;
-//! - the moments, ids and payloads of a ring's records after settling, the longest payload among them;
-//! - as many drainers as there may be, and one more;
-//! - a session that isn't settled without a producer and without a drainer, goes on after that, and is settled with all;
-//! - a watcher that reads while two producers' threads offer, one that reads a stream whose lock another thread holds, and one
-//!   that reads and learns after the session is settled;
-//! - four producers' threads and two drainers' on four streams, in both modes, settled with what the threads counted;
-//! - a rotation between whose cuts records are offered and taken, one of a stopped session, and ticks by period and by size,
-//!   each with the answers of the same script; snapshots of three streams, and those of `examples/snapshot.script`, with the
-//!   producer and without it;
-//! - four producers' threads, two drainers' and two operators', which rotate and tick, in both modes: the archives are
-//!   numbered one after another and hold all that was consumed, and each stream's files pass an audit whose gaps are the
-//!   overwritten packets;
-//! - that a snapshot shows all streams, with the producer of any of them or without one (`snapshots.rt`): of three streams,
-//!   of which one has overwritten packets, each packet with its number, its beginning, its end and its records; an open
-//!   packet ends at the moment that is stored, even if the snapshot was asked for at an earlier one, or at its stream's last
-//!   moment if that is later.
-//!
-//! And of threads that meet at one session of four streams, each test failing by a name of its own and bounded in turns
-//! (`contention`):
-//!
-//! - two operators rotate 100 times each while four producers offer and a drainer takes: each answer is an archive or S4, and
-//!   the archives of both together are those of the settled book, each once;
-//! - in each of 100 rotations two operators cut until all is cut: together they cut streams 0 to 3, once each;
-//! - while the last stream is held, two threads start the session, and later two stop it: none is answered before the hold
-//!   ends, and then one is refused, as after the other;
-//! - while stream 0 is held, a rotation and a take from it are begun, and 100 offers and 100 takes of stream 1 are answered
-//!   before the hold ends, and that take isn't;
-//! - a session isn't settled without a producer (E1), without a producer and a drainer (E1), or without a drainer (E2), and
-//!   is settled with what came back.
-//!
-//! Nothing but these tests shows that a hold of a stream leaves the other streams and the desk free, and that a start and a
-//! stop hold the desk until the last stream is switched. No test can show that a snapshot holds the desk until all streams
-//! are shown, that a tick asks and begins under one hold, or that a whole rotation lets it go between its steps: the one that
-//! waits can't be told from one that isn't there yet.
+//! Threads that meet at one session (`contention`): two operators rotate 100 times each, and each archive is there once; two
+//! cut each rotation's streams, once each; while the last stream is held, a start and a stop aren't answered; while stream 0 is
+//! held, 100 offers and takes of stream 1 are. Nothing but these tests shows that a hold of a stream leaves the other streams
+//! and the desk free, and that a start and a stop hold the desk until the last stream is switched. No test can show that a
+//! snapshot holds the desk until all streams are shown, that a tick asks and begins under one hold, or that a whole rotation
+//! lets it go between its steps: one that waits looks like one that isn't there yet.
 #![tactic(auto)]
 
 mod clearing;

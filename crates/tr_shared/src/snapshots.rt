@@ -63,8 +63,8 @@ impl<N: Names, A: Allocator + Copy> Shared<N, A> {
         Ok(Snapshot::new(stored, snaps))
     }
 
-    /// The same, which shows of the producer's stream just what the producer offered and wasn't overwritten: no one offers on
-    /// that stream meanwhile, since the producer is lent.
+    /// A snapshot that shows of the producer's stream just what the producer offered, but the overwritten: no one offers on that
+    /// stream meanwhile, since the producer is lent.
     ///
     /// # Errors
     ///

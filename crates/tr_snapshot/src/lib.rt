@@ -10,14 +10,15 @@
 //!
 //! # What is proved
 //!
-//! - A look says which record is the oldest that it shows, and how many records it shows.
-//! - It is written as exactly the texts of its packets, without memory. If the sink fails, what is written is a prefix of
-//!   them.
+//! - A look says which record is the oldest that it shows, and how many records it shows (`Snapshot::new`, `oldest_serial`
+//!   (`oldest_in`); `count`: `shown`, `counted`).
+//! - It is written as exactly the texts of its packets, without memory. If the sink fails (W1, and nothing else), what is
+//!   written is a prefix of them (`write_snap`).
 //!
 //! # What is only tested
 //!
-//! Nothing beside the proofs. Tests add the 512 bytes of a look with two packets, which are read again, a look without
-//! packets, and a sink that fails after N bytes.
+//! Nothing. Tests add the 512 bytes of a look with two packets, which are read again, a look without packets, and a sink that
+//! fails after N bytes.
 #![tactic(auto)]
 
 mod shown;

@@ -5,7 +5,7 @@ ghost use Rattle.tr_stream.specs.Fates.{loss_of};
 
 use tr_terms::Mode;
 
-/// What became of an accepted offer, as things stand.
+/// What became of an accepted offer, as things are now.
 #[derive(Clone, Copy, Debug, PartialEq, Eq)]
 pub enum Fate {
     /// The ring was full and discarded it.

@@ -5,10 +5,16 @@ ghost use Rattle.tr_stream.specs.Laws.{chunk_of, cleared_of, kept_of, Rising, Cl
 
 use std::alloc::Allocator;
 
-/// Every list of calls leads to a history in which each accepted offer is in one place, what is kept has rising numbers and
-/// serials, every block before a kept one is kept, was overwritten or was cleared, and a trace chunk keeps what came to it
-/// between its cuts and wasn't cleared since; without a clear nothing is cleared; and in a snapshot session nothing is
-/// consumed, nothing is cleared, and nothing is cut. Does nothing.
+/// Every list of calls leads to a well-formed history, in which
+///
+/// - each accepted offer is in one place;
+/// - what is kept has rising numbers and serials;
+/// - every block before a kept one is kept, was overwritten or was cleared;
+/// - a trace chunk keeps what came to it between its cuts and wasn't cleared since;
+/// - without a clear nothing is cleared;
+/// - in a snapshot session nothing is consumed, cleared or cut.
+///
+/// Does nothing.
 pub fn every_run<A: Allocator>()
     ensures well_formed { (c : StreamConfig) (events : List (StreamEvent A)) → IsUsable c
         → IsWellFormed (history_after_events c events new_history) }

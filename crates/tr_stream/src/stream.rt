@@ -277,8 +277,8 @@ impl<A: Allocator + Copy> Stream<A> {
         (self.ring.waiting() + current).saturating_sub(self.spares.len())
     }
 
-    /// What stands in the memory of the sub-buffer number `i` of those that wait, the oldest first, or of the current one after
-    /// them: the text of a packet, or, as long as the current one has no record, bytes in which none stands. A program that is
+    /// What is in the memory of the sub-buffer number `i` of those that wait, the oldest first, or of the current one after
+    /// them: the text of a packet, or, as long as the current one has no record, bytes in which none is. A program that is
     /// killed leaves these.
     pub fn image(&self, i: usize) -> &[u8]
         ensures packet { (p : Contents) → slice_get (packets_standing self.now) i ≡ Some p → IsPacket p × (result.now ≡ packet_text p) }

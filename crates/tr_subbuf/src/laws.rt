@@ -13,8 +13,8 @@ ghost use Rattle.tr_subbuf.specs.Stores.{NoneStands, Stands, after_store, after_
 ghost use Rattle.tr_subbuf.specs.SubBuffer.{ending, losing};
 ghost use Rattle.tr_terms.specs.declared.limits.TheConstants.{PACKET_HEADER};
 
-/// After each of the stores of a `put` the packet of the records before stands there, ending as before or with the new record, or
-/// that of the records after, whatever lies behind them in the page: never a part of a record.
+/// After each of the stores of a `put` the packet of the records before is there, ending as before or with the new record, or
+/// that of the records after, whatever follows them in the page: never a part of a record.
 pub fn a_put_is_whole_at_each_store()
     ensures { (h : Head) (es : List Entry) (e : Entry) (stale : List ℕ) (k : ℕ) → IsPacket (contents h es)
         → IsPacket (contents (ending e.moment h) es) → IsPacket (contents (ending e.moment h) (es ++ e ∷ []))
@@ -24,7 +24,7 @@ pub fn a_put_is_whole_at_each_store()
         ⊎ Stands (contents (ending e.moment h) (es ++ e ∷ [])) (after_stores (take k (put_stores (packet_size (contents h es)) e)) (packet_text (contents h es) ++ stale))) }
 {}
 
-/// After each of the stores of a `begin` no packet stands there, or that of its record, whatever lies behind the header in the
+/// After each of the stores of a `begin` no packet is there, or that of its record, whatever follows the header in the
 /// page.
 pub fn a_first_record_is_whole_at_each_store()
     ensures { (h : Head) (e : Entry) (memory : List ℕ) (k : ℕ) → content_bits_in memory ≡ 0
@@ -45,7 +45,7 @@ pub fn a_loss_is_noted_by_one_store()
         → Stands (contents (losing lost h) es) (after_store (store LOST_AT (to_le_bytes w64 lost)) (packet_text (contents h es) ++ stale)) }
 {}
 
-/// A page is emptied by one store: then no packet stands there.
+/// A page is emptied by one store: then no packet is there.
 pub fn an_empty_page_shows_nothing()
     ensures { (h : Head) (es : List Entry) (stale : List ℕ) → IsPacket (contents h es)
         → NoneStands (after_store (store CONTENT_SIZE_AT (to_le_bytes w64 0)) (packet_text (contents h es) ++ stale)) }

@@ -19,7 +19,7 @@ use tr_record::{RecView, Records, put_bytes, put_rec};
 use tr_terms::Moment;
 use tr_terms::limits::{LARGEST_PACKET, PACKET_HEADER, RECORD_HEADER};
 
-/// The texts of records, in the order in which they came, behind a packet's header and context, and the most bytes that they may
+/// The texts of records, in the order in which they came, after a packet's header and context, and the most bytes that they may
 /// have as a packet. Its memory is taken once, for all of its size: so the page can become the packet's text. Once it has a
 /// record, the bytes are that text after each call. Contracts see a `SubBuffer`.
 #[derive(Drop)]
@@ -50,7 +50,7 @@ impl<A: Allocator> Model for SubBuf<A> {
 /// overflows, and where a payload's length is known to the compiler, the test for it is gone.
 const LONGEST_PAYLOAD: usize = usize::MAX / 2 - RECORD_HEADER;
 
-/// A sum of two bytes, one where a packet's header stands and one where its first record does.
+/// A sum of two bytes, one where a packet's header is and one where its first record does.
 fn first_bytes(bytes: &[u8]) -> u16 {
     match (bytes.first(), bytes.get(PACKET_HEADER)) {
         (Some(&header), Some(&record)) => u16::from(header) + u16::from(record),
@@ -113,7 +113,7 @@ fn renumber<A: Allocator>(bytes: &mut Vec<u8, A>, at: usize, number: u64)
     write_number(bytes, at, number);
 }
 
-/// Writes a packet's header and context over those that stand there, with a size of 0.
+/// Writes a packet's header and context over those that are there, with a size of 0.
 fn write_front<A: Allocator>(bytes: &mut Vec<u8, A>, head: &Head)
     requires header { PACKET_HEADER ≤ length bytes.old.items }
     requires uuid { length head.now.uuid ≡ 16 }
@@ -237,8 +237,8 @@ impl<A: Allocator> SubBuf<A> {
         self.records().any(|r| r.serial() == serial)
     }
 
-    /// What stands in its memory: once it has a record, the text of the packet of its head and its records, and before, bytes in
-    /// which no packet stands. While a call is under way, the size that stands there is that before or after it.
+    /// What is in its memory: once it has a record, the text of the packet of its head and its records, and before, bytes in
+    /// which no packet is. While a call is under way, the size there is that before or after it.
     pub fn image(&self) -> &[u8]
         ensures { IsShownBy self.now.head self.now.records result.now }
     {
@@ -285,7 +285,7 @@ impl<A: Allocator> SubBuf<A> {
         renumber(&mut self.bytes, LOST_AT, lost);
     }
 
-    /// Removes all records, and keeps the memory, in which no packet stands then.
+    /// Removes all records, and keeps the memory, in which no packet is then.
     pub fn reset(&mut self)
         ensures { self.new ≡ empty_buffer self.old.size }
     {

@@ -1,24 +1,13 @@
 //! The survey of a folder of archives: what they hold and what is wrong with them, session by session, as a text.
+//! `docs/FORMATS.md` has each line, and what is passed over.
 //!
-//! Below the folder lies `SESSION/archives/ARCHIVE/FILE` for each session, archive and file. A name that isn't of a session,
-//! an archive or a stream's file is passed over, and so is a file in place of a folder; if it isn't of a session and has a
-//! folder `archives`, a line says so. The text is a function of what is there (`survey_of`), and so is the number of faults,
-//! one for each line that begins with `fault`:
+//! The text is a function of what is there (`survey_of`), and so is the number of faults, one for each line that begins with
+//! `fault`. By the definitions: `Heads` of archives as a whole, `Streams` of what is found packet by packet, `Losses` of the
+//! records between which others were discarded, `Identifiers` of the session's identifier, `Sums` of what each archive adds.
+//! What is judged of a packet (`Tally`, `cause_of`, `discarded`, `unplaced`) is public, so that another reading of the files,
+//! as a picture, judges by the same rules.
 //!
-//! - `Heads` says what is wrong with archives as a whole: numbers that are missing or there twice, an archive that doesn't
-//!   begin when the one before it ends, metadata that aren't the recorder's of the session's identifier, and streams that have
-//!   no file anywhere.
-//! - `Streams` says what is found packet by packet: numbers that are absent, and between which packets; a packet at fault,
-//!   after which the next file is judged anew; a file that is missing or can't be read.
-//! - `Losses` says between which records others were discarded: those took the serials that are missing. Where serials don't
-//!   tell it, `Streams` says between which packets.
-//! - `Identifiers` says which identifier is the session's: the one that most archives' metadata name, or, if none names one,
-//!   the one that most files of streams begin with. A packet of another one is at fault.
-//! - `Sums` says, if that is asked for, what the files of each archive add to the counts of their streams.
-//! - What it judges of a packet (`Tally`, `cause_of`, `discarded`, `unplaced`) is public, so that another reading of the files, as
-//!   a picture, judges by the same rules.
-//! - Of metadata the first `LONGEST_METADATA` bytes are looked at. A folder `archives` without an archive is a session with
-//!   `uuid none archives 0`, and no fault. If two channels have a stream of the same number, each is a stream.
+//! A folder `archives` without an archive is a session with `uuid none archives 0`, and no fault.
 //!
 //! # Example
 //!
@@ -31,23 +20,33 @@
 //! For all folders that report what is in them:
 //!
 //! - What goes out is a function of what is in the folder, which short definitions give line by line, and so is the answer:
-//!   how many faults were reported, that there is no session, or that the folder can't be read; then nothing went out.
+//!   how many faults were reported, that there is no session, or that the folder can't be read; then nothing went out
+//!   (`survey`: `tells` (`TellsFolder`, `survey_of`, `identity_of`, `head_told`, `streams_told`, `file_told`, `bytes_told`,
+//!   `sums_of`), `tree`).
 //! - If it fails, a prefix of just that text went out. What can't be read below the folder is no failure: it is reported as a
-//!   fault, and the survey goes on.
-//! - It answers `TooMuch` if and only if the folders failed, and `Write` if and only if the output did.
+//!   fault, and the survey goes on
+//!   (`survey`: `err` (`HasToldPrefix`), `tells`).
+//! - It answers `TooMuch` if and only if the folders failed, and `Write` if and only if the output did
+//!   (`survey`: `reads`, `writes`).
 //! - The names that the recorder gives to archives and files are read as what they say, and so is the identifier in the
-//!   metadata that it writes, if that isn't longer than what is looked at (`IsShort`: it isn't without declared events).
+//!   metadata that it writes, if that isn't longer than what is looked at (`IsShort`: it isn't without declared events)
+//!   (`laws::a_file_is_named_for_its_stream`, `an_archive_is_named_for_its_number`; `metadata_name_their_trace`: `plain`,
+//!   `typed`).
 //! - Of a stream whose files hold packets which its audit passes, with counts of discarded records that don't fall, no fault is
 //!   reported, but just where numbers are absent, what was lost, and its counts. A session that is below the folder as the
-//!   recorder writes it, with nothing missing and nothing beside it (`StandsAlone`), is `whole`.
+//!   recorder writes it, with nothing missing and nothing beside it (`StandsAlone`), is `whole`
+//!   (`a_recorded_stream_has_no_fault`: `told`, `none`; `a_recorded_session_is_whole` (`StandsAlone`)).
+//! - What another reading of the files asks for is as the survey has it: the sessions, archives and streams of a folder, and
+//!   the identifier of each session (`has_archives`: `is`, `tree`, `failures`, `writes`; `archives_among`: `archives`;
+//!   `streams_among`: `streams`; `listing_at`: `is`; `naming_of`: `naming`; `namings_of`: `namings`; `identity_of`:
+//!   `identity`).
 //!
 //! # What is only tested
 //!
-//! Tests show what each line says of what is wrong and of what is lost; folders that fail at each of their calls, where all
-//! lines that were known before went out (no clause says that a line goes out before the next file is read), and an output
-//! that fails at each byte; names that are passed over; folders and files that can't be read. Runs of the program show each
-//! damage in real folders (`examples/audit/run`), links that lead to themselves, a file without permission and a pipe
-//! (`.ci/under-fire`). Not promised are:
+//! Tests show what each line says; folders that fail at each of their calls, where all lines that were known before went out
+//! (no clause says that a line goes out before the next file is read), and an output that fails at each byte; what is passed
+//! over, and what can't be read. Runs of the program show each damage in real folders (`examples/audit/run`), links that lead
+//! to themselves, a file without permission and a pipe (`.ci/under-fire`). Not promised are:
 //!
 //! - that memory is there, and that a survey which answers `NoMemory` had to;
 //! - how many bytes of an archive's metadata are read (`LONGEST_METADATA`, which clauses name), beyond those that the recorder

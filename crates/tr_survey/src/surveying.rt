@@ -89,7 +89,7 @@ fn tell_passed<F: Folders, K: ByteSink>(
     put_bytes(sink, &line)
 }
 
-/// Reports what has this name, which a session can have, if it is a session. How many faults there are then; None if there was
+/// Reports the session of this name, if there is one. How many faults there are then; None if there was
 /// no session yet.
 fn tell_able<F: Folders, K: ByteSink>(
     alloc: Global,

@@ -11,9 +11,11 @@
 //!
 //! # What is proved
 //!
-//! - A name is 1 to 64 letters, digits and underscores, a letter first, and every such text is one. It has no slash and no
-//!   dot, so no name leads to another folder.
-//! - A moment, an offset and a geometry are made exactly of the numbers within their limits.
+//! - A name is 1 to 64 letters, digits and underscores, a letter first, and every such text is one. It has no slash and no dot,
+//!   so no name leads to another folder (`Name::new`: `succeeds`, `value`; `as_str`: `value`, `name`, `plain`).
+//! - A moment, an offset and a geometry are made exactly of the numbers within their limits, and their numbers are within them
+//!   (`Moment::new`: `succeeds`, `value`; `get`, `later`: `value`, `within`; `OffsetMinutes::new`: `succeeds`, `value`; `get`:
+//!   `value`, `within`; `Geometry::new` (`geometry_of`); `size`, `count`: `value`, `within`).
 //!
 //! # What is only tested
 //!

@@ -2,7 +2,7 @@
 
 use std::marker::Model;
 
-/// What is asked before each turn of a worker, and told after it.
+/// What is asked before each turn of a worker, and hears of it after it.
 pub trait Gate {
     ghost use Rattle.std.specs.Prelude.{ℕ, Bool};
 

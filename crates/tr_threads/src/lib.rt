@@ -12,15 +12,19 @@
 //!
 //! # What is proved
 //!
-//! - Each worker takes from its streams in rounds, each time after a gate let it, and ends when the gate doesn't. All seats
-//!   come back, in order, also if a thread or memory is missing.
-//! - Each feeder offers its work in order, every item with its moment, its id and its payload; its log has the items that
-//!   were accepted, and no others. All producers come back, in order, also if a thread or memory is missing.
-//! - The same holds of each if both are side by side in one pool, as in a load.
+//! - Each worker takes from its streams in rounds, each time after a gate let it, and ends when the gate doesn't, or after 2^62
+//!   turns. All seats come back, in order (`drain_all`, `feed_and_drain`: `worked`).
+//! - Each feeder offers its work in order, every item with its moment, its id and its payload; its log has the items that were
+//!   accepted, and no others. All producers come back, in order (`feed`, `feed_and_drain`: `len`, `fed`;
+//!   `LoggedProducer::into_items`: `producer`, `items`).
+//! - If a thread or memory is missing, all seats come back too, in order: each as it was, or with its own work done; if an
+//!   allocation failed, as it was (`drain_all`, `feed`: `came`, `memory`; `feed_and_drain`: `drainers`, `producers`, `memory`).
+//! - What a target or an intake may answer is a relation of its own, which none of these calls knows
+//!   (`Target::take_at`, `Intake::offer_with`).
 //!
-//! All this is proved for everything that can be taken from and offered to (`Target`, `Intake`), of which a shared session is
-//! one instance. Their relations are known to none of these calls, so an answer can only be that of a call that was made with
-//! these values.
+//! The same holds of workers and feeders side by side in one pool, as in a load. All this is proved for everything that can be
+//! taken from and offered to (`Target`, `Intake`), of which a shared session is one instance. So an answer can only be that of
+//! a call that was made with these values.
 //!
 //! # What is only tested
 //!
@@ -32,19 +36,10 @@
 //!   gate;
 //! - that an offer or a take is accepted.
 //!
-//! Tests (tr_shared_tests: `feeding.rt`, `gates.rt`, `intakes.rt`) show:
-//!
-//! - records of all lengths come through, with their moments, ids and payloads, all in one packet, and all were offered;
-//! - an intake that refuses some of two feeders' items was offered all of them, and the logs have the others;
-//! - two workers that wait for each other at their first turn both take;
-//! - three workers of two streams, one of two, and none: each asks its gate before a turn, takes, and reports the same turn
-//!   to the gate after it, in order, until the gate ends it; the one without a stream asks nothing; where there are none,
-//!   none come back, and nothing is missing;
-//! - a worker and two feeders wait for each other: the offers until the gate was asked, and the gate until both feeders are
-//!   at their first offer. Two feeders are counted as at work then, and once none is, all their work is offered.
-//!
-//! In no test does an allocation of a pool fail, since it takes its memory from the C library alone. What comes back then is
-//! proved (`memory`), and runs of the program with too little memory end as stated (`.ci/under-fire`).
+//! Tests (tr_shared_tests: `feeding.rt`, `gates.rt`, `intakes.rt`) show records of all lengths, an intake that refuses some,
+//! workers that wait for each other, each turn asked of its gate and reported to it, and feeders that are counted as at work.
+//! In no test does an allocation of a pool fail, since it takes its memory from the C library alone: what comes back then is
+//! proved (`memory`), and `.ci/under-fire` runs the program with too little.
 #![tactic(auto)]
 
 mod draining;
