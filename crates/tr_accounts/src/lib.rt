@@ -16,6 +16,7 @@
 //!   payload of the accepted offer at its serial, and no lesser moment (`IsJournalOf`).
 //! - The offers in the journal, refused ones too, are then the producer's list, the operations the desk's, and each take is in
 //!   one drainer's list. The packets that were taken are the history's, with the counts and chunks that were answered.
+//! - Each record that the stream holds has the greatest moment that its accepted offers and its cuts gave up to it (`IsStored`).
 //! - A log with an item for each accepted offer agrees with the stream.
 //!
 //! # What is only tested
@@ -27,6 +28,6 @@ mod laws;
 mod notes;
 mod step;
 
-pub use laws::{every_call, every_log, every_seat, every_take};
+pub use laws::{every_call, every_log, every_moment, every_seat, every_take};
 pub use notes::{note_clear, note_cut, note_offer, note_switch, note_take};
 pub use step::StreamStep;
