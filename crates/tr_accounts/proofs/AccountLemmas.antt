@@ -27,9 +27,11 @@ use Rattle.tr_terms.specs.SessionModes.{by_session_mode}
 use Rattle.tr_terms.specs.declared.session_mode.SessionMode.{SessionMode}
 use Rattle.tr_terms.specs.declared.session_mode.SessionMode.TheVariants.{Local, Snapshot}
 use Rattle.tr_accounts.proofs.HoldLemmas.{holds-new}
+use Rattle.tr_accounts.proofs.MomentLemmas.{stores-clear, stores-cut, stores-look, stores-new, stores-offer, stores-release, stores-switch, stores-take}
 use Rattle.tr_accounts.proofs.OfferedLemmas.{keeps-clear, keeps-cut, keeps-look, keeps-offer, keeps-release, keeps-switch, keeps-take}
 use Rattle.tr_accounts.specs.Accounts.{IsAccounted, history_of}
 use Rattle.tr_accounts.specs.Holds.{HoldsOffers}
+use Rattle.tr_accounts.specs.Moments.{StoresMoments}
 use Rattle.tr_accounts.specs.StreamSteps.{accepted_in, answers_in, calls_in, clear_step, cut_step, look_step, offer_step, release_step, switch_step, take_step}
 use Rattle.tr_accounts.specs.declared.step.StreamStep.{StreamStep}
 
@@ -92,8 +94,8 @@ history_in steps s = history_of s.config steps
 more : (steps : List StreamStep) (s t : StreamState) (step : StreamStep) → IsAccounted steps s → t.config ≡ s.config
     → StandsFor t (history_after_event s.config step.call (history_in steps s))
     → step.answer ≡ history_answer s.config step.call (history_in steps s) → HoldsOffers (accepted_in (steps ++ step ∷ [])) t
-    → IsAccounted (steps ++ step ∷ []) t
-more steps s t step was same stands told holds =
+    → StoresMoments (steps ++ step ∷ []) t → IsAccounted (steps ++ step ∷ []) t
+more steps s t step was same stands told holds moments =
     let calls : calls_in (steps ++ step ∷ []) ≡ calls_in steps ++ step.call ∷ [] = map-append (λ (p : StreamStep). p.call) steps (step ∷ []) in
     let answers : answers_in (steps ++ step ∷ []) ≡ answers_in steps ++ step.answer ∷ [] = map-append (λ (p : StreamStep). p.answer) steps (step ∷ []) in
     let after : history_after_events s.config (calls_in (steps ++ step ∷ [])) new_history ≡ history_after_event s.config step.call (history_in steps s) =
@@ -108,11 +110,12 @@ more steps s t step was same stands told holds =
           (subst (StandsFor t) (sym after) stands);
       answered = subst (λ (c : StreamConfig). answers_in (steps ++ step ∷ []) ≡ history_answers c (calls_in (steps ++ step ∷ [])) new_history) (sym same) all;
       holds = holds;
+      moments = moments;
     }
 
 -- a new stream has no step
 pub accounts-new : (s : StreamState) → StandsFor s new_history → IsAccounted [] s
-accounts-new s stands = record { stands = stands; answered = refl; holds = holds-new s stands }
+accounts-new s stands = record { stands = stands; answered = refl; holds = holds-new s stands; moments = stores-new s stands }
 
 module _ (steps : List StreamStep) (s : StreamState) (was : IsAccounted steps s) where
   pub accounts-offer : (moment id : ℕ) (payload : List ℕ) → IsKept s
@@ -120,33 +123,38 @@ module _ (steps : List StreamStep) (s : StreamState) (was : IsAccounted steps s)
   accounts-offer moment id payload kept =
       let step = offers s (history_in steps s) moment id payload kept.sound.made was.stands in
       more steps s _ (offer_step moment id payload (state_offer_answer moment id payload s)) was (config-offer s moment id payload) step.1 (ap answer.Offer step.0) (keeps-offer steps s was.holds moment id payload)
+      (stores-offer steps s was.moments moment id payload was.holds.many)
 
   pub accounts-take : IsAccounted (steps ++ take_step (state_take_answer s) ∷ []) (state_after_take s)
   accounts-take =
       let step = takes s (history_in steps s) was.stands in
       more steps s _ (take_step (state_take_answer s)) was (config-take s) step.1 (ap answer.Take step.0) (keeps-take steps s was.holds)
+      (stores-take steps s was.moments)
 
   pub accounts-cut : (moment : ℕ) → IsAccounted (steps ++ cut_step moment (state_cut_answer moment s) ∷ []) (state_after_cut moment s)
   accounts-cut moment =
       let step = cuts s (history_in steps s) moment was.stands in
       more steps s _ (cut_step moment (state_cut_answer moment s)) was (config-cut s moment) step.1 (ap answer.Cut step.0) (keeps-cut steps s was.holds moment)
+      (stores-cut steps s was.moments moment)
 
   pub accounts-clear : IsAccounted (steps ++ clear_step (state_clear_answer s) ∷ []) (state_after_clear s)
   accounts-clear =
       let step = clears s (history_in steps s) was.stands in
       more steps s _ (clear_step (state_clear_answer s)) was (config-clear s) step.1 (ap answer.Clear step.0) (keeps-clear steps s was.holds)
+      (stores-clear steps s was.moments)
 
   pub accounts-release : (k : ℕ) → IsAccounted (steps ++ release_step k (state_release_answer k s) ∷ []) (state_after_release k s)
   accounts-release k =
       let step = releases s (history_in steps s) k was.stands in
       more steps s _ (release_step k (state_release_answer k s)) was (config-release s k) step.1 (ap answer.Release step.0) (keeps-release steps s was.holds k)
+      (stores-release steps s was.moments k)
 
   pub accounts-switch : (active : Bool) → IsAccounted (steps ++ switch_step active ∷ []) (state_after_switch active s)
-  accounts-switch true = more steps s _ (switch_step true) was refl (stands-switched s (history_in steps s) true was.stands) refl (keeps-switch steps s was.holds true)
-  accounts-switch false = more steps s _ (switch_step false) was refl (stands-switched s (history_in steps s) false was.stands) refl (keeps-switch steps s was.holds false)
+  accounts-switch true = more steps s _ (switch_step true) was refl (stands-switched s (history_in steps s) true was.stands) refl (keeps-switch steps s was.holds true) (stores-switch steps s was.moments true)
+  accounts-switch false = more steps s _ (switch_step false) was refl (stands-switched s (history_in steps s) false was.stands) refl (keeps-switch steps s was.holds false) (stores-switch steps s was.moments false)
 
   pub accounts-look : (moment : ℕ) → IsAccounted (steps ++ look_step moment (state_snap moment s) ∷ []) s
   accounts-look moment =
       more steps s s (look_step moment (state_snap moment s)) was refl was.stands
       (ap (λ (snap : SnapState). answer.Peek (Ok snap)) (snaps s (history_in steps s) moment was.stands))
-      (keeps-look steps s was.holds moment (state_snap moment s))
+      (keeps-look steps s was.holds moment (state_snap moment s)) (stores-look steps s was.moments moment (state_snap moment s))

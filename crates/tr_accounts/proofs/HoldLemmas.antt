@@ -90,7 +90,7 @@ module _ (P : Entry → Type 0) where
   pushed_in e r new h false false true = followed e (drop_front r) new (all-rest (λ (b : ClosedBuffer). AllByRecursion P b.records) r.waiting h.0, h.1)
   pushed_in e r new h false false false = h
 
-  held-unless : (s : StreamState) (e : Entry) (refused : Option OfferFault) → P e → AllHeld s → AllHeld (state_unless refused e s)
+  pub held-unless : (s : StreamState) (e : Entry) (refused : Option OfferFault) → P e → AllHeld s → AllHeld (state_unless refused e s)
   held-unless s e (Some fault) new h = h
   held-unless s e None new h =
       let r = s.ring in
@@ -125,7 +125,7 @@ module _ (P : Entry → Type 0) where
   closed_any seq end discarded [] h = tt
   closed_any seq end discarded (e ∷ es) h = (h, tt)
 
-  ring_cut : (s : StreamState) (end : ℕ) → AllHeld s → AllHeld (state_cut_ring end s)
+  pub ring_cut : (s : StreamState) (end : ℕ) → AllHeld s → AllHeld (state_cut_ring end s)
   ring_cut s end h =
       let bs = ring_buffers end s.ring in
       let all = all-both (λ (b : ClosedBuffer). AllByRecursion P b.records) s.ring.waiting (closed_if_any s.ring.seq end s.ring.discarded s.ring.current) h.waiting
@@ -257,7 +257,7 @@ module _ (os : List AcceptedOffer) (s : StreamState) (h : HoldsOffers os s) wher
 
 -- ---- releases
 
-changed : (P : Entry → Type 0) (parts : List PartState) (k : ℕ) → AllInParts P parts → AllInParts P (change_at k release parts)
+pub changed : (P : Entry → Type 0) (parts : List PartState) (k : ℕ) → AllInParts P parts → AllInParts P (change_at k release parts)
 changed P [] k h = tt
 changed P (p ∷ ps) zero h = (tt, h.1)
 changed P (p ∷ ps) (suc k) h = (h.0, changed P ps k h.1)

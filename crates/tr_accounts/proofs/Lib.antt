@@ -4,6 +4,7 @@ pub mod JournalLemmas
 pub mod Later
 pub mod Lists
 pub mod LogLemmas
+pub mod MomentLemmas
 pub mod OfferedLemmas
 pub mod SeatLemmas
 pub mod TakeLemmas

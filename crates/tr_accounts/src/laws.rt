@@ -6,6 +6,7 @@ ghost use Rattle.std.specs.List.Sorted.{IsStrictlyIncreasing};
 ghost use Rattle.tr_accounts.specs.Accounts.{IsAccounted, history_of};
 ghost use Rattle.tr_accounts.specs.Holds.{HoldsOffers, IsRecordOf, held_records};
 ghost use Rattle.tr_accounts.specs.Logs.{items_of};
+ghost use Rattle.tr_accounts.specs.Moments.{IsStored, given_in, greatest};
 ghost use Rattle.tr_accounts.specs.Seats.{IsJournalOf, desk_seat, drainer_parts, is_offer, is_operation, producer_seat, steps_of, take_lines};
 ghost use Rattle.tr_accounts.specs.StreamSteps.{AcceptedOffer, accepted_in, clear_step, cut_step, look_step, offer_step, release_step, switch_step, take_step, taken_in};
 ghost use Rattle.tr_accounts.specs.Takes.{WasTaken};
@@ -88,4 +89,13 @@ pub fn every_take()
     ensures own_were { (lines : List (Line StreamStep)) (s : StreamState) (who : ℕ)
         → IsAccounted (all_done lines) s → IsKept s
         → AllByRecursion (WasTaken (history_of s.config (all_done lines))) (taken_in (done_by who lines)) }
+{}
+
+/// The last moment that a stream stored is the greatest that its accepted offers and its cuts gave, and each record that it holds
+/// is one of those offers, whole, with its serial and the greatest moment that was given up to it. Does nothing.
+pub fn every_moment()
+    ensures last { (steps : List StreamStep) (s : StreamState) → IsAccounted steps s
+        → s.counters.last ≡ greatest (given_in steps) }
+    ensures held { (steps : List StreamStep) (s : StreamState) → IsAccounted steps s
+        → AllByRecursion (IsStored steps) (held_records s) }
 {}

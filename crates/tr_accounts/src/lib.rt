@@ -20,6 +20,8 @@
 //!   one drainer's list (`every_seat`: `offers`, `holds`, `operations`, `takes`).
 //! - The numbers of packets that were taken rise; each packet had the records that were answered, and is in the chunk that was
 //!   answered or was cleared (`every_take`: `rise`, `were`, `own_rise`, `own_were`).
+//! - Each record that the stream holds has the greatest moment that its accepted offers and its cuts gave up to it, and so has
+//!   the stream's last one (`every_moment`: `last`, `held` (`IsStored`)).
 //! - A log with an item for each accepted offer agrees with the stream (`every_log`: `agrees`, `grows`).
 //!
 //! # What is only tested
@@ -31,6 +33,6 @@ mod laws;
 mod notes;
 mod step;
 
-pub use laws::{every_call, every_log, every_seat, every_take};
+pub use laws::{every_call, every_log, every_moment, every_seat, every_take};
 pub use notes::{note_clear, note_cut, note_offer, note_switch, note_take};
 pub use step::StreamStep;

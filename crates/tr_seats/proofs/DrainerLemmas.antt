@@ -1,6 +1,6 @@
 -- A drainer that is being made, one seat after another.
 use Rattle.std.proofs.Common.{◌≡◌, ◌≢◌, ◌∙◌, ℕ, ◌+◌, ◌<◌, Bool, true, false, List, [], ◌∷◌, ◌++◌, Ok, length, take, ap, arith, eqb, get_or, refl, subst, sym, true≢false, ⊎_elim}
-use Rattle.std.specs.Prelude.{◌==◌, if◌then◌else◌, nat_le, replicate}
+use Rattle.std.specs.Prelude.{◌==◌, nat_le, replicate}
 use Rattle.std.proofs.lemmas.Bool.Decides.{eqb_tells, nat_tests}
 use Rattle.std.proofs.lemmas.List.{length-map, length_push}
 use Rattle.tr_accounts.specs.declared.step.StreamStep.{StreamStep}
@@ -11,7 +11,7 @@ use Rattle.tr_seats.proofs.TakeLemmas.{take-seats-more, untaken-more}
 use Rattle.tr_seats.specs.Accounts.{AreTakeSeats, IsTakeSeat}
 use Rattle.tr_seats.specs.Books.{Books, books_at, consumed_books, no_books, no_table}
 use Rattle.tr_seats.specs.Drainers.{AreFirst}
-use Rattle.tr_seats.specs.Slots.{AreSeatsOf, SlotState, slot_after_split, slot_split_answer}
+use Rattle.tr_seats.specs.Slots.{AreSeatsOf, SlotState, slot_split_answer}
 use Rattle.tr_terms.specs.declared.limits.TheConstants.{MOST_DRAINERS}
 
 -- a seat that was made is of the book of that number

@@ -1,5 +1,5 @@
 -- No call of a slot releases a part of its stream.
-use Rattle.std.proofs.Common.{◌≡◌, ℕ, Bool, List, [], ◌∷◌, ◌++◌, Option, Some, None, refl, subst, sym}
+use Rattle.std.proofs.Common.{◌≡◌, ℕ, List, [], ◌∷◌, ◌++◌, Option, Some, None, refl, subst, sym}
 use Rattle.std.specs.List.{AllByRecursion}
 use Rattle.tr_book.specs.Parts.{PartState}
 use Rattle.tr_record.proofs.RecordLemmas.{all_push}

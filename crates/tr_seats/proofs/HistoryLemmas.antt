@@ -1,29 +1,34 @@
 -- One history of all that was done to a stream, from the seats that are joined in one.
-use Rattle.std.proofs.Common.{◌≡◌, ◌≢◌, ◌∙◌, ◌+◌, ◌<◌, ◌≤◌, ℕ, zero, suc, Bool, true, false, List, [], ◌∷◌, ◌++◌, ap, arith, cond, eq-eqb, eqb, get_or, length, map, nat_lt, refl, subst, sym}
+use Rattle.std.proofs.Common.{◌≡◌, ◌≢◌, ◌∙◌, ◌+◌, ◌<◌, ◌≤◌, ℕ, zero, suc, Bool, true, false, List, [], ◌∷◌, ◌++◌, ap, arith, cond, eq-eqb, eqb, get_or, length, map, nat_lt, refl, subst, sym, ⊎_elim}
 use Rattle.std.specs.Prelude.{All, count_by, ◌==◌}
 use Rattle.std.specs.List.{AllByRecursion, AllPairs, Contains}
-use Rattle.std.proofs.lemmas.Bool.Decides.{nat_tests}
+use Rattle.std.proofs.lemmas.Bool.Decides.{eqb_tells, nat_tests}
 use Rattle.std.proofs.lemmas.List.{get_or-map, length-append, length-map, map-append}
 use Rattle.std.proofs.lemmas.List.Elements.{All-cons, All-nil}
 use Rattle.std.proofs.lemmas.List.Kept.{AllPairs-cons}
 use Rattle.std.proofs.lemmas.List.Sums.{sum_by-cons}
 use Rattle.atomic_table.specs.Seated.{TableId}
-use Rattle.tr_accounts.proofs.Lists.{all-back, all-both, all-front}
-use Rattle.tr_accounts.proofs.SeatLemmas.{offers-theirs, takes-all}
+use Rattle.tr_accounts.proofs.Lists.{all-back, all-both, all-front, all-more}
+use Rattle.tr_accounts.proofs.SeatLemmas.{offers-theirs, operations-theirs, takes-all}
+use Rattle.tr_accounts.specs.Accounts.{IsAccounted}
 use Rattle.tr_accounts.specs.Seats.{desk_seat, drainer_parts, producer_seat, take_lines}
 use Rattle.tr_accounts.specs.StreamSteps.{taken_in}
 use Rattle.tr_accounts.specs.declared.step.StreamStep.{StreamStep}
 use Rattle.tr_journal.specs.Journals.{IsSeatOf, JournalState, SeatState, parts_of, seat_with}
-use Rattle.tr_journal.specs.Views.{AreApart, ArePartsOf, IsPartOf, done_by}
+use Rattle.tr_journal.specs.Views.{AreApart, ArePartsOf, IsPartOf, all_done, done_by}
 use Rattle.tr_journal.specs.Whole.{numbers_of}
 use Rattle.tr_journal.specs.declared.rule.Line.{Line}
 use Rattle.tr_journal.specs.declared.rule.Part.{Part}
+use Rattle.tr_operations.specs.Operations.{IsOperatorOf}
+use Rattle.tr_operations.specs.declared.step.DeskStep.{DeskStep}
 use Rattle.tr_seats.specs.Accounts.{AreTakeSeats, IsKeptAccount, IsSeatAt, taken_by}
 use Rattle.tr_seats.specs.Books.{Books, books_at}
 use Rattle.tr_seats.specs.Drainers.{DrainerState, taken_at}
-use Rattle.tr_seats.specs.Histories.{AreDeskWith, IsDeskWith, IsHistoryOf, takes_joined, takes_of}
-use Rattle.tr_seats.specs.Settling.{AreAllMade, HaveHistories, IsOneEach, streams_of}
-use Rattle.tr_seats.specs.Slots.{ProducerState, SlotState, slot_state}
+use Rattle.tr_seats.specs.Histories.{AreDeskWith, IsDeskWith, IsHistoryOf, operations_in, takes_joined, takes_of}
+use Rattle.tr_seats.specs.Operators.{AreOfOneSeat, HaveDone}
+use Rattle.tr_seats.specs.Settling.{AreAllMade, HasOperated, HaveHistories, HaveOneHistory, IsOneEach, WasOperated, streams_of}
+use Rattle.tr_seats.specs.Slots.{ProducerState, SlotState, producer_state, slot_state}
+use Rattle.tr_session_book.specs.Book.{SessionBookState}
 use Rattle.tr_stream.specs.State.{StreamState}
 use Rattle.tr_stream.specs.declared.answers.Taken.{Taken}
 
@@ -84,15 +89,17 @@ module _ (table : TableId) (s : StreamState) (made : ℕ) (account : JournalStat
       ap (λ b. cond b (part_of desk ∷ drainer_parts (desk.joined ++ part_of producer ∷ [])) (drainer_parts (desk.joined ++ part_of producer ∷ []))) no
       ∙ drainers-alone desk.joined (part_of producer) with.drainers mine
 
-  pub history-of : IsHistoryOf producer.own (takes_joined desk) s
+  pub history-of : IsHistoryOf producer.own (takes_joined desk) desk.own s
   history-of =
       let lines = account.lines in
       let last = (all-back (IsPartOf account.made lines) desk.joined (part_of producer ∷ []) are.each.1).0 in
+      let mine_is : desk.own ≡ done_by desk_seat lines = are.each.0.1 ∙ ap (λ who. done_by who lines) with.desk in
       let did : producer.own ≡ done_by producer_seat lines = last.1 ∙ ap (λ who. done_by who lines) mine in
       record {
         lines = lines;
         journal = kept.lines_are;
         offers = offers-theirs lines kept.lines_are.theirs ∙ sym did;
+        operations = operations-theirs lines kept.lines_are.theirs ∙ sym mine_is;
         numbers = numbers_of desk.joined;
         theirs = numbers-theirs desk.joined with.drainers;
         apart = numbers-apart desk.joined (part_of producer ∷ []) are.apart.1;
@@ -191,18 +198,82 @@ producers-apart n ps each j k c d lt within there same =
     let i = (get_or ps k d).number in
     omega (arith, each i there, counted-two i ps j k c d lt within same refl)
 
+-- what the desk's seats noted is what they had noted before the drainers' were joined
+pub operations-kept : (n : ℕ) (old new : List (SeatState StreamStep)) → length old ≡ n
+    → ((i : ℕ) (d : SeatState StreamStep) → i < n → (get_or new i d).own ≡ (get_or old i d).own)
+    → (i : ℕ) (d : SeatState StreamStep) → i < n → (get_or new i d).own ≡ get_or (operations_in old) i []
+operations-kept n old new long kept i d lt =
+    kept i d lt ∙ sym (get_or-map (λ (s : SeatState StreamStep). s.own) old i d [] (omega (arith, lt, long)))
+
 -- each history, out of the slots
-pub their-histories : (n : ℕ) (books : List Books) (producers : List ProducerState) (drainers : List DrainerState) (seats : List (SeatState StreamStep)) (slots : List SlotState)
+pub their-histories : (n : ℕ) (books : List Books) (producers : List ProducerState) (drainers : List DrainerState)
+    (operations : List (List StreamStep)) (seats : List (SeatState StreamStep)) (slots : List SlotState)
     → length slots ≡ n → length books ≡ n → AreDeskWith books drainers seats → (d : SeatState StreamStep)
+    → ((i : ℕ) (d : SeatState StreamStep) → i < n → (get_or seats i d).own ≡ get_or operations i [])
     → ((k : ℕ) (p : ProducerState) → k < length producers → (get_or producers k p).number < n)
     → ((k : ℕ) (p : ProducerState) (d : SeatState StreamStep) (s : SlotState) → k < length producers
     → IsHistoryOf (get_or producers k p).steps (takes_joined (get_or seats (get_or producers k p).number d))
-    (get_or slots (get_or producers k p).number s).stream)
-    → HaveHistories producers drainers (streams_of slots)
-their-histories n books producers drainers seats slots long wide are d there own k p t lt =
+    (get_or seats (get_or producers k p).number d).own (get_or slots (get_or producers k p).number s).stream)
+    → HaveHistories producers drainers operations (streams_of slots)
+their-histories n books producers drainers operations seats slots long wide are d did there own k p t lt =
     let s = slot_state 0 t 0 in
     let q = get_or producers k p in
     let within = there k p lt in
     let at = get_or-map (λ (x : SlotState). x.stream) slots q.number s t (omega (arith, within, long)) in
-    subst (λ (x : List (List Taken) × StreamState). IsHistoryOf q.steps x.0 x.1)
-    (λ j. (are.taken q.number d (omega (arith, within, wide)) j, sym at j)) (own k p d s lt)
+    subst (λ (x : List (List Taken) × List StreamStep × StreamState). IsHistoryOf q.steps x.0 x.1 x.2)
+    (λ j. (are.taken q.number d (omega (arith, within, wide)) j, did q.number d within j, sym at j)) (own k p d s lt)
+
+-- without operators
+pub nobodys : (planned book : SessionBookState) (operators : List (List DeskStep)) (all : Bool) (producers : List ProducerState)
+    (drainers : List DrainerState) (streams : List StreamState) → HaveOneHistory planned operators all producers drainers book streams
+    → HaveOneHistory planned [] false producers drainers book streams
+nobodys planned book operators all producers drainers streams h = record {
+  operations = h.operations;
+  many = h.many;
+  done = record { lines = h.done.lines; leads = h.done.leads; own = tt; none_missing = λ no. absurd cc; did = h.done.did };
+  histories = h.histories;
+}
+
+-- ---- each operator's part of it
+
+pub each-operator : (planned book : SessionBookState) (operators : List (List DeskStep)) (all : Bool) (operations : List (List StreamStep))
+    → HaveDone planned operators all book operations → AllByRecursion (λ steps. IsOperatorOf planned steps book) operators
+each-operator planned book operators all operations h =
+    all-more (AreOfOneSeat h.lines) (λ steps. IsOperatorOf planned steps book)
+    (λ steps is. record { lines = h.lines; leads = h.leads; who = is.0; own = is.1 }) operators h.own
+
+counted-found : (i : ℕ) (ps : List ProducerState) → 1 ≤ counted i ps
+    → (k : ℕ) × (k < length ps) × ((d : ProducerState) → (get_or ps k d).number ≡ i)
+counted-found i [] is = absurd (omega (arith, is))
+counted-found i (p ∷ ps) is =
+    ⊎_elim
+    (λ (t : (eqb p.number i ≡ true) × (p.number ≡ i)). (0, omega arith, λ d. t.1))
+    (λ (t : (eqb p.number i ≡ false) × (p.number ≢ i)).
+    let none : once (eqb p.number i) ≡ 0 = ap once t.0 in
+    let rest = counted-found i ps (omega (arith, is, counted-cons i p ps, none)) in
+    (suc rest.0, omega (arith, rest.1), λ d. rest.2 d))
+    (eqb_tells p.number i)
+
+-- what was done to each stream but offers and takes
+pub each-operated : (planned book : SessionBookState) (operators : List (List DeskStep)) (all : Bool) (producers : List ProducerState)
+    (drainers : List DrainerState) (streams : List StreamState) → HaveOneHistory planned operators all producers drainers book streams
+    → IsOneEach (length streams) producers → AllByRecursion (λ steps. HasOperated planned steps book streams) operators
+each-operated planned book operators all producers drainers streams h one_each =
+    all-more (AreOfOneSeat h.done.lines) (λ steps. HasOperated planned steps book streams)
+    (λ steps is. record { lines = h.done.lines; leads = h.done.leads; who = is.0; own = is.1; streams_are = was }) operators h.done.own
+  where
+    was : (i : ℕ) (t : StreamState) → i < length streams → WasOperated i (all_done h.done.lines) planned book (get_or streams i t)
+    was i t lt =
+        let p : ProducerState = producer_state 0 0 0 0 0 0 [] in
+        let found = counted-found i producers (omega (arith, one_each i lt)) in
+        let history = h.histories found.0 p t found.1 in
+        let here = found.2 p in
+        record {
+          operations = get_or h.operations i [];
+          did = h.done.did i (omega (arith, lt, h.many));
+          are = record {
+            all = all_done history.lines;
+            accounted = subst (λ n. IsAccounted (all_done history.lines) (get_or streams n t)) here history.journal.accounted;
+            operations = history.operations ∙ ap (λ n. get_or h.operations n []) here;
+          };
+        }

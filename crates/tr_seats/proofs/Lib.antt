@@ -1,4 +1,5 @@
 pub mod AccountLemmas
+pub mod AllOperators
 pub mod AllTotals
 pub mod ClearLemmas
 pub mod CountLemmas

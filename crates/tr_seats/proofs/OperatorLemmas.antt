@@ -1,8 +1,10 @@
 -- A desk's journal after a step more.
-use Rattle.std.proofs.Common.{◌≡◌, ◌≢◌, ◌∙◌, ℕ, ◌+◌, ◌<◌, Bool, true, false, List, [], ◌∷◌, ◌++◌, ap, append_assoc, arith, eq-eqb, eqb, get_or, get_or-set_other, get_or-set_same, length, map, ne_eqb, refl, set, subst, sym, ⊎_elim}
-use Rattle.std.specs.Prelude.{◌==◌, if◌then◌else◌, slice_index_or}
+use Rattle.std.proofs.Common.{◌≡◌, ◌≢◌, ◌∙◌, ℕ, ◌+◌, ◌<◌, Bool, true, false, List, [], ◌∷◌, ◌++◌, ap, append_assoc, arith, eq-eqb, eqb, get_or, get_or-set_other, get_or-set_same, length, ne_eqb, refl, set, subst, sym, ⊎_elim}
+use Rattle.std.specs.Prelude.{◌==◌, IsTrue, if◌then◌else◌, slice_index_or}
+use Rattle.std.specs.List.{AllByRecursion}
 use Rattle.std.proofs.lemmas.Bool.Decides.{eqb_tells}
 use Rattle.std.proofs.lemmas.List.{append-nil, get_or-map, get_or_push, length-map, length-set, length_push, map-append}
+use Rattle.tr_accounts.proofs.Lists.{all-both}
 use Rattle.tr_accounts.specs.Seats.{desk_seat}
 use Rattle.tr_accounts.specs.declared.step.StreamStep.{StreamStep}
 use Rattle.tr_journal.specs.Journals.{IsSeatOf, JournalState, SeatState, journal_after, new_seat, seat_after}
@@ -14,11 +16,11 @@ use Rattle.tr_operations.specs.declared.step.DeskStep.{DeskStep}
 use Rattle.tr_seats.proofs.Rows.{get-front}
 use Rattle.tr_seats.specs.Accounts.{IsOperatedBy, IsSeatAt}
 use Rattle.tr_seats.specs.Books.{Books, PlanState, books_at, no_table}
-use Rattle.tr_seats.specs.Operators.{AreNewDeskSeats, DoTo, IsDeskJournal, IsDeskSeat, done_to}
+use Rattle.tr_seats.specs.Histories.{operations_in}
+use Rattle.tr_seats.specs.Operators.{AreNewDeskSeats, AreOfOneSeat, AreOperators, DidAll, DoTo, HaveDone, IsCountOf, IsDeskJournal, IsDeskSeat, done_to}
 use Rattle.tr_seats.specs.Settling.{HasOperated, streams_of}
 use Rattle.tr_seats.specs.Slots.{SlotState, slot_state}
 use Rattle.tr_session_book.specs.Book.{SessionBookState}
-use Rattle.tr_stream.specs.State.{StreamState}
 
 -- ---- what steps do to a stream
 
@@ -55,10 +57,13 @@ does-more i lines b c d who step done was is =
 -- ---- a desk's journal
 
 pub journal-planned : (plan : PlanState) (book : SessionBookState) (journal : JournalState DeskStep) (seats : List (SeatState StreamStep))
-    → journal.table ≡ plan.desk → journal.lines ≡ [] → book ≡ plan.session.book → AreNewDeskSeats (length plan.books) plan.books seats
-    → IsDeskJournal plan book journal seats
-journal-planned plan book journal seats at none same new = record {
+    → journal.table ≡ plan.desk → journal.lines ≡ [] → journal.made ≡ 1 → book ≡ plan.session.book
+    → AreNewDeskSeats (length plan.books) plan.books seats → IsDeskJournal plan 0 book journal seats
+journal-planned plan book journal seats at none one same new = record {
   table_is = at;
+  first = omega (arith, one);
+  count = λ lt. one;
+  theirs = subst (AreOperators journal.made) (sym none) (record { numbered = tt; named = tt });
   leads = subst (λ lines. LeadsTo (all_done lines) planned book) (sym none) (subst (LeadsTo [] planned) (sym same) (leads-new planned));
   many = new.many;
   each = λ i d lt. record {
@@ -80,14 +85,20 @@ seat-kept plan i who b c lines step before after was is at own = record {
       (does-more i lines plan.session.book b c who step before.own was.did is);
 }
 
-module _ (plan : PlanState) (b c : SessionBookState) (before after : JournalState DeskStep) (who : ℕ) (step : DeskStep)
-    (seats : List (SeatState StreamStep)) (was : IsDeskJournal plan b before seats) (is : after ≡ journal_after who step before)
+module _ (plan : PlanState) (operators : ℕ) (b c : SessionBookState) (before after : JournalState DeskStep) (who : ℕ) (named : 0 < who)
+    (there : who < before.made) (step : DeskStep) (seats : List (SeatState StreamStep)) (was : IsDeskJournal plan operators b before seats) (is : after ≡ journal_after who step before)
     (done : IsStepOf step b c) where
   step-noted : (news : List (SeatState StreamStep)) → length news ≡ length plan.books
       → ((i : ℕ) (d : SeatState StreamStep) → i < length plan.books
-      → IsDeskSeat plan i (all_done (before.lines ++ line who step ∷ [])) c (slice_index_or news i d)) → IsDeskJournal plan c after news
+      → IsDeskSeat plan i (all_done (before.lines ++ line who step ∷ [])) c (slice_index_or news i d)) → IsDeskJournal plan operators c after news
   step-noted news many each = record {
     table_is = ap (λ (j : JournalState DeskStep). j.table) is ∙ was.table_is;
+    first = subst (λ (j : JournalState DeskStep). 0 < j.made) (sym is) was.first;
+    count = subst (λ (j : JournalState DeskStep). IsCountOf operators j.made) (sym is) was.count;
+    theirs = subst (λ (j : JournalState DeskStep). AreOperators j.made j.lines) (sym is) (record {
+      numbered = all-both (λ (l : Line DeskStep). l.who < before.made) before.lines (line who step ∷ []) was.theirs.numbered (there, tt);
+      named = all-both (λ (l : Line DeskStep). 0 < l.who) before.lines (line who step ∷ []) was.theirs.named (named, tt);
+    });
     leads = subst (λ (j : JournalState DeskStep). LeadsTo (all_done j.lines) plan.session.book c) (sym is)
         (leads-more before.lines plan.session.book b c who step was.leads done);
     many = many;
@@ -103,7 +114,7 @@ module _ (plan : PlanState) (b c : SessionBookState) (before after : JournalStat
       (sym (append-nil seat.own) ∙ ap (λ (l : List StreamStep). seat.own ++ l) (sym nothing))
 
   -- a step that does nothing to any stream
-  pub journal-noted : ((i : ℕ) → done_to i step b ≡ []) → IsDeskJournal plan c after seats
+  pub journal-noted : ((i : ℕ) → done_to i step b ≡ []) → IsDeskJournal plan operators c after seats
   journal-noted nothing = step-noted seats was.many (λ i d lt. kept i d lt (nothing i))
 
   -- a step that does this to one stream, and nothing to others
@@ -119,7 +130,7 @@ module _ (plan : PlanState) (b c : SessionBookState) (before after : JournalStat
         seat-kept plan k who b c before.lines step seat new old done
         (subst (IsSeatAt (books_at plan.books k).journal desk_seat) (sym noted) old.seat_is) own
 
-    pub journal-done : IsDeskJournal plan c after (set seats k new)
+    pub journal-done : IsDeskJournal plan operators c after (set seats k new)
     journal-done = step-noted (set seats k new) (length-set seats k new ∙ was.many) (λ i d below.
         ⊎_elim
         (λ (t : (eqb i k ≡ true) × (i ≡ k)).
@@ -156,12 +167,12 @@ new-desk-more n books seats seat is mine none = record {
 
 -- ---- what a desk did to all streams
 
-pub operated-all : (plan : PlanState) (book : SessionBookState) (journal : JournalState DeskStep) (seat : SeatState DeskStep)
-    (seats : List (SeatState StreamStep)) (slots : List SlotState) → IsDeskJournal plan book journal seats → IsSeatOf journal seat
+pub operated-all : (plan : PlanState) (operators : ℕ) (book : SessionBookState) (journal : JournalState DeskStep) (seat : SeatState DeskStep)
+    (seats : List (SeatState StreamStep)) (slots : List SlotState) → IsDeskJournal plan operators book journal seats → IsSeatOf journal seat
     → length slots ≡ length plan.books
     → ((i : ℕ) (d : SeatState StreamStep) (s : SlotState) → i < length slots → IsOperatedBy (get_or seats i d).own (get_or slots i s).stream)
     → HasOperated plan.session.book seat.own book (streams_of slots)
-operated-all plan book journal seat seats slots is own many operated = record {
+operated-all plan operators book journal seat seats slots is own many operated = record {
   lines = journal.lines;
   leads = is.leads;
   who = seat.who;
@@ -177,10 +188,19 @@ operated-all plan book journal seat seats slots is own many operated = record {
       };
 }
 
--- the desk's seat in the journal of the stream of this number
-pub desk-seat-there : (plan : PlanState) (book : SessionBookState) (journal : JournalState DeskStep) (seats : List (SeatState StreamStep)) (k n : ℕ)
-    (seat : SeatState StreamStep) → IsDeskJournal plan book journal seats → k < length plan.books → k ≡ n → seat ≡ get_or seats k seat
-    → IsSeatAt (books_at plan.books n).journal desk_seat seat
-desk-seat-there plan book journal seats k n seat is lt here there =
-    subst (λ m. IsSeatAt (books_at plan.books m).journal desk_seat seat) here
-    (subst (IsSeatAt (books_at plan.books k).journal desk_seat) (sym there) (is.each k seat lt).seat_is)
+-- what was done at a desk, if these operators' lists are of its journal
+pub done-by-all : (plan : PlanState) (made : ℕ) (book : SessionBookState) (journal : JournalState DeskStep) (seats : List (SeatState StreamStep))
+    (operators : List (List DeskStep)) (all : Bool) → IsDeskJournal plan made book journal seats
+    → AllByRecursion (AreOfOneSeat journal.lines) operators → (IsTrue all → DidAll operators journal.lines)
+    → HaveDone plan.session.book operators all book (operations_in seats)
+done-by-all plan made book journal seats operators all is own none_missing = record {
+  lines = journal.lines;
+  leads = is.leads;
+  own = own;
+  none_missing = none_missing;
+  did = λ i lt.
+      let d : SeatState StreamStep = new_seat no_table 0 in
+      let there : i < length seats = omega (arith, lt, length-map seats (λ (s : SeatState StreamStep). s.own)) in
+      subst (DoTo i (all_done journal.lines) plan.session.book book)
+      (sym (get_or-map (λ (s : SeatState StreamStep). s.own) seats i d [] there)) (is.each i d (omega (arith, there, is.many))).did;
+}

@@ -1,8 +1,8 @@
 -- A drainer's seats in the streams' journals.
-use Rattle.std.proofs.Common.{◌≡◌, ◌≢◌, ◌∙◌, ℕ, ◌+◌, ◌<◌, true, false, List, [], ◌∷◌, ◌++◌, Ok, length, map, set, get_or, ap, arith, eqb, get_or-set_other, get_or-set_same, refl, subst, sym, ⊎_elim}
+use Rattle.std.proofs.Common.{◌≡◌, ◌≢◌, ◌∙◌, ℕ, ◌+◌, ◌<◌, true, false, List, [], ◌∷◌, ◌++◌, Ok, length, set, get_or, ap, arith, eqb, get_or-set_other, get_or-set_same, subst, sym, ⊎_elim}
 use Rattle.std.specs.Prelude.{replicate}
 use Rattle.std.proofs.lemmas.Bool.Decides.{eqb_tells}
-use Rattle.std.proofs.lemmas.List.{get_or-map, get_or_push, length-map, length-set, length_push, map-append, map-set, replicate_more}
+use Rattle.std.proofs.lemmas.List.{get_or-map, get_or_push, length-set, length_push, map-append, map-set, replicate_more}
 use Rattle.std.proofs.lemmas.List.Elements.{filter_map-append}
 use Rattle.tr_accounts.specs.StreamSteps.{take_step, taken_in, taken_of}
 use Rattle.tr_accounts.specs.declared.step.StreamStep.{StreamStep}

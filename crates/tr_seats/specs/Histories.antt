@@ -2,7 +2,7 @@
 use Rattle.std.specs.Prelude.{◌≡◌, ◌≢◌, ◌<◌, ℕ, List, length, map, slice_index_or}
 use Rattle.std.specs.List.{AllByRecursion, AllPairs, Contains}
 use Rattle.atomic_table.specs.Seated.{TableId}
-use Rattle.tr_accounts.specs.Seats.{IsJournalOf, desk_seat, is_offer, steps_of, take_lines}
+use Rattle.tr_accounts.specs.Seats.{IsJournalOf, desk_seat, is_offer, is_operation, steps_of, take_lines}
 use Rattle.tr_accounts.specs.StreamSteps.{taken_in}
 use Rattle.tr_accounts.specs.declared.step.StreamStep.{StreamStep}
 use Rattle.tr_journal.specs.Journals.{SeatState}
@@ -15,11 +15,12 @@ use Rattle.tr_stream.specs.State.{StreamState}
 use Rattle.tr_stream.specs.declared.answers.Taken.{Taken}
 
 -- one history has all that was done to a stream, each call by whose it is: the offers in it, refused ones too, are just the
--- producer's, and the takes are just the drainers', each by one of them, and none is missing
-pub record IsHistoryOf (producer : List StreamStep) (drainers : List (List Taken)) (stream : StreamState) : Type 0 where
+-- producer's, the takes are just the drainers', each by one of them, and none is missing, and all else is just what the desk did
+pub record IsHistoryOf (producer : List StreamStep) (drainers : List (List Taken)) (desk : List StreamStep) (stream : StreamState) : Type 0 where
   pub lines : List (Line StreamStep)
   pub journal : IsJournalOf lines stream
   pub offers : steps_of is_offer (all_done lines) ≡ producer
+  pub operations : steps_of is_operation (all_done lines) ≡ desk
   -- the drainers' numbers in it
   pub numbers : List ℕ
   pub theirs : AllByRecursion (λ who. desk_seat < who) numbers
@@ -38,6 +39,10 @@ pub record IsDeskWith (table : TableId) (seat : SeatState StreamStep) : Type 0 w
 -- what the holders of the seats that were joined took, one after another
 abbrev pub takes_joined : SeatState StreamStep → List (List Taken)
 takes_joined seat = map (λ (p : Part StreamStep). taken_in p.own) seat.joined
+
+-- what the desk did to each stream, as its seats noted
+abbrev pub operations_in : List (SeatState StreamStep) → List (List StreamStep)
+operations_in seats = map (λ (s : SeatState StreamStep). s.own) seats
 
 -- what these drainers took from the stream of this number
 abbrev pub takes_of : List DrainerState → ℕ → List (List Taken)

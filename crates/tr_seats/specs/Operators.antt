@@ -1,11 +1,13 @@
 -- A desk's book with the journal of its operators' steps.
-use Rattle.std.specs.Prelude.{◌≡◌, ◌<◌, ◌++◌, ◌==◌, ◌∷◌, [], ℕ, List, Result, Ok, Err, if◌then◌else◌, length, slice_index_or}
+use Rattle.std.specs.Prelude.{◌≡◌, ◌≢◌, ◌<◌, ◌+◌, ◌^◌, ◌++◌, ◌==◌, ◌∷◌, [], ℕ, Bool, List, Result, Ok, Err, IsTrue, if◌then◌else◌, length, map, slice_index_or}
+use Rattle.std.specs.List.{AllByRecursion, AllPairs, Contains}
 use Rattle.atomic_table.specs.Seated.{TableId}
 use Rattle.tr_accounts.specs.Seats.{desk_seat}
 use Rattle.tr_accounts.specs.StreamSteps.{clear_step, cut_step, switch_step}
 use Rattle.tr_accounts.specs.declared.step.StreamStep.{StreamStep}
 use Rattle.tr_journal.specs.Journals.{JournalState, SeatState}
-use Rattle.tr_journal.specs.Views.{all_done}
+use Rattle.tr_journal.specs.Views.{AreNumbered, all_done, done_by}
+use Rattle.tr_journal.specs.declared.rule.Line.{Line}
 use Rattle.tr_operations.specs.Operations.{IsStepOf, LeadsTo}
 use Rattle.tr_operations.specs.declared.step.DeskStep.{DeskStep}
 use Rattle.tr_operations.specs.declared.step.DeskStep.TheVariants.{Switch, Cut, Clear}
@@ -52,19 +54,62 @@ pub record AreNewDeskSeats (n : ℕ) (books : List Books) (seats : List (SeatSta
   pub each : (i : ℕ) (d : SeatState StreamStep) → i < n
       → IsSeatAt (books_at books i).journal desk_seat (slice_index_or seats i d) × ((slice_index_or seats i d).own ≡ [])
 
+-- so many operators have seats in a journal, beside the first seat, which is nobody's; a count that is full says nothing
+abbrev pub IsCountOf : ℕ → ℕ → Type 0
+IsCountOf operators made = operators + 1 < 2 ^ 64 → made ≡ operators + 1
+
+-- each line is of an operator's seat
+pub record AreOperators (made : ℕ) (lines : List (Line DeskStep)) : Type 0 where
+  pub numbered : AreNumbered made lines
+  pub named : AllByRecursion (λ (l : Line DeskStep). 0 < l.who) lines
+
 -- the journal of a plan's desk leads from the book that was planned to the current one, and the desk's seats in the streams'
--- journals have what its steps did to them
-pub record IsDeskJournal (plan : PlanState) (book : SessionBookState) (journal : JournalState DeskStep)
+-- journals have what its steps did to them; so many operators were made
+pub record IsDeskJournal (plan : PlanState) (operators : ℕ) (book : SessionBookState) (journal : JournalState DeskStep)
     (seats : List (SeatState StreamStep)) : Type 0 where
   pub table_is : journal.table ≡ plan.desk
+  pub first : 0 < journal.made
+  pub count : IsCountOf operators journal.made
+  pub theirs : AreOperators journal.made journal.lines
   pub leads : LeadsTo (all_done journal.lines) plan.session.book book
   pub many : length seats ≡ length plan.books
   pub each : (i : ℕ) (d : SeatState StreamStep) → i < length plan.books
       → IsDeskSeat plan i (all_done journal.lines) book (slice_index_or seats i d)
 
--- an operator's seat in this table, with nothing joined to it
-abbrev pub IsOperatorSeat : TableId → SeatState DeskStep → Type 0
-IsOperatorSeat table seat = (seat.table ≡ table) × (seat.joined ≡ [])
+-- a seat has this number, unless that is as large as a number may be
+abbrev pub IsNumber : ℕ → ℕ → Type 0
+IsNumber number who = number + 1 < 2 ^ 64 → who ≡ number
+
+-- an operator's seat of this number in this table, with nothing joined to it
+abbrev pub IsOperatorSeat : TableId → ℕ → SeatState DeskStep → Type 0
+IsOperatorSeat table number seat = (seat.table ≡ table) × (seat.joined ≡ []) × (0 < seat.who) × IsNumber number seat.who
+
+-- an operator's steps are all that one seat has of a journal
+abbrev pub AreOfOneSeat : List (Line DeskStep) → List DeskStep → Type 0
+AreOfOneSeat lines steps = (who : ℕ) × (steps ≡ done_by who lines)
+
+-- an operator's steps are all that the seat of this number has of a journal, unless that is as large as a number may be
+pub record IsDoneBy (number : ℕ) (steps : List DeskStep) (lines : List (Line DeskStep)) : Type 0 where
+  pub who : ℕ
+  pub own : steps ≡ done_by who lines
+  pub number_is : IsNumber number who
+
+-- these operators did all that was done at a desk: each step is one's, and none is missing
+pub record DidAll (operators : List (List DeskStep)) (lines : List (Line DeskStep)) : Type 0 where
+  pub numbers : List ℕ
+  pub apart : AllPairs (λ a b. a ≢ b) numbers
+  pub own : operators ≡ map (λ who. done_by who lines) numbers
+  pub none_missing : AllByRecursion (λ (l : Line DeskStep). Contains numbers l.who) lines
+
+-- what was done at a desk is what a session has: steps lead from the book that was planned to this one, and did just this to each
+-- stream; each of these operators has just the steps of one seat, and together they have all, if these are all that were made
+pub record HaveDone (planned : SessionBookState) (operators : List (List DeskStep)) (all : Bool) (book : SessionBookState)
+    (operations : List (List StreamStep)) : Type 0 where
+  pub lines : List (Line DeskStep)
+  pub leads : LeadsTo (all_done lines) planned book
+  pub own : AllByRecursion (AreOfOneSeat lines) operators
+  pub none_missing : IsTrue all → DidAll operators lines
+  pub did : (i : ℕ) → i < length operations → DoTo i (all_done lines) planned book (slice_index_or operations i [])
 
 -- an operator did this too
 abbrev pub with_step : DeskStep → List DeskStep → List DeskStep

@@ -1,5 +1,5 @@
 -- What settling answers.
-use Rattle.std.specs.Prelude.{◌≡◌, ◌≢◌, ℕ, ◌+◌, ◌<◌, ◌≤◌, ◌==◌, List, Some, length, map, sum, count_by, slice_get, slice_index, slice_index_or, All}
+use Rattle.std.specs.Prelude.{◌≡◌, ◌≢◌, ℕ, ◌+◌, ◌<◌, ◌≤◌, ◌==◌, Bool, List, [], Some, length, map, sum, count_by, slice_get, slice_index, slice_index_or, All}
 use Rattle.std.specs.List.{AllByRecursion, sum_by}
 use Rattle.tr_accounts.specs.declared.step.StreamStep.{StreamStep}
 use Rattle.tr_journal.specs.Views.{all_done, done_by}
@@ -11,7 +11,7 @@ use Rattle.tr_seats.specs.Books.{IsPlanned, PlanState}
 use Rattle.tr_seats.specs.Desks.{DeskState, IsOfPlan}
 use Rattle.tr_seats.specs.Drainers.{DrainerState, taken_at}
 use Rattle.tr_seats.specs.Histories.{IsHistoryOf, takes_of}
-use Rattle.tr_seats.specs.Operators.{DoTo}
+use Rattle.tr_seats.specs.Operators.{DoTo, HaveDone}
 use Rattle.tr_seats.specs.Slots.{IsOwn, ProducerState, SlotState}
 use Rattle.tr_seats.specs.Sums.{totals_in}
 use Rattle.tr_seats.specs.declared.settling.SettleError.{SettleError}
@@ -114,11 +114,22 @@ abbrev pub ArePacketsOf : List DrainerState → List StreamState → Type 0
 ArePacketsOf drainers streams = (k i : ℕ) (d : DrainerState) (t : StreamState) → k < length drainers → i < length streams
     → IsTakenFrom (taken_at (slice_index_or drainers k d) i) (slice_index_or streams i t)
 
--- one history of each stream has all that its producer offered and that all drainers took from it, and no other offer or take
-abbrev pub HaveHistories : List ProducerState → List DrainerState → List StreamState → Type 0
-HaveHistories producers drainers streams = (k : ℕ) (p : ProducerState) (t : StreamState) → k < length producers
+-- one history of each stream has all that its producer offered, that all drainers took from it and that the desk did to it, and
+-- nothing else
+abbrev pub HaveHistories : List ProducerState → List DrainerState → List (List StreamStep) → List StreamState → Type 0
+HaveHistories producers drainers operations streams = (k : ℕ) (p : ProducerState) (t : StreamState) → k < length producers
     → IsHistoryOf (slice_index_or producers k p).steps (takes_of drainers (slice_index_or producers k p).number)
+    (slice_index_or operations (slice_index_or producers k p).number [])
     (slice_index_or streams (slice_index_or producers k p).number t)
+
+-- one history of a session: steps at its desk lead from the book that was planned to its own, each operator's just its own, and
+-- one history of each stream has its producer's offers, the drainers' takes, and what those steps did to it
+pub record HaveOneHistory (planned : SessionBookState) (operators : List (List DeskStep)) (all : Bool) (producers : List ProducerState)
+    (drainers : List DrainerState) (book : SessionBookState) (streams : List StreamState) : Type 0 where
+  pub operations : List (List StreamStep)
+  pub many : length operations ≡ length streams
+  pub done : HaveDone planned operators all book operations
+  pub histories : HaveHistories producers drainers operations streams
 
 -- what the steps at a desk did to the stream of this number is what it has
 pub record WasOperated (i : ℕ) (steps : List DeskStep) (planned book : SessionBookState) (t : StreamState) : Type 0 where

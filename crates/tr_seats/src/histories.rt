@@ -33,7 +33,7 @@ impl<N: Names, A: Allocator> Slot<N, A> {
         requires desk { IsDeskWith (books_at N.plan.books self.old.number).journal desk.old }
         requires all { length desk.old.joined ≡ self.old.made }
         ensures slot { self.new ≡ self.old }
-        ensures history { IsHistoryOf producer.steps (takes_joined desk.old) self.old.stream }
+        ensures history { IsHistoryOf producer.steps (takes_joined desk.old) desk.old.own self.old.stream }
     {
         let Producer {
             number: _,
@@ -107,6 +107,7 @@ pub(crate) fn join_producers<N: Names, A: Allocator>(
     ensures histories { (k : ℕ) (p : ProducerState) (d : SeatState StreamStep) (s : SlotState) → k < length producers.items
         → IsHistoryOf (slice_index_or producers.items k p).steps
         (takes_joined (slice_index_or desk.old (slice_index_or producers.items k p).number d))
+        (slice_index_or desk.old (slice_index_or producers.items k p).number d).own
         (slice_index_or slots.old (slice_index_or producers.items k p).number s).stream }
 {
     for producer in producers {

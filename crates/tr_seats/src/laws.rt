@@ -1,13 +1,21 @@
 //! What the calls on a stream under its lock have to do with its history, and what a cut or a clear at a desk has to do with
 //! its session.
 
+ghost use Rattle.std.specs.List.{AllByRecursion};
 ghost use Rattle.std.specs.Prelude.{◌≡◌, ◌<◌, ℕ, Bool, List, Some, length, slice_get, slice_set};
+ghost use Rattle.tr_accounts.specs.declared.step.StreamStep.{StreamStep};
+ghost use Rattle.tr_operations.specs.Operations.{IsOperatorOf};
+ghost use Rattle.tr_operations.specs.declared.step.DeskStep.{DeskStep};
 ghost use Rattle.tr_seats.specs.Clears.{desk_after_clear, desk_clear_answer, slot_after_clear};
 ghost use Rattle.tr_seats.specs.Cuts.{desk_after_cut, desk_cut_answer, slot_after_cut};
 ghost use Rattle.tr_seats.specs.Desks.{DeskState};
-ghost use Rattle.tr_seats.specs.Slots.{SlotState};
+ghost use Rattle.tr_seats.specs.Drainers.{DrainerState};
+ghost use Rattle.tr_seats.specs.Operators.{HaveDone};
+ghost use Rattle.tr_seats.specs.Settling.{HasOperated, HaveOneHistory, IsOneEach};
+ghost use Rattle.tr_seats.specs.Slots.{ProducerState, SlotState};
 ghost use Rattle.tr_session.specs.Session.{session_of};
 ghost use Rattle.tr_session.specs.Steps.{session_after_clear, session_after_cut, session_clear_answer, session_cut_answer};
+ghost use Rattle.tr_session_book.specs.Book.{SessionBookState};
 ghost use Rattle.tr_stream.specs.History.{History};
 ghost use Rattle.tr_stream.specs.Kept.{IsKept};
 ghost use Rattle.tr_stream.specs.Rules.{by_state};
@@ -64,4 +72,16 @@ pub fn every_step()
         → StandsFor (state_after_switch active s) (history_after_switch active h) }
     ensures look { (s : StreamState) (h : History) (moment : ℕ) → StandsFor s h
         → state_snap moment s ≡ history_snap s.config moment h }
+{}
+
+/// What is said of operators together is said of each: what it did is what the session's book has, and all that was done to the
+/// streams but offers and takes is what the steps of all did. Does nothing.
+pub fn every_operator()
+    ensures book { (planned book : SessionBookState) (operators : List (List DeskStep)) (all : Bool)
+        (operations : List (List StreamStep)) → HaveDone planned operators all book operations
+        → AllByRecursion (λ steps. IsOperatorOf planned steps book) operators }
+    ensures streams { (planned book : SessionBookState) (operators : List (List DeskStep)) (all : Bool)
+        (producers : List ProducerState) (drainers : List DrainerState) (streams : List StreamState)
+        → HaveOneHistory planned operators all producers drainers book streams → IsOneEach (length streams) producers
+        → AllByRecursion (λ steps. HasOperated planned steps book streams) operators }
 {}

@@ -123,7 +123,7 @@ mod totals;
 
 pub use desk::Desk;
 pub use drainer::{Drainer, DrainerBegun};
-pub use laws::{every_clear, every_cut, every_step};
+pub use laws::{every_clear, every_cut, every_operator, every_step};
 pub use making::{plan, plan_watched};
 pub use names::Names;
 pub use opened::{Opened, Unsettled};

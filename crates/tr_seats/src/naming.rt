@@ -108,7 +108,7 @@ impl<N: Names, A: Allocator + Copy> Named<N, A> {
         requires all { self ≡ length N.plan.books }
         requires plan { IsPlan N.plan × AreUnused N.plan.session.streams }
         requires book { book ≡ N.plan.session.book }
-        requires journal { (journal.table ≡ N.plan.desk) × (journal.lines ≡ []) }
+        requires journal { (journal.table ≡ N.plan.desk) × (journal.lines ≡ []) × (journal.made ≡ 1) }
         requires room { (vec_len room ≡ 0) × (length N.plan.books ≤ vec_capacity room) }
         ensures opened { result.0 ≡ opened_of N.plan }
         ensures producers { AreNew (length N.plan.books) result.1.items }

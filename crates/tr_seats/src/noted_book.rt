@@ -10,8 +10,8 @@ ghost use Rattle.tr_seats.specs.Accounts.{IsOperatedBy, IsSeatAt};
 ghost use Rattle.tr_seats.specs.Books.{IsPlanned, books_at};
 ghost use Rattle.tr_seats.specs.Clears.{seat_after_clear};
 ghost use Rattle.tr_seats.specs.Cuts.{book_if_cut, seat_after_cut, seat_of_cuts_after};
-ghost use Rattle.tr_seats.specs.Histories.{AreDeskWith};
-ghost use Rattle.tr_seats.specs.Operators.{AreNewDeskSeats, with_step};
+ghost use Rattle.tr_seats.specs.Histories.{AreDeskWith, operations_in};
+ghost use Rattle.tr_seats.specs.Operators.{AreNewDeskSeats, HaveDone, with_step};
 ghost use Rattle.tr_seats.specs.Settling.{AreInPlace, HasOperated, streams_of};
 ghost use Rattle.tr_seats.specs.Slots.{SlotState};
 ghost use Rattle.tr_seats.specs.Sums.{totals_in};
@@ -22,7 +22,7 @@ ghost use Rattle.tr_stream.specs.Steps.{ClearsSome};
 
 use crate::account::StreamSeat;
 use crate::names::Names;
-use crate::operator::Operator;
+use crate::operator::{Operator, audit_operators};
 use crate::slot::Slot;
 use std::alloc::{Allocator, Global};
 use std::marker::{Model, PhantomData};
@@ -42,6 +42,8 @@ pub(crate) struct NotedBook<N: Names, A: Allocator = Global> {
     book: SessionBook<A>,
     journal: Journal<DeskStep, A>,
     streams: Vec<StreamSeat, A>,
+    // how many were made, or the largest number
+    operators: u64,
     of: PhantomData<N>,
 }
 
@@ -53,7 +55,7 @@ impl<N: Names, A: Allocator> Model for NotedBook<N, A> {
 
     ghost view = { λ b. b.book };
 
-    ghost invariant = { λ b. IsDeskJournal N.plan b.book b.journal b.streams.items };
+    ghost invariant = { λ b. IsDeskJournal N.plan b.operators b.book b.journal b.streams.items };
 }
 
 impl<N: Names, A: Allocator> NotedBook<N, A> {
@@ -64,7 +66,7 @@ impl<N: Names, A: Allocator> NotedBook<N, A> {
         streams: Vec<StreamSeat, A>,
     ) -> NotedBook<N, A>
         requires book { book ≡ N.plan.session.book }
-        requires journal { (journal.table ≡ N.plan.desk) × (journal.lines ≡ []) }
+        requires journal { (journal.table ≡ N.plan.desk) × (journal.lines ≡ []) × (journal.made ≡ 1) }
         requires streams { AreNewDeskSeats (length N.plan.books) N.plan.books streams.items }
         ensures { result ≡ book }
     {
@@ -72,6 +74,7 @@ impl<N: Names, A: Allocator> NotedBook<N, A> {
             book,
             journal,
             streams,
+            operators: 0,
             of: PhantomData,
         }
     }
@@ -83,18 +86,26 @@ impl<N: Names, A: Allocator> NotedBook<N, A> {
         &self.book
     }
 
-    /// The book itself, and the desk's seats in the journals of the streams, in order of number.
-    pub(crate) fn into_parts(self) -> (SessionBook<A>, Vec<StreamSeat, A>)
+    /// The book itself, and the desk's seats in the journals of the streams, in order of number; and whether these are all
+    /// operators that were made, in that order.
+    pub(crate) fn into_parts(
+        self,
+        operators: &mut [Operator<N>],
+    ) -> (SessionBook<A>, Vec<StreamSeat, A>, bool)
         ensures book { result.0 ≡ self }
         ensures streams { AreDeskWith N.plan.books [] result.1.items }
+        ensures same { operators.new ≡ operators.old }
+        ensures done { HaveDone N.plan.session.book operators.old result.2 self (operations_in result.1.items) }
     {
         let NotedBook {
             book,
-            journal: _,
+            mut journal,
             streams,
+            operators: made,
             of: _,
         } = self;
-        (book, streams)
+        let all = audit_operators(&mut journal, operators, made);
+        (book, streams, all)
     }
 
     /// A new operator, who did nothing yet. It takes no memory.
@@ -102,7 +113,11 @@ impl<N: Names, A: Allocator> NotedBook<N, A> {
         ensures same { self.new ≡ self.old }
         ensures new { result ≡ [] }
     {
+        if self.operators < u64::MAX {
+            self.operators += 1;
+        }
         Operator {
+            number: self.operators,
             seat: self.journal.split(),
             of: PhantomData,
         }

@@ -1,8 +1,8 @@
 //! A session out of its locks.
 
-ghost use Rattle.std.specs.Prelude.{◌≡◌, ◌+◌, ◌≤◌, IfErr, IfOk, length, sum_by, vec_capacity, vec_len};
+ghost use Rattle.std.specs.Prelude.{◌≡◌, ◌+◌, ◌≤◌, [], false, IfErr, IfOk, length, sum_by, vec_capacity, vec_len};
 ghost use Rattle.tr_operations.specs.Operations.{IsOperatorOf};
-ghost use Rattle.tr_seats.specs.Settling.{AddUp, AreAccountsOf, AreInPlace, ArePacketsOf, AreTheirs, CanSettle, HasOperated, HaveCleared, HaveConsumed, HaveHistories, WereConsumed, IsSessionOf, IsWhy, opened_state, streams_of, totals_of_seats};
+ghost use Rattle.tr_seats.specs.Settling.{AddUp, AreAccountsOf, AreInPlace, ArePacketsOf, AreTheirs, CanSettle, HasOperated, HaveCleared, HaveConsumed, HaveOneHistory, WereConsumed, IsSessionOf, IsWhy, opened_state, streams_of, totals_of_seats};
 ghost use Rattle.tr_seats.specs.Sums.{totals_of};
 ghost use Rattle.tr_session.specs.Session.{session_of};
 
@@ -54,6 +54,9 @@ pub struct Unsettled<N: Names, A: Allocator = Global> {
     /// The drainers that were given.
     pub drainers: Vec<Drainer<N, A>, A>,
 }
+
+/// A session that was settled, what all did together, and whether all operators were lent.
+type WithOperators<A> = (Settled<A>, Totals, bool);
 
 impl<N: Names, A: Allocator> Opened<N, A> {
     /// A session of its parts: its desk, a slot for each stream of the plan, and empty room for as many streams. It takes
@@ -129,7 +132,49 @@ impl<N: Names, A: Allocator + Copy> Opened<N, A> {
         ensures accounts { IfOk result (λ r. AreAccountsOf producers.items r.0.streams) }
         ensures taken { IfOk result (λ r. HaveConsumed self.desk.consumed drainers.items r.0.streams) }
         ensures packets { IfOk result (λ r. ArePacketsOf drainers.items r.0.streams) }
-        ensures histories { IfOk result (λ r. HaveHistories producers.items drainers.items r.0.streams) }
+        ensures histories { IfOk result (λ r. HaveOneHistory N.plan.session.book [] false producers.items drainers.items
+            r.0.book r.0.streams) }
+        ensures cleared { IfOk result (λ r. HaveCleared self.desk.cleared r.0.streams) }
+        ensures places { IfOk result (λ r. AddUp r.1 (streams_of self.slots)) }
+        ensures consumed { IfOk result (λ r. WereConsumed r.1 (streams_of self.slots)) }
+        ensures snapshot_session { N.plan.session.book.mode ≡ SessionMode.Snapshot
+            → IfOk result (λ r. (r.1.consumed ≡ 0) × (r.1.cleared ≡ 0)) }
+        ensures why { IfErr result (λ u. IsWhy u.error producers.items (length drainers.items) self) }
+        ensures back { IfErr result
+            (λ u. (u.opened ≡ self) × (u.producers ≡ producers) × (u.drainers ≡ drainers)) }
+    {
+        let mut nobody = Vec::new(self.alloc);
+        match self.settle_with(nobody.as_mut_slice(), producers, drainers) {
+            Ok((settled, totals, _)) => Ok((settled, totals)),
+            Err(unsettled) => Err(unsettled),
+        }
+    }
+
+    /// The same, which also shows that each of these operators has just the steps of one seat among those that were made at the
+    /// desk, and answers whether these are all operators that were made, in that order: then each of those steps is one of
+    /// theirs. A call that is lent no operator makes one for itself, which nobody can lend.
+    ///
+    /// # Errors
+    ///
+    /// Those of `settle`.
+    pub fn settle_with(
+        self,
+        operators: &mut [Operator<N>],
+        producers: Vec<Producer<N, A>, A>,
+        drainers: Vec<Drainer<N, A>, A>,
+    ) -> Result<WithOperators<A>, Unsettled<N, A>>
+        ensures same { operators.new ≡ operators.old }
+        ensures may { IfOk result (λ r. CanSettle producers.items (length drainers.items) self) }
+        ensures session { IfOk result (λ r. r.0 ≡ session_of self.desk.book (streams_of self.slots)) }
+        ensures planned { IfOk result (λ r. IsSessionOf N.plan r.0) }
+        ensures totals { IfOk result (λ r. r.1 ≡ totals_of (streams_of self.slots)) }
+        ensures seats { IfOk result (λ r. r.1 ≡ totals_of_seats producers.items drainers.items self.desk) }
+        ensures own { IfOk result (λ r. AreTheirs producers.items r.0.streams) }
+        ensures accounts { IfOk result (λ r. AreAccountsOf producers.items r.0.streams) }
+        ensures taken { IfOk result (λ r. HaveConsumed self.desk.consumed drainers.items r.0.streams) }
+        ensures packets { IfOk result (λ r. ArePacketsOf drainers.items r.0.streams) }
+        ensures histories { IfOk result (λ r. HaveOneHistory N.plan.session.book operators.old r.2 producers.items
+            drainers.items r.0.book r.0.streams) }
         ensures cleared { IfOk result (λ r. HaveCleared self.desk.cleared r.0.streams) }
         ensures places { IfOk result (λ r. AddUp r.1 (streams_of self.slots)) }
         ensures consumed { IfOk result (λ r. WereConsumed r.1 (streams_of self.slots)) }
@@ -153,7 +198,7 @@ impl<N: Names, A: Allocator + Copy> Opened<N, A> {
                     slots,
                     room,
                 } = self;
-                Ok(settle_all(alloc, desk, slots, producers, drainers, room))
+                Ok(settle_all(alloc, desk, slots, producers, drainers, room, operators))
             }
         }
     }

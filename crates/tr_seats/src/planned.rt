@@ -140,7 +140,7 @@ impl<A: Allocator> Model for Plan<A> {
     ghost invariant = { λ p.
         IsPlan (plan_state (session_of p.book (streams_in p.streams.items)) (books_in p.streams.items) p.tally p.journal.table)
         × AreUnused (streams_in p.streams.items) × AreTellersFrom 0 p.tally.table (tellers_in p.streams.items)
-        × (p.watchers.items ≡ new_watchers p.tally.table p.tally.streams p.tally.watchers) × (p.journal.lines ≡ []) };
+        × (p.watchers.items ≡ new_watchers p.tally.table p.tally.streams p.tally.watchers) × (p.journal.lines ≡ []) × (p.journal.made ≡ 1) };
 }
 
 /// A session out of its locks, the producers of its streams, and watchers.

@@ -2,6 +2,8 @@
 
 ghost use Rattle.std.specs.List.{AllByRecursion};
 ghost use Rattle.std.specs.Prelude.{◌≡◌, ◌+◌, ◌<◌, ◌≤◌, ◌==◌, ◌↔◌, ℕ, [], IsTrue, MatchOption, count_by, length, map, slice_index_or, slice_set, sum, sum_by, vec_capacity, vec_len};
+ghost use Rattle.tr_accounts.specs.declared.step.StreamStep.{StreamStep};
+ghost use Rattle.tr_journal.specs.Journals as journal;
 ghost use Rattle.tr_ledger.specs.Ledgers.{SeatState, seat_state};
 ghost use Rattle.tr_seats.specs.Accounts.{IsAccountOf, IsTakenFrom};
 ghost use Rattle.tr_seats.specs.Books.{IsPlanned, books_at, cleared_books, consumed_books, cut_books};
@@ -9,7 +11,7 @@ ghost use Rattle.tr_seats.specs.Desks.{DeskState};
 ghost use Rattle.tr_seats.specs.Drainers.{DrainerState, taken_at};
 ghost use Rattle.tr_seats.specs.Faults.{settle_error_code, settle_error_name};
 ghost use Rattle.tr_seats.specs.Histories.{AreDeskWith};
-ghost use Rattle.tr_seats.specs.Settling.{AddUp, AreAccountsOf, AreAllMade, AreInPlace, ArePacketsOf, AreTheirs, AreWhole, CanSettle, HaveCleared, HaveConsumed, HaveHistories, IsOneEach, IsSessionOf, IsWhy, WereConsumed, opened_state, streams_of, taken_of, totals_of_seats};
+ghost use Rattle.tr_seats.specs.Settling.{AddUp, AreAccountsOf, AreAllMade, AreInPlace, ArePacketsOf, AreTheirs, AreWhole, CanSettle, HaveCleared, HaveConsumed, HaveOneHistory, IsOneEach, IsSessionOf, IsWhy, WereConsumed, opened_state, streams_of, taken_of, totals_of_seats};
 ghost use Rattle.tr_seats.specs.Slots.{AreJoined, AreSeatsOf, IsOwn, ProducerState, SlotState, amounts_of};
 ghost use Rattle.tr_seats.specs.Sums.{totals_in, totals_of};
 ghost use Rattle.tr_session.specs.Session.{session_of};
@@ -20,6 +22,7 @@ use crate::desk::Desk;
 use crate::drainer::Drainer;
 use crate::histories::{join_producers, join_takes};
 use crate::names::Names;
+use crate::operator::Operator;
 use crate::producer::Producer;
 use crate::settled::Settled;
 use crate::slot::Slot;
@@ -310,6 +313,8 @@ fn join_drainers<N: Names, A: Allocator>(
     ensures packets { (k i : ℕ) (d : DrainerState) (s : SlotState) → k < length drainers.items → i < length slots.old
         → IsTakenFrom (taken_at (slice_index_or drainers.items k d) i) (slice_index_or slots.old i s).stream }
     ensures noted { AreDeskWith N.plan.books drainers.items noted.new }
+    ensures operations { (i : ℕ) (d : journal.SeatState StreamStep) → i < length N.plan.books
+        → (slice_index_or noted.new i d).own ≡ (slice_index_or noted.old i d).own }
 {
     for mut drainer in drainers {
         audit_takes(slots, &mut drainer);
@@ -365,6 +370,8 @@ fn join_all<N: Names, A: Allocator>(
     ensures planned { (k : ℕ) (s : SlotState) → k < length slots.old
         → IsPlanned N.plan k (slice_index_or slots.old k s).stream.config }
     ensures noted { AreDeskWith N.plan.books drainers.items noted.new }
+    ensures operations { (i : ℕ) (d : journal.SeatState StreamStep) → i < length N.plan.books
+        → (slice_index_or noted.new i d).own ≡ (slice_index_or noted.old i d).own }
 {
     audit_producers(slots, producers);
     join_drainers(slots, mine, noted, drainers);
@@ -388,7 +395,7 @@ fn streams_out<N: Names, A: Allocator>(
     room
 }
 
-/// Settles what can be settled.
+/// Settles what can be settled, and answers whether these are all operators that were made, in that order.
 pub(crate) fn settle_all<N: Names, A: Allocator + Copy>(
     alloc: A,
     desk: Desk<N, A>,
@@ -396,7 +403,8 @@ pub(crate) fn settle_all<N: Names, A: Allocator + Copy>(
     mut producers: Vec<Producer<N, A>, A>,
     drainers: Vec<Drainer<N, A>, A>,
     room: Vec<Stream<A>, A>,
-) -> (Settled<A>, Totals)
+    operators: &mut [Operator<N>],
+) -> (Settled<A>, Totals, bool)
     requires slots { length slots.items ≡ length N.plan.books }
     requires may { CanSettle producers.items (length drainers.items) (opened_state desk slots.items) }
     requires room { (vec_len room ≡ 0) × (length N.plan.books ≤ vec_capacity room) }
@@ -408,7 +416,9 @@ pub(crate) fn settle_all<N: Names, A: Allocator + Copy>(
     ensures accounts { AreAccountsOf producers.items (streams_of slots.items) }
     ensures taken { HaveConsumed desk.consumed drainers.items (streams_of slots.items) }
     ensures packets { ArePacketsOf drainers.items (streams_of slots.items) }
-    ensures histories { HaveHistories producers.items drainers.items (streams_of slots.items) }
+    ensures same { operators.new ≡ operators.old }
+    ensures histories { HaveOneHistory N.plan.session.book operators.old result.2 producers.items drainers.items desk.book
+        (streams_of slots.items) }
     ensures cleared { HaveCleared desk.cleared (streams_of slots.items) }
     ensures places { AddUp result.1 (streams_of slots.items) }
     ensures consumed { WereConsumed result.1 (streams_of slots.items) }
@@ -424,7 +434,7 @@ pub(crate) fn settle_all<N: Names, A: Allocator + Copy>(
         of: _,
     } = desk;
     let totals = sums(&slots);
-    let (book, mut noted) = book.into_parts();
+    let (book, mut noted, all) = book.into_parts(operators);
     join_all(
         slots.as_mut_slice(),
         producers.as_mut_slice(),
@@ -439,5 +449,6 @@ pub(crate) fn settle_all<N: Names, A: Allocator + Copy>(
     (
         Settled::of(Session::from_parts(alloc, book, streams)),
         totals,
+        all,
     )
 }

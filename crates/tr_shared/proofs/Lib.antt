@@ -3,7 +3,6 @@ pub mod LayoutLemmas
 pub mod ModeLemmas
 pub mod RoomLemmas
 pub mod RotationLemmas
-pub mod SettledLemmas
 pub mod ShownLemmas
 pub mod SnapLemmas
 pub mod StepLemmas

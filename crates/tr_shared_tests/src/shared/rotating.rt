@@ -301,8 +301,9 @@ fn a_tick_asks_for_the_size_of_each_stream(rt: HostRuntime) {
     ticks_by_the_second::<Brand>(&rt, plan_of(&rt, rt.alloc(), Mode::Discard, 2));
 }
 
-/// What an operator does in a name of its own is answered as without one, and settled with it.
-fn operates<N: Names>(rt: &(impl Abort + Wait), alloc: Global, plan: Plan)
+/// What two operators do in names of their own is answered as without one, and settled with them. A third one starts the session
+/// again unless they are all, and isn't lent.
+fn operates<N: Names>(rt: &(impl Abort + Wait), alloc: Global, plan: Plan, all: bool)
     requires { plan ≡ N.plan }
 {
     let (shared, mut producers) = built::<N>(rt, plan);
@@ -326,14 +327,23 @@ fn operates<N: Names>(rt: &(impl Abort + Wait), alloc: Global, plan: Plan)
     let ticked = shared.tick_by(rt, &mut second, moment(9));
     assert_same(rt, ticked, Ok(Ticked::Idle));
     assert_same(rt, shared.stop_by(rt, &mut first), Ok(()));
-    assert_same(rt, shared.start_by(rt, &mut first, moment(10)), Ok(()));
+    if all {
+        assert_same(rt, shared.start_by(rt, &mut first, moment(10)), Ok(()));
+    } else {
+        let mut third = shared.operator(rt);
+        assert_same(rt, shared.start_by(rt, &mut third, moment(10)), Ok(()));
+        drop(third);
+    }
     push(rt, &mut producers, producer);
-    let answer = shared.settle_with(&mut first, producers, Vec::new(alloc));
-    let (settled, totals) = granted(rt, answer, "settled session");
+    let mut operators = Vec::new(alloc);
+    push(rt, &mut operators, first);
+    push(rt, &mut operators, second);
+    let answer = shared.settle_with(operators.as_mut_slice(), producers, Vec::new(alloc));
+    let (settled, totals, are_all) = granted(rt, answer, "settled session");
     assert_operated(rt, &settled, totals);
+    assert_same(rt, are_all, all);
     drop(settled);
-    drop(second);
-    drop(first);
+    drop(operators);
 }
 
 /// Asserts that the session is active with its two archives, and what became of its two records.
@@ -350,5 +360,10 @@ fn assert_operated(rt: &impl Abort, settled: &Settled, totals: Totals) {
 
 #[test]
 fn an_operator_is_answered_as_without_one(rt: HostRuntime) {
-    operates::<Brand>(&rt, rt.alloc(), plan_of(&rt, rt.alloc(), Mode::Discard, 1));
+    operates::<Brand>(&rt, rt.alloc(), plan_of(&rt, rt.alloc(), Mode::Discard, 1), true);
+}
+
+#[test]
+fn two_of_three_operators_are_not_all(rt: HostRuntime) {
+    operates::<Brand>(&rt, rt.alloc(), plan_of(&rt, rt.alloc(), Mode::Discard, 1), false);
 }

@@ -108,6 +108,7 @@ loop-producer-preserved g c =
             ∙ v.apart k d (λ j p lt. others j p (omega (arith, next, lt)));
         histories = λ k p d s lt.
             below_more (λ k. IsHistoryOf (get_or producers k p).steps (takes_joined (get_or first (get_or producers k p).number d))
+            (get_or first (get_or producers k p).number d).own
             (get_or slots (get_or producers k p).number s).stream) n
             (λ k lt. v.histories k p d s lt)
             (let wide : i < length first = omega (arith, below, c.requires.many) in
@@ -116,7 +117,7 @@ loop-producer-preserved g c =
             same ∙ get_or_default first i read d wide ∙ ap (λ m. get_or first m d) (sym (number p)) in
             let slot : get_or c.loop-producer.slots i c.index-slots-i.result ≡ get_or slots (get_or producers n p).number s =
             read-same c.loop-producer.slots slots i c.index-slots-i.result s v.slots_same long ∙ ap (λ m. get_or slots m s) (sym (number p)) in
-            subst (λ (y : ProducerState × SeatState StreamStep × SlotState). IsHistoryOf y.0.steps (takes_joined y.1) y.2.stream)
+            subst (λ (y : ProducerState × SeatState StreamStep × SlotState). IsHistoryOf y.0.steps (takes_joined y.1) y.1.own y.2.stream)
             (λ j. (sym (there p) j, seat j, slot j)) c.join_producer.ensures.history)
             k (subst (λ m. k < m) next lt);
       },

@@ -18,5 +18,6 @@ invariant-loop-producer g l =
       histories : (k : ℕ) (p : ProducerState) (d : SeatState StreamStep) (s : SlotState) → k < length l.yielded
           → IsHistoryOf (get_or l.fn.producers.items k p).steps
           (takes_joined (get_or l.initial.desk (get_or l.fn.producers.items k p).number d))
+          (get_or l.initial.desk (get_or l.fn.producers.items k p).number d).own
           (get_or l.initial.slots (get_or l.fn.producers.items k p).number s).stream;
     }

@@ -41,6 +41,7 @@ invariant_of-result g c =
       c.in_ok-tally.ensures.watchers
           ∙ ap (λ (t : TallyState). new_watchers t.table t.streams t.watchers) (sym c.in_ok-tally.ensures.tally),
       ap (λ (j : JournalState DeskStep). j.lines) c.in_ok-journal.ensures.0,
+      ap (λ (j : JournalState DeskStep). j.made) c.in_ok-journal.ensures.0,
     )
 
 pub returns-clause-session : goal.returns-clause-session

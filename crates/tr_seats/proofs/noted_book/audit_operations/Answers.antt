@@ -1,4 +1,4 @@
-use Rattle.std.proofs.Common.{◌≡◌, ◌<◌, ◌∙◌, ap, arith, below_more, get_or, length, refl, subst, sym}
+use Rattle.std.proofs.Common.{◌≡◌, ◌<◌, ◌∙◌, ap, arith, below_more, get_or, length, subst, sym}
 use Rattle.tr_accounts.specs.Seats.{desk_seat}
 use Rattle.tr_accounts.specs.declared.step.StreamStep.{StreamStep}
 use Rattle.tr_journal.specs.Journals.{SeatState}

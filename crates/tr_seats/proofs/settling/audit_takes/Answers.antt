@@ -1,4 +1,4 @@
-use Rattle.std.proofs.Common.{◌≡◌, ◌<◌, ◌∙◌, ap, arith, below_more, get_or, length, subst, sym}
+use Rattle.std.proofs.Common.{◌<◌, ◌∙◌, ap, arith, below_more, get_or, length, subst, sym}
 use Rattle.tr_seats.proofs.Joins.{put-back, read-same}
 use Rattle.tr_seats.proofs.settling.audit_takes.Goals as goal
 use Rattle.tr_seats.specs.Accounts.{IsTakenFrom}

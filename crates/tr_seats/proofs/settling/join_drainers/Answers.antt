@@ -4,6 +4,8 @@ use Rattle.std.specs.List.{sum_by}
 use Rattle.std.proofs.lemmas.List.{get_or-map, get_or_default, length-drop, length-map, length_push, take_all, take_more}
 use Rattle.std.proofs.lemmas.List.Sums.{sum_by_push}
 use Rattle.std.proofs.lemmas.Option.{get_or_from_slice_get}
+use Rattle.tr_accounts.specs.declared.step.StreamStep.{StreamStep}
+use Rattle.tr_journal.specs.Journals as journal
 use Rattle.tr_ledger.specs.Ledgers.{SeatState}
 use Rattle.tr_seats.proofs.HistoryLemmas.{desk-more}
 use Rattle.tr_seats.proofs.Joins.{tables-length}
@@ -31,6 +33,7 @@ loop-drainer-init g c = (
     amounts = omega arith;
     each = λ k d lt. omega arith;
     noted = c.requires.noted;
+    operations = λ i d lt. refl;
     packets = λ k i d s lt wide. absurd (omega (arith, lt));
   },
 )
@@ -91,6 +94,8 @@ loop-drainer-preserved g c =
             (sym (take_more all i x within ∙ (λ k. take i all ++ there k ∷ [])) ∙ ap (λ n. take n all) (sym next))
             (desk-more books (take i all) x c.loop-drainer.noted c.join_takes.new.desk c.drainer.inside.takes.items v.noted
             c.drainer.invariant.1 took c.join_takes.ensures.many c.join_takes.ensures.joined);
+        operations = λ k d lt.
+            ap (λ (s : journal.SeatState StreamStep). s.own) (c.join_takes.ensures.joined k d d lt) ∙ v.operations k d lt;
         packets = λ k j d s lt wide.
             below_more (λ k. IsTakenFrom (taken_at (get_or all k d) j) (get_or c.args.slots.now j s).stream) i
             (λ k lt. v.packets k j d s lt wide)

@@ -2,6 +2,8 @@ use Rattle.std.proofs.Common.{◌≡◌, ℕ, ◌+◌, ◌≤◌, ◌<◌, get_o
 use Rattle.std.specs.Prelude.{sum}
 use Rattle.std.specs.List.{sum_by}
 use Rattle.tr_seats.proofs.settling.join_drainers.Given as goal
+use Rattle.tr_accounts.specs.declared.step.StreamStep.{StreamStep}
+use Rattle.tr_journal.specs.Journals as journal
 use Rattle.tr_ledger.specs.Ledgers.{SeatState}
 use Rattle.tr_seats.specs.Books.{consumed_books}
 use Rattle.tr_seats.specs.Accounts.{IsTakenFrom}
@@ -24,6 +26,8 @@ invariant-loop-drainer g l =
           → (get_or l.seats k d).amount
           ≡ (get_or l.initial.seats k d).amount + taken_of (take (length l.yielded) l.fn.drainers.items) k;
       noted : AreDeskWith g.N.Names.plan.books (take (length l.yielded) l.fn.drainers.items) l.noted;
+      operations : (i : ℕ) (d : journal.SeatState StreamStep) → i < length g.N.Names.plan.books
+          → (get_or l.noted i d).own ≡ (get_or l.initial.noted i d).own;
       packets : (k i : ℕ) (d : DrainerState) (s : SlotState) → k < length l.yielded → i < length l.initial.slots
           → IsTakenFrom (taken_at (get_or l.fn.drainers.items k d) i) (get_or l.initial.slots i s).stream;
     }

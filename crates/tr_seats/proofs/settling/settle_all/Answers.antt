@@ -6,7 +6,7 @@ use Rattle.tr_accounts.specs.declared.step.StreamStep.{StreamStep}
 use Rattle.tr_journal.specs.Journals as noted
 use Rattle.tr_ledger.specs.Ledgers.{SeatState}
 use Rattle.tr_seats.proofs.AllTotals.{AreWithin, have-cleared, have-consumed, their-accounts, their-packets, theirs}
-use Rattle.tr_seats.proofs.HistoryLemmas.{desk-whole, their-histories}
+use Rattle.tr_seats.proofs.HistoryLemmas.{desk-whole, operations-kept, their-histories}
 use Rattle.tr_seats.proofs.Joins.{tables-length, written-back, written-over, written-twice}
 use Rattle.tr_seats.proofs.PlannedLemmas.{planned-mode}
 use Rattle.tr_seats.proofs.SettledLemmas.{settled-planned, settled-streams}
@@ -15,7 +15,8 @@ use Rattle.tr_seats.specs.Accounts.{IsAccountOf, IsTakenFrom}
 use Rattle.tr_seats.specs.Books.{Books, IsPlanned, PlanState, cleared_books, consumed_books, cut_books, no_table}
 use Rattle.tr_seats.specs.Desks.{DeskState}
 use Rattle.tr_seats.specs.Drainers.{DrainerState, taken_at}
-use Rattle.tr_seats.specs.Histories.{AreDeskWith, IsHistoryOf, takes_joined}
+use Rattle.tr_seats.specs.Histories.{AreDeskWith, IsHistoryOf, operations_in, takes_joined}
+use Rattle.tr_seats.specs.Operators.{HaveDone}
 use Rattle.tr_seats.specs.Settling.{AddUp, AreInPlace, HaveCleared, HaveConsumed, IsOneEach, IsSessionOf, WereConsumed, streams_of, taken_of, totals_of_seats}
 use Rattle.tr_seats.specs.Slots.{AreSeatsOf, IsOwn, ProducerState, SlotState, amounts_of}
 use Rattle.tr_seats.specs.Sums.{totals_in, totals_of}
@@ -275,25 +276,40 @@ abbrev HaveHistoriesIn : List ProducerState × List (noted.SeatState StreamStep)
 HaveHistoriesIn x =
     (k : ℕ) (p : ProducerState) (d : noted.SeatState StreamStep) (s : SlotState) → k < length x.0
     → IsHistoryOf (get_or x.0 k p).steps (takes_joined (get_or x.1 (get_or x.0 k p).number d))
-    (get_or x.2 (get_or x.0 k p).number s).stream
+    (get_or x.1 (get_or x.0 k p).number d).own (get_or x.2 (get_or x.0 k p).number s).stream
+
+abbrev AreOperationsOf : ℕ → List (noted.SeatState StreamStep) → List (noted.SeatState StreamStep) → Type 0
+AreOperationsOf n new old = (i : ℕ) (d : noted.SeatState StreamStep) → i < n → (get_or new i d).own ≡ (get_or old i d).own
 
 pub returns-clause-histories : goal.returns-clause-histories
 returns-clause-histories g c =
-    let books = g.N.Names.plan.books in
+    let plan = g.N.Names.plan in
+    let books = plan.books in
     let n = length books in
     let seats = c.into_parts-book.result.1 in
     let drainers = c.args.drainers.items in
     let all = c.args.slots.items in
-    let long = c.join_all.ensures.noted.many ∙ sym c.into_parts-book.ensures.streams.many in
-    let now : c.as_mut_slice-8.result.now ≡ c.join_all.new.noted =
-    c.as_mut_slice-8.ensures.value ∙ written-over seats.items c.join_all.new.noted seats.len long seats.ok.0 in
+    let now = c.join_all.new.noted in
+    let mine = c.into_parts-book.ensures.streams in
+    let long = c.join_all.ensures.noted.many ∙ sym mine.many in
+    let over : c.as_mut_slice-8.result.now ≡ now = c.as_mut_slice-8.ensures.value ∙ written-over seats.items now seats.len long seats.ok.0 in
     let same = c.join_all.ensures.slots ∙ c.as_mut_slice.ensures.value in
     let slots : c.as_mut_slice-7.result.now ≡ all =
     c.as_mut_slice-7.ensures.value ∙ written-back all c.join_all.new.slots c.args.slots.len same c.args.slots.ok.0 in
     let producers = written-back c.args.producers.items c.join_all.new.producers c.args.producers.len
     (c.join_all.ensures.producers ∙ c.as_mut_slice-2.ensures.value) c.args.producers.ok.0 in
     let there : AreWithin n c.args.producers.items = subst (AreWithin n) c.as_mut_slice-2.ensures.value c.join_all.ensures.there in
-    let own : HaveHistoriesIn (c.args.producers.items, c.join_all.new.noted, all) =
-    subst HaveHistoriesIn (λ j. (producers j, now j, slots j)) c.join_producers.ensures.histories in
-    their-histories n books c.args.producers.items drainers c.join_all.new.noted all c.requires.slots refl c.join_all.ensures.noted
-    (noted.new_seat no_table 0) there own
+    let own : HaveHistoriesIn (c.args.producers.items, now, all) =
+    subst HaveHistoriesIn (λ j. (producers j, over j, slots j)) c.join_producers.ensures.histories in
+    let kept : AreOperationsOf n now seats.items =
+    subst (AreOperationsOf n now) c.as_mut_slice-6.ensures.value c.join_all.ensures.operations in
+    let operations = operations_in seats.items in
+    record {
+      operations = operations;
+      many = length-map seats.items (λ (s : noted.SeatState StreamStep). s.own) ∙ mine.many ∙ sym c.requires.slots
+          ∙ sym (length-map all (λ (s : SlotState). s.stream));
+      done = subst (λ (d : DeskState). HaveDone plan.session.book c.args.operators.now c.into_parts-book.result.2 d.book operations) c.desk.view_is
+          c.into_parts-book.ensures.done;
+      histories = their-histories n books c.args.producers.items drainers operations now all c.requires.slots refl c.join_all.ensures.noted
+          (noted.new_seat no_table 0) (operations-kept n seats.items now mine.many kept) there own;
+    }

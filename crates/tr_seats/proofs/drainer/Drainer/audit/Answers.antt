@@ -1,4 +1,4 @@
-use Rattle.std.proofs.Common.{◌≡◌, ◌∙◌, ◌<◌, ap, arith, get_or, length, set, subst, sym}
+use Rattle.std.proofs.Common.{◌≡◌, ◌∙◌, ◌<◌, ap, arith, length, set, subst, sym}
 use Rattle.std.proofs.lemmas.List.{get_or-map}
 use Rattle.tr_accounts.specs.StreamSteps.{taken_in}
 use Rattle.tr_accounts.specs.declared.step.StreamStep.{StreamStep}

@@ -8,7 +8,7 @@ use Rattle.tr_seats.proofs.OperatorLemmas.{operated-all}
 use Rattle.tr_seats.proofs.noted_book.NotedBook.audit_streams.Goals as goal
 use Rattle.tr_seats.specs.Accounts.{IsOperatedBy, IsSeatAt}
 use Rattle.tr_seats.specs.Books.{books_at}
-use Rattle.tr_seats.specs.Operators.{IsDeskJournal}
+use Rattle.tr_seats.specs.Operators.{IsDeskJournal, IsOperatorSeat}
 use Rattle.tr_seats.specs.Settling.{HasOperated, streams_of}
 use Rattle.tr_seats.specs.Slots.{SlotState}
 use Rattle.tr_session_book.specs.Book.{SessionBookState}
@@ -26,7 +26,7 @@ invariant_of-self g c =
     let seats = old.streams in
     let back = written-back seats.items c.audit_operations.new.seats seats.len (c.audit_operations.ensures.same.1 ∙ c.as_mut_slice.ensures.value)
     seats.ok.0 in
-    subst (λ (x : JournalState DeskStep × List (SeatState StreamStep)). IsDeskJournal g.N.Names.plan old.book x.0 x.1)
+    subst (λ (x : JournalState DeskStep × List (SeatState StreamStep)). IsDeskJournal g.N.Names.plan old.operators old.book x.0 x.1)
     (λ j. (sym c.audit.ensures.same.0 j, sym back j)) c.self.invariant
 
 pub returns-clause-own : goal.returns-clause-own
@@ -36,7 +36,11 @@ returns-clause-own g c =
     let plan = g.N.Names.plan in
     subst (λ (x : List DeskStep × SessionBookState). HasOperated plan.session.book x.0 x.1 (streams_of slots))
     (λ j. (c.operator.view_is j, c.self.view_is j))
-    (operated-all plan old.book old.journal c.operator.inside.seat old.streams.items slots c.self.invariant c.audit.ensures.own
+    (operated-all plan old.operators old.book old.journal c.operator.inside.seat old.streams.items slots c.self.invariant c.audit.ensures.own
     c.requires.0
     (subst (λ (seats : List (SeatState StreamStep)). (i : ℕ) (d : SeatState StreamStep) (s : SlotState) → i < length slots
     → IsOperatedBy (get_or seats i d).own (get_or slots i s).stream) c.as_mut_slice.ensures.value c.audit_operations.ensures.operated))
+
+pub invariant_of-operator : goal.invariant_of-operator
+invariant_of-operator g c =
+    subst (IsOperatorSeat g.N.Names.plan.desk c.operator.inside.number) (sym c.audit.ensures.same.1) c.operator.invariant

@@ -20,7 +20,7 @@ invariant_of-self g c =
     (λ j. cut_moment (c.number-stream.ensures.number j) (c.self.view_is j)) ∙ c.requires.due in
     let allowed : IsOk (cut_moment k old.book) = ap is_ok due in
     let cut = cuts_at (cut_moment k old.book) done in
-    journal-done plan old.book c.note_cut.new.self old.journal c.note.new.journal c.operator.inside.seat.who (step.Cut k (Ok done))
+    journal-done plan old.operators old.book c.note_cut.new.self old.journal c.note.new.journal c.operator.inside.seat.who c.operator.invariant.2 c.note.ensures.own.each.0.0 (step.Cut k (Ok done))
     old.streams.items c.self.invariant c.note.ensures.journal (allowed, c.note_cut.ensures.after) k (cut_step c.args.moment (Ok done))
     c.index_mut.result.now c.cut.new.desk c.number-stream.ensures.there c.index_mut.ensures.value c.in-Ok.ensures.desk
     (does-here k cut ∙ ap (λ (r : Result ℕ SessionFault). cuts_at r done) due) (λ i apart. does-elsewhere i k cut apart)
@@ -35,6 +35,6 @@ invariant_of-self-in-Err g c =
     (λ j. cut_moment (c.number-stream.ensures.number j) (c.self.view_is j)) ∙ c.requires.due in
     let allowed : IsOk (cut_moment k old.book) = ap is_ok due in
     let same = put-back old.streams.items k c.cut.new.desk c.index_mut.result.now (c.in-Err.ensures.desk ∙ c.index_mut.ensures.value) in
-    subst (IsDeskJournal plan old.book after) (sym same)
-    (journal-noted plan old.book old.book old.journal after c.operator.inside.seat.who (step.Cut k (Err (step_fault.Cut c.in-Err.fault)))
+    subst (IsDeskJournal plan old.operators old.book after) (sym same)
+    (journal-noted plan old.operators old.book old.book old.journal after c.operator.inside.seat.who c.operator.invariant.2 c.note-in-Err.ensures.own.each.0.0 (step.Cut k (Err (step_fault.Cut c.in-Err.fault)))
     old.streams.items c.self.invariant c.note-in-Err.ensures.journal (allowed, refl) (λ i. refl))

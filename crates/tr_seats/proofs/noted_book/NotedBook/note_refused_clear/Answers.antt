@@ -9,5 +9,5 @@ invariant_of-self g c =
     let plan = g.N.Names.plan in
     let old = c.self.inside in
     let refused = subst (λ b. book_clear_answer b ≡ Err c.args.fault) (sym c.self.view_is) c.requires in
-    journal-noted plan old.book old.book old.journal c.note.new.journal c.operator.inside.seat.who
+    journal-noted plan old.operators old.book old.book old.journal c.note.new.journal c.operator.inside.seat.who c.operator.invariant.2 c.note.ensures.own.each.0.0
     (step.Clear c.args.stream (Err c.args.fault)) old.streams.items c.self.invariant c.note.ensures.journal (inr refused, refl) (λ i. refl)

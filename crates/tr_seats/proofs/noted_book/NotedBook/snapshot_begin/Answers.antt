@@ -1,4 +1,4 @@
-use Rattle.std.proofs.Common.{refl, rules}
+use Rattle.std.proofs.Common.{refl}
 use Rattle.tr_operations.specs.declared.step.DeskStep.TheVariants as step
 use Rattle.tr_seats.proofs.OperatorLemmas.{journal-noted}
 use Rattle.tr_seats.proofs.noted_book.NotedBook.snapshot_begin.Goals as goal
@@ -7,5 +7,5 @@ pub invariant_of-self : goal.invariant_of-self
 invariant_of-self g c =
     let plan = g.N.Names.plan in
     let old = c.self.inside in
-    journal-noted plan old.book c.snapshot_begin-answer.new.self old.journal c.note.new.journal c.operator.inside.seat.who
+    journal-noted plan old.operators old.book c.snapshot_begin-answer.new.self old.journal c.note.new.journal c.operator.inside.seat.who c.operator.invariant.2 c.note.ensures.own.each.0.0
     (step.SnapshotBegin c.args.moment c.snapshot_begin-answer.result) old.streams.items c.self.invariant c.note.ensures.journal (c.snapshot_begin-answer.ensures.answer, c.snapshot_begin-answer.ensures.after) (λ i. refl)

@@ -84,7 +84,7 @@ finish-opened-requires-clause-book g c =
 
 pub finish-opened-requires-clause-journal : goal.finish-opened-requires-clause-journal
 finish-opened-requires-clause-journal g c =
-    (ap (λ (p : PlanState). p.desk) (c.self.view_is ∙ c.requires), c.self.invariant.4)
+    (ap (λ (p : PlanState). p.desk) (c.self.view_is ∙ c.requires), c.self.invariant.4, c.self.invariant.5)
 
 pub finish-opened-requires-clause-room : goal.finish-opened-requires-clause-room
 finish-opened-requires-clause-room g c =

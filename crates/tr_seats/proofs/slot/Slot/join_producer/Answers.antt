@@ -19,7 +19,7 @@ returns-clause-history g c =
     subst (λ (n : ℕ). IsSeatAt (books_at books n).journal producer_seat seat) same c.producer.invariant.3 in
     let with : IsDeskWith (books_at books old.number).journal desk =
     subst (λ (n : ℕ). IsDeskWith (books_at books n).journal desk) number c.requires.desk in
-    subst (λ (x : ProducerState × SlotState). IsHistoryOf x.0.steps (takes_joined desk) x.1.stream)
+    subst (λ (x : ProducerState × SlotState). IsHistoryOf x.0.steps (takes_joined desk) desk.own x.1.stream)
     (λ j. (c.producer.view_is j, c.self.view_is j))
     (history-of (books_at books old.number).journal old.stream old.consumed.made old.account desk seat c.join.new.desk c.self.invariant.3 with
     at.1 at.2 (c.requires.all ∙ sym (ap (λ (s : SlotState). s.made) c.self.view_is)) c.join.ensures.seat c.join.ensures.own)

@@ -1,0 +1,8 @@
+use Rattle.tr_seats.proofs.HistoryLemmas.{each-operated, each-operator}
+use Rattle.tr_seats.proofs.laws.every_operator.Goals as goal
+
+pub returns-clause-book : goal.returns-clause-book
+returns-clause-book c = each-operator
+
+pub returns-clause-streams : goal.returns-clause-streams
+returns-clause-streams c = each-operated
