@@ -3,7 +3,7 @@
 //! # Example
 //!
 //! ```
-//! let events = Events::parse(alloc, text)?;             // or the first line that declares none
+//! let events = Events::parse(alloc, text)?;             // or the first line that is refused
 //! let own = events.copy(heap)?;                         // the same in other memory
 //! if own.fits(id, payload) { .. }                       // takes no memory, and few instructions
 //! ```
@@ -15,6 +15,7 @@
 //! - A copy has the same events.
 #![tactic(auto)]
 
+mod env;
 mod event;
 mod events;
 mod faults;
@@ -24,6 +25,7 @@ mod layouts;
 mod lines;
 mod numbers;
 mod types;
+mod variables;
 mod words;
 
 pub use event::{Event, Field, Label};
@@ -34,4 +36,5 @@ pub use layouts::{
     MOST_PAYLOAD, Number, Size, Sort,
 };
 pub use numbers::{integer_in, number_in};
-pub use words::{number_word, push_event_lines};
+pub use variables::{LONGEST_VALUE, MOST_VARIABLES, Variable};
+pub use words::{number_word, push_declarations, push_event_lines};
