@@ -46,8 +46,8 @@ enum {
 
 /* Refusals of the session, a stream, a schedule and an audit are the numbers of the product's own codes: 100 + n for Sn,
  * 200 + n for On (offer), 300 + n for Tn (take), 400 + n for Cn (cut), 500 + n for Xn (clear), 600 + n for Yn (release),
- * 700 + n for Dn (schedule), 800 + n for An (audit), 900 + n for Gn (geometry), 1000 + n for Vn (a line that declares no
- * event). */
+ * 700 + n for Dn (schedule), 800 + n for An (audit), 900 + n for Gn (geometry), 1000 + n for Vn (a line of
+ * declarations). */
 enum {
     TRC_S_SNAPSHOT_MODE = 101, TRC_S_NOT_SNAPSHOT_MODE = 102, TRC_S_NEVER_STARTED = 103, TRC_S_ROTATION_PENDING = 104,
     TRC_S_ALREADY_ROTATED = 105, TRC_S_ALREADY_ACTIVE = 106, TRC_S_NOT_ACTIVE = 107, TRC_S_NO_STREAM = 108,
@@ -63,7 +63,8 @@ enum {
     TRC_A_PACKET = 801, TRC_A_NUMBER_REPEAT = 802, TRC_A_SERIAL_REPEAT = 803, TRC_A_FOREIGN = 804,
     TRC_G_BAD_SIZE = 901, TRC_G_BAD_COUNT = 902,
     TRC_V_BAD_EVENT = 1001, TRC_V_BAD_FIELD = 1002, TRC_V_BAD_TYPE = 1003, TRC_V_NOT_ALONE = 1004, TRC_V_FIELD_TWICE = 1005,
-    TRC_V_EVENT_TAKEN = 1006, TRC_V_TOO_MANY = 1007
+    TRC_V_EVENT_TAKEN = 1006, TRC_V_TOO_MANY = 1007, TRC_V_BAD_VARIABLE = 1008, TRC_V_BAD_VALUE = 1009,
+    TRC_V_VARIABLE_TAKEN = 1010, TRC_V_TOO_MANY_VARIABLES = 1011
 };
 
 enum { TRC_DISCARD = 0, TRC_OVERWRITE = 1 };          /* modes of a channel */
@@ -245,8 +246,8 @@ void trc_book_free(trc_book *);
 
 typedef struct { void *at; bool live; } trc_events;
 
-/* Opens the events that the lines of a text declare. IN_USE; NO_MEMORY; V1 to V7: `line` is the number of the first line that
- * declares none, from 1 on. */
+/* Opens what the lines of a text declare. IN_USE; NO_MEMORY; V1 to V11: `line` is the number of the first line that is
+ * refused, from 1 on. */
 uint32_t trc_events_new(trc_events *, const uint8_t *text, size_t len, uint64_t *line);
 /* Opens another handle of the same events, which calls on both may use at once. CLOSED, IN_USE (the other), NO_MEMORY. */
 uint32_t trc_events_share(trc_events *, trc_events *other);

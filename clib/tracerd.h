@@ -120,7 +120,11 @@ typedef enum tracerd_status {
     TRACERD_NOT_ALONE = 1004,        /* text or bytes beside other fields */
     TRACERD_FIELD_TWICE = 1005,      /* two fields have this name */
     TRACERD_EVENT_TAKEN = 1006,      /* an event has this name or this id */
-    TRACERD_TOO_MANY_DECLARED = 1007 /* more than 1,024 events, 32 fields, 524,288 bytes, or what no sub-buffer holds */
+    TRACERD_TOO_MANY_DECLARED = 1007, /* more than 1,024 events, 32 fields, 524,288 bytes, or what no sub-buffer holds */
+    TRACERD_BAD_VARIABLE = 1008,     /* of a variable: no name, or a word of CTF's language */
+    TRACERD_BAD_VALUE = 1009,        /* no value, one that can't stand in the metadata, or a vpid that is no number */
+    TRACERD_VARIABLE_TAKEN = 1010,   /* a variable has this name */
+    TRACERD_TOO_MANY_VARIABLES = 1011 /* more than 32 */
 } tracerd_status;
 
 /* The version of the library that is called, as "0.9.0": that of a shared object may be later than the header's. */
@@ -187,10 +191,11 @@ TRACERD_API TRACERD_POINTERS
 tracerd_status tracerd_producer_done(tracerd_producer *);
 
 /* Declares events, so that readers show their records by names and fields: each line of the text one, as
- * "queue_push 3 worker:u32 depth:u64" (docs/FORMATS.md). They take the place of what was declared before. Metadata of all archives
- * have them, and a record of an id that isn't declared is shown by its bytes. tracerd_events.h makes such a text, with a function
- * of each event. ALREADY_STARTED, NO_MEMORY. BAD_EVENT to TOO_MANY_DECLARED: *line, unless it is NULL, is the number of the first
- * line that declares none, from 1 on. */
+ * "queue_push 3 worker:u32 depth:u64", or a variable of the environment, as "env hostname web1", "env procname my server" or
+ * "env vpid 4711", by which readers tell two processes apart (docs/FORMATS.md). They take the place of what was declared before.
+ * Metadata of all archives have them, and a record of an id that isn't declared is shown by its bytes. tracerd_events.h makes such
+ * a text, with a function of each event. ALREADY_STARTED, NO_MEMORY. BAD_EVENT to TOO_MANY_VARIABLES: *line, unless it is NULL, is
+ * the number of the first line that is refused, from 1 on. */
 TRACERD_API TRACERD_CHECKED TRACERD_POINTER(1) TRACERD_POINTER(2)
 tracerd_status tracerd_declare(tracerd_session *, const char *text, uint64_t *line);
 

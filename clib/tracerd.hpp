@@ -48,7 +48,7 @@ private:
     uint64_t stream_;
 };
 
-// BAD_EVENT to TOO_MANY_DECLARED: the number of the first line of a text that declares no event, from 1 on.
+// BAD_EVENT to TOO_MANY_VARIABLES: the number of the first line of declarations that is refused, from 1 on.
 class undeclared : public refused {
 public:
     undeclared(tracerd_status status, uint64_t line) : refused(status), line_(line) {}
@@ -188,7 +188,7 @@ public:
         must(tracerd_producer_new(get(), text(channel, TRACERD_BAD_NAME), &handle));
         return {handle_, handle};
     }
-    // A line that declares no event is thrown as `undeclared`. tracerd_events.h makes texts of typed events.
+    // A line that is refused is thrown as `undeclared`. tracerd_events.h makes texts of typed events.
     void declare(const std::string &events) {
         uint64_t line;
         const tracerd_status status = tracerd_declare(get(), text(events, TRACERD_BAD_EVENT), &line);

@@ -63,6 +63,9 @@ static void refuses_bad_lines(tracerd_session *s, tracerd_producer *p) {
         {"event 1", TRACERD_EVENT_TAKEN},
         {"first 2", TRACERD_EVENT_TAKEN},
         {"event 2 field:u8[1048473]", TRACERD_TOO_MANY_DECLARED},
+        {"env event 2", TRACERD_BAD_VARIABLE},
+        {"env hostname", TRACERD_BAD_VALUE},
+        {"env vpid web1", TRACERD_BAD_VALUE},
     };
     char text[200];
     for (size_t k = 0; k < sizeof bad / sizeof *bad; k++) {

@@ -101,9 +101,9 @@ static void reserves_bytes(void) {
 static void declares_beside(void) {
     for (int is_before = 0; is_before < 2; is_before++) {
         session = bare();
-        if (is_before) answers(OK, tracerd_declare(session, "one 1 field:u8", NULL));
+        if (is_before) answers(OK, tracerd_declare(session, "env hostname web1\none 1 field:u8", NULL));
         answers(OK, tracerd_pool_new(&pool, session, "c", 1));
-        if (!is_before) answers(OK, tracerd_declare(session, "one 1 field:u8", NULL));
+        if (!is_before) answers(OK, tracerd_declare(session, "env hostname web1\none 1 field:u8", NULL));
         starts();
         answers(OTHER_LAYOUT, tracerd_trace(tracerd_here(pool), 1, "ab", 2));
         answers(OTHER_LAYOUT, tracerd_trace(tracerd_here(pool), TRACERD_THREAD_BEGIN, "name\0tid", 8));

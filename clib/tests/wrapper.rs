@@ -50,7 +50,7 @@ fn statuses() -> Vec<(String, u32)> {
 #[test]
 fn has_each_status_by_name() {
     let all = statuses();
-    assert_eq!((all[0].clone(), all[all.len() - 1].clone()), (("Ok".into(), 0), ("TooManyDeclared".into(), 1007)));
+    assert_eq!((all[0].clone(), all[all.len() - 1].clone()), (("Ok".into(), 0), ("TooManyVariables".into(), 1011)));
     for (name, status) in &all[1..] {
         let why = match *status {
             crate::refused::MISSING => Refused::Missing(0),

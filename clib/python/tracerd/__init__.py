@@ -288,8 +288,8 @@ class Session:
         return Producer(self, channel)
 
     def declare(self, *declared: Event | str) -> None:
-        """Declares events, and texts of a line an event, in place of what was declared before. Where a line declares none, `found`
-        is the number of the first such line of all these texts, one below the other."""
+        """Declares events, and texts of a line an event or a variable ("env hostname web1"), in place of what was declared before.
+        Where a line is refused, `found` is the number of the first such line of all these texts, one below the other."""
         # (a zero byte would end the text for C; this one can't be printed either)
         text, line = "\n".join(map(str, declared)).encode().replace(b"\0", b"\1"), c_uint64()
         _must(_declare(self._handle, text, byref(line)), found=line.value or None)

@@ -63,6 +63,10 @@ class Status(enum.IntEnum):
     FIELD_TWICE = 1005
     EVENT_TAKEN = 1006
     TOO_MANY_DECLARED = 1007
+    BAD_VARIABLE = 1008
+    BAD_VALUE = 1009
+    VARIABLE_TAKEN = 1010
+    TOO_MANY_VARIABLES = 1011
 
     @classmethod
     def _missing_(cls, value: object) -> Status | None:

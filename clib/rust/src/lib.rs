@@ -185,7 +185,7 @@ impl Session {
     }
 
     /// Declares events, a line each: those of [`tracerd_events!`], or of any text. Several texts may be put together; what was
-    /// declared before goes. A refusal has the number of the first line that declares none, as [`Refused::BadType`].
+    /// declared before goes. A refusal has the number of the first line that is refused, as [`Refused::BadType`].
     pub fn declare(&self, text: &str) -> Result<(), Refused> {
         // (a zero byte would end the text for C; this one can't be printed either)
         let text = CString::new(text.replace('\0', "\u{1}")).expect("no byte is zero");

@@ -44,7 +44,7 @@ macro_rules! refusals {
             SerialRepeat(Fault),
             /// An audit found a packet of another trace or another stream here.
             Foreign(Fault),
-            $(#[doc = concat!("The status ", $of_line, " of `tracerd.h`: the first line that declares no event.")] $bad(u64),)*
+            $(#[doc = concat!("The status ", $of_line, " of `tracerd.h`: the first line that is refused.")] $bad(u64),)*
             /// A status that this version of the crate doesn't know.
             Other(u32),
         }
@@ -60,7 +60,7 @@ macro_rules! refusals {
                 }
             }
 
-            /// Of a text of declarations, of which this line declares no event.
+            /// Of a text of declarations, of which this line is refused.
             pub(crate) fn from_line(status: u32, line: u64) -> Refused {
                 match status {
                     $($of_line => Refused::$bad(line),)*
@@ -104,7 +104,7 @@ refusals! {
     ;
     lines:
     BadEvent = 1001, BadField = 1002, BadType = 1003, NotAlone = 1004, FieldTwice = 1005, EventTaken = 1006,
-    TooManyDeclared = 1007,
+    TooManyDeclared = 1007, BadVariable = 1008, BadValue = 1009, VariableTaken = 1010, TooManyVariables = 1011,
 }
 
 impl Refused {

@@ -1,6 +1,6 @@
 -- Texts that are copied out.
 use Rattle.std.specs.Prelude.{◌≡◌, ℕ, ◌-◌, ◌<◌, ◌≤◌, min, List, ◌++◌, take, drop, length, Option, Some, None, Result, Ok, Err}
-use Rattle.tr_events.specs.Events.{Event}
+use Rattle.tr_events.specs.Events.{Declarations}
 use Rattle.tr_events.specs.Faults.{event_fault_code}
 use Rattle.tr_events.specs.declared.faults.LineFault.{LineFault}
 use Rattle.tr_packet.specs.Packets.{Contents}
@@ -35,6 +35,6 @@ CopiesWhole text code room room' count count' =
     × (length room < length text → (code ≡ NO_ROOM) × (room' ≡ room) × (count' ≡ count))
 
 -- a call that answers this code holds the events that a text declares; or it says which line declares none, and holds nothing
-abbrev pub HoldsDeclared : Result (List Event) LineFault → ℕ → Option (List Event) → ℕ → ℕ → Type 0
+abbrev pub HoldsDeclared : Result Declarations LineFault → ℕ → Option Declarations → ℕ → ℕ → Type 0
 HoldsDeclared (Ok events) code held line line' = (code ≡ DONE) × (held ≡ Some events) × (line' ≡ line)
 HoldsDeclared (Err at) code held line line' = (code ≡ code_number (event_fault_code at.fault)) × (held ≡ None) × (line' ≡ at.line)

@@ -218,7 +218,7 @@ pub fn schedule_code(fault: ScheduleFault) -> u32
     }
 }
 
-/// The number of why a line declares no event.
+/// The number of why a line declares nothing.
 pub fn event_code(fault: EventFault) -> u32
     ensures { result ≡ code_number (event_fault_code fault) }
 {

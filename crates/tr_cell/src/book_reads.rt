@@ -181,13 +181,13 @@ fn copy_file_name(
     }
 }
 
-/// Copies the metadata of the book's trace, with the events that it declares.
+/// Copies the metadata of the book's trace, with what it declares.
 fn copy_metadata(alloc: Global, book: &SessionBook<Global>, room: &mut [u8], count: &mut u64) -> u32
     ensures value { result ≢ NO_MEMORY
         → CopiesWhole (metadata_with book.now.events book.now.uuid) result room.old room.new count.old count.new }
     ensures no_memory { result ≡ NO_MEMORY → (room.new ≡ room.old) × (count.new ≡ count.old) }
 {
-    match metadata_text(alloc, book.events().list(), &book.uuid()) {
+    match metadata_text(alloc, book.events(), &book.uuid()) {
         Ok(text) => copy_whole(text.as_bytes(), room, count),
         Err(_) => NO_MEMORY,
     }

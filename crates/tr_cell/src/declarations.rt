@@ -31,7 +31,7 @@ fn shared(alloc: Global, events: Events) -> Result<Box<Arc<Events, Global>>, All
     }
 }
 
-/// Opens the events that the lines of a text declare, or says which line declares none.
+/// Opens what the lines of a text declare, or says which line is refused.
 #[unsafe(no_mangle)]
 pub extern "C" fn trc_events_new(
     alloc: Global,

@@ -3,7 +3,7 @@ use Rattle.std.proofs.Common.{◌≡◌, ◌∙◌, ◌≤◌, ◌<◌, ◌+◌,
 use Rattle.std.proofs.Math.Seq.{take-append_seam, take-append-add}
 use Rattle.std.proofs.lemmas.List.{take-append-le}
 use Rattle.tr_console.specs.World.{World, no_sessions}
-use Rattle.tr_events.specs.Events.{Event}
+use Rattle.tr_events.specs.Events.{Declarations}
 use Rattle.tr_console.proofs.LineSteps.{answers-append, answers-last, answers-push, line_step-text, one_if, one_if-le, refused_in-append, refused_in-last, refused_in-push, world_after-append, world_after-last, world_after-push}
 use Rattle.tr_console.proofs.ScriptAgreement.{agree-after, line-agree}
 use Rattle.tr_console.proofs.WorldAgreement.{StepsAgree}
@@ -27,7 +27,7 @@ use Rattle.tr_terms.specs.declared.limits.TheConstants.{LONGEST_PIECE, LONGEST_S
 -- ---- where a run is between two lines
 
 -- `out` of the answer went out, and the rest is gathered
-pub record Going (events : List Event) (given now taken wrote_now : Option (List ℕ)) (gathered : Text) (reader : Reading) (world : World StreamState)
+pub record Going (events : Declarations) (given now taken wrote_now : Option (List ℕ)) (gathered : Text) (reader : Reading) (world : World StreamState)
     (refused : ℕ) : Type 0 where
   pub seen : List (List ℕ)
   pub are_lines : AreLines seen
@@ -41,7 +41,7 @@ pub record Going (events : List Event) (given now taken wrote_now : Option (List
   pub refusals : refused ≡ refused_in by_history (no_sessions events) seen
   pub fits : refused + budget reader ≤ LONGEST_SCRIPT
 
-pub Going-first : (events : List Event) (given taken : Option (List ℕ)) (gathered : Text) (reader : Reading) (world : World StreamState) → gathered ≡ []
+pub Going-first : (events : Declarations) (given taken : Option (List ℕ)) (gathered : Text) (reader : Reading) (world : World StreamState) → gathered ≡ []
     → reader.held ≡ [] → reader.total ≡ 0 → world ≡ no_sessions events → Going events given given taken taken gathered reader world 0
 Going-first events given taken gathered reader world nothing empty total none = record {
   seen = [];
@@ -64,7 +64,7 @@ in_part out left all more k is short =
     ∙ take-append-le (length out + k) (out ++ left) more (omega (arith, short, length-append out left))
     ∙ take-append-add out left k
 
-module _ (events : List Event) (given now taken wrote_now : Option (List ℕ)) (gathered : Text) (reader : Reading) (world : World StreamState) (refused : ℕ)
+module _ (events : Declarations) (given now taken wrote_now : Option (List ℕ)) (gathered : Text) (reader : Reading) (world : World StreamState) (refused : ℕ)
     (g : Going events given now taken wrote_now gathered reader world refused) where
   -- more was gathered, and some of it all went out
   module _ (wrote' : Option (List ℕ)) (more gathered' : Text) (h : Gathers wrote_now wrote' gathered more gathered') where

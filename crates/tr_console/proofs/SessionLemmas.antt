@@ -8,7 +8,7 @@ use Rattle.std.specs.Str.{bytes_eq}
 use Rattle.std.specs.String.{string_bytes}
 use Rattle.tr_replies.specs.Text.{Text}
 use Rattle.tr_console.specs.World.{World, session_named, with_session, world_of}
-use Rattle.tr_events.specs.Events.{Event}
+use Rattle.tr_events.specs.Events.{Declarations}
 use Rattle.tr_session.specs.Session.{SessionOf}
 use Rattle.tr_session_book.proofs.NameLemmas.{lookup-by_name, set_value-by_name}
 use Rattle.tr_session_book.specs.Names.{AreNamed, by_name}
@@ -19,12 +19,12 @@ is_named name key = bytes_eq name (string_bytes key)
 
 module _ {Z S : Type 0} where
   -- what the map has at a name is the world's session of that name
-  pub named-is : (name : Text) (es : List (String Z × SessionOf S)) (events : List Event)
+  pub named-is : (name : Text) (es : List (String Z × SessionOf S)) (events : Declarations)
       → lookup (is_named name) es ≡ session_named name (world_of (by_name es) events)
   named-is name es events = lookup-by_name name es
 
   -- a session in its place is the world's
-  pub set-is : (name : Text) (es : List (String Z × SessionOf S)) (events : List Event) (s : SessionOf S)
+  pub set-is : (name : Text) (es : List (String Z × SessionOf S)) (events : Declarations) (s : SessionOf S)
       → world_of (by_name (set_value (is_named name) es s)) events ≡ with_session name (world_of (by_name es) events) s
   set-is name es events s = ap (λ (f : List (Text × SessionOf S)). world_of f events) (set_value-by_name name es s)
 

@@ -2,7 +2,7 @@
 use Rattle.std.specs.Borrow.{Bor}
 use Rattle.std.specs.Prelude.{◌≡◌, ◌≤◌, ◌⊎◌, ◌+◌, ◌-◌, ℕ, List, [], ◌∷◌, ◌++◌, Option, length, option_map, take}
 use Rattle.tr_console.specs.World.{World, no_sessions}
-use Rattle.tr_events.specs.Events.{Event}
+use Rattle.tr_events.specs.Events.{Declarations}
 use Rattle.tr_console.specs.Agreement.{WorldsAgree}
 use Rattle.tr_console.specs.Script.{answers, refused_in, script_text_by, text_step, world_after}
 use Rattle.tr_console.specs.Steps.{Step}
@@ -18,20 +18,20 @@ abbrev pub step_of_line : World StreamState → Option (Bor (List ℕ)) → Step
 step_of_line w line = text_step by_state w (option_map (λ t. t.now) line)
 
 -- the answer to lines, the first ones of a script
-abbrev pub text_answered : List Event → List (List ℕ) → Text
+abbrev pub text_answered : Declarations → List (List ℕ) → Text
 text_answered events lines = answers by_history (no_sessions events) lines
 
 -- how many lines of a script are refused
-abbrev pub refused_lines : List Event → List ℕ → ℕ
+abbrev pub refused_lines : Declarations → List ℕ → ℕ
 refused_lines events script = refused_in by_history (no_sessions events) (lines_of script)
 
 -- the sessions, by their streams' histories, that a script leaves
-abbrev pub world_left : List Event → List ℕ → World Traced
+abbrev pub world_left : Declarations → List ℕ → World Traced
 world_left events script = world_after by_history (no_sessions events) (lines_of script)
 
 -- the events that the script's sessions are created with, and what the source had given and the sink taken before the run, and
 -- after it
-module _ (events : List Event) (given given_now taken taken_now : Option (List ℕ)) where
+module _ (events : Declarations) (given given_now taken taken_now : Option (List ℕ)) where
   -- the whole script was read, its whole answer written, and this number of its lines refused; the sessions are as the
   -- script leaves them
   pub record Ran (world : World StreamState) (refused : ℕ) : Type 0 where

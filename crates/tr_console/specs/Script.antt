@@ -2,7 +2,7 @@
 use Rattle.std.specs.Option.{option_map_or}
 use Rattle.std.specs.Prelude.{ℕ, ◌+◌, List, [], ◌∷◌, ◌++◌, Option, codes, if◌then◌else◌}
 use Rattle.tr_console.specs.World.{World, no_sessions}
-use Rattle.tr_events.specs.Events.{Event}
+use Rattle.tr_events.specs.Events.{Declarations, nothing}
 use Rattle.tr_command.specs.Asked.{Asked}
 use Rattle.tr_command.specs.Language.{asked_of}
 use Rattle.tr_console.specs.commands.{request_step}
@@ -44,9 +44,9 @@ refused_in rules w (line ∷ lines) =
     (if (line_step rules w line).is_refused then 1 else 0) + refused_in rules (line_step rules w line).world lines
 
 -- the whole answer to the whole script, whose sessions are created with these events
-abbrev pub script_text_by : List Event → List ℕ → Text
+abbrev pub script_text_by : Declarations → List ℕ → Text
 script_text_by events script = answers by_history (no_sessions events) (lines_of script)
 
 -- without events
 abbrev pub script_text : List ℕ → Text
-script_text = script_text_by []
+script_text = script_text_by nothing

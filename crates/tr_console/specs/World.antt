@@ -3,19 +3,19 @@ use Rattle.std.specs.Map.{lookup, set_value}
 use Rattle.std.specs.Prelude.{List, [], Option}
 use Rattle.std.specs.Str.{bytes_eq}
 use Rattle.tr_replies.specs.Text.{Text}
-use Rattle.tr_events.specs.Events.{Event}
+use Rattle.tr_events.specs.Events.{Declarations}
 use Rattle.tr_session.specs.Session.{SessionOf}
 
 -- sessions by name, in order of creation, and the events that each of them is created with
 pub record World (S : Type 0) : Type 0 where
   pub sessions : List (Text × SessionOf S)
-  pub events : List Event
+  pub events : Declarations
 
-abbrev pub world_of : {S : Type 0} → List (Text × SessionOf S) → List Event → World S
+abbrev pub world_of : {S : Type 0} → List (Text × SessionOf S) → Declarations → World S
 world_of sessions events = record { sessions = sessions; events = events }
 
 -- before the first session is created
-abbrev pub no_sessions : {S : Type 0} → List Event → World S
+abbrev pub no_sessions : {S : Type 0} → Declarations → World S
 no_sessions events = world_of [] events
 
 abbrev pub session_named : {S : Type 0} → Text → World S → Option (SessionOf S)

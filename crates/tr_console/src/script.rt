@@ -4,6 +4,7 @@ ghost use Rattle.std.specs.Prelude.{◌≡◌, ◌≤◌, ◌<◌, ◌⊎◌, �
 ghost use Rattle.tr_console.specs.Gathering.{Gathers, WentInPart};
 ghost use Rattle.tr_console.specs.Runs.{AnsweredSome, BrokeOff, Ran, WentTooFar, WroteSome, step_of_line};
 ghost use Rattle.tr_console.specs.Script.{script_text};
+ghost use Rattle.tr_events.specs.Events.{nothing};
 ghost use Rattle.tr_lines.specs.Reading.{GoesTooFar, ReadsAll, ReadsLine, ReadsOn, TakesLine, budget};
 ghost use Rattle.tr_terms.specs.declared.limits.TheConstants.{LONGEST_PIECE, LONGEST_SCRIPT};
 ghost use Rattle.tr_record.specs.Bytes.{and_then_bytes, once_more};
@@ -176,20 +177,20 @@ pub fn run_script<A: Allocator + Copy, S: ByteSource, K: ByteSink>(
     sink: &mut K,
 ) -> Result<ScriptDone<A>, ScriptFault>
     ensures done { IfOk result
-        (λ done. Ran [] (S.given source.old) (S.given source.new) (K.taken sink.old) (K.taken sink.new) done.console
+        (λ done. Ran nothing (S.given source.old) (S.given source.new) (K.taken sink.old) (K.taken sink.new) done.console
         done.refused) }
     ensures end { OnOk result (S.given source.new ≡ S.content source.old) }
     ensures content { S.content source.new ≡ S.content source.old }
 
     ensures read { result ≡ Err ScriptFault.Read
-        → BrokeOff [] (S.given source.old) (S.given source.new) (K.taken sink.old) (K.taken sink.new) }
+        → BrokeOff nothing (S.given source.old) (S.given source.new) (K.taken sink.old) (K.taken sink.new) }
     ensures too_long { result ≡ Err ScriptFault.TooLong
-        → WentTooFar [] (S.given source.old) (S.given source.new) (K.taken sink.old) (K.taken sink.new) }
+        → WentTooFar nothing (S.given source.old) (S.given source.new) (K.taken sink.old) (K.taken sink.new) }
     ensures write { result ≡ Err ScriptFault.Write
-        → WroteSome [] (S.given source.old) (S.given source.new) (K.taken sink.old) (K.taken sink.new)
+        → WroteSome nothing (S.given source.old) (S.given source.new) (K.taken sink.old) (K.taken sink.new)
         (S.content source.old) }
     ensures memory { result ≡ Err ScriptFault.NoMemory
-        → AnsweredSome [] (S.given source.old) (S.given source.new) (K.taken sink.old) (K.taken sink.new) }
+        → AnsweredSome nothing (S.given source.old) (S.given source.new) (K.taken sink.old) (K.taken sink.new) }
 
     ensures source_failed { result ≡ Err ScriptFault.Read
         → S.failures source.new ≡ once_more (S.failures source.old) }

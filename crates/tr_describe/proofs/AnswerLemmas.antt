@@ -13,7 +13,7 @@ use Rattle.tr_describe.specs.declared.described.Wrong.{Wrong}
 use Rattle.tr_describe.specs.declared.describing.Found.TheVariants as found
 use Rattle.tr_describe.specs.declared.faults.DescribeFault.{DescribeFault}
 use Rattle.tr_describe.specs.declared.faults.DescribeFault.TheVariants.{TooMuch, Write, NoMemory}
-use Rattle.tr_events.specs.Events.{Event}
+use Rattle.tr_events.specs.Events.{Declarations}
 use Rattle.tr_folders.specs.Tree.{Tree, by_text as by_names}
 use Rattle.tr_record.specs.Bytes.{once_more}
 use Rattle.tr_survey.specs.Failures as survey
@@ -33,12 +33,12 @@ pub sessions_there : (t : Tree) (dir : List ℕ) (names : List (List ℕ)) → t
 sessions_there t dir names seen_there some =
     ap (λ (l : List (List ℕ)). filter (is_session t dir) (names_in_order l)) (names_there t dir names seen_there some)
 
-some_sessions : (t : Tree) (dir : List ℕ) (events : List Event) (sessions : List (List ℕ)) → 0 < length sessions
+some_sessions : (t : Tree) (dir : List ℕ) (events : Declarations) (sessions : List (List ℕ)) → 0 < length sessions
     → described_by t events dir sessions ≡ answer_by (first_of (session_wrong t events dir) sessions) (length (metadata_of_all t dir))
 some_sessions t dir events [] some = absurd (omega arith)
 some_sessions t dir events (s ∷ sessions) some = refl
 
-described_is : (t : Tree) (dir : List ℕ) (events : List Event) (sessions : List (List ℕ)) (first : Option (Wrong (List ℕ)))
+described_is : (t : Tree) (dir : List ℕ) (events : Declarations) (sessions : List (List ℕ)) (first : Option (Wrong (List ℕ)))
     → t.is_hidden dir ≡ false → sessions_of t dir ≡ sessions → 0 < length sessions → first_of (session_wrong t events dir) sessions ≡ first
     → described_of t dir events ≡ answer_by first (length (metadata_of_all t dir))
 described_is t dir events sessions first seen_there same some is =
@@ -47,14 +47,14 @@ described_is t dir events sessions first seen_there same some is =
     ∙ some_sessions t dir events sessions some
     ∙ ap (λ (o : Option (Wrong (List ℕ))). answer_by o (length (metadata_of_all t dir))) is
 
-pub wrong_found : (t : Tree) (dir : List ℕ) (events : List Event) (sessions : List (List ℕ)) (wrong : Wrong (String Global))
+pub wrong_found : (t : Tree) (dir : List ℕ) (events : Declarations) (sessions : List (List ℕ)) (wrong : Wrong (String Global))
     → t.is_hidden dir ≡ false → sessions_of t dir ≡ sessions → 0 < length sessions
     → first_of (session_wrong t events dir) sessions ≡ Some (by_text wrong) → IsFound t dir events (found.Wrong wrong)
 wrong_found t dir events sessions wrong seen_there same some is =
     let said = described_is t dir events sessions (Some (by_text wrong)) seen_there same some is in
     record { said = said; texts = ap (λ (d : Described (List ℕ)). texts_by d (map (text_of events) (metadata_of_all t dir))) said }
 
-pub archives_found : (t : Tree) (dir : List ℕ) (events : List Event) (sessions : List (List ℕ)) (all : Vec value.Metadata Global)
+pub archives_found : (t : Tree) (dir : List ℕ) (events : Declarations) (sessions : List (List ℕ)) (all : Vec value.Metadata Global)
     → t.is_hidden dir ≡ false → sessions_of t dir ≡ sessions → 0 < length sessions
     → first_of (session_wrong t events dir) sessions ≡ None → map seen all.items ≡ metadata_of_all t dir → IsFound t dir events (found.Archives all)
 archives_found t dir events sessions all seen_there same some none items =

@@ -11,7 +11,7 @@ use Rattle.tr_describe.specs.Flaws.{and_after, are_packets, bytes_flaw, first_un
 use Rattle.tr_describe.specs.Steps.{AreAlike, AreWrong, IsStep, step_of}
 use Rattle.tr_describe.specs.declared.flaws.Flaw.{Flaw}
 use Rattle.tr_describe.specs.declared.flaws.Flaw.TheVariants.{Unsound, Unfit}
-use Rattle.tr_events.specs.Events.{Event}
+use Rattle.tr_events.specs.Events.{Declarations}
 use Rattle.tr_packet.specs.Decoding.{Begins, first_fault}
 use Rattle.tr_packet.specs.Packets.{Contents, packet_size, packet_text}
 use Rattle.tr_packet.specs.Texts.{packets_text}
@@ -110,7 +110,7 @@ first_by : (sound : Bool) (first later : Option Entry) → flaw_by sound (option
 first_by sound None later = refl
 first_by sound (Some e) later = refl
 
-after_packet : (events : List Event) (p : Contents) (ps : List Contents) (rest : List ℕ) (breaks : Bool)
+after_packet : (events : Declarations) (p : Contents) (ps : List Contents) (rest : List ℕ) (breaks : Bool)
     → flaw_after events (p ∷ ps) (packet_text p ++ rest) breaks ≡ or_later (first_unfit events p.records) (flaw_after events ps rest breaks)
 after_packet events p ps rest breaks =
     let sound : Bool = not breaks && are_packets ps rest in
@@ -119,7 +119,7 @@ after_packet events p ps rest breaks =
     ∙ first_by sound (first_unfit events p.records) (first_unfit events (records_of_packets ps))
 
 -- bytes that start with a packet
-one_flaw : (events : List Event) (uuid : List ℕ) (stream : ℕ) (bytes : List ℕ) (p : Contents) (rest : List ℕ) (breaks : Bool)
+one_flaw : (events : Declarations) (uuid : List ℕ) (stream : ℕ) (bytes : List ℕ) (p : Contents) (rest : List ℕ) (breaks : Bool)
     → packet_at uuid stream bytes ≡ Some p → bytes ≡ packet_text p ++ rest → drop (packet_size p) bytes ≡ rest
     → bytes_flaw events uuid stream bytes breaks ≡ or_later (first_unfit events p.records) (bytes_flaw events uuid stream rest breaks)
 one_flaw events uuid stream bytes p rest breaks is parts behind =
@@ -133,17 +133,17 @@ never true other is = refl
 never false other is = ap (λ (b : Bool). flaw_by b None) is
 
 -- bytes that start with none
-pub none_wrong : (events : List Event) (uuid : List ℕ) (stream : ℕ) (bytes : List ℕ) (breaks : Bool) → packet_at uuid stream bytes ≡ None
+pub none_wrong : (events : Declarations) (uuid : List ℕ) (stream : ℕ) (bytes : List ℕ) (breaks : Bool) → packet_at uuid stream bytes ≡ None
     → 0 < length bytes → bytes_flaw events uuid stream bytes breaks ≡ Some Unsound
 none_wrong events uuid stream bytes breaks none some =
     ap (λ (ps : List Contents). flaw_after events ps bytes breaks) (none_of uuid stream bytes none)
     ∙ never breaks (pointwise eqb bytes []) (nothing_else bytes some)
 
-pub broken_wrong : (events : List Event) (uuid : List ℕ) (stream : ℕ) (bytes : List ℕ) → packet_at uuid stream bytes ≡ None
+pub broken_wrong : (events : Declarations) (uuid : List ℕ) (stream : ℕ) (bytes : List ℕ) → packet_at uuid stream bytes ≡ None
     → bytes_flaw events uuid stream bytes true ≡ Some Unsound
 broken_wrong events uuid stream bytes none = ap (λ (ps : List Contents). flaw_after events ps bytes true) (none_of uuid stream bytes none)
 
-pub nothing_wrong : (events : List Event) (uuid : List ℕ) (stream : ℕ) → bytes_flaw events uuid stream [] false ≡ None
+pub nothing_wrong : (events : Declarations) (uuid : List ℕ) (stream : ℕ) → bytes_flaw events uuid stream [] false ≡ None
 nothing_wrong events uuid stream = ap (λ (ps : List Contents). flaw_after events ps [] false) (none_of uuid stream [] (none_at_end uuid stream))
 
 -- ---- the front of bytes, whatever follows
@@ -158,7 +158,7 @@ some_by : (bytes : List ℕ) (f : PacketFault) → f ≢ Short → first_fault b
 some_by [] f other is = absurd (other_fault f other is)
 some_by (b ∷ bytes) f other is = omega arith
 
-pub fault_wrong : (events : List Event) (uuid : List ℕ) (stream : ℕ) (bytes : List ℕ) (f : PacketFault) → first_fault bytes ≡ Some f → f ≢ Short
+pub fault_wrong : (events : Declarations) (uuid : List ℕ) (stream : ℕ) (bytes : List ℕ) (f : PacketFault) → first_fault bytes ≡ Some f → f ≢ Short
     → AreWrong events uuid stream bytes Unsound
 fault_wrong events uuid stream bytes f is other rest breaks =
     let some = some_by bytes f other is in
@@ -167,7 +167,7 @@ fault_wrong events uuid stream bytes f is other rest breaks =
     (none_if_fault uuid stream (bytes ++ rest) f (fault_stands bytes rest f is other)) (omega (arith, l, some))
 
 -- bytes that don't start with a packet, for this reason
-pub bad_step : (events : List Event) (uuid : List ℕ) (stream : ℕ) (bytes : List ℕ) (f : PacketFault) → first_fault bytes ≡ Some f
+pub bad_step : (events : Declarations) (uuid : List ℕ) (stream : ℕ) (bytes : List ℕ) (f : PacketFault) → first_fault bytes ≡ Some f
     → IsStep events uuid stream bytes (step_of f)
 bad_step events uuid stream bytes Short is = is
 bad_step events uuid stream bytes BadMagic is = fault_wrong events uuid stream bytes BadMagic is (λ e. cc)
@@ -185,7 +185,7 @@ packet_is uuid stream p n bytes rest own begins size is =
     ∙ ap (λ (q : Contents). cond (belongs uuid stream q) (Some q) None) st.contents
     ∙ ap (λ (b : Bool). cond b (Some p) None) is
 
-pub foreign_wrong : (events : List Event) (uuid : List ℕ) (stream : ℕ) (p : Contents) (n : ℕ) (bytes : List ℕ) → Begins p (drop n bytes) bytes
+pub foreign_wrong : (events : Declarations) (uuid : List ℕ) (stream : ℕ) (p : Contents) (n : ℕ) (bytes : List ℕ) → Begins p (drop n bytes) bytes
     → n ≡ packet_size p → belongs uuid stream p ≡ false → AreWrong events uuid stream bytes Unsound
 foreign_wrong events uuid stream p n bytes begins size is rest breaks =
     let within = front_within p n bytes begins size in
@@ -194,7 +194,7 @@ foreign_wrong events uuid stream p n bytes begins size is rest breaks =
     let l = length-append bytes rest in
     none_wrong events uuid stream (bytes ++ rest) breaks (packet_is uuid stream p n bytes rest false begins size is) (omega (arith, l, some, most))
 
-own_flaw : (events : List Event) (uuid : List ℕ) (stream : ℕ) (p : Contents) (n : ℕ) (bytes rest : List ℕ) (breaks : Bool)
+own_flaw : (events : Declarations) (uuid : List ℕ) (stream : ℕ) (p : Contents) (n : ℕ) (bytes rest : List ℕ) (breaks : Bool)
     → Begins p (drop n bytes) bytes → n ≡ packet_size p → belongs uuid stream p ≡ true
     → bytes_flaw events uuid stream (bytes ++ rest) breaks
     ≡ or_later (first_unfit events p.records) (bytes_flaw events uuid stream (drop n bytes ++ rest) breaks)
@@ -222,13 +222,13 @@ none_unfit (Some e) is = absurd (some e.serial is)
     some : (n : ℕ) → None ≡ Some n → ⊥
     some n e = cc
 
-pub unfit_wrong : (events : List Event) (uuid : List ℕ) (stream : ℕ) (p : Contents) (n : ℕ) (bytes : List ℕ) (e : Entry) → Begins p (drop n bytes) bytes
+pub unfit_wrong : (events : Declarations) (uuid : List ℕ) (stream : ℕ) (p : Contents) (n : ℕ) (bytes : List ℕ) (e : Entry) → Begins p (drop n bytes) bytes
     → n ≡ packet_size p → belongs uuid stream p ≡ true → first_unfit events p.records ≡ Some e → AreWrong events uuid stream bytes (Unfit e.serial)
 unfit_wrong events uuid stream p n bytes e begins size is first rest breaks =
     own_flaw events uuid stream p n bytes rest breaks begins size is
     ∙ ap (λ (o : Option Entry). or_later o (bytes_flaw events uuid stream (drop n bytes ++ rest) breaks)) first
 
-pub fit_alike : (events : List Event) (uuid : List ℕ) (stream : ℕ) (p : Contents) (n : ℕ) (bytes : List ℕ) → Begins p (drop n bytes) bytes
+pub fit_alike : (events : Declarations) (uuid : List ℕ) (stream : ℕ) (p : Contents) (n : ℕ) (bytes : List ℕ) → Begins p (drop n bytes) bytes
     → n ≡ packet_size p → belongs uuid stream p ≡ true → first_unfit events p.records ≡ None → AreAlike events uuid stream bytes (drop n bytes)
 fit_alike events uuid stream p n bytes begins size is none rest breaks =
     own_flaw events uuid stream p n bytes rest breaks begins size is

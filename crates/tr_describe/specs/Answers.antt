@@ -12,7 +12,7 @@ use Rattle.tr_describe.specs.declared.described.Wrong.{Wrong}
 use Rattle.tr_describe.specs.declared.described.Wrong.TheVariants.{Closed, Foreign, Unsound, Unfit}
 use Rattle.tr_describe.specs.declared.flaws.Flaw.{Flaw}
 use Rattle.tr_describe.specs.declared.flaws.Flaw.TheVariants as flaw
-use Rattle.tr_events.specs.Events.{Event}
+use Rattle.tr_events.specs.Events.{Declarations}
 use Rattle.tr_folders.specs.Tree.{Tree}
 use Rattle.tr_survey.specs.Listing.{streams_of}
 use Rattle.tr_survey.specs.Order.{Numbered}
@@ -47,22 +47,22 @@ flawed session archive stream flaw.Unsound = Unsound session archive stream.name
 flawed session archive stream (flaw.Unfit serial) = Unfit session archive stream.name stream.number serial
 
 -- with a stream's file
-abbrev pub stream_wrong : Tree → List Event → List ℕ → List ℕ → Numbered → List ℕ → Numbered → Option (Wrong (List ℕ))
+abbrev pub stream_wrong : Tree → Declarations → List ℕ → List ℕ → Numbered → List ℕ → Numbered → Option (Wrong (List ℕ))
 stream_wrong t events session folder archive uuid stream =
     option_map (flawed session archive.name stream) (file_flaw events uuid stream.number (file_in t folder stream archive))
 
 -- with an archive whose metadata are the recorder's of this identifier, or not the recorder's
-abbrev pub archive_wrong_by : Tree → List Event → List ℕ → List ℕ → Numbered → Option (List ℕ) → Option (Wrong (List ℕ))
+abbrev pub archive_wrong_by : Tree → Declarations → List ℕ → List ℕ → Numbered → Option (List ℕ) → Option (Wrong (List ℕ))
 archive_wrong_by t events session folder archive None = Some (Foreign session archive.name)
 archive_wrong_by t events session folder archive (Some uuid) =
     first_of (stream_wrong t events session folder archive uuid) (streams_of t folder (archive ∷ []))
 
 -- with an archive: its metadata, and then its streams in order
-abbrev pub archive_wrong : Tree → List Event → List ℕ → List ℕ → Numbered → Option (Wrong (List ℕ))
+abbrev pub archive_wrong : Tree → Declarations → List ℕ → List ℕ → Numbered → Option (Wrong (List ℕ))
 archive_wrong t events session folder archive = archive_wrong_by t events session folder archive (own_uuid (naming_of t folder archive))
 
 -- with a session: that the folder of its archives can't be read, or the first thing of its archives in order
-abbrev pub session_wrong : Tree → List Event → List ℕ → List ℕ → Option (Wrong (List ℕ))
+abbrev pub session_wrong : Tree → Declarations → List ℕ → List ℕ → Option (Wrong (List ℕ))
 session_wrong t events dir session =
     if t.is_hidden (archives_folder dir session) then Some (Closed session)
     else first_of (archive_wrong t events session (archives_folder dir session)) (archives_in t (archives_folder dir session))
@@ -75,12 +75,12 @@ answer_by (Some wrong) archives = answer.Wrong wrong
 answer_by None archives = answer.Done archives
 
 -- of these sessions below a folder
-abbrev pub described_by : Tree → List Event → List ℕ → List (List ℕ) → Described (List ℕ)
+abbrev pub described_by : Tree → Declarations → List ℕ → List (List ℕ) → Described (List ℕ)
 described_by t events dir [] = answer.NoSession
 described_by t events dir (s ∷ sessions) =
     answer_by (first_of (session_wrong t events dir) (s ∷ sessions)) (length (metadata_of_all t dir))
 
-abbrev pub described_of : Tree → List ℕ → List Event → Described (List ℕ)
+abbrev pub described_of : Tree → List ℕ → Declarations → Described (List ℕ)
 described_of t dir events = if t.is_hidden dir then answer.Unlisted else described_by t events dir (sessions_of t dir)
 
 -- ---- what is put
@@ -93,7 +93,7 @@ texts_by (answer.Wrong wrong) texts = []
 texts_by (answer.Done archives) texts = texts
 
 -- the metadata of each archive, in order, unless something is wrong
-abbrev pub texts_of : Tree → List ℕ → List Event → List Text
+abbrev pub texts_of : Tree → List ℕ → Declarations → List Text
 texts_of t dir events = texts_by (described_of t dir events) (map (text_of events) (metadata_of_all t dir))
 
 -- nothing was put, unless archives are described
@@ -113,13 +113,13 @@ said_of (found.Wrong wrong) = answer.Wrong (by_text wrong)
 said_of (found.Archives all) = answer.Done (length all.items)
 
 -- the texts that are then put
-abbrev pub texts_found : List Event → Found → List Text
+abbrev pub texts_found : Declarations → Found → List Text
 texts_found events found.Unlisted = []
 texts_found events found.NoSession = []
 texts_found events (found.Wrong wrong) = []
 texts_found events (found.Archives all) = map (text_of events) (map seen all.items)
 
 -- it is what is there
-pub record IsFound (t : Tree) (dir : List ℕ) (events : List Event) (f : Found) : Type 0 where
+pub record IsFound (t : Tree) (dir : List ℕ) (events : Declarations) (f : Found) : Type 0 where
   pub said : described_of t dir events ≡ said_of f
   pub texts : texts_of t dir events ≡ texts_found events f

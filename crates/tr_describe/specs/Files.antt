@@ -2,7 +2,7 @@
 use Rattle.std.specs.Prelude.{◌+◌, ℕ, Bool, ◌&&◌, nat_lt, List, length, take, Option, Some, None, Result, Ok, Err, if◌then◌else◌}
 use Rattle.tr_describe.specs.declared.declarations.Declarations.{Declarations}
 use Rattle.tr_describe.specs.declared.declarations.Declarations.TheVariants.{Unreadable, Refused, Declared}
-use Rattle.tr_events.specs.Events.{Event}
+use Rattle.tr_events.specs.Events.{Declarations as Declares}
 use Rattle.tr_events.specs.Lines.{declared}
 use Rattle.tr_events.specs.declared.faults.LineFault.{LineFault}
 use Rattle.tr_events.specs.declared.layouts.TheConstants.{LONGEST_DECLARATIONS}
@@ -13,7 +13,7 @@ abbrev pub looked_at : ℕ
 looked_at = LONGEST_DECLARATIONS + 1
 
 abbrev pub Declaring : Type 0
-Declaring = Result (List Event) LineFault
+Declaring = Result Declares LineFault
 
 -- what the first bytes of a file declare; none: it isn't there, or it can't be read
 abbrev pub declaring : Option File → Option Declaring

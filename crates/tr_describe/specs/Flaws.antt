@@ -6,7 +6,7 @@ use Rattle.tr_chunk.specs.Audit.{belongs, records_of_packets}
 use Rattle.tr_chunk.specs.Files.{packets_text}
 use Rattle.tr_describe.specs.declared.flaws.Flaw.{Flaw}
 use Rattle.tr_describe.specs.declared.flaws.Flaw.TheVariants.{Unsound, Unfit}
-use Rattle.tr_events.specs.Events.{Event, fits_declared}
+use Rattle.tr_events.specs.Events.{Declarations, fits_declared}
 use Rattle.tr_folders.specs.Tree.{File}
 use Rattle.tr_packet.specs.Decoding.{contents_in, first_fault}
 use Rattle.tr_packet.specs.Packets.{Contents, packet_size}
@@ -45,11 +45,11 @@ are_packets ps bytes = pointwise nat_eq bytes (packets_text ps)
 -- ---- the records of packets
 
 -- the record is of a declared id, and doesn't fit
-abbrev pub is_unfit : List Event → Entry → Bool
+abbrev pub is_unfit : Declarations → Entry → Bool
 is_unfit events e = not (fits_declared events e.id e.payload)
 
 -- the first such record
-abbrev pub first_unfit : List Event → List Entry → Option Entry
+abbrev pub first_unfit : Declarations → List Entry → Option Entry
 first_unfit events es = find (is_unfit events) es
 
 -- ---- what is wrong
@@ -60,14 +60,14 @@ flaw_by sound (Some e) = Some (Unfit e.serial)
 flaw_by sound None = if sound then None else Some Unsound
 
 -- in bytes, after which the file ends, or breaks off, that start with these packets
-abbrev pub flaw_after : List Event → List Contents → List ℕ → Bool → Option Flaw
+abbrev pub flaw_after : Declarations → List Contents → List ℕ → Bool → Option Flaw
 flaw_after events ps bytes breaks = flaw_by (not breaks && are_packets ps bytes) (first_unfit events (records_of_packets ps))
 
-abbrev pub bytes_flaw : List Event → List ℕ → ℕ → List ℕ → Bool → Option Flaw
+abbrev pub bytes_flaw : Declarations → List ℕ → ℕ → List ℕ → Bool → Option Flaw
 bytes_flaw events uuid stream bytes breaks = flaw_after events (packets_of uuid stream bytes) bytes breaks
 
 -- in a stream's file: the first record of a declared id that doesn't fit; or else, that it isn't there, can't be read, or isn't
 -- packets of the trace and the stream to its end
-abbrev pub file_flaw : List Event → List ℕ → ℕ → Option File → Option Flaw
+abbrev pub file_flaw : Declarations → List ℕ → ℕ → Option File → Option Flaw
 file_flaw events uuid stream None = Some Unsound
 file_flaw events uuid stream (Some file) = bytes_flaw events uuid stream file.bytes file.breaks

@@ -3,7 +3,7 @@ use Rattle.std.specs.Prelude.{ℕ, List, codes, Option, Some, None, option_map, 
 use Rattle.std.specs.List.{filter_map, flat_map}
 use Rattle.tr_describe.specs.Put.{Text, text_at}
 use Rattle.tr_describe.specs.declared.archives.Metadata as value
-use Rattle.tr_events.specs.Events.{Event}
+use Rattle.tr_events.specs.Events.{Declarations}
 use Rattle.tr_metadata.specs.Metadata.{metadata_with}
 use Rattle.tr_folders.specs.Tree.{Tree}
 use Rattle.tr_survey.specs.Listing.{archives_of, names_at}
@@ -51,5 +51,5 @@ abbrev pub metadata_of_all : Tree → List ℕ → List Metadata
 metadata_of_all t dir = flat_map (metadata_of_session t dir) (sessions_of t dir)
 
 -- what such a file has once the archive is described by these events
-abbrev pub text_of : List Event → Metadata → Text
+abbrev pub text_of : Declarations → Metadata → Text
 text_of events m = text_at m.path (metadata_with events m.uuid)

@@ -16,7 +16,7 @@ use tr_survey::SurveyFault;
 pub enum Declarations {
     /// It isn't there, or it can't be read.
     Unreadable,
-    /// A line declares no event.
+    /// A line is refused.
     Refused(LineFault),
     /// These events.
     Declared(Events),

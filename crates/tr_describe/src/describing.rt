@@ -32,7 +32,7 @@ fn put_metadata<T: Texts>(
     ensures writes { T.failures texts.new ≡ survey.writes_after result (T.failures texts.old) }
     ensures reads { (n : ℕ) → survey.reads_after result n ≡ n }
 {
-    let text = metadata_text(alloc, events.list(), &metadata.uuid)?;
+    let text = metadata_text(alloc, events, &metadata.uuid)?;
     match texts.put(metadata.path.as_str(), text.as_str()) {
         Ok(()) => Ok(()),
         Err(_) => Err(SurveyFault::Write),

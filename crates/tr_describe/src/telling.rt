@@ -27,7 +27,7 @@ pub enum Outcome {
     Unreadable,
     /// The folder has no session. No line says so.
     NoSession,
-    /// A line of the file declares no event: `line 3 V2 BadField`.
+    /// A line of the file is refused: `line 3 V2 BadField`.
     Refused,
     /// Something is wrong with what is there, and nothing was written: `unfit SESSION ARCHIVE CHANNEL STREAM SERIAL`, say.
     Wrong,
@@ -35,7 +35,7 @@ pub enum Outcome {
     Done,
 }
 
-/// The line of a declaration that declares no event.
+/// The line of a declaration that is refused.
 fn refused_line(alloc: Global, at: &LineFault) -> Result<String, AllocError>
     ensures { IfOk result (λ s. string_bytes s ≡ refused_text at.now) }
 {
@@ -106,7 +106,7 @@ fn put_line<K: ByteSink>(out: &mut K, line: &str) -> Result<(), DescribeFault>
     }
 }
 
-/// Says which line declares no event.
+/// Says which line is refused.
 fn tell_refused<K: ByteSink>(
     alloc: Global,
     out: &mut K,
@@ -152,7 +152,7 @@ fn tell_described<F: Folders, T: Texts, K: ByteSink>(
     Ok(outcome_said(&said))
 }
 
-/// What the file at a path declares, with a line to an output if a line of it declares no event: `line 3 V2 BadField`.
+/// What the file at a path declares, with a line to an output if a line of it is refused: `line 3 V2 BadField`.
 ///
 /// # Errors
 ///

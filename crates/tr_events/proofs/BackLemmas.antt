@@ -1,11 +1,10 @@
 -- A word that says something is the word that is written of what it says.
-use Rattle.std.proofs.Common.{◌≡◌, ◌<◌, ◌≤◌, ◌+◌, ◌-◌, ◌^◌, ◌&&◌, ℕ, zero, suc, ℤ, pos, negsuc, Bool, true, false, cond, eqb, ltb, leb, refl, sym, ap, ap₂, subst, ◌∙◌, arith, List, [], ◌∷◌, ◌++◌, length, map, take, drop, get_or, append_assoc, append-nil, Option, Some, None, Result, Ok, Err}
-use Rattle.std.specs.Prelude.{codes, not, bytes_eq}
+use Rattle.std.proofs.Common.{◌≡◌, ◌<◌, ◌≤◌, ◌&&◌, ℕ, zero, suc, ℤ, Bool, true, false, cond, eqb, ltb, leb, refl, sym, ap, ap₂, subst, ◌∙◌, arith, List, [], ◌∷◌, ◌++◌, length, map, get_or, append_assoc, append-nil, Option, Some, None, Ok, Err}
+use Rattle.std.specs.Prelude.{not, bytes_eq}
 use Rattle.std.specs.Fmt.{decimal, signed_decimal}
-use Rattle.std.specs.List.{after_first, before_first, ends_with, flat_map, join_with_byte, list_all, position_or_len, slice_split}
+use Rattle.std.specs.List.{after_first, before_first, flat_map, join_with_byte, position_or_len, slice_split}
 use Rattle.std.specs.Option.{option_and_then, option_map}
-use Rattle.std.specs.Str.Parse.{AllDigits, digits_value}
-use Rattle.std.proofs.lemmas.Bool.{eqb-true, ltb-true}
+use Rattle.std.proofs.lemmas.Bool.{eqb-true, leb-true, ltb-true}
 use Rattle.std.proofs.lemmas.Bool.Decides.{Decides-eqb}
 use Rattle.std.proofs.lemmas.Fmt.{decimal-digits_value}
 use Rattle.std.proofs.lemmas.List.Splits.{join_with_byte-slice_split, length-slice_split}
@@ -16,16 +15,14 @@ use Rattle.tr_terms.specs.Names.{is_name}
 use Rattle.tr_terms.proofs.BoolLemmas.{both}
 use Rattle.tr_events.specs.declared.faults.EventFault.{EventFault}
 use Rattle.tr_events.specs.declared.faults.EventFault.TheVariants.{BadEvent, NotAlone, FieldTwice, TooMany}
-use Rattle.tr_events.specs.declared.layouts.Form.TheVariants.{AsText, AsBytes}
-use Rattle.tr_events.specs.declared.layouts.Layout.{Layout}
-use Rattle.tr_events.specs.declared.layouts.Layout.TheVariants.{One, Array, Sequence, Text, All}
+use Rattle.tr_events.specs.declared.layouts.Layout.TheVariants.{One}
 use Rattle.tr_events.specs.declared.layouts.Number.{Number}
-use Rattle.tr_events.specs.declared.layouts.TheConstants.{MOST_COUNT, MOST_FIELDS, MOST_ID, MOST_PAYLOAD}
+use Rattle.tr_events.specs.declared.layouts.TheConstants.{MOST_FIELDS, MOST_ID, MOST_PAYLOAD}
 use Rattle.tr_events.specs.Declarations.{word_of, words_for}
-use Rattle.tr_events.specs.Events.{Event, event, Field, field, Label, label, is_apart}
-use Rattle.tr_events.specs.Lines.{Declared, are_names_apart, before_fields, checked, event_by, event_if, event_in, field_by, field_in, field_of, fields_after, fields_in, id_if, is_event_name, is_field_name, least, names_of}
-use Rattle.tr_events.specs.Numbers.{below_zero, has_spare_zero, integer_from, integer_of, is_digit, number_of}
-use Rattle.tr_events.specs.Types.{Type_named, are_labels_apart, counted, counted_by, is_byte, is_value, is_whole, label_by, label_in, labelled, labels_among, labels_if_apart, labels_in, named_whole, number_named, parted_at, parts_at, plain, type_by, type_in, without_end}
+use Rattle.tr_events.specs.Events.{Event, event, Field, field, Label, is_apart}
+use Rattle.tr_events.specs.Lines.{Declared, are_names_apart, checked, event_by, event_if, event_in, field_by, field_in, field_of, fields_after, fields_in, id_if, is_event_name, is_field_name, least, names_of}
+use Rattle.tr_events.specs.Numbers.{below_zero, has_spare_zero, integer_from, integer_of, number_of}
+use Rattle.tr_events.specs.Types.{Type_named, are_labels_apart, counted, counted_by, is_byte, is_value, is_whole, label_by, label_in, labelled, labels_among, labels_if_apart, labels_in, named_whole, number_named, parted_at, plain, type_by, type_in, without_end}
 use Rattle.tr_events.specs.Words.{label_rest, label_word, labels_word, layout_word, number_word}
 use Rattle.tr_events.proofs.NumberLemmas.{all_digits}
 use Rattle.tr_events.proofs.SplitLemmas.{joined}
@@ -272,6 +269,7 @@ pub record Says (words : List (List ℕ)) (e : Event) : Type 0 where
   pub are : words_for e ≡ words
   pub name : is_event_name e.name ≡ true
   pub above : 0 < e.id
+  pub below : e.id ≤ MOST_ID
   pub apart : is_apart e.fields ≡ true
 
 pub event_back : (words : List (List ℕ)) (e : Event) → event_in words ≡ Ok e → Says words e
@@ -279,15 +277,16 @@ event_back [] e is = absurd cc
 event_back (name ∷ []) e is = absurd cc
 event_back (name ∷ id ∷ words) e is = go (number_of id) refl is
   where
-    made : (n : ℕ) → decimal n ≡ id → is_event_name name ≡ true → 0 < n → (fields : Declared (List Field)) → fields_in words ≡ fields
-        → event_by name n fields ≡ Ok e → Says (name ∷ id ∷ words) e
-    made n back named above (Err fault) b is = absurd cc
-    made n back named above (Ok fs) b is =
+    made : (n : ℕ) → decimal n ≡ id → is_event_name name ≡ true → 0 < n → n ≤ MOST_ID → (fields : Declared (List Field))
+        → fields_in words ≡ fields → event_by name n fields ≡ Ok e → Says (name ∷ id ∷ words) e
+    made n back named above below (Err fault) b is = absurd cc
+    made n back named above below (Ok fs) b is =
         let m = may_be (event name n fs) e is in
         subst (Says (name ∷ id ∷ words)) m.3 (record {
           are = ap₂ (λ (w : List ℕ) (ws : List (List ℕ)). name ∷ w ∷ ws) back (fields_back words fs b);
           name = named;
           above = above;
+          below = below;
           apart = m.1;
         })
 
@@ -298,7 +297,8 @@ event_back (name ∷ id ∷ words) e is = go (number_of id) refl is
         let tested = if_some (ltb 0 n && leb n MOST_ID) (Some n) m b in
         let same : n ≡ m = some_is n m tested.1 in
         let above = ltb-true 0 n (both _ _ tested.0).0 in
-        made m (ap decimal (sym same) ∙ decimal_back id n a) named.0 (omega (arith, above, same)) (fields_in words) refl named.1
+        let below = leb-true n MOST_ID (both _ _ tested.0).1 in
+        made m (ap decimal (sym same) ∙ decimal_back id n a) named.0 (omega (arith, above, same)) (omega (arith, below, same)) (fields_in words) refl named.1
 
     go : (o : Option ℕ) → number_of id ≡ o → event_if name (option_and_then id_if o) words ≡ Ok e → Says (name ∷ id ∷ words) e
     go None a is = absurd cc

@@ -1,10 +1,10 @@
 -- Events found by their ids, which rise, and what is known of ids.
-use Rattle.std.proofs.Common.{◌≡◌, ◌≢◌, ◌<◌, ◌≤◌, ◌+◌, ◌&&◌, ℕ, zero, suc, Bool, true, false, cond, eqb, ltb, refl, sym, ap, subst, ◌∙◌, arith, List, [], ◌∷◌, ◌++◌, length, take, drop, get_or, Option, Some, None}
+use Rattle.std.proofs.Common.{◌≡◌, ◌≢◌, ◌<◌, ◌≤◌, ◌+◌, ◌&&◌, ℕ, zero, suc, Bool, true, false, cond, eqb, ltb, refl, sym, ap, ◌∙◌, arith, List, [], ◌∷◌, ◌++◌, length, take, drop, get_or, Option, Some, None}
 use Rattle.std.proofs.lemmas.Bool.{ne_eqb, ltb-true, lt-ltb}
 use Rattle.std.proofs.lemmas.List.{take_more}
 use Rattle.std.proofs.lemmas.Bool.Decides.{Decides-eqb}
 use Rattle.tr_terms.proofs.BoolLemmas.{both}
-use Rattle.tr_events.specs.Events.{Event, event_with, exact, fits_declared, fits_if_some, ids_rise}
+use Rattle.tr_events.specs.Events.{Event, event_with, exact, fits_among, fits_if_some, ids_rise}
 use Rattle.tr_events.specs.declared.ids.Known.{Known}
 use Rattle.tr_events.specs.declared.ids.Known.TheVariants.{Ask}
 use Rattle.tr_events.proofs.EndLemmas.{exact_fits}
@@ -148,5 +148,5 @@ each_more P (y ∷ entries) x all last (suc k) = each_more (λ j v. P (suc j) v)
 -- ---- an event of one size
 
 pub exact_so : (events : List Event) (id size : ℕ) (e : Event) → event_with id events ≡ Some e → exact e.fields ≡ Some size
-    → (payload : List ℕ) → fits_declared events id payload ≡ eqb (length payload) size
+    → (payload : List ℕ) → fits_among events id payload ≡ eqb (length payload) size
 exact_so events id size e found is payload = ap (λ (o : Option Event). fits_if_some o payload) found ∙ exact_fits e size payload is

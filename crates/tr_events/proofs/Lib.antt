@@ -1,6 +1,7 @@
 mod BackLemmas
 pub mod DeclaredLemmas
 mod EndLemmas
+pub mod EnvLemmas
 pub mod FoundLemmas
 mod ListLemmas
 pub mod NumberLemmas

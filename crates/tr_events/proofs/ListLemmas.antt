@@ -1,11 +1,8 @@
 -- What loops leave of a list.
-use Rattle.std.proofs.Common.{◌≡◌, ◌<◌, ◌≤◌, ◌+◌, ◌-◌, ℕ, Bool, true, false, cond, eqb, leb, ltb, length-append, refl, sym, ap, ◌∙◌, arith, List, [], ◌∷◌, ◌++◌, Bor, length, map, take, drop, get_or, append_assoc, Option, Some, None, Result, Ok, Err}
-use Rattle.std.specs.Prelude.{nat_le}
+use Rattle.std.proofs.Common.{◌≡◌, ◌<◌, ◌-◌, ℕ, Bool, true, false, cond, eqb, refl, sym, ap, ◌∙◌, arith, List, [], ◌∷◌, ◌++◌, Bor, length, map, take, Option, Some, None, Ok, Err}
 use Rattle.std.specs.Option.{option_and_then, option_map}
-use Rattle.std.specs.List.{ends_with, insert}
-use Rattle.std.proofs.lemmas.Bool.{leb-true, leb-false, le-leb}
+use Rattle.std.specs.List.{ends_with, join_by, join_with_byte}
 use Rattle.std.proofs.lemmas.Bool.Decides.{Decides-eqb}
-use Rattle.std.proofs.lemmas.List.{drop_more, take_at, take_more}
 use Rattle.std.proofs.lemmas.Slice.Eq.{ends_is}
 use Rattle.std.proofs.lemmas.Str.{encode_ascii}
 use Rattle.std.proofs.Math.Utf8.{encode}
@@ -14,6 +11,7 @@ use Rattle.tr_events.specs.Lines.{Declared, event_in}
 use Rattle.tr_events.specs.declared.faults.EventFault.TheVariants.{BadEvent}
 use Rattle.tr_events.specs.declared.layouts.Layout.TheVariants.{One}
 use Rattle.tr_events.specs.declared.layouts.Number.{Number}
+use Rattle.tr_events.proofs.SplitLemmas.{joined}
 use Rattle.tr_events.specs.Types.{Type_named, counted, counted_by, is_whole, labelled, labels_in, number_named, without_end}
 
 -- fields after these
@@ -59,3 +57,8 @@ pub too_few : (words : List (Bor (List ℕ))) → length words < 2 → Err BadEv
 too_few [] few = refl
 too_few (name ∷ []) few = refl
 too_few (name ∷ id ∷ words) few = absurd (omega (arith, few))
+
+-- words that were joined are one space apart
+pub spaces : (words : List (Bor (List ℕ))) → join_by (λ (w : Bor (List ℕ)). w.now) (32 ∷ []) words ≡ join_with_byte 32 (map (λ w. w.now) words)
+spaces [] = refl
+spaces (word ∷ words) = sym (joined 32 (λ (w : Bor (List ℕ)). w.now) word.now words)

@@ -1,16 +1,16 @@
 -- Events in the order of ids, one more of them, and what a text declares.
-use Rattle.std.proofs.Common.{◌≡◌, ◌<◌, ◌≤◌, ◌+◌, ◌&&◌, ℕ, zero, suc, Bool, true, false, cond, eqb, ltb, leb, refl, sym, ap, ap₂, subst, ◌∙◌, arith, List, [], ◌∷◌, ◌++◌, length, map, append_assoc, append-nil, Option, Some, None, Result, Ok, Err}
-use Rattle.std.specs.Prelude.{IsTrue, not, ◌||◌, nat_eq, nat_lt, codes, bytes_eq}
+use Rattle.std.proofs.Common.{◌≡◌, ◌<◌, ◌≤◌, ◌&&◌, ℕ, suc, Bool, true, false, cond, eqb, leb, refl, sym, ap, subst, arith, List, [], ◌∷◌, ◌++◌, length}
+use Rattle.std.specs.Prelude.{not, ◌||◌, nat_eq}
 use Rattle.std.specs.Cmp.Lexicographic.{pointwise}
-use Rattle.std.specs.List.{AllByRecursion, list_all, list_any}
+use Rattle.std.specs.List.{AllByRecursion}
 use Rattle.std.proofs.lemmas.Bool.{ne_eqb, ltb-true, leb-true, leb-false, lt-ltb}
 use Rattle.std.proofs.lemmas.Bool.Decides.{Decides-eqb}
 use Rattle.std.proofs.lemmas.Slice.Eq.{bytes_eq-Decides}
 use Rattle.tr_terms.proofs.BoolLemmas.{both}
 use Rattle.tr_events.specs.declared.layouts.TheConstants.{MOST_EVENTS}
-use Rattle.tr_events.specs.Events.{Event, AreEvents, all_apart, ids_rise, is_apart}
+use Rattle.tr_events.specs.Events.{Event, all_apart, ids_rise, is_apart}
 use Rattle.tr_events.specs.Lines.{are_names_apart, is_among_names, is_taken, placed}
-use Rattle.tr_events.specs.Declarations.{AreDeclared, IsDeclaration, names_for}
+use Rattle.tr_events.specs.Declarations.{AreDeclaredEvents, IsDeclaration, names_for}
 
 -- ---- tests
 
@@ -113,8 +113,8 @@ placed_names e (o ∷ events) free apart = go (placed_names e events (neither _ 
 
 -- ---- declared events, and one more
 
-pub placed_declared : (e : Event) (events : List Event) → AreDeclared events → IsDeclaration e → 0 < e.id → is_apart e.fields ≡ true
-    → is_taken e events ≡ false → suc (length events) ≤ MOST_EVENTS → AreDeclared (placed e events)
+pub placed_declared : (e : Event) (events : List Event) → AreDeclaredEvents events → IsDeclaration e → 0 < e.id → is_apart e.fields ≡ true
+    → is_taken e events ≡ false → suc (length events) ≤ MOST_EVENTS → AreDeclaredEvents (placed e events)
 placed_declared e events all is above apart free few = record {
   are = record {
     few = subst (λ (n : ℕ). n ≤ MOST_EVENTS) (sym (placed_length e events)) few;

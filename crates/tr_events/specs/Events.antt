@@ -4,6 +4,7 @@ use Rattle.std.specs.Int.{Width, w8, w16, w32, w64, byte_len, cast_signed}
 use Rattle.std.specs.List.{list_all, list_any}
 use Rattle.tr_record.specs.Records.{Entry}
 use Rattle.tr_record.specs.Reading.{◌>>=◌, number_at}
+use Rattle.tr_events.specs.Variables.{Variable}
 use Rattle.tr_events.specs.declared.layouts.TheConstants.{MOST_EVENTS}
 use Rattle.tr_events.specs.declared.layouts.Layout.{Layout}
 use Rattle.tr_events.specs.declared.layouts.Layout.TheVariants.{One, Array, Sequence, Text, All}
@@ -40,6 +41,20 @@ pub record Event : Type 0 where
 
 abbrev pub event : List ℕ → ℕ → List Field → Event
 event name id fields = record { name = name; id = id; fields = fields }
+
+-- what a session declares: variables of its environment, and events in the order of ids
+pub record Declarations : Type 0 where
+  pub env : List Variable
+  pub events : List Event
+
+abbrev pub declarations : List Variable → List Event → Declarations
+declarations env events = record { env = env; events = events }
+
+abbrev pub nothing : Declarations
+nothing = declarations [] []
+
+abbrev pub is_nothing : Declarations → Bool
+is_nothing d = length d.env == 0 && length d.events == 0
 
 -- ---- values
 
@@ -202,9 +217,12 @@ abbrev pub fits_if_some : Option Event → List ℕ → Bool
 fits_if_some None payload = true
 fits_if_some (Some e) payload = fits e payload
 
-abbrev pub fits_declared : List Event → ℕ → List ℕ → Bool
-fits_declared events id payload = fits_if_some (event_with id events) payload
+abbrev pub fits_among : List Event → ℕ → List ℕ → Bool
+fits_among events id payload = fits_if_some (event_with id events) payload
+
+abbrev pub fits_declared : Declarations → ℕ → List ℕ → Bool
+fits_declared d id payload = fits_among d.events id payload
 
 -- if its id is declared, the record's payload fits
 abbrev pub FitsAsDeclared : List Event → Entry → Type 0
-FitsAsDeclared events e = IsTrue (fits_declared events e.id e.payload)
+FitsAsDeclared events e = IsTrue (fits_among events e.id e.payload)

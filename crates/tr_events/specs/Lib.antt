@@ -7,3 +7,4 @@ pub mod Numbers
 pub mod Packing
 pub mod Types
 pub mod Words
+pub mod Variables

@@ -1,21 +1,23 @@
 -- What the lines of a text declare.
-use Rattle.std.specs.Prelude.{ℕ, zero, suc, ◌+◌, ◌*◌, Bool, true, false, not, ◌&&◌, ◌||◌, nat_le, nat_lt, nat_eq, List, [], ◌∷◌, ◌++◌, codes, length, Option, Some, None, Result, Ok, Err, Vec, if◌then◌else◌, bytes_eq}
+use Rattle.std.specs.Prelude.{ℕ, ◌+◌, ◌*◌, Bool, true, false, not, ◌&&◌, ◌||◌, nat_le, nat_lt, nat_eq, List, [], ◌∷◌, ◌++◌, codes, length, Option, Some, None, Result, Ok, Err, Vec, if◌then◌else◌, bytes_eq}
 use Rattle.std.specs.Cmp.Lexicographic.{pointwise}
 use Rattle.std.specs.Int.{byte_len}
 use Rattle.std.specs.Option.{option_and_then}
-use Rattle.std.specs.List.{flat_map, list_all, list_any, slice_split}
+use Rattle.std.specs.List.{flat_map, join_with_byte, list_all, list_any, slice_split}
 use Rattle.tr_lines.specs.Lines.{is_feed, is_printable}
 use Rattle.tr_lines.specs.Words.{is_skipped, words_of}
 use Rattle.tr_terms.specs.Names.{is_name}
 use Rattle.tr_events.specs.declared.faults.EventFault.{EventFault}
-use Rattle.tr_events.specs.declared.faults.EventFault.TheVariants.{BadEvent, BadField, BadType, NotAlone, FieldTwice, EventTaken, TooMany}
+use Rattle.tr_events.specs.declared.faults.EventFault.TheVariants.{BadEvent, BadField, BadType, NotAlone, FieldTwice, EventTaken, TooMany, BadVariable, BadValue, VariableTaken, TooManyVariables}
 use Rattle.tr_events.specs.declared.faults.LineFault.{LineFault}
 use Rattle.tr_events.specs.declared.layouts.Layout.{Layout}
 use Rattle.tr_events.specs.declared.layouts.Layout.TheVariants.{One, Array, Sequence, Text, All}
 use Rattle.tr_events.specs.declared.layouts.TheConstants.{MOST_EVENTS, MOST_FIELDS, MOST_ID, MOST_PAYLOAD, LONGEST_DECLARATIONS}
-use Rattle.tr_events.specs.Events.{Event, event, Field, field, is_apart, width_of}
-use Rattle.tr_events.specs.Numbers.{number_of}
+use Rattle.tr_events.specs.declared.variables.TheConstants.{MOST_VARIABLES}
+use Rattle.tr_events.specs.Events.{Declarations, declarations, nothing, Event, event, Field, field, is_apart, width_of}
+use Rattle.tr_events.specs.Numbers.{is_digit, number_of}
 use Rattle.tr_events.specs.Types.{Type_named, parted_at, type_in}
+use Rattle.tr_events.specs.Variables.{Variable, variable, is_variable_name, may_be}
 
 abbrev pub Declared : Type 0 → Type 0
 Declared X = Result X EventFault
@@ -134,34 +136,86 @@ added events (Ok e) =
     else if not (nat_lt (length events) MOST_EVENTS) then Err TooMany
     else Ok (placed e events)
 
+-- ---- variables
+
+abbrev pub variable_of : List ℕ → List ℕ → Declared Variable
+variable_of name value =
+    if not (is_variable_name name) then Err BadVariable
+    else if not (may_be name value) then Err BadValue
+    else Ok (variable name value)
+
+-- NAME VALUE ..: the words of a value are one space apart
+abbrev pub variable_in : List (List ℕ) → Declared Variable
+variable_in [] = Err BadVariable
+variable_in (name ∷ words) = variable_of name (join_with_byte 32 words)
+
+-- one of them has this name
+abbrev pub is_given : Variable → List Variable → Bool
+is_given v = list_any (λ (o : Variable). pointwise nat_eq o.name v.name)
+
+abbrev pub given : List Variable → Declared Variable → Declared (List Variable)
+given env (Err fault) = Err fault
+given env (Ok v) =
+    if is_given v env then Err VariableTaken
+    else if not (nat_lt (length env) MOST_VARIABLES) then Err TooManyVariables
+    else Ok (env ++ v ∷ [])
+
+abbrev pub begins_with_digit : List ℕ → Bool
+begins_with_digit [] = false
+begins_with_digit (b ∷ text) = is_digit b
+
+-- `env` and a name; with an id after it, `env` is an event's name
+abbrev pub is_env : List (List ℕ) → Bool
+is_env [] = false
+is_env (word ∷ []) = false
+is_env (word ∷ next ∷ words) = bytes_eq word (codes "env") && not (begins_with_digit next)
+
+-- env NAME VALUE ..
+abbrev pub env_in : List (List ℕ) → Declared Variable
+env_in [] = Err BadVariable
+env_in (word ∷ words) = variable_in words
+
+-- ---- lines
+
 -- the words of a line, if all of it can be printed
 abbrev pub words_in : List ℕ → Option (List (List ℕ))
 words_in line = if list_all is_printable line then Some (words_of line) else None
 
-abbrev pub after_words : List Event → Option (List (List ℕ)) → Declared (List Event)
-after_words events None = Err BadEvent
-after_words events (Some words) = if is_skipped words then Ok events else added events (event_in words)
+abbrev pub with_env : Declarations → Declared (List Variable) → Declared Declarations
+with_env d (Err fault) = Err fault
+with_env d (Ok env) = Ok (declarations env d.events)
 
--- the events after a line; a line without words declares none, nor does one that begins with `#`
-abbrev pub after_line : List Event → List ℕ → Declared (List Event)
-after_line events line = after_words events (words_in line)
+abbrev pub with_events : Declarations → Declared (List Event) → Declared Declarations
+with_events d (Err fault) = Err fault
+with_events d (Ok events) = Ok (declarations d.env events)
+
+abbrev pub after_words : Declarations → Option (List (List ℕ)) → Declared Declarations
+after_words d None = Err BadEvent
+after_words d (Some words) =
+    if is_skipped words then Ok d
+    else if is_env words then with_env d (given d.env (env_in words))
+    else with_events d (added d.events (event_in words))
+
+-- what is declared after a line; a line without words declares nothing, nor does one that begins with `#`
+abbrev pub after_line : Declarations → List ℕ → Declared Declarations
+after_line d line = after_words d (words_in line)
 
 abbrev pub line_fault : ℕ → EventFault → LineFault
 line_fault line fault = record { line = line; fault = fault }
 
-abbrev pub and_lines : ℕ → Declared (List Event) → (List Event → Result (List Event) LineFault) → Result (List Event) LineFault
+abbrev pub and_lines : ℕ → Declared Declarations → (Declarations → Result Declarations LineFault) → Result Declarations LineFault
 and_lines number (Err fault) next = Err (line_fault number fault)
-and_lines number (Ok events) next = next events
+and_lines number (Ok d) next = next d
 
--- those after several lines, of which the first has this number
-abbrev pub after_lines : ℕ → List Event → List (List ℕ) → Result (List Event) LineFault
-after_lines number events [] = Ok events
-after_lines number events (line ∷ lines) = and_lines number (after_line events line) (λ more. after_lines (number + 1) more lines)
+-- after several lines, of which the first has this number
+abbrev pub after_lines : ℕ → Declarations → List (List ℕ) → Result Declarations LineFault
+after_lines number d [] = Ok d
+after_lines number d (line ∷ lines) = and_lines number (after_line d line) (λ more. after_lines (number + 1) more lines)
 
--- the events that a text declares, in the order of ids, or the first line that declares none
-abbrev pub declared : List ℕ → Result (List Event) LineFault
+-- what a text declares: events in the order of ids, variables in the order of their lines; or the first line that is refused
+abbrev pub declared : List ℕ → Result Declarations LineFault
 declared text =
-    if nat_le (length text) LONGEST_DECLARATIONS then after_lines 1 [] (slice_split is_feed text)
+    if nat_le (length text) LONGEST_DECLARATIONS then after_lines 1 nothing (slice_split is_feed text)
     else Err (line_fault 1 TooMany)
 
 -- ---- answers

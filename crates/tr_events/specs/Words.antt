@@ -1,4 +1,4 @@
--- The language of declarations: a line for each event.
+-- The language of declarations: a line for each variable and each event.
 use Rattle.std.specs.Prelude.{ℕ, List, [], ◌∷◌, ◌++◌, codes}
 use Rattle.std.specs.Fmt.{decimal, signed_decimal}
 use Rattle.std.specs.List.{flat_map}
@@ -10,7 +10,8 @@ use Rattle.tr_events.specs.declared.layouts.Size.{Size}
 use Rattle.tr_events.specs.declared.layouts.Size.TheVariants.{Bits8, Bits16, Bits32, Bits64}
 use Rattle.tr_events.specs.declared.layouts.Sort.{Sort}
 use Rattle.tr_events.specs.declared.layouts.Sort.TheVariants.{Unsigned, Signed, Hexadecimal, Floating, Flag}
-use Rattle.tr_events.specs.Events.{Label, Field, Event}
+use Rattle.tr_events.specs.Events.{Label, Field, Event, Declarations}
+use Rattle.tr_events.specs.Variables.{Variable}
 
 -- ---- types
 
@@ -62,3 +63,11 @@ event_word e = e.name ++ (32 ∷ decimal e.id)
 
 abbrev pub event_line : Event → List ℕ
 event_line e = event_word e ++ (flat_map field_word e.fields ++ 10 ∷ [])
+
+-- env NAME VALUE
+abbrev pub env_line : Variable → List ℕ
+env_line v = codes "env " ++ (v.name ++ (32 ∷ (v.value ++ 10 ∷ [])))
+
+-- variables before events
+abbrev pub declarations_text : Declarations → List ℕ
+declarations_text d = flat_map env_line d.env ++ flat_map event_line d.events

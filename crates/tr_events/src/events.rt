@@ -1,8 +1,8 @@
-//! The events that a session declares.
+//! What a session declares: variables of its environment, and events.
 
-ghost use Rattle.std.specs.Prelude.{◌≡◌, [], Ok, Err, IfErr, IfOk, map};
+ghost use Rattle.std.specs.Prelude.{◌≡◌, Ok, Err, IfErr, IfOk, map};
 ghost use Rattle.tr_events.specs.Declarations.{AreDeclared};
-ghost use Rattle.tr_events.specs.Events.{fits_declared, has_all, is_apart};
+ghost use Rattle.tr_events.specs.Events.{declarations, fits_declared, has_all, is_apart, is_nothing, nothing};
 ghost use Rattle.std.specs.List.{slice_split};
 ghost use Rattle.tr_lines.specs.Lines.{is_feed};
 ghost use Rattle.tr_events.specs.Lines.{after_lines, declared};
@@ -13,14 +13,17 @@ use crate::event::{Event, Field};
 use crate::faults::{EventFault, LineFault, ParseFault};
 use crate::ids::{Known, bound_of, fits_found, known_ids};
 use crate::layouts::{LONGEST_DECLARATIONS, Layout};
-use crate::lines::events_in;
+use crate::lines::{Draft, drafted};
+use crate::variables::Variable;
 use std::alloc::{AllocError, Allocator, Global};
 use std::marker::Model;
 
-/// Events, each id once, in the order of ids. Contracts see their list.
+/// What a session declares: variables of its environment, each name once, in the order of their lines; and events, each id and
+/// each name once, in the order of ids. Contracts see it as `Declarations`.
 #[derive(Drop, Debug)]
 pub struct Events<A: Allocator = Global> {
-    // Left out if there are none.
+    // Lists are left out if nothing is declared.
+    env: Option<Vec<Variable<A>, A>>,
     events: Option<Vec<Event<A>, A>>,
     // No id from this one on is declared.
     bound: u64,
@@ -29,15 +32,14 @@ pub struct Events<A: Allocator = Global> {
 }
 
 impl<A: Allocator> Model for Events<A> {
-    ghost use Rattle.std.specs.Prelude.{List};
-    ghost use Rattle.tr_events.specs.Events.{Event};
+    ghost use Rattle.tr_events.specs.Events.{Declarations, declarations};
     ghost use Rattle.tr_events.specs.Ids.{AreKnown, kept};
 
-    ghost Value = { List Event };
+    ghost Value = { Declarations };
 
-    ghost view = { λ e. kept e.events };
+    ghost view = { λ e. declarations (kept e.env) (kept e.events) };
 
-    ghost invariant = { λ e. AreKnown (kept e.events) e.bound e.known.items };
+    ghost invariant = { λ e. AreKnown (declarations (kept e.env) (kept e.events)) e.bound e.known.items };
 }
 
 /// Whether a field is all of the payload.
@@ -83,27 +85,41 @@ fn events_copied<A: Allocator, B: Allocator + Copy>(
     Ok(copies)
 }
 
+/// The same variables in other memory.
+fn env_copied<A: Allocator, B: Allocator + Copy>(
+    alloc: B,
+    env: &[Variable<A>],
+) -> Result<Vec<Variable<B>, B>, AllocError>
+    ensures { IfOk result (λ copies. copies.items ≡ env.now) }
+{
+    let mut copies = Vec::with_capacity(alloc, env.len())?;
+    for variable in env {
+        copies.push(variable.copy(alloc)?)?;
+    }
+    Ok(copies)
+}
+
 impl Events {
-    /// The events that these lines declare, in the order of ids, or the first line that declares none.
+    /// What these lines declare, events in the order of ids, or the first line that is refused.
     ///
     /// # Errors
     ///
     /// An allocation failed.
     pub fn of_lines(alloc: Global, lines: &[&[u8]]) -> Result<Result<Events, LineFault>, AllocError>
-        ensures { IfOk result (λ events. events ≡ after_lines 1 [] (map (λ l. l.now) lines.now)) }
+        ensures { IfOk result (λ events. events ≡ after_lines 1 nothing (map (λ l. l.now) lines.now)) }
     {
-        match events_in(alloc, lines)? {
-            Ok(events) => Ok(Ok(Events::of(alloc, events)?)),
+        match drafted(alloc, lines)? {
+            Ok(draft) => Ok(Ok(Events::drafted(alloc, draft)?)),
             Err(fault) => Ok(Err(fault)),
         }
     }
 
-    /// The events that the lines of a text declare, in the order of ids: a line for each, `NAME ID FIELD:TYPE ..`. A line without
-    /// words declares none, nor does one that begins with `#`.
+    /// What the lines of a text declare, events in the order of ids: a line for each event, `NAME ID FIELD:TYPE ..`, and for each
+    /// variable, `env NAME VALUE`. A line without words declares nothing, nor does one that begins with `#`.
     ///
     /// # Errors
     ///
-    /// The first line that declares none, and why; or an allocation failed.
+    /// The first line that is refused, and why; or an allocation failed.
     pub fn parse(alloc: Global, text: &[u8]) -> Result<Events, ParseFault>
         ensures events { IfOk result (λ events. declared text.now ≡ Ok events) }
         ensures fault { IfErr result (λ fault. (at : LineFault) → fault ≡ Line at → declared text.now ≡ Err at) }
@@ -119,17 +135,31 @@ impl Events {
             Err(fault) => Err(ParseFault::Line(fault)),
         }
     }
+
+    /// What was drafted, with what is known of its ids.
+    fn drafted(alloc: Global, draft: Draft) -> Result<Events, AllocError>
+        requires { AreDeclared draft }
+        ensures { IfOk result (λ all. all ≡ draft) }
+    {
+        let Draft { env, events } = draft;
+        Events::of(alloc, env, events)
+    }
 }
 
 impl<A: Allocator + Copy> Events<A> {
-    /// These events, with what is known of their ids.
-    fn of(alloc: A, events: Vec<Event<A>, A>) -> Result<Events<A>, AllocError>
-        requires { AreDeclared events.items }
-        ensures { IfOk result (λ all. all ≡ events.items) }
+    /// These variables and events, with what is known of the events' ids.
+    fn of(
+        alloc: A,
+        env: Vec<Variable<A>, A>,
+        events: Vec<Event<A>, A>,
+    ) -> Result<Events<A>, AllocError>
+        requires { AreDeclared (declarations env.items events.items) }
+        ensures { IfOk result (λ all. all ≡ declarations env.items events.items) }
     {
         let bound = bound_of(&events);
         let known = known_ids(alloc, &events)?;
         Ok(Events {
+            env: Some(env),
             events: Some(events),
             bound,
             known,
@@ -138,18 +168,19 @@ impl<A: Allocator + Copy> Events<A> {
 }
 
 impl<A: Allocator> Events<A> {
-    /// No events. It takes no memory.
+    /// Nothing declared. It takes no memory.
     pub fn none(alloc: A) -> Events<A>
-        ensures { result ≡ [] }
+        ensures { result ≡ nothing }
     {
         Events {
+            env: None,
             events: None,
             bound: 0,
             known: Vec::new(alloc),
         }
     }
 
-    /// The same events in memory of this allocator: names, ids, fields and labels.
+    /// The same in memory of this allocator: names and values, ids, fields and labels.
     ///
     /// # Errors
     ///
@@ -157,18 +188,36 @@ impl<A: Allocator> Events<A> {
     pub fn copy<B: Allocator + Copy>(&self, alloc: B) -> Result<Events<B>, AllocError>
         ensures { IfOk result (λ events. events ≡ self.now) }
     {
-        Events::of(alloc, events_copied(alloc, self.list())?)
+        let env = env_copied(alloc, self.env())?;
+        Events::of(alloc, env, events_copied(alloc, self.list())?)
+    }
+
+    /// The variables of the environment, in the order in which they were declared.
+    pub fn env(&self) -> &[Variable<A>]
+        ensures { result.now ≡ self.now.env }
+    {
+        match &self.env {
+            Some(env) => env.as_slice(),
+            None => &[],
+        }
     }
 
     /// The events, in the order of ids.
     pub fn list(&self) -> &[Event<A>]
-        ensures value { result.now ≡ self.now }
+        ensures value { result.now ≡ self.now.events }
         ensures stand { AreDeclared self.now }
     {
         match &self.events {
             Some(events) => events.as_slice(),
             None => &[],
         }
+    }
+
+    /// Whether nothing is declared.
+    pub fn is_empty(&self) -> bool
+        ensures { result ≡ is_nothing self.now }
+    {
+        self.env().is_empty() && self.list().is_empty()
     }
 
     /// Whether a record of this id and payload fits as declared; one whose id isn't declared does. It takes no memory.

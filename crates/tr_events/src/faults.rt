@@ -6,8 +6,9 @@ ghost use Rattle.tr_events.specs.Faults.{event_fault_code, event_fault_name};
 use std::alloc::AllocError;
 use thiserror::Error;
 
-/// Why a line declares no event. If several apply, the first one in this order is the answer: of the name, the id and the
-/// fields in the order of the line, then `FieldTwice`, `NotAlone`, `TooMany` of the line, `EventTaken`, and `TooMany` of all.
+/// Why a line declares nothing. If several apply to an event, the first one in this order is the answer: of the name, the id and
+/// the fields in the order of the line, then `FieldTwice`, `NotAlone`, `TooMany` of the line, `EventTaken`, and `TooMany` of all.
+/// Those of a variable apply in their order.
 #[derive(Clone, Copy, Debug, PartialEq, Eq, Error)]
 #[error("{} {}", self.code(), self.name())]
 pub enum EventFault {
@@ -27,6 +28,14 @@ pub enum EventFault {
     /// There are more than `MOST_FIELDS` fields or `MOST_EVENTS` events, the text is longer than `LONGEST_DECLARATIONS`, or no
     /// packet holds a record of the event.
     TooMany,
+    /// A variable's name is no name, or a word of the language of metadata.
+    BadVariable,
+    /// A variable has no value, one longer than `LONGEST_VALUE` or with `"`, `\` or `*/` in it, or `vpid` no number.
+    BadValue,
+    /// An earlier line has a variable of this name.
+    VariableTaken,
+    /// There are more than `MOST_VARIABLES` variables.
+    TooManyVariables,
 }
 
 impl EventFault {
@@ -42,6 +51,10 @@ impl EventFault {
             EventFault::FieldTwice => "V5",
             EventFault::EventTaken => "V6",
             EventFault::TooMany => "V7",
+            EventFault::BadVariable => "V8",
+            EventFault::BadValue => "V9",
+            EventFault::VariableTaken => "V10",
+            EventFault::TooManyVariables => "V11",
         }
     }
 
@@ -57,11 +70,15 @@ impl EventFault {
             EventFault::FieldTwice => "FieldTwice",
             EventFault::EventTaken => "EventTaken",
             EventFault::TooMany => "TooMany",
+            EventFault::BadVariable => "BadVariable",
+            EventFault::BadValue => "BadValue",
+            EventFault::VariableTaken => "VariableTaken",
+            EventFault::TooManyVariables => "TooManyVariables",
         }
     }
 }
 
-/// The line of a text that declares no event, from 1 on, and why.
+/// The line of a text that is refused, from 1 on, and why.
 #[derive(Clone, Copy, Debug, PartialEq, Eq, Error)]
 #[error("line {line}: {fault}")]
 pub struct LineFault {
@@ -69,10 +86,10 @@ pub struct LineFault {
     pub fault: EventFault,
 }
 
-/// Why a text declares no events.
+/// Why a text declares nothing.
 #[derive(Clone, Copy, Debug, PartialEq, Eq, Error)]
 pub enum ParseFault {
-    /// A line declares none.
+    /// A line is refused.
     #[error("{0}")]
     Line(LineFault),
     /// An allocation failed.

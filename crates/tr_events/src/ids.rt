@@ -1,7 +1,7 @@
 //! What is known of the ids of events, so that few payloads have to be held against the fields of an event.
 
 ghost use Rattle.std.specs.Prelude.{◌≡◌, IfOk, IsTrue, option_map};
-ghost use Rattle.tr_events.specs.Events.{event_with, fits_declared, ids_rise};
+ghost use Rattle.tr_events.specs.Events.{event_with, fits_among, ids_rise};
 ghost use Rattle.tr_events.specs.Ids.{AreSo, IsBound, Says};
 
 use crate::event::Event;
@@ -68,7 +68,7 @@ fn found<A: Allocator>(events: &[Event<A>], id: u32) -> Option<&Event<A>>
 /// Whether a payload of this id fits, as the event of these says that has it. Their ids rise.
 pub(crate) fn fits_found<A: Allocator>(events: &[Event<A>], id: u32, payload: &[u8]) -> bool
     requires { IsTrue (ids_rise 0 events.now) }
-    ensures { result ≡ fits_declared events.now id payload.now }
+    ensures { result ≡ fits_among events.now id payload.now }
 {
     match found(events, id) {
         Some(event) => event.fits(payload),

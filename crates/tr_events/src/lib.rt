@@ -3,7 +3,7 @@
 //! # Example
 //!
 //! ```
-//! let events = Events::parse(alloc, text)?;             // or the first line that declares none
+//! let events = Events::parse(alloc, text)?;             // or the first line that is refused
 //! let own = events.copy(heap)?;                         // the same in other memory
 //! if own.fits(id, payload) { .. }                       // takes no memory, and few instructions
 //! ```
@@ -19,6 +19,7 @@
 //! - What is written of declared events declares them again (`declared_again`, `push_event_lines`).
 #![tactic(auto)]
 
+mod env;
 mod event;
 mod events;
 mod faults;
@@ -28,6 +29,7 @@ mod layouts;
 mod lines;
 mod numbers;
 mod types;
+mod variables;
 mod words;
 
 pub use event::{Event, Field, Label};
@@ -38,4 +40,5 @@ pub use layouts::{
     MOST_PAYLOAD, Number, Size, Sort,
 };
 pub use numbers::{integer_in, number_in};
-pub use words::{number_word, push_event_lines};
+pub use variables::{LONGEST_VALUE, MOST_VARIABLES, Variable};
+pub use words::{number_word, push_declarations, push_event_lines};

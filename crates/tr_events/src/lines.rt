@@ -5,16 +5,20 @@ ghost use Rattle.std.specs.List.{flat_map};
 ghost use Rattle.std.specs.Option.{option_and_then};
 ghost use Rattle.std.specs.String.{string_bytes};
 ghost use Rattle.tr_events.specs.Numbers.{number_of};
-ghost use Rattle.tr_events.specs.Lines.{added, after_line, after_lines, are_names_apart, checked, event_by, event_in, field_in, fields_in, id_if, is_among_names, is_event_name, is_field_name, is_taken, least, least_of, listed, names_of, placed, unless};
+ghost use Rattle.tr_events.specs.Lines.{added, env_in, given, after_line, after_lines, are_names_apart, checked, event_by, event_in, field_in, fields_in, id_if, is_among_names, is_event_name, is_field_name, is_taken, least, least_of, listed, names_of, placed, unless, with_env, with_events};
+ghost use Rattle.tr_events.specs.Events.{declarations, nothing};
 ghost use Rattle.tr_events.specs.declared.layouts.TheConstants.{MOST_PAYLOAD};
 
+use crate::env::{env_in, give, is_env};
 use crate::event::{Event, Field, size_of};
 use crate::events::is_apart;
 use crate::faults::{EventFault, LineFault};
 use crate::layouts::{Layout, MOST_EVENTS, MOST_FIELDS, MOST_PAYLOAD};
 use crate::numbers::number_in;
 use crate::types::{parted_at, type_in};
+use crate::variables::Variable;
 use std::alloc::{AllocError, Global};
+use std::marker::Model;
 use tr_lines::{Words, has_only_printable, is_skipped_line, push_words};
 use tr_terms::Name;
 
@@ -233,44 +237,87 @@ fn add(event: Event, events: &mut Vec<Event>) -> Result<Option<EventFault>, Allo
     Ok(None)
 }
 
-/// Adds the event that a line declares, if it declares one.
-fn add_line(
-    alloc: Global,
-    events: &mut Vec<Event>,
-    line: &[u8],
-) -> Result<Option<EventFault>, AllocError>
-    ensures { IfOk result (λ fault. unless fault events.new.items ≡ after_line events.old.items line.now) }
-{
-    if !has_only_printable(line) {
-        return Ok(Some(EventFault::BadEvent));
+/// What the lines so far declare. Contracts see it as `Declarations`.
+#[derive(Drop)]
+pub(crate) struct Draft {
+    pub(crate) env: Vec<Variable>,
+    pub(crate) events: Vec<Event>,
+}
+
+impl Model for Draft {
+    ghost use Rattle.tr_events.specs.Events.{Declarations, declarations};
+
+    ghost Value = { Declarations };
+
+    ghost view = { λ d. declarations d.env.items d.events.items };
+}
+
+impl Draft {
+    /// Adds the variable that words declare.
+    fn add_variable(
+        &mut self,
+        alloc: Global,
+        words: &[&str],
+    ) -> Result<Option<EventFault>, AllocError>
+        ensures { IfOk result
+            (λ fault. unless fault self.new ≡ with_env self.old (given self.old.env (env_in (map (λ w. w.now) words.now)))) }
+    {
+        match env_in(alloc, words)? {
+            Ok(variable) => give(variable, &mut self.env),
+            Err(fault) => Ok(Some(fault)),
+        }
     }
-    let Ok(text) = str::from_utf8(line) else {
-        return Ok(Some(EventFault::BadEvent));
-    };
-    if is_skipped_line(text) {
-        return Ok(None);
+
+    /// Adds the event that words declare.
+    fn add_event(&mut self, alloc: Global, words: &[&str]) -> Result<Option<EventFault>, AllocError>
+        ensures { IfOk result
+            (λ fault. unless fault self.new ≡ with_events self.old (added self.old.events (event_in (map (λ w. w.now) words.now)))) }
+    {
+        match event_in(alloc, words)? {
+            Ok(event) => add(event, &mut self.events),
+            Err(fault) => Ok(Some(fault)),
+        }
     }
-    let mut words = Words::new(alloc);
-    push_words(&mut words, text)?;
-    match event_in(alloc, words.as_slice())? {
-        Ok(event) => add(event, events),
-        Err(fault) => Ok(Some(fault)),
+
+    /// Adds what a line declares, if it declares anything.
+    fn add_line(&mut self, alloc: Global, line: &[u8]) -> Result<Option<EventFault>, AllocError>
+        ensures { IfOk result (λ fault. unless fault self.new ≡ after_line self.old line.now) }
+    {
+        if !has_only_printable(line) {
+            return Ok(Some(EventFault::BadEvent));
+        }
+        let Ok(text) = str::from_utf8(line) else {
+            return Ok(Some(EventFault::BadEvent));
+        };
+        if is_skipped_line(text) {
+            return Ok(None);
+        }
+        let mut words = Words::new(alloc);
+        push_words(&mut words, text)?;
+        if is_env(words.as_slice()) {
+            self.add_variable(alloc, words.as_slice())
+        } else {
+            self.add_event(alloc, words.as_slice())
+        }
     }
 }
 
-/// The events that lines declare, in the order of ids, or the first line that declares none.
-pub(crate) fn events_in(
+/// What lines declare, events in the order of ids, or the first line that is refused.
+pub(crate) fn drafted(
     alloc: Global,
     lines: &[&[u8]],
-) -> Result<Result<Vec<Event>, LineFault>, AllocError>
-    ensures { IfOk result (λ es. listed es ≡ after_lines 1 [] (map (λ l. l.now) lines.now)) }
+) -> Result<Result<Draft, LineFault>, AllocError>
+    ensures { IfOk result (λ d. d ≡ after_lines 1 nothing (map (λ l. l.now) lines.now)) }
 {
-    let mut events = Vec::new(alloc);
+    let mut draft = Draft {
+        env: Vec::new(alloc),
+        events: Vec::new(alloc),
+    };
     for at in 0..lines.len() {
-        if let Some(fault) = add_line(alloc, &mut events, lines[at])? {
+        if let Some(fault) = draft.add_line(alloc, lines[at])? {
             let line = at as u64 + 1;
             return Ok(Err(LineFault { line, fault }));
         }
     }
-    Ok(Ok(events))
+    Ok(Ok(draft))
 }

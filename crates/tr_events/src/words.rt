@@ -3,10 +3,12 @@
 ghost use Rattle.std.specs.Prelude.{◌≡◌, ◌++◌, ◌∷◌, OnOk};
 ghost use Rattle.std.specs.List.{flat_map};
 ghost use Rattle.std.specs.String.{string_bytes};
-ghost use Rattle.tr_events.specs.Words.{number_word, label_word, labels_word, layout_word, field_word, event_word, event_line, label_rest};
+ghost use Rattle.tr_events.specs.Words.{number_word, label_word, labels_word, layout_word, field_word, event_word, event_line, label_rest, env_line, declarations_text};
 
 use crate::event::{Event, Field, Label};
+use crate::events::Events;
 use crate::layouts::{Form, Layout, Number, Size, Sort};
+use crate::variables::Variable;
 use std::alloc::{AllocError, Allocator};
 
 pub(crate) fn push<A: Allocator>(text: &mut String<A>, more: &str) -> Result<(), AllocError>
@@ -166,7 +168,7 @@ fn push_event_line<A: Allocator, B: Allocator>(
     push(text, "\n")
 }
 
-/// Adds declarations.
+/// Adds the declarations of events.
 pub fn push_event_lines<A: Allocator, B: Allocator>(
     text: &mut String<B>,
     events: &[Event<A>],
@@ -177,4 +179,38 @@ pub fn push_event_lines<A: Allocator, B: Allocator>(
         push_event_line(text, event)?;
     }
     Ok(())
+}
+
+/// Adds the declaration of a variable.
+fn push_env_line<A: Allocator, B: Allocator>(
+    text: &mut String<B>,
+    variable: &Variable<A>,
+) -> Result<(), AllocError>
+    ensures { OnOk result (string_bytes text.new ≡ string_bytes text.old ++ env_line variable.now) }
+{
+    write!(text, "env {} {}\n", variable.name(), variable.value())
+}
+
+/// Adds the declarations of variables.
+fn push_env_lines<A: Allocator, B: Allocator>(
+    text: &mut String<B>,
+    env: &[Variable<A>],
+) -> Result<(), AllocError>
+    ensures { OnOk result (string_bytes text.new ≡ string_bytes text.old ++ flat_map env_line env.now) }
+{
+    for variable in env {
+        push_env_line(text, variable)?;
+    }
+    Ok(())
+}
+
+/// Adds all declarations: a line for each variable, and then one for each event. By them the same is declared again.
+pub fn push_declarations<A: Allocator, B: Allocator>(
+    text: &mut String<B>,
+    events: &Events<A>,
+) -> Result<(), AllocError>
+    ensures { OnOk result (string_bytes text.new ≡ string_bytes text.old ++ declarations_text events.now) }
+{
+    push_env_lines(text, events.env())?;
+    push_event_lines(text, events.list())
 }

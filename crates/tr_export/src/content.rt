@@ -7,7 +7,7 @@ ghost use Rattle.tr_export.specs.Content.{IsHeld, content_text};
 use std::alloc::Allocator;
 use tr_book::Part;
 use tr_chunk::{WriteFault, write_part, write_texts};
-use tr_events::Event;
+use tr_events::Events;
 use tr_metadata::metadata_text;
 use tr_packet::PacketText;
 use tr_record::{ByteSink, put_all};
@@ -16,8 +16,8 @@ use uuid::Uuid;
 /// What goes into a file of an archive.
 #[derive(Drop)]
 pub enum Content<'a, A: Allocator> {
-    /// The metadata text of a trace with its events.
-    Metadata(&'a Uuid, &'a [Event<A>]),
+    /// The metadata text of a trace with what it declares.
+    Metadata(&'a Uuid, &'a Events<A>),
     /// A part's packets.
     Packets(&'a Part<A>),
     /// Packets that belong to no part.
@@ -26,11 +26,11 @@ pub enum Content<'a, A: Allocator> {
     Bytes(&'a [u8]),
 }
 
-/// Writes the metadata text of a trace with these events. After a refusal a prefix of it went out.
+/// Writes the metadata text of a trace with these declarations. After a refusal a prefix of it went out.
 fn write_metadata<A: Allocator, B: Allocator + Copy, K: ByteSink>(
     alloc: B,
     sink: &mut K,
-    events: &[Event<A>],
+    events: &Events<A>,
     uuid: &Uuid,
 ) -> Result<(), WriteFault>
     ensures { WritesText (metadata_with events.now uuid.now) (sunk_of K.ByteSink sink.old) (sunk_of K.ByteSink sink.new) result }

@@ -118,7 +118,7 @@ fn write_chunk<A: Allocator, B: Allocator + Copy, D: Disk>(
     write_streams(alloc, disk, folder, id, session)?;
     let book = session.book();
     let uuid = book.uuid();
-    let content = Content::Metadata(&uuid, book.events().list());
+    let content = Content::Metadata(&uuid, book.events());
     write_file(alloc, disk, metadata.as_str(), &content)
 }
 

@@ -37,6 +37,7 @@ use Rattle.tr_events.specs.contracts.event.Field as Field
 use Rattle.tr_events.specs.contracts.event.Label as Label
 use Rattle.tr_events.specs.contracts.events.Events as Events
 use Rattle.tr_events.specs.contracts.ids.Known as Known
+use Rattle.tr_events.specs.contracts.variables.Variable as Variable
 use Rattle.tr_packet.specs.contracts.text.PacketText as PacketText
 use Rattle.tr_ring.specs.contracts.ring.Ring as Ring
 use Rattle.tr_ring.specs.contracts.sealed.Sealed as Sealed
@@ -187,8 +188,11 @@ event = search (sendable, crosses, field) depth 40
 known : IsSend Known.the_row
 known = search (sendable, crosses) depth 40
 
+variable : IsSend (Variable.the_row heap.the_row ghosts)
+variable = search (sendable, crosses) depth 40
+
 events : IsSend (Events.the_row heap.the_row ghosts)
-events = search (sendable, crosses, event, known) depth 40
+events = search (sendable, crosses, variable, event, known) depth 40
 
 label-sync : IsSync (Label.the_row heap.the_row ghosts)
 label-sync = search (sendable, crosses) depth 40
@@ -202,8 +206,11 @@ event-sync = search (sendable, crosses, field-sync) depth 40
 known-sync : IsSync Known.the_row
 known-sync = search (sendable, crosses) depth 40
 
+variable-sync : IsSync (Variable.the_row heap.the_row ghosts)
+variable-sync = search (sendable, crosses) depth 40
+
 events-sync : IsSync (Events.the_row heap.the_row ghosts)
-events-sync = search (sendable, crosses, event-sync, known-sync) depth 40
+events-sync = search (sendable, crosses, variable-sync, event-sync, known-sync) depth 40
 
 pub declared : IsSend events_row
 declared = Arc-send (Events.the_row heap.the_row ghosts) events events-sync

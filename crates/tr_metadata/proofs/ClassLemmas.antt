@@ -1,13 +1,14 @@
 -- The text of a sequence's members, and of declared events.
-use Rattle.std.proofs.Common.{◌≡◌, ℕ, false, eqb, List, [], ◌∷◌, ◌++◌, length, sym, ◌∙◌, ap, append_assoc, append-nil}
+use Rattle.std.proofs.Common.{◌≡◌, ℕ, false, List, [], ◌∷◌, ◌++◌, sym, ◌∙◌, ap, append_assoc, append-nil}
 use Rattle.std.specs.Prelude.{codes}
 use Rattle.std.specs.List.{flat_map}
 use Rattle.tr_events.specs.declared.layouts.Layout.TheVariants.{Sequence}
 use Rattle.tr_events.specs.declared.layouts.Number.{Number}
-use Rattle.tr_events.specs.Events.{Event, Field, Label}
+use Rattle.tr_events.specs.Events.{Declarations, Field, Label, is_nothing}
 use Rattle.tr_events.specs.Words.{number_word}
 use Rattle.tr_metadata.specs.Metadata.{member_text, field_text, typed_metadata, metadata_with}
 use Rattle.tr_metadata.specs.Reader.{members_as}
+use Rattle.tr_metadata.proofs.RecoveryLemmas.{typedly}
 
 -- the text of a sequence's members
 abbrev pub sequence_text : (name word : List ℕ) → List ℕ
@@ -39,8 +40,5 @@ sequence_written f k name word old new layout name-is word-is e =
     ∙ ap (λ l. flat_map member_text (members_as (95 ∷ f.name) f.labels l)) (sym layout))
 
 -- if something is declared
-pub metadata_typed : (events : List Event) (uuid text : List ℕ) → eqb (length events) 0 ≡ false → text ≡ typed_metadata events uuid
-    → text ≡ metadata_with events uuid
-unfolding metadata_with
-metadata_typed [] uuid text some e = absurd cc
-metadata_typed (x ∷ events) uuid text some e = e
+pub metadata_typed : (d : Declarations) (uuid text : List ℕ) → is_nothing d ≡ false → text ≡ typed_metadata d uuid → text ≡ metadata_with d uuid
+metadata_typed d uuid text some e = e ∙ sym (typedly d uuid some)

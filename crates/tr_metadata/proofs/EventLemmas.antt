@@ -4,12 +4,11 @@ use Rattle.std.specs.Prelude.{codes, IsTrue, is_some, unwrap_or}
 use Rattle.std.specs.Int.{w32, w64, to_le_bytes}
 use Rattle.std.specs.List.{flat_map}
 use Rattle.std.proofs.lemmas.Bool.{ltb-true, eqb-true, ne_eqb}
-use Rattle.std.proofs.lemmas.List.{nil_from_length}
 use Rattle.tr_record.specs.Records.{Entry, record_text, Fits}
 use Rattle.tr_record.specs.Reading.{number_at}
-use Rattle.tr_record.proofs.Fields.{some_step, some_is, number_again, numeral_32, numeral_64}
+use Rattle.tr_record.proofs.Fields.{some_is, number_again, numeral_32, numeral_64}
 use Rattle.tr_terms.specs.declared.limits.TheConstants.{LAST_MOMENT}
-use Rattle.tr_events.specs.Events.{Event, Value, Several, Natural, fields_at, values_of, fits, AreEvents, ids_rise, all_apart, is_apart, event_with, fits_if_some, FitsAsDeclared}
+use Rattle.tr_events.specs.Events.{Event, Value, Several, Natural, values_of, fits, AreEvents, ids_rise, all_apart, is_apart, event_with, fits_if_some, FitsAsDeclared}
 use Rattle.tr_metadata.specs.Reader.{Member, members_of, len_name, other_members, class_members, members_at, read, label_of, ranges_from, class_by, moment_by, event_at, shown, read_as, read_of}
 use Rattle.tr_events.specs.declared.layouts.Sort.TheVariants.{Unsigned}
 use Rattle.tr_events.proofs.UnpackLemmas.{values_end}

@@ -3,16 +3,30 @@ use Rattle.std.specs.Prelude.{ℕ, List, [], ◌∷◌, ◌++◌, codes, if◌th
 use Rattle.std.specs.Fmt.{decimal, signed_decimal}
 use Rattle.std.specs.List.{flat_map}
 use Rattle.tr_packet.specs.Metadata.{lines, preface_text, trace_text, metadata_of}
-use Rattle.tr_events.specs.Events.{Label, Field, Event}
-use Rattle.tr_events.specs.Words.{event_line, number_word}
+use Rattle.tr_events.specs.Events.{Declarations, Label, Field, Event, is_nothing}
+use Rattle.tr_events.specs.Variables.{Variable, is_told_as_number}
+use Rattle.tr_events.specs.Words.{declarations_text, number_word}
 use Rattle.tr_metadata.specs.Reader.{Type_of, Scalar, String, Fixed, Counted, Characters, Member, members_of, ranges_from}
 use Rattle.tr_metadata.specs.declared.ranges.Range.{Range}
 
 -- ---- the declarations
 
 -- in a comment, so that they come out of the text again
-abbrev pub comment_text : List Event → List ℕ
-comment_text events = codes "/* tracerd events\n" ++ (flat_map event_line events ++ codes "*/\n\n")
+abbrev pub comment_text : Declarations → List ℕ
+comment_text d = codes "/* tracerd events\n" ++ (declarations_text d ++ codes "*/\n\n")
+
+-- ---- the environment
+
+abbrev pub value_text : Variable → List ℕ
+value_text v = if is_told_as_number v then v.value else 34 ∷ (v.value ++ 34 ∷ [])
+
+abbrev pub variable_text : Variable → List ℕ
+variable_text v = codes "  " ++ (v.name ++ (codes " = " ++ (value_text v ++ codes ";\n")))
+
+-- what is said of the trace's host and program, if anything is
+abbrev pub env_text : List Variable → List ℕ
+env_text [] = []
+env_text (v ∷ env) = codes "env {\n" ++ (flat_map variable_text (v ∷ env) ++ codes "};\n\n")
 
 -- ---- fixed parts
 
@@ -188,21 +202,20 @@ abbrev pub typed_stream_text : List Event → List ℕ
 typed_stream_text events = stream_text_by (ranges_from 0 events)
 
 -- up to the trace
-abbrev pub front_text : List Event → List ℕ → List ℕ
-front_text events uuid = preface_text ++ (comment_text events ++ trace_text uuid)
+abbrev pub front_text : Declarations → List ℕ → List ℕ
+front_text d uuid = preface_text ++ (comment_text d ++ trace_text uuid)
 
--- from the clock to the class of streams
-abbrev pub middle_text : List Event → List ℕ
-middle_text events = typed_clock_text ++ (types_text ++ typed_stream_text events)
+-- from the environment to the class of streams
+abbrev pub middle_text : Declarations → List ℕ
+middle_text d = env_text d.env ++ (typed_clock_text ++ (types_text ++ typed_stream_text d.events))
 
 -- the classes of events
-abbrev pub back_text : List Event → List ℕ
-back_text events = other_text ++ flat_map class_text events
+abbrev pub back_text : Declarations → List ℕ
+back_text d = other_text ++ flat_map class_text d.events
 
-abbrev pub typed_metadata : List Event → List ℕ → List ℕ
-typed_metadata events uuid = front_text events uuid ++ (middle_text events ++ back_text events)
+abbrev pub typed_metadata : Declarations → List ℕ → List ℕ
+typed_metadata d uuid = front_text d uuid ++ (middle_text d ++ back_text d)
 
--- the metadata of the trace with this identifier, by the declared events; without any the one of records alone
-unfoldable pub metadata_with : List Event → List ℕ → List ℕ
-metadata_with [] uuid = metadata_of uuid
-metadata_with (e ∷ events) uuid = typed_metadata (e ∷ events) uuid
+-- the metadata of the trace with this identifier, by what is declared; if nothing is, the one of records alone
+unfoldable pub metadata_with : Declarations → List ℕ → List ℕ
+metadata_with d uuid = if is_nothing d then metadata_of uuid else typed_metadata d uuid

@@ -9,7 +9,9 @@ ghost use Rattle.tr_metadata.specs.Reader.{gap, ranges_from};
 use crate::ranges::Range;
 use crate::recovery::COMMENT;
 use std::alloc::{AllocError, Allocator};
-use tr_events::{Event, Field, Form, Label, Layout, MOST_ID, number_word, push_event_lines};
+use tr_events::{
+    Event, Events, Field, Form, Label, Layout, MOST_ID, number_word, push_declarations,
+};
 
 pub(crate) fn push<A: Allocator>(text: &mut String<A>, more: &str) -> Result<(), AllocError>
     ensures { OnOk result (string_bytes text.new ≡ string_bytes text.old ++ more.now) }
@@ -20,12 +22,12 @@ pub(crate) fn push<A: Allocator>(text: &mut String<A>, more: &str) -> Result<(),
 /// Adds the comment that has the declarations.
 pub(crate) fn push_comment<A: Allocator, B: Allocator>(
     text: &mut String<B>,
-    events: &[Event<A>],
+    events: &Events<A>,
 ) -> Result<(), AllocError>
     ensures { OnOk result (string_bytes text.new ≡ string_bytes text.old ++ comment_text events.now) }
 {
     push(text, COMMENT)?;
-    push_event_lines(text, events)?;
+    push_declarations(text, events)?;
     push(text, "*/\n\n")
 }
 

@@ -5,7 +5,7 @@ ghost use Rattle.std.specs.List.{AllByRecursion, flat_map};
 ghost use Rattle.tr_packet.specs.Metadata.{metadata_of};
 ghost use Rattle.tr_packet.specs.Packets.{Contents, IsPacket, packet_text};
 ghost use Rattle.tr_events.specs.Declarations.{AreDeclared};
-ghost use Rattle.tr_events.specs.Events.{Event, AreEvents, FitsAsDeclared};
+ghost use Rattle.tr_events.specs.Events.{Declarations, Event, AreEvents, FitsAsDeclared, nothing};
 ghost use Rattle.tr_metadata.specs.Metadata.{metadata_with};
 ghost use Rattle.tr_metadata.specs.Recovery.{declared_in};
 ghost use Rattle.tr_metadata.specs.Reader.{IsReadable, file_read, packet_read, read_of, reads_of};
@@ -24,12 +24,12 @@ pub fn files_are_read()
         → file_read events (flat_map packet_text ps) ≡ Some (flat_map (reads_of events) ps) }
 {}
 
-/// Without declared events the metadata is the one of records alone. Does nothing.
+/// If nothing is declared, the metadata is the one of records alone. Does nothing.
 pub fn nothing_declared()
-    ensures { (uuid : List ℕ) → metadata_with [] uuid ≡ metadata_of uuid }
+    ensures { (uuid : List ℕ) → metadata_with nothing uuid ≡ metadata_of uuid }
 {}
 
-/// The events that a text was made of are those that it declares. Does nothing.
+/// What a text was made of is what it declares, its variables as its events. Does nothing.
 pub fn declarations_stand()
-    ensures { (events : List Event) (uuid : List ℕ) → AreDeclared events → declared_in (metadata_with events uuid) ≡ Some events }
+    ensures { (d : Declarations) (uuid : List ℕ) → AreDeclared d → declared_in (metadata_with d uuid) ≡ Some d }
 {}

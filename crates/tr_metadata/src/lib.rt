@@ -3,7 +3,7 @@
 //! # Example
 //!
 //! ```
-//! let text = metadata_text(alloc, events.list(), &uuid)?;
+//! let text = metadata_text(alloc, &events, &uuid)?;
 //! ```
 //!
 //! # What is proved
@@ -22,6 +22,7 @@
 #![tactic(auto)]
 
 mod classes;
+mod env;
 pub mod laws;
 mod metadata;
 mod ranges;

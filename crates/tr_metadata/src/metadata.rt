@@ -1,16 +1,17 @@
-//! The metadata text of a session, with its declared events.
+//! The metadata text of a session, with what it declares.
 
 ghost use Rattle.std.specs.Prelude.{◌≡◌, ◌++◌, IfOk, OnOk};
 ghost use Rattle.std.specs.List.{flat_map};
 ghost use Rattle.std.specs.String.{string_bytes};
 ghost use Rattle.uuid.specs.Text.{lower, hyphenated_text};
 ghost use Rattle.tr_packet.specs.Metadata.{trace_text};
-ghost use Rattle.tr_metadata.specs.Metadata.{front_text, middle_text, back_text, stream_text_by, typed_stream_text, typed_metadata, metadata_with};
+ghost use Rattle.tr_metadata.specs.Metadata.{front_text, middle_text, back_text, stream_text_by, typed_clock_text, types_text, typed_stream_text, typed_metadata, metadata_with};
 
 use crate::classes::{push, push_classes, push_comment, push_ranges, ranges_of};
+use crate::env::push_env;
 use crate::ranges::Range;
 use std::alloc::{AllocError, Allocator};
-use tr_events::Event;
+use tr_events::{Event, Events};
 use uuid::Uuid;
 
 /// The most bytes of a metadata text that is read again. Those of declarations that are as long as they may be are fewer.
@@ -152,7 +153,7 @@ fn push_trace<A: Allocator>(text: &mut String<A>, uuid: &Uuid) -> Result<(), All
 
 fn push_front<A: Allocator, B: Allocator>(
     text: &mut String<B>,
-    events: &[Event<A>],
+    events: &Events<A>,
     uuid: &Uuid,
 ) -> Result<(), AllocError>
     ensures { OnOk result (string_bytes text.new ≡ string_bytes text.old ++ front_text events.now uuid.now) }
@@ -181,32 +182,44 @@ fn push_stream_by<A: Allocator>(text: &mut String<A>, ranges: &[Range]) -> Resul
     push(text, STREAM_END)
 }
 
-fn push_middle<A: Allocator, B: Allocator>(
+fn push_types<A: Allocator, B: Allocator>(
     alloc: B,
     text: &mut String<B>,
     events: &[Event<A>],
 ) -> Result<(), AllocError>
-    ensures { OnOk result (string_bytes text.new ≡ string_bytes text.old ++ middle_text events.now) }
+    ensures { OnOk result (string_bytes text.new
+        ≡ string_bytes text.old ++ (typed_clock_text ++ (types_text ++ typed_stream_text events.now))) }
 {
     push(text, CLOCK)?;
     push(text, TYPES)?;
     push_stream(alloc, text, events)
 }
 
+fn push_middle<A: Allocator, B: Allocator>(
+    alloc: B,
+    text: &mut String<B>,
+    events: &Events<A>,
+) -> Result<(), AllocError>
+    ensures { OnOk result (string_bytes text.new ≡ string_bytes text.old ++ middle_text events.now) }
+{
+    push_env(text, events.env())?;
+    push_types(alloc, text, events.list())
+}
+
 fn push_back<A: Allocator, B: Allocator>(
     text: &mut String<B>,
-    events: &[Event<A>],
+    events: &Events<A>,
 ) -> Result<(), AllocError>
     ensures { OnOk result (string_bytes text.new ≡ string_bytes text.old ++ back_text events.now) }
 {
     push(text, OTHER)?;
-    push_classes(text, events)
+    push_classes(text, events.list())
 }
 
 fn push_typed<A: Allocator, B: Allocator>(
     alloc: B,
     text: &mut String<B>,
-    events: &[Event<A>],
+    events: &Events<A>,
     uuid: &Uuid,
 ) -> Result<(), AllocError>
     ensures { OnOk result (string_bytes text.new ≡ string_bytes text.old ++ typed_metadata events.now uuid.now) }
@@ -217,11 +230,11 @@ fn push_typed<A: Allocator, B: Allocator>(
 }
 
 /// The text that describes to readers of a trace how its packets are laid out, with the trace's identifier in lower-case
-/// hyphenated form, and the classes of the declared events. Fails if an allocation fails.
+/// hyphenated form, the variables of its environment, and the classes of the declared events. Fails if an allocation fails.
 #[tactic(auto, unfolding(crate::specs::Metadata::metadata_with))]
 pub fn metadata_text<A: Allocator, B: Allocator + Copy>(
     alloc: B,
-    events: &[Event<A>],
+    events: &Events<A>,
     uuid: &Uuid,
 ) -> Result<String<B>, AllocError>
     ensures { IfOk result (λ s. string_bytes s ≡ metadata_with events.now uuid.now) }

@@ -29,7 +29,7 @@ fn lines_before_end(lines: &[&[u8]]) -> usize
     count
 }
 
-/// The events that lines declare before the one that ends them.
+/// What lines declare before the one that ends them.
 fn declared_before_end(alloc: Global, lines: &[&[u8]]) -> Result<Option<Events>, AllocError>
     ensures { IfOk result (λ events. events ≡ declared_before_end (map (λ l. l.now) lines.now)) }
 {
@@ -44,8 +44,7 @@ fn behind_front<'a>(front: &str, text: &'a [u8]) -> Option<&'a [u8]>
     text.strip_prefix(front.as_bytes())
 }
 
-/// The events that a metadata text declares, in the order of ids. None if it isn't laid out as such a text, or a line of its
-/// declarations declares no event.
+/// What a metadata text declares. None if it isn't laid out as such a text, or a line of its declarations is refused.
 #[tactic(auto, unfolding(crate::specs::Recovery::declared_in))]
 pub fn declared_in(alloc: Global, text: &[u8]) -> Result<Option<Events>, AllocError>
     ensures { IfOk result (λ events. events ≡ declared_in text.now) }
@@ -60,13 +59,13 @@ pub fn declared_in(alloc: Global, text: &[u8]) -> Result<Option<Events>, AllocEr
     declared_before_end(alloc, &lines)
 }
 
-/// Whether a text is the metadata of this identifier and of the events that it declares itself.
+/// Whether a text is the metadata of this identifier and of what it declares itself.
 pub fn is_text_of(alloc: Global, uuid: &Uuid, text: &[u8]) -> Result<bool, AllocError>
     ensures { IfOk result (λ is. is ≡ is_text_of uuid.now text.now) }
 {
     let Some(events) = declared_in(alloc, text)? else {
         return Ok(false);
     };
-    let own = metadata_text(alloc, events.list(), uuid)?;
+    let own = metadata_text(alloc, &events, uuid)?;
     Ok(text == own.as_bytes())
 }

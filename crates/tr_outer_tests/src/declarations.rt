@@ -1,11 +1,11 @@
-//! Declarations: what each line is refused as, and what comes of those that declare an event.
+//! Declarations: what each line is refused as, and what comes of those that declare an event or a variable.
 
 use crate::asserting::assert_same;
 use linked_list_allocator::LocalHeap;
 use std::alloc::{AllocError, Allocator, Global};
 use std::process::Abort;
 use std::test::*;
-use tr_events::{EventFault, Events, LineFault, ParseFault, push_event_lines};
+use tr_events::{EventFault, Events, LineFault, ParseFault, push_declarations};
 use tr_metadata::{declared_in, is_text_of, metadata_text};
 use tr_testing::Rationed;
 use uuid::Uuid;
@@ -20,7 +20,30 @@ blob 8 data:bytes
 end 4294967295
 ";
 
-/// The first line of a text that declares no event, and why.
+/// What a program says of itself, before an event.
+const OWN: &str = "\
+env hostname web1
+env procname my server
+env vpid 4711
+env build 0042
+env least -9223372036854775808
+env beyond 9223372036854775808
+push 3 worker:u32
+";
+
+/// The same in the text of its metadata: numbers of 64 bits with a sign as such, all else between quotes.
+const OWN_BLOCK: &str = "\
+env {
+  hostname = \"web1\";
+  procname = \"my server\";
+  vpid = 4711;
+  build = \"0042\";
+  least = -9223372036854775808;
+  beyond = \"9223372036854775808\";
+};
+";
+
+/// The first line of a text that is refused, and why.
 fn refused(alloc: Global, text: &str) -> Option<LineFault> {
     match Events::parse(alloc, text.as_bytes()) {
         Err(ParseFault::Line(at)) => Some(at),
@@ -47,6 +70,21 @@ fn each_line_is_refused_as_what_it_is(rt: HostRuntime) {
         ("push 3\npop 3", 2, EventFault::EventTaken),
         ("push 3\npush 4", 2, EventFault::EventTaken),
         ("push 3 a:u8[1048473]", 1, EventFault::TooMany),
+        ("env", 1, EventFault::BadEvent),
+        ("env 0", 1, EventFault::BadEvent),
+        ("push 3\nenv a-b 1", 2, EventFault::BadVariable),
+        ("env struct 1", 1, EventFault::BadVariable),
+        ("env host", 1, EventFault::BadValue),
+        ("env host a\"b", 1, EventFault::BadValue),
+        ("env host a\\b", 1, EventFault::BadValue),
+        ("env host a*/b", 1, EventFault::BadValue),
+        ("env vpid web1", 1, EventFault::BadValue),
+        ("env vpid 012", 1, EventFault::BadValue),
+        (
+            "env host a\nenv port 1\nenv host a",
+            3,
+            EventFault::VariableTaken,
+        ),
     ] {
         assert_same(
             &rt,
@@ -60,7 +98,7 @@ fn each_line_is_refused_as_what_it_is(rt: HostRuntime) {
 fn written(alloc: Global, text: &str) -> Result<String, ParseFault> {
     let events = Events::parse(alloc, text.as_bytes())?;
     let mut lines = String::new(alloc);
-    push_event_lines(&mut lines, events.list())?;
+    push_declarations(&mut lines, &events)?;
     Ok(lines)
 }
 
@@ -70,6 +108,12 @@ fn what_is_read_is_written(rt: HostRuntime) {
         (EVERY, EVERY),
         // in the order of ids, with a space between
         ("b  2   a:u8\n# none\na 1", "a 1\nb 2 a:u8\n"),
+        (OWN, OWN),
+        // variables first, in the order of their lines; with an id, `env` is an event
+        (
+            "a 1\n env  y  p   q\nenv 7 b:u8\nenv x * /",
+            "env y p q\nenv x * /\na 1\nenv 7 b:u8\n",
+        ),
         ("", ""),
     ] {
         let Ok(lines) = written(rt.alloc(), text) else {
@@ -86,12 +130,12 @@ fn is_its_own(alloc: Global, text: &str) -> Result<bool, AllocError> {
         return Ok(false);
     };
     let uuid = Uuid::from_u128(1);
-    let metadata = metadata_text(alloc, events.list(), &uuid)?;
+    let metadata = metadata_text(alloc, &events, &uuid)?;
     let Some(again) = declared_in(alloc, metadata.as_bytes())? else {
         return Ok(false);
     };
     let mut lines = String::new(alloc);
-    push_event_lines(&mut lines, again.list())?;
+    push_declarations(&mut lines, &again)?;
     let own = is_text_of(alloc, &uuid, metadata.as_bytes())?;
     let other = is_text_of(alloc, &Uuid::from_u128(2), metadata.as_bytes())?;
     Ok(lines.as_str() == text && own && !other)
@@ -99,8 +143,48 @@ fn is_its_own(alloc: Global, text: &str) -> Result<bool, AllocError> {
 
 #[test]
 fn metadata_have_their_declarations(rt: HostRuntime) {
-    for text in [EVERY, "push 3 worker:u32\n", ""] {
+    for text in [EVERY, OWN, "push 3 worker:u32\n", "env hostname web1\n", ""] {
         assert_same(&rt, is_its_own(rt.alloc(), text), Ok(true));
+    }
+}
+
+/// The metadata text of what a text declares.
+fn described(rt: &impl Abort, alloc: Global, text: &str) -> String {
+    let events = Events::parse(alloc, text.as_bytes()).expect(rt, "events");
+    metadata_text(alloc, &events, &Uuid::from_u128(1)).expect(rt, "memory")
+}
+
+#[test]
+fn metadata_have_their_environment(rt: HostRuntime) {
+    let text = described(&rt, rt.alloc(), OWN);
+    assert!(rt; text.as_str().contains(OWN_BLOCK));
+    let without = described(&rt, rt.alloc(), EVERY);
+    assert!(rt; !without.as_str().contains("env"));
+}
+
+/// A text of so many lines, each with a variable of its own and a value of so many letters.
+fn given(rt: &impl Abort, alloc: Global, count: u32, letters: usize) -> String {
+    let mut text = String::new(alloc);
+    for n in 0..count {
+        write!(text, "env v{n} ").expect(rt, "memory");
+        for _ in 0..letters {
+            text.push_str("a").expect(rt, "memory");
+        }
+        text.push_str("\n").expect(rt, "memory");
+    }
+    text
+}
+
+#[test]
+fn so_many_variables_so_long(rt: HostRuntime) {
+    for (count, letters, wanted) in [
+        (32, 255, None),
+        (33, 1, Some((33, EventFault::TooManyVariables))),
+        (1, 256, Some((1, EventFault::BadValue))),
+    ] {
+        let text = given(&rt, rt.alloc(), count, letters);
+        let wanted = wanted.map(|(line, fault)| LineFault { line, fault });
+        assert_same(&rt, refused(rt.alloc(), text.as_str()), wanted);
     }
 }
 
@@ -108,18 +192,24 @@ fn metadata_have_their_declarations(rt: HostRuntime) {
 fn assert_lines<A: Allocator>(rt: &impl Abort, alloc: Global, events: &Events<A>, wanted: &str) {
     let copy = events.copy(alloc).expect(rt, "memory");
     let mut lines = String::new(alloc);
-    push_event_lines(&mut lines, copy.list()).expect(rt, "memory");
+    push_declarations(&mut lines, &copy).expect(rt, "memory");
     assert_same(rt, lines.as_str(), wanted);
 }
 
 /// Copies events with so many requests granted. Whether it was made: if not, the request that was refused was its last.
-fn is_copied_with(rt: &impl Abort, alloc: Global, events: &Events, requests: u64) -> bool {
+fn is_copied_with(
+    rt: &impl Abort,
+    alloc: Global,
+    events: &Events,
+    requests: u64,
+    wanted: &str,
+) -> bool {
     let memory = Rationed::new(alloc);
     memory.limit(requests);
     match events.copy(&memory) {
         Ok(copy) => {
             assert_same(rt, memory.lift(), 0);
-            assert_lines(rt, alloc, &copy, EVERY);
+            assert_lines(rt, alloc, &copy, wanted);
             true
         }
         Err(AllocError) => {
@@ -130,9 +220,9 @@ fn is_copied_with(rt: &impl Abort, alloc: Global, events: &Events, requests: u64
 }
 
 /// How many requests a copy of events makes, if fewer than a hundred.
-fn requests_of_copy(rt: &impl Abort, alloc: Global, events: &Events) -> Option<u64> {
+fn requests_of_copy(rt: &impl Abort, alloc: Global, events: &Events, text: &str) -> Option<u64> {
     for requests in 0..100 {
-        if is_copied_with(rt, alloc, events, requests) {
+        if is_copied_with(rt, alloc, events, requests, text) {
             return Some(requests);
         }
     }
@@ -159,12 +249,21 @@ fn a_copy_is_whole_or_leaves_nothing(rt: HostRuntime) {
     let alloc = rt.alloc();
     let events = Events::parse(alloc, EVERY.as_bytes()).expect(&rt, "events");
     // the list and the table of ids; six names; five lists of fields, and their 15 names; three lists of labels, and their five names
-    assert_same(&rt, requests_of_copy(&rt, alloc, &events), Some(36));
+    assert_same(&rt, requests_of_copy(&rt, alloc, &events, EVERY), Some(36));
     for blocks in 4..512 {
         has_room(&rt, alloc, &events, 16 * blocks);
     }
     assert_same(&rt, has_room(&rt, alloc, &events, 64), false);
     assert_same(&rt, has_room(&rt, alloc, &events, 8_192), true);
+}
+
+#[test]
+fn a_copy_has_the_environment(rt: HostRuntime) {
+    let alloc = rt.alloc();
+    let own = Events::parse(alloc, OWN.as_bytes()).expect(&rt, "events");
+    // the lists of variables and of events, and the table of ids; six names and six values; an event's name, its list of
+    // fields, and a field's name
+    assert_same(&rt, requests_of_copy(&rt, alloc, &own, OWN), Some(18));
 }
 
 #[test]

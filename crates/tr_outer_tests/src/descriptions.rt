@@ -80,7 +80,7 @@ fn expected(rt: &impl Abort, alloc: Global, traces: &[u8]) -> Vec<(String, Strin
     let mut all = Vec::new(alloc);
     for (trace, archive) in traces.iter().zip(&["0", "1"]) {
         let path = text(rt, alloc, &["d/s/archives/", STAMPS, archive, "/metadata"]);
-        let text = metadata_text(alloc, events.list(), &uuid(*trace)).expect(rt, "memory");
+        let text = metadata_text(alloc, &events, &uuid(*trace)).expect(rt, "memory");
         all.push((path, text)).expect(rt, "memory");
     }
     all

@@ -13,7 +13,7 @@ use Rattle.tr_describe.specs.declared.faults.DescribeFault.{DescribeFault}
 use Rattle.tr_describe.specs.declared.faults.DescribeFault.TheVariants as describe
 use Rattle.tr_describe.specs.declared.telling.Outcome.{Outcome}
 use Rattle.tr_describe.specs.declared.telling.Outcome.TheVariants as outcome
-use Rattle.tr_events.specs.Events.{Event}
+use Rattle.tr_events.specs.Events.{Declarations}
 use Rattle.tr_folders.specs.Tree.{Tree}
 use Rattle.tr_record.specs.Bytes.{once_more}
 use Rattle.tr_survey.specs.Sessions.{sessions_of}
@@ -28,12 +28,12 @@ not_unlisted : (wrong : Option (Wrong (List ℕ))) (n : ℕ) → outcome.Unreada
 not_unlisted (Some wrong) n e = absurd cc
 not_unlisted None n e = absurd cc
 
-never_unlisted : (t : Tree) (dir : List ℕ) (events : List Event) (sessions : List (List ℕ))
+never_unlisted : (t : Tree) (dir : List ℕ) (events : Declarations) (sessions : List (List ℕ))
     → outcome.Unreadable ≡ outcome_said (described_by t events dir sessions) → ⊥
 never_unlisted t dir events [] e = absurd cc
 never_unlisted t dir events (s ∷ sessions) e = not_unlisted (first_of (session_wrong t events dir) (s ∷ sessions)) _ e
 
-hidden_if : (t : Tree) (dir : List ℕ) (events : List Event) → outcome.Unreadable ≡ outcome_said (described_of t dir events) → t.is_hidden dir ≡ true
+hidden_if : (t : Tree) (dir : List ℕ) (events : Declarations) → outcome.Unreadable ≡ outcome_said (described_of t dir events) → t.is_hidden dir ≡ true
 hidden_if t dir events e = go (t.is_hidden dir) refl e
   where
     go : (b : Bool) → t.is_hidden dir ≡ b → outcome.Unreadable ≡ outcome_said (cond b answer.Unlisted (described_by t events dir (sessions_of t dir)))
@@ -45,12 +45,12 @@ not_empty : (wrong : Option (Wrong (List ℕ))) (n : ℕ) → outcome.NoSession 
 not_empty (Some wrong) n e = absurd cc
 not_empty None n e = absurd cc
 
-empty_if : (t : Tree) (dir : List ℕ) (events : List Event) (sessions : List (List ℕ))
+empty_if : (t : Tree) (dir : List ℕ) (events : Declarations) (sessions : List (List ℕ))
     → outcome.NoSession ≡ outcome_said (described_by t events dir sessions) → sessions ≡ []
 empty_if t dir events [] e = refl
 empty_if t dir events (s ∷ sessions) e = absurd (not_empty (first_of (session_wrong t events dir) (s ∷ sessions)) _ e)
 
-none_if : (t : Tree) (dir : List ℕ) (events : List Event) → outcome.NoSession ≡ outcome_said (described_of t dir events) → sessions_of t dir ≡ []
+none_if : (t : Tree) (dir : List ℕ) (events : Declarations) → outcome.NoSession ≡ outcome_said (described_of t dir events) → sessions_of t dir ≡ []
 none_if t dir events e = go (t.is_hidden dir) e
   where
     go : (b : Bool) → outcome.NoSession ≡ outcome_said (cond b answer.Unlisted (described_by t events dir (sessions_of t dir))) → sessions_of t dir ≡ []

@@ -10,7 +10,7 @@ use Rattle.tr_describe.specs.Telling.{FailedSo, TellsTree, declared_text, refuse
 use Rattle.tr_describe.specs.declared.faults.DescribeFault.{DescribeFault}
 use Rattle.tr_describe.specs.declared.telling.Outcome.{Outcome}
 use Rattle.tr_describe.specs.declared.texts.Texts as Texts
-use Rattle.tr_events.specs.Events.{Event}
+use Rattle.tr_events.specs.Events.{Declarations, nothing}
 use Rattle.tr_events.specs.declared.faults.LineFault.{LineFault}
 use Rattle.tr_export.specs.Failures.{HasFailed, HasNotFailed}
 use Rattle.tr_export.specs.Making.{MadePrefix, Makings}
@@ -161,8 +161,8 @@ abbrev pub CannotDeclare : List ℕ → Option Tree → Type 0
 CannotDeclare file tree = (t : Tree) → tree ≡ Some t → declaring (t.file file) ≡ None
 
 -- a file of declarations declares these events, as far as is known; without a file there are none
-abbrev pub Declares : Option (List ℕ) → List Event → Option Tree → Type 0
-Declares None events tree = events ≡ []
+abbrev pub Declares : Option (List ℕ) → Declarations → Option Tree → Type 0
+Declares None events tree = events ≡ nothing
 Declares (Some file) events tree = (t : Tree) → tree ≡ Some t → declaring (t.file file) ≡ Some (Ok events)
 
 -- a line of a file of declarations declares no event, and the output says which
@@ -211,7 +211,7 @@ pub record EndsTold (dir : Folder) (threads : ℕ) (session : SessionOf StreamSt
 module _ (old new : Host) where
   -- the input was read to its end and answered whole, the archives of its sessions were made below the folder, if one is
   -- named, and the ending says whether lines were refused
-  pub record CameToEnd (events : List Event) (dir : Folder) (ending : Ending) : Type 0 where
+  pub record CameToEnd (events : Declarations) (dir : Folder) (ending : Ending) : Type 0 where
     pub world : World StreamState
     pub refused : ℕ
     pub ran : Ran events old.given new.given old.taken new.taken world refused
@@ -221,7 +221,7 @@ module _ (old new : Host) where
 
   -- the input was read to its end and answered whole, and a prefix of the archives below the folder, which is named, was
   -- made
-  pub record MadeSome (events : List Event) (dir : Folder) : Type 0 where
+  pub record MadeSome (events : Declarations) (dir : Folder) : Type 0 where
     pub world : World StreamState
     pub refused : ℕ
     pub folder : List ℕ
@@ -235,7 +235,7 @@ module _ (old new : Host) where
   NeitherFailed = (new.input_failures ≡ old.input_failures) × (new.output_failures ≡ old.output_failures)
 
   -- the input failed, or the script was too long, or the output failed: what was read and answered until then
-  abbrev pub HasBrokenOff : List Event → Type 0
+  abbrev pub HasBrokenOff : Declarations → Type 0
   HasBrokenOff events =
       (BrokeOff events old.given new.given old.taken new.taken
       × (new.input_failures ≡ once_more old.input_failures) × (new.output_failures ≡ old.output_failures))
@@ -244,7 +244,7 @@ module _ (old new : Host) where
       × (new.input_failures ≡ old.input_failures) × (new.output_failures ≡ once_more old.output_failures)))
 
   -- the script broke off and the disk is as it was, or the disk failed while the archives were made
-  abbrev pub EndsByFault : List Event → Folder → Type 0
+  abbrev pub EndsByFault : Declarations → Folder → Type 0
   EndsByFault events dir = (HasBrokenOff events × (new.made ≡ old.made) × (new.disk_failures ≡ old.disk_failures))
       ⊎ (MadeSome events dir × NeitherFailed × HasFailed old.disk_failures new.disk_failures)
 
@@ -253,12 +253,12 @@ module _ (old new : Host) where
   IsUntouched = (new.given ≡ old.given) × (new.taken ≡ old.taken) × (new.made ≡ old.made)
 
   -- an allocation failed before the script was begun, within it, or while its archives were made
-  abbrev pub EndsByMemory : List Event → Folder → Type 0
+  abbrev pub EndsByMemory : Declarations → Folder → Type 0
   EndsByMemory events dir =
       IsUntouched ⊎ ((AnsweredSome events old.given new.given old.taken new.taken × (new.made ≡ old.made)) ⊎ MadeSome events dir)
 
   -- a run of a script, whose sessions are created with these events, came to its end, or says why not
-  abbrev pub EndsAs : List Event → Folder → Ending → Type 0
+  abbrev pub EndsAs : Declarations → Folder → Ending → Type 0
   EndsAs events dir Done = CameToEnd events dir Done
   EndsAs events dir Refused = CameToEnd events dir Refused
   EndsAs events dir Faulty = ⊥
@@ -270,7 +270,7 @@ module _ (old new : Host) where
   -- it ran with the events that a file declares, if one is named; or the file declares nothing, and nothing was read or made
   abbrev pub EndsScript : (file : Option (List ℕ)) → Folder → Option Tree → Ending → Type 0
   EndsScript file dir tree ending =
-      ((events : List Event) × Declares file events tree × EndsAs events dir ending)
+      ((events : Declarations) × Declares file events tree × EndsAs events dir ending)
       ⊎ (EndsUndeclared file tree old.taken new.taken ending × (new.given ≡ old.given) × (new.made ≡ old.made))
 
   -- a load was settled, judged by its feeders' logs, watched if that was asked for, and reported
@@ -335,7 +335,7 @@ module _ (old new : Host) where
   HasCause =
       ((new.input_failures ≡ once_more old.input_failures) ⊎ (new.output_failures ≡ once_more old.output_failures))
       ⊎ (HasFailed old.disk_failures new.disk_failures
-      ⊎ ((events : List Event) × WentTooFar events old.given new.given old.taken new.taken))
+      ⊎ ((events : Declarations) × WentTooFar events old.given new.given old.taken new.taken))
 
   -- none of them failed
   abbrev pub HasNoFault : Type 0

@@ -18,7 +18,7 @@ pub enum Ending {
     /// All was done.
     Done,
     /// The script came to its end, and some of its lines were refused; or a load's logs don't agree with its session, or
-    /// one of its calls was refused; or a line of declarations declares no event.
+    /// one of its calls was refused; or a line of declarations was refused.
     Refused,
     /// An audit found something wrong, or archives can't be described because something is.
     Faulty,

@@ -54,7 +54,7 @@ fn write_all<D: Disk>(
     Ok(())
 }
 
-/// What a file declares, if one is named, with a line to the output if a line of it declares no event; or how the run ends without
+/// What a file declares, if one is named, with a line to the output if a line of it is refused; or how the run ends without
 /// it.
 fn declared<F: Folders, K: ByteSink>(
     alloc: Global,

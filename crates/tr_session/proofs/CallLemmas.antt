@@ -5,7 +5,7 @@ use Rattle.std.specs.Map.{lookup}
 use Rattle.std.specs.Prelude.{OnErr, OnOk, if◌then◌else◌, is_some, nat_le, nat_lt, position, slice_get}
 use Rattle.std.specs.Str.{bytes_eq}
 use Rattle.tr_session.proofs.StreamLemmas.{IsSameFor, after-one, begun-same, found-pushed, kept-pushed, last-pushed, offer-keeps, other-book, take-keeps, unchanged}
-use Rattle.tr_events.specs.Events.{Event}
+use Rattle.tr_events.specs.Events.{Declarations}
 use Rattle.tr_session.specs.Session.{HasItsStreams, session_of}
 use Rattle.tr_session.specs.Steps.{change_at}
 use Rattle.tr_session.specs.declared.faults.StepFault.TheVariants as step
@@ -72,7 +72,7 @@ channel-same name size count mode b c is = fresh (is_new b.state) is
     fresh false e = absurd cc
 
 -- events that were declared
-declared-same : (events : List Event) (b c : SessionBookState) → book_declare events b ≡ Ok c → IsSameFor b c
+declared-same : (events : Declarations) (b c : SessionBookState) → book_declare events b ≡ Ok c → IsSameFor b c
 declared-same events b c is = fresh (is_new b.state) is
   where
     now : SessionBookState
@@ -83,7 +83,7 @@ declared-same events b c is = fresh (is_new b.state) is
         (record { uuid = refl; mode = refl; threads = refl; channels = λ place other at. at; closed = λ i within. refl })
     fresh false e = absurd cc
 
-pub declare-step : {R : Type 0} (r : Result R SessionFault) (events : List Event) (b c : SessionBookState)
+pub declare-step : {R : Type 0} (r : Result R SessionFault) (events : Declarations) (b c : SessionBookState)
     → OnOk r (book_declare events b ≡ Ok c) → OnErr r (c ≡ b) → IsSameFor b c
 declare-step (Ok done) events b c ok err = declared-same events b c ok
 declare-step (Err fault) events b c ok err = subst (λ (d : SessionBookState). IsSameFor b d) (sym err) (unchanged b)

@@ -4,7 +4,7 @@ use Rattle.std.proofs.lemmas.List.{append_assoc, append-nil, drop_all, drop_more
 use Rattle.tr_session.specs.Events.{session_after_event, session_after_events, session_answer, session_answers}
 use Rattle.tr_session.specs.Runs.{and_then, configure_channel, configure_channels, add_threads}
 use Rattle.tr_session.specs.Session.{SessionOf, declaring, new_session}
-use Rattle.tr_events.specs.Events.{Event as Declared}
+use Rattle.tr_events.specs.Events.{Declarations}
 use Rattle.std.specs.Prelude.{ℤ}
 use Rattle.tr_terms.specs.declared.session_mode.SessionMode.{SessionMode}
 use Rattle.tr_session.specs.Steps.{session_add_thread, session_declare}
@@ -15,7 +15,7 @@ use Rattle.tr_session_book.specs.declared.faults.SessionFault.{SessionFault}
 use Rattle.tr_stream.specs.Rules.{StreamRules}
 
 -- the events of a new session
-pub declared-new : {S : Type 0} (uuid : List ℕ) (offset : ℤ) (mode : SessionMode) (events : List Declared) (s now : SessionOf S)
+pub declared-new : {S : Type 0} (uuid : List ℕ) (offset : ℤ) (mode : SessionMode) (events : Declarations) (s now : SessionOf S)
     → s ≡ new_session uuid offset mode → session_declare events s ≡ Ok now → now ≡ declaring events (new_session uuid offset mode)
 declared-new {S = S} uuid offset mode events s now new did =
     let made : (let r : Result (SessionOf S) SessionFault = Ok (declaring events (new_session uuid offset mode)) in r) ≡ Ok now =
@@ -24,7 +24,7 @@ declared-new {S = S} uuid offset mode events s now new did =
     sym same
 
 -- only a failed allocation refuses them
-pub declares-new : {S : Type 0} (uuid : List ℕ) (offset : ℤ) (mode : SessionMode) (events : List Declared) (s : SessionOf S)
+pub declares-new : {S : Type 0} (uuid : List ℕ) (offset : ℤ) (mode : SessionMode) (events : Declarations) (s : SessionOf S)
     (fault : SessionFault) → s ≡ new_session uuid offset mode → session_declare events s ≡ Err fault → ⊥
 declares-new {S = S} uuid offset mode events s fault new did =
     let made : (let r : Result (SessionOf S) SessionFault = Ok (declaring events (new_session uuid offset mode)) in r) ≡ Err fault =

@@ -1,7 +1,7 @@
 -- A session over whatever represents its streams.
 use Rattle.std.specs.Prelude.{◌≡◌, ◌<◌, ℕ, ℤ, List, [], length, Some, IsSome, slice_get}
 use Rattle.tr_book.specs.Parts.{part_at}
-use Rattle.tr_events.specs.Events.{Event}
+use Rattle.tr_events.specs.Events.{Declarations}
 use Rattle.tr_session_book.specs.Book.{SessionBookState, new_book}
 use Rattle.tr_session_book.specs.BookSteps.{chunks_closed}
 use Rattle.tr_session_book.specs.declared.channel.Channel.{Channel}
@@ -47,5 +47,5 @@ abbrev pub new_session : {S : Type 0} → List ℕ → ℤ → SessionMode → S
 new_session uuid offset mode = session_of (new_book uuid offset mode) []
 
 -- a session with these events, and no others
-abbrev pub declaring : {S : Type 0} → List Event → SessionOf S → SessionOf S
+abbrev pub declaring : {S : Type 0} → Declarations → SessionOf S → SessionOf S
 declaring events s = session_of (record s.book { events = events }) s.streams

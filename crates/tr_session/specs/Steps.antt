@@ -4,7 +4,7 @@ use Rattle.std.specs.List.{list_any, sum_by}
 use Rattle.std.specs.Option.{option_map_or}
 pub use Rattle.tr_book.specs.Parts.{change_at}
 use Rattle.tr_book.specs.Snaps.{SnapState}
-use Rattle.tr_events.specs.Events.{Event, fits_declared}
+use Rattle.tr_events.specs.Events.{Declarations, fits_declared}
 use Rattle.tr_terms.specs.declared.mode.Mode.{Mode}
 use Rattle.tr_schedule.specs.declared.cause.Cause.{Cause}
 use Rattle.tr_session_book.specs.Book.{SessionBookState}
@@ -52,7 +52,7 @@ abbrev pub session_add_channel : {S : Type 0} → List ℕ → ℕ → ℕ → M
 session_add_channel name size count mode s = with_book s.streams (book_add_channel name size count mode s.book)
 
 -- these events are declared, and no others
-abbrev pub session_declare : {S : Type 0} → List Event → SessionOf S → Result (SessionOf S) SessionFault
+abbrev pub session_declare : {S : Type 0} → Declarations → SessionOf S → Result (SessionOf S) SessionFault
 session_declare events s = with_book s.streams (book_declare events s.book)
 
 -- what the next stream of a channel is made with

@@ -29,7 +29,7 @@ pub struct Config<'a, A: Allocator = Global> {
     pub offset: OffsetMinutes,
     /// What becomes of packets.
     pub mode: SessionMode,
-    /// The events that it declares; `Events::none` if it declares none.
+    /// What it declares; `Events::none` if it declares nothing.
     pub events: Events<A>,
     /// The channels.
     pub channels: Vec<ChannelConfig<'a>, A>,

@@ -1,6 +1,6 @@
 -- What a session keeps beside its streams.
 use Rattle.std.specs.Prelude.{ℕ, ℤ, Bool, false, List, [], Option, None}
-use Rattle.tr_events.specs.Events.{Event}
+use Rattle.tr_events.specs.Events.{Declarations, nothing}
 use Rattle.tr_schedule.specs.Schedules.{ScheduleState}
 use Rattle.tr_session_book.specs.declared.archive.Archive.{Archive}
 use Rattle.tr_session_book.specs.declared.archive.Pending.{Pending}
@@ -27,11 +27,11 @@ pub record SessionBookState : Type 0 where
   pub archives : List Archive
   -- when rotations are due
   pub schedule : Option ScheduleState
-  -- the events that are declared, in the order of ids
-  pub events : List Event
+  -- what is declared
+  pub events : Declarations
 
 abbrev pub session_book_state : List ℕ → ℤ → SessionMode → State → Bool → ℕ → ℕ → List (List ℕ × Channel) → List ℕ
-    → Option Pending → List Archive → Option ScheduleState → List Event → SessionBookState
+    → Option Pending → List Archive → Option ScheduleState → Declarations → SessionBookState
 session_book_state uuid offset mode state rotated last begin channels threads pending archives schedule events = record {
   uuid = uuid;
   offset = offset;
@@ -50,4 +50,4 @@ session_book_state uuid offset mode state rotated last begin channels threads pe
 
 -- before anything is added
 abbrev pub new_book : List ℕ → ℤ → SessionMode → SessionBookState
-new_book uuid offset mode = session_book_state uuid offset mode New false 0 0 [] [] None [] None []
+new_book uuid offset mode = session_book_state uuid offset mode New false 0 0 [] [] None [] None nothing

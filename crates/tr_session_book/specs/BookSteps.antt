@@ -6,7 +6,7 @@ use Rattle.tr_terms.specs.Geometry.{GeometryState, geometry_of}
 use Rattle.tr_terms.specs.declared.geometry.GeometryFault.{GeometryFault}
 use Rattle.tr_terms.specs.declared.mode.Mode.{Mode}
 use Rattle.tr_terms.specs.declared.mode.Mode.TheVariants.{Discard, Overwrite}
-use Rattle.tr_events.specs.Events.{Event}
+use Rattle.tr_events.specs.Events.{Declarations}
 use Rattle.tr_schedule.specs.Due.{due_cause}
 use Rattle.tr_schedule.specs.Schedules.{ScheduleState}
 use Rattle.tr_schedule.specs.declared.cause.Cause.{Cause}
@@ -142,7 +142,7 @@ channel_of i b = option_and_then (λ place. option_map (λ (c : List ℕ × Chan
 -- ---- declared events
 
 -- these events are declared, and no others
-abbrev pub book_declare : List Event → SessionBookState → Result SessionBookState SessionFault
+abbrev pub book_declare : Declarations → SessionBookState → Result SessionBookState SessionFault
 book_declare events b = if is_new b.state then Ok (record b { events = events }) else Err AlreadyStarted
 
 -- ---- starts and stops

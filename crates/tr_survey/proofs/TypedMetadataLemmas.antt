@@ -12,16 +12,18 @@ use Rattle.uuid.proofs.RoundTrips.{parses_hyphenated}
 use Rattle.uuid.specs.Text.{hyphenated_text, lower, parsed}
 use Rattle.tr_lines.specs.Lines.{is_printable}
 use Rattle.tr_lines.specs.Words.{is_space}
-use Rattle.tr_events.proofs.DeclaredLemmas.{BeginsWithLetter, line_begins, line_for, lines_written}
+use Rattle.tr_events.proofs.DeclaredLemmas.{BeginsWithLetter, line_begins, line_for, lines_for, lines_written}
+use Rattle.tr_events.proofs.EnvLemmas.{env_line_begins, env_line_for}
 use Rattle.tr_events.proofs.SplitLemmas.{joined}
-use Rattle.tr_events.specs.Declarations.{AreDeclared, IsDeclaration, IsWord, word_of, words_for}
-use Rattle.tr_events.specs.Events.{Event}
+use Rattle.tr_events.specs.Declarations.{AreDeclared, IsDeclaration, IsVariable, IsWord, word_of, words_for}
+use Rattle.tr_events.specs.Events.{Declarations, Event, is_nothing}
+use Rattle.tr_events.specs.Variables.{Variable}
 use Rattle.tr_events.specs.Lines.{event_if, event_in, id_if}
 use Rattle.tr_events.specs.Numbers.{is_digit, number_of}
-use Rattle.tr_events.specs.Words.{event_line, field_word}
+use Rattle.tr_events.specs.Words.{declarations_text, field_word}
 use Rattle.tr_packet.specs.Metadata.{lines, packet_header_text, preface_text, trace_text}
 use Rattle.tr_folders.specs.Kept.{file_of}
-use Rattle.tr_metadata.proofs.RecoveryLemmas.{own_text}
+use Rattle.tr_metadata.proofs.RecoveryLemmas.{nothing_is, own_text, plainly, typedly}
 use Rattle.tr_metadata.specs.Metadata.{back_text, metadata_with, middle_text, typed_metadata}
 use Rattle.tr_metadata.specs.declared.metadata.TheConstants.{LONGEST_METADATA}
 use Rattle.tr_survey.proofs.MetadataLemmas.{read_whole}
@@ -108,17 +110,27 @@ unnamed e is =
     ∙ differs e.name (decimal e.id) (flat_map field_word e.fields) is.words.0.1 digits.0 digits.1 in
     ap (λ (t : List ℕ). option_and_then parsed (quoted t)) (no_indent (line_for e) (line_begins e is)) ∙ rw starts refl
 
-none_in_lines : (events : List Event) → AllByRecursion IsDeclaration events → uuid_in_lines (map line_for events) ≡ None
-none_in_lines [] each = refl
-none_in_lines (e ∷ events) each =
-    ap (λ (o : Option (List ℕ)). option_or o (uuid_in_lines (map line_for events))) (unnamed e each.0) ∙ none_in_lines events each.1
+unnamed_variable : (v : Variable) → IsVariable v → uuid_in_line (env_line_for v) ≡ None
+unnamed_variable v is = ap uuid_in_line (env_line_begins v is)
+
+none_in_events : (events : List Event) → AllByRecursion IsDeclaration events → uuid_in_lines (map line_for events) ≡ None
+none_in_events [] each = refl
+none_in_events (e ∷ events) each =
+    ap (λ (o : Option (List ℕ)). option_or o (uuid_in_lines (map line_for events))) (unnamed e each.0) ∙ none_in_events events each.1
+
+none_in_lines : (env : List Variable) (events : List Event) → AllByRecursion IsVariable env → AllByRecursion IsDeclaration events
+    → uuid_in_lines (map env_line_for env ++ map line_for events) ≡ None
+none_in_lines [] events given each = none_in_events events each
+none_in_lines (v ∷ env) events given each =
+    ap (λ (o : Option (List ℕ)). option_or o (uuid_in_lines (map env_line_for env ++ map line_for events))) (unnamed_variable v given.0)
+    ∙ none_in_lines env events given.1 each
 
 -- declarations are passed over
-passes : (events : List Event) (rest : List ℕ) → AllByRecursion IsDeclaration events → uuid_in (flat_map event_line events ++ rest) ≡ uuid_in rest
-passes events rest each =
-    ap uuid_in_lines (lines_written events rest each)
-    ∙ named_in_both (map line_for events) (slice_split ends_line rest)
-    ∙ ap (λ (o : Option (List ℕ)). option_or o (uuid_in rest)) (none_in_lines events each)
+passes : (d : Declarations) (rest : List ℕ) → AreDeclared d → uuid_in (declarations_text d ++ rest) ≡ uuid_in rest
+passes d rest all =
+    ap uuid_in_lines (lines_written d rest all)
+    ∙ named_in_both (lines_for d) (slice_split ends_line rest)
+    ∙ ap (λ (o : Option (List ℕ)). option_or o (uuid_in rest)) (none_in_lines d.env d.events all.env.each all.events.each)
 
 -- ---- the metadata
 
@@ -147,23 +159,23 @@ from_between uuid more =
 regrouped : (a b c d e f : List ℕ) → (a ++ ((b ++ (c ++ d)) ++ e)) ++ f ≡ (a ++ b) ++ (c ++ (d ++ (e ++ f)))
 regrouped a b c d e f = simp append_assoc
 
-typed_parts : (events : List Event) (uuid : List ℕ) → typed_metadata events uuid
-    ≡ before ++ (10 ∷ (flat_map event_line events ++ (codes "*/\n\n" ++ (trace_text uuid ++ (middle_text events ++ back_text events)))))
+typed_parts : (d : Declarations) (uuid : List ℕ) → typed_metadata d uuid
+    ≡ before ++ (10 ∷ (declarations_text d ++ (codes "*/\n\n" ++ (trace_text uuid ++ (middle_text d ++ back_text d)))))
 unfolding before
-typed_parts events uuid =
-    regrouped preface_text (codes "/* tracerd events\n") (flat_map event_line events) (codes "*/\n\n") (trace_text uuid) (middle_text events ++ back_text events)
+typed_parts d uuid =
+    regrouped preface_text (codes "/* tracerd events\n") (declarations_text d) (codes "*/\n\n") (trace_text uuid) (middle_text d ++ back_text d)
 
-uuid_found : (events : List Event) (uuid : List ℕ) → AllByRecursion IsDeclaration events
-    → uuid_in (line_of (hyphenated_text lower uuid)) ≡ Some uuid → uuid_in (typed_metadata events uuid) ≡ Some uuid
-uuid_found events uuid each found =
-    let more = middle_text events ++ back_text events in
+uuid_found : (d : Declarations) (uuid : List ℕ) → AreDeclared d → uuid_in (line_of (hyphenated_text lower uuid)) ≡ Some uuid
+    → uuid_in (typed_metadata d uuid) ≡ Some uuid
+uuid_found d uuid all found =
+    let more = middle_text d ++ back_text d in
     let line = line_of (hyphenated_text lower uuid) in
     let behind = packet_header_text ++ more in
     let rest = codes "*/\n\n" ++ (trace_text uuid ++ more) in
-    ap uuid_in (typed_parts events uuid)
-    ∙ named_before_or_behind before (flat_map event_line events ++ rest)
-    ∙ ap (λ (o : Option (List ℕ)). option_or o (uuid_in (flat_map event_line events ++ rest))) none_before
-    ∙ passes events rest each
+    ap uuid_in (typed_parts d uuid)
+    ∙ named_before_or_behind before (declarations_text d ++ rest)
+    ∙ ap (λ (o : Option (List ℕ)). option_or o (uuid_in (declarations_text d ++ rest))) none_before
+    ∙ passes d rest all
     ∙ ap uuid_in (from_between uuid more)
     ∙ named_before_or_behind between (line ++ (10 ∷ behind))
     ∙ ap (λ (o : Option (List ℕ)). option_or o (uuid_in (line ++ (10 ∷ behind)))) none_between
@@ -174,14 +186,27 @@ some_bytes : (bytes uuid : List ℕ) → uuid_in bytes ≡ Some uuid → length 
 some_bytes [] uuid found none = cc
 some_bytes (b ∷ bytes) uuid found none = cc
 
-pub typed_metadata_are_of_trace : (events : List Event) (uuid : List ℕ) → AreDeclared events → length uuid ≡ 16 → All (λ b. b < 256) uuid
-    → IsShort events uuid → naming_in (Some (file_of (metadata_with events uuid) false)) ≡ Named uuid
-unfolding metadata_with
-typed_metadata_are_of_trace [] uuid all long small short = metadata_are_of_trace uuid long small
-typed_metadata_are_of_trace (e ∷ events) uuid all long small short =
+typed_names : (d : Declarations) (uuid : List ℕ) → AreDeclared d → length uuid ≡ 16 → All (λ b. b < 256) uuid
+    → is_nothing d ≡ false → length (metadata_with d uuid) ≤ LONGEST_METADATA
+    → naming_in (Some (file_of (metadata_with d uuid) false)) ≡ Named uuid
+typed_names d uuid all long small some short =
     let text = hyphenated_text lower uuid in
-    let bytes = typed_metadata (e ∷ events) uuid in
+    let bytes = metadata_with d uuid in
     let line = in_line_of text uuid (long_so uuid) (text_stays uuid) (parses_hyphenated lower uuid (inl refl) long small) in
-    let found = uuid_found (e ∷ events) uuid all.each line in
-    sym (read_whole (file_of bytes false) bytes (naming_by bytes) (sym (take_all LONGEST_METADATA bytes (short (λ none. cc)))) (λ _. refl) refl)
-    ∙ by_own_text bytes uuid (own_text (e ∷ events) uuid all) (some_bytes bytes uuid found) found
+    let found = ap uuid_in (typedly d uuid some) ∙ uuid_found d uuid all line in
+    sym (read_whole (file_of bytes false) bytes (naming_by bytes) (sym (take_all LONGEST_METADATA bytes short)) (λ _. refl) refl)
+    ∙ by_own_text bytes uuid (own_text d uuid all) (some_bytes bytes uuid found) found
+
+pub typed_metadata_are_of_trace : (d : Declarations) (uuid : List ℕ) → AreDeclared d → length uuid ≡ 16 → All (λ b. b < 256) uuid
+    → IsShort d uuid → naming_in (Some (file_of (metadata_with d uuid) false)) ≡ Named uuid
+typed_metadata_are_of_trace d uuid all long small short = go (is_nothing d) refl
+  where
+    true_false : {t : Bool} → t ≡ true → t ≡ false → ⊥
+    true_false a b = absurd cc
+
+    go : (t : Bool) → is_nothing d ≡ t → naming_in (Some (file_of (metadata_with d uuid) false)) ≡ Named uuid
+    go true none =
+        ap (λ (x : Declarations). naming_in (Some (file_of (metadata_with x uuid) false))) (nothing_is d none)
+        ∙ ap (λ (text : List ℕ). naming_in (Some (file_of text false))) (plainly uuid)
+        ∙ metadata_are_of_trace uuid long small
+    go false some = typed_names d uuid all long small some (short (λ same. true_false (ap is_nothing same) some))

@@ -3,7 +3,7 @@ use Rattle.std.specs.Prelude.{◌≢◌, ◌≤◌, ℕ, Bool, ◌&&◌, ◌-◌
 use Rattle.std.specs.List.{slice_split, starts_with, ends_with}
 use Rattle.std.specs.Option.{option_and_then, option_or}
 use Rattle.tr_folders.specs.Tree.{File}
-use Rattle.tr_events.specs.Events.{Event}
+use Rattle.tr_events.specs.Events.{Declarations, nothing}
 use Rattle.tr_metadata.specs.Metadata.{metadata_with}
 use Rattle.tr_metadata.specs.Recovery.{is_text_of}
 use Rattle.tr_metadata.specs.declared.metadata.TheConstants.{LONGEST_METADATA}
@@ -57,9 +57,10 @@ naming_in None = Unfinished
 naming_in (Some file) =
     if nat_lt (length file.bytes) LONGEST_METADATA && file.breaks then Unreadable else naming_by (take LONGEST_METADATA file.bytes)
 
--- the text of these events and this identifier isn't longer than what is looked at, or it has no events: then it is shorter
-abbrev pub IsShort : List Event → List ℕ → Type 0
-IsShort events uuid = events ≢ [] → length (metadata_with events uuid) ≤ LONGEST_METADATA
+-- the text of these declarations and this identifier isn't longer than what is looked at, or nothing is declared: then it is
+-- shorter
+abbrev pub IsShort : Declarations → List ℕ → Type 0
+IsShort d uuid = d ≢ nothing → length (metadata_with d uuid) ≤ LONGEST_METADATA
 
 -- the identifier that is named, if one is
 abbrev pub uuid_named : Naming → Option (List ℕ)

@@ -5,7 +5,7 @@ ghost use Rattle.std.specs.List.{All};
 ghost use Rattle.tr_chunk.specs.ArchiveName.{archive_name_text};
 ghost use Rattle.tr_chunk.specs.Files.{file_name};
 ghost use Rattle.tr_events.specs.Declarations.{AreDeclared};
-ghost use Rattle.tr_events.specs.Events.{Event};
+ghost use Rattle.tr_events.specs.Events.{Declarations};
 ghost use Rattle.tr_folders.specs.Kept.{file_of};
 ghost use Rattle.tr_folders.specs.Tree.{Tree};
 ghost use Rattle.tr_packet.specs.Metadata.{metadata_of};
@@ -40,8 +40,8 @@ pub fn an_archive_is_named_for_its_number()
 pub fn metadata_name_their_trace()
     ensures plain { (uuid : List ℕ) → length uuid ≡ 16 → All (λ b. b < 256) uuid
         → naming_in (Some (file_of (metadata_of uuid) false)) ≡ Named uuid }
-    ensures typed { (events : List Event) (uuid : List ℕ) → AreDeclared events → length uuid ≡ 16 → All (λ b. b < 256) uuid
-        → IsShort events uuid → naming_in (Some (file_of (metadata_with events uuid) false)) ≡ Named uuid }
+    ensures typed { (d : Declarations) (uuid : List ℕ) → AreDeclared d → length uuid ≡ 16 → All (λ b. b < 256) uuid
+        → IsShort d uuid → naming_in (Some (file_of (metadata_with d uuid) false)) ≡ Named uuid }
 {}
 
 /// A stream's files have no fault if its audit passes their packets, and the counts of discarded records don't fall:

@@ -13,9 +13,9 @@ returns-clause-ok g c =
     chunk_whole c.args.folder.now c.args.id c.args.session.now (g.D.Disk.made c.args.disk.now)
     (g.D.Disk.made c.make_folder.new.self) (g.D.Disk.made c.write_streams.new.disk)
     (g.D.Disk.made c.write_file.new.disk) c.as_str.result.now
-    (metadata_with c.list.result.now c.uuid-uuid.result)
+    (metadata_with c.events.result.now c.uuid-uuid.result)
     (c.as_str.ensures.value ∙ c.in_ok-metadata.ensures)
-    (λ j. metadata_with ((c.list.ensures.value ∙ c.events.ensures ∙ ap (λ (b : SessionBookState). b.events) c.book-book.ensures) j)
+    (λ j. metadata_with ((c.events.ensures ∙ ap (λ (b : SessionBookState). b.events) c.book-book.ensures) j)
     ((c.uuid-uuid.ensures ∙ ap (λ (b : SessionBookState). b.uuid) c.book-book.ensures) j))
     c.in_ok-make_folder.ensures.ok c.in_ok-write_streams.ensures.ok
     ) c.write_file.ensures.ok
@@ -26,9 +26,9 @@ returns-clause-err g c =
     chunk_cut c.args.folder.now c.args.id c.args.session.now (g.D.Disk.made c.args.disk.now)
     (g.D.Disk.made c.make_folder.new.self) (g.D.Disk.made c.write_streams.new.disk)
     (g.D.Disk.made c.write_file.new.disk) c.as_str.result.now
-    (metadata_with c.list.result.now c.uuid-uuid.result)
+    (metadata_with c.events.result.now c.uuid-uuid.result)
     (c.as_str.ensures.value ∙ c.in_ok-metadata.ensures)
-    (λ j. metadata_with ((c.list.ensures.value ∙ c.events.ensures ∙ ap (λ (b : SessionBookState). b.events) c.book-book.ensures) j)
+    (λ j. metadata_with ((c.events.ensures ∙ ap (λ (b : SessionBookState). b.events) c.book-book.ensures) j)
     ((c.uuid-uuid.ensures ∙ ap (λ (b : SessionBookState). b.uuid) c.book-book.ensures) j))
     c.in_ok-make_folder.ensures.ok c.in_ok-write_streams.ensures.ok
     ) c.write_file.ensures.err

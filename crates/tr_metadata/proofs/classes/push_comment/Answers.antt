@@ -4,5 +4,5 @@ use Rattle.tr_metadata.proofs.classes.push_comment.Goals as goal
 
 pub returns : goal.returns
 returns g c =
-    three_if_ok c.push-2.result (string_bytes c.args.text.now) _ _ _ (string_bytes c.push.new.text) (string_bytes c.push_event_lines.new.text)
-    (string_bytes c.push-2.new.text) c.in_ok-push.ensures c.in_ok-push_event_lines.ensures c.push-2.ensures
+    three_if_ok c.push-2.result (string_bytes c.args.text.now) _ _ _ (string_bytes c.push.new.text) (string_bytes c.push_declarations.new.text)
+    (string_bytes c.push-2.new.text) c.in_ok-push.ensures c.in_ok-push_declarations.ensures c.push-2.ensures
