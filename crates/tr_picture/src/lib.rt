@@ -38,6 +38,7 @@
 #![tactic(auto)]
 
 mod bars;
+mod counts;
 mod drawing;
 mod files;
 mod frame;
@@ -46,11 +47,13 @@ mod losses;
 mod marks;
 mod nowhere;
 mod numbers;
+mod offsets;
 mod page;
 mod picturing;
 mod rows;
 mod scale;
 mod sessions;
+mod threads;
 
 pub use page::an_escaped_name_stays_in_its_text;
 pub use picturing::picture;
