@@ -1,13 +1,16 @@
 -- The text of a picture, from its rows: an SVG, 1,280 pixels wide.
-use Rattle.std.specs.Prelude.{ℕ, Bool, true, not, ◌&&◌, ◌+◌, ◌*◌, ◌/◌, ◌-◌, ◌%◌, pos, nat_eq, nat_le, nat_lt, List, [], ◌∷◌, ◌++◌, codes, length, Option, Some, None, if◌then◌else◌}
+use Rattle.std.specs.Prelude.{ℕ, ℤ, Bool, true, not, ◌&&◌, ◌+◌, ◌*◌, ◌/◌, ◌-◌, ◌%◌, nat_eq, nat_le, nat_lt, List, [], ◌∷◌, ◌++◌, codes, length, Option, Some, None, if◌then◌else◌}
 use Rattle.std.specs.Fmt.{decimal}
 use Rattle.tr_chunk.specs.ArchiveName.{archive_name_text}
 use Rattle.tr_chunk.specs.Audit.{capped_count}
+use Rattle.tr_picture.specs.Counts.{counts_text}
 use Rattle.tr_picture.specs.Escape.{escaped}
 use Rattle.tr_picture.specs.Frame.{greater, last_moment, lesser, pixel_of}
 use Rattle.tr_picture.specs.Lanes.{Lane, bars_of}
-use Rattle.tr_picture.specs.Sessions.{Line}
+use Rattle.tr_picture.specs.Sessions.{Line, faults_in, first_offset}
+use Rattle.tr_picture.specs.Threads.{threads_text}
 use Rattle.tr_picture.specs.declared.bars.Bar.{Bar}
+use Rattle.tr_picture.specs.declared.counts.Counted.TheVariants.{Absent, Discarded}
 use Rattle.tr_picture.specs.declared.frame.Frame.{Frame}
 use Rattle.tr_picture.specs.declared.rows.Row.{Row}
 use Rattle.tr_survey.specs.Names.{begin_stamp}
@@ -100,13 +103,16 @@ losses_text f (b ∷ bars) = loss_text f b ++ losses_text f bars
 abbrev pub row_front : ℕ → List ℕ
 row_front y = codes "<g transform=\"translate(0 " ++ (decimal y ++ codes ")\"><path class=\"l\" d=\"M0 12h800\"/>")
 
--- the packets and losses of a row
+-- the packets and losses of a row, and how much is lost
 abbrev pub row_text : Frame → ℕ → Row → List ℕ
-row_text f y row = row_front y ++ (bars_text f None (bars_of row.packets) ++ (losses_text f (bars_of row.losses) ++ codes "</g>\n"))
+row_text f y row =
+    row_front y ++ (bars_text f None (bars_of row.packets) ++ (losses_text f (bars_of row.losses) ++ (counts_text Absent f 0 (bars_of row.packets)
+    ++ (counts_text Discarded f 0 (bars_of row.losses) ++ codes "</g>\n"))))
 
--- the names of a stream: its channel, its number, and its session
+-- the names of a stream: its channel, its number, its session, and its first thread
 abbrev pub names_text : Line → List ℕ
-names_text l = escaped l.stream.name ++ (codes " " ++ (decimal l.stream.number ++ (codes " " ++ escaped l.session)))
+names_text l =
+    escaped l.stream.name ++ (codes " " ++ (decimal l.stream.number ++ (codes " " ++ (escaped l.session ++ threads_text l.row.threads))))
 
 abbrev pub label_text : ℕ → Line → List ℕ
 label_text y l =
@@ -128,9 +134,9 @@ totals_text y s =
     totals_front y s.packets s.records
     ++ (counted_text (codes "tr") s.absent (codes "absent") ++ (counted_text (codes "to") (lost_by s.last) (codes "lost") ++ codes "</text>\n"))
 
--- 20 pixels below
+-- 32 pixels below
 abbrev pub next_row : ℕ → ℕ
-next_row y = capped_count (y + 20)
+next_row y = capped_count (y + 32)
 
 abbrev pub rows_text : Frame → ℕ → List Line → List ℕ
 rows_text f y [] = []
@@ -146,9 +152,9 @@ all_totals_text y (l ∷ lines) = totals_text y l.row.tally ++ all_totals_text (
 
 -- ---- time
 
--- the civil time at UTC, as archives' names have it
-abbrev pub civil_text : ℕ → List ℕ
-civil_text moment = if nat_le moment LAST_MOMENT then begin_stamp (archive_name_text moment moment (pos 0) 0) else []
+-- the civil time at an offset, as archives' names have it
+abbrev pub civil_text : ℤ → ℕ → List ℕ
+civil_text offset moment = if nat_le moment LAST_MOMENT then begin_stamp (archive_name_text moment moment offset 0) else []
 
 -- a number of nanoseconds in the unit that suits a span, rounded down
 abbrev pub elapsed_text : ℕ → ℕ → List ℕ
@@ -204,16 +210,16 @@ first_numbers f (l ∷ lines) = numbers_text f 0 None (bars_of l.row.packets)
 -- ---- all of it
 
 abbrev pub style_text : List ℕ
-style_text = codes "<style>svg{font:10px monospace}.w{fill:#fff}text{fill:#222}.a0{fill:#47a}.a1{fill:#7ac}.a2{fill:#586}.a3{fill:#9b7}.r{fill:#d22;stroke:#d22}.o{fill:#e80;stroke:#e80}.f{stroke:#000;stroke-width:3}.b{stroke:#666;stroke-width:1}.l,.t{stroke:#bbb;stroke-width:1}.tr{fill:#b00}.to{fill:#a50}@media(prefers-color-scheme:dark){.w{fill:#161616}text{fill:#ddd}.l,.t{stroke:#555}.b{stroke:#aaa}.f{stroke:#fff}.tr{fill:#f77}.to{fill:#fa4}}</style>"
+style_text = codes "<style>svg{font:10px monospace}.w{fill:#fff}text{fill:#222}.n{font-size:7px}.a0{fill:#47a}.a1{fill:#7ac}.a2{fill:#586}.a3{fill:#9b7}.r{fill:#d22;stroke:#d22}.o{fill:#e80;stroke:#e80}.f{stroke:#000;stroke-width:3}.b{stroke:#666;stroke-width:1}.l,.t{stroke:#bbb;stroke-width:1}.tr{fill:#b00}.to{fill:#a50}@media(prefers-color-scheme:dark){.w{fill:#161616}text{fill:#ddd}.l,.t{stroke:#555}.b{stroke:#aaa}.f{stroke:#fff}.tr{fill:#f77}.to{fill:#fa4}}</style>"
 
 abbrev pub legend_text : List ℕ
 legend_text = codes "<path class=\"a0\" d=\"M0 0h8v12h-8z\"/><path class=\"a1\" d=\"M8 0h8v12h-8z\"/><path class=\"a2\" d=\"M16 0h8v12h-8z\"/><path class=\"a3\" d=\"M24 0h8v12h-8z\"/><text x=\"40\" y=\"10\">packets, a colour for each archive, as high as their bytes</text><path class=\"r\" d=\"M410 0h16v12h-16z\"/><text x=\"434\" y=\"10\">numbers absent</text><path class=\"o\" d=\"M544 5h16v4h-16z\"/><text x=\"568\" y=\"10\">records discarded</text><path class=\"f\" d=\"M694 -3v17\"/><text x=\"704\" y=\"10\">fault</text><path class=\"b\" d=\"M754 -4v20\"/><text x=\"764\" y=\"10\">archive begins</text></g></svg>\n"
 
 -- the pixels of so many rows
 abbrev pub rows_height : ℕ → ℕ
-rows_height rows = capped_count (20 * rows)
+rows_height rows = capped_count (32 * rows)
 
--- one more than the others, and as many below the rows
+-- with what is above and below the rows
 abbrev pub full_height : ℕ → ℕ
 full_height rows = capped_count (rows_height rows + 92)
 
@@ -223,21 +229,31 @@ front_text height =
     codes "<svg xmlns=\"http://www.w3.org/2000/svg\" width=\"1280\" height=\"" ++ (decimal height
     ++ (codes "\" viewBox=\"0 0 1280 " ++ (decimal height ++ codes "\"><title>what archives hold and what is lost</title>")))
 
-abbrev pub back_text : ℕ → ℕ → ℕ → List ℕ
-back_text height rows faults =
+-- what follows the name of so many things
+abbrev pub plural : ℕ → List ℕ
+plural n = if nat_eq n 1 then [] else codes "s"
+
+-- so many faults, of which so many are of streams
+abbrev pub faults_text : ℕ → ℕ → List ℕ
+faults_text faults placed =
+    if nat_le faults placed then decimal faults ++ (codes " fault" ++ plural faults)
+    else decimal faults ++ (codes " fault" ++ (plural faults ++ (codes ", " ++ (decimal (faults - placed) ++ codes " of no stream"))))
+
+abbrev pub back_text : ℕ → ℕ → List ℕ
+back_text height rows =
     codes "<rect class=\"w\" width=\"1280\" height=\"" ++ (decimal height
-    ++ (codes "\"/>\n<text x=\"4\" y=\"14\">" ++ (decimal rows ++ (codes " streams</text><text x=\"972\" y=\"14\">" ++ (decimal faults
-    ++ codes " faults</text>\n")))))
+    ++ (codes "\"/>\n<text x=\"4\" y=\"14\">" ++ (decimal rows ++ (codes " stream" ++ (plural rows ++ codes "</text><text x=\"972\" y=\"14\">")))))
 
--- what begins the picture of so many rows and faults
-abbrev pub head_text : ℕ → ℕ → List ℕ
-head_text rows faults = front_text (full_height rows) ++ (style_text ++ back_text (full_height rows) rows faults)
+-- what begins the picture of so many rows and faults, of which so many are of streams
+abbrev pub head_text : ℕ → ℕ → ℕ → List ℕ
+head_text rows faults placed =
+    front_text (full_height rows) ++ (style_text ++ (back_text (full_height rows) rows ++ (faults_text faults placed ++ codes "</text>\n")))
 
--- the scale: when the first packet begins and when the last one ends, at UTC, and the time from the first on
-abbrev pub scale_text : Frame → List ℕ
-scale_text f =
-    codes "<text x=\"160\" y=\"14\">" ++ (civil_text f.least ++ (codes "</text><text text-anchor=\"end\" x=\"960\" y=\"14\">"
-    ++ (civil_text (last_moment f) ++ (codes "</text>\n" ++ (mark_text f.span 0 ++ (mark_text f.span 1 ++ (mark_text f.span 2
+-- the scale: when the first packet begins and when the last one ends, by a clock at an offset, and the time from the first on
+abbrev pub scale_text : ℤ → Frame → List ℕ
+scale_text offset f =
+    codes "<text x=\"160\" y=\"14\">" ++ (civil_text offset f.least ++ (codes "</text><text text-anchor=\"end\" x=\"960\" y=\"14\">"
+    ++ (civil_text offset (last_moment f) ++ (codes "</text>\n" ++ (mark_text f.span 0 ++ (mark_text f.span 1 ++ (mark_text f.span 2
     ++ (mark_text f.span 3 ++ mark_text f.span 4))))))))
 
 -- a part of the picture, whose text doesn't leave it
@@ -268,6 +284,6 @@ totals_part lines = part_text 966 314 (rows_height (length lines)) ++ (all_total
 -- lines in a frame, with so many faults
 abbrev pub drawing : Frame → ℕ → List Line → List ℕ
 drawing f faults lines =
-    head_text (length lines) faults
-    ++ (scale_text f
+    head_text (length lines) faults (faults_in lines)
+    ++ (scale_text (first_offset lines) f
     ++ (first_numbers f lines ++ (labels_part lines ++ (plot_part f lines ++ (totals_part lines ++ legend_part (length lines))))))

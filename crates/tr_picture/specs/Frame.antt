@@ -41,7 +41,7 @@ rough = record { least = 0; span = 1; columns = 0; largest = 0 }
 -- how many columns a row has: as many as there are pixels, if so many marks can't be too many; or else so few that all rows
 -- together have few bars
 abbrev pub columns_for : ℕ → ℕ → ℕ
-columns_for marks rows = if nat_le marks 12000 then 800 else lesser 800 (greater 1 (6000 / greater 1 rows))
+columns_for marks rows = if nat_le marks 10000 then 800 else lesser 800 (greater 1 (6000 / greater 1 rows))
 
 -- the frame of packets of this extent in rows, and of so many marks
 abbrev pub frame_of : Extent → ℕ → ℕ → Frame

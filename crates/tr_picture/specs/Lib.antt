@@ -1,10 +1,13 @@
 pub mod Bars
+pub mod Counts
 pub mod Drawing
 pub mod Escape
 pub mod Frame
 pub mod Lanes
 pub mod Losses
+pub mod Offsets
 pub mod Picture
 pub mod Rows
 pub mod Sessions
 pub mod Steps
+pub mod Threads

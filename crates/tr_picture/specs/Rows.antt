@@ -10,6 +10,7 @@ use Rattle.tr_picture.specs.Bars.{fault_bar, gap_bar, packet_bar}
 use Rattle.tr_picture.specs.Frame.{no_extent, with_packet}
 use Rattle.tr_picture.specs.Lanes.{Lane, add, no_lane}
 use Rattle.tr_picture.specs.Losses.{since_end, with_discarded}
+use Rattle.tr_picture.specs.Threads.{no_threads, threads_after}
 use Rattle.tr_picture.specs.declared.frame.Frame.{Frame}
 use Rattle.tr_picture.specs.declared.rows.Row.{Row}
 use Rattle.tr_survey.specs.Order.{Numbered}
@@ -20,7 +21,7 @@ use Rattle.tr_survey.specs.declared.tally.Tally.{Tally}
 
 -- nothing of a stream
 abbrev pub no_row : Row
-no_row = record { tally = no_tally 0; extent = no_extent; packets = no_lane; losses = no_lane }
+no_row = record { tally = no_tally 0; extent = no_extent; packets = no_lane; losses = no_lane; threads = no_threads }
 
 -- ---- a packet
 
@@ -49,6 +50,7 @@ row_after f at s p = record {
   extent = with_packet s.extent p;
   packets = with_number f at.archive.number s.tally.is_broken s.packets s.tally.last p;
   losses = with_loss f at.archive.number s.tally.is_broken s.losses s.tally.last p;
+  threads = threads_after s.threads p.records;
 }
 
 -- after a fault, which is drawn at the end of the packet before

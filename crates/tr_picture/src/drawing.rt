@@ -2,22 +2,24 @@
 
 ghost use Rattle.std.specs.Prelude.{◌≡◌, ◌++◌, length, map, IfOk, OnOk};
 ghost use Rattle.std.specs.String.{string_bytes};
-ghost use Rattle.tr_picture.specs.Drawing.{all_totals_text, back_text, counted_text, drawing, first_numbers, front_text, full_height, head_text, label_text, labels_part, labels_text, legend_front, legend_height, legend_part, names_text, next_row, part_text, plot_part, row_front, row_text, rows_height, rows_text, totals_front, totals_part, totals_text};
+ghost use Rattle.tr_picture.specs.Drawing.{all_totals_text, back_text, counted_text, drawing, faults_text, first_numbers, front_text, full_height, head_text, label_text, labels_part, labels_text, legend_front, legend_height, legend_part, names_text, next_row, part_text, plot_part, plural, row_front, row_text, rows_height, rows_text, totals_front, totals_part, totals_text};
 ghost use Rattle.tr_picture.specs.Sessions.{seen};
 
+use crate::counts::{Counted, push_counts};
 use crate::frame::Frame;
 use crate::marks::{bars_of, push_bars, push_losses};
 use crate::numbers::push_numbers;
 use crate::page::{push, push_escaped};
 use crate::rows::Row;
 use crate::scale::push_scale;
-use crate::sessions::Line;
+use crate::sessions::{Line, faults_in, first_offset};
+use crate::threads::push_threads;
 use std::alloc::{AllocError, Global};
 use tr_survey::{Tally, lost_by};
 
 /// How each kind of mark looks, in light and in dark.
 const STYLE: &str =
-    "<style>svg{font:10px monospace}.w{fill:#fff}text{fill:#222}.a0{fill:#47a}.a1{fill:#7ac}.a2{fill:#586}.a3{fill:#9b7}.r{fill:#d22;stroke:#d22}.o{fill:#e80;stroke:#e80}.f{stroke:#000;stroke-width:3}.b{stroke:#666;stroke-width:1}.l,.t{stroke:#bbb;stroke-width:1}.tr{fill:#b00}.to{fill:#a50}@media(prefers-color-scheme:dark){.w{fill:#161616}text{fill:#ddd}.l,.t{stroke:#555}.b{stroke:#aaa}.f{stroke:#fff}.tr{fill:#f77}.to{fill:#fa4}}</style>";
+    "<style>svg{font:10px monospace}.w{fill:#fff}text{fill:#222}.n{font-size:7px}.a0{fill:#47a}.a1{fill:#7ac}.a2{fill:#586}.a3{fill:#9b7}.r{fill:#d22;stroke:#d22}.o{fill:#e80;stroke:#e80}.f{stroke:#000;stroke-width:3}.b{stroke:#666;stroke-width:1}.l,.t{stroke:#bbb;stroke-width:1}.tr{fill:#b00}.to{fill:#a50}@media(prefers-color-scheme:dark){.w{fill:#161616}text{fill:#ddd}.l,.t{stroke:#555}.b{stroke:#aaa}.f{stroke:#fff}.tr{fill:#f77}.to{fill:#fa4}}</style>";
 
 /// What each kind of mark says.
 const LEGEND: &str =
@@ -30,7 +32,7 @@ fn row_front(alloc: Global, y: u64) -> Result<String, AllocError>
     format!(in alloc; "<g transform=\"translate(0 {y})\"><path class=\"l\" d=\"M0 12h800\"/>")
 }
 
-/// Adds a row's packets and losses, at this height.
+/// Adds a row's packets and losses, at this height, and how much is lost.
 fn push_row(
     alloc: Global,
     page: &mut Vec<u8>,
@@ -46,6 +48,8 @@ fn push_row(
     push(page, front.as_str())?;
     push_bars(alloc, page, frame, &packets)?;
     push_losses(alloc, page, frame, &losses)?;
+    push_counts(alloc, page, Counted::Absent, frame, &packets)?;
+    push_counts(alloc, page, Counted::Discarded, frame, &losses)?;
     push(page, "</g>\n")
 }
 
@@ -57,7 +61,8 @@ fn push_names(alloc: Global, page: &mut Vec<u8>, line: &Line) -> Result<(), Allo
     let number = line.stream.number;
     let middle = format!(in alloc; " {number} ")?;
     push(page, middle.as_str())?;
-    push_escaped(page, line.session.as_str())
+    push_escaped(page, line.session.as_str())?;
+    push_threads(alloc, page, &line.row.threads)
 }
 
 /// Adds a stream's label, at this height.
@@ -107,7 +112,7 @@ fn push_totals(alloc: Global, page: &mut Vec<u8>, y: u64, tally: &Tally) -> Resu
 fn next_row(y: u64) -> u64
     ensures { result ≡ next_row y }
 {
-    y.saturating_add(20)
+    y.saturating_add(32)
 }
 
 /// Adds the rows, from this height on.
@@ -169,10 +174,10 @@ fn push_all_totals(
 fn rows_height(rows: u64) -> u64
     ensures { result ≡ rows_height rows }
 {
-    rows.saturating_mul(20)
+    rows.saturating_mul(32)
 }
 
-/// One more than the others, and as many below the rows.
+/// The pixels of so many rows, with what is above and below them.
 fn full_height(rows: u64) -> u64
     ensures { result ≡ full_height rows }
 {
@@ -188,25 +193,54 @@ fn front_text(alloc: Global, height: u64) -> Result<String, AllocError>
     )
 }
 
-/// What comes after the style.
-fn back_text(alloc: Global, height: u64, rows: u64, faults: u64) -> Result<String, AllocError>
-    ensures { IfOk result (λ s. string_bytes s ≡ back_text height rows faults) }
+/// What follows the name of so many things.
+fn plural(count: u64) -> &'static str
+    ensures { result.now ≡ plural count }
 {
+    if count == 1 { "" } else { "s" }
+}
+
+/// What comes after the style.
+fn back_text(alloc: Global, height: u64, rows: u64) -> Result<String, AllocError>
+    ensures { IfOk result (λ s. string_bytes s ≡ back_text height rows) }
+{
+    let end = plural(rows);
     format!(in alloc;
-        "<rect class=\"w\" width=\"1280\" height=\"{height}\"/>\n<text x=\"4\" y=\"14\">{rows} streams</text><text x=\"972\" y=\"14\">{faults} faults</text>\n"
+        "<rect class=\"w\" width=\"1280\" height=\"{height}\"/>\n<text x=\"4\" y=\"14\">{rows} stream{end}</text><text x=\"972\" y=\"14\">"
     )
 }
 
+/// So many faults, of which so many are of streams.
+fn faults_text(alloc: Global, faults: u64, placed: u64) -> Result<String, AllocError>
+    ensures { IfOk result (λ s. string_bytes s ≡ faults_text faults placed) }
+{
+    let end = plural(faults);
+    if faults <= placed {
+        return format!(in alloc; "{faults} fault{end}");
+    }
+    let others = faults - placed;
+    format!(in alloc; "{faults} fault{end}, {others} of no stream")
+}
+
 /// Adds what begins the picture.
-fn push_head(alloc: Global, page: &mut Vec<u8>, rows: u64, faults: u64) -> Result<(), AllocError>
-    ensures { OnOk result (page.new.items ≡ page.old.items ++ head_text rows faults) }
+fn push_head(
+    alloc: Global,
+    page: &mut Vec<u8>,
+    rows: u64,
+    faults: u64,
+    placed: u64,
+) -> Result<(), AllocError>
+    ensures { OnOk result (page.new.items ≡ page.old.items ++ head_text rows faults placed) }
 {
     let height = full_height(rows);
     let front = front_text(alloc, height)?;
-    let back = back_text(alloc, height, rows, faults)?;
+    let back = back_text(alloc, height, rows)?;
+    let counted = faults_text(alloc, faults, placed)?;
     push(page, front.as_str())?;
     push(page, STYLE)?;
-    push(page, back.as_str())
+    push(page, back.as_str())?;
+    push(page, counted.as_str())?;
+    push(page, "</text>\n")
 }
 
 /// Adds the numbers of the first row's archives.
@@ -321,8 +355,8 @@ pub(crate) fn drawing(
 {
     let rows = rows_in(lines);
     let mut page = Vec::new(alloc);
-    push_head(alloc, &mut page, rows, faults)?;
-    push_scale(alloc, &mut page, frame)?;
+    push_head(alloc, &mut page, rows, faults, faults_in(lines))?;
+    push_scale(alloc, &mut page, first_offset(lines), frame)?;
     push_first_numbers(alloc, &mut page, frame, lines)?;
     push_labels_part(alloc, &mut page, lines)?;
     push_plot_part(alloc, &mut page, frame, lines)?;

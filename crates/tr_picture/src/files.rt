@@ -51,7 +51,12 @@ fn take_bad(rule: &Rule<'_>, row: &mut Row, fault: PacketFault) -> Result<Step, 
 }
 
 /// Takes the packet that bytes start with.
-fn take_front(rule: &Rule<'_>, row: &mut Row, bytes: &[u8]) -> Result<Step, AllocError>
+fn take_front(
+    alloc: Global,
+    rule: &Rule<'_>,
+    row: &mut Row,
+    bytes: &[u8],
+) -> Result<Step, AllocError>
     ensures { IfOk result (λ step. IsStep rule.now.frame.now
         (place rule.now.uuid.now rule.now.stream (key_of rule.now.archive.now)) row.old bytes.now step row.new) }
 {
@@ -64,12 +69,12 @@ fn take_front(rule: &Rule<'_>, row: &mut Row, bytes: &[u8]) -> Result<Step, Allo
         row.add_fault(rule.frame, rule.archive)?;
         return Ok(Step::Stopped);
     }
-    row.add_packet(rule.frame, rule.archive, &packet, size)?;
+    row.add_packet(alloc, rule.frame, rule.archive, &packet, size)?;
     Ok(Step::Packet(size))
 }
 
 /// The bytes, copied.
-fn bytes_of(alloc: Global, bytes: &[u8]) -> Result<Vec<u8>, AllocError>
+pub(crate) fn bytes_of(alloc: Global, bytes: &[u8]) -> Result<Vec<u8>, AllocError>
     ensures { IfOk result (λ copy. copy.items ≡ bytes.now) }
 {
     bytes.to_vec(alloc)
@@ -88,7 +93,7 @@ fn take_held(
     let mut at = 0;
     'packets: loop {
         let (_, bytes) = held.split_at(at);
-        match take_front(rule, row, bytes)? {
+        match take_front(alloc, rule, row, bytes)? {
             Step::Packet(size) => at += size,
             Step::Waits => break,
             Step::Stopped => return Ok(true),

@@ -7,10 +7,10 @@ ghost use Rattle.tr_picture.specs.Frame.{both, column_of, columns_for, frame_of,
 use tr_packet::PacketView;
 
 /// The most marks that are drawn in columns as narrow as pixels.
-const MOST_MARKS: u64 = 12000;
+const MOST_MARKS: u64 = 10000;
 
 /// The columns of a row that are as narrow as pixels.
-const MOST_COLUMNS: u64 = 800;
+pub(crate) const MOST_COLUMNS: u64 = 800;
 
 /// The columns of all rows together, if there are more marks.
 const ALL_COLUMNS: u64 = 6000;

@@ -33,6 +33,7 @@
 #![tactic(auto)]
 
 mod bars;
+mod counts;
 mod drawing;
 mod files;
 mod frame;
@@ -41,11 +42,13 @@ mod losses;
 mod marks;
 mod nowhere;
 mod numbers;
+mod offsets;
 mod page;
 mod picturing;
 mod rows;
 mod scale;
 mod sessions;
+mod threads;
 
 pub use page::an_escaped_name_stays_in_its_text;
 pub use picturing::picture;

@@ -31,15 +31,21 @@ fn push_escaped_byte(page: &mut Vec<u8>, byte: u8) -> Result<(), AllocError>
     }
 }
 
-/// Adds a name as XML has it: nothing of it leaves its text.
-pub(crate) fn push_escaped(page: &mut Vec<u8>, name: &str) -> Result<(), AllocError>
-    ensures { OnOk result (page.new.items ≡ page.old.items ++ escaped name.now) }
+/// Adds bytes as XML has them: nothing of them leaves their text.
+pub(crate) fn push_escaped_bytes(page: &mut Vec<u8>, bytes: &[u8]) -> Result<(), AllocError>
+    ensures { OnOk result (page.new.items ≡ page.old.items ++ escaped bytes.now) }
 {
-    let bytes = name.as_bytes();
     for byte in bytes {
         push_escaped_byte(page, *byte)?;
     }
     Ok(())
+}
+
+/// Adds a name as XML has it.
+pub(crate) fn push_escaped(page: &mut Vec<u8>, name: &str) -> Result<(), AllocError>
+    ensures { OnOk result (page.new.items ≡ page.old.items ++ escaped name.now) }
+{
+    push_escaped_bytes(page, name.as_bytes())
 }
 
 /// A name that is escaped is printable ASCII without a mark of XML, and entities that XML has of itself, one after another.

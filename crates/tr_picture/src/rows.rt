@@ -10,18 +10,20 @@ use crate::bars::Bar;
 use crate::frame::{Extent, Frame};
 use crate::lanes::Lane;
 use crate::losses::{add_discarded, since_end};
+use crate::threads::Threads;
 use std::alloc::{AllocError, Global};
 use tr_packet::PacketView;
 use tr_survey::{Last, Numbered, Tally, absent_before, falls, next_number};
 
 /// What is drawn of a stream: its counts, the extent of its packets, a lane of packets and absent numbers, and a lane of
-/// discarded records and faults.
+/// discarded records and faults, and the threads that had its producer.
 #[derive(Drop)]
 pub(crate) struct Row {
     pub(crate) tally: Tally,
     pub(crate) extent: Extent,
     pub(crate) packets: Lane,
     pub(crate) losses: Lane,
+    pub(crate) threads: Threads,
 }
 
 /// Adds the numbers absent right before a packet.
@@ -107,12 +109,14 @@ impl Row {
             extent: Extent::none(),
             packets: Lane::new(alloc),
             losses: Lane::new(alloc),
+            threads: Threads::none(alloc),
         }
     }
 
     /// Adds a packet of an archive, which has `size` bytes.
     pub(crate) fn add_packet(
         &mut self,
+        alloc: Global,
         frame: &Frame,
         archive: &Numbered,
         packet: &PacketView<'_>,
@@ -135,6 +139,7 @@ impl Row {
             size,
         )?;
         add_loss(frame, number, is_broken, &mut self.losses, last, packet)?;
+        self.threads.add_packet(alloc, packet)?;
         self.extent = self.extent.with_packet(packet, size);
         self.tally = self.tally.after(archive, packet, size);
         Ok(())

@@ -25,11 +25,16 @@ fn stamp_in(name: &[u8]) -> &[u8]
     stamp
 }
 
-/// Adds a moment's civil time at UTC.
-fn push_civil(alloc: Global, page: &mut Vec<u8>, moment: u64) -> Result<(), AllocError>
-    ensures { OnOk result (page.new.items ≡ page.old.items ++ civil_text moment) }
+/// Adds a moment's civil time at an offset.
+fn push_civil(
+    alloc: Global,
+    page: &mut Vec<u8>,
+    offset: OffsetMinutes,
+    moment: u64,
+) -> Result<(), AllocError>
+    ensures { OnOk result (page.new.items ≡ page.old.items ++ civil_text offset moment) }
 {
-    let (Some(moment), Some(offset)) = (Moment::new(moment), OffsetMinutes::new(0)) else {
+    let Some(moment) = Moment::new(moment) else {
         return Ok(());
     };
     let name = archive_name(alloc, moment, moment, offset, 0)?;
@@ -83,15 +88,20 @@ fn push_mark(alloc: Global, page: &mut Vec<u8>, span: u64, quarters: u64) -> Res
     push(page, end.as_str())
 }
 
-/// Adds the scale.
-pub(crate) fn push_scale(alloc: Global, page: &mut Vec<u8>, frame: &Frame) -> Result<(), AllocError>
-    ensures { OnOk result (page.new.items ≡ page.old.items ++ scale_text frame.now) }
+/// Adds the scale, by a clock at an offset.
+pub(crate) fn push_scale(
+    alloc: Global,
+    page: &mut Vec<u8>,
+    offset: OffsetMinutes,
+    frame: &Frame,
+) -> Result<(), AllocError>
+    ensures { OnOk result (page.new.items ≡ page.old.items ++ scale_text offset frame.now) }
 {
     let last = frame.last_moment();
     push(page, "<text x=\"160\" y=\"14\">")?;
-    push_civil(alloc, page, frame.least)?;
+    push_civil(alloc, page, offset, frame.least)?;
     push(page, "</text><text text-anchor=\"end\" x=\"960\" y=\"14\">")?;
-    push_civil(alloc, page, last)?;
+    push_civil(alloc, page, offset, last)?;
     push(page, "</text>\n")?;
     push_mark(alloc, page, frame.span, 0)?;
     push_mark(alloc, page, frame.span, 1)?;

@@ -4,12 +4,13 @@ ghost use Rattle.std.specs.Prelude.{◌≡◌, ◌<◌, ◌++◌, ℕ, Some, IfO
 ghost use Rattle.std.specs.List.{flat_map};
 ghost use Rattle.tr_folders.specs.Tree.{Tree, by_text};
 ghost use Rattle.tr_metadata.specs.declared.metadata.TheConstants.{LONGEST_METADATA};
-ghost use Rattle.tr_picture.specs.Sessions.{archives_lines, extent_of, line, line_of, lines_of, marks_of, name_lines, seen};
+ghost use Rattle.tr_picture.specs.Sessions.{archives_lines, extent_of, faults_in, first_offset, line, line_of, lines_of, marks_of, name_lines, seen};
 ghost use Rattle.tr_survey.specs.Failures.{reads_after, writes_after};
 ghost use Rattle.tr_survey.specs.Listing.{key_of};
 
 use crate::files::stream_row;
 use crate::frame::{Extent, Frame};
+use crate::offsets::{offset_of, utc};
 use crate::rows::Row;
 use std::alloc::{AllocError, Global};
 use tr_folders::{Folders, buffer_of};
@@ -18,20 +19,27 @@ use tr_survey::{
     Listing, Numbered, SurveyFault, archives_among, archives_path, identity_of, listing_at,
     names_in_order, namings_of, streams_among,
 };
-use tr_terms::Name;
+use tr_terms::{Name, OffsetMinutes};
 use uuid::Uuid;
 
-/// A stream of a session, and its row.
+/// A stream of a session, how far its clock is from UTC, and its row.
 #[derive(Drop)]
 pub(crate) struct Line {
     pub(crate) session: String,
     pub(crate) stream: Numbered,
+    pub(crate) offset: OffsetMinutes,
     pub(crate) row: Row,
 }
 
 /// A line of a stream.
-fn made_line(alloc: Global, session: &str, stream: &Numbered, row: Row) -> Result<Line, AllocError>
-    ensures { IfOk result (λ made. seen made ≡ line session.now (key_of stream.now) row) }
+fn made_line(
+    alloc: Global,
+    session: &str,
+    stream: &Numbered,
+    offset: OffsetMinutes,
+    row: Row,
+) -> Result<Line, AllocError>
+    ensures { IfOk result (λ made. seen made ≡ line session.now (key_of stream.now) offset row) }
 {
     let session = String::from_str(alloc, session)?;
     let name = String::from_str(alloc, stream.name.as_str())?;
@@ -40,6 +48,7 @@ fn made_line(alloc: Global, session: &str, stream: &Numbered, row: Row) -> Resul
     Ok(Line {
         session,
         stream,
+        offset,
         row,
     })
 }
@@ -65,11 +74,12 @@ fn add_streams<F: Folders>(
     ensures writes { (n : ℕ) → writes_after result n ≡ n }
     ensures room { length buffer.new ≡ length buffer.old }
 {
+    let offset = offset_of(archives);
     for stream in streams {
         let row = stream_row(
             alloc, folders, frame, uuid, folder, archives, stream, buffer,
         )?;
-        let made = made_line(alloc, session, stream, row)?;
+        let made = made_line(alloc, session, stream, offset, row)?;
         found.push(made)?;
     }
     Ok(())
@@ -211,4 +221,25 @@ pub(crate) fn marks_of(lines: &[Line]) -> u64
         marks = marks.saturating_add(packets).saturating_add(losses);
     }
     marks
+}
+
+/// How many faults all lines have.
+pub(crate) fn faults_in(lines: &[Line]) -> u64
+    ensures { result ≡ faults_in (map seen lines.now) }
+{
+    let mut faults: u64 = 0;
+    for line in lines {
+        faults = faults.saturating_add(line.row.tally.faults);
+    }
+    faults
+}
+
+/// The first line's offset; UTC if there are no lines.
+pub(crate) fn first_offset(lines: &[Line]) -> OffsetMinutes
+    ensures { result ≡ first_offset (map seen lines.now) }
+{
+    match lines {
+        [] => utc(),
+        [first, ..] => first.offset,
+    }
 }

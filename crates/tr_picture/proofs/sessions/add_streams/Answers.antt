@@ -1,5 +1,6 @@
 use Rattle.std.proofs.Common.{◌+◌, ◌++◌, ◌∙◌, List, drop, map, ap, sym}
 use Rattle.tr_picture.proofs.LineLemmas.{one_more}
+use Rattle.tr_picture.specs.Offsets.{offset_of}
 use Rattle.tr_picture.specs.Sessions.{line, line_of, seen}
 use Rattle.tr_picture.specs.declared.sessions.Line as value
 use Rattle.tr_survey.proofs.PrefixLemmas.{from_place}
@@ -20,7 +21,8 @@ loop-stream-preserved g c =
           ap (λ (l : List value.Line). map seen l ++ map f (map key_of (drop (i + 1) streams))) c.in_ok-push.ensures.items
           ∙ one_more seen f c.loop-stream.found.items c.in_ok-made.made (key_of c.stream-item.result) (map key_of (drop (i + 1) streams))
           (c.in_ok-made.ensures
-          ∙ ap (line c.args.session.now (key_of c.stream-item.result)) (c.in_ok-row.ensures.row t (c.loop-stream.invariant.tree ∙ known)))
+          ∙ ap (λ o. line c.args.session.now (key_of c.stream-item.result) o c.in_ok-row.row) c.offset_of-offset.ensures
+          ∙ ap (line c.args.session.now (key_of c.stream-item.result) (offset_of (map key_of c.args.archives.now))) (c.in_ok-row.ensures.row t (c.loop-stream.invariant.tree ∙ known)))
           ∙ ap (λ (l : List Numbered). map seen c.loop-stream.found.items ++ map f l)
           (sym (from_place key_of streams i c.stream-item.result c.loop-stream-test.true c.stream-item.is))
           ∙ c.loop-stream.invariant.found t known;
