@@ -61,11 +61,11 @@ fn name_in(payload: &[u8]) -> Option<&[u8]>
 }
 
 /// The name that a record says.
-fn thread_of<'a>(record: &RecView<'a>) -> Option<&'a [u8]>
-    ensures { option_map (λ n. n.now) result ≡ thread_of record.now }
+fn thread_of<'a>(event: &RecView<'a>) -> Option<&'a [u8]>
+    ensures { option_map (λ n. n.now) result ≡ thread_of event.now }
 {
-    if record.id() == THREAD_BEGIN {
-        name_in(record.payload())
+    if event.id() == THREAD_BEGIN {
+        name_in(event.payload())
     } else {
         None
     }

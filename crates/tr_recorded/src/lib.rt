@@ -1,7 +1,7 @@
-//! What a recorder keeps and writes is what a survey reads, and finds nothing wrong with.
+//! What a recorder keeps and writes is what a survey reads, and finds nothing wrong with; so is what is recovered of its rings.
 //!
-//! tr_export writes the packets of each part of a stream to a file, and tr_survey judges such files. This crate has the laws
-//! between them. It has nothing that runs.
+//! tr_export writes the packets of each part of a stream to a file, tr_recover those that were found in an image, and tr_survey
+//! judges such files. This crate has the laws between them. It has nothing that runs.
 //!
 //! # What is proved
 //!
@@ -15,12 +15,17 @@
 //! - The packets of a stream's parts, none of which was released, are what tr_survey finds no fault in, one archive after
 //!   another: packets of this trace and stream, whose numbers and serials rise, and whose counts of discarded records don't
 //!   fall (`every_stream_is_recorded` (`AreRecorded`)).
+//! - What tr_recover makes of packets that were found in an image is `whole` to a survey too, in a folder that was empty: if
+//!   they are of one trace, which the metadata name, in order, of streams that a session can have, and each stream's are what
+//!   its audit passes. Those of a disk with several runs of one identifier may not be (`what_is_recovered_is_whole`
+//!   (`AreOfTrace`, `found_recorded_text`)).
 //! - The folders and files of archives have the paths at which they are read (`archives_are_read_where_they_are_written`:
 //!   `folders`, `files`).
 //!
 //! # What is only tested
 //!
-//! That a file system's folders list what was made in them, and its files have the bytes that were written (`examples/audit/run`).
+//! That a file system's folders list what was made in them, and its files have the bytes that were written (`examples/audit/run`);
+//! that what is recovered of a program's rings is of such packets.
 #![tactic(auto)]
 
 mod laws;
