@@ -10,6 +10,7 @@ pub mod MadeLemmas
 pub mod OrderLemmas
 pub mod PathLemmas
 pub mod PlainLemmas
+pub mod RingLemmas
 pub mod SessionLemmas
 pub mod SetLemmas
 pub mod StoredLemmas

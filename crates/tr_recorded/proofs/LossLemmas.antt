@@ -24,11 +24,11 @@ use Rattle.tr_terms.specs.declared.mode.Mode.TheVariants.{Discard, Overwrite}
 -- ---- sub-buffers
 
 -- counts of discarded records don't fall, from this one on
-abbrev Stay : ℕ → List ClosedBuffer → Type 0
+abbrev pub Stay : ℕ → List ClosedBuffer → Type 0
 Stay from [] = Unit {0}
 Stay from (b ∷ bs) = (from ≤ b.discarded) × Stay b.discarded bs
 
-stay_lower : (low from : ℕ) (bs : List ClosedBuffer) → low ≤ from → Stay from bs → Stay low bs
+pub stay_lower : (low from : ℕ) (bs : List ClosedBuffer) → low ≤ from → Stay from bs → Stay low bs
 stay_lower low from [] le stay = tt
 stay_lower low from (b ∷ bs) le stay = (omega (arith, le, stay.0), stay.1)
 
@@ -78,7 +78,7 @@ none_stay seq serial [] next_seq next agree = tt
 none_stay seq serial (b ∷ bs) next_seq next agree =
     (omega arith, subst (λ (n : ℕ). Stay n bs) (sym agree.0) (none_stay (b.seq + 1) (next_serial serial b.records) bs next_seq next agree.3))
 
-by_mode : (s : StreamState) (m : Mode) → s.config.mode ≡ m → (c : IsConsistent s) → Stay 0 (buffers_of c.pieces)
+pub by_mode : (s : StreamState) (m : Mode) → s.config.mode ≡ m → (c : IsConsistent s) → Stay 0 (buffers_of c.pieces)
 by_mode s Discard is c =
     discards_stay 0 0 0 0 (buffers_of c.pieces) _ _ (all_have c.pieces c.are.used) (c.discards is).1 c.rising (omega arith)
 by_mode s Overwrite is c = none_stay 0 0 (buffers_of c.pieces) _ _ (c.overwrites is)
@@ -90,7 +90,7 @@ held_by : (from : ℕ) (cleared : Bool) (b : ClosedBuffer) (held : List ClosedBu
 held_by from true b held le stay = stay_lower from b.discarded held le stay
 held_by from false b held le stay = (le, stay)
 
-held_stay : (from : ℕ) (pieces : List Piece) → Stay from (buffers_of pieces) → Stay from (held_among pieces)
+pub held_stay : (from : ℕ) (pieces : List Piece) → Stay from (buffers_of pieces) → Stay from (held_among pieces)
 held_stay from [] stay = tt
 held_stay from (p ∷ pieces) stay = held_by from p.cleared p.buffer (held_among pieces) stay.0 (held_stay p.buffer.discarded pieces stay.1)
 

@@ -8,12 +8,13 @@ ghost use Rattle.tr_export.specs.Paths as export;
 ghost use Rattle.tr_folders.specs.Kept.{file_of};
 ghost use Rattle.tr_folders.specs.Tree.{Tree};
 ghost use Rattle.tr_packet.specs.Packets.{Contents};
-ghost use Rattle.tr_recorded.specs.Found.{AreOfTrace, found_recorded_text};
+ghost use Rattle.tr_recorded.specs.Found.{AreOfTrace, ArePassed, found_recorded_text};
 ghost use Rattle.tr_recorded.specs.Made.{Shows, tree_made};
 ghost use Rattle.tr_recorded.specs.Recorded.{HasItsArchives, NoneReleased, recorded_of, session_recorded_text};
 ghost use Rattle.tr_recover.specs.Archive.{recovered_made};
 ghost use Rattle.tr_session.specs.Sizes.{HoldsItsParts};
 ghost use Rattle.tr_stream.specs.Fates.{all_parts};
+ghost use Rattle.tr_stream.specs.Images.{packets_standing};
 ghost use Rattle.tr_survey.specs.Metadata.{IsShort, naming_in};
 ghost use Rattle.tr_survey.specs.Order.{Numbered};
 ghost use Rattle.tr_survey.specs.Paths.{archives_folder, file_path, path_of};
@@ -33,6 +34,14 @@ use tr_stream::Stream;
 pub fn every_stream_is_recorded<A: Allocator>(stream: &Stream<A>)
     ensures { (archives : List Numbered) → length archives ≤ length (all_parts stream.now.parts) → NoneReleased (length archives) stream.now
         → AreRecorded stream.now.config.uuid stream.now.config.number (recorded_of archives stream.now) }
+{
+    let _ = stream.config();
+}
+
+/// The packets in the memory of a stream's ring are what the stream's audit passes, so that what is recovered of a program's rings
+/// is whole to a survey. Does nothing.
+pub fn a_ring_is_passed<A: Allocator>(stream: &Stream<A>)
+    ensures { ArePassed stream.now.config.uuid (packets_standing stream.now) }
 {
     let _ = stream.config();
 }

@@ -17,20 +17,21 @@
 //!   fall (`every_stream_is_recorded` (`AreRecorded`)).
 //! - What tr_recover makes of packets that were found in an image is `whole` to a survey too, in a folder that was empty: if
 //!   they are of one trace, which the metadata name, in order, of streams that a session can have, and each stream's are what
-//!   its audit passes. Those of a disk with several runs of one identifier may not be (`what_is_recovered_is_whole`
-//!   (`AreOfTrace`, `found_recorded_text`)).
+//!   its audit passes (`what_is_recovered_is_whole` (`AreOfTrace`, `found_recorded_text`)).
+//! - Those in the memory of a stream's ring are (`a_ring_is_passed` (`ArePassed`)). Those of a disk with several runs of one
+//!   identifier may not be.
 //! - The folders and files of archives have the paths at which they are read (`archives_are_read_where_they_are_written`:
 //!   `folders`, `files`).
 //!
 //! # What is only tested
 //!
 //! That a file system's folders list what was made in them, and its files have the bytes that were written (`examples/audit/run`);
-//! that what is recovered of a program's rings is of such packets.
+//! that the image of a program's rings has these and no others of its trace.
 #![tactic(auto)]
 
 mod laws;
 
 pub use laws::{
-    a_tree_shows_what_was_made, archives_are_read_where_they_are_written, every_stream_is_recorded,
-    what_is_recovered_is_whole, what_is_written_is_whole,
+    a_ring_is_passed, a_tree_shows_what_was_made, archives_are_read_where_they_are_written,
+    every_stream_is_recorded, what_is_recovered_is_whole, what_is_written_is_whole,
 };

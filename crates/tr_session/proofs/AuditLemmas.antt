@@ -32,7 +32,7 @@ use Rattle.tr_stream.specs.WellFormed.{IsWellFormed, RecordsRise, next_serial, c
 use Rattle.tr_stream.specs.declared.config.StreamConfig.{StreamConfig}
 use Rattle.tr_stream.specs.declared.events.StreamEvent.{StreamEvent}
 
-abbrev records_behind : List ClosedBuffer → List Entry
+abbrev pub records_behind : List ClosedBuffer → List Entry
 records_behind bs = flat_map (λ (b : ClosedBuffer). b.records) bs
 
 -- what packets say, by their sub-buffers
@@ -41,7 +41,7 @@ discarded-packets : (c : StreamConfig) (bs : List ClosedBuffer)
 discarded-packets c [] = refl
 discarded-packets c (b ∷ bs) = ap (λ (ns : List ℕ). b.discarded ∷ ns) (discarded-packets c bs)
 
-records-packets : (c : StreamConfig) (bs : List ClosedBuffer) → records_of_packets (map (packet_of c) bs) ≡ records_behind bs
+pub records-packets : (c : StreamConfig) (bs : List ClosedBuffer) → records_of_packets (map (packet_of c) bs) ≡ records_behind bs
 records-packets c [] = refl
 records-packets c (b ∷ bs) = ap (λ (es : List Entry). b.records ++ es) (records-packets c bs)
 
@@ -93,7 +93,7 @@ packets-are s h is none =
     (ap (λ (b : Bool). cond b [] (chunk_of h.cuts h)) current) ∙ is.model.chunks)
 
 -- some of these, in order
-abbrev IsAmong : List ClosedBuffer → List ClosedBuffer → Type 0
+abbrev pub IsAmong : List ClosedBuffer → List ClosedBuffer → Type 0
 IsAmong [] ds = Unit {0}
 IsAmong (b ∷ bs) [] = ⊥
 IsAmong (b ∷ bs) (d ∷ ds) = ((b ≡ d) × IsAmong bs ds) ⊎ IsAmong (b ∷ bs) ds
@@ -121,7 +121,7 @@ rise-entries before serial (e ∷ es) rest le rise then =
     let more = rise-entries (Some e.serial) (e.serial + 1) es rest (omega arith) rise.1 then in
     rw (here, more)
 
-rise-records : (before : Option ℕ) (seq serial : ℕ) (bs : List ClosedBuffer) (next_seq next : ℕ) → low before ≤ serial
+pub rise-records : (before : Option ℕ) (seq serial : ℕ) (bs : List ClosedBuffer) (next_seq next : ℕ) → low before ≤ serial
     → Rising seq serial bs next_seq next → serials_rise_after before (records_behind bs) ≡ true
 rise-records before seq serial [] next_seq next le rise = refl
 rise-records before seq serial (b ∷ bs) next_seq next le rise =
@@ -148,7 +148,7 @@ next-above serial [] rise = omega arith
 next-above serial (e ∷ es) rise = let more = next-above (e.serial + 1) es rise.1 in omega (arith, more, rise.0)
 
 -- some of those that rise, rise
-rising-among : (bs ds : List ClosedBuffer) (seq serial next_seq next : ℕ) → IsAmong bs ds → Rising seq serial ds next_seq next
+pub rising-among : (bs ds : List ClosedBuffer) (seq serial next_seq next : ℕ) → IsAmong bs ds → Rising seq serial ds next_seq next
     → Rising seq serial bs next_seq next
 rising-among [] [] seq serial next_seq next among rise = rise
 rising-among [] (d ∷ ds) seq serial next_seq next among rise =
@@ -167,7 +167,7 @@ rising-among (b ∷ bs) (d ∷ ds) seq serial next_seq next (inr later) rise =
 among-none : (ds : List ClosedBuffer) → IsAmong [] ds
 among-none ds = tt
 
-among-all : (bs : List ClosedBuffer) → IsAmong bs bs
+pub among-all : (bs : List ClosedBuffer) → IsAmong bs bs
 among-all [] = tt
 among-all (b ∷ bs) = inl (refl, among-all bs)
 
@@ -202,7 +202,7 @@ same-bytes (x ∷ xs) = grind (arith, nat_tests, common_steps, same-bytes xs)
 own : (c : StreamConfig) (b : ClosedBuffer) → belongs c.uuid c.number (packet_of c b) ≡ true
 own c b = let same = same-bytes c.uuid in grind (arith, nat_tests, same)
 
-all-own : (c : StreamConfig) (bs : List ClosedBuffer) → AllByRecursion (BelongsTo c.uuid c.number) (map (packet_of c) bs)
+pub all-own : (c : StreamConfig) (bs : List ClosedBuffer) → AllByRecursion (BelongsTo c.uuid c.number) (map (packet_of c) bs)
 all-own c [] = tt
 all-own c (b ∷ bs) = (own c b, all-own c bs)
 
