@@ -111,6 +111,10 @@ pub record HaveDone (planned : SessionBookState) (operators : List (List DeskSte
   pub none_missing : IsTrue all → DidAll operators lines
   pub did : (i : ℕ) → i < length operations → DoTo i (all_done lines) planned book (slice_index_or operations i [])
 
+-- operators did what a session's book has, and together they did all of it, if these are all that were made
+abbrev pub AreOperatorsOf : SessionBookState → List (List DeskStep) → Bool → SessionBookState → Type 0
+AreOperatorsOf planned operators all book = (operations : List (List StreamStep)) × HaveDone planned operators all book operations
+
 -- an operator did this too
 abbrev pub with_step : DeskStep → List DeskStep → List DeskStep
 with_step step steps = steps ++ step ∷ []

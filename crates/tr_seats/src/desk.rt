@@ -5,7 +5,7 @@ ghost use Rattle.tr_operations.specs.Operations.{IsOperatorOf};
 ghost use Rattle.tr_operations.specs.declared.step.DeskStep.TheVariants as step;
 ghost use Rattle.tr_seats.specs.Books.{IsPlan};
 ghost use Rattle.tr_seats.specs.Desks.{IsOfPlan, desk_after_begin, desk_begin_answer};
-ghost use Rattle.tr_seats.specs.Operators.{with_step};
+ghost use Rattle.tr_seats.specs.Operators.{AreOperatorsOf, with_step};
 ghost use Rattle.tr_seats.specs.Settling.{AreInPlace, HasOperated, streams_of};
 ghost use Rattle.tr_session_book.specs.BookSteps.{book_after_start, book_after_stop, book_start_answer, book_stop_answer};
 
@@ -62,7 +62,16 @@ impl<N: Names, A: Allocator> Desk<N, A> {
         self.book.audit(operator);
     }
 
-    /// The same, and that what all operators did to the streams in these slots is what those have.
+    /// The same of each of these operators, and answers whether they are all that were made, in that order: then each step at this
+    /// desk is one of theirs, and none is missing. A call that was lent no operator had one of its own, which nobody can lend.
+    pub fn audit_operators(&mut self, operators: &mut [Operator<N>]) -> bool
+        ensures same { (self.new ≡ self.old) × (operators.new ≡ operators.old) }
+        ensures own { AreOperatorsOf N.plan.session.book operators.old result self.old.book }
+    {
+        self.book.audit_all(operators)
+    }
+
+    /// Of one operator, and that what all operators did to the streams in these slots is what those have.
     pub(crate) fn audit_streams(&mut self, operator: &mut Operator<N>, slots: &mut [Slot<N, A>])
         requires { (length slots.old ≡ length N.plan.books) × AreInPlace slots.old }
         ensures same { (self.new ≡ self.old) × (operator.new ≡ operator.old) × (slots.new ≡ slots.old) }

@@ -1,9 +1,10 @@
 //! The seats in a stream's journal, joined in one: they have all that was noted of the stream.
 
 ghost use Rattle.std.specs.Prelude.{◌≡◌, ◌<◌, ℕ, length, slice_index_or, slice_set};
+ghost use Rattle.tr_accounts.specs.Seats.{desk_seat};
 ghost use Rattle.tr_accounts.specs.declared.step.StreamStep.{StreamStep};
 ghost use Rattle.tr_journal.specs.Journals.{SeatState, seat_with};
-ghost use Rattle.tr_seats.specs.Accounts.{AreTakeSeats};
+ghost use Rattle.tr_seats.specs.Accounts.{AreTakeSeats, IsOperatedBy, IsSeatAt};
 ghost use Rattle.tr_seats.specs.Books.{books_at};
 ghost use Rattle.tr_seats.specs.Histories.{IsDeskWith, IsHistoryOf, takes_joined};
 ghost use Rattle.tr_seats.specs.Settling.{AreInPlace, IsOneEach};
@@ -113,5 +114,23 @@ pub(crate) fn join_producers<N: Names, A: Allocator>(
     for producer in producers {
         let i = producer.stream();
         slots[i].join_producer(&mut desk[i], producer);
+    }
+}
+
+/// Changes nothing, and shows that what the desk's seats noted of the streams' operations is what the streams have.
+pub(crate) fn audit_operations<N: Names, A: Allocator>(
+    slots: &mut [Slot<N, A>],
+    seats: &mut [StreamSeat],
+)
+    requires slots { (length slots.old ≡ length N.plan.books) × AreInPlace slots.old }
+    requires many { length seats.old ≡ length N.plan.books }
+    requires seats { (i : ℕ) (d : SeatState StreamStep) → i < length N.plan.books
+        → IsSeatAt (books_at N.plan.books i).journal desk_seat (slice_index_or seats.old i d) }
+    ensures same { (slots.new ≡ slots.old) × (seats.new ≡ seats.old) }
+    ensures operated { (i : ℕ) (d : SeatState StreamStep) (s : SlotState) → i < length slots.old
+        → IsOperatedBy (slice_index_or seats.old i d).own (slice_index_or slots.old i s).stream }
+{
+    for i in 0..slots.len() {
+        slots[i].audit_operations(&mut seats[i]);
     }
 }

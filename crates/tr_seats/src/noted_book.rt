@@ -1,19 +1,14 @@
 //! A session's book, with the journal of what operators do to it.
 
-ghost use Rattle.std.specs.Prelude.{◌≡◌, ◌≢◌, ◌+◌, ◌<◌, ◌^◌, [], ℕ, Ok, Err, IsOk, length, slice_index_or};
-ghost use Rattle.tr_accounts.specs.Seats.{desk_seat};
-ghost use Rattle.tr_accounts.specs.declared.step.StreamStep.{StreamStep};
-ghost use Rattle.tr_journal.specs.Journals.{SeatState};
+ghost use Rattle.std.specs.Prelude.{◌≡◌, ◌≢◌, ◌+◌, ◌<◌, ◌^◌, [], Ok, Err, IsOk, length};
 ghost use Rattle.tr_operations.specs.Operations.{IsOperatorOf, IsStepOf};
 ghost use Rattle.tr_operations.specs.declared.step.DeskStep.TheVariants as step;
-ghost use Rattle.tr_seats.specs.Accounts.{IsOperatedBy, IsSeatAt};
 ghost use Rattle.tr_seats.specs.Books.{IsPlanned, books_at};
 ghost use Rattle.tr_seats.specs.Clears.{seat_after_clear};
 ghost use Rattle.tr_seats.specs.Cuts.{book_if_cut, seat_after_cut, seat_of_cuts_after};
 ghost use Rattle.tr_seats.specs.Histories.{AreDeskWith, operations_in};
-ghost use Rattle.tr_seats.specs.Operators.{AreNewDeskSeats, HaveDone, with_step};
+ghost use Rattle.tr_seats.specs.Operators.{AreNewDeskSeats, AreOperatorsOf, HaveDone, with_step};
 ghost use Rattle.tr_seats.specs.Settling.{AreInPlace, HasOperated, streams_of};
-ghost use Rattle.tr_seats.specs.Slots.{SlotState};
 ghost use Rattle.tr_seats.specs.Sums.{totals_in};
 ghost use Rattle.tr_session.specs.Steps.{clear_as_session, cut_as_step};
 ghost use Rattle.tr_session_book.specs.BookSteps.{book_after_rotate_begin, book_after_rotate_finish, book_after_schedule, book_after_snapshot_begin, book_after_start, book_after_stop, book_clear_answer, book_rotate_begin_answer, book_rotate_finish_answer, book_schedule_answer, book_snapshot_begin_answer, book_start_answer, book_stop_answer, cut_moment, is_active};
@@ -21,6 +16,7 @@ ghost use Rattle.tr_stream.specs.StateSteps.{state_after_clear, state_after_cut,
 ghost use Rattle.tr_stream.specs.Steps.{ClearsSome};
 
 use crate::account::StreamSeat;
+use crate::histories::audit_operations;
 use crate::names::Names;
 use crate::operator::{Operator, audit_operators};
 use crate::slot::Slot;
@@ -129,6 +125,14 @@ impl<N: Names, A: Allocator> NotedBook<N, A> {
         ensures own { IsOperatorOf N.plan.session.book operator.old self.old }
     {
         self.journal.audit(&mut operator.seat);
+    }
+
+    /// The same of each of these operators, and answers whether they are all that were made, in that order.
+    pub(crate) fn audit_all(&mut self, operators: &mut [Operator<N>]) -> bool
+        ensures same { (self.new ≡ self.old) × (operators.new ≡ operators.old) }
+        ensures own { AreOperatorsOf N.plan.session.book operators.old result self.old }
+    {
+        audit_operators(&mut self.journal, operators, self.operators)
     }
 
     pub(crate) fn start(
@@ -390,20 +394,5 @@ impl<N: Names, A: Allocator> NotedBook<N, A> {
     {
         audit_operations(slots, self.streams.as_mut_slice());
         self.journal.audit(&mut operator.seat);
-    }
-}
-
-/// Changes nothing, and shows that what the desk's seats noted of the streams' operations is what the streams have.
-fn audit_operations<N: Names, A: Allocator>(slots: &mut [Slot<N, A>], seats: &mut [StreamSeat])
-    requires slots { (length slots.old ≡ length N.plan.books) × AreInPlace slots.old }
-    requires many { length seats.old ≡ length N.plan.books }
-    requires seats { (i : ℕ) (d : SeatState StreamStep) → i < length N.plan.books
-        → IsSeatAt (books_at N.plan.books i).journal desk_seat (slice_index_or seats.old i d) }
-    ensures same { (slots.new ≡ slots.old) × (seats.new ≡ seats.old) }
-    ensures operated { (i : ℕ) (d : SeatState StreamStep) (s : SlotState) → i < length slots.old
-        → IsOperatedBy (slice_index_or seats.old i d).own (slice_index_or slots.old i s).stream }
-{
-    for i in 0..slots.len() {
-        slots[i].audit_operations(&mut seats[i]);
     }
 }

@@ -2,6 +2,7 @@
 
 ghost use Rattle.std.specs.Prelude.{◌≡◌, ◌+◌, ◌≤◌, [], false, IfErr, IfOk, length, sum_by, vec_capacity, vec_len};
 ghost use Rattle.tr_operations.specs.Operations.{IsOperatorOf};
+ghost use Rattle.tr_seats.specs.Operators.{AreOperatorsOf};
 ghost use Rattle.tr_seats.specs.Settling.{AddUp, AreAccountsOf, AreInPlace, ArePacketsOf, AreTheirs, CanSettle, HasOperated, HaveCleared, HaveConsumed, HaveOneHistory, WereConsumed, IsSessionOf, IsWhy, opened_state, streams_of, totals_of_seats};
 ghost use Rattle.tr_seats.specs.Sums.{totals_of};
 ghost use Rattle.tr_session.specs.Session.{session_of};
@@ -106,6 +107,15 @@ impl<N: Names, A: Allocator> Opened<N, A> {
         if are_in_place(&self.slots) {
             self.desk.audit_streams(operator, self.slots.as_mut_slice());
         }
+    }
+
+    /// Changes nothing, and shows of each of these operators that what it did is what the session's book has; and answers whether
+    /// they are all that were made, in that order: then each step at the desk is one of theirs, and none is missing.
+    pub fn audit_operators(&mut self, operators: &mut [Operator<N>]) -> bool
+        ensures same { (self.new ≡ self.old) × (operators.new ≡ operators.old) }
+        ensures own { AreOperatorsOf N.plan.session.book operators.old result self.old.desk.book }
+    {
+        self.desk.audit_operators(operators)
     }
 }
 

@@ -3,7 +3,7 @@ use Rattle.tr_accounts.specs.Seats.{desk_seat}
 use Rattle.tr_accounts.specs.declared.step.StreamStep.{StreamStep}
 use Rattle.tr_journal.specs.Journals.{SeatState}
 use Rattle.tr_seats.proofs.Joins.{put-back, read-same}
-use Rattle.tr_seats.proofs.noted_book.audit_operations.Goals as goal
+use Rattle.tr_seats.proofs.histories.audit_operations.Goals as goal
 use Rattle.tr_seats.specs.Accounts.{IsOperatedBy, IsSeatAt}
 use Rattle.tr_seats.specs.Books.{books_at}
 use Rattle.tr_seats.specs.Settling.{AreInPlace}

@@ -1,7 +1,7 @@
 use Rattle.std.proofs.Common.{◌≡◌, ℕ, ◌<◌, get_or}
 use Rattle.tr_accounts.specs.declared.step.StreamStep.{StreamStep}
 use Rattle.tr_journal.specs.Journals.{SeatState}
-use Rattle.tr_seats.proofs.noted_book.audit_operations.Given as goal
+use Rattle.tr_seats.proofs.histories.audit_operations.Given as goal
 use Rattle.tr_seats.specs.Accounts.{IsOperatedBy}
 use Rattle.tr_seats.specs.Slots.{SlotState}
 
