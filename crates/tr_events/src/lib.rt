@@ -16,7 +16,7 @@
 //! - What was packed is what the values of a payload are, and these pack to the payload (`packed_values`, `values_packed`).
 //! - `fits` says whether a payload has values, by what is known of its id if that is enough (`Events::fits`, `Event::fits`).
 //! - A copy, in memory of any allocator, has the same events (`Events::copy`, `none`).
-//! - What is written of declared events declares them again (`declared_again`, `push_event_lines`).
+//! - What is written of declarations declares them again (`declared_again`, `push_declarations`, `push_event_lines`).
 #![tactic(auto)]
 
 mod env;

@@ -18,8 +18,8 @@
 //! - What tr_recover makes of packets that were found in an image is `whole` to a survey too, in a folder that was empty: if
 //!   they are of one trace, which the metadata name, in order, of streams that a session can have, and each stream's are what
 //!   its audit passes (`what_is_recovered_is_whole` (`AreOfTrace`, `found_recorded_text`)).
-//! - Those in the memory of a stream's ring are (`a_ring_is_passed` (`ArePassed`)). Those of a disk with several runs of one
-//!   identifier may not be.
+//! - Those in the memory of a stream's ring are; those of a disk with several runs of one identifier may not be
+//!   (`a_ring_is_passed` (`ArePassed`)).
 //! - The folders and files of archives have the paths at which they are read (`archives_are_read_where_they_are_written`:
 //!   `folders`, `files`).
 //!

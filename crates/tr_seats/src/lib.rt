@@ -49,9 +49,12 @@
 //!   (`Desk::operator`: `new`, `same`; `start_by`, `stop_by`, `set_schedule_by`, `snapshot_begin_by`, `rotate_begin_by`,
 //!   `rotate_finish_by`, `cut_by`, `clear_by`: `steps`; `switch_by`: `answer`, `slot`, `same`, `steps`; `audit_operator`:
 //!   `own`, `same`; `NotedBook`: invariant (`IsDeskJournal`)).
+//! - Of a list of operators each one's steps are all that one seat of the desk's has. If these are all that were made, in that
+//!   order, each step at the desk is one of theirs, and none is missing (`Desk::audit_operators`, `Opened::audit_operators`:
+//!   `own` (`AreOperatorsOf`), `same`).
 //! - What is done to a stream at the desk is noted in the stream's journal too. So all that was done to it but offers and takes
 //!   is what the desk's steps did: its switches, its clears, and its cuts, each at the end of its rotation (`HasOperated`)
-//!   (`Opened::audit_operator`: `streams`, `own`, `same`).
+//!   (`Opened::audit_operator`: `streams`, `own`, `same`; `every_operator`: `book`, `streams`).
 //! - The desk's other calls are the book's. No rotation of a snapshot session ends (`Desk::start`, `stop`, `set_schedule`,
 //!   `snapshot_begin`: `answer`, `after`; `rotate_finish`: `answer`, `after`, `mode`; `rotate_begin`: `value`, `no_memory`,
 //!   `memory`).
@@ -79,13 +82,13 @@
 //!   (`Opened::from_parts`; `into_parts`: `value`, `slots`, `room`; `Producer::stream`, `Slot::number`: `number`, `there`).
 //! - What is settled is a session again, the one that was planned. Each producer's numbers are those of its own stream, and its
 //!   offers what that stream has. The packets that a drainer took are takes of a history that the stream represents, and each is
-//!   kept in the chunk that was answered or was cleared since. One history of each stream has the offers of its producer and the
-//!   takes of all drainers, and no others: each take is one drainer's, and none is missing. What was consumed of a stream is what
+//!   kept in the chunk that was answered or was cleared since. One history of each stream has the offers of its producer, the
+//!   takes of all drainers and what the desk did to it, and nothing else: each take is one drainer's, and none is missing. What was consumed of a stream is what
 //!   the desk's and the drainers' seats of it have, and what was cleared of it what another seat of the desk has. The totals are
 //!   the sums over its streams, and the sums over all seats. What was offered is discarded, overwritten, cleared, in a ring or in
 //!   a part, and what was consumed is in a part or was cleared since
-//!   (`Opened::settle`: `session`, `planned`, `own` (`AreTheirs`), `accounts` (`AreAccountsOf`), `packets` (`ArePacketsOf`),
-//!   `histories` (`HaveHistories`), `taken` (`HaveConsumed`), `cleared`, `totals`, `seats`, `places` (`AddUp`), `consumed`
+//!   (`Opened::settle`, `settle_with`: `session`, `planned`, `own` (`AreTheirs`), `accounts` (`AreAccountsOf`), `packets` (`ArePacketsOf`),
+//!   `histories` (`HaveOneHistory`), `taken` (`HaveConsumed`), `cleared`, `totals`, `seats`, `places` (`AddUp`), `consumed`
 //!   (`WereConsumed`), `snapshot_session`).
 //!
 //! No call has to refuse a slot and a seat of two plans: both have the plan as a parameter of their type (`Names`), so a seat

@@ -26,18 +26,19 @@
 //!   of that stream. Once settled, these are takes of a history that the stream represents, and each packet is kept in that
 //!   chunk or was cleared since
 //!   (`Drainer::take` (`IsTakeFrom.seats`); `Shared::settle`, `settle_with`: `packets` (`ArePacketsOf`, `IsTakenFrom`)).
-//! - Once settled, one history of each stream has the offers of its producer and the takes of all drainers, and no others: each
-//!   take is one drainer's, and none is missing
-//!   (`Shared::settle`, `settle_with`: `histories` (`HaveHistories`, `IsHistoryOf`)).
+//! - Once settled, one history of each stream has the offers of its producer, the takes of all drainers, and what the desk's
+//!   steps did to it, and nothing else: each take is one drainer's, and none is missing; a cut is at the end of its rotation. So
+//!   each record has the greatest moment that was given up to it
+//!   (`Shared::settle`, `settle_with`: `histories` (`HaveOneHistory`, `IsHistoryOf`)).
 //! - What an operator did is what the desk has: a call in its name adds just its steps to its list, each at the moment that was
 //!   given and with its answer. A start or a stop that succeeds has switched every stream, a rotation has begun at its moment,
 //!   cut streams and ended one with the archive that is answered, a clear has cleared every stream, and a snapshot shows the
 //!   moment that was stored.
-//!   If the operator is lent to settling, the settled session's book is what its steps, among others', lead to, and all that was
-//!   done to each stream but offers and takes is what those steps did, each cut at the end of its rotation (`settle_with`)
+//!   If operators are lent to settling, each one's steps are all that one seat of the desk's has, in that one history. If they
+//!   are all that were made, which it answers, each step at the desk is one of theirs: no other start, stop, schedule, rotation,
+//!   clear or snapshot was asked for
 //!   (`Shared::operator`; `start_by`, `stop_by`, `set_schedule_by`, `rotate_begin_by`, `rotate_next_by`, `rotate_finish_by`,
-//!   `rotate_by`, `tick_by`, `clear_by`, `snapshot_by`: `steps`; `settle_with`: `same`, `operator` (`IsOperatorOf`), `streams`
-//!   (`HasOperated`)).
+//!   `rotate_by`, `tick_by`, `clear_by`, `snapshot_by`: `steps`; `settle_with`: `same`, `histories` (`HaveOneHistory.done`)).
 //! - An offer moves its producer's seats by what was answered, and a take the drainer's seat of that stream, whatever other
 //!   threads do meanwhile
 //!   (`Offers::offer`, `Producer::offer` (`IsOfferTo.seats`, `IsOfferTo.serial`, `IsOfferTo.too_big`, `IsOfferTo.spent`),
