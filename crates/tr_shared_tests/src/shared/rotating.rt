@@ -360,10 +360,20 @@ fn assert_operated(rt: &impl Abort, settled: &Settled, totals: Totals) {
 
 #[test]
 fn an_operator_is_answered_as_without_one(rt: HostRuntime) {
-    operates::<Brand>(&rt, rt.alloc(), plan_of(&rt, rt.alloc(), Mode::Discard, 1), true);
+    operates::<Brand>(
+        &rt,
+        rt.alloc(),
+        plan_of(&rt, rt.alloc(), Mode::Discard, 1),
+        true,
+    );
 }
 
 #[test]
 fn two_of_three_operators_are_not_all(rt: HostRuntime) {
-    operates::<Brand>(&rt, rt.alloc(), plan_of(&rt, rt.alloc(), Mode::Discard, 1), false);
+    operates::<Brand>(
+        &rt,
+        rt.alloc(),
+        plan_of(&rt, rt.alloc(), Mode::Discard, 1),
+        false,
+    );
 }
