@@ -5,6 +5,7 @@
 //! `tr_bench offers CASE ROUNDS` makes 100,000 offers to a new stream, ROUNDS times.
 //! `tr_bench shared CASE ROUNDS` makes the same offers to the stream of a new shared session, and settles it, ROUNDS times.
 //! No packet is taken there, so CASE isn't `taken`.
+//! `tr_bench judged JUDGE ROUNDS` makes offers that are all stored, each after declared events have judged it.
 //! `tr_bench threads CASE THREADS WATCHERS ROUNDS` makes them to each of THREADS streams, each in a thread of its own, of a
 //! session with WATCHERS watchers, which don't read.
 //! `tr_bench decode ROUNDS`, `tr_bench audit ROUNDS` and `tr_bench feed ROUNDS` read packets from standard input, and then
@@ -17,6 +18,7 @@
 #![tactic(auto)]
 
 mod cases;
+mod judged;
 mod lines;
 mod offers;
 mod packets;
@@ -26,6 +28,7 @@ mod shared;
 mod sums;
 
 use cases::Case;
+use judged::Judge;
 use offers::Total;
 use packets::Given;
 use std::alloc::Global;
@@ -84,6 +87,14 @@ fn offer(
         _ if case.takes => Ok(ExitCode::from(2)),
         _ => report(rt, shared::all_rounds(rt, alloc, case, rounds)),
     }
+}
+
+/// Makes offers that are all stored, after what this word names has judged them.
+fn judge(rt: &impl Print, alloc: Global, word: &str, rounds: u64) -> io::Result<ExitCode> {
+    let (Some(judge), Some(case)) = (Judge::named(word), Case::named("stored")) else {
+        return Ok(ExitCode::from(2));
+    };
+    report(rt, judged::all_rounds(alloc, judge, &case, rounds))
 }
 
 /// All bytes of a reader.
@@ -217,6 +228,9 @@ fn run_three(
     let Some(rounds) = number(rounds, MOST_ROUNDS) else {
         return Ok(ExitCode::from(2));
     };
+    if what == "judged" {
+        return judge(rt, alloc, detail, rounds);
+    }
     match (what, Case::named(detail), number(detail, 4_000)) {
         ("offers" | "shared", Some(case), _) => offer(rt, alloc, what, &case, rounds),
         ("fill", _, Some(length)) => fill(rt, alloc, length, rounds),

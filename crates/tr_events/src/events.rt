@@ -228,10 +228,11 @@ impl<A: Allocator> Events<A> {
         if id as u64 >= self.bound {
             return true;
         }
-        if let Some(Known::Exact(size)) = self.known.get(id as usize) {
-            return payload.len() == *size as usize;
+        match self.known.get(id as usize) {
+            Some(Known::Free) => true,
+            Some(Known::Exact(size)) => payload.len() == *size as usize,
+            _ => self.fits_event(id, payload),
         }
-        self.fits_event(id, payload)
     }
 
     /// The same for an id of which the table has no size.
@@ -239,9 +240,6 @@ impl<A: Allocator> Events<A> {
     fn fits_event(&self, id: u32, payload: &[u8]) -> bool
         ensures { result ≡ fits_declared self.now id payload.now }
     {
-        match self.known.get(id as usize) {
-            Some(Known::Free) => true,
-            _ => fits_found(self.list(), id, payload),
-        }
+        fits_found(self.list(), id, payload)
     }
 }
