@@ -230,6 +230,10 @@ pub fn event_code(fault: EventFault) -> u32
         EventFault::FieldTwice => 1005,
         EventFault::EventTaken => 1006,
         EventFault::TooMany => 1007,
+        EventFault::BadVariable => 1008,
+        EventFault::BadValue => 1009,
+        EventFault::VariableTaken => 1010,
+        EventFault::TooManyVariables => 1011,
     }
 }
 
