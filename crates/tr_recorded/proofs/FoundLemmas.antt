@@ -1,14 +1,12 @@
 -- The archive of packets that were found in an image is what a survey finds nothing wrong with.
-use Rattle.std.proofs.Common.{◌≡◌, ◌≢◌, ◌∙◌, ◌+◌, ◌-◌, ◌<◌, ◌≤◌, ◌^◌, ◌==◌, ℕ, zero, suc, Bool, true, false, cond, eqb, refl, sym, ap, subst, arith, List, [], ◌∷◌, ◌++◌, length, map, append-nil, append_assoc, lt-ltb, Option, Some, None, rules}
+use Rattle.std.proofs.Common.{◌≡◌, ◌≢◌, ◌∙◌, ◌+◌, ◌-◌, ◌<◌, ◌≤◌, ◌==◌, ℕ, zero, suc, Bool, true, false, cond, eqb, refl, sym, ap, subst, arith, List, [], ◌∷◌, ◌++◌, length, map, append-nil, append_assoc, lt-ltb, Option, Some, None, rules}
 use Rattle.std.proofs.lemmas.Bool.Decides.{Decides-eqb}
 use Rattle.std.proofs.lemmas.Grind.{common_steps}
 use Rattle.std.proofs.lemmas.List.{map-append}
-use Rattle.std.proofs.lemmas.List.Elements.{filter_map-append}
-use Rattle.std.specs.Cmp.Lexicographic.{bytes_decides, pointwise}
-use Rattle.std.specs.List.{AllByRecursion, cons_option, filter_map, list_all}
+use Rattle.std.specs.Cmp.Lexicographic.{pointwise}
+use Rattle.std.specs.List.{AllByRecursion, cons_option, filter_map}
 use Rattle.std.specs.Option.{option_or}
-use Rattle.std.specs.Prelude.{IsTrue, codes, nat_lt, pos}
-use Rattle.tr_chunk.specs.ArchiveName.{archive_name_text}
+use Rattle.std.specs.Prelude.{codes, nat_lt, pos}
 use Rattle.tr_chunk.specs.Audit.{AreOfStream, capped_count}
 use Rattle.tr_chunk.specs.Files.{file_name, packets_text}
 use Rattle.tr_export.specs.Making.{Makings}
@@ -38,7 +36,7 @@ use Rattle.tr_survey.specs.Order.{Numbered}
 use Rattle.tr_survey.specs.Paths.{archives_folder, file_path, path_of}
 use Rattle.tr_survey.specs.Sessions.{survey_of}
 use Rattle.tr_survey.specs.Told.{told}
-use Rattle.tr_survey.specs.Whole.{HasItsFiles, LossesStay, NumberedFrom, StreamFiles, streams_in}
+use Rattle.tr_survey.specs.Whole.{HasItsFiles, LossesStay, NumberedFrom, streams_in}
 use Rattle.tr_survey.specs.declared.faults.Surveyed.TheVariants.{Faults}
 use Rattle.tr_survey.specs.declared.naming.Naming.TheVariants.{Named}
 use Rattle.tr_terms.specs.declared.limits.TheConstants.{LAST_MOMENT, MOST_STREAMS}

@@ -1,17 +1,17 @@
 -- What is in the memory of a stream's ring is what the stream's audit passes.
-use Rattle.std.proofs.Common.{◌≡◌, ◌≢◌, ◌∙◌, ◌+◌, ◌<◌, ◌≤◌, ◌^◌, ℕ, Bool, true, false, cond, refl, sym, ap, subst, arith, inl, inr, List, [], ◌∷◌, ◌++◌, length, map, None}
+use Rattle.std.proofs.Common.{◌≡◌, ◌≢◌, ◌+◌, ℕ, Bool, true, false, cond, refl, sym, subst, arith, inl, inr, List, [], ◌∷◌, ◌++◌, map, None}
 use Rattle.std.specs.List.{AllByRecursion}
 use Rattle.std.specs.Prelude.{IsTrue}
-use Rattle.tr_chunk.specs.Audit.{AreOfStream, numbers_of, numbers_rise_after, records_of_packets}
+use Rattle.tr_chunk.specs.Audit.{AreOfStream, numbers_rise_after}
 use Rattle.tr_packet.specs.Order.{serials_rise_after}
-use Rattle.tr_packet.specs.Packets.{Contents, IsPacket}
+use Rattle.tr_packet.specs.Packets.{IsPacket, MakePacket}
 use Rattle.tr_record.specs.Records.{Entry}
 use Rattle.tr_recorded.proofs.LossLemmas.{Stay, by_mode, held_stay, stay_lower}
 use Rattle.tr_recorded.specs.Found.{ArePassed}
-use Rattle.tr_ring.specs.ClosedBuffer.{ClosedBuffer, closed_buffer}
-use Rattle.tr_ring.specs.Heads.{last_after}
+use Rattle.tr_ring.specs.ClosedBuffer.{ClosedBuffer}
+use Rattle.tr_ring.specs.Heads.{begin_of, last_after}
 use Rattle.tr_ring.specs.Ring.{seq_after}
-use Rattle.tr_session.proofs.AuditLemmas.{IsAmong, all-own, among-all, records-packets, records_behind, rise-numbers, rise-records, rising-among}
+use Rattle.tr_session.proofs.AuditLemmas.{IsAmong, all-own, among-all, records-packets, rise-numbers, rise-records, rising-among}
 use Rattle.tr_session.proofs.GapLemmas.{numbers-packets}
 use Rattle.tr_stream.proofs.ImageLemmas.{makes-tight}
 use Rattle.tr_stream.specs.Chunks.{closed_if_any, packet_of, ring_buffers}
@@ -20,6 +20,7 @@ use Rattle.tr_stream.specs.Images.{packets_standing}
 use Rattle.tr_stream.specs.Sound.{ArePackets, IsSound}
 use Rattle.tr_stream.specs.State.{StreamState}
 use Rattle.tr_stream.specs.declared.config.StreamConfig.{StreamConfig}
+use Rattle.tr_stream.specs.WellFormed.{next_serial}
 use Rattle.tr_survey.specs.Whole.{LossesStay}
 
 -- ---- among all that are known
@@ -53,7 +54,7 @@ rise-then : (seq serial n end later discarded : ℕ) (ws : List ClosedBuffer) (e
 rise-then seq serial n end later discarded [] [] next_seq next rise = rise
 rise-then seq serial n end later discarded [] (e ∷ es) next_seq next rise = rise
 rise-then seq serial n end later discarded (w ∷ ws) es next_seq next rise =
-    (rise.0, rise.1, rise-then _ _ n end later discarded ws es next_seq next rise.2)
+    (rise.0, rise.1, rise-then (w.seq + 1) (next_serial serial w.records) n end later discarded ws es next_seq next rise.2)
 
 stay-then : (from n end later discarded : ℕ) (ws : List ClosedBuffer) (es : List Entry) → Stay from (ws ++ closed_if_any n end discarded es)
     → Stay from (ws ++ closed_if_any n later discarded es)
@@ -73,7 +74,7 @@ can-be s [] sound is = tt
 can-be s (e ∷ es) sound is =
     let some : (e ∷ es) ≢ [] = λ none. absurd cc in
     let makes = makes-tight s.counters.last (e ∷ es) some
-    (subst (λ (l : List Entry). l ≢ [] → _) (sym is) sound.filling.makes some) in (
+    (subst (λ (l : List Entry). l ≢ [] → MakePacket (begin_of l) s.counters.last l) (sym is) sound.filling.makes some) in (
       record {
         uuid = sound.config.uuid;
         stream = sound.config.number;
