@@ -34,9 +34,9 @@
 //!   given and with its answer. A start or a stop that succeeds has switched every stream, a rotation has begun at its moment,
 //!   cut streams and ended one with the archive that is answered, a clear has cleared every stream, and a snapshot shows the
 //!   moment that was stored.
-//!   If operators are lent to settling, each one's steps are all that one seat of the desk's has, in that one history. If they
-//!   are all that were made, which it answers, each step at the desk is one of theirs: no other start, stop, schedule, rotation,
-//!   clear or snapshot was asked for
+//!   If operators are lent to settling, each one's steps are all that one seat of the desk's has, in that one history. If it
+//!   answers that they are all that were made, in that order, each step at the desk is one of theirs: no other start, stop,
+//!   schedule, rotation, clear or snapshot was asked for
 //!   (`Shared::operator`; `start_by`, `stop_by`, `set_schedule_by`, `rotate_begin_by`, `rotate_next_by`, `rotate_finish_by`,
 //!   `rotate_by`, `tick_by`, `clear_by`, `snapshot_by`: `steps`; `settle_with`: `same`, `histories` (`HaveOneHistory.done`)).
 //! - An offer moves its producer's seats by what was answered, and a take the drainer's seat of that stream, whatever other
@@ -99,7 +99,8 @@
 //!   `Misplaced`, isn't promised;
 //! - if no operator is lent: a start, a stop, a schedule, a clear or a step of a rotation that only answers, and a start at
 //!   another moment;
-//! - any call that does something more at the desk in another operator's name, or takes in another drainer's;
+//! - any call that does something more at the desk in another operator's name, or takes in another drainer's, if these aren't
+//!   lent to settling; a `settle_with` that always says that not all operators are lent;
 //! - a `rotate_next_by` that answers `AllCut` without looking, or is always refused as `NotPending`, and so a `rotate_by` that
 //!   begins and is refused then; a `tick_by` or a `clear_by` that is always refused by one of its codes;
 //! - a drainer, a `build` or a snapshot that is always refused, or a call with an operator that is refused for a stream that
