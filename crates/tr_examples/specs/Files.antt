@@ -5,6 +5,7 @@ use Rattle.tr_book.specs.Parts.{PartState}
 use Rattle.tr_chunk.specs.Files.{packets_text}
 use Rattle.tr_chunk.specs.declared.stream_audit.StreamAudit.{StreamAudit}
 use Rattle.tr_console.specs.Runs.{world_left}
+use Rattle.tr_events.specs.Events.{nothing}
 use Rattle.tr_examples.specs.Rotations.{archives_script}
 use Rattle.tr_packet.specs.Packets.{Contents}
 use Rattle.tr_record.specs.Records.{Entry, entry}
@@ -19,7 +20,7 @@ chunk_in s = option_map_or (λ (t : Traced). option_map_or (λ (part : PartState
 -- those of the first session that a script leaves
 abbrev pub first_chunk : List ℕ → List Contents
 first_chunk script = option_map_or (λ (entry : List ℕ × SessionOf Traced). chunk_in entry.1)
-    (slice_get (world_left [] script).sessions 0) []
+    (slice_get (world_left nothing script).sessions 0) []
 
 -- what is compared of a packet: its number, the number of discarded records, and its records' serials
 abbrev pub outline : Contents → ℕ × (ℕ × List ℕ)
