@@ -13,9 +13,9 @@
 //!   archive of an image, or they are a bad command line (`run`, `run_given`: `ends` (`job_asked`)).
 //! - The run ends as what the words ask for does. Its exit status and the one line that standard error gets agree (`run`,
 //!   `run_given`: `ends` (`HasEnded.says`, `HasEnded.line`, `EndsSo`)).
-//! - A script at 0 and 1 was read to its end and answered whole, its sessions with the events that a file declares, and the
+//! - A script at 0 and 1 was read to its end and answered whole, its sessions with what a file declares, and the
 //!   archives of every session were made below the folder, if these are named; 1 if and only if a line was refused. Or, at 1, a
-//!   line of the file declares no event, which the output says, and nothing was read or made (`run`, `run_given`: `ends`
+//!   line of the file is refused, which the output says, and nothing was read or made (`run`, `run_given`: `ends`
 //!   (`EndsScript`, `Declares`, `CameToEnd.whole`, `EndsUndeclared`)).
 //! - A script at 3: the file can't be read, or reading it or the output failed, and nothing was read or made; or it broke off
 //!   as at Q1, Q2 or Q3 (tr_console), and nothing was made; or it was read and answered whole, and then the disk failed: a
