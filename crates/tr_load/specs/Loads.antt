@@ -1,5 +1,5 @@
 -- What a load comes to.
-use Rattle.std.specs.Prelude.{◌≡◌, ℕ, ◌<◌, ◌*◌, List, [], ◌∷◌, length, slice_index_or, Option, Result, Ok, Err, IfOk, IsOk, IfSome, ◌≤◌, All}
+use Rattle.std.specs.Prelude.{◌≡◌, ℕ, ◌<◌, ◌*◌, List, [], ◌∷◌, length, slice_index_or, Option, Result, Ok, Err, IfOk, IsOk, IfSome, All}
 use Rattle.tr_load.specs.Plans.{load_session}
 use Rattle.tr_load.specs.Works.{work_of}
 use Rattle.tr_threads.specs.Feeding.{IsFed}
