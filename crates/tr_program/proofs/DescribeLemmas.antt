@@ -4,7 +4,6 @@ use Rattle.tr_chunk.specs.Files.{Sunk}
 use Rattle.tr_describe.specs.Answers.{answer_by, described_by, described_of, first_of, session_wrong}
 use Rattle.tr_describe.specs.Failures as failing
 use Rattle.tr_describe.specs.Files.{Declaring, declaring}
-use Rattle.tr_describe.specs.Homes.{metadata_of_all}
 use Rattle.tr_describe.specs.Put.{Text}
 use Rattle.tr_describe.specs.Telling.{FailedSo, TellsTree, outcome_by, outcome_said}
 use Rattle.tr_describe.specs.declared.described.Described.TheVariants as answer

@@ -1,12 +1,12 @@
 -- How runs end that were to recover what stands in an image.
-use Rattle.std.proofs.Common.{◌≡◌, ◌⊎◌, ◌∙◌, ℕ, Bool, true, false, refl, sym, ap, inl, inr, List, [], ◌∷◌, Option, Some, None, Result, Ok, Err}
+use Rattle.std.proofs.Common.{◌≡◌, ◌⊎◌, ℕ, Bool, true, false, refl, inl, inr, List, [], ◌∷◌, Option, Some, None, Result, Ok, Err}
 use Rattle.tr_chunk.specs.Files.{Sunk}
 use Rattle.tr_export.specs.Failures.{HasFailed}
 use Rattle.tr_folders.specs.Tree.{File, Tree}
 use Rattle.tr_load.specs.Telling.{DiskState}
 use Rattle.tr_packet.specs.Packets.{Contents}
 use Rattle.tr_record.specs.Bytes.{once_more}
-use Rattle.tr_recover.specs.Recovering.{FailedSo, FoundState, HasBytes, Recovers, found_at, found_in, nothing_found, reads_after, said_at, said_of}
+use Rattle.tr_recover.specs.Recovering.{FailedSo, HasBytes, Recovers, found_at, found_in, reads_after, said_at, said_of}
 use Rattle.tr_recover.specs.declared.faults.RecoverFault.{RecoverFault}
 use Rattle.tr_recover.specs.declared.faults.RecoverFault.TheVariants as recover
 use Rattle.tr_recover.specs.declared.faults.Recovered.{Recovered}

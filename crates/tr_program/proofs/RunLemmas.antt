@@ -1,5 +1,6 @@
 -- How runs end that read and wrote nothing, and audits that found no session.
-use Rattle.std.proofs.Common.{◌≡◌, ◌⊎◌, ◌∙◌, ℕ, Bool, false, zero, suc, refl, sym, ap, subst, inl, inr, List, [], ◌∷◌, append-nil, Option, Some, None, Result, Ok, Err}
+use Rattle.std.proofs.Common.{◌≡◌, ◌⊎◌, ◌∙◌, ℕ, Bool, false, zero, suc, refl, sym, ap, subst, inl, inr, List, [], append-nil, Option, Some, None, Result, Ok, Err}
+use Rattle.tr_events.specs.Events.{nothing}
 use Rattle.tr_folders.specs.Tree.{Tree}
 use Rattle.tr_load.specs.declared.loaded.LoadFault.TheVariants as load
 use Rattle.tr_chunk.specs.Files.{Sunk}
@@ -14,16 +15,11 @@ use Rattle.tr_survey.specs.declared.faults.SurveyFault.TheVariants as survey
 use Rattle.tr_survey.specs.declared.faults.Surveyed.{Surveyed}
 use Rattle.tr_survey.specs.declared.faults.Surveyed.TheVariants as surveyed
 use Rattle.tr_command.specs.Invocation.{Script, Load, Audit, Describe, Picture, Recover, Task}
-use Rattle.tr_describe.specs.Answers.{described_of}
-use Rattle.tr_describe.specs.Failures as failing
 use Rattle.tr_describe.specs.Files.{declaring}
 use Rattle.tr_describe.specs.Put.{Text, and_then_put}
-use Rattle.tr_describe.specs.Telling.{FailedSo, TellsTree, declared_text, puts_by, text_by}
-use Rattle.tr_describe.specs.declared.faults.DescribeFault.{DescribeFault}
+use Rattle.tr_describe.specs.Telling.{declared_text, puts_by, text_by}
 use Rattle.tr_describe.specs.declared.faults.DescribeFault.TheVariants as describe
-use Rattle.tr_describe.specs.declared.telling.Outcome.{Outcome}
-use Rattle.tr_describe.specs.declared.telling.Outcome.TheVariants as outcome
-use Rattle.tr_program.specs.Endings.{ending_of_describe, ending_of_survey}
+use Rattle.tr_program.specs.Endings.{ending_of_survey}
 use Rattle.tr_program.proofs.RecoverLemmas.{wanted_without_memory}
 use Rattle.tr_program.specs.Runs.{CannotBeRead, EndsSo, FoldersState, HasAudited, HasCause, HasNoSession, HasPictured, Host, Outside, TellsAudit, TellsPicture, wanted_by}
 use Rattle.tr_program.specs.declared.ending.Ending.{Ending}
@@ -36,7 +32,7 @@ put_nothing (Some texts) = ap Some (append-nil texts)
 -- without memory nothing was begun
 pub ends_without_memory : (asked : Option Task) (o : Outside) → EndsSo o o asked NoMemory
 ends_without_memory None o = (inr refl, (refl, refl, refl))
-ends_without_memory (Some (Script None dir)) o = inl ([], refl, inl (refl, refl, refl))
+ends_without_memory (Some (Script None dir)) o = inl (nothing, refl, inl (refl, refl, refl))
 ends_without_memory (Some (Script (Some file) dir)) o = inr ((λ t known. front_nothing (declared_text (declaring (t.file file))) o.host.taken), refl, refl)
 ends_without_memory (Some (Load threads records workers watch dir)) o = (refl, inr ((load.NoMemory, refl), (refl, refl, refl)))
 ends_without_memory (Some (Audit dir archives)) o = record {

@@ -2,7 +2,7 @@ use Rattle.std.proofs.Common.{◌≡◌, ◌∙◌, ap, inl, inr, map, option_ma
 use Rattle.tr_command.specs.Invocation.{Audit, Describe, Picture, Recover, Task, folder_named, job_asked, job_of, task_of}
 use Rattle.tr_program.specs.Runs.{HasFault, host_of, outside_of}
 use Rattle.tr_program.proofs.DescribeLemmas.{describe_fault, nothing_described}
-use Rattle.tr_program.proofs.RecoverLemmas.{nothing_recovered, recover_fault}
+use Rattle.tr_program.proofs.RecoverLemmas.{recover_fault}
 use Rattle.tr_program.proofs.RunLemmas.{audit_fault, cause_after, ends_without_memory, no_session, nothing_pictured, picture_fault}
 use Rattle.tr_program.proofs.running.end.Goals as goal
 
