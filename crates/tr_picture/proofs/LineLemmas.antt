@@ -1,10 +1,9 @@
 -- Which rows a folder has.
-use Rattle.std.proofs.Common.{◌≡◌, ◌∙◌, ◌++◌, ℕ, Bool, true, false, cond, List, [], ◌∷◌, Option, Some, map, refl, ap, sym, append_assoc}
+use Rattle.std.proofs.Common.{◌≡◌, ◌∙◌, ◌++◌, ℕ, Bool, true, false, cond, List, [], ◌∷◌, Option, Some, map, ap, sym, append_assoc}
 use Rattle.std.proofs.lemmas.List.{map-append}
-use Rattle.std.specs.List.{flat_map}
 use Rattle.std.specs.Prelude.{unwrap_or}
 use Rattle.tr_folders.specs.Tree.{Tree}
-use Rattle.tr_picture.specs.Sessions.{Line, archives_lines, folder_lines, line_of, name_lines}
+use Rattle.tr_picture.specs.Sessions.{archives_lines, folder_lines, line_of, name_lines}
 use Rattle.tr_picture.specs.declared.frame.Frame.{Frame}
 use Rattle.tr_survey.specs.Identifiers.{judged_by}
 use Rattle.tr_survey.specs.Listing.{archives_of, streams_of}

@@ -3,12 +3,11 @@ use Rattle.std.proofs.Common.{◌≡◌, ℕ, List, [], Option, refl, sym, subst
 use Rattle.tr_folders.specs.Tree.{Tree}
 use Rattle.tr_picture.specs.Picture.{drawn, picture_of, pictured}
 use Rattle.tr_record.proofs.ByteLemmas.{and_then_bytes-none}
-use Rattle.tr_record.specs.Bytes.{and_then_bytes}
 use Rattle.tr_survey.specs.Prefix.{IsPrefixOut, IsTold}
 use Rattle.tr_survey.specs.Sessions.{survey_of}
 use Rattle.tr_survey.specs.Told.{told}
 use Rattle.tr_survey.specs.declared.faults.Surveyed.{Surveyed}
-use Rattle.tr_survey.specs.declared.faults.Surveyed.TheVariants.{Unlisted, NoSession, Faults}
+use Rattle.tr_survey.specs.declared.faults.Surveyed.TheVariants.{Faults}
 
 pub by_survey : (t : Tree) (dir : List ℕ) (said one : Surveyed) (before now : Option (List ℕ)) → said ≡ (survey_of false t dir).state → said ≡ one
     → IsTold (pictured t dir one) before now one → IsTold (picture_of t dir) before now said

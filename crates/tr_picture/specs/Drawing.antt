@@ -6,7 +6,7 @@ use Rattle.tr_chunk.specs.Audit.{capped_count}
 use Rattle.tr_picture.specs.Counts.{counts_text}
 use Rattle.tr_picture.specs.Escape.{escaped}
 use Rattle.tr_picture.specs.Frame.{greater, last_moment, lesser, pixel_of}
-use Rattle.tr_picture.specs.Lanes.{Lane, bars_of}
+use Rattle.tr_picture.specs.Lanes.{bars_of}
 use Rattle.tr_picture.specs.Sessions.{Line, faults_in, first_offset}
 use Rattle.tr_picture.specs.Threads.{threads_text}
 use Rattle.tr_picture.specs.declared.bars.Bar.{Bar}
@@ -14,7 +14,6 @@ use Rattle.tr_picture.specs.declared.counts.Counted.TheVariants.{Absent, Discard
 use Rattle.tr_picture.specs.declared.frame.Frame.{Frame}
 use Rattle.tr_picture.specs.declared.rows.Row.{Row}
 use Rattle.tr_survey.specs.Names.{begin_stamp}
-use Rattle.tr_survey.specs.Order.{Numbered}
 use Rattle.tr_survey.specs.Streams.{lost_by}
 use Rattle.tr_survey.specs.declared.tally.Tally.{Tally}
 use Rattle.tr_terms.specs.declared.limits.TheConstants.{LAST_MOMENT}

@@ -1,5 +1,5 @@
 -- What all rows of a picture have in common: which moments it shows, and in how many columns.
-use Rattle.std.specs.Prelude.{ℕ, ◌+◌, ◌-◌, ◌*◌, ◌/◌, nat_eq, nat_le, nat_lt, if◌then◌else◌}
+use Rattle.std.specs.Prelude.{ℕ, ◌+◌, ◌-◌, ◌*◌, ◌/◌, nat_le, nat_lt, if◌then◌else◌}
 use Rattle.tr_chunk.specs.Audit.{capped_count}
 use Rattle.tr_packet.specs.Packets.{Contents, packet_size}
 use Rattle.tr_picture.specs.declared.frame.Extent.{Extent}

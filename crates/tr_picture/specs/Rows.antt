@@ -1,5 +1,5 @@
 -- The row of a stream: what is drawn of its packets, one after another through its files.
-use Rattle.std.specs.Prelude.{ℕ, ◌+◌, Bool, nat_eq, List, [], ◌∷◌, drop, length, zero, suc, Option, Some, None, if◌then◌else◌}
+use Rattle.std.specs.Prelude.{ℕ, Bool, nat_eq, List, [], ◌∷◌, drop, length, zero, suc, Option, Some, None, if◌then◌else◌}
 use Rattle.tr_chunk.specs.declared.audit_fault.AuditCause.{AuditCause}
 use Rattle.tr_folders.specs.Tree.{File, Tree}
 use Rattle.tr_packet.specs.Decoding.{contents_in, first_fault}
@@ -17,7 +17,6 @@ use Rattle.tr_survey.specs.Order.{Numbered}
 use Rattle.tr_survey.specs.Paths.{file_in}
 use Rattle.tr_survey.specs.Streams.{Place, absent_before, before, broken, cause_of, falls, next_number, no_tally, place, tally_after}
 use Rattle.tr_survey.specs.declared.tally.Last.{Last}
-use Rattle.tr_survey.specs.declared.tally.Tally.{Tally}
 
 -- nothing of a stream
 abbrev pub no_row : Row

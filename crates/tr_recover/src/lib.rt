@@ -1,8 +1,8 @@
 //! What is in an image (tr_image), as an archive, so that readers read it and an audit says what is absent.
 //!
 //! Of their session nothing is known but what the packets say: the archive is `DIR/recovered/archives/BEGIN-END-0`, by when the
-//! first of them began and the last one ended, in UTC. Each stream has the file `ring_NUMBER`, empty
-//! if it has no packets and one after it has some.
+//! first of them began and the last one ended, in UTC. Each stream has the file `ring_NUMBER`, empty if it has no packets and one
+//! after it has some.
 //!
 //! # Example
 //!
@@ -22,8 +22,8 @@
 //! - It answers `TooMuch` if and only if the folders failed, and `Write` if and only if the output or the disk did (`recover`:
 //!   `reads`, `failures`).
 //! - For every disk that reports what it makes: just the archive's folder is made, in it a file for each stream up to the last
-//!   one that has packets, with exactly the texts of its packets in their order, and last the metadata, which are the caller's. Without packets nothing is made.
-//!   On failure a prefix of this is made, and then at most one broken file: the one that comes next (`write_recovered`: `ok`
+//!   one that has packets, with exactly the texts of its packets in their order, and last the metadata, which are the caller's.
+//!   Without packets nothing is made. On failure a prefix of this is made, and then at most one broken file: the one that comes next (`write_recovered`: `ok`
 //!   (`recovered_made`, `streams_found`), `err`).
 //! - A write fault is answered if and only if the disk failed in that call (`write_recovered`: `failures`).
 //!

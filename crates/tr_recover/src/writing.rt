@@ -132,7 +132,8 @@ fn folder_for<A: Allocator, B: Allocator + Copy>(
 
 /// Writes the archive of packets that were recovered: the folder `DIR/recovered/archives/ARCHIVE`, in it for each stream the file
 /// `ring_NUMBER`, and last the file `metadata` with this text. The packets of a stream stand side by side. The file of a stream
-/// without packets, below one that has some, is empty. Without packets it writes nothing. Folders that don't exist are made, and files that exist are emptied before they are written.
+/// without packets, below one that has some, is empty. Without packets it writes nothing. Folders that don't exist are made, and
+/// files that exist are emptied before they are written.
 ///
 /// # Errors
 ///

@@ -83,11 +83,11 @@
 //! - What is settled is a session again, the one that was planned. Each producer's numbers are those of its own stream, and its
 //!   offers what that stream has. The packets that a drainer took are takes of a history that the stream represents, and each is
 //!   kept in the chunk that was answered or was cleared since. One history of each stream has the offers of its producer, the
-//!   takes of all drainers and what the desk did to it, and nothing else: each take is one drainer's, and none is missing. What was consumed of a stream is what
-//!   the desk's and the drainers' seats of it have, and what was cleared of it what another seat of the desk has. The totals are
-//!   the sums over its streams, and the sums over all seats. What was offered is discarded, overwritten, cleared, in a ring or in
-//!   a part, and what was consumed is in a part or was cleared since
-//!   (`Opened::settle`, `settle_with`: `session`, `planned`, `own` (`AreTheirs`), `accounts` (`AreAccountsOf`), `packets` (`ArePacketsOf`),
+//!   takes of all drainers and what the desk did to it, and nothing else: each take is one drainer's, and none is missing. What
+//!   was consumed of a stream is what the desk's and the drainers' seats of it have, and what was cleared of it what another
+//!   seat of the desk has. The totals are the sums over its streams, and the sums over all seats. What was offered is discarded,
+//!   overwritten, cleared, in a ring or in a part, and what was consumed is in a part or was cleared since (`Opened::settle`,
+//!   `settle_with`: `session`, `planned`, `own` (`AreTheirs`), `accounts` (`AreAccountsOf`), `packets` (`ArePacketsOf`),
 //!   `histories` (`HaveOneHistory`), `taken` (`HaveConsumed`), `cleared`, `totals`, `seats`, `places` (`AddUp`), `consumed`
 //!   (`WereConsumed`), `snapshot_session`).
 //!

@@ -1,4 +1,4 @@
-use Rattle.std.proofs.Common.{◌≡◌, ◌≤◌, ◌++◌, drop}
+use Rattle.std.proofs.Common.{◌≡◌, ◌++◌, drop}
 use Rattle.tr_picture.specs.Counts.{counts_text}
 use Rattle.tr_picture.proofs.counts.push_counts.Given as goal
 

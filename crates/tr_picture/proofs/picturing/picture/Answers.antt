@@ -1,6 +1,6 @@
 use Rattle.std.proofs.Common.{◌∙◌, ℕ, List, refl, ap, subst}
 use Rattle.tr_picture.proofs.PictureLemmas.{by_survey, front_by_survey, nothing_told}
-use Rattle.tr_picture.specs.Picture.{drawn, picture_of}
+use Rattle.tr_picture.specs.Picture.{picture_of}
 use Rattle.tr_record.specs.Bytes.{and_then_bytes}
 use Rattle.tr_survey.proofs.PrefixLemmas.{at_err, front_nothing}
 use Rattle.tr_survey.specs.Prefix.{IsPrefixOut, IsTold}

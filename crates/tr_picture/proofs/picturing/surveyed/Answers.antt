@@ -1,4 +1,4 @@
-use Rattle.std.proofs.Common.{◌≡◌, ℕ, Some, None, false, refl, arith}
+use Rattle.std.proofs.Common.{◌≡◌, ℕ, Some, None, false, refl}
 use Rattle.std.specs.Prelude.{Result, Ok, Err}
 use Rattle.std.proofs.lemmas.Result.{IfOk-weaker}
 use Rattle.tr_folders.specs.Tree.{Tree}

@@ -1,4 +1,4 @@
-use Rattle.std.proofs.Common.{◌≡◌, ◌-◌, ◌+◌, ◌++◌, ◌∷◌, [], arith, refl, ◌∙◌}
+use Rattle.std.proofs.Common.{◌-◌, ◌+◌, ◌++◌, ◌∷◌, [], arith, refl, ◌∙◌}
 use Rattle.tr_export.proofs.MakingLemmas.{OnErr-always, front_after, front_before, made_after}
 use Rattle.tr_recover.specs.Archive.{files_made, stream_file, streams_below}
 use Rattle.tr_recover.proofs.PartLemmas.{empty_files, empty_more, files_within, none_made}
